@@ -19,7 +19,7 @@ use Rattle.nr_reduce.specs.History.{AcceptedCall}
 use Rattle.nr_reduce.specs.Events.Event.{FrameReceived, CallSubmitted, QueueWritten}
 use Rattle.nr_reduce.specs.OfferedRegions.{Region, closed_if, regions_closed}
 use Rattle.nr_reduce.specs.ClientState.{ClientState, OutstandingCall, call_payload, plan_for, memory_at}
-use Rattle.nr_reduce.specs.Client.{client_state_after, outstanding_of, region_of, written_call, with_segment, segment_request}
+use Rattle.nr_reduce.specs.Client.{client_state_after, outstanding_of, region_of, with_segment, segment_request, with_hello}
 use Rattle.nr_reduce.specs.ServerState.{ServerState}
 use Rattle.nr_laws.specs.Typed.{IsTypedForm}
 use Rattle.nr_laws.proofs.FrameContents.{FrameContent, call_frame, client_frames, response_frames, tagged_frame, tagged_frames, Carries}
@@ -88,15 +88,11 @@ accessed-submit opened k s d all_up all_down place a plan h is small stags bytes
 
 -- ---- A queue is written
 
-asked-written : (opened : LinkParameters) (regions : List Region) (b : Bool) (os : List OutstandingCall) → AllByRecursion (CallAsked opened regions) os → AllByRecursion (CallAsked opened regions) (map (written_call b) os)
-asked-written opened regions b [] h = tt
-asked-written opened regions b (o ∷ os) h = (h.0, asked-written opened regions b os h.1)
-
-pub accessed-written_up : (opened : LinkParameters) (k : ClientState) (s : ServerState) (d all_up all_down : List FrameContent) (place : ℕ) → AccessesAgree opened k s d all_up all_down place
-    → AccessesAgree opened (client_state_after opened k QueueWritten) s d all_up all_down place
+pub accessed-written_up : (taken : ℕ) (opened : LinkParameters) (k : ClientState) (s : ServerState) (d all_up all_down : List FrameContent) (place : ℕ) → AccessesAgree opened k s d all_up all_down place
+    → AccessesAgree opened (client_state_after opened k (QueueWritten taken)) s d all_up all_down place
 unfolding client_state_after
-accessed-written_up opened k s d all_up all_down place h =
-    record { early = h.early; lives = h.lives; up_said = h.up_said; asked = asked-written opened k.regions k.has_hello k.outstanding h.asked; calls = h.calls; waiting = h.waiting; down_said = h.down_said }
+accessed-written_up taken opened k s d all_up all_down place h =
+    record { early = h.early; lives = h.lives; up_said = h.up_said; asked = h.asked; calls = h.calls; waiting = h.waiting; down_said = h.down_said }
 
 -- ---- A frame is received
 
@@ -108,8 +104,8 @@ pub accessed-hello_down : (opened : LinkParameters) (k : ClientState) (s : Serve
     → AccessesAgree opened (client_state_after opened k (FrameReceived f)) s (d ++ HelloFrame ∷ []) (all_up ++ client_frames opened k (FrameReceived f)) all_down place
 accessed-hello_down opened k s d all_up all_down place f h is =
     subst (λ (t : ClientState). AccessesAgree opened t s (d ++ HelloFrame ∷ []) (all_up ++ client_frames opened k (FrameReceived f)) all_down place) (sym (after-hello opened k f is))
-    (subst (λ (ps : List FrameContent). AccessesAgree opened (record k { has_hello = true }) s (d ++ HelloFrame ∷ []) (all_up ++ ps) all_down place) (sym (says-hello opened k f is))
-    (goes-on opened k (record k { has_hello = true }) s d (d ++ HelloFrame ∷ []) all_up (map (call_frame opened) k.outstanding) all_down place h (offers-same k.regions) h.early
+    (subst (λ (ps : List FrameContent). AccessesAgree opened (with_hello opened k) s (d ++ HelloFrame ∷ []) (all_up ++ ps) all_down place) (sym (says-hello opened k f is))
+    (goes-on opened k (with_hello opened k) s d (d ++ HelloFrame ∷ []) all_up (map (call_frame opened) k.outstanding) all_down place h (offers-same k.regions) h.early
     (each-all (IsLive (message_xids d)) (IsLive (message_xids (d ++ HelloFrame ∷ []))) k.regions (more-live d (HelloFrame ∷ [])) h.lives) (asked-said opened k.regions k.outstanding h.asked) h.asked))
 
 -- what the client says for a Read Request are no messages

@@ -20,7 +20,7 @@ use Rattle.nr_reduce.specs.ClientState.{ClientState}
 use Rattle.nr_reduce.specs.ServerState.{ServerState, PendingCall, PendingRead, ReadyCall, down_max, credit_word}
 use Rattle.nr_reduce.specs.ServerReads.{is_read}
 use Rattle.nr_reduce.specs.ServerFrames.{FrameEffect, frame_effect}
-use Rattle.nr_reduce.specs.Server.{server_state_after, with_effect, newly_open_reads, offer_by, offer_of, answer_of_target}
+use Rattle.nr_reduce.specs.Server.{server_state_after, with_effect, newly_open_reads, offer_by, offer_of, answer_of_target, with_own_hello}
 use Rattle.nr_laws.proofs.FrameContents.{FrameContent, tagged_frames, write_frames, answer_frames, request_frame, effect_frames, server_frames}
 use Rattle.nr_laws.proofs.FrameContents.FrameContent.{HelloFrame, SendFrame, RequestFrame, TaggedFrame}
 use Rattle.nr_laws.proofs.LinkInvariants.{AreWhole}
@@ -82,7 +82,7 @@ effect-accesses regions all_down s h once =
 
 after-effect : (opened : LinkParameters) (s : ServerState) (f : Frame) → is_hello f ≡ false → server_state_after opened s (FrameReceived f) ≡ with_effect s f (frame_effect s f)
 unfolding server_state_after
-after-effect opened s f is = λ i. cond (is i) s (with_effect s f (frame_effect s f))
+after-effect opened s f is = λ i. cond (is i) (with_own_hello s) (with_effect s f (frame_effect s f))
 
 pub accessed-frame_up : (opened : LinkParameters) (k : ClientState) (s : ServerState) (d all_up all_down : List FrameContent) (place : ℕ) (f : Frame) → AccessesAgree opened k s d all_up all_down place → is_hello f ≡ false → EffectOffered k.regions (frame_effect s f)
     → ((x : ℕ) → given_to x (all_down ++ server_frames opened s (FrameReceived f)) (server_state_after opened s (FrameReceived f)).calls ≤ 1)
@@ -102,8 +102,8 @@ pub accessed-hello_up : (opened : LinkParameters) (k : ClientState) (s : ServerS
     → AccessesAgree opened k (server_state_after opened s (FrameReceived f)) d all_up (all_down ++ server_frames opened s (FrameReceived f)) place
 accessed-hello_up opened k s d all_up all_down place f h is =
     subst (λ (u : ServerState). AccessesAgree opened k u d all_up (all_down ++ server_frames opened s (FrameReceived f)) place) (sym (after-hello opened s f is))
-    (subst (λ (ps : List FrameContent). AccessesAgree opened k s d all_up (all_down ++ ps) place) (sym (says-hello opened s f is))
-    (says-more opened k s s d all_up all_down (HelloFrame ∷ []) place h h.calls h.waiting (tt, tt)))
+    (subst (λ (ps : List FrameContent). AccessesAgree opened k (with_own_hello s) d all_up (all_down ++ ps) place) (sym (says-hello opened s f is))
+    (says-more opened k s (with_own_hello s) d all_up all_down (HelloFrame ∷ []) place h h.calls h.waiting (tt, tt)))
 
 -- ---- A call is executed
 
@@ -227,7 +227,7 @@ accessed-execute opened k s d all_up all_down place e r rest h first own whole n
 
 -- ---- A queue is written
 
-pub accessed-written_down : (opened : LinkParameters) (k : ClientState) (s : ServerState) (d all_up all_down : List FrameContent) (place : ℕ) → AccessesAgree opened k s d all_up all_down place
-    → AccessesAgree opened k (server_state_after opened s QueueWritten) d all_up all_down place
+pub accessed-written_down : (taken : ℕ) (opened : LinkParameters) (k : ClientState) (s : ServerState) (d all_up all_down : List FrameContent) (place : ℕ) → AccessesAgree opened k s d all_up all_down place
+    → AccessesAgree opened k (server_state_after opened s (QueueWritten taken)) d all_up all_down place
 unfolding server_state_after
-accessed-written_down opened k s d all_up all_down place h = record { early = h.early; lives = h.lives; up_said = h.up_said; asked = h.asked; calls = h.calls; waiting = h.waiting; down_said = h.down_said }
+accessed-written_down taken opened k s d all_up all_down place h = record { early = h.early; lives = h.lives; up_said = h.up_said; asked = h.asked; calls = h.calls; waiting = h.waiting; down_said = h.down_said }

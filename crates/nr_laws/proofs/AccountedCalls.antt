@@ -23,10 +23,10 @@ use Rattle.nr_reduce.specs.History.{AcceptedCall, CompletedCall}
 use Rattle.nr_reduce.specs.Events.Event.{FrameReceived, CallSubmitted, MemoryRevoked, QueueWritten}
 use Rattle.nr_reduce.specs.Plans.{lists_of}
 use Rattle.nr_reduce.specs.Chunks.{answers_offer, reply_conveyed}
-use Rattle.nr_reduce.specs.ClientState.{ClientState, OutstandingCall, memory_at}
+use Rattle.nr_reduce.specs.ClientState.{ClientState, OutstandingCall, memory_at, is_sent}
 use Rattle.nr_reduce.specs.ClientMessages.{Verdict, verdict, by_head, by_payload, by_lists, by_body, by_call, answered_call, by_header, reply_xid}
 use Rattle.nr_reduce.specs.ClientMessages.Verdict.{EndsLink, GivesOutcome}
-use Rattle.nr_reduce.specs.Client.{client_end, client_state_after, end_of_verdict, outstanding_of, outcomes_of, revoked_call, written_call, with_message, with_request, with_segment, segment_message, message_end}
+use Rattle.nr_reduce.specs.Client.{client_end, client_state_after, end_of_verdict, outstanding_of, outcomes_of, revoked_call, with_message, with_request, with_segment, segment_message, message_end, with_hello, due_with_response}
 use Rattle.nr_laws.proofs.Keys.{any-append, or-left, or-right}
 use Rattle.nr_laws.proofs.TotalsAtClient.{taken}
 use Rattle.nr_laws.proofs.Basics.{some-not, each-all, each-kept}
@@ -78,14 +78,14 @@ record FoundCall (gone : ℕ → Bool) (xid : ℕ) (o : OutstandingCall) : Type 
   own : o.xid ≡ xid
   revoked : RevokedGone gone o
 
-found-call : (gone : ℕ → Bool) (xid : ℕ) (os : List OutstandingCall) (o : OutstandingCall) → AllByRecursion (RevokedGone gone) os → find (λ (x : OutstandingCall). eqb x.xid xid && x.is_written) os ≡ Some o → FoundCall gone xid o
-found-call gone xid [] o h e = absurd cc
-found-call gone xid (x ∷ os) o h e = by (eqb x.xid xid) x.is_written refl e (found-call gone xid os o h.1)
+found-call : (gone : ℕ → Bool) (sent : OutstandingCall → Bool) (xid : ℕ) (os : List OutstandingCall) (o : OutstandingCall) → AllByRecursion (RevokedGone gone) os → find (λ (x : OutstandingCall). eqb x.xid xid && sent x) os ≡ Some o → FoundCall gone xid o
+found-call gone sent xid [] o h e = absurd cc
+found-call gone sent xid (x ∷ os) o h e = by (eqb x.xid xid) (sent x) refl e (found-call gone sent xid os o h.1)
   where
     here : x ≡ o → eqb x.xid xid ≡ true → FoundCall gone xid o
     here same is = subst (FoundCall gone xid) same (record { own = eqb-true x.xid xid is; revoked = h.0 })
 
-    by : (b c : Bool) → eqb x.xid xid ≡ b → cond (b && c) (Some x) (find (λ (y : OutstandingCall). eqb y.xid xid && y.is_written) os) ≡ Some o → (find (λ (y : OutstandingCall). eqb y.xid xid && y.is_written) os ≡ Some o → FoundCall gone xid o) → FoundCall gone xid o
+    by : (b c : Bool) → eqb x.xid xid ≡ b → cond (b && c) (Some x) (find (λ (y : OutstandingCall). eqb y.xid xid && sent y) os) ≡ Some o → (find (λ (y : OutstandingCall). eqb y.xid xid && sent y) os ≡ Some o → FoundCall gone xid o) → FoundCall gone xid o
     by true true is e later = here (let same : x ≡ o = cc in same) is
     by true false is e later = later e
     by false c is e later = later e
@@ -94,7 +94,7 @@ given-call : (gone : ℕ → Bool) (k : ClientState) (f : Frame) (message : List
     → GivenOutcome gone xid (by_call k f.end message body o)
 given-call gone k f message xid body None h is e = absurd cc
 given-call gone k f message xid body (Some o) h is e =
-    let found = found-call gone xid k.outstanding o h is in
+    let found = found-call gone (is_sent k) xid k.outstanding o h is in
     subst (λ (x : ℕ). GivenOutcome gone x (by_body k f.end o message body)) found.own (given-body gone k f message o body found.revoked e)
 
 given-header : (gone : ℕ → Bool) (k : ClientState) (f : Frame) (message : List ℕ) (r : Result Header HeaderFault) → AllByRecursion (RevokedGone gone) k.outstanding → header_of message ≡ r → end_of_verdict f (by_header k f.end message r) ≡ None
@@ -177,9 +177,9 @@ message-each gone k place message g x h = by (eqb x (word_at 0 message)) refl
         either (is_outstanding k.outstanding x) (has_outcome k.outcomes x) (gone x) (is_outstanding t.outstanding x) (has_outcome t.outcomes x) (gone x)
         (others-stay (word_at 0 message) x k.outstanding e) (outcome-more k.outcomes (outcomes_of (verdict k place message)) x) (λ z. z) h
 
-request-accounts : (gone : ℕ → Bool) (xids : List ℕ) (k : ClientState) (q : Option ReadRequest) → CallsAccounted gone xids k → CallsAccounted gone xids (with_request k q)
-request-accounts gone xids k None h = h
-request-accounts gone xids k (Some r) h = record { each = h.each; revoked = h.revoked }
+request-accounts : (gone : ℕ → Bool) (xids : List ℕ) (k : ClientState) (due : ℕ) (q : Option ReadRequest) → CallsAccounted gone xids k → CallsAccounted gone xids (with_request k due q)
+request-accounts gone xids k due None h = h
+request-accounts gone xids k due (Some r) h = record { each = h.each; revoked = h.revoked }
 
 message-accounts : (gone : ℕ → Bool) (xids : List ℕ) (k : ClientState) (f : Frame) (m : Option (List ℕ)) → ((message : List ℕ) → m ≡ Some message → end_of_verdict f (verdict k f.end message) ≡ None) → CallsAccounted gone xids k → CallsAccounted gone xids (with_message k f.end m)
 message-accounts gone xids k f None stays h = h
@@ -193,14 +193,14 @@ message-accounts gone xids k f (Some message) stays h =
 segment-accounts : (gone : ℕ → Bool) (xids : List ℕ) (k : ClientState) (f : Frame) (r : Result Segment ℕ) → ((message : List ℕ) → segment_message k r ≡ Some message → end_of_verdict f (verdict k f.end message) ≡ None) → CallsAccounted gone xids k → CallsAccounted gone xids (with_segment k f r)
 segment-accounts gone xids k f (Err reason) stays h = h
 segment-accounts gone xids k f (Ok segment) stays h =
-    let m = request-accounts gone xids (with_message k f.end (message_completed k.received segment)) (read_request_of segment) (message-accounts gone xids k f (message_completed k.received segment) stays h) in
+    let m = request-accounts gone xids (with_message k f.end (message_completed k.received segment)) (due_with_response k f segment) (read_request_of segment) (message-accounts gone xids k f (message_completed k.received segment) stays h) in
     record { each = m.each; revoked = m.revoked }
 
 pub frame-accounts : (opened : LinkParameters) (gone : ℕ → Bool) (xids : List ℕ) (k : ClientState) (f : Frame) → client_end k (FrameReceived f) ≡ None → CallsAccounted gone xids k → CallsAccounted gone xids (client_state_after opened k (FrameReceived f))
 unfolding client_state_after
 frame-accounts opened gone xids k f e h = by (is_hello f) refl
   where
-    by : (b : Bool) → is_hello f ≡ b → CallsAccounted gone xids (cond b (record k { has_hello = true }) (with_segment k f (frame_segment f)))
+    by : (b : Bool) → is_hello f ≡ b → CallsAccounted gone xids (cond b (with_hello opened k) (with_segment k f (frame_segment f)))
     by true is = record { each = h.each; revoked = h.revoked }
     by false is =
         let unended = taken k f is e in
@@ -228,13 +228,9 @@ accounts-gone gone later xids k more h = record {
   revoked = revoked-to gone later k.outstanding more h.revoked;
 }
 
-pub written-accounts : (opened : LinkParameters) (gone : ℕ → Bool) (xids : List ℕ) (k : ClientState) → CallsAccounted gone xids k → CallsAccounted gone xids (client_state_after opened k QueueWritten)
+pub written-accounts : (taken : ℕ) (opened : LinkParameters) (gone : ℕ → Bool) (xids : List ℕ) (k : ClientState) → CallsAccounted gone xids k → CallsAccounted gone xids (client_state_after opened k (QueueWritten taken))
 unfolding client_state_after
-written-accounts opened gone xids k h = record {
-  each = each-all (IsAccounted gone k) (IsAccounted gone (client_state_after opened k QueueWritten)) xids
-      (λ x h. ap (λ (b : Bool). b || (has_outcome k.outcomes x || gone x)) (any-map (written_call k.has_hello) k.outstanding x (λ o. refl)) ∙ h) h.each;
-  revoked = revoked-map gone (written_call k.has_hello) k.outstanding (λ o kept. kept) h.revoked;
-}
+written-accounts taken opened gone xids k h = record { each = h.each; revoked = h.revoked }
 
 pub revoked-accounts : (opened : LinkParameters) (gone : ℕ → Bool) (xids : List ℕ) (k : ClientState) (place xid : ℕ) → gone xid ≡ true → CallsAccounted gone xids k → CallsAccounted gone xids (client_state_after opened k (MemoryRevoked place xid))
 unfolding client_state_after

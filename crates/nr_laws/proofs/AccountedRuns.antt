@@ -123,10 +123,10 @@ account-mark opened link run (marks.Wrote l Initiator bytes) k e h = by (eqb l l
     by : (b : Bool) → eqb l link ≡ b → Accounted opened link run (marks.Wrote l Initiator bytes) k
     by true is =
         by-state opened link run mark k refl
-        (subst (λ (evs : List Event). CallsAccounted (gone_in link run) (xids_in link run) (end_state_after (client_rules opened) (live k) evs).state) (sym (ap (λ (b : Bool). if_own (b && true) (QueueWritten ∷ [])) is))
-        (subst (λ (t : ClientState). CallsAccounted (gone_in link run) (xids_in link run) t) (sym (one-event-state opened k QueueWritten (λ f x. absurd cc))) (written-accounts opened (gone_in link run) (xids_in link run) k h)))
+        (subst (λ (evs : List Event). CallsAccounted (gone_in link run) (xids_in link run) (end_state_after (client_rules opened) (live k) evs).state) (sym (ap (λ (b : Bool). if_own (b && true) (QueueWritten (length bytes) ∷ [])) is))
+        (subst (λ (t : ClientState). CallsAccounted (gone_in link run) (xids_in link run) t) (sym (one-event-state opened k (QueueWritten (length bytes)) (λ f x. absurd cc))) (written-accounts (length bytes) opened (gone_in link run) (xids_in link run) k h)))
     by false is = nothing opened link run mark k refl (no-events (eqb l link) true _ is) h
-account-mark opened link run (marks.Wrote l Responder bytes) k e h = nothing opened link run (marks.Wrote l Responder bytes) k refl (other-events (eqb l link) (QueueWritten ∷ [])) h
+account-mark opened link run (marks.Wrote l Responder bytes) k e h = nothing opened link run (marks.Wrote l Responder bytes) k refl (other-events (eqb l link) (QueueWritten (length bytes) ∷ [])) h
 account-mark opened link run (marks.Fed l Initiator bytes) k e h = by (eqb l link) refl
   where
     mark : Mark

@@ -20,7 +20,7 @@ use Rattle.nr_reduce.specs.ServerReads.{chunks_of, regions_from, regions_of, is_
 use Rattle.nr_reduce.specs.ServerMessages.{Verdict, verdict}
 use Rattle.nr_reduce.specs.ServerMessages.Verdict.{EndsLink, OtherVersion, BadChunks, MakesPending}
 use Rattle.nr_reduce.specs.ServerFrames.{frame_effect}
-use Rattle.nr_reduce.specs.Server.{server_rules, server_state_after, initial_server, with_effect}
+use Rattle.nr_reduce.specs.Server.{server_rules, server_state_after, initial_server, with_effect, with_own_hello}
 use Rattle.nr_reduce.specs.Run.{server}
 use Rattle.nr_reduce.specs.RunLaws.{server_by}
 use Rattle.nr_reduce.proofs.Steps.{end_state_after-append}
@@ -51,7 +51,7 @@ ends-from number place stag lists (p ∷ ps) =
 frame-adds : (opened : LinkParameters) (k : ServerState) (f : Frame) → is_hello f ≡ false → without_ends (server_state_after opened k (FrameReceived f)).regions ≡ without_ends k.regions ++ without_ends (chunks_in k f (frame_segment f))
 unfolding server_state_after
 frame-adds opened k f behind =
-    ap (λ (b : Bool). without_ends (cond b k (with_effect k f (frame_effect k f))).regions) behind
+    ap (λ (b : Bool). without_ends (cond b (with_own_hello k) (with_effect k f (frame_effect k f))).regions) behind
     ∙ ends-closed (is_over (frame_effect k f).calls (frame_effect k f).reads) f.end (frame_effect k f).regions
     ∙ ap without_ends (frame-chunks k f) ∙ ends-append k.regions (chunks_in k f (frame_segment f))
 
@@ -108,8 +108,8 @@ adds-none opened es (FrameReceived f) none stays = by (is_hello f) refl
     k : ServerState
     k = server_by opened es
 
-    by : (b : Bool) → is_hello f ≡ b → without_ends (cond (is_hello f) k (with_effect k f (frame_effect k f))).regions ≡ without_ends k.regions
-    by true is = ap (λ (b : Bool). without_ends (cond b k (with_effect k f (frame_effect k f))).regions) is
+    by : (b : Bool) → is_hello f ≡ b → without_ends (cond (is_hello f) (with_own_hello k) (with_effect k f (frame_effect k f))).regions ≡ without_ends k.regions
+    by true is = ap (λ (b : Bool). without_ends (cond b (with_own_hello k) (with_effect k f (frame_effect k f))).regions) is
     by false is =
         frame-adds opened k f is
         ∙ ap (λ (xs : List Region). without_ends k.regions ++ without_ends xs) (no-chunks opened es f stays is (λ c made. none f c refl made) (frame_segment f) refl)
@@ -117,7 +117,7 @@ adds-none opened es (FrameReceived f) none stays = by (is_hello f) refl
 adds-none opened es (CallSubmitted place a) none stays = refl
 adds-none opened es (MemoryRevoked place xid) none stays = refl
 adds-none opened es (CallExecuted e) none stays = refl
-adds-none opened es QueueWritten none stays = refl
+adds-none opened es (QueueWritten taken) none stays = refl
 
 pub nothing_else_adds_regions : NothingElseAddsRegions
 nothing_else_adds_regions opened link run es later e is none =
@@ -144,13 +144,13 @@ event-stays opened k (FrameReceived f) place r until there = by (is_hello f)
     more : Contains (frame_effect k f).regions r
     more = subst (λ (xs : List Region). Contains xs r) (sym (frame-chunks k f)) (Contains-append_left k.regions (chunks_in k f (frame_segment f)) r there)
 
-    by : (b : Bool) → Contains (cond b k (with_effect k f (frame_effect k f))).regions r
+    by : (b : Bool) → Contains (cond b (with_own_hello k) (with_effect k f (frame_effect k f))).regions r
     by true = there
     by false = closed-stays (is_over (frame_effect k f).calls (frame_effect k f).reads) f.end place r until more.0 (frame_effect k f).regions more.1 more.2
 event-stays opened k (CallSubmitted p a) place r until there = there
 event-stays opened k (MemoryRevoked p xid) place r until there = there
 event-stays opened k (CallExecuted e) place r until there = there
-event-stays opened k QueueWritten place r until there = there
+event-stays opened k (QueueWritten taken) place r until there = there
 
 stays-after : (opened : LinkParameters) (place : ℕ) (r : Region) → r.until ≡ Some place → (s : EndState ServerState) (es : List Event) → Contains s.state.regions r → Contains (end_state_after (server_rules opened) s es).state.regions r
 stays-after opened place r until s [] there = there

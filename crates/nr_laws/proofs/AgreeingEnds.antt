@@ -18,7 +18,7 @@ use Rattle.nr_reduce.specs.OfferedRegions.{region_grants}
 use Rattle.nr_reduce.specs.ClientState.{ClientState}
 use Rattle.nr_reduce.specs.ServerState.{ServerState}
 use Rattle.nr_reduce.specs.ServerFrames.{FrameEffect, effect_in, frame_effect}
-use Rattle.nr_reduce.specs.Server.{server_end, server_state_after, server_output, readiness, or_refusal, refusal_end, newly_open_reads, effect_output, with_effect}
+use Rattle.nr_reduce.specs.Server.{server_end, server_state_after, server_output, readiness, or_refusal, refusal_end, newly_open_reads, effect_output, with_effect, with_own_hello}
 use Rattle.nr_laws.proofs.FrameContents.{FrameContent, numbered_segment, frame_bytes, output_bytes, total_of, sends_in, requests_in, hellos_in, effect_frames, server_frames, Carries}
 use Rattle.nr_laws.proofs.FrameContents.FrameContent.{HelloFrame, SendFrame, RequestFrame, TaggedFrame}
 use Rattle.nr_laws.proofs.LinkInvariants.{Transit, TotalsAgree, PendingAgree}
@@ -83,9 +83,9 @@ pub says-frame : (opened : LinkParameters) (s : ServerState) (f : Frame) → is_
 unfolding server_frames
 says-frame opened s f is = λ i. cond (is i) (HelloFrame ∷ []) (effect_frames (frame_effect s f))
 
-pub after-hello : (opened : LinkParameters) (s : ServerState) (f : Frame) → is_hello f ≡ true → server_state_after opened s (FrameReceived f) ≡ s
+pub after-hello : (opened : LinkParameters) (s : ServerState) (f : Frame) → is_hello f ≡ true → server_state_after opened s (FrameReceived f) ≡ with_own_hello s
 unfolding server_state_after
-after-hello opened s f is = λ i. cond (is i) s (with_effect s f (frame_effect s f))
+after-hello opened s f is = λ i. cond (is i) (with_own_hello s) (with_effect s f (frame_effect s f))
 
 output-hello : (opened : LinkParameters) (s : ServerState) (f : Frame) → is_hello f ≡ true → server_output opened s (FrameReceived f) ≡ own_hello Responder
 unfolding server_output
@@ -144,6 +144,10 @@ payload_bytes segment h =
     let front : List ℕ = half_word (ulpdu_size segment) ++ header 0 0 segment in
     IsBytes-right front (payload_in segment) (IsBytes-left (front ++ payload_in segment) tail h)
 
+-- a hello that is due changes no call
+pub waits-greeted : (s : ServerState) → PendingAgree s → PendingAgree (with_own_hello s)
+waits-greeted s h = record { numbers = h.numbers; xids = h.xids; calls_below = h.calls_below; reads_below = h.reads_below; ready_apart = h.ready_apart; ready_calls = h.ready_calls; whole_calls = h.whole_calls }
+
 -- the client's hello
 took-hello : (opened : LinkParameters) (k : ClientState) (s : ServerState) (u d all_up all_down : List FrameContent) (w : Transit) (rest : List FrameContent) (f : Frame) → EndsAgree opened k s u d all_up all_down w → w.up ≡ HelloFrame ∷ rest
     → u ≡ [] → is_hello f ≡ true → ServerTook opened k s u d all_up all_down w HelloFrame rest f
@@ -159,7 +163,7 @@ took-hello opened k s u d all_up all_down w rest f l first none is =
       output = output-hello opened s f is ∙ sym (append-nil (own_hello Responder));
       linked =
           server-linked opened k s (server_state_after opened s (FrameReceived f)) u d all_up all_down w HelloFrame rest (HelloFrame ∷ []) l first counts
-          (subst (λ (t : ServerState). PendingAgree t) (sym after) l.waits) (subst (λ (t : ServerState). CallsFit t.calls) (sym after) l.fits)
+          (subst (λ (t : ServerState). PendingAgree t) (sym after) (waits-greeted s l.waits)) (subst (λ (t : ServerState). CallsFit t.calls) (sym after) l.fits)
           (subst (λ (ps : List FrameContent). IsOutput (ps ++ HelloFrame ∷ [])) (sym empty) tt) refl
           (omega (arith, ap (λ (t : ServerState). t.received.sends) after)) (omega (arith, ap (λ (t : ServerState). t.received.requests) after)) (omega (arith, ap (λ (t : ServerState). t.requests_sent) after));
     }

@@ -1,5 +1,5 @@
 -- Each mark keeps what holds between both ends of a link.
-use Rattle.std.proofs.Common.{◌≡◌, ◌≢◌, ℕ, ◌+◌, ◌≤◌, ◌<◌, eqb, List, [], ◌∷◌, ◌++◌, length, Option, Some, None, refl, sym, ap, subst, ◌∙◌, arith, append-nil}
+use Rattle.std.proofs.Common.{◌≡◌, ◌≢◌, ℕ, ◌+◌, ◌≤◌, ◌<◌, eqb, List, [], ◌∷◌, ◌++◌, length, Option, Some, None, refl, sym, ap, subst, ◌∙◌, arith, append-nil, length-append}
 use Rattle.std.specs.Prelude.{slice_get}
 use Rattle.nr_xdr.specs.Item.{IsBytes}
 use Rattle.nr_wire.specs.declared.hello.Side.TheVariants.{Initiator, Responder}
@@ -25,7 +25,9 @@ use Rattle.nr_reduce.specs.ServerState.{ServerState, ReadyCall}
 use Rattle.nr_reduce.specs.SubmitAnswer.{next_xid}
 use Rattle.nr_reduce.specs.Client.{client_rules, client_end, client_state_after, client_output}
 use Rattle.nr_reduce.specs.Server.{server_rules, server_end, server_state_after, server_output}
-use Rattle.nr_reduce.specs.Run.{output_due}
+use Rattle.nr_reduce.specs.Run.{client, server, output_due}
+use Rattle.nr_reduce.proofs.WholeWrotes.{ClientEnds, ServerEnds}
+use Rattle.nr_reduce.proofs.CountedBytes.{client_bytes_written, client_bytes_due, client_ends_within, server_bytes_written, server_bytes_due, server_ends_within}
 use Rattle.nr_reduce.specs.Opening.{IsOpened}
 use Rattle.nr_reduce.specs.Credits.{WithinGrant, calls_outstanding, credits_granted}
 use Rattle.nr_reduce.specs.Asked.{IsAccepted}
@@ -64,7 +66,7 @@ client-event opened k (FrameReceived f) other = absurd (other f refl)
 client-event opened k (CallSubmitted place a) other = one-event (client_rules opened) k (CallSubmitted place a) refl
 client-event opened k (MemoryRevoked place xid) other = one-event (client_rules opened) k (MemoryRevoked place xid) refl
 client-event opened k (CallExecuted call) other = one-event (client_rules opened) k (CallExecuted call) refl
-client-event opened k QueueWritten other = one-event (client_rules opened) k QueueWritten refl
+client-event opened k (QueueWritten taken) other = one-event (client_rules opened) k (QueueWritten taken) refl
 
 pub server-event : (opened : LinkParameters) (s : ServerState) (event : Event) → ((f : Frame) → event ≢ FrameReceived f) → OneEvent (server_rules opened) s event
 unfolding server_end
@@ -72,7 +74,7 @@ server-event opened s (FrameReceived f) other = absurd (other f refl)
 server-event opened s (CallSubmitted place a) other = one-event (server_rules opened) s (CallSubmitted place a) refl
 server-event opened s (MemoryRevoked place xid) other = one-event (server_rules opened) s (MemoryRevoked place xid) refl
 server-event opened s (CallExecuted call) other = one-event (server_rules opened) s (CallExecuted call) refl
-server-event opened s QueueWritten other = one-event (server_rules opened) s QueueWritten refl
+server-event opened s (QueueWritten taken) other = one-event (server_rules opened) s (QueueWritten taken) refl
 
 -- ---- A mark of which one side has one event, and that brings no bytes
 
@@ -171,21 +173,39 @@ goes-submit opened link run call form xid j h =
     subst (λ (ps : List FrameContent). AccessesAgree opened (client_state_after opened j.k (CallSubmitted place a)) j.s j.d (j.all_up ++ ps) j.all_down place) (sym m.said_is)
     (accessed-submit opened j.k j.s j.d j.all_up j.all_down place a h.plan agree planned h.xids stags typed.0 typed.1))
 
+-- a Wrote of all that is due
+takes-all_up : (opened : LinkParameters) (link : ℕ) (run : List Mark) (bytes : List ℕ) (k : ClientState) → client opened link run ≡ live k → bytes_sent link Initiator run ++ bytes ≡ output_due opened link Initiator run → k.written + length bytes ≡ k.due
+takes-all_up opened link run bytes k is all =
+    let stays = ap (λ (r : EndState ClientState). r.ended) is in
+    let written : k.written ≡ length (bytes_sent link Initiator run) = ap (λ (r : EndState ClientState). r.state.written) (sym is) ∙ client_bytes_written opened link run stays in
+    let due : k.due ≡ length (output_due opened link Initiator run) = ap (λ (r : EndState ClientState). r.state.due) (sym is) ∙ client_bytes_due opened link run stays in
+    omega (arith, written, due, length-append (bytes_sent link Initiator run) bytes, ap (λ (xs : List ℕ). length xs) all)
+
+takes-all_down : (opened : LinkParameters) (link : ℕ) (run : List Mark) (bytes : List ℕ) (s : ServerState) → server opened link run ≡ live s → bytes_sent link Responder run ++ bytes ≡ output_due opened link Responder run → s.written + length bytes ≡ s.due
+takes-all_down opened link run bytes s is all =
+    let stays = ap (λ (r : EndState ServerState). r.ended) is in
+    let written : s.written ≡ length (bytes_sent link Responder run) = ap (λ (r : EndState ServerState). r.state.written) (sym is) ∙ server_bytes_written opened link run stays in
+    let due : s.due ≡ length (output_due opened link Responder run) = ap (λ (r : EndState ServerState). r.state.due) (sym is) ∙ server_bytes_due opened link run stays in
+    omega (arith, written, due, length-append (bytes_sent link Responder run) bytes, ap (λ (xs : List ℕ). length xs) all)
+
 pub goes-wrote_up : (opened : LinkParameters) (link : ℕ) (run : List Mark) (bytes : List ℕ) (j : RunAgrees opened link run) → bytes_sent link Initiator run ++ bytes ≡ output_due opened link Initiator run
     → MarkAgrees opened link run (marks.Wrote link Initiator bytes) j
 unfolding client_output
 goes-wrote_up opened link run bytes j all =
-    let l = subst (λ (ps : List FrameContent). EndsAgree opened (client_state_after opened j.k QueueWritten) j.s j.u j.d ps j.all_down (record { queued_up = []; up = j.w.up ++ j.w.queued_up; queued_down = j.w.queued_down; down = j.w.down }))
-    (sym (append-nil j.all_up)) (written_up opened j.k j.s j.u j.d j.all_up j.all_down j.w j.linked) in
-    goes-client opened link run (marks.Wrote link Initiator bytes) j QueueWritten [] (record { queued_up = []; up = j.w.up ++ j.w.queued_up; queued_down = j.w.queued_down; down = j.w.down }) (λ f e. absurd cc) l refl
-    (own-events link (QueueWritten ∷ [])) (other-events (eqb link link) (QueueWritten ∷ [])) refl refl (other-bytes (eqb link link) bytes)
+    let n = length bytes in
+    let takes = takes-all_up opened link run bytes j.k j.client_is all in
+    let ends : ClientEnds j.k = subst (λ (r : EndState ClientState). ClientEnds r.state) j.client_is (client_ends_within opened link run) in
+    let l = subst (λ (ps : List FrameContent). EndsAgree opened (client_state_after opened j.k (QueueWritten (length bytes))) j.s j.u j.d ps j.all_down (record { queued_up = []; up = j.w.up ++ j.w.queued_up; queued_down = j.w.queued_down; down = j.w.down }))
+    (sym (append-nil j.all_up)) (written_up opened j.k j.s j.u j.d j.all_up j.all_down j.w n takes ends j.linked) in
+    goes-client opened link run (marks.Wrote link Initiator bytes) j (QueueWritten (length bytes)) [] (record { queued_up = []; up = j.w.up ++ j.w.queued_up; queued_down = j.w.queued_down; down = j.w.down }) (λ f e. absurd cc) l refl
+    (own-events link (QueueWritten (length bytes) ∷ [])) (other-events (eqb link link) (QueueWritten (length bytes) ∷ [])) refl refl (other-bytes (eqb link link) bytes)
     (ap (λ (xs : List ℕ). bytes_sent link Initiator run ++ xs) (own-bytes link bytes) ∙ all ∙ j.due_up ∙ ap (λ (ps : List FrameContent). output_bytes Initiator 0 0 ps) (sym j.linked.parts_up)) refl
     (λ o within g.
-    guards-down opened (client_state_after opened j.k QueueWritten) j.s j.u j.d j.all_up j.all_down (record { queued_up = []; up = j.w.up ++ j.w.queued_up; queued_down = j.w.queued_down; down = j.w.down }) (place_of j.u)
-    (guards-written_up opened j.k j.s j.u j.d j.all_up j.all_down j.w (place_of j.u) j.linked g))
+    guards-down opened (client_state_after opened j.k (QueueWritten (length bytes))) j.s j.u j.d j.all_up j.all_down (record { queued_up = []; up = j.w.up ++ j.w.queued_up; queued_down = j.w.queued_down; down = j.w.down }) (place_of j.u)
+    (guards-written_up opened j.k j.s j.u j.d j.all_up j.all_down j.w (place_of j.u) n takes ends g))
     (λ typed kept agree.
-    accesses-down opened (client_state_after opened j.k QueueWritten) j.s j.d j.all_up j.all_down (length (bytes_received link Initiator run))
-    (accessed-written_up opened j.k j.s j.d j.all_up j.all_down (length (bytes_received link Initiator run)) agree))
+    accesses-down opened (client_state_after opened j.k (QueueWritten (length bytes))) j.s j.d j.all_up j.all_down (length (bytes_received link Initiator run))
+    (accessed-written_up n opened j.k j.s j.d j.all_up j.all_down (length (bytes_received link Initiator run)) agree))
 
 pub goes-revoke : (opened : LinkParameters) (link : ℕ) (run : List Mark) (xid : ℕ) (bytes : List ℕ) (j : RunAgrees opened link run) → MarkAgrees opened link run (marks.Revoke link xid bytes) j
 unfolding client_output
@@ -204,17 +224,20 @@ pub goes-wrote_down : (opened : LinkParameters) (link : ℕ) (run : List Mark) (
     → MarkAgrees opened link run (marks.Wrote link Responder bytes) j
 unfolding server_output
 goes-wrote_down opened link run bytes j all =
-    let l = subst (λ (ps : List FrameContent). EndsAgree opened j.k (server_state_after opened j.s QueueWritten) j.u j.d j.all_up ps (record { queued_up = j.w.queued_up; up = j.w.up; queued_down = []; down = j.w.down ++ j.w.queued_down }))
-    (sym (append-nil j.all_down)) (written_down opened j.k j.s j.u j.d j.all_up j.all_down j.w j.linked) in
-    goes-server opened link run (marks.Wrote link Responder bytes) j QueueWritten [] (record { queued_up = j.w.queued_up; up = j.w.up; queued_down = []; down = j.w.down ++ j.w.queued_down }) (λ f e. absurd cc) l refl
-    (other-events (eqb link link) (QueueWritten ∷ [])) (own-events link (QueueWritten ∷ [])) refl refl (other-bytes (eqb link link) bytes)
+    let n = length bytes in
+    let takes = takes-all_down opened link run bytes j.s j.server_is all in
+    let ends : ServerEnds j.s = subst (λ (r : EndState ServerState). ServerEnds r.state) j.server_is (server_ends_within opened link run) in
+    let l = subst (λ (ps : List FrameContent). EndsAgree opened j.k (server_state_after opened j.s (QueueWritten (length bytes))) j.u j.d j.all_up ps (record { queued_up = j.w.queued_up; up = j.w.up; queued_down = []; down = j.w.down ++ j.w.queued_down }))
+    (sym (append-nil j.all_down)) (written_down opened j.k j.s j.u j.d j.all_up j.all_down j.w n takes ends j.linked) in
+    goes-server opened link run (marks.Wrote link Responder bytes) j (QueueWritten (length bytes)) [] (record { queued_up = j.w.queued_up; up = j.w.up; queued_down = []; down = j.w.down ++ j.w.queued_down }) (λ f e. absurd cc) l refl
+    (other-events (eqb link link) (QueueWritten (length bytes) ∷ [])) (own-events link (QueueWritten (length bytes) ∷ [])) refl refl (other-bytes (eqb link link) bytes)
     (ap (λ (xs : List ℕ). bytes_sent link Responder run ++ xs) (own-bytes link bytes) ∙ all ∙ j.due_down ∙ ap (λ (ps : List FrameContent). output_bytes Responder 0 0 ps) (sym j.linked.parts_down)) refl
     (λ o g.
-    guards-up opened j.k (server_state_after opened j.s QueueWritten) j.u j.d j.all_up j.all_down (record { queued_up = j.w.queued_up; up = j.w.up; queued_down = []; down = j.w.down ++ j.w.queued_down }) (place_of j.u)
-    (guards-written_down opened j.k j.s j.u j.d j.all_up j.all_down j.w (place_of j.u) g))
+    guards-up opened j.k (server_state_after opened j.s (QueueWritten (length bytes))) j.u j.d j.all_up j.all_down (record { queued_up = j.w.queued_up; up = j.w.up; queued_down = []; down = j.w.down ++ j.w.queued_down }) (place_of j.u)
+    (guards-written_down opened j.k j.s j.u j.d j.all_up j.all_down j.w (place_of j.u) n takes ends g))
     (λ g agree.
-    accesses-up opened j.k (server_state_after opened j.s QueueWritten) j.d j.all_up j.all_down (length (bytes_received link Initiator run))
-    (accessed-written_down opened j.k j.s j.d j.all_up j.all_down (length (bytes_received link Initiator run)) agree))
+    accesses-up opened j.k (server_state_after opened j.s (QueueWritten (length bytes))) j.d j.all_up j.all_down (length (bytes_received link Initiator run))
+    (accessed-written_down n opened j.k j.s j.d j.all_up j.all_down (length (bytes_received link Initiator run)) agree))
 
 first_is : (ready : List ReadyCall) (r : ReadyCall) → slice_get ready 0 ≡ Some r → (rest : List ReadyCall) × (ready ≡ r ∷ rest)
 first_is [] r e = absurd cc

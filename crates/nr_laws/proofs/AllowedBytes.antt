@@ -274,7 +274,7 @@ nothing_else_is_disclosed opened link run earlier later event is = by_ended befo
         sent false = none
     by_event (MemoryRevoked place xid) same live quiet = inl none
     by_event (CallExecuted call) same live quiet = inl none
-    by_event QueueWritten same live quiet = inl none
+    by_event (QueueWritten taken) same live quiet = inl none
 
     by_why : (o : Option Stop) → client_end k event ≡ o → before.ended ≡ None → IsOwnOutput opened here after (output_for_by (client_rules opened) k event o) ⊎ AnswersRequest opened before event
     by_why None quiet live = by_event event refl live quiet

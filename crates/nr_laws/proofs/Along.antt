@@ -53,14 +53,14 @@ IsNext place (FrameReceived f) = (f.at ≡ place) × (place < f.end) × IsBytes 
 IsNext place (CallSubmitted p a) = place ≤ p
 IsNext place (MemoryRevoked p xid) = place ≤ p
 IsNext place (CallExecuted e) = Unit {0}
-IsNext place QueueWritten = Unit {0}
+IsNext place (QueueWritten taken) = Unit {0}
 
 abbrev pub place_after : ℕ → Event → ℕ
 place_after place (FrameReceived f) = f.end
 place_after place (CallSubmitted p a) = place
 place_after place (MemoryRevoked p xid) = place
 place_after place (CallExecuted e) = place
-place_after place QueueWritten = place
+place_after place (QueueWritten taken) = place
 
 abbrev pub places_after : ℕ → List Event → ℕ
 places_after place [] = place
@@ -175,7 +175,7 @@ FirstGood Good r (FrameReceived f ∷ es) = Unit {0}
 FirstGood Good r (CallSubmitted p a ∷ es) = Good r (CallSubmitted p a)
 FirstGood Good r (MemoryRevoked p xid ∷ es) = Good r (MemoryRevoked p xid)
 FirstGood Good r (CallExecuted e ∷ es) = Good r (CallExecuted e)
-FirstGood Good r (QueueWritten ∷ es) = Good r QueueWritten
+FirstGood Good r (QueueWritten taken ∷ es) = Good r (QueueWritten taken)
 
 -- what a run shows of one of its sides: its events go on, and its frames are placed by the bytes that were received
 pub record Goes {S : Type 0} (rules : Rules S) (Good : EndState S → Event → Type 0) (start : EndState S) (link : ℕ) (side : Side) (run : List Mark) : Type 0 where
@@ -242,7 +242,7 @@ mark-goes : {S : Type 0} (rules : Rules S) (Good : EndState S → Event → Type
     → FirstGood Good r (events_at link side before mark) → MarkGoes rules Good r link side before mark
 mark-goes rules Good good r link side before (marks.Fed l s bytes) old new h = fed-goes rules Good good r link side before l s bytes old new
 mark-goes rules Good good r link side before (marks.Wrote l s bytes) old new h =
-    quiet-goes rules Good r link side before (marks.Wrote l s bytes) refl (if-goes rules Good (whole_bytes link side before) r QueueWritten tt refl (λ g. g) (eqb l link && same_side s side) h)
+    quiet-goes rules Good r link side before (marks.Wrote l s bytes) refl (if-goes rules Good (whole_bytes link side before) r (QueueWritten (length bytes)) tt refl (λ g. g) (eqb l link && same_side s side) h)
 mark-goes rules Good good r link side before (marks.Submit l call form (submissions.Accepted xid)) old new h =
     quiet-goes rules Good r link side before (marks.Submit l call form (submissions.Accepted xid)) refl
     (if-goes rules Good (whole_bytes link side before) r (CallSubmitted (length (bytes_received link side before)) (record { xid = xid; call = call; form = form })) (whole-within link side before) refl (λ g. g) (eqb l link && same_side Initiator side) h)

@@ -1,13 +1,15 @@
 -- At each moment every call of a matched link is outstanding or has its message, and no call has two; so a message that is received
--- answers a call that is outstanding and whose Send is written.
-use Rattle.std.proofs.Common.{◌≡◌, ◌≢◌, ℕ, ◌+◌, ◌≤◌, ◌<◌, Bool, true, false, cond, not, ◌&&◌, eqb, List, [], ◌∷◌, ◌++◌, map, filter, Some, refl, sym, ap, subst, ◌∙◌, arith, append_assoc, ◌⊎◌, inl, inr}
+-- answers a call that is outstanding and whose Send has left.
+use Rattle.std.proofs.Common.{◌≡◌, ◌≢◌, ℕ, ◌+◌, ◌-◌, ◌≤◌, ◌<◌, Bool, true, false, cond, not, ◌&&◌, eqb, List, [], ◌∷◌, ◌++◌, map, filter, Some, refl, sym, ap, subst, ◌∙◌, arith, append_assoc, ◌⊎◌, inl, inr}
 use Rattle.std.specs.List.{AllByRecursion, find}
-use Rattle.std.proofs.lemmas.Bool.{eqb-true, ne_eqb, eq-eqb, cases_lt}
+use Rattle.std.proofs.lemmas.Bool.{lt-ltb, eqb-true, ne_eqb, eq-eqb, cases_lt}
 use Rattle.std.proofs.lemmas.List.{map-append}
 use Rattle.nr_xdr.specs.Fields.{word_at}
 use Rattle.nr_reduce.specs.Limits.{numbers_end}
 use Rattle.nr_reduce.specs.Plans.{one_if}
-use Rattle.nr_reduce.specs.ClientState.{ClientState, OutstandingCall}
+use Rattle.nr_reduce.specs.Written.{ends_left}
+use Rattle.nr_reduce.specs.ClientState.{ClientState, OutstandingCall, is_sent}
+use Rattle.nr_reduce.specs.ClientMessages.{answered_call}
 use Rattle.nr_reduce.specs.ServerState.{ServerState, PendingCall}
 use Rattle.nr_laws.proofs.FrameContents.{FrameContent, total_of, sends_in}
 use Rattle.nr_laws.proofs.FrameContents.FrameContent.{SendFrame}
@@ -15,9 +17,6 @@ use Rattle.nr_laws.proofs.LinkInvariants.{Transit}
 use Rattle.nr_laws.proofs.Totals.{total-append}
 use Rattle.nr_laws.proofs.AnsweredCalls.{message_xids, times, call_xids, outstanding_xids, xids-append, times-append}
 use Rattle.nr_laws.proofs.Basics.{each-kept}
-
-abbrev pub IsWritten : ℕ → OutstandingCall → Type 0
-IsWritten end o = o.xid < end → o.is_written ≡ true
 
 -- how often an xid is that of a message of the server or of a pending call
 abbrev pub given_to : ℕ → List FrameContent → List PendingCall → ℕ
@@ -28,7 +27,6 @@ pub record Answered (first : ℕ) (k : ClientState) (s : ServerState) (u d all_d
   pub later : (x : ℕ) → first + s.received.sends ≤ x → given_to x all_down s.calls ≤ 0
   pub earlier : (x : ℕ) → x < first → given_to x all_down s.calls ≤ 0
   pub open_calls : (x : ℕ) → first ≤ x → x < first + k.calls_accepted → 1 ≤ times x (outstanding_xids k.outstanding) + times x (message_xids d)
-  pub written : AllByRecursion (IsWritten (first + total_of sends_in (u ++ w.up))) k.outstanding
   pub room : first + k.calls_accepted ≤ numbers_end
 
 said-more : (x : ℕ) (all_down said : List FrameContent) → times x (message_xids (all_down ++ said)) ≡ times x (message_xids all_down) + times x (message_xids said)
@@ -39,22 +37,16 @@ said-more x all_down said = ap (λ (xs : List ℕ). times x xs) (xids-append all
 abbrev FrameAt : (first : ℕ) → ClientState → ServerState → ServerState → (u d all_down : List FrameContent) → Transit → FrameContent → (rest said : List FrameContent) → Type 0
 FrameAt first k s t u d all_down w p rest said = Answered first k t (u ++ p ∷ []) d (all_down ++ said) (record { queued_up = w.queued_up; up = rest; queued_down = w.queued_down ++ said; down = w.down })
 
-same-written : (first : ℕ) (k : ClientState) (u : List FrameContent) (w : Transit) (p : FrameContent) (rest : List FrameContent) → w.up ≡ p ∷ rest → AllByRecursion (IsWritten (first + total_of sends_in (u ++ w.up))) k.outstanding
-    → AllByRecursion (IsWritten (first + total_of sends_in ((u ++ p ∷ []) ++ rest))) k.outstanding
-same-written first k u w p rest head h =
-    subst (λ (ps : List FrameContent). AllByRecursion (IsWritten (first + total_of sends_in ps)) k.outstanding) (ap (λ (ps : List FrameContent). u ++ ps) head ∙ sym (append_assoc u (p ∷ []) rest)) h
-
-pub answered-send : (first : ℕ) (k : ClientState) (s t : ServerState) (u d all_down : List FrameContent) (w : Transit) (p : FrameContent) (rest said : List FrameContent) → w.up ≡ p ∷ rest → t.received.sends ≡ s.received.sends + 1
+pub answered-send : (first : ℕ) (k : ClientState) (s t : ServerState) (u d all_down : List FrameContent) (w : Transit) (p : FrameContent) (rest said : List FrameContent) → t.received.sends ≡ s.received.sends + 1
     → ((x : ℕ) → times x (message_xids said) + times x (call_xids t.calls) ≤ one_if (eqb (first + s.received.sends) x) + times x (call_xids s.calls))
     → Answered first k s u d all_down w → FrameAt first k s t u d all_down w p rest said
-answered-send first k s t u d all_down w p rest said head sends new h = record {
+answered-send first k s t u d all_down w p rest said sends new h = record {
   once = λ x. once x (cases_eq x (first + s.received.sends));
   later = λ x le.
       omega (arith, le, sends, said-more x all_down said, new x, h.later x (omega (arith, le, sends)), ap one_if (ne_eqb (first + s.received.sends) x (λ e. omega (arith, e, le, sends))));
   earlier = λ x lt.
       omega (arith, said-more x all_down said, new x, h.earlier x lt, ap one_if (ne_eqb (first + s.received.sends) x (λ e. omega (arith, e, lt))));
   open_calls = h.open_calls;
-  written = same-written first k u w p rest head h.written;
   room = h.room;
 }
   where
@@ -73,27 +65,25 @@ answered-send first k s t u d all_down w p rest said head sends new h = record {
     once x (inl e) = omega (arith, said-more x all_down said, new x, h.later x (omega (arith, e)), one_most (eqb (first + s.received.sends) x))
     once x (inr ne) = omega (arith, said-more x all_down said, new x, h.once x, ap one_if (ne_eqb (first + s.received.sends) x (λ e. ne (sym e))))
 
-pub answered-other : (first : ℕ) (k : ClientState) (s t : ServerState) (u d all_down : List FrameContent) (w : Transit) (p : FrameContent) (rest said : List FrameContent) → w.up ≡ p ∷ rest → t.received.sends ≡ s.received.sends
+pub answered-other : (first : ℕ) (k : ClientState) (s t : ServerState) (u d all_down : List FrameContent) (w : Transit) (p : FrameContent) (rest said : List FrameContent) → t.received.sends ≡ s.received.sends
     → ((x : ℕ) → times x (message_xids said) + times x (call_xids t.calls) ≤ times x (call_xids s.calls))
     → Answered first k s u d all_down w → FrameAt first k s t u d all_down w p rest said
-answered-other first k s t u d all_down w p rest said head sends new h = record {
+answered-other first k s t u d all_down w p rest said sends new h = record {
   once = λ x. omega (arith, said-more x all_down said, new x, h.once x);
   later = λ x le. omega (arith, said-more x all_down said, new x, h.later x (omega (arith, le, sends)));
   earlier = λ x lt. omega (arith, said-more x all_down said, new x, h.earlier x lt);
   open_calls = h.open_calls;
-  written = same-written first k u w p rest head h.written;
   room = h.room;
 }
 
 -- a call is executed, or the server's queue is written
-pub answered-server : (first : ℕ) (k : ClientState) (s t : ServerState) (u d all_down : List FrameContent) (w v : Transit) (said : List FrameContent) → t.received.sends ≡ s.received.sends → v.up ≡ w.up
+pub answered-server : (first : ℕ) (k : ClientState) (s t : ServerState) (u d all_down : List FrameContent) (w v : Transit) (said : List FrameContent) → t.received.sends ≡ s.received.sends
     → ((x : ℕ) → times x (message_xids said) + times x (call_xids t.calls) ≤ times x (call_xids s.calls)) → Answered first k s u d all_down w → Answered first k t u d (all_down ++ said) v
-answered-server first k s t u d all_down w v said sends up new h = record {
+answered-server first k s t u d all_down w v said sends new h = record {
   once = λ x. omega (arith, said-more x all_down said, new x, h.once x);
   later = λ x le. omega (arith, said-more x all_down said, new x, h.later x (omega (arith, le, sends)));
   earlier = λ x lt. omega (arith, said-more x all_down said, new x, h.earlier x lt);
   open_calls = h.open_calls;
-  written = subst (λ (ps : List FrameContent). AllByRecursion (IsWritten (first + total_of sends_in (u ++ ps))) k.outstanding) (sym up) h.written;
   room = h.room;
 }
 
@@ -113,15 +103,13 @@ others-times x xid (o ∷ os) ne = by (eqb o.xid xid) refl (others-times x xid o
         omega (arith, same, ap one_if other)
     by false is same = omega (arith, same)
 
-pub answered-message : (first : ℕ) (k t : ClientState) (s : ServerState) (u d all_down : List FrameContent) (w v : Transit) (message : List ℕ) → t.outstanding ≡ filter (λ (o : OutstandingCall). not (eqb o.xid (word_at 0 message))) k.outstanding → t.calls_accepted ≡ k.calls_accepted → v.up ≡ w.up
+pub answered-message : (first : ℕ) (k t : ClientState) (s : ServerState) (u d all_down : List FrameContent) (w v : Transit) (message : List ℕ) → t.outstanding ≡ filter (λ (o : OutstandingCall). not (eqb o.xid (word_at 0 message))) k.outstanding → t.calls_accepted ≡ k.calls_accepted
     → Answered first k s u d all_down w → Answered first t s u (d ++ SendFrame message ∷ []) all_down v
-answered-message first k t s u d all_down w v message left accepted up h = record {
+answered-message first k t s u d all_down w v message left accepted h = record {
   once = h.once;
   later = h.later;
   earlier = h.earlier;
   open_calls = λ x le lt. open_call x le (omega (arith, lt, accepted)) (eqb (word_at 0 message) x) refl;
-  written = subst (λ (ps : List FrameContent). AllByRecursion (IsWritten (first + total_of sends_in (u ++ ps))) t.outstanding) (sym up)
-      (subst (AllByRecursion (IsWritten (first + total_of sends_in (u ++ w.up)))) (sym left) (each-kept (IsWritten (first + total_of sends_in (u ++ w.up))) (λ (o : OutstandingCall). not (eqb o.xid (word_at 0 message))) k.outstanding h.written));
   room = omega (arith, accepted, h.room);
 }
   where
@@ -135,33 +123,26 @@ answered-message first k t s u d all_down w v message left accepted up h = recor
         omega (arith, more x, h.open_calls x le lt, ap (λ (os : List OutstandingCall). times x (outstanding_xids os)) left, others-times x (word_at 0 message) k.outstanding other)
 
 -- a frame without a message
-pub answered-same : (first : ℕ) (k t : ClientState) (s : ServerState) (u d all_down : List FrameContent) (w v : Transit) (p : FrameContent) → t.outstanding ≡ k.outstanding → t.calls_accepted ≡ k.calls_accepted → v.up ≡ w.up → message_xids (p ∷ []) ≡ []
+pub answered-same : (first : ℕ) (k t : ClientState) (s : ServerState) (u d all_down : List FrameContent) (w v : Transit) (p : FrameContent) → t.outstanding ≡ k.outstanding → t.calls_accepted ≡ k.calls_accepted → message_xids (p ∷ []) ≡ []
     → Answered first k s u d all_down w → Answered first t s u (d ++ p ∷ []) all_down v
-answered-same first k t s u d all_down w v p same accepted up none h = record {
+answered-same first k t s u d all_down w v p same accepted none h = record {
   once = h.once;
   later = h.later;
   earlier = h.earlier;
   open_calls = λ x le lt.
       omega (arith, h.open_calls x le (omega (arith, lt, accepted)), ap (λ (os : List OutstandingCall). times x (outstanding_xids os)) same, said-more x d (p ∷ []), ap (λ (xs : List ℕ). times x xs) none);
-  written = subst (λ (ps : List FrameContent). AllByRecursion (IsWritten (first + total_of sends_in (u ++ ps))) t.outstanding) (sym up) (subst (AllByRecursion (IsWritten (first + total_of sends_in (u ++ w.up)))) (sym same) h.written);
   room = omega (arith, accepted, h.room);
 }
 
 -- ---- Events of the client
 
-push-written : (end : ℕ) (os : List OutstandingCall) (o : OutstandingCall) → AllByRecursion (IsWritten end) os → end ≤ o.xid → AllByRecursion (IsWritten end) (os ++ o ∷ [])
-push-written end [] o h le = ((λ lt. absurd (omega (arith, lt, le))), tt)
-push-written end (y ∷ os) o h le = (h.0, push-written end os o h.1 le)
-
 pub answered-submit : (first : ℕ) (k t : ClientState) (s : ServerState) (u d all_down : List FrameContent) (w v : Transit) (o : OutstandingCall) → t.outstanding ≡ k.outstanding ++ o ∷ [] → t.calls_accepted ≡ k.calls_accepted + 1 → o.xid ≡ first + k.calls_accepted → o.xid < numbers_end
-    → total_of sends_in (u ++ w.up) ≤ k.calls_accepted → v.up ≡ w.up → Answered first k s u d all_down w → Answered first t s u d all_down v
-answered-submit first k t s u d all_down w v o outs accepted own small sent up h = record {
+    → Answered first k s u d all_down w → Answered first t s u d all_down v
+answered-submit first k t s u d all_down w v o outs accepted own small h = record {
   once = h.once;
   later = h.later;
   earlier = h.earlier;
   open_calls = λ x le lt. open_call x le lt (eqb o.xid x) refl;
-  written = subst (λ (ps : List FrameContent). AllByRecursion (IsWritten (first + total_of sends_in (u ++ ps))) t.outstanding) (sym up)
-      (subst (AllByRecursion (IsWritten (first + total_of sends_in (u ++ w.up)))) (sym outs) (push-written (first + total_of sends_in (u ++ w.up)) k.outstanding o h.written (omega (arith, own, sent))));
   room = omega (arith, accepted, own, small);
 }
   where
@@ -186,36 +167,33 @@ map-times f x (o ∷ os) same = omega (arith, ap (λ (n : ℕ). one_if (eqb n x)
 
 -- the calls go on as others of the same xids
 pub answered-map : (first : ℕ) (f : OutstandingCall → OutstandingCall) (k t : ClientState) (s : ServerState) (u d all_down : List FrameContent) (w v : Transit) → t.outstanding ≡ map f k.outstanding → ((o : OutstandingCall) → (f o).xid ≡ o.xid) → t.calls_accepted ≡ k.calls_accepted
-    → AllByRecursion (IsWritten (first + total_of sends_in (u ++ v.up))) t.outstanding → Answered first k s u d all_down w → Answered first t s u d all_down v
-answered-map first f k t s u d all_down w v outs same accepted written h = record {
+    → Answered first k s u d all_down w → Answered first t s u d all_down v
+answered-map first f k t s u d all_down w v outs same accepted h = record {
   once = h.once;
   later = h.later;
   earlier = h.earlier;
   open_calls = λ x le lt.
       omega (arith, h.open_calls x le (omega (arith, lt, accepted)), ap (λ (os : List OutstandingCall). times x (outstanding_xids os)) outs, map-times f x k.outstanding same);
-  written = written;
   room = omega (arith, accepted, h.room);
 }
 
 -- ---- The message at the front answers a call
 
-found-written : (x end : ℕ) (os : List OutstandingCall) → AllByRecursion (IsWritten end) os → x < end → 1 ≤ times x (outstanding_xids os) → (o : OutstandingCall) × (find (λ (y : OutstandingCall). eqb y.xid x && y.is_written) os ≡ Some o)
-found-written x end [] h lt some = absurd (omega (arith, some))
-found-written x end (o ∷ os) h lt some = by (eqb o.xid x) refl (found-written x end os h.1 lt)
+found-sent : (sent : OutstandingCall → Bool) (x : ℕ) (os : List OutstandingCall) → ((o : OutstandingCall) → o.xid ≡ x → sent o ≡ true) → 1 ≤ times x (outstanding_xids os)
+    → (o : OutstandingCall) × (find (λ (y : OutstandingCall). eqb y.xid x && sent y) os ≡ Some o)
+found-sent sent x [] own some = absurd (omega (arith, some))
+found-sent sent x (o ∷ os) own some = by (eqb o.xid x) refl (found-sent sent x os own)
   where
-    by : (b : Bool) → eqb o.xid x ≡ b → (1 ≤ times x (outstanding_xids os) → (y : OutstandingCall) × (find (λ (z : OutstandingCall). eqb z.xid x && z.is_written) os ≡ Some y))
-        → (y : OutstandingCall) × (find (λ (z : OutstandingCall). eqb z.xid x && z.is_written) (o ∷ os) ≡ Some y)
-    by true is later =
-        let own = eqb-true o.xid x is in
-        let written = h.0 (omega (arith, own, lt)) in
-        (o, (λ i. cond (is i && written i) (Some o) (find (λ (z : OutstandingCall). eqb z.xid x && z.is_written) os)))
+    by : (b : Bool) → eqb o.xid x ≡ b → (1 ≤ times x (outstanding_xids os) → (y : OutstandingCall) × (find (λ (z : OutstandingCall). eqb z.xid x && sent z) os ≡ Some y))
+        → (y : OutstandingCall) × (find (λ (z : OutstandingCall). eqb z.xid x && sent z) (o ∷ os) ≡ Some y)
+    by true is later = (o, (λ i. cond (is i && own o (eqb-true o.xid x is) i) (Some o) (find (λ (z : OutstandingCall). eqb z.xid x && sent z) os)))
     by false is later =
         let m = later (omega (arith, some, ap one_if is)) in
-        (m.0, (λ i. cond (is i && o.is_written) (Some o) (find (λ (z : OutstandingCall). eqb z.xid x && z.is_written) os)) ∙ m.1)
+        (m.0, (λ i. cond (is i && sent o) (Some o) (find (λ (z : OutstandingCall). eqb z.xid x && sent z) os)) ∙ m.1)
 
-pub answers-one : (first : ℕ) (k : ClientState) (s : ServerState) (u d all_down : List FrameContent) (w : Transit) (message : List ℕ) (rest : List FrameContent) → all_down ≡ d ++ SendFrame message ∷ rest → s.received.sends ≤ k.calls_accepted → s.received.sends ≡ total_of sends_in u
-    → Answered first k s u d all_down w → (o : OutstandingCall) × (find (λ (y : OutstandingCall). eqb y.xid (word_at 0 message) && y.is_written) k.outstanding ≡ Some o)
-answers-one first k s u d all_down w message rest parts sends is h =
+pub answers-one : (first : ℕ) (k : ClientState) (s : ServerState) (u d all_down : List FrameContent) (w : Transit) (message : List ℕ) (rest : List FrameContent) → all_down ≡ d ++ SendFrame message ∷ rest → s.received.sends ≤ k.calls_accepted → k.first_xid ≡ first → s.received.sends ≤ ends_left k.written k.send_ends
+    → Answered first k s u d all_down w → (o : OutstandingCall) × (answered_call k (word_at 0 message) ≡ Some o)
+answers-one first k s u d all_down w message rest parts sends own left h =
     let x = word_at 0 message in
     let there : times x (message_xids all_down) ≡ times x (message_xids d) + (1 + times x (message_xids rest)) =
     ap (λ (ps : List FrameContent). times x (message_xids ps)) parts ∙ said-more x d (SendFrame message ∷ rest)
@@ -223,7 +201,7 @@ answers-one first k s u d all_down w message rest parts sends is h =
     let below : x < first + s.received.sends = not-later x there (cases_lt x (first + s.received.sends)) in
     let above : first ≤ x = not-earlier x there (cases_lt x first) in
     let some : 1 ≤ times x (outstanding_xids k.outstanding) = omega (arith, there, h.once x, h.open_calls x above (omega (arith, below, sends))) in
-    found-written x (first + total_of sends_in (u ++ w.up)) k.outstanding h.written (omega (arith, below, is, total-append sends_in u w.up)) some
+    found-sent (is_sent k) x k.outstanding (λ o same. lt-ltb (o.xid - k.first_xid) (ends_left k.written k.send_ends) (omega (arith, same, own, left, below, above))) some
   where
     not-later : (x : ℕ) → times x (message_xids all_down) ≡ times x (message_xids d) + (1 + times x (message_xids rest)) → (x < first + s.received.sends) ⊎ (first + s.received.sends ≤ x) → x < first + s.received.sends
     not-later x there (inl lt) = lt

@@ -159,7 +159,7 @@ Brings (FrameReceived f ∷ es) (o ∷ outs) = Brought o f × Brings es outs
 Brings (CallSubmitted p a ∷ es) outs = Brings es outs
 Brings (MemoryRevoked p xid ∷ es) outs = Brings es outs
 Brings (CallExecuted e ∷ es) outs = Brings es outs
-Brings (QueueWritten ∷ es) outs = Brings es outs
+Brings (QueueWritten taken ∷ es) outs = Brings es outs
 
 abbrev frames_in : List Event → List Frame
 frames_in [] = []
@@ -167,7 +167,7 @@ frames_in (FrameReceived f ∷ es) = f ∷ frames_in es
 frames_in (CallSubmitted p a ∷ es) = frames_in es
 frames_in (MemoryRevoked p xid ∷ es) = frames_in es
 frames_in (CallExecuted e ∷ es) = frames_in es
-frames_in (QueueWritten ∷ es) = frames_in es
+frames_in (QueueWritten taken ∷ es) = frames_in es
 
 frames_in-append : (es more : List Event) → frames_in (es ++ more) ≡ frames_in es ++ frames_in more
 frames_in-append [] more = refl
@@ -175,7 +175,7 @@ frames_in-append (FrameReceived f ∷ es) more = ap (λ (fs : List Frame). f ∷
 frames_in-append (CallSubmitted p a ∷ es) more = frames_in-append es more
 frames_in-append (MemoryRevoked p xid ∷ es) more = frames_in-append es more
 frames_in-append (CallExecuted e ∷ es) more = frames_in-append es more
-frames_in-append (QueueWritten ∷ es) more = frames_in-append es more
+frames_in-append (QueueWritten taken ∷ es) more = frames_in-append es more
 
 frames_in-map : (fs : List Frame) → frames_in (map FrameReceived fs) ≡ fs
 frames_in-map [] = refl
@@ -216,7 +216,7 @@ mark-frames link side before (marks.Fed l s bytes) = by (eqb l link && same_side
     by : (b : Bool) → frames_by peer (old ++ cond b bytes []) ≡ frames_by peer old ++ frames_in (if_own b (map FrameReceived (frames_completed peer old bytes)))
     by true = frames-more peer old bytes ∙ ap (λ (fs : List Frame). frames_by peer old ++ fs) (sym (frames_in-map (frames_completed peer old bytes)))
     by false = ap (λ (xs : List ℕ). frames_by peer xs) (append-nil old) ∙ sym (append-nil (frames_by peer old))
-mark-frames link side before (marks.Wrote l s bytes) = quiet link side before (marks.Wrote l s bytes) refl (if-none (eqb l link && same_side s side) QueueWritten refl)
+mark-frames link side before (marks.Wrote l s bytes) = quiet link side before (marks.Wrote l s bytes) refl (if-none (eqb l link && same_side s side) (QueueWritten (length bytes)) refl)
 mark-frames link side before (marks.Submit l call form (submissions.Accepted xid)) = quiet link side before (marks.Submit l call form (submissions.Accepted xid)) refl (if-none (eqb l link && same_side Initiator side) (CallSubmitted (length (bytes_received link side before)) (record { xid = xid; call = call; form = form })) refl)
 mark-frames link side before (marks.Submit l call form (submissions.Refused why)) = quiet link side before (marks.Submit l call form (submissions.Refused why)) refl refl
 mark-frames link side before (marks.Submit l call form submissions.Dropped) = quiet link side before (marks.Submit l call form submissions.Dropped) refl refl
@@ -259,7 +259,7 @@ brings-each (FrameReceived f ∷ es) (o ∷ outs) h = (h.0, brings-each es outs 
 brings-each (CallSubmitted p a ∷ es) outs h = brings-each es outs h
 brings-each (MemoryRevoked p xid ∷ es) outs h = brings-each es outs h
 brings-each (CallExecuted e ∷ es) outs h = brings-each es outs h
-brings-each (QueueWritten ∷ es) outs h = brings-each es outs h
+brings-each (QueueWritten taken ∷ es) outs h = brings-each es outs h
 
 later-brought : (place : ℕ) (outs : List Output) → 0 < place → AreFrom Fpdu outs → EachBrought (frames_from place (map bytes_of outs)) outs
 unfolding frame_segment

@@ -179,7 +179,7 @@ from-event {S} rules accesses goes r e s h = by_end r.ended refl h
     by_event (CallSubmitted p a) is stays h = Old h
     by_event (MemoryRevoked p xid) is stays h = Old h
     by_event (CallExecuted x) is stays h = Old h
-    by_event QueueWritten is stays h = Old h
+    by_event (QueueWritten taken) is stays h = Old h
 
     by_why : (o : Option Stop) → r.ended ≡ None → rules.end_at r.state e ≡ o → Has (accesses (next_end_state_by rules r.state e o).state) s → FromEvent rules accesses r e s
     by_why None is none h = by_event e refl (live is none) (subst (λ (xs : List TaggedSegment). Has xs s) (goes r.state e) h)

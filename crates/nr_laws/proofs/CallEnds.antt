@@ -97,4 +97,4 @@ refused-at opened link run typed far at reason own e =
     by es (CallSubmitted p a) more is live good e = absurd cc
     by es (MemoryRevoked p xid) more is live good e = absurd cc
     by es (CallExecuted x) more is live good e = absurd cc
-    by es QueueWritten more is live good e = absurd cc
+    by es (QueueWritten taken) more is live good e = absurd cc

@@ -62,7 +62,7 @@ lasts-brought (FrameReceived f ∷ es) (ASegment s ∷ came) b =
 lasts-brought (CallSubmitted p a ∷ es) came b = lasts-brought es came b
 lasts-brought (MemoryRevoked p xid ∷ es) came b = lasts-brought es came b
 lasts-brought (CallExecuted e ∷ es) came b = lasts-brought es came b
-lasts-brought (QueueWritten ∷ es) came b = lasts-brought es came b
+lasts-brought (QueueWritten taken ∷ es) came b = lasts-brought es came b
 
 ends-segment : (s : Segment) → ends_response s ≡ true → (tagged_one s ≡ s ∷ []) × (last_in s ≡ 1)
 ends-segment (Tagged last opcode stag to payload) e = (refl, ap (λ (b : Bool). cond b 1 0) e)

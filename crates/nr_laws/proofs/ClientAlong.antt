@@ -19,7 +19,7 @@ use Rattle.nr_reduce.specs.EndRules.{next_end_state_by, next_end_state_in}
 use Rattle.nr_reduce.specs.OfferedRegions.{region_grants}
 use Rattle.nr_reduce.specs.Plans.{TooLarge, plan_of, regions_needed}
 use Rattle.nr_reduce.specs.ClientState.{ClientState, OutstandingCall, call_payload, plan_for, memory_at}
-use Rattle.nr_reduce.specs.Client.{client_rules, client_end, client_state_after, readiness, segment_request, outstanding_of, plan_or, with_message, with_request, with_segment}
+use Rattle.nr_reduce.specs.Client.{client_rules, client_end, client_state_after, readiness, segment_request, outstanding_of, plan_or, with_message, with_request, with_segment, with_hello, due_with_response}
 use Rattle.nr_reduce.specs.RunLaws.{outstanding_from, as_submitted}
 use Rattle.nr_reduce.proofs.Sizes.{message_size}
 use Rattle.nr_laws.proofs.Along.{IsNext, place_after, outputs_by, outputs_in}
@@ -28,9 +28,9 @@ use Rattle.nr_laws.proofs.Outputs.Output.{ASegment}
 use Rattle.nr_laws.proofs.Brought.{AreFrom}
 use Rattle.nr_laws.proofs.Words.{send-word, terminate-word, from-append, payload-bytes}
 use Rattle.nr_laws.proofs.Messages.{messages, AreOne, messages-append, one-append, messages-calls, one-calls, messages-tagged, one-tagged, tagged-response, messages-final, one-final}
-use Rattle.nr_laws.proofs.ClientSays.{IsGoodCall, ClientGood, accepted_in, accepted-append, asked, HasHello, ClientSays, short-revoked, short-written, submitted-messages, map-more, client-unharmed, formed, response-words}
+use Rattle.nr_laws.proofs.ClientSays.{IsGoodCall, ClientGood, accepted_in, accepted-append, asked, HasHello, ClientSays, short-revoked, submitted-messages, map-more, client-unharmed, formed, response-words}
 use Rattle.nr_laws.proofs.Basics.{above-zero, each-append, each-kept}
-use Rattle.nr_reduce.proofs.Waiting.{start, stag_behind, from-append as from-more, behind-append, submitted-append, revoked-same, written-same}
+use Rattle.nr_reduce.proofs.Waiting.{start, stag_behind, from-append as from-more, behind-append, submitted-append, revoked-same}
 
 -- ---- What is said for a frame
 
@@ -116,10 +116,10 @@ stays-step opened place k end = record { short = λ h. h; stag = refl; count = r
 
 -- ---- Frames
 
-request-fields : (opened : LinkParameters) (k m : ClientState) (o : Option ReadRequest) → (CallsShort opened k.outstanding → CallsShort opened m.outstanding) × (m.stag ≡ k.stag) × (m.calls_accepted ≡ k.calls_accepted) × (m.has_hello ≡ k.has_hello)
-    → (CallsShort opened k.outstanding → CallsShort opened (with_request m o).outstanding) × ((with_request m o).stag ≡ k.stag) × ((with_request m o).calls_accepted ≡ k.calls_accepted) × ((with_request m o).has_hello ≡ k.has_hello)
-request-fields opened k m None h = h
-request-fields opened k m (Some q) h = h
+request-fields : (opened : LinkParameters) (k m : ClientState) (due : ℕ) (o : Option ReadRequest) → (CallsShort opened k.outstanding → CallsShort opened m.outstanding) × (m.stag ≡ k.stag) × (m.calls_accepted ≡ k.calls_accepted) × (m.has_hello ≡ k.has_hello)
+    → (CallsShort opened k.outstanding → CallsShort opened (with_request m due o).outstanding) × ((with_request m due o).stag ≡ k.stag) × ((with_request m due o).calls_accepted ≡ k.calls_accepted) × ((with_request m due o).has_hello ≡ k.has_hello)
+request-fields opened k m due None h = h
+request-fields opened k m due (Some q) h = h
 
 message-fields : (opened : LinkParameters) (k : ClientState) (place : ℕ) (o : Option (List ℕ)) → (CallsShort opened k.outstanding → CallsShort opened (with_message k place o).outstanding) × ((with_message k place o).stag ≡ k.stag) × ((with_message k place o).calls_accepted ≡ k.calls_accepted) × ((with_message k place o).has_hello ≡ k.has_hello)
 message-fields opened k place None = ((λ h. h), refl, refl, refl)
@@ -127,7 +127,7 @@ message-fields opened k place (Some message) = ((λ h. each-kept (CallShort open
 
 segment-fields : (opened : LinkParameters) (k : ClientState) (f : Frame) (r : Result Segment ℕ) → (CallsShort opened k.outstanding → CallsShort opened (with_segment k f r).outstanding) × ((with_segment k f r).stag ≡ k.stag) × ((with_segment k f r).calls_accepted ≡ k.calls_accepted) × ((with_segment k f r).has_hello ≡ k.has_hello)
 segment-fields opened k f (Err reason) = ((λ h. h), refl, refl, refl)
-segment-fields opened k f (Ok segment) = request-fields opened k (with_message k f.end (message_completed k.received segment)) (read_request_of segment) (message-fields opened k f.end (message_completed k.received segment))
+segment-fields opened k f (Ok segment) = request-fields opened k (with_message k f.end (message_completed k.received segment)) (due_with_response k f segment) (read_request_of segment) (message-fields opened k f.end (message_completed k.received segment))
 
 behind-greeted : (place : ℕ) (b : Bool) → 0 < place → HasHello place b → b ≡ true
 behind-greeted place b some (inl h) = absurd (let z = h.0 in omega (arith, z, some))
@@ -151,7 +151,7 @@ segment-step opened place k f behind at goes greeted =
     }
 
 hello-step : (opened : LinkParameters) (es : List Event) (place : ℕ) (k : ClientState) (outs : List Output) (f : Frame) → f.at ≡ 0 → f.at ≡ place → place < f.end → ClientSays opened es place k None outs
-    → ClientSays opened (es ++ FrameReceived f ∷ []) f.end (record k { has_hello = true }) None (outs ++ call_sends opened 1 k.outstanding)
+    → ClientSays opened (es ++ FrameReceived f ∷ []) f.end (with_hello opened k) None (outs ++ call_sends opened 1 k.outstanding)
 hello-step opened es place k outs f first at goes p =
     let no_hello : k.has_hello ≡ false = first-greeted place k.has_hello (sym at ∙ first) (p.greeted refl) in
     let same : accepted_in (es ++ FrameReceived f ∷ []) ≡ accepted_in es = same-asked opened es (FrameReceived f) refl in
@@ -237,7 +237,7 @@ unfolding client_state_after client_says
 frame-says opened es place k outs f next p = by_end (client_end k (FrameReceived f)) refl
   where
     by_hello : (b : Bool) → is_hello f ≡ b → client_end k (FrameReceived f) ≡ None
-        → ClientSays opened (es ++ FrameReceived f ∷ []) f.end (cond b (record k { has_hello = true }) (with_segment k f (frame_segment f))) None
+        → ClientSays opened (es ++ FrameReceived f ∷ []) f.end (cond b (with_hello opened k) (with_segment k f (frame_segment f))) None
         (outs ++ cond b (call_sends opened 1 k.outstanding) (response_outputs k f.end (segment_request (frame_segment f))))
     by_hello true is stays = hello-step opened es place k outs f (eqb-true f.at 0 is) next.0 next.1 p
     by_hello false is stays =
@@ -256,11 +256,11 @@ revoke-says opened es place k outs q xid p =
     quiet-step opened es (MemoryRevoked q xid) place place k (client_state_after opened k (MemoryRevoked q xid)) None None outs [] refl
     (record { short = λ h. short-revoked opened xid k.outstanding h; stag = refl; count = refl; hello = refl; greeted = p.greeted; waits = λ h. revoked-same xid k.outstanding }) quiet-none p
 
-written-says : (opened : LinkParameters) (es : List Event) (place : ℕ) (k : ClientState) (outs : List Output) → ClientSays opened es place k None outs → Next opened es place k None outs QueueWritten
+written-says : (taken : ℕ) (opened : LinkParameters) (es : List Event) (place : ℕ) (k : ClientState) (outs : List Output) → ClientSays opened es place k None outs → Next opened es place k None outs (QueueWritten taken)
 unfolding client_state_after client_says client_end
-written-says opened es place k outs p =
-    quiet-step opened es QueueWritten place place k (client_state_after opened k QueueWritten) None None outs [] refl
-    (record { short = λ h. short-written opened k.has_hello k.outstanding h; stag = refl; count = refl; hello = refl; greeted = p.greeted; waits = λ h. written-same k.has_hello k.outstanding h }) quiet-none p
+written-says taken opened es place k outs p =
+    quiet-step opened es (QueueWritten taken) place place k (client_state_after opened k (QueueWritten taken)) None None outs [] refl
+    (record { short = λ h. h; stag = refl; count = refl; hello = refl; greeted = p.greeted; waits = λ h. refl }) quiet-none p
 
 executed-says : (opened : LinkParameters) (es : List Event) (place : ℕ) (k : ClientState) (outs : List Output) (x : Rattle.nr_reduce.specs.History.ExecutedCall) → ClientSays opened es place k None outs → Next opened es place k None outs (CallExecuted x)
 unfolding client_state_after client_says client_end
@@ -281,9 +281,9 @@ client-step opened es place k None outs (FrameReceived f) next good p = frame-sa
 client-step opened es place k None outs (CallSubmitted q a) next good p = submitted-says opened es place k outs q a good p
 client-step opened es place k None outs (MemoryRevoked q xid) next good p = revoke-says opened es place k outs q xid p
 client-step opened es place k None outs (CallExecuted x) next good p = executed-says opened es place k outs x p
-client-step opened es place k None outs QueueWritten next good p = written-says opened es place k outs p
+client-step opened es place k None outs (QueueWritten taken) next good p = written-says taken opened es place k outs p
 client-step opened es place k (Some end) outs (FrameReceived f) next good p = ended-says opened es place f.end k outs (FrameReceived f) end refl p
 client-step opened es place k (Some end) outs (CallSubmitted q a) next good p = absurd (let s = good.stays in cc)
 client-step opened es place k (Some end) outs (MemoryRevoked q xid) next good p = ended-says opened es place place k outs (MemoryRevoked q xid) end refl p
 client-step opened es place k (Some end) outs (CallExecuted x) next good p = ended-says opened es place place k outs (CallExecuted x) end refl p
-client-step opened es place k (Some end) outs QueueWritten next good p = ended-says opened es place place k outs QueueWritten end refl p
+client-step opened es place k (Some end) outs (QueueWritten taken) next good p = ended-says opened es place place k outs (QueueWritten taken) end refl p

@@ -20,7 +20,7 @@ use Rattle.nr_reduce.specs.Events.Event.{FrameReceived}
 use Rattle.nr_reduce.specs.OfferedRegions.{region_grants}
 use Rattle.nr_reduce.specs.ClientState.{ClientState, OutstandingCall, memory_at}
 use Rattle.nr_reduce.specs.ServerState.{ServerState}
-use Rattle.nr_reduce.specs.Client.{client_end, client_state_after, client_output, readiness, or_message_end, segment_request, calls_output, response_output, with_segment}
+use Rattle.nr_reduce.specs.Client.{client_end, client_state_after, client_output, readiness, or_message_end, segment_request, calls_output, response_output, with_segment, with_hello}
 use Rattle.nr_laws.proofs.FrameContents.{FrameContent, numbered_segment, frame_bytes, output_bytes, total_of, sends_in, requests_in, hellos_in, call_frame, client_frames, response_frames, tagged_frames, Carries}
 use Rattle.nr_laws.proofs.FrameContents.FrameContent.{HelloFrame, SendFrame, RequestFrame, TaggedFrame}
 use Rattle.nr_laws.proofs.LinkInvariants.{Transit, TotalsAgree, calls_sent, hello_bit}
@@ -135,9 +135,9 @@ pub says-hello : (opened : LinkParameters) (k : ClientState) (f : Frame) → is_
 unfolding client_frames
 says-hello opened k f is = λ i. cond (is i) (map (call_frame opened) k.outstanding) (response_frames k f.end (segment_request (frame_segment f)))
 
-pub after-hello : (opened : LinkParameters) (k : ClientState) (f : Frame) → is_hello f ≡ true → client_state_after opened k (FrameReceived f) ≡ record k { has_hello = true }
+pub after-hello : (opened : LinkParameters) (k : ClientState) (f : Frame) → is_hello f ≡ true → client_state_after opened k (FrameReceived f) ≡ with_hello opened k
 unfolding client_state_after
-after-hello opened k f is = λ i. cond (is i) (record k { has_hello = true }) (with_segment k f (frame_segment f))
+after-hello opened k f is = λ i. cond (is i) (with_hello opened k) (with_segment k f (frame_segment f))
 
 asks-proper : (opened : LinkParameters) (os : List OutstandingCall) → CallsShort opened os → AreWritable (map (call_frame opened) os)
 asks-proper opened [] h = tt

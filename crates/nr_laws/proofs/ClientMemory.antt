@@ -17,7 +17,7 @@ use Rattle.nr_reduce.specs.EndRules.{EndState, next_end_state, next_end_state_by
 use Rattle.nr_reduce.specs.OfferedRegions.{Region, region_grants, closed_if, regions_closed}
 use Rattle.nr_reduce.specs.Plans.{Buffer, buffers}
 use Rattle.nr_reduce.specs.ClientState.{ClientState, OutstandingCall, plan_for}
-use Rattle.nr_reduce.specs.Client.{client_rules, client_end, client_state_after, outstanding_of, region_of, with_message, with_request, with_segment, revoked_call, written_call, initial_client}
+use Rattle.nr_reduce.specs.Client.{client_rules, client_end, client_state_after, outstanding_of, region_of, with_message, with_request, with_segment, revoked_call, initial_client, with_hello, due_with_response}
 use Rattle.nr_reduce.specs.Server.{tagged_accesses}
 use Rattle.nr_reduce.specs.RunLaws.{outstanding_from}
 use Rattle.nr_reduce.proofs.Touches.{client_touched}
@@ -166,11 +166,6 @@ asked-revoked opened es xid (o ∷ os) h = (by (eqb o.xid xid), asked-revoked op
     by true = record { front = h.0.front; own = h.0.own; back = h.0.back; is = h.0.is; own_xid = h.0.own_xid; own_call = h.0.own_call; own_plan = h.0.own_plan; own_stag = h.0.own_stag }
     by false = h.0
 
-asked-written : (opened : LinkParameters) (es : List Event) (b : Bool) (os : List OutstandingCall) → EachAsked opened es os → EachAsked opened es (map (written_call b) os)
-asked-written opened es b [] h = tt
-asked-written opened es b (o ∷ os) h =
-    (record { front = h.0.front; own = h.0.own; back = h.0.back; is = h.0.is; own_xid = h.0.own_xid; own_call = h.0.own_call; own_plan = h.0.own_plan; own_stag = h.0.own_stag }, asked-written opened es b os h.1)
-
 asked-same : (opened : LinkParameters) (es later : List Event) (os : List OutstandingCall) → asked opened later ≡ asked opened es → EachAsked opened es os → EachAsked opened later os
 asked-same opened es later [] e h = tt
 asked-same opened es later (o ∷ os) e h =
@@ -220,9 +215,9 @@ quiet-keeps opened es e place later k after none settled owns backed stag p =
 
 -- ---- Each event
 
-request-fields : (m : ClientState) (o : Option ReadRequest) → ((with_request m o).regions ≡ m.regions) × ((with_request m o).outstanding ≡ m.outstanding) × ((with_request m o).stag ≡ m.stag)
-request-fields m None = (refl, refl, refl)
-request-fields m (Some q) = (refl, refl, refl)
+request-fields : (m : ClientState) (due : ℕ) (o : Option ReadRequest) → ((with_request m due o).regions ≡ m.regions) × ((with_request m due o).outstanding ≡ m.outstanding) × ((with_request m due o).stag ≡ m.stag)
+request-fields m due None = (refl, refl, refl)
+request-fields m due (Some q) = (refl, refl, refl)
 
 record MessageKeeps (opened : LinkParameters) (es : List Event) (place : ℕ) (k after : ClientState) : Type 0 where
   settled : (accesses : List TaggedSegment) → Settled place k.regions accesses → Settled place after.regions accesses
@@ -253,7 +248,7 @@ segment-keeps opened es place k f next behind stays (Err reason) is p =
 segment-keeps opened es place k f next behind stays (Ok s) is p =
     let m : ClientState = with_message k f.end (message_completed k.received s) in
     let g = message-keeps opened es k f.end (message_completed k.received s) in
-    let q = request-fields m (read_request_of s) in
+    let q = request-fields m (due_with_response k f s) (read_request_of s) in
     let old : Settled f.end k.regions k.accesses_received = settled-later place f.end k.regions k.accesses_received (let l = next.1 in omega (arith, l)) p.settled in
     let all : Settled f.end k.regions (k.accesses_received ++ tagged_access f s) = settled-more f.end k.regions k.accesses_received (tagged_access f s) old (access-settled k f s behind is stays) in
     quiet-keeps opened es (FrameReceived f) place f.end k (with_segment k f (Ok s)) refl
@@ -301,8 +296,8 @@ unfolding client_state_after
 frame-keeps opened es place k f next p (Some end) is = keeps-same opened es (FrameReceived f) place f.end k refl (let l = next.1 in omega (arith, l)) p
 frame-keeps opened es place k f next p None is = by (is_hello f) refl
   where
-    by : (b : Bool) → is_hello f ≡ b → ClientKeeps opened (es ++ FrameReceived f ∷ []) f.end (cond b (record k { has_hello = true }) (with_segment k f (frame_segment f)))
-    by true first = quiet-keeps opened es (FrameReceived f) place f.end k (record k { has_hello = true }) refl (settled-later place f.end k.regions k.accesses_received (let l = next.1 in omega (arith, l)) p.settled) (λ h. h) (λ h. h) refl p
+    by : (b : Bool) → is_hello f ≡ b → ClientKeeps opened (es ++ FrameReceived f ∷ []) f.end (cond b (with_hello opened k) (with_segment k f (frame_segment f)))
+    by true first = quiet-keeps opened es (FrameReceived f) place f.end k (with_hello opened k) refl (settled-later place f.end k.regions k.accesses_received (let l = next.1 in omega (arith, l)) p.settled) (λ h. h) (λ h. h) refl p
     by false behind = segment-keeps opened es place k f next behind is (frame_segment f) refl p
 
 pub keeps-step : (opened : LinkParameters) (es : List Event) (place : ℕ) (k : ClientState) (ended : Option Stop) (e : Event) → IsNext place e → ClientGood opened (record { state = k; ended = ended }) e
@@ -315,26 +310,26 @@ keeps-step opened es place k None (MemoryRevoked q xid) next good numbers after 
     quiet-keeps opened es (MemoryRevoked q xid) place place k (client_state_after opened k (MemoryRevoked q xid)) refl
     (revoked-settled place q k.regions k.accesses_received (λ r. eqb r.call xid) next p.settled) (λ h. asked-revoked opened es xid k.outstanding h) (λ h. backed-closed (λ r. eqb r.call xid) q k.regions (asked opened es) h) refl p
 keeps-step opened es place k None (CallExecuted x) next good numbers after p = keeps-same opened es (CallExecuted x) place place k refl (omega arith) p
-keeps-step opened es place k None QueueWritten next good numbers after p =
-    quiet-keeps opened es QueueWritten place place k (client_state_after opened k QueueWritten) refl p.settled (λ h. asked-written opened es k.has_hello k.outstanding h) (λ h. h) refl p
+keeps-step opened es place k None (QueueWritten taken) next good numbers after p =
+    quiet-keeps opened es (QueueWritten taken) place place k (client_state_after opened k (QueueWritten taken)) refl p.settled (λ h. h) (λ h. h) refl p
 keeps-step opened es place k (Some end) (FrameReceived f) next good numbers after p = keeps-same opened es (FrameReceived f) place f.end k refl (let l = next.1 in omega (arith, l)) p
 keeps-step opened es place k (Some end) (CallSubmitted q a) next good numbers after p = absurd (let s = good.stays in cc)
 keeps-step opened es place k (Some end) (MemoryRevoked q xid) next good numbers after p = keeps-same opened es (MemoryRevoked q xid) place place k refl (omega arith) p
 keeps-step opened es place k (Some end) (CallExecuted x) next good numbers after p = keeps-same opened es (CallExecuted x) place place k refl (omega arith) p
-keeps-step opened es place k (Some end) QueueWritten next good numbers after p = keeps-same opened es QueueWritten place place k refl (omega arith) p
+keeps-step opened es place k (Some end) (QueueWritten taken) next good numbers after p = keeps-same opened es (QueueWritten taken) place place k refl (omega arith) p
 
 pub client-gathers : (opened : LinkParameters) → Gathering (client_rules opened) (λ (k : ClientState). k.accesses_received)
 unfolding client_state_after
 client-gathers opened k (FrameReceived f) = by (is_hello f) (frame_segment f)
   where
-    by : (b : Bool) (r : Result Segment ℕ) → (cond b (record k { has_hello = true }) (with_segment k f r)).accesses_received ≡ cond b k.accesses_received (k.accesses_received ++ tagged_accesses f r)
+    by : (b : Bool) (r : Result Segment ℕ) → (cond b (with_hello opened k) (with_segment k f r)).accesses_received ≡ cond b k.accesses_received (k.accesses_received ++ tagged_accesses f r)
     by true r = refl
     by false (Ok s) = refl
     by false (Err reason) = sym (append-nil k.accesses_received)
 client-gathers opened k (CallSubmitted p a) = refl
 client-gathers opened k (MemoryRevoked p xid) = refl
 client-gathers opened k (CallExecuted e) = refl
-client-gathers opened k QueueWritten = refl
+client-gathers opened k (QueueWritten taken) = refl
 
 pub keeps-nothing : (opened : LinkParameters) → ClientKeeps opened [] 0 (start opened)
 keeps-nothing opened = record { settled = tt; owns = tt; backed = tt; stag = refl }

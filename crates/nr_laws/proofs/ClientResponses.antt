@@ -22,7 +22,7 @@ use Rattle.nr_reduce.specs.Events.{Event}
 use Rattle.nr_reduce.specs.Events.Event.{FrameReceived, CallSubmitted, MemoryRevoked, CallExecuted, QueueWritten}
 use Rattle.nr_reduce.specs.EndRules.{EndState, next_end_state, next_end_state_by, next_end_state_in, end_state_after}
 use Rattle.nr_reduce.specs.ClientState.{ClientState, OutstandingCall, memory_at}
-use Rattle.nr_reduce.specs.Client.{client_rules, client_end, client_state_after, initial_client, with_message, with_segment, outstanding_of, region_of, segment_request}
+use Rattle.nr_reduce.specs.Client.{client_rules, client_end, client_state_after, initial_client, with_message, with_segment, outstanding_of, region_of, segment_request, with_hello, due_with_response}
 use Rattle.nr_reduce.specs.Plans.{buffers}
 use Rattle.nr_reduce.proofs.OwnStags.{ClientNumbers, own-stags, client-numbers}
 use Rattle.nr_reduce.proofs.Steps.{end_state_after-append}
@@ -63,7 +63,7 @@ heard_in (FrameReceived f ∷ es) = cond (is_hello f) [] (heard_by (frame_segmen
 heard_in (CallSubmitted p a ∷ es) = heard_in es
 heard_in (MemoryRevoked p xid ∷ es) = heard_in es
 heard_in (CallExecuted e ∷ es) = heard_in es
-heard_in (QueueWritten ∷ es) = heard_in es
+heard_in (QueueWritten taken ∷ es) = heard_in es
 
 heard-append : (es more : List Event) → heard_in (es ++ more) ≡ heard_in es ++ heard_in more
 heard-append [] more = refl
@@ -73,7 +73,7 @@ heard-append (FrameReceived f ∷ es) more =
 heard-append (CallSubmitted p a ∷ es) more = heard-append es more
 heard-append (MemoryRevoked p xid ∷ es) more = heard-append es more
 heard-append (CallExecuted e ∷ es) more = heard-append es more
-heard-append (QueueWritten ∷ es) more = heard-append es more
+heard-append (QueueWritten taken ∷ es) more = heard-append es more
 
 pub heard-brought : (es : List Event) (came : List Output) → Brings es came → heard_in es ≡ requests_in came
 heard-brought [] came b = ap requests_in (sym b)
@@ -83,7 +83,7 @@ heard-brought (FrameReceived f ∷ es) (ASegment s ∷ came) b = (λ i. cond (b.
 heard-brought (CallSubmitted p a ∷ es) came b = heard-brought es came b
 heard-brought (MemoryRevoked p xid ∷ es) came b = heard-brought es came b
 heard-brought (CallExecuted e ∷ es) came b = heard-brought es came b
-heard-brought (QueueWritten ∷ es) came b = heard-brought es came b
+heard-brought (QueueWritten taken ∷ es) came b = heard-brought es came b
 
 -- ---- Answers to Read Requests
 
@@ -192,7 +192,7 @@ message-regions k place (Some message) a h = data-closed (λ r. eqb r.call (word
 
 segment-regions : (k : ClientState) (f : Frame) (r : Result Segment ℕ) (a : Answered) → IsData k.regions a → IsData (with_segment k f r).regions a
 segment-regions k f (Err reason) a h = h
-segment-regions k f (Ok s) a h = subst (λ (rs : List Region). IsData rs a) (sym (request-regions (with_message k f.end (message_completed k.received s)) (read_request_of s))) (message-regions k f.end (message_completed k.received s) a h)
+segment-regions k f (Ok s) a h = subst (λ (rs : List Region). IsData rs a) (sym (request-regions (with_message k f.end (message_completed k.received s)) (due_with_response k f s) (read_request_of s))) (message-regions k f.end (message_completed k.received s) a h)
 
 fetched-request : (opened : LinkParameters) (k : ClientState) (f : Frame) (opcode w queue msn offset : ℕ) (last : Bool) (payload : List ℕ) → HaveOwnStags (region_grants f.end k.regions) → is_hello f ≡ false → frame_segment f ≡ Ok (Untagged last opcode w queue msn offset payload)
     → client_end k (FrameReceived f) ≡ None → eqb opcode OPCODE_READ_REQUEST ≡ true → IsData k.regions (record { request = payload; bytes = take (read_request_in payload).size (drop (read_request_in payload).to (memory_at k f.end (read_request_in payload).stag)) })
@@ -252,10 +252,10 @@ frame-answers : (opened : LinkParameters) (es : List Event) (k : ClientState) (o
 unfolding client_state_after client_says
 frame-answers opened es k outs f own stays h = by (is_hello f) refl
   where
-    by : (b : Bool) → is_hello f ≡ b → ClientAnswers opened (es ++ FrameReceived f ∷ []) (cond b (record k { has_hello = true }) (with_segment k f (frame_segment f))) None
+    by : (b : Bool) → is_hello f ≡ b → ClientAnswers opened (es ++ FrameReceived f ∷ []) (cond b (with_hello opened k) (with_segment k f (frame_segment f))) None
         (outs ++ cond b (call_sends opened 1 k.outstanding) (response_outputs k f.end (segment_request (frame_segment f))))
     by true first =
-        quiet-answers opened es (FrameReceived f) k (record k { has_hello = true }) None None outs (call_sends opened 1 k.outstanding) (tagged-sends opened 1 k.outstanding)
+        quiet-answers opened es (FrameReceived f) k (with_hello opened k) None None outs (call_sends opened 1 k.outstanding) (tagged-sends opened 1 k.outstanding)
         (λ n. (refl, (λ i. cond (first i) [] (heard_by (frame_segment f)) ++ []))) (λ a d. d) h
     by false behind = heard-answers opened es k outs f own behind stays h (frame_segment f) refl
 
@@ -277,7 +277,7 @@ answers-event opened es k outs (CallSubmitted p a) own h None stays =
 answers-event opened es k outs (MemoryRevoked p xid) own h None stays =
     quiet-answers opened es (MemoryRevoked p xid) k (client_state_after opened k (MemoryRevoked p xid)) None None outs [] refl (λ n. (refl, refl)) (data-closed (λ r. eqb r.call xid) p k.regions) h
 answers-event opened es k outs (CallExecuted x) own h None stays = quiet-answers opened es (CallExecuted x) k k None None outs [] refl (λ n. (refl, refl)) (λ a d. d) h
-answers-event opened es k outs QueueWritten own h None stays = quiet-answers opened es QueueWritten k (client_state_after opened k QueueWritten) None None outs [] refl (λ n. (refl, refl)) (λ a d. d) h
+answers-event opened es k outs (QueueWritten taken) own h None stays = quiet-answers opened es (QueueWritten taken) k (client_state_after opened k (QueueWritten taken)) None None outs [] refl (λ n. (refl, refl)) (λ a d. d) h
 
 answers-in : (opened : LinkParameters) (es : List Event) (k : ClientState) (ended : Option Stop) (outs : List Output) (e : Event) → ((place : ℕ) → HaveOwnStags (region_grants place k.regions)) → ClientAnswers opened es k ended outs
     → ClientAnswers opened (es ++ e ∷ []) (next_end_state_in (client_rules opened) k e ended).state (next_end_state_in (client_rules opened) k e ended).ended (outs ++ outputs_in (client_rules opened) (client_says opened) final_outputs k e ended)

@@ -62,7 +62,7 @@ first-good opened link before (marks.Fed l s bytes) h = by (eqb l link && same_s
     by false fs = tt
 first-good opened link before (marks.Wrote l s bytes) h = by (eqb l link && same_side s Initiator)
   where
-    by : (b : Bool) → FirstGood (ClientGood opened) (client opened link before) (if_own b (QueueWritten ∷ []))
+    by : (b : Bool) → FirstGood (ClientGood opened) (client opened link before) (if_own b (QueueWritten (length bytes) ∷ []))
     by true = tt
     by false = tt
 first-good opened link before (marks.Execute l xid moment payload place reply) h = by (eqb l link && false)
@@ -102,7 +102,7 @@ short-event opened k ended (FrameReceived f) h live good = h
 short-event opened k ended (CallSubmitted p a) h live good = short-call opened k a good.plan good.planned
 short-event opened k ended (MemoryRevoked p xid) h live good = tt
 short-event opened k ended (CallExecuted e) h live good = tt
-short-event opened k ended QueueWritten h live good = tt
+short-event opened k ended (QueueWritten taken) h live good = tt
 
 bytes-by : (opened : LinkParameters) (k : ClientState) (ended : Option Stop) (e : Event) → CallsShort opened k.outstanding → ClientGood opened (record { state = k; ended = ended }) e
     → output_for_in (client_rules opened) k e ended ≡ bytes_of_all (outputs_in (client_rules opened) (client_says opened) final_outputs k e ended)
@@ -292,7 +292,7 @@ each-mark opened link before (marks.Submit l call form (submissions.Accepted xid
 each-mark opened link before (marks.Submit l call form (submissions.Refused why)) tells h each = quiet-mark opened link before (marks.Submit l call form (submissions.Refused why)) refl each
 each-mark opened link before (marks.Submit l call form submissions.Dropped) tells h each = quiet-mark opened link before (marks.Submit l call form submissions.Dropped) refl each
 each-mark opened link before (marks.Fed l s bytes) tells h each = quiet-mark opened link before (marks.Fed l s bytes) (none-fed (eqb l link && same_side s Initiator) (frames_completed Responder (bytes_received link Initiator before) bytes)) each
-each-mark opened link before (marks.Wrote l s bytes) tells h each = quiet-mark opened link before (marks.Wrote l s bytes) (none-if (eqb l link && same_side s Initiator) QueueWritten refl) each
+each-mark opened link before (marks.Wrote l s bytes) tells h each = quiet-mark opened link before (marks.Wrote l s bytes) (none-if (eqb l link && same_side s Initiator) (QueueWritten (length bytes)) refl) each
 each-mark opened link before (marks.Execute l xid moment payload place reply) tells h each = quiet-mark opened link before (marks.Execute l xid moment payload place reply)
     (none-if (eqb l link && false) (CallExecuted (record { xid = xid; moment = moment; payload = payload; place = place; reply = reply })) refl) each
 each-mark opened link before (marks.Revoke l xid bytes) tells h each = quiet-mark opened link before (marks.Revoke l xid bytes) (none-if (eqb l link && true) (MemoryRevoked (length (bytes_received link Initiator before)) xid) refl) each

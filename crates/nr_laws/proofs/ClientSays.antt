@@ -28,7 +28,7 @@ use Rattle.nr_reduce.specs.EndRules.{EndState}
 use Rattle.nr_reduce.specs.OfferedRegions.{region_grants}
 use Rattle.nr_reduce.specs.Plans.{regions_needed}
 use Rattle.nr_reduce.specs.ClientState.{ClientState, OutstandingCall, call_payload, plan_for, memory_at}
-use Rattle.nr_reduce.specs.Client.{client_end, readiness, or_message_end, revoked_call, written_call}
+use Rattle.nr_reduce.specs.Client.{client_end, readiness, or_message_end, revoked_call}
 use Rattle.nr_reduce.specs.SubmitAnswer.{next_xid}
 use Rattle.nr_reduce.specs.RunLaws.{outstanding_from, as_submitted}
 use Rattle.nr_laws.specs.Typed.{IsTypedForm}
@@ -57,7 +57,7 @@ ClientGood opened r (FrameReceived f) = Unit {0}
 ClientGood opened r (CallSubmitted p a) = IsGoodCall opened r a
 ClientGood opened r (MemoryRevoked p xid) = Unit {0}
 ClientGood opened r (CallExecuted e) = Unit {0}
-ClientGood opened r QueueWritten = Unit {0}
+ClientGood opened r (QueueWritten taken) = Unit {0}
 
 -- ---- The calls that were accepted
 
@@ -67,7 +67,7 @@ accepted_in (FrameReceived f ∷ es) = accepted_in es
 accepted_in (CallSubmitted p a ∷ es) = a ∷ accepted_in es
 accepted_in (MemoryRevoked p xid ∷ es) = accepted_in es
 accepted_in (CallExecuted e ∷ es) = accepted_in es
-accepted_in (QueueWritten ∷ es) = accepted_in es
+accepted_in (QueueWritten taken ∷ es) = accepted_in es
 
 pub accepted-append : (es more : List Event) → accepted_in (es ++ more) ≡ accepted_in es ++ accepted_in more
 accepted-append [] more = refl
@@ -75,7 +75,7 @@ accepted-append (FrameReceived f ∷ es) more = accepted-append es more
 accepted-append (CallSubmitted p a ∷ es) more = ap (λ (cs : List AcceptedCall). a ∷ cs) (accepted-append es more)
 accepted-append (MemoryRevoked p xid ∷ es) more = accepted-append es more
 accepted-append (CallExecuted e ∷ es) more = accepted-append es more
-accepted-append (QueueWritten ∷ es) more = accepted-append es more
+accepted-append (QueueWritten taken ∷ es) more = accepted-append es more
 
 -- the calls that were accepted, as they go out
 abbrev pub asked : LinkParameters → List Event → List OutstandingCall
@@ -114,10 +114,6 @@ revoked-message opened xid o = by (eqb o.xid xid)
 pub short-revoked : (opened : LinkParameters) (xid : ℕ) (xs : List OutstandingCall) → CallsShort opened xs → CallsShort opened (map (revoked_call xid) xs)
 short-revoked opened xid [] h = tt
 short-revoked opened xid (x ∷ xs) h = (subst IsShort (sym (revoked-message opened xid x)) h.0, short-revoked opened xid xs h.1)
-
-pub short-written : (opened : LinkParameters) (b : Bool) (xs : List OutstandingCall) → CallsShort opened xs → CallsShort opened (map (written_call b) xs)
-short-written opened b [] h = tt
-short-written opened b (x ∷ xs) h = (h.0, short-written opened b xs h.1)
 
 pub submitted-messages : (opened : LinkParameters) (xs : List OutstandingCall) → map (message_of_call opened) (map as_submitted xs) ≡ map (message_of_call opened) xs
 submitted-messages opened [] = refl

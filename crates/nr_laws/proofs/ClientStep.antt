@@ -60,6 +60,9 @@ use Rattle.nr_laws.proofs.Guards.{Guards}
 use Rattle.nr_laws.proofs.GuardsAtClient.{front-down, asked-of, guards-hello_down, guards-send_down, guards-read_down, guards-tagged_down}
 use Rattle.nr_laws.proofs.Basics.{some-not}
 use Rattle.nr_laws.proofs.HeaderXid.{header-xid}
+use Rattle.nr_reduce.specs.EndRules.{EndState}
+use Rattle.nr_laws.proofs.EndsWaiting.{left-waiting}
+use Rattle.nr_reduce.proofs.CountedBytes.{first_xid-is}
 
 -- ---- A message
 
@@ -170,7 +173,9 @@ step-piece opened k s u d all_up all_down w place (SendFrame message) rest f o l
     let same : whole ≡ message = ap (λ (b : Option (List ℕ)). begun_bytes b ++ message) l.counts.whole_down in
     let sent = calls_said opened k s u d all_up all_down w l in
     let answers = answers-one opened.first_xid k s u d all_down w message (rest ++ w.queued_down) (sym l.parts_down ∙ ap (λ (ps : List FrameContent). d ++ (ps ++ w.queued_down)) first)
-    (omega (arith, sent, sent_most k, l.sends_up, ap (total_of sends_in) l.parts_up, total-append sends_in u (w.up ++ w.queued_up))) l.sends_up g.answered in
+    (omega (arith, sent, sent_most k, l.sends_up, ap (total_of sends_in) l.parts_up, total-append sends_in u (w.up ++ w.queued_up)))
+    (sym (ap (λ (r : EndState ClientState). r.state.first_xid) g.reached.1) ∙ first_xid-is opened g.reached.0)
+    (omega (arith, l.counts.calls_up, l.counts.sends, l.counts.all_sends, left-waiting k.written k.send_ends)) g.answered in
     let ends : client_end k (FrameReceived f) ≡ end_of_verdict f (verdict k f.end whole) =
     client-send opened k s w f message l.counts piece reply.least reply.most ∙ ap (λ (r : Result Segment ℕ). message_end k f (segment_message k r)) reads in
     record {

@@ -17,7 +17,7 @@ use Rattle.nr_reduce.specs.Events.Event.{FrameReceived, CallSubmitted, MemoryRev
 use Rattle.nr_reduce.specs.EndRules.{EndState, next_end_state, next_end_state_by, next_end_state_in}
 use Rattle.nr_reduce.specs.OfferedRegions.{Region, until_at, closed_if, regions_closed}
 use Rattle.nr_reduce.specs.ClientState.{ClientState}
-use Rattle.nr_reduce.specs.Client.{client_rules, client_end, client_state_after, initial_client, outstanding_of, region_of, with_message, with_segment}
+use Rattle.nr_reduce.specs.Client.{client_rules, client_end, client_state_after, initial_client, outstanding_of, region_of, with_message, with_segment, with_hello, due_with_response}
 use Rattle.nr_reduce.specs.Run.{client}
 use Rattle.nr_reduce.proofs.Steps.{end_state_after-append}
 use Rattle.nr_laws.proofs.Outcomes.{client_by}
@@ -100,15 +100,15 @@ one-event opened es e h = by_ended (client_by opened es).ended
         by_segment : (r : Result Segment ℕ) → frame_segment f ≡ r → is_hello f ≡ false → AllByRecursion P (with_segment k f r).regions
         by_segment (Err reason) own behind = same
         by_segment (Ok s) own behind =
-            subst (AllByRecursion P) (sym (request-regions (with_message k f.end (message_completed k.received s)) (read_request_of s))) (by_message s own behind (message_completed k.received s) refl)
+            subst (AllByRecursion P) (sym (request-regions (with_message k f.end (message_completed k.received s)) (due_with_response k f s) (read_request_of s))) (by_message s own behind (message_completed k.received s) refl)
 
-        by_hello : (b : Bool) → is_hello f ≡ b → AllByRecursion P (cond b (record k { has_hello = true }) (with_segment k f (frame_segment f))).regions
+        by_hello : (b : Bool) → is_hello f ≡ b → AllByRecursion P (cond b (with_hello opened k) (with_segment k f (frame_segment f))).regions
         by_hello true behind = same
         by_hello false behind = by_segment (frame_segment f) refl behind
     by_event (CallSubmitted place a) is = each-append P k.regions (map (region_of a.xid place) (buffers k.stag (outstanding_of k a).plan)) same (new-open opened (es ++ e ∷ []) a.xid place (buffers k.stag (outstanding_of k a).plan))
     by_event (MemoryRevoked place xid) is = close-all opened es e place xid (inr is) k.regions same all
     by_event (CallExecuted call) is = same
-    by_event QueueWritten is = same
+    by_event (QueueWritten taken) is = same
 
     by_why : (o : Option Stop) → AllByRecursion P (next_end_state_by (client_rules opened) k e o).state.regions
     by_why None = by_event e refl

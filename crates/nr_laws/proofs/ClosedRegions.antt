@@ -14,7 +14,7 @@ use Rattle.nr_reduce.specs.OfferedRegions.{Region, until_at, closed_if, regions_
 use Rattle.nr_reduce.specs.ServerState.{ServerState}
 use Rattle.nr_reduce.specs.ServerReads.{is_over}
 use Rattle.nr_reduce.specs.ServerFrames.{frame_effect}
-use Rattle.nr_reduce.specs.Server.{server_rules, server_state_after, initial_server, with_effect}
+use Rattle.nr_reduce.specs.Server.{server_rules, server_state_after, initial_server, with_effect, with_own_hello}
 use Rattle.nr_reduce.specs.Run.{server}
 use Rattle.nr_reduce.specs.RunLaws.{server_by}
 use Rattle.nr_reduce.proofs.Steps.{end_state_after-append}
@@ -76,7 +76,7 @@ frame-event opened es f h stays = by (is_hello f) refl
     state : is_hello f ≡ false → server_by opened after ≡ next
     state behind =
         ap (λ (r : EndState ServerState). r.state) (end_state_after-append (server_rules opened) (initial_server opened) es (FrameReceived f ∷ []))
-        ∙ counted opened (state_at opened es) (FrameReceived f) stays ∙ ap (λ (b : Bool). cond b k next) behind
+        ∙ counted opened (state_at opened es) (FrameReceived f) stays ∙ ap (λ (b : Bool). cond b (with_own_hello k) next) behind
 
     close : is_hello f ≡ false → (x : Region) → P x → (x.until ≡ None → WasLive x) → (b : Bool) → is_over next.calls next.reads x ≡ b → P (closed_if b f.end x)
     close behind x p live false over = p
@@ -120,7 +120,7 @@ frame-event opened es f h stays = by (is_hello f) refl
     closed behind [] h = tt
     closed behind (x ∷ xs) h = (close behind x h.0.0 h.0.1 (is_over next.calls next.reads x) refl, closed behind xs h.1)
 
-    by : (b : Bool) → is_hello f ≡ b → AllByRecursion P (cond b k next).regions
+    by : (b : Bool) → is_hello f ≡ b → AllByRecursion P (cond b (with_own_hello k) next).regions
     by true is = old
     by false is = closed is (frame_effect k f).regions (all is)
 

@@ -20,7 +20,7 @@ use Rattle.nr_reduce.specs.Events.Event.{FrameReceived, CallSubmitted, MemoryRev
 use Rattle.nr_reduce.specs.EndRules.{EndState, next_end_state, next_end_state_by, next_end_state_in, end_state_after}
 use Rattle.nr_reduce.specs.OfferedRegions.{Region, until_at, closed_if, regions_closed}
 use Rattle.nr_reduce.specs.ClientState.{ClientState, OutstandingCall}
-use Rattle.nr_reduce.specs.Client.{client_rules, client_end, client_state_after, initial_client, outstanding_of, region_of, revoked_call, with_message, with_segment}
+use Rattle.nr_reduce.specs.Client.{client_rules, client_end, client_state_after, initial_client, outstanding_of, region_of, revoked_call, with_message, with_segment, with_hello, due_with_response}
 use Rattle.nr_reduce.specs.SubmitAnswer.{next_xid}
 use Rattle.nr_reduce.specs.Matched.{IsPrefixOf}
 use Rattle.nr_reduce.specs.Asked.{AskedMark, AskedSoFar, IsCompleted}
@@ -67,7 +67,7 @@ own-event opened k ended (FrameReceived f) good h = own_xids-came opened k f h
 own-event opened k ended (CallSubmitted p a) good h = own_xids-accepts opened k p a good.next h
 own-event opened k ended (MemoryRevoked p xid) good h = record { apart = apart-revoked xid k.outstanding h.apart; below = below-revoked xid (next_xid opened k) k.outstanding h.below }
 own-event opened k ended (CallExecuted e) good h = h
-own-event opened k ended QueueWritten good h = own_xids-writes opened k h
+own-event opened k ended (QueueWritten taken) good h = own_xids-writes taken opened k h
 
 -- a fact that each event keeps
 keeps-next : (opened : LinkParameters) (P : ClientState → Type 0) → ((k : ClientState) (ended : Option Stop) (e : Event) → ClientGood opened (record { state = k; ended = ended }) e → P k → P (client_state_after opened k e))
@@ -141,7 +141,7 @@ closed-event : (opened : LinkParameters) (x : ℕ) (k : ClientState) (ended : Op
 unfolding client_state_after
 closed-event opened x k ended (FrameReceived f) good h = by (is_hello f)
   where
-    by : (b : Bool) → HasClosedRegions opened x (cond b (record k { has_hello = true }) (with_segment k f (frame_segment f)))
+    by : (b : Bool) → HasClosedRegions opened x (cond b (with_hello opened k) (with_segment k f (frame_segment f)))
     by true = record { regions = h.regions; low = h.low }
     by false = (let same = segment-accepted k f (frame_segment f) in let low = h.low in record {
       regions = frame-regions (λ (rs : List Region). AreClosed x rs) k f (λ test. closed-again test f.end x k.regions) h.regions (frame_segment f);
@@ -156,11 +156,11 @@ closed-event opened x k ended (CallSubmitted p a) good h =
     }
 closed-event opened x k ended (MemoryRevoked p xid) good h = record { regions = closed-again (λ r. eqb r.call xid) p x k.regions h.regions; low = h.low }
 closed-event opened x k ended (CallExecuted e) good h = h
-closed-event opened x k ended QueueWritten good h = record { regions = h.regions; low = h.low }
+closed-event opened x k ended (QueueWritten taken) good h = record { regions = h.regions; low = h.low }
 
 closed-message : (k : ClientState) (f : Frame) (s : Segment) (message : List ℕ) (x : ℕ) → message_completed k.received s ≡ Some message → x ≡ word_at 0 message → AreClosed x (with_segment k f (Ok s)).regions
 closed-message k f s message x whole own =
-    subst (λ (rs : List Region). AreClosed x rs) (sym (request-regions (with_message k f.end (message_completed k.received s)) (read_request_of s)))
+    subst (λ (rs : List Region). AreClosed x rs) (sym (request-regions (with_message k f.end (message_completed k.received s)) (due_with_response k f s) (read_request_of s)))
     (subst (λ (o : Option (List ℕ)). AreClosed x (with_message k f.end o).regions) (sym whole)
     (subst (λ (n : ℕ). AreClosed x (regions_closed (λ r. eqb r.call n) f.end k.regions)) own (closed-now f.end x k.regions)))
 
@@ -168,7 +168,7 @@ closed-frame : (opened : LinkParameters) (k : ClientState) (f : Frame) (s : Segm
     → HasClosedRegions opened x (client_state_after opened k (FrameReceived f))
 unfolding client_state_after
 closed-frame opened k f s message x behind is whole own low =
-    subst (λ (b : Bool). HasClosedRegions opened x (cond b (record k { has_hello = true }) (with_segment k f (frame_segment f)))) (sym behind)
+    subst (λ (b : Bool). HasClosedRegions opened x (cond b (with_hello opened k) (with_segment k f (frame_segment f)))) (sym behind)
     (subst (λ (r : Result Segment ℕ). HasClosedRegions opened x (with_segment k f r)) (sym is)
     (let same = segment-accepted k f (Ok s) in record { regions = closed-message k f s message x whole own; low = omega (arith, same, low) }))
 

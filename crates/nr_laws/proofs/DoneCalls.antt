@@ -18,7 +18,7 @@ use Rattle.nr_reduce.specs.declared.mark.LinkParameters.{LinkParameters}
 use Rattle.nr_reduce.specs.History.{ExecutedCall}
 use Rattle.nr_reduce.specs.Events.{Event, events}
 use Rattle.nr_reduce.specs.Events.Event.{CallExecuted}
-use Rattle.nr_reduce.specs.ClientState.{ClientState, OutstandingCall, memory_at}
+use Rattle.nr_reduce.specs.ClientState.{ClientState, OutstandingCall, is_sent, memory_at}
 use Rattle.nr_reduce.specs.ClientMessages.{verdict, by_header, by_call, by_body, by_lists, by_payload, by_head, answered_call, reply_xid}
 use Rattle.nr_reduce.specs.ClientMessages.Verdict.{EndsLink, GivesOutcome}
 use Rattle.nr_reduce.specs.Plans.{lists_of}
@@ -31,11 +31,11 @@ use Rattle.nr_laws.proofs.OnceByXid.{ExecutedAt, executed-at}
 
 -- ---- The xid of a verdict
 
-pub found-xid : (xid : ℕ) (outs : List OutstandingCall) (o : OutstandingCall) → find (λ o. eqb o.xid xid && o.is_written) outs ≡ Some o → o.xid ≡ xid
-found-xid xid [] o e = absurd cc
-found-xid xid (x ∷ outs) o e = by (eqb x.xid xid) refl x.is_written e (λ more. found-xid xid outs o more)
+pub found-xid : (sent : OutstandingCall → Bool) (xid : ℕ) (outs : List OutstandingCall) (o : OutstandingCall) → find (λ o. eqb o.xid xid && sent o) outs ≡ Some o → o.xid ≡ xid
+found-xid sent xid [] o e = absurd cc
+found-xid sent xid (x ∷ outs) o e = by (eqb x.xid xid) refl (sent x) e (λ more. found-xid sent xid outs o more)
   where
-    by : (b : Bool) → eqb x.xid xid ≡ b → (w : Bool) → cond (b && w) (Some x) (find (λ o. eqb o.xid xid && o.is_written) outs) ≡ Some o → (find (λ o. eqb o.xid xid && o.is_written) outs ≡ Some o → o.xid ≡ xid) → o.xid ≡ xid
+    by : (b : Bool) → eqb x.xid xid ≡ b → (w : Bool) → cond (b && w) (Some x) (find (λ o. eqb o.xid xid && sent o) outs) ≡ Some o → (find (λ o. eqb o.xid xid && sent o) outs ≡ Some o → o.xid ≡ xid) → o.xid ≡ xid
     by true is true e rest = (let same : x ≡ o = (let s : Some x ≡ Some o = e in cc) in ap (λ (q : OutstandingCall). q.xid) (sym same) ∙ eqb-true x.xid xid is)
     by true is false e rest = rest e
     by false is w e rest = rest e
@@ -87,7 +87,7 @@ gives-by k place message xid outcome e = by (header_of message) refl e
     by_out h is None own e = absurd cc
     by_out h is (Some o) own e =
         let same = body-gives k place o message h.body xid outcome e in
-        record { header = h; is_header = is; own = sym (found-xid h.xid k.outstanding o own) ∙ same; call = o; is_call = own; call_xid = same; by_its_body = e }
+        record { header = h; is_header = is; own = sym (found-xid (is_sent k) h.xid k.outstanding o own) ∙ same; call = o; is_call = own; call_xid = same; by_its_body = e }
 
     by : (r : Result Header HeaderFault) → header_of message ≡ r → by_header k place message r ≡ GivesOutcome xid outcome → GivesBy k place message xid outcome
     by (Ok h) is e = by_out h is (answered_call k h.xid) refl e

@@ -112,7 +112,7 @@ starts opened link = record {
     xids = tt;
     unsaid = λ e. tt;
     numbers = tt;
-    answered = record { once = λ x. omega arith; later = λ x le. omega arith; earlier = λ x lt. omega arith; open_calls = λ x le lt. absurd (omega (arith, le, lt)); written = tt; room = omega (arith, o.xid_fits) };
+    answered = record { once = λ x. omega arith; later = λ x le. omega arith; earlier = λ x lt. omega arith; open_calls = λ x le lt. absurd (omega (arith, le, lt)); room = omega (arith, o.xid_fits) };
     reached = ([], refl);
   };
   accessed = record { early = tt; lives = tt; up_said = (tt, tt); asked = tt; calls = tt; waiting = tt; down_said = tt };

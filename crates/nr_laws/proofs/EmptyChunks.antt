@@ -16,7 +16,7 @@ use Rattle.nr_reduce.specs.ServerReads.{chunks_of, regions_from, regions_of, sta
 use Rattle.nr_reduce.specs.ServerMessages.{chunk_bytes, Verdict, verdict}
 use Rattle.nr_reduce.specs.ServerMessages.Verdict.{MakesPending}
 use Rattle.nr_reduce.specs.ServerFrames.{FrameEffect, call_of_number, with_access, frame_effect}
-use Rattle.nr_reduce.specs.Server.{server_rules, server_state_after, initial_server, received_by, with_effect}
+use Rattle.nr_reduce.specs.Server.{server_rules, server_state_after, initial_server, received_by, with_effect, with_own_hello}
 use Rattle.nr_reduce.specs.RunLaws.{server_by}
 use Rattle.nr_reduce.proofs.Once.{NumberIs, verdict-number, whole-with, Goes, after-goes}
 use Rattle.nr_reduce.proofs.OwnStags.{AreNumbered, server-numbers, kept-after}
@@ -167,13 +167,13 @@ after-known : (opened : LinkParameters) (k : ServerState) (event : Event) → Kn
 unfolding server_state_after
 after-known opened k (FrameReceived f) h = by (is_hello f) (after-goes opened k (FrameReceived f))
   where
-    by : (b : Bool) → Goes k (cond b k (with_effect k f (frame_effect k f))) → KnowsSinks (cond b k (with_effect k f (frame_effect k f)))
-    by true g = h
+    by : (b : Bool) → Goes k (cond b (with_own_hello k) (with_effect k f (frame_effect k f))) → KnowsSinks (cond b (with_own_hello k) (with_effect k f (frame_effect k f)))
+    by true g = record { owners = h.owners; none = h.none }
     by false g = frame-known k f g.rises h
 after-known opened k (CallSubmitted place a) h = h
 after-known opened k (MemoryRevoked place xid) h = h
 after-known opened k (CallExecuted e) h = record { owners = h.owners; none = none-kept k.received.sends k.regions (λ c. not (eqb c.xid e.xid)) k.calls h.none }
-after-known opened k QueueWritten h = record { owners = h.owners; none = h.none }
+after-known opened k (QueueWritten taken) h = record { owners = h.owners; none = h.none }
 
 known-along : (opened : LinkParameters) (es : List Event) → KnowsSinks (server_by opened es)
 known-along opened es = kept-after (server_rules opened) KnowsSinks (after-known opened) (initial_server opened) es (record { owners = tt; none = tt })

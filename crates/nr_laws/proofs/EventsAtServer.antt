@@ -1,5 +1,5 @@
 -- What a server keeps where it executes a call and writes.
-use Rattle.std.proofs.Common.{◌≡◌, ℕ, List, [], ◌∷◌, ◌++◌, refl}
+use Rattle.std.proofs.Common.{◌≡◌, ℕ, ◌+◌, List, [], ◌∷◌, ◌++◌, refl}
 use Rattle.nr_rpc.specs.Reading.{call_of, target_of}
 use Rattle.nr_reduce.specs.declared.mark.LinkParameters.{LinkParameters}
 use Rattle.nr_reduce.specs.History.{ExecutedCall}
@@ -13,6 +13,7 @@ use Rattle.nr_laws.proofs.TotalsAtServer.{totals-executes, totals-writes_down}
 use Rattle.nr_laws.proofs.ReadsAtClient.{reads-says_down, reads-writes_down, none-answered}
 use Rattle.nr_laws.proofs.PendingExecuted.{pending_agree-executes, executed-there}
 use Rattle.nr_laws.proofs.ServerInvariant.{ServerAgrees}
+use Rattle.nr_reduce.proofs.WholeWrotes.{ServerEnds}
 
 -- the call that waits first is executed
 pub server-executes : (opened : LinkParameters) (k : ClientState) (s : ServerState) (w : Transit) (place : ℕ) (e : ExecutedCall) (r : ReadyCall) (rest : List ReadyCall) → ServerAgrees opened k s w place → s.ready ≡ r ∷ rest → e.xid ≡ r.xid
@@ -28,13 +29,13 @@ server-executes opened k s w place e r rest j first own =
       regions = record { stags = j.regions.stags; calls = j.regions.calls };
     }
 
-pub server-writes : (opened : LinkParameters) (k : ClientState) (s : ServerState) (w : Transit) (place : ℕ) → ServerAgrees opened k s w place
-    → ServerAgrees opened k (server_state_after opened s QueueWritten) (record { queued_up = w.queued_up; up = w.up; queued_down = []; down = w.down ++ w.queued_down }) place
+pub server-writes : (opened : LinkParameters) (k : ClientState) (s : ServerState) (w : Transit) (place taken : ℕ) → s.written + taken ≡ s.due → ServerEnds s → ServerAgrees opened k s w place
+    → ServerAgrees opened k (server_state_after opened s (QueueWritten taken)) (record { queued_up = w.queued_up; up = w.up; queued_down = []; down = w.down ++ w.queued_down }) place
 unfolding server_state_after
-server-writes opened k s w place j =
+server-writes opened k s w place taken all ends j =
     let moved = reads-writes_down s w j.reads in
     record {
-      counts = totals-writes_down opened k s w j.counts;
+      counts = totals-writes_down opened k s w taken all ends j.counts;
       reads = record { answered = moved.answered; asked = moved.asked; parts = moved.parts; answers = moved.answers; requests = moved.requests };
       waits = record { numbers = j.waits.numbers; xids = j.waits.xids; calls_below = j.waits.calls_below; reads_below = j.waits.reads_below; ready_apart = j.waits.ready_apart; ready_calls = j.waits.ready_calls; whole_calls = j.waits.whole_calls };
       sinks = j.sinks;

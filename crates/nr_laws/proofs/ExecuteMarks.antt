@@ -28,7 +28,7 @@ NoExecutes (FrameReceived f ∷ es) = NoExecutes es
 NoExecutes (CallSubmitted p a ∷ es) = NoExecutes es
 NoExecutes (MemoryRevoked p xid ∷ es) = NoExecutes es
 NoExecutes (CallExecuted e ∷ es) = ⊥
-NoExecutes (QueueWritten ∷ es) = NoExecutes es
+NoExecutes (QueueWritten taken ∷ es) = NoExecutes es
 
 no-frames : (fs : List Frame) → NoExecutes (map FrameReceived fs)
 no-frames [] = tt
@@ -44,7 +44,7 @@ no-at (FrameReceived f ∷ pre) e post h = no-at pre e post h
 no-at (CallSubmitted p a ∷ pre) e post h = no-at pre e post h
 no-at (MemoryRevoked p xid ∷ pre) e post h = no-at pre e post h
 no-at (CallExecuted x ∷ pre) e post h = h
-no-at (QueueWritten ∷ pre) e post h = no-at pre e post h
+no-at (QueueWritten taken ∷ pre) e post h = no-at pre e post h
 
 abbrev HasMarks : ℕ → List Mark → Type 0
 HasMarks link run = (pre : List Event) (e : ExecutedCall) (post : List Event) → events link Responder run ≡ pre ++ CallExecuted e ∷ post → ExecuteMark link run pre e
@@ -103,7 +103,7 @@ mark-marks link before (marks.Submit l call form (submissions.Accepted xid)) has
 mark-marks link before (marks.Submit l call form (submissions.Refused why)) has = quiet-marks link before (marks.Submit l call form (submissions.Refused why)) tt has
 mark-marks link before (marks.Submit l call form submissions.Dropped) has = quiet-marks link before (marks.Submit l call form submissions.Dropped) tt has
 mark-marks link before (marks.Fed l s bytes) has = quiet-marks link before (marks.Fed l s bytes) (no-if (eqb l link && same_side s Responder) (map FrameReceived (frames_completed Initiator (bytes_received link Responder before) bytes)) (no-frames (frames_completed Initiator (bytes_received link Responder before) bytes))) has
-mark-marks link before (marks.Wrote l s bytes) has = quiet-marks link before (marks.Wrote l s bytes) (no-if (eqb l link && same_side s Responder) (QueueWritten ∷ []) tt) has
+mark-marks link before (marks.Wrote l s bytes) has = quiet-marks link before (marks.Wrote l s bytes) (no-if (eqb l link && same_side s Responder) (QueueWritten (length bytes) ∷ []) tt) has
 mark-marks link before (marks.Revoke l xid bytes) has = quiet-marks link before (marks.Revoke l xid bytes) (no-if (eqb l link && false) (MemoryRevoked (length (bytes_received link Responder before)) xid ∷ []) tt) has
 mark-marks link before (marks.Done l xid outcome) has = quiet-marks link before (marks.Done l xid outcome) tt has
 mark-marks link before (marks.Lost l xid) has = quiet-marks link before (marks.Lost l xid) tt has

@@ -9,7 +9,7 @@ use Rattle.nr_reduce.specs.EndRules.{end_state_after}
 use Rattle.nr_reduce.specs.ServerState.{ServerState, next_stag}
 use Rattle.nr_reduce.specs.ServerReads.{regions_of, chunks_of, is_over}
 use Rattle.nr_reduce.specs.ServerFrames.{FrameEffect, frame_effect}
-use Rattle.nr_reduce.specs.Server.{server_rules, server_state_after, initial_server, with_effect}
+use Rattle.nr_reduce.specs.Server.{server_rules, server_state_after, initial_server, with_effect, with_own_hello}
 use Rattle.nr_reduce.proofs.OwnStags.{kept-after, closed-length}
 use Rattle.nr_laws.proofs.ServerInvariant.{length-from}
 use Rattle.nr_laws.proofs.WritableOffers.{verdict_few}
@@ -32,13 +32,13 @@ few-after opened k (FrameReceived f) h = by (is_hello f)
     e : FrameEffect
     e = frame_effect k f
 
-    by : (b : Bool) → AreFew (cond b k (with_effect k f e)).regions
+    by : (b : Bool) → AreFew (cond b (with_own_hello k) (with_effect k f e)).regions
     by true = h
     by false = (let l = closed-length (is_over e.calls e.reads) f.end e.regions in let g = few-effect k f h in omega (arith, l, g))
 few-after opened k (CallSubmitted place a) h = h
 few-after opened k (MemoryRevoked place xid) h = h
 few-after opened k (CallExecuted call) h = h
-few-after opened k QueueWritten h = h
+few-after opened k (QueueWritten taken) h = h
 
 pub few-regions : (opened : LinkParameters) (es : List Event) → 1 + length (end_state_after (server_rules opened) (initial_server opened) es).state.regions ≤ 4294967296
 few-regions opened es = kept-after (server_rules opened) (λ (k : ServerState). AreFew k.regions) (few-after opened) (initial_server opened) es (omega arith)

@@ -95,7 +95,7 @@ server-mark opened link run (marks.Submit l call form (submissions.Accepted xid)
 server-mark opened link run (marks.Submit l call form (submissions.Refused why)) g o matched typed end e = not-by-none opened g.joined.s _ end refl e
 server-mark opened link run (marks.Submit l call form submissions.Dropped) g o matched typed end e = not-by-none opened g.joined.s _ end refl e
 server-mark opened link run (marks.Wrote l Initiator bytes) g o matched typed end e = not-by-none opened g.joined.s _ end (other-events (eqb l link) _) e
-server-mark opened link run (marks.Wrote l Responder bytes) g o matched typed end e = not-by-one opened g.joined.s _ QueueWritten (eqb l link && true) end (λ f x. absurd cc) refl e
+server-mark opened link run (marks.Wrote l Responder bytes) g o matched typed end e = not-by-one opened g.joined.s _ (QueueWritten (length bytes)) (eqb l link && true) end (λ f x. absurd cc) refl e
 server-mark opened link run (marks.Fed l Initiator bytes) g o matched typed end e = not-by-none opened g.joined.s _ end (other-events (eqb l link) _) e
 server-mark opened link run (marks.Fed l Responder bytes) g o matched typed end e = by (eqb l link) refl
   where
@@ -171,7 +171,7 @@ fed-ends opened link run (marks.Submit l call form (submissions.Accepted xid)) k
     absurd (one-ends opened k _ (CallSubmitted (length (bytes_received link Initiator run)) (record { xid = xid; call = call; form = form })) (eqb l link && true) end (λ f x. absurd cc) refl e)
 fed-ends opened link run (marks.Submit l call form (submissions.Refused why)) k end Lasting matched typed fed e = absurd (none-ends opened k _ end refl e)
 fed-ends opened link run (marks.Submit l call form submissions.Dropped) k end Lasting matched typed fed e = absurd (none-ends opened k _ end refl e)
-fed-ends opened link run (marks.Wrote l Initiator bytes) k end Lasting matched typed fed e = absurd (one-ends opened k _ QueueWritten (eqb l link && true) end (λ f x. absurd cc) refl e)
+fed-ends opened link run (marks.Wrote l Initiator bytes) k end Lasting matched typed fed e = absurd (one-ends opened k _ (QueueWritten (length bytes)) (eqb l link && true) end (λ f x. absurd cc) refl e)
 fed-ends opened link run (marks.Wrote l Responder bytes) k end Lasting matched typed fed e = absurd (none-ends opened k _ end (other-events (eqb l link) _) e)
 fed-ends opened link run (marks.Fed l Initiator bytes) k end Lasting matched typed fed e = by (eqb l link) refl
   where

@@ -113,7 +113,7 @@ client_frames opened k (FrameReceived f) = if is_hello f then map (call_frame op
 client_frames opened k (CallSubmitted place a) = if k.has_hello then call_frame opened (outstanding_of k a) ∷ [] else []
 client_frames opened k (MemoryRevoked place xid) = []
 client_frames opened k (CallExecuted call) = []
-client_frames opened k QueueWritten = []
+client_frames opened k (QueueWritten taken) = []
 
 abbrev pub request_frame : PendingRead → FrameContent
 request_frame r = RequestFrame r.sink r.at r.size r.stag r.to
@@ -138,4 +138,4 @@ server_frames opened k (CallSubmitted place a) = []
 server_frames opened k (MemoryRevoked place xid) = []
 server_frames opened k (CallExecuted e) =
     answer_frames k e.xid (offer_of k e.xid) (answer_of_target (offer_of k e.xid) (down_max k) e.reply (target_of (call_of e.payload)))
-server_frames opened k QueueWritten = []
+server_frames opened k (QueueWritten taken) = []

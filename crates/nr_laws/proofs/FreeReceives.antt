@@ -4,7 +4,7 @@ use Rattle.std.proofs.lemmas.List.{length-take}
 use Rattle.nr_reduce.specs.declared.mark.LinkParameters.{LinkParameters}
 use Rattle.nr_link.specs.Limits.{open_reads_max}
 use Rattle.nr_link.specs.SegmentFaults.{is_begun}
-use Rattle.nr_reduce.specs.ClientState.{ClientState}
+use Rattle.nr_reduce.specs.ClientState.{ClientState, responses_owed}
 use Rattle.nr_reduce.specs.ServerState.{ServerState, receives_in_use}
 use Rattle.nr_reduce.specs.Plans.{one_if}
 use Rattle.nr_reduce.specs.ServerReads.{open_reads}
@@ -20,10 +20,10 @@ pub receives : (opened : LinkParameters) (k : ClientState) (s : ServerState) (w 
 unfolding receives_in_use
 receives opened k s w c g some =
     let none : one_if (is_begun s.received.begun) ≡ 0 = ap (λ (b : Option (List ℕ)). one_if (is_begun b)) c.whole_up in
-    omega (arith, none, c.calls_up, c.messages_down, c.written, c.out, c.waiting, g.window, some, said_some k.has_hello k.calls_accepted)
+    omega (arith, none, c.calls_up, c.messages_down, c.messages, c.out, c.waiting, g.window, some, said_some k.has_hello k.calls_accepted)
 
 -- a Read Request that is received finds fewer responses unwritten than there may be
-pub requests : (opened : LinkParameters) (k : ClientState) (s : ServerState) (w : Transit) → TotalsAgree k s w → 0 < total_of requests_in w.down → k.responses < open_reads_max
+pub requests : (opened : LinkParameters) (k : ClientState) (s : ServerState) (w : Transit) → TotalsAgree k s w → 0 < total_of requests_in w.down → responses_owed k < open_reads_max
 requests opened k s w c some =
     let few : length (open_reads s) ≤ open_reads_max = omega (arith, length-take open_reads_max s.reads) in
     omega (arith, few, c.reads, c.responses, some)

@@ -22,7 +22,7 @@ use Rattle.nr_reduce.specs.EndRules.{EndState, next_end_state, next_end_state_by
 use Rattle.nr_reduce.specs.OfferedRegions.{Region, region_grant, region_grants, closed_if, regions_closed}
 use Rattle.nr_reduce.specs.Plans.{buffers}
 use Rattle.nr_reduce.specs.ClientState.{ClientState}
-use Rattle.nr_reduce.specs.Client.{client_rules, client_end, client_state_after, outstanding_of, region_of, with_message, with_segment}
+use Rattle.nr_reduce.specs.Client.{client_rules, client_end, client_state_after, outstanding_of, region_of, with_message, with_segment, with_hello, due_with_response}
 use Rattle.nr_reduce.specs.Asked.{AskedSoFar}
 use Rattle.nr_reduce.specs.Run.{client, grants_of, placed_bytes}
 use Rattle.nr_reduce.proofs.Touches.{client_touched}
@@ -89,7 +89,7 @@ has-left xs ys stag bytes h = record { region = h.region; there = find-left stag
 frozen-segment : (stag p : ℕ) (bytes : List ℕ) (old : List TaggedSegment) (k : ClientState) (f : Frame) → p < f.end → is_hello f ≡ false → client_end k (FrameReceived f) ≡ None → (r : Result Segment ℕ) → frame_segment f ≡ r → Frozen stag p bytes old k → Frozen stag p bytes old (with_segment k f r)
 frozen-segment stag p bytes old k f lt behind stays (Err reason) is h = h
 frozen-segment stag p bytes old k f lt behind stays (Ok s) is h =
-    let own : (with_segment k f (Ok s)).stag ≡ k.stag = request-stag (with_message k f.end (message_completed k.received s)) (read_request_of s) ∙ message-stag k f.end (message_completed k.received s) in
+    let own : (with_segment k f (Ok s)).stag ≡ k.stag = request-stag (with_message k f.end (message_completed k.received s)) (due_with_response k f s) (read_request_of s) ∙ message-stag k f.end (message_completed k.received s) in
     let low = h.low in
     record {
       only = frame-regions (OnlyClosed stag p) k f (λ test. only-closed test f.end stag p k.regions) h.only (Ok s);
@@ -107,7 +107,7 @@ EventBehind p (FrameReceived f) = p < f.end
 EventBehind p (CallSubmitted q a) = Unit {0}
 EventBehind p (MemoryRevoked q xid) = Unit {0}
 EventBehind p (CallExecuted e) = Unit {0}
-EventBehind p QueueWritten = Unit {0}
+EventBehind p (QueueWritten taken) = Unit {0}
 
 abbrev pub EventsBehind : ℕ → List Event → Type 0
 EventsBehind p [] = Unit {0}
@@ -117,7 +117,7 @@ frozen-event : (opened : LinkParameters) (stag p : ℕ) (bytes : List ℕ) (old 
 unfolding client_state_after
 frozen-event opened stag p bytes old k (FrameReceived f) by stays h = by_hello (is_hello f) refl
   where
-    by_hello : (b : Bool) → is_hello f ≡ b → Frozen stag p bytes old (cond b (record k { has_hello = true }) (with_segment k f (frame_segment f)))
+    by_hello : (b : Bool) → is_hello f ≡ b → Frozen stag p bytes old (cond b (with_hello opened k) (with_segment k f (frame_segment f)))
     by_hello true is = record { only = h.only; low = h.low; has = h.has; more = h.more; accesses = h.accesses; none = h.none }
     by_hello false is = frozen-segment stag p bytes old k f by is stays (frame_segment f) refl h
 frozen-event opened stag p bytes old k (CallSubmitted q a) by stays h =
@@ -135,7 +135,7 @@ frozen-event opened stag p bytes old k (CallSubmitted q a) by stays h =
 frozen-event opened stag p bytes old k (MemoryRevoked q xid) by stays h =
     record { only = only-closed (λ r. eqb r.call xid) q stag p k.regions h.only; low = h.low; has = has-closed (λ r. eqb r.call xid) q k.regions stag bytes h.has; more = h.more; accesses = h.accesses; none = h.none }
 frozen-event opened stag p bytes old k (CallExecuted e) by stays h = h
-frozen-event opened stag p bytes old k QueueWritten by stays h = record { only = h.only; low = h.low; has = h.has; more = h.more; accesses = h.accesses; none = h.none }
+frozen-event opened stag p bytes old k (QueueWritten taken) by stays h = record { only = h.only; low = h.low; has = h.has; more = h.more; accesses = h.accesses; none = h.none }
 
 frozen-next : (opened : LinkParameters) (stag p : ℕ) (bytes : List ℕ) (old : List TaggedSegment) (k : ClientState) (ended : Option Stop) (e : Event) → EventBehind p e → Frozen stag p bytes old k → Frozen stag p bytes old (next_end_state_in (client_rules opened) k e ended).state
 frozen-next opened stag p bytes old k (Some end) e by h = h
@@ -163,7 +163,7 @@ mark-behind : (p link : ℕ) (before : List Mark) (mark : Mark) → p ≤ length
 mark-behind p link before (marks.Fed l s bytes) le =
     let got = bytes_received link Initiator before in
     if-behind p (eqb l link && same_side s Initiator) (map FrameReceived (frames_completed Responder got bytes)) (events-behind p (length got) (frames_completed Responder got bytes) le (frames-behind Responder got bytes))
-mark-behind p link before (marks.Wrote l s bytes) le = if-behind p (eqb l link && same_side s Initiator) (QueueWritten ∷ []) (tt, tt)
+mark-behind p link before (marks.Wrote l s bytes) le = if-behind p (eqb l link && same_side s Initiator) (QueueWritten (length bytes) ∷ []) (tt, tt)
 mark-behind p link before (marks.Submit l call form (submissions.Accepted xid)) le =
     if-behind p (eqb l link && true) (CallSubmitted (length (bytes_received link Initiator before)) (record { xid = xid; call = call; form = form }) ∷ []) (tt, tt)
 mark-behind p link before (marks.Submit l call form (submissions.Refused why)) le = tt

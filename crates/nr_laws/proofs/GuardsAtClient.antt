@@ -21,7 +21,7 @@ use Rattle.nr_reduce.specs.Events.Event.{FrameReceived}
 use Rattle.nr_reduce.specs.EndRules.{EndState, live, next_end_state_by, end_state_after}
 use Rattle.nr_reduce.specs.OfferedRegions.{Region, region_grants}
 use Rattle.nr_reduce.specs.ClientState.{ClientState, OutstandingCall, memory_at}
-use Rattle.nr_reduce.specs.Client.{client_rules, client_end, client_state_after, initial_client, credits_of_word, with_segment, with_message, with_request, segment_request}
+use Rattle.nr_reduce.specs.Client.{client_rules, client_end, client_state_after, initial_client, credits_of_word, with_segment, with_message, with_request, segment_request, due_with_response}
 use Rattle.nr_reduce.specs.ServerState.{ServerState, PendingRead}
 use Rattle.nr_reduce.specs.ServerReads.{open_reads}
 use Rattle.nr_reduce.proofs.Steps.{end_state_after-append}
@@ -146,15 +146,15 @@ own-xids opened (o ∷ os) h = (h.0.1, own-xids opened os h.1)
 behind-hello : (opened : LinkParameters) (k t : ClientState) (s : ServerState) (u d all_up all_down : List FrameContent) (w : Transit) (f : Frame) (r : Result Segment ℕ) → t ≡ with_segment k f r → k.has_hello ≡ true → t.has_hello ≡ true
 behind-hello opened k t s u d all_up all_down w f r is hello = ap (λ (x : ClientState). x.has_hello) is ∙ by r
   where
-    with : (m : Option (List ℕ)) (q : Option ReadRequest) → (with_request (with_message k f.end m) q).has_hello ≡ true
-    with None None = hello
-    with None (Some q) = hello
-    with (Some m) None = hello
-    with (Some m) (Some q) = hello
+    with : (m : Option (List ℕ)) (place : ℕ) (q : Option ReadRequest) → (with_request (with_message k f.end m) place q).has_hello ≡ true
+    with None place None = hello
+    with None place (Some q) = hello
+    with (Some m) place None = hello
+    with (Some m) place (Some q) = hello
 
     by : (r : Result Segment ℕ) → (with_segment k f r).has_hello ≡ true
     by (Err reason) = hello
-    by (Ok segment) = with (message_completed k.received segment) (read_request_of segment)
+    by (Ok segment) = with (message_completed k.received segment) (due_with_response k f segment) (read_request_of segment)
 
 credits-same : (n : ℕ) → 0 < n → n ≤ most_credits → credits_of_word n ≤ n
 credits-same n some most =
@@ -192,7 +192,7 @@ guards-hello_down opened k s u d all_up all_down w place rest f l g first is sta
     } in
     subst (λ (ps : List FrameContent). Guards opened t s u (d ++ HelloFrame ∷ []) (all_up ++ ps) all_down (down_one w ps rest) place) (sym says)
     (guards-down opened k t s u d all_up all_down w place HelloFrame rest said (FrameReceived f) g server (subst (WithinWindow opened) (sym after) (record { window = g.window.window; grant = g.window.grant })) (asks-up opened k.outstanding g.calls) (subst (λ (x : ClientState). AreSized opened x.outstanding) (sym after) g.calls) asked (ap (λ (x : ClientState). x.has_hello) after)
-    (answered-same opened.first_xid k t s u d all_down w (down_one w said rest) HelloFrame (ap (λ (x : ClientState). x.outstanding) after) (ap (λ (x : ClientState). x.calls_accepted) after) refl refl g.answered) stays refl)
+    (answered-same opened.first_xid k t s u d all_down w (down_one w said rest) HelloFrame (ap (λ (x : ClientState). x.outstanding) after) (ap (λ (x : ClientState). x.calls_accepted) after) refl g.answered) stays refl)
 
 pub guards-send_down : (opened : LinkParameters) (k : ClientState) (s : ServerState) (u d all_up all_down : List FrameContent) (w : Transit) (place : ℕ) (message : List ℕ) (rest : List FrameContent) (f : Frame) → IsOpened opened → EndsAgree opened k s u d all_up all_down w → Guards opened k s u d all_up all_down w place → w.down ≡ SendFrame message ∷ rest
     → Carries k.received.sends k.received.requests f (SendFrame message) → k.has_hello ≡ true → client_end k (FrameReceived f) ≡ None
@@ -222,7 +222,7 @@ guards-send_down opened k s u d all_up all_down w place message rest f o l g fir
     subst (λ (ps : List FrameContent). Guards opened t s u (d ++ SendFrame message ∷ []) (all_up ++ ps) all_down (down_one w ps rest) place) (sym says)
     (guards-down opened k t s u d all_up all_down w place (SendFrame message) rest [] (FrameReceived f) g server (subst (WithinWindow opened) (sym after) window) tt (sized-frame opened k t f (Ok segment) after g.calls) tt (behind-hello opened k t s u d all_up all_down w f (Ok segment) after hello)
     (answered-message opened.first_xid k t s u d all_down w (down_one w [] rest) message
-    (ap (λ (x : ClientState). x.outstanding) after ∙ ap (λ (xs : List ℕ). filter (λ (o : OutstandingCall). not (eqb o.xid (word_at 0 xs))) k.outstanding) same) (ap (λ (x : ClientState). x.calls_accepted) after) refl g.answered) stays refl)
+    (ap (λ (x : ClientState). x.outstanding) after ∙ ap (λ (xs : List ℕ). filter (λ (o : OutstandingCall). not (eqb o.xid (word_at 0 xs))) k.outstanding) same) (ap (λ (x : ClientState). x.calls_accepted) after) g.answered) stays refl)
   where
     filter-less : (p : OutstandingCall → Bool) (os : List OutstandingCall) → length (filter p os) ≤ length os
     filter-less p [] = omega arith
@@ -282,7 +282,7 @@ guards-read_down opened k s u d all_up all_down w place sink at size stag to res
     } in
     guards-down opened k t s u d all_up all_down w place (RequestFrame sink at size stag to) rest said (FrameReceived f) g server (subst (WithinWindow opened) (sym after) (record { window = g.window.window; grant = g.window.grant }))
     (tagged-up opened k f (Ok segment) piece.behind reads) (sized-frame opened k t f (Ok segment) after g.calls) (tagged-xids (opened.first_xid + total_of sends_in all_up) opened k f (Ok segment) piece.behind reads) (behind-hello opened k t s u d all_up all_down w f (Ok segment) after hello)
-    (answered-same opened.first_xid k t s u d all_down w (down_one w said rest) (RequestFrame sink at size stag to) (ap (λ (x : ClientState). x.outstanding) after) (ap (λ (x : ClientState). x.calls_accepted) after) refl refl g.answered) stays refl
+    (answered-same opened.first_xid k t s u d all_down w (down_one w said rest) (RequestFrame sink at size stag to) (ap (λ (x : ClientState). x.outstanding) after) (ap (λ (x : ClientState). x.calls_accepted) after) refl g.answered) stays refl
   where
     ap-regions : (opened : LinkParameters) (k : ClientState) (es : List Event) → end_state_after (client_rules opened) (initial_client opened) es ≡ live k
         → AreNumbered opened.first_stag (end_state_after (client_rules opened) (initial_client opened) es).state.regions → AreNumbered opened.first_stag k.regions
@@ -306,4 +306,4 @@ guards-tagged_down opened k s u d all_up all_down w place last opcode stag to pa
     } in
     subst (λ (ps : List FrameContent). Guards opened t s u (d ++ TaggedFrame last opcode stag to payload ∷ []) (all_up ++ ps) all_down (down_one w ps rest) place) (sym says)
     (guards-down opened k t s u d all_up all_down w place (TaggedFrame last opcode stag to payload) rest [] (FrameReceived f) g server (subst (WithinWindow opened) (sym after) (record { window = g.window.window; grant = g.window.grant })) tt (sized-frame opened k t f (Ok segment) after g.calls) tt (behind-hello opened k t s u d all_up all_down w f (Ok segment) after hello)
-    (answered-same opened.first_xid k t s u d all_down w (down_one w [] rest) (TaggedFrame last opcode stag to payload) (ap (λ (x : ClientState). x.outstanding) after) (ap (λ (x : ClientState). x.calls_accepted) after) refl refl g.answered) stays refl)
+    (answered-same opened.first_xid k t s u d all_down w (down_one w [] rest) (TaggedFrame last opcode stag to payload) (ap (λ (x : ClientState). x.outstanding) after) (ap (λ (x : ClientState). x.calls_accepted) after) refl g.answered) stays refl)

@@ -16,7 +16,7 @@ use Rattle.nr_reduce.specs.Events.Event.{CallSubmitted, MemoryRevoked, CallExecu
 use Rattle.nr_reduce.specs.EndRules.{EndState, live, next_end_state_by, end_state_after}
 use Rattle.nr_reduce.specs.ClientState.{ClientState, OutstandingCall, call_payload, plan_for}
 use Rattle.nr_reduce.specs.ServerState.{ServerState, ReadyCall}
-use Rattle.nr_reduce.specs.Client.{client_rules, client_end, client_state_after, initial_client, outstanding_of, revoked_call, written_call}
+use Rattle.nr_reduce.specs.Client.{client_rules, client_end, client_state_after, initial_client, outstanding_of, revoked_call}
 use Rattle.nr_reduce.specs.Server.{server_state_after}
 use Rattle.nr_reduce.proofs.Steps.{end_state_after-append}
 use Rattle.nr_reduce.proofs.Sizes.{message_size}
@@ -39,10 +39,11 @@ use Rattle.nr_reduce.specs.ServerState.{down_max}
 use Rattle.nr_laws.proofs.Totals.{total-append}
 use Rattle.nr_laws.proofs.PendingExecuted.{executed-there}
 use Rattle.nr_laws.proofs.AnsweredCalls.{times, answer-xids, executed-less}
-use Rattle.nr_laws.proofs.AnsweredSteps.{Answered, IsWritten, answered-submit, answered-map, answered-server}
+use Rattle.nr_laws.proofs.AnsweredSteps.{Answered, answered-submit, answered-map, answered-server}
 use Rattle.nr_laws.proofs.GuardsAtServer.{sent_most, pending-word}
 use Rattle.nr_laws.proofs.Guards.{ClientContent, ServerContent, IsAsked, AreSized, Guards, execution-down}
 use Rattle.nr_laws.proofs.Basics.{each-append, each-kept}
+use Rattle.nr_reduce.proofs.WholeWrotes.{ClientEnds, ServerEnds}
 
 -- an event of the client that is no frame
 reached-more : (opened : LinkParameters) (k : ClientState) (event : Event) → client_end k event ≡ None → (es : List Event) × (end_state_after (client_rules opened) (initial_client opened) es ≡ live k)
@@ -99,8 +100,7 @@ guards-submit opened k s u d all_up all_down w up place a plan l g is own lt roo
       xids = xids-append opened.first_xid all_up said g.xids (new-xid k.has_hello refl);
       unsaid = λ e. own_xids-push opened.first_xid k.outstanding (outstanding_of k a) (g.unsaid e) (omega (arith, own, all-waiting e));
       numbers = g.numbers;
-      answered = answered-submit opened.first_xid k t s u d all_down w (up_more w said) (outstanding_of k a) refl refl own lt
-          (omega (arith, calls_said opened k s u d all_up all_down w l, sent_most k, ap (total_of sends_in) l.parts_up, total-append sends_in u (w.up ++ w.queued_up), total-append sends_in w.up w.queued_up, total-append sends_in u w.up)) refl g.answered;
+      answered = answered-submit opened.first_xid k t s u d all_down w (up_more w said) (outstanding_of k a) refl refl own lt g.answered;
       reached = reached-more opened k (CallSubmitted place a) refl g.reached;
     }
   where
@@ -127,18 +127,6 @@ sized-revoked opened xid (o ∷ os) h = (by (eqb o.xid xid), sized-revoked opene
     by true = h.0
     by false = h.0
 
-sized-written : (opened : LinkParameters) (b : Bool) (os : List OutstandingCall) → AreSized opened os → AreSized opened (map (written_call b) os)
-sized-written opened b [] h = tt
-sized-written opened b (o ∷ os) h = (h.0, sized-written opened b os h.1)
-
-revoked-written : (end xid : ℕ) (os : List OutstandingCall) → AllByRecursion (IsWritten end) os → AllByRecursion (IsWritten end) (map (revoked_call xid) os)
-revoked-written end xid [] h = tt
-revoked-written end xid (o ∷ os) h = (by (eqb o.xid xid), revoked-written end xid os h.1)
-  where
-    by : (b : Bool) → IsWritten end (cond b (record o { is_revoked = true }) o)
-    by true = h.0
-    by false = h.0
-
 pub guards-revoke : (opened : LinkParameters) (k : ClientState) (s : ServerState) (u d all_up all_down : List FrameContent) (w : Transit) (up place xid : ℕ) → Guards opened k s u d all_up all_down w up
     → Guards opened (client_state_after opened k (MemoryRevoked place xid)) s u d all_up all_down w up
 unfolding client_state_after client_end
@@ -154,51 +142,28 @@ guards-revoke opened k s u d all_up all_down w up place xid g = record {
   xids = g.xids;
   unsaid = λ e. own_xids-map (revoked_call xid) opened.first_xid k.outstanding (xid-revoked xid) (g.unsaid e);
   numbers = g.numbers;
-  answered = answered-map opened.first_xid (revoked_call xid) k (client_state_after opened k (MemoryRevoked place xid)) s u d all_down w w refl (xid-revoked xid) refl (revoked-written (opened.first_xid + total_of sends_in (u ++ w.up)) xid k.outstanding g.answered.written) g.answered;
+  answered = answered-map opened.first_xid (revoked_call xid) k (client_state_after opened k (MemoryRevoked place xid)) s u d all_down w w refl (xid-revoked xid) refl g.answered;
   reached = reached-more opened k (MemoryRevoked place xid) refl g.reached;
 }
 
-pub guards-written_up : (opened : LinkParameters) (k : ClientState) (s : ServerState) (u d all_up all_down : List FrameContent) (w : Transit) (up : ℕ) → EndsAgree opened k s u d all_up all_down w → Guards opened k s u d all_up all_down w up
-    → Guards opened (client_state_after opened k QueueWritten) s u d all_up all_down (record { queued_up = []; up = w.up ++ w.queued_up; queued_down = w.queued_down; down = w.down }) up
+pub guards-written_up : (opened : LinkParameters) (k : ClientState) (s : ServerState) (u d all_up all_down : List FrameContent) (w : Transit) (up taken : ℕ) → k.written + taken ≡ k.due → ClientEnds k → Guards opened k s u d all_up all_down w up
+    → Guards opened (client_state_after opened k (QueueWritten taken)) s u d all_up all_down (record { queued_up = []; up = w.up ++ w.queued_up; queued_down = w.queued_down; down = w.down }) up
 unfolding client_state_after client_end
-guards-written_up opened k s u d all_up all_down w up l g = record {
-  server = record { counts = totals-writes_up opened k s w g.server.counts; reads = reads-writes_up s w g.server.reads; waits = g.server.waits; sinks = g.server.sinks; regions = g.server.regions };
-  window = record { window = omega (arith, g.window.window, length-map k.outstanding (written_call k.has_hello)); grant = g.window.grant };
+guards-written_up opened k s u d all_up all_down w up taken all ends g = record {
+  server = record { counts = totals-writes_up opened k s w taken all ends g.server.counts; reads = reads-writes_up s w g.server.reads; waits = g.server.waits; sinks = g.server.sinks; regions = g.server.regions };
+  window = record { window = g.window.window; grant = g.window.grant };
   up_said = g.up_said;
   down_said = g.down_said;
   credit = g.credit;
-  calls = sized-written opened k.has_hello k.outstanding g.calls;
+  calls = g.calls;
   within = g.within;
   sinks = g.sinks;
   xids = g.xids;
-  unsaid = λ e. own_xids-map (written_call k.has_hello) opened.first_xid k.outstanding (λ o. refl) (g.unsaid e);
+  unsaid = g.unsaid;
   numbers = g.numbers;
-  answered = answered-map opened.first_xid (written_call k.has_hello) k (client_state_after opened k QueueWritten) s u d all_down w (record { queued_up = []; up = w.up ++ w.queued_up; queued_down = w.queued_down; down = w.down }) refl (λ o. refl) refl
-      (by k.has_hello refl) g.answered;
-  reached = reached-more opened k QueueWritten refl g.reached;
+  answered = record { once = g.answered.once; later = g.answered.later; earlier = g.answered.earlier; open_calls = g.answered.open_calls; room = g.answered.room };
+  reached = reached-more opened k (QueueWritten taken) refl g.reached;
 }
-  where
-    or_true : (b : Bool) → (b || true) ≡ true
-    or_true true = refl
-    or_true false = refl
-
-    -- before the hello none was sent
-    none-below : k.has_hello ≡ false → (n : ℕ) → opened.first_xid ≤ n → n < opened.first_xid + total_of sends_in (u ++ (w.up ++ w.queued_up)) → ⊥
-    none-below e n le lt =
-        let none : total_of sends_in all_up ≡ 0 = calls_said opened k s u d all_up all_down w l ∙ ap (λ (b : Bool). cond b k.calls_accepted 0) e in
-        omega (arith, none, le, lt, ap (total_of sends_in) l.parts_up)
-
-    all-written : (end : ℕ) (os : List OutstandingCall) → AllByRecursion (IsWritten end) (map (written_call true) os)
-    all-written end [] = tt
-    all-written end (o ∷ os) = ((λ lt. or_true o.is_written), all-written end os)
-
-    none-written : (e : k.has_hello ≡ false) (n : ℕ) (os : List OutstandingCall) → NumberedCalls n os → opened.first_xid ≤ n → AllByRecursion (IsWritten (opened.first_xid + total_of sends_in (u ++ (w.up ++ w.queued_up)))) (map (written_call false) os)
-    none-written e n [] h le = tt
-    none-written e n (o ∷ os) h le = ((λ lt. absurd (none-below e o.xid (omega (arith, h.0, le)) lt)), none-written e (n + 1) os h.1 (omega (arith, le)))
-
-    by : (b : Bool) → k.has_hello ≡ b → AllByRecursion (IsWritten (opened.first_xid + total_of sends_in (u ++ (w.up ++ w.queued_up)))) (map (written_call k.has_hello) k.outstanding)
-    by true e = subst (λ (b : Bool). AllByRecursion (IsWritten (opened.first_xid + total_of sends_in (u ++ (w.up ++ w.queued_up)))) (map (written_call b) k.outstanding)) (sym e) (all-written (opened.first_xid + total_of sends_in (u ++ (w.up ++ w.queued_up))) k.outstanding)
-    by false e = subst (λ (b : Bool). AllByRecursion (IsWritten (opened.first_xid + total_of sends_in (u ++ (w.up ++ w.queued_up)))) (map (written_call b) k.outstanding)) (sym e) (none-written e opened.first_xid k.outstanding (g.unsaid e) (omega arith))
 
 -- ---- The server
 
@@ -221,17 +186,17 @@ guards-execute opened k s u d all_up all_down w up e r rest o l g fits first own
       sinks = g.sinks;
       xids = g.xids;
       unsaid = g.unsaid;
-      answered = answered-server opened.first_xid k s (server_state_after opened s (CallExecuted e)) u d all_down w (record { queued_up = w.queued_up; up = w.up; queued_down = w.queued_down ++ server_frames opened s (CallExecuted e); down = w.down }) (server_frames opened s (CallExecuted e)) refl refl
+      answered = answered-server opened.first_xid k s (server_state_after opened s (CallExecuted e)) u d all_down w (record { queued_up = w.queued_up; up = w.up; queued_down = w.queued_down ++ server_frames opened s (CallExecuted e); down = w.down }) (server_frames opened s (CallExecuted e)) refl
           (λ x. omega (arith, executed-less x e.xid s.calls there, ap (λ (xs : List ℕ). times x xs) (answer-xids s e.xid (offer_of s e.xid) (answer_of_target (offer_of s e.xid) (down_max s) e.reply (target_of (call_of e.payload))) xid_word))) g.answered;
       numbers = each-kept (IsNumbered opened.first_xid) (λ c. not (eqb c.xid e.xid)) s.calls g.numbers;
       reached = g.reached;
     }
 
-pub guards-written_down : (opened : LinkParameters) (k : ClientState) (s : ServerState) (u d all_up all_down : List FrameContent) (w : Transit) (up : ℕ) → Guards opened k s u d all_up all_down w up
-    → Guards opened k (server_state_after opened s QueueWritten) u d all_up all_down (record { queued_up = w.queued_up; up = w.up; queued_down = []; down = w.down ++ w.queued_down }) up
+pub guards-written_down : (opened : LinkParameters) (k : ClientState) (s : ServerState) (u d all_up all_down : List FrameContent) (w : Transit) (up taken : ℕ) → s.written + taken ≡ s.due → ServerEnds s → Guards opened k s u d all_up all_down w up
+    → Guards opened k (server_state_after opened s (QueueWritten taken)) u d all_up all_down (record { queued_up = w.queued_up; up = w.up; queued_down = []; down = w.down ++ w.queued_down }) up
 unfolding server_state_after
-guards-written_down opened k s u d all_up all_down w up g = record {
-  server = server-writes opened k s w up g.server;
+guards-written_down opened k s u d all_up all_down w up taken all ends g = record {
+  server = server-writes opened k s w up taken all ends g.server;
   window = g.window;
   up_said = g.up_said;
   down_said = g.down_said;
@@ -242,7 +207,7 @@ guards-written_down opened k s u d all_up all_down w up g = record {
   xids = g.xids;
   unsaid = g.unsaid;
   numbers = g.numbers;
-  answered = subst (λ (ps : List FrameContent). Answered opened.first_xid k (server_state_after opened s QueueWritten) u d ps (record { queued_up = w.queued_up; up = w.up; queued_down = []; down = w.down ++ w.queued_down })) (append-nil all_down)
-      (answered-server opened.first_xid k s (server_state_after opened s QueueWritten) u d all_down w (record { queued_up = w.queued_up; up = w.up; queued_down = []; down = w.down ++ w.queued_down }) [] refl refl (λ x. omega arith) g.answered);
+  answered = subst (λ (ps : List FrameContent). Answered opened.first_xid k (server_state_after opened s (QueueWritten taken)) u d ps (record { queued_up = w.queued_up; up = w.up; queued_down = []; down = w.down ++ w.queued_down })) (append-nil all_down)
+      (answered-server opened.first_xid k s (server_state_after opened s (QueueWritten taken)) u d all_down w (record { queued_up = w.queued_up; up = w.up; queued_down = []; down = w.down ++ w.queued_down }) [] refl (λ x. omega arith) g.answered);
   reached = g.reached;
 }

@@ -19,7 +19,7 @@ use Rattle.nr_reduce.specs.ClientState.{ClientState}
 use Rattle.nr_reduce.specs.ServerState.{ServerState}
 use Rattle.nr_reduce.specs.ServerReads.{is_over}
 use Rattle.nr_reduce.specs.ServerFrames.{FrameEffect, effect_in, frame_effect}
-use Rattle.nr_reduce.specs.Server.{server_end, server_state_after, refusal_end}
+use Rattle.nr_reduce.specs.Server.{server_end, server_state_after, refusal_end, with_own_hello}
 use Rattle.nr_laws.proofs.FrameContents.{FrameContent, numbered_segment, frame_bytes, effect_frames, server_frames, Carries}
 use Rattle.nr_laws.proofs.FrameContents.FrameContent.{HelloFrame, SendFrame, TaggedFrame}
 use Rattle.nr_laws.proofs.LinkInvariants.{Transit, TotalsAgree, ReadsAgree, AreResponses}
@@ -28,7 +28,7 @@ use Rattle.nr_laws.proofs.ReadsAtClient.{reads-says_down}
 use Rattle.nr_laws.proofs.ServerInvariant.{ServerAgrees, server-takes_send, server-takes_response}
 use Rattle.nr_laws.proofs.Replies.{replies-send, replies-tagged}
 use Rattle.nr_laws.proofs.ReadLimits.{AreWithin, within-send, within-tagged, within-closed}
-use Rattle.nr_laws.proofs.AgreeingEnds.{EndsAgree, taken_up, not-refused, says-hello, says-frame, after-hello, payload_bytes}
+use Rattle.nr_laws.proofs.AgreeingEnds.{EndsAgree, taken_up, not-refused, says-hello, says-frame, after-hello, waits-greeted, payload_bytes}
 use Rattle.nr_laws.proofs.CallNumbers.{XidsFrom, IsNumbered, xids-at, numbered-send, numbered-tagged}
 use Rattle.nr_reduce.specs.Plans.{one_if}
 use Rattle.nr_reduce.specs.ServerState.{PendingCall}
@@ -161,7 +161,7 @@ takes-send opened k s u d all_up all_down w place message rest f o l g first pie
     let pending = pending-send s f message l.counts.whole_up small_xid reads in
     let effect = step-is s f (Ok segment) reads in
     let calls_are : call_xids (server_state_after opened s (FrameReceived f)).calls ≡ call_xids (frame_effect s f).calls = ap (λ (x : ServerState). call_xids x.calls) after ∙ ap (λ (e : FrameEffect). call_xids e.calls) (sym effect) in
-    let answered = answered-send opened.first_xid k s (server_state_after opened s (FrameReceived f)) u d all_down w (SendFrame message) rest (effect_frames (frame_effect s f)) first (ap (λ (x : ServerState). x.received.sends) after)
+    let answered = answered-send opened.first_xid k s (server_state_after opened s (FrameReceived f)) u d all_down w (SendFrame message) rest (effect_frames (frame_effect s f)) (ap (λ (x : ServerState). x.received.sends) after)
     (λ x. omega (arith, pending x, ap (λ (xs : List ℕ). times x xs) (effect-xids (frame_effect s f)), ap (λ (xs : List ℕ). times x xs) calls_are, ap (λ (n : ℕ). one_if (eqb n x)) own)) g.answered in
     let numbered = numbered-send opened.first_xid s f message l.counts.whole_up own g.numbers reads in
     let numbers = subst (AllByRecursion (IsNumbered opened.first_xid)) (ap (λ (e : FrameEffect). e.calls) (step-is s f (Ok segment) reads) ∙ ap (λ (x : ServerState). x.calls) (sym after)) numbered in
@@ -189,7 +189,7 @@ takes-tagged opened k s u d all_up all_down w place last opcode stag to payload 
     let pending = pending-tagged s f last opcode stag to payload (λ n c found. small-xid opened k s u d all_up all_down w place n c l g found) reads in
     let effect = step-is s f (Ok segment) reads in
     let calls_are : call_xids (server_state_after opened s (FrameReceived f)).calls ≡ call_xids (frame_effect s f).calls = ap (λ (x : ServerState). call_xids x.calls) after ∙ ap (λ (e : FrameEffect). call_xids e.calls) (sym effect) in
-    let answered = answered-other opened.first_xid k s (server_state_after opened s (FrameReceived f)) u d all_down w (TaggedFrame last opcode stag to payload) rest (effect_frames (frame_effect s f)) first (ap (λ (x : ServerState). x.received.sends) after)
+    let answered = answered-other opened.first_xid k s (server_state_after opened s (FrameReceived f)) u d all_down w (TaggedFrame last opcode stag to payload) rest (effect_frames (frame_effect s f)) (ap (λ (x : ServerState). x.received.sends) after)
     (λ x. omega (arith, pending x, ap (λ (xs : List ℕ). times x xs) (effect-xids (frame_effect s f)), ap (λ (xs : List ℕ). times x xs) calls_are)) g.answered in
     let numbered = numbered-tagged opened.first_xid s f last opcode stag to payload g.numbers reads in
     let numbers = subst (AllByRecursion (IsNumbered opened.first_xid)) (ap (λ (e : FrameEffect). e.calls) (step-is s f (Ok segment) reads) ∙ ap (λ (x : ServerState). x.calls) (sym after)) numbered in
@@ -218,15 +218,16 @@ hello-guards opened k s u d all_up all_down w place rest f g first is le =
       answers = subst (λ (ps : List FrameContent). AreResponses s.response_bytes c.answered (ps ++ w.queued_up)) first c.answers;
       requests = c.requests;
     } in
-    let server : ServerAgrees opened k s (taken_up w rest (HelloFrame ∷ [])) f.end = record {
+    let t = with_own_hello s in
+    let server : ServerAgrees opened k t (taken_up w rest (HelloFrame ∷ [])) f.end = record {
       counts = subst (λ (t : ServerState). TotalsAgree k t (taken_up w rest (HelloFrame ∷ []))) after
           (subst (λ (said : List FrameContent). TotalsAgree k (server_state_after opened s (FrameReceived f)) (taken_up w rest said)) says (totals-hello_up opened k s w f rest g.server.counts first is));
-      reads = reads-says_down s s (record { queued_up = w.queued_up; up = rest; queued_down = w.queued_down; down = w.down }) (HelloFrame ∷ []) r refl refl refl;
-      waits = g.server.waits;
+      reads = reads-says_down s t (record { queued_up = w.queued_up; up = rest; queued_down = w.queued_down; down = w.down }) (HelloFrame ∷ []) r refl refl refl;
+      waits = waits-greeted s g.server.waits;
       sinks = later-sinks place f.end s.regions s.reads le g.server.sinks;
-      regions = g.server.regions;
+      regions = record { stags = g.server.regions.stags; calls = g.server.regions.calls };
     } in
     subst (λ (said : List FrameContent). Guards opened k (server_state_after opened s (FrameReceived f)) (u ++ HelloFrame ∷ []) d all_up (all_down ++ said) (taken_up w rest said) f.end) (sym says)
     (subst (λ (t : ServerState). Guards opened k t (u ++ HelloFrame ∷ []) d all_up (all_down ++ HelloFrame ∷ []) (taken_up w rest (HelloFrame ∷ [])) f.end) (sym after)
-    (guards-up opened k s s u d all_up all_down w place f.end HelloFrame rest (HelloFrame ∷ []) g server (tt, tt) refl g.within g.sinks g.numbers
-    (answered-other opened.first_xid k s s u d all_down w HelloFrame rest (HelloFrame ∷ []) first refl (λ x. omega arith) g.answered)))
+    (guards-up opened k s t u d all_up all_down w place f.end HelloFrame rest (HelloFrame ∷ []) g server (tt, tt) refl g.within g.sinks g.numbers
+    (answered-other opened.first_xid k s t u d all_down w HelloFrame rest (HelloFrame ∷ []) refl (λ x. omega arith) g.answered)))

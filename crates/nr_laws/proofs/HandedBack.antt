@@ -20,7 +20,7 @@ use Rattle.nr_reduce.specs.Events.Event.{FrameReceived, CallSubmitted, MemoryRev
 use Rattle.nr_reduce.specs.EndRules.{EndState, next_end_state, next_end_state_by, next_end_state_in, end_state_after}
 use Rattle.nr_reduce.specs.OfferedRegions.{Region, until_at, closed_if, regions_closed}
 use Rattle.nr_reduce.specs.ClientState.{ClientState}
-use Rattle.nr_reduce.specs.Client.{client_rules, client_end, client_state_after, initial_client, with_message, with_segment}
+use Rattle.nr_reduce.specs.Client.{client_rules, client_end, client_state_after, initial_client, with_message, with_segment, with_hello, due_with_response}
 use Rattle.nr_reduce.specs.Matched.{IsPrefixOf}
 use Rattle.nr_reduce.specs.Asked.{AskedMark, AskedSoFar, IsLost}
 use Rattle.nr_reduce.specs.Run.{client, end_of_side, placed_bytes}
@@ -148,7 +148,7 @@ behind-all opened p place r (FrameReceived f ∷ es) le g = (let next = g.0.1 in
 behind-all opened p place r (CallSubmitted q a ∷ es) le g = (tt, behind-all opened p place (next_end_state (client_rules opened) r (CallSubmitted q a)) es le g.2)
 behind-all opened p place r (MemoryRevoked q xid ∷ es) le g = (tt, behind-all opened p place (next_end_state (client_rules opened) r (MemoryRevoked q xid)) es le g.2)
 behind-all opened p place r (CallExecuted e ∷ es) le g = (tt, behind-all opened p place (next_end_state (client_rules opened) r (CallExecuted e)) es le g.2)
-behind-all opened p place r (QueueWritten ∷ es) le g = (tt, behind-all opened p place (next_end_state (client_rules opened) r QueueWritten) es le g.2)
+behind-all opened p place r (QueueWritten taken ∷ es) le g = (tt, behind-all opened p place (next_end_state (client_rules opened) r (QueueWritten taken)) es le g.2)
 
 -- an event that doesn't end a client goes to the state after it
 goes-to : (opened : LinkParameters) (r : EndState ClientState) (e : Event) → (next_end_state (client_rules opened) r e).ended ≡ None → next_end_state (client_rules opened) r e ≡ record { state = client_state_after opened r.state e; ended = None }
@@ -165,7 +165,7 @@ goes-to opened r e live = by_end r.ended live
 segment-after : (opened : LinkParameters) (k : ClientState) (f : Frame) (s : Segment) → is_hello f ≡ false → frame_segment f ≡ Ok s → client_state_after opened k (FrameReceived f) ≡ with_segment k f (Ok s)
 unfolding client_state_after
 segment-after opened k f s behind is =
-    ap (λ (b : Bool). cond b (record k { has_hello = true }) (with_segment k f (frame_segment f))) behind ∙ ap (λ (r : Result Segment ℕ). with_segment k f r) is
+    ap (λ (b : Bool). cond b (with_hello opened k) (with_segment k f (frame_segment f))) behind ∙ ap (λ (r : Result Segment ℕ). with_segment k f r) is
 
 untagged : (h : ReceiveState) (f : Frame) (s : Segment) (stag : ℕ) (message : List ℕ) → message_completed h s ≡ Some message → NotTo stag (tagged_access f s)
 untagged h f (Tagged last opcode own to payload) stag message whole = absurd (let wrong : None ≡ Some message = whole in cc)
@@ -177,10 +177,10 @@ message-freezes opened k f s message r numbers whole own found live =
     let low = low-found opened.first_stag r.stag k.regions r numbers.regions found in
     let under = low.0 in
     let next = numbers.next in
-    let same = request-stag (with_message k f.end (message_completed k.received s)) (read_request_of s) ∙ message-stag k f.end (message_completed k.received s) in
+    let same = request-stag (with_message k f.end (message_completed k.received s)) (due_with_response k f s) (read_request_of s) ∙ message-stag k f.end (message_completed k.received s) in
     let closes : OnlyClosed r.stag f.end (regions_closed (λ x. eqb x.call (word_at 0 message)) f.end k.regions) = only-now (word_at 0 message) r.stag f.end opened.first_stag k.regions r numbers.regions found (sym own) live in
     record {
-      only = subst (λ (rs : List Region). OnlyClosed r.stag f.end rs) (sym (request-regions (with_message k f.end (message_completed k.received s)) (read_request_of s)))
+      only = subst (λ (rs : List Region). OnlyClosed r.stag f.end rs) (sym (request-regions (with_message k f.end (message_completed k.received s)) (due_with_response k f s) (read_request_of s)))
           (subst (λ (o : Option (List ℕ)). OnlyClosed r.stag f.end (with_message k f.end o).regions) (sym whole) closes);
       low = omega (arith, under, next, same);
       has = frame-regions (λ (rs : List Region). HasRegion rs r.stag r.bytes) k f (λ test. has-closed test f.end k.regions r.stag r.bytes) (record { region = r; there = found; own = refl; holds = refl }) (Ok s);

@@ -12,9 +12,9 @@ use Rattle.nr_reduce.specs.Events.{Event}
 use Rattle.nr_reduce.specs.Events.Event.{FrameReceived, CallSubmitted, MemoryRevoked, CallExecuted, QueueWritten}
 use Rattle.nr_reduce.specs.EndRules.{Rules, EndState, next_end_state, next_end_state_by, next_end_state_in, end_state_after}
 use Rattle.nr_reduce.specs.ClientState.{ClientState}
-use Rattle.nr_reduce.specs.Client.{client_rules, client_state_after, with_segment}
+use Rattle.nr_reduce.specs.Client.{client_rules, client_state_after, with_segment, with_hello}
 use Rattle.nr_reduce.specs.ServerState.{ServerState}
-use Rattle.nr_reduce.specs.Server.{server_rules, server_state_after, received_by}
+use Rattle.nr_reduce.specs.Server.{server_rules, server_state_after, received_by, with_own_hello}
 use Rattle.nr_reduce.proofs.Steps.{ended-stays, end_state_after-append}
 use Rattle.nr_laws.proofs.Outputs.{Output}
 use Rattle.nr_laws.proofs.Outputs.Output.{AHello, ASegment}
@@ -40,7 +40,7 @@ received_event h (FrameReceived f) = cond (is_hello f) h (received_by h (frame_s
 received_event h (CallSubmitted p a) = h
 received_event h (MemoryRevoked p xid) = h
 received_event h (CallExecuted e) = h
-received_event h QueueWritten = h
+received_event h (QueueWritten taken) = h
 
 -- a machine that receives so
 abbrev pub Receiving : {S : Type 0} → Rules S → (S → ReceiveState) → Type 0
@@ -135,9 +135,9 @@ hears rules received goes r (CallExecuted e ∷ es) outs b one none live =
     let same = one-step rules received goes r (CallExecuted e) (was-live rules t es live) in
     subst (λ (h : ReceiveState). Count h (received (end_state_after rules t es).state) (length (messages outs))) same
     (hears rules received goes t es outs b one (ap (λ (h : ReceiveState). h.begun) same ∙ none) live)
-hears rules received goes r (QueueWritten ∷ es) outs b one none live =
-    let t = next_end_state rules r QueueWritten in
-    let same = one-step rules received goes r QueueWritten (was-live rules t es live) in
+hears rules received goes r (QueueWritten taken ∷ es) outs b one none live =
+    let t = next_end_state rules r (QueueWritten taken) in
+    let same = one-step rules received goes r (QueueWritten taken) (was-live rules t es live) in
     subst (λ (h : ReceiveState). Count h (received (end_state_after rules t es).state) (length (messages outs))) same
     (hears rules received goes t es outs b one (ap (λ (h : ReceiveState). h.begun) same ∙ none) live)
 
@@ -147,26 +147,26 @@ pub server-receives : (opened : LinkParameters) → Receiving (server_rules open
 unfolding server_state_after
 server-receives opened k (FrameReceived f) = by (is_hello f)
   where
-    by : (b : Bool) → (cond b k (Rattle.nr_reduce.specs.Server.with_effect k f (Rattle.nr_reduce.specs.ServerFrames.frame_effect k f))).received ≡ cond b k.received (received_by k.received (frame_segment f))
+    by : (b : Bool) → (cond b (with_own_hello k) (Rattle.nr_reduce.specs.Server.with_effect k f (Rattle.nr_reduce.specs.ServerFrames.frame_effect k f))).received ≡ cond b k.received (received_by k.received (frame_segment f))
     by true = refl
     by false = refl
 server-receives opened k (CallSubmitted p a) = refl
 server-receives opened k (MemoryRevoked p xid) = refl
 server-receives opened k (CallExecuted e) = refl
-server-receives opened k QueueWritten = refl
+server-receives opened k (QueueWritten taken) = refl
 
 pub client-receives : (opened : LinkParameters) → Receiving (client_rules opened) (λ (k : ClientState). k.received)
 unfolding client_state_after
 client-receives opened k (FrameReceived f) = by (is_hello f) (frame_segment f)
   where
-    by : (b : Bool) (r : Result Segment ℕ) → (cond b (record k { has_hello = true }) (with_segment k f r)).received ≡ cond b k.received (received_by k.received r)
+    by : (b : Bool) (r : Result Segment ℕ) → (cond b (with_hello opened k) (with_segment k f r)).received ≡ cond b k.received (received_by k.received r)
     by true r = refl
     by false (Ok segment) = refl
     by false (Err reason) = refl
 client-receives opened k (CallSubmitted p a) = refl
 client-receives opened k (MemoryRevoked p xid) = refl
 client-receives opened k (CallExecuted e) = refl
-client-receives opened k QueueWritten = refl
+client-receives opened k (QueueWritten taken) = refl
 
 -- ---- At one frame
 
@@ -189,7 +189,7 @@ brings-at (FrameReceived g ∷ es) f more (o ∷ outs) b =
 brings-at (CallSubmitted p a ∷ es) f more outs b = (let r = brings-at es f more outs b in record { earlier = r.earlier; own = r.own; later = r.later; parts = r.parts; brings = r.brings; brought = r.brought; behind = r.behind })
 brings-at (MemoryRevoked p xid ∷ es) f more outs b = (let r = brings-at es f more outs b in record { earlier = r.earlier; own = r.own; later = r.later; parts = r.parts; brings = r.brings; brought = r.brought; behind = r.behind })
 brings-at (CallExecuted e ∷ es) f more outs b = (let r = brings-at es f more outs b in record { earlier = r.earlier; own = r.own; later = r.later; parts = r.parts; brings = r.brings; brought = r.brought; behind = r.behind })
-brings-at (QueueWritten ∷ es) f more outs b = (let r = brings-at es f more outs b in record { earlier = r.earlier; own = r.own; later = r.later; parts = r.parts; brings = r.brings; brought = r.brought; behind = r.behind })
+brings-at (QueueWritten taken ∷ es) f more outs b = (let r = brings-at es f more outs b in record { earlier = r.earlier; own = r.own; later = r.later; parts = r.parts; brings = r.brings; brought = r.brought; behind = r.behind })
 
 -- the output that brought a segment
 pub own-segment : (o : Output) (f : Frame) (s : Segment) → Brought o f → is_hello f ≡ false → frame_segment f ≡ Ok s → o ≡ ASegment s

@@ -99,7 +99,7 @@ NoFrame (FrameReceived f) = ⊥
 NoFrame (CallSubmitted place a) = Unit {0}
 NoFrame (MemoryRevoked place xid) = Unit {0}
 NoFrame (CallExecuted call) = Unit {0}
-NoFrame QueueWritten = Unit {0}
+NoFrame (QueueWritten taken) = Unit {0}
 
 only-frames : (k : ClientState) (e : Event) → NoFrame e → client_end k e ≡ None
 unfolding client_end
@@ -107,7 +107,7 @@ only-frames k (FrameReceived f) h = absurd h
 only-frames k (CallSubmitted place a) h = refl
 only-frames k (MemoryRevoked place xid) h = refl
 only-frames k (CallExecuted call) h = refl
-only-frames k QueueWritten h = refl
+only-frames k (QueueWritten taken) h = refl
 
 none-some : {o : Option Stop} (end : Stop) → o ≡ None → o ≡ Some end → ⊥
 none-some end none some = (let wrong : None ≡ Some end = sym none ∙ some in cc)
@@ -194,4 +194,4 @@ ends-for opened link run at reason typed far bad e = by a.event a.is a.ends
     by (CallSubmitted place call) is why = absurd (none-some (ends.Bad at reason) (only-frames k (CallSubmitted place call) tt) why)
     by (MemoryRevoked place xid) is why = absurd (none-some (ends.Bad at reason) (only-frames k (MemoryRevoked place xid) tt) why)
     by (CallExecuted call) is why = absurd (none-some (ends.Bad at reason) (only-frames k (CallExecuted call) tt) why)
-    by QueueWritten is why = absurd (none-some (ends.Bad at reason) (only-frames k QueueWritten tt) why)
+    by (QueueWritten taken) is why = absurd (none-some (ends.Bad at reason) (only-frames k (QueueWritten taken) tt) why)

@@ -15,7 +15,7 @@ use Rattle.nr_reduce.specs.IsPlain.{xid_of_reply}
 use Rattle.nr_reduce.specs.Plans.{lists_of}
 use Rattle.nr_reduce.specs.Chunks.{answers_offer, reply_conveyed}
 use Rattle.nr_reduce.specs.Undone.{lists_by, inline_by}
-use Rattle.nr_reduce.specs.ClientState.{ClientState, OutstandingCall, memory_at}
+use Rattle.nr_reduce.specs.ClientState.{ClientState, OutstandingCall, memory_at, is_sent}
 use Rattle.nr_reduce.specs.ClientMessages.{verdict, by_head, by_payload, by_lists, by_body, by_call, answered_call, by_header, reply_xid}
 use Rattle.nr_reduce.specs.ClientMessages.Verdict.{EndsLink, GivesOutcome}
 use Rattle.nr_laws.specs.EndCauses.{IsReplyReason}
@@ -47,7 +47,7 @@ judged-by k place message reason bad e = by (header_of message) refl e
   where
     by_out : (h : Header) → header_of message ≡ Ok h → (o : Option OutstandingCall) → answered_call k h.xid ≡ o → by_call k place message h.body o ≡ EndsLink reason → JudgedBy k place message reason
     by_out h is None own e = absurd (other-reason 20 reason (apart 20 (inr (inl refl))) bad e)
-    by_out h is (Some o) own e = record { header = h; is_header = is; call = o; is_call = own; own = found-xid h.xid k.outstanding o own; by_its_body = e }
+    by_out h is (Some o) own e = record { header = h; is_header = is; call = o; is_call = own; own = found-xid (is_sent k) h.xid k.outstanding o own; by_its_body = e }
 
     by : (r : Result Header HeaderFault) → header_of message ≡ r → by_header k place message r ≡ EndsLink reason → JudgedBy k place message reason
     by (Ok h) is e = by_out h is (answered_call k h.xid) refl e

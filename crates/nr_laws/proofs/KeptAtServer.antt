@@ -17,7 +17,7 @@ use Rattle.nr_reduce.specs.EndRules.{EndState, next_end_state, next_end_state_by
 use Rattle.nr_reduce.specs.ServerState.{ServerState, PendingCall}
 use Rattle.nr_reduce.specs.ServerMessages.{verdict}
 use Rattle.nr_reduce.specs.ServerFrames.{FrameEffect, by_message, effect_in, frame_effect}
-use Rattle.nr_reduce.specs.Server.{server_rules, server_end, server_state_after, initial_server, with_effect, received_by}
+use Rattle.nr_reduce.specs.Server.{server_rules, server_end, server_state_after, initial_server, with_effect, received_by, with_own_hello}
 use Rattle.nr_reduce.specs.RunLaws.{server_by}
 use Rattle.nr_reduce.specs.Served.{ServedSoFar}
 use Rattle.nr_reduce.proofs.Once.{after-goes, whole-with}
@@ -30,7 +30,7 @@ use Rattle.nr_laws.proofs.ServerAlong.{ServerPlain}
 use Rattle.nr_laws.proofs.ServerEvents.{received-bytes, completed-bytes}
 use Rattle.nr_laws.proofs.ServerSide.{server-goes}
 use Rattle.nr_laws.proofs.TotalsAtServer.{with_by, after-is, step-is}
-use Rattle.nr_laws.proofs.AgreeingEnds.{not-refused}
+use Rattle.nr_laws.proofs.AgreeingEnds.{not-refused, waits-greeted}
 use Rattle.nr_laws.proofs.PendingSends.{pending_agree-message, pending_agree-same}
 use Rattle.nr_laws.proofs.PendingFrames.{pending_agree-tagged_up}
 use Rattle.nr_laws.proofs.PendingExecuted.{pending_agree-executes}
@@ -90,7 +90,9 @@ unfolding server_state_after
 frame-holds opened s f bytes stays h = by (is_hello f) refl
   where
     by : (b : Bool) → is_hello f ≡ b → KeptAtServer (server_state_after opened s (FrameReceived f))
-    by true is = subst KeptAtServer (sym (ap (λ (b : Bool). cond b s (with_effect s f (frame_effect s f))) is)) h
+    by true is =
+        subst KeptAtServer (sym (ap (λ (b : Bool). cond b (with_own_hello s) (with_effect s f (frame_effect s f))) is))
+        (record { agree = waits-greeted s h.agree; own = h.own; begun = h.begun; fit = h.fit })
     by false is = segment-holds opened s f is bytes stays h
 
 -- ---- Each event
@@ -106,8 +108,8 @@ live-holds opened place s (CallExecuted e) next good stays h = record {
   begun = h.begun;
   fit = each-kept CallFits (λ (c : PendingCall). not (eqb c.xid e.xid)) s.calls h.fit;
 }
-live-holds opened place s QueueWritten next good stays h = record {
-  agree = pending_agree-same s (server_state_after opened s QueueWritten) h.agree refl refl refl (omega arith);
+live-holds opened place s (QueueWritten taken) next good stays h = record {
+  agree = pending_agree-same s (server_state_after opened s (QueueWritten taken)) h.agree refl refl refl (omega arith);
   own = h.own;
   begun = h.begun;
   fit = h.fit;

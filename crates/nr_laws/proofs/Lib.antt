@@ -1,5 +1,6 @@
 pub mod FrameContents
 pub mod LinkInvariants
+pub mod EndsWaiting
 pub mod Along
 pub mod Brought
 pub mod ClientRun
@@ -187,3 +188,4 @@ pub mod ClosedRegions
 pub mod AddedRegions
 pub mod SubmittedCalls
 pub mod ClosedForCalls
+pub mod ItemsOfServer

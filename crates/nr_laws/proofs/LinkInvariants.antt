@@ -1,7 +1,8 @@
 -- What holds between the states of both ends of a matched link, of which neither has ended, and the frames in transit between them.
 use Rattle.std.specs.Prelude.{◌≡◌, ◌≢◌, ℕ, ◌+◌, ◌≤◌, ◌<◌, map, Bool, true, false, ◌==◌, ◌&&◌, if◌then◌else◌, List, [], ◌∷◌, ◌++◌, length, None, ◌⊎◌}
 use Rattle.nr_reduce.specs.declared.mark.LinkParameters.{LinkParameters}
-use Rattle.nr_reduce.specs.ClientState.{ClientState}
+use Rattle.nr_reduce.specs.Written.{ends_waiting}
+use Rattle.nr_reduce.specs.ClientState.{ClientState, responses_owed}
 use Rattle.nr_reduce.specs.ServerState.{ServerState, PendingCall, PendingRead, ReadyCall}
 use Rattle.nr_reduce.specs.ServerReads.{open_reads, is_read}
 use Rattle.std.specs.List.{list_any}
@@ -42,8 +43,14 @@ pub record TotalsAgree (k : ClientState) (s : ServerState) (w : Transit) : Type 
   -- each call that the client sent was received or is in transit, and so is each message of the server
   pub calls_up : s.received.sends + (total_of sends_in w.up + total_of sends_in w.queued_up) ≡ calls_sent k
   pub messages_down : k.received.sends + (total_of sends_in w.down + total_of sends_in w.queued_down) ≡ s.messages_queued
-  -- what is in transit and not queued was written
-  pub written : k.received.sends + total_of sends_in w.down ≡ s.messages_written
+  -- what is queued is what hasn't left: the Sends of either side, and the client's Read Responses
+  pub sends : ends_waiting k.written k.send_ends ≡ total_of sends_in w.queued_up
+  pub messages : ends_waiting s.written s.message_ends ≡ total_of sends_in w.queued_down
+  pub responses : responses_owed k ≡ total_of responses_in w.queued_up
+  pub all_sends : length k.send_ends ≡ calls_sent k
+  -- no side wrote more than was due
+  pub within_up : k.written ≤ k.due
+  pub within_down : s.written ≤ s.due
   -- each message that was received answered one call; each Send that was received is answered or its call is pending
   pub out : k.received.sends + length k.outstanding ≡ k.calls_accepted
   pub waiting : s.messages_queued + length s.calls ≡ s.received.sends
@@ -52,7 +59,6 @@ pub record TotalsAgree (k : ClientState) (s : ServerState) (w : Transit) : Type 
   pub whole_down : k.received.begun ≡ None
   -- an open read has its Read Request or its Read Response in transit
   pub reads : length (open_reads s) ≡ (total_of requests_in w.down + total_of requests_in w.queued_down) + (total_of responses_in w.up + total_of responses_in w.queued_up)
-  pub responses : k.responses ≡ total_of responses_in w.queued_up
 
 -- The client keeps the grant, which is how many receives the server has (RFC 8166 section 3.3).
 pub record WithinWindow (opened : LinkParameters) (k : ClientState) : Type 0 where

@@ -1,5 +1,5 @@
 -- A region of a server is closed as soon as nothing is left to be read for it, and not before.
-use Rattle.std.proofs.Common.{◌≡◌, ℕ, zero, suc, ◌<◌, Bool, true, false, cond, not, ◌&&◌, ◌||◌, eqb, List, [], ◌∷◌, ◌++◌, length, Option, None, Some, refl, sym, ap, subst, ◌∙◌, arith, append_assoc, append-nil, inl, inr, ◌⊎◌, eq-eqb, eqb-true}
+use Rattle.std.proofs.Common.{◌≡◌, ℕ, zero, suc, ◌+◌, ◌<◌, Bool, true, false, cond, not, ◌&&◌, ◌||◌, eqb, List, [], ◌∷◌, ◌++◌, length, Option, None, Some, refl, sym, ap, subst, ◌∙◌, arith, append_assoc, append-nil, inl, inr, ◌⊎◌, eq-eqb, eqb-true}
 use Rattle.std.proofs.lemmas.Bool.{and_parts}
 use Rattle.std.specs.Prelude.{Contains, slice_index_or}
 use Rattle.std.specs.List.{filter, list_any, AllByRecursion}
@@ -15,7 +15,7 @@ use Rattle.nr_reduce.specs.OfferedRegions.{Region, until_at, closed_if, regions_
 use Rattle.nr_reduce.specs.ServerState.{ServerState, PendingCall, PendingRead, ReadyCall}
 use Rattle.nr_reduce.specs.ServerReads.{is_read, is_read_at, is_over}
 use Rattle.nr_reduce.specs.ServerFrames.{frame_effect}
-use Rattle.nr_reduce.specs.Server.{server_rules, server_state_after, initial_server, with_effect}
+use Rattle.nr_reduce.specs.Server.{server_rules, server_state_after, initial_server, with_effect, with_own_hello}
 use Rattle.nr_reduce.specs.RunLaws.{server_by}
 use Rattle.nr_reduce.specs.Served.{ServedSoFar}
 use Rattle.nr_reduce.proofs.Steps.{end_state_after-append}
@@ -174,6 +174,14 @@ closed-live k place (x ∷ xs) = (by (is_over k.calls k.reads x) refl, closed-li
 abbrev AllLive : ServerState → Type 0
 AllLive k = AllByRecursion (IsLive k) k.regions
 
+-- the calls and the reads are the same
+left-of-same : (k t : ServerState) (r : Region) → t.calls ≡ k.calls → t.reads ≡ k.reads → HasReadLeft k r → HasReadLeft t r
+left-of-same k t r calls reads h = record { read = h.read; is_left = subst (λ (rs : List PendingRead). Contains rs h.read) (sym reads) h.is_left; own = h.own; of_chunk = by h.of_chunk }
+  where
+    by : IsPendingNumber k r.call ⊎ (h.read.position ≡ r.position) → IsPendingNumber t r.call ⊎ (h.read.position ≡ r.position)
+    by (inl c) = inl (record { call = c.call; there = subst (λ (cs : List PendingCall). Contains cs c.call) (sym calls) c.there; own = c.own })
+    by (inr same) = inr same
+
 live-event : (opened : LinkParameters) (s : EndState ServerState) (e : Event) → PendingAgree s.state → ServerPlain s e → AllLive s.state → AllLive (server_state_after opened s.state e)
 unfolding server_state_after
 live-event opened s (FrameReceived f) agree good h = by (is_hello f)
@@ -181,21 +189,14 @@ live-event opened s (FrameReceived f) agree good h = by (is_hello f)
     k : ServerState
     k = s.state
 
-    by : (b : Bool) → AllLive (cond b k (with_effect k f (frame_effect k f)))
-    by true = h
+    by : (b : Bool) → AllLive (cond b (with_own_hello k) (with_effect k f (frame_effect k f)))
+    by true = each-all (IsLive k) (IsLive (with_own_hello k)) k.regions (λ r live none. left-of-same k (with_own_hello k) r refl refl (live none)) h
     by false = closed-live (with_effect k f (frame_effect k f)) f.end (frame_effect k f).regions
 live-event opened s (CallSubmitted place a) agree good h = h
 live-event opened s (MemoryRevoked place xid) agree good h = h
 live-event opened s (CallExecuted e) agree good h =
     each-all (IsLive s.state) (IsLive (server_state_after opened s.state (CallExecuted e))) s.state.regions (λ r live none. executed-left opened s.state e good.call good.others agree good.is_next good.xid r (live none)) h
-live-event opened s QueueWritten agree good h = each-all (IsLive s.state) (IsLive (server_state_after opened s.state QueueWritten)) s.state.regions (λ r live none. same r (live none)) h
-  where
-    same : (r : Region) → HasReadLeft s.state r → HasReadLeft (server_state_after opened s.state QueueWritten) r
-    same r h = record { read = h.read; is_left = h.is_left; own = h.own; of_chunk = by h.of_chunk }
-      where
-        by : IsPendingNumber s.state r.call ⊎ (h.read.position ≡ r.position) → IsPendingNumber (server_state_after opened s.state QueueWritten) r.call ⊎ (h.read.position ≡ r.position)
-        by (inl c) = inl (record { call = c.call; there = c.there; own = c.own })
-        by (inr same) = inr same
+live-event opened s (QueueWritten taken) agree good h = each-all (IsLive s.state) (IsLive (server_state_after opened s.state (QueueWritten taken))) s.state.regions (λ r live none. left-of-same s.state (record s.state { written = s.state.written + taken }) r refl refl (live none)) h
 
 -- ---- A run
 

@@ -78,7 +78,7 @@ accesses_event a (FrameReceived f) = cond (is_hello f) a (a ++ tagged_accesses f
 accesses_event a (CallSubmitted p c) = a
 accesses_event a (MemoryRevoked p xid) = a
 accesses_event a (CallExecuted e) = a
-accesses_event a QueueWritten = a
+accesses_event a (QueueWritten taken) = a
 
 abbrev pub Gathering : {S : Type 0} → Rules S → (S → List TaggedSegment) → Type 0
 Gathering rules accesses = (s : _) (e : Event) → accesses (rules.state_after s e) ≡ accesses_event (accesses s) e
@@ -123,9 +123,9 @@ gathers rules accesses goes r (MemoryRevoked p xid ∷ es) outs b live =
 gathers rules accesses goes r (CallExecuted e ∷ es) outs b live =
     let t = next_end_state rules r (CallExecuted e) in
     gathers rules accesses goes t es outs b live ∙ ap (λ (a : List TaggedSegment). parts_of a ++ parts_out outs) (one-gather rules accesses goes r (CallExecuted e) (was-live rules t es live))
-gathers rules accesses goes r (QueueWritten ∷ es) outs b live =
-    let t = next_end_state rules r QueueWritten in
-    gathers rules accesses goes t es outs b live ∙ ap (λ (a : List TaggedSegment). parts_of a ++ parts_out outs) (one-gather rules accesses goes r QueueWritten (was-live rules t es live))
+gathers rules accesses goes r (QueueWritten taken ∷ es) outs b live =
+    let t = next_end_state rules r (QueueWritten taken) in
+    gathers rules accesses goes t es outs b live ∙ ap (λ (a : List TaggedSegment). parts_of a ++ parts_out outs) (one-gather rules accesses goes r (QueueWritten taken) (was-live rules t es live))
 
 -- ---- Accesses that are allowed
 

@@ -12,7 +12,7 @@ use Rattle.nr_reduce.specs.Events.Event.{FrameReceived, CallSubmitted, MemoryRev
 use Rattle.nr_reduce.specs.EndRules.{EndState, next_end_state, next_end_state_by, next_end_state_in, end_state_after}
 use Rattle.nr_reduce.specs.OfferedRegions.{Region, closed_if, regions_closed}
 use Rattle.nr_reduce.specs.ClientState.{ClientState}
-use Rattle.nr_reduce.specs.Client.{client_rules, client_end, client_state_after, initial_client, outstanding_of, region_of, with_segment}
+use Rattle.nr_reduce.specs.Client.{client_rules, client_end, client_state_after, initial_client, outstanding_of, region_of, with_segment, with_hello, due_with_response}
 use Rattle.nr_reduce.specs.Run.{client}
 use Rattle.nr_reduce.proofs.Steps.{end_state_after-append}
 use Rattle.nr_reduce.proofs.OwnStags.{kept-after}
@@ -23,7 +23,7 @@ use Rattle.nr_wire.specs.Segment.{Segment}
 use Rattle.nr_link.specs.ReceiveState.{ReadRequest, message_completed, read_request_of}
 use Rattle.nr_reduce.specs.OfferedRegions.{until_at}
 use Rattle.nr_reduce.specs.ClientState.{OutstandingCall}
-use Rattle.nr_reduce.specs.Client.{with_message, with_request, revoked_call, written_call}
+use Rattle.nr_reduce.specs.Client.{with_message, with_request, revoked_call}
 use Rattle.nr_laws.specs.ClientRegions.{IsChunkOfCall, ClientRegionsAreChunks, LiveClientRegionsAreOutstanding}
 use Rattle.nr_laws.proofs.Revoked.{frame-regions}
 
@@ -94,7 +94,7 @@ one-event opened es e h = by_ended (state_at opened es).ended
     by_event : (x : Event) → e ≡ x → AllOf P (client_state_after opened k x).regions
     by_event (FrameReceived f) is = by_hello (is_hello f)
       where
-        by_hello : (b : Bool) → AllOf P (cond b (record k { has_hello = true }) (with_segment k f (frame_segment f))).regions
+        by_hello : (b : Bool) → AllOf P (cond b (with_hello opened k) (with_segment k f (frame_segment f))).regions
         by_hello true = same
         by_hello false = frame-regions (AllOf P) k f (λ test g. all-closed P (chunk-closed opened (es ++ e ∷ [])) test f.end k.regions g) same (frame_segment f)
     by_event (CallSubmitted place a) is =
@@ -105,7 +105,7 @@ one-event opened es e h = by_ended (state_at opened es).ended
         new (new-chunks a.xid place new [] (buffers k.stag (outstanding_of k a).plan) refl))
     by_event (MemoryRevoked place xid) is = all-closed P (chunk-closed opened (es ++ e ∷ [])) _ place k.regions same
     by_event (CallExecuted call) is = same
-    by_event QueueWritten is = same
+    by_event (QueueWritten taken) is = same
 
     by_why : (o : Option Stop) → AllOf P (next_end_state_by (client_rules opened) k e o).state.regions
     by_why None = by_event e refl
@@ -169,11 +169,6 @@ has-revoked w xid (o ∷ os) other (inl h) = inl (by (eqb o.xid w) (ap (λ (x : 
     by true e = absurd cc
 has-revoked w xid (o ∷ os) other (inr h) = inr (has-revoked w xid os other h)
 
-has-written : (b : Bool) (xid : ℕ) (os : List OutstandingCall) → HasCall xid os → HasCall xid (map (written_call b) os)
-has-written b xid [] h = absurd h
-has-written b xid (o ∷ os) (inl h) = inl h
-has-written b xid (o ∷ os) (inr h) = inr (has-written b xid os h)
-
 lives-closed : (os after : List OutstandingCall) (w place : ℕ) → ((xid : ℕ) → eqb xid w ≡ false → HasCall xid os → HasCall xid after) → (xs : List Region) → AllOf (Lives os) xs → AllOf (Lives after) (regions_closed (λ r. eqb r.call w) place xs)
 unfolding regions_closed
 lives-closed os after w place keeps [] h = tt
@@ -195,19 +190,19 @@ lives-message : (k : ClientState) (place : ℕ) (m : Option (List ℕ)) → AllL
 lives-message k place None h = h
 lives-message k place (Some m) h = lives-closed k.outstanding (filter (λ o. not (eqb o.xid (word_at 0 m))) k.outstanding) (word_at 0 m) place (λ xid other g. has-filtered (word_at 0 m) xid k.outstanding other g) k.regions h
 
-lives-request : (k : ClientState) (q : Option ReadRequest) → AllLive k → AllLive (with_request k q)
-lives-request k None h = h
-lives-request k (Some q) h = h
+lives-request : (k : ClientState) (due : ℕ) (q : Option ReadRequest) → AllLive k → AllLive (with_request k due q)
+lives-request k due None h = h
+lives-request k due (Some q) h = h
 
 lives-segment : (k : ClientState) (f : Frame) (r : Result Segment ℕ) → AllLive k → AllLive (with_segment k f r)
 lives-segment k f (Err reason) h = h
-lives-segment k f (Ok s) h = lives-request (with_message k f.end (message_completed k.received s)) (read_request_of s) (lives-message k f.end (message_completed k.received s) h)
+lives-segment k f (Ok s) h = lives-request (with_message k f.end (message_completed k.received s)) (due_with_response k f s) (read_request_of s) (lives-message k f.end (message_completed k.received s) h)
 
 lives-after : (opened : LinkParameters) (k : ClientState) (e : Event) → AllLive k → AllLive (client_state_after opened k e)
 unfolding client_state_after
 lives-after opened k (FrameReceived f) h = by (is_hello f)
   where
-    by : (b : Bool) → AllLive (cond b (record k { has_hello = true }) (with_segment k f (frame_segment f)))
+    by : (b : Bool) → AllLive (cond b (with_hello opened k) (with_segment k f (frame_segment f)))
     by true = h
     by false = lives-segment k f (frame_segment f) h
 lives-after opened k (CallSubmitted place a) h =
@@ -217,7 +212,7 @@ lives-after opened k (CallSubmitted place a) h =
     (lives-new os a.xid place (buffers k.stag (outstanding_of k a).plan) (has-last a.xid k.outstanding (outstanding_of k a) refl refl))
 lives-after opened k (MemoryRevoked place xid) h = lives-closed k.outstanding (map (revoked_call xid) k.outstanding) xid place (λ x other g. has-revoked xid x k.outstanding other g) k.regions h
 lives-after opened k (CallExecuted call) h = h
-lives-after opened k QueueWritten h = all-map (Lives k.outstanding) (Lives (map (written_call k.has_hello) k.outstanding)) (λ r g none. has-written k.has_hello r.call k.outstanding (g none)) k.regions h
+lives-after opened k (QueueWritten taken) h = h
 
 of-outstanding : (xid : ℕ) (os : List OutstandingCall) → HasCall xid os → (o : OutstandingCall) × (Contains os o × ((o.xid ≡ xid) × (o.is_revoked ≡ false)))
 of-outstanding xid [] h = absurd h

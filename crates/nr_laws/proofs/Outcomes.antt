@@ -19,7 +19,7 @@ use Rattle.nr_reduce.specs.EndRules.{EndState, next_end_state_by, next_end_state
 use Rattle.nr_reduce.specs.ClientState.{ClientState}
 use Rattle.nr_reduce.specs.ClientMessages.{Verdict, verdict}
 use Rattle.nr_reduce.specs.ClientMessages.Verdict.{EndsLink, GivesOutcome}
-use Rattle.nr_reduce.specs.Client.{client_rules, client_end, client_state_after, outcomes_of, with_message, with_request, with_segment, initial_client}
+use Rattle.nr_reduce.specs.Client.{client_rules, client_end, client_state_after, outcomes_of, with_message, with_request, with_segment, initial_client, with_hello, due_with_response}
 use Rattle.nr_reduce.specs.Run.{client}
 use Rattle.nr_reduce.specs.Asked.{AskedSoFar}
 use Rattle.nr_reduce.specs.Served.{ServedSoFar}
@@ -69,9 +69,9 @@ given-later opened es e c w = record {
   given = w.given;
 }
 
-request-outcomes : (m : ClientState) (o : Option ReadRequest) → (with_request m o).outcomes ≡ m.outcomes
-request-outcomes m None = refl
-request-outcomes m (Some q) = refl
+request-outcomes : (m : ClientState) (due : ℕ) (o : Option ReadRequest) → (with_request m due o).outcomes ≡ m.outcomes
+request-outcomes m due None = refl
+request-outcomes m due (Some q) = refl
 
 verdict-each : (P : CompletedCall → Type 0) (v : Verdict) → ((c : CompletedCall) → v ≡ GivesOutcome c.xid (Some c.outcome) → P c) → AllByRecursion P (outcomes_of v)
 verdict-each P (EndsLink reason) h = tt
@@ -86,7 +86,7 @@ segment-each : (P : CompletedCall → Type 0) (k : ClientState) (f : Frame) (r :
     → ((s : Segment) (m : List ℕ) (c : CompletedCall) → r ≡ Ok s → message_completed k.received s ≡ Some m → verdict k f.end m ≡ GivesOutcome c.xid (Some c.outcome) → P c) → AllByRecursion P (with_segment k f r).outcomes
 segment-each P k f (Err reason) h new = h
 segment-each P k f (Ok s) h new =
-    subst (λ (cs : List CompletedCall). AllByRecursion P cs) (sym (request-outcomes (with_message k f.end (message_completed k.received s)) (read_request_of s)))
+    subst (λ (cs : List CompletedCall). AllByRecursion P cs) (sym (request-outcomes (with_message k f.end (message_completed k.received s)) (due_with_response k f s) (read_request_of s)))
     (message-each P k f.end (message_completed k.received s) h (λ m c whole is. new s m c refl whole is))
 
 after-each : (opened : LinkParameters) (es : List Event) (e : Event) → AllByRecursion (WasGiven opened es) (client_by opened es).state.outcomes → (client_by opened es).ended ≡ None → client_end (client_by opened es).state e ≡ None
@@ -100,14 +100,14 @@ after-each opened es (FrameReceived f) h live stays = by (is_hello f) refl
     old : AllByRecursion (WasGiven opened (es ++ FrameReceived f ∷ [])) k.outcomes
     old = each-all (WasGiven opened es) (WasGiven opened (es ++ FrameReceived f ∷ [])) k.outcomes (given-later opened es (FrameReceived f)) h
 
-    by : (b : Bool) → is_hello f ≡ b → AllByRecursion (WasGiven opened (es ++ FrameReceived f ∷ [])) (cond b (record k { has_hello = true }) (with_segment k f (frame_segment f))).outcomes
+    by : (b : Bool) → is_hello f ≡ b → AllByRecursion (WasGiven opened (es ++ FrameReceived f ∷ [])) (cond b (with_hello opened k) (with_segment k f (frame_segment f))).outcomes
     by true is = old
     by false is = segment-each (WasGiven opened (es ++ FrameReceived f ∷ [])) k f (frame_segment f) old (λ s m c own whole given.
         record { earlier = es; frame = f; later = []; is = refl; behind = is; live = live; stays = stays; segment = s; is_segment = own; message = m; whole = whole; given = given })
 after-each opened es (CallSubmitted p a) h live stays = each-all (WasGiven opened es) (WasGiven opened (es ++ CallSubmitted p a ∷ [])) (client_by opened es).state.outcomes (given-later opened es (CallSubmitted p a)) h
 after-each opened es (MemoryRevoked p xid) h live stays = each-all (WasGiven opened es) (WasGiven opened (es ++ MemoryRevoked p xid ∷ [])) (client_by opened es).state.outcomes (given-later opened es (MemoryRevoked p xid)) h
 after-each opened es (CallExecuted e) h live stays = each-all (WasGiven opened es) (WasGiven opened (es ++ CallExecuted e ∷ [])) (client_by opened es).state.outcomes (given-later opened es (CallExecuted e)) h
-after-each opened es QueueWritten h live stays = each-all (WasGiven opened es) (WasGiven opened (es ++ QueueWritten ∷ [])) (client_by opened es).state.outcomes (given-later opened es QueueWritten) h
+after-each opened es (QueueWritten taken) h live stays = each-all (WasGiven opened es) (WasGiven opened (es ++ QueueWritten taken ∷ [])) (client_by opened es).state.outcomes (given-later opened es (QueueWritten taken)) h
 
 next-each : (opened : LinkParameters) (es : List Event) (e : Event) → AllByRecursion (WasGiven opened es) (client_by opened es).state.outcomes → AllByRecursion (WasGiven opened (es ++ e ∷ [])) (client_by opened (es ++ e ∷ [])).state.outcomes
 next-each opened es e h =

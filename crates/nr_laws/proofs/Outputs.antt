@@ -184,7 +184,7 @@ client_says opened k (FrameReceived f) = cond (is_hello f) (call_sends opened 1 
 client_says opened k (CallSubmitted place a) = cond k.has_hello (ASegment (send_segment (k.calls_accepted + 1) (message_of_call opened (outstanding_of k a))) ∷ []) []
 client_says opened k (MemoryRevoked place xid) = []
 client_says opened k (CallExecuted call) = []
-client_says opened k QueueWritten = []
+client_says opened k (QueueWritten taken) = []
 
 -- what is to be short for it
 unfoldable pub ClientShort : LinkParameters → ClientState → Event → Type 0
@@ -192,7 +192,7 @@ ClientShort opened k (FrameReceived f) = CallsShort opened k.outstanding
 ClientShort opened k (CallSubmitted place a) = IsShort (message_of_call opened (outstanding_of k a))
 ClientShort opened k (MemoryRevoked place xid) = Unit {0}
 ClientShort opened k (CallExecuted call) = Unit {0}
-ClientShort opened k QueueWritten = Unit {0}
+ClientShort opened k (QueueWritten taken) = Unit {0}
 
 pub client-said : (opened : LinkParameters) (k : ClientState) (event : Event) → ClientShort opened k event → client_output opened k event ≡ bytes_of_all (client_says opened k event)
 unfolding client_output client_says ClientShort
@@ -212,7 +212,7 @@ client-said opened k (CallSubmitted place a) h = by k.has_hello
     by false = refl
 client-said opened k (MemoryRevoked place xid) h = refl
 client-said opened k (CallExecuted call) h = refl
-client-said opened k QueueWritten h = refl
+client-said opened k (QueueWritten taken) h = refl
 
 abbrev pub effect_outputs : ServerState → FrameEffect → List Output
 effect_outputs k s = message_sends (k.messages_queued + 1) s.errors ++ request_outputs (k.requests_sent + 1) (newly_open_reads s)
@@ -229,7 +229,7 @@ server_says opened k (FrameReceived f) = cond (is_hello f) (AHello (own_hello Re
 server_says opened k (CallSubmitted place a) = []
 server_says opened k (MemoryRevoked place xid) = []
 server_says opened k (CallExecuted e) = answer_outputs k e.xid (offer_of k e.xid) (answer_of_call k e)
-server_says opened k QueueWritten = []
+server_says opened k (QueueWritten taken) = []
 
 abbrev pub AnswerShort : ServerState → ℕ → ChunkLists → Option Answer → Type 0
 AnswerShort k xid offer None = IsShort (chunk_error xid (credit_word k))
@@ -240,7 +240,7 @@ ServerShort k (FrameReceived f) = AreShort (frame_effect k f).errors
 ServerShort k (CallSubmitted place a) = Unit {0}
 ServerShort k (MemoryRevoked place xid) = Unit {0}
 ServerShort k (CallExecuted e) = AnswerShort k e.xid (offer_of k e.xid) (answer_of_call k e)
-ServerShort k QueueWritten = Unit {0}
+ServerShort k (QueueWritten taken) = Unit {0}
 
 answer-said : (k : ServerState) (xid : ℕ) (offer : ChunkLists) (o : Option Answer) → AnswerShort k xid offer o → answer_output k xid offer o ≡ bytes_of_all (answer_outputs k xid offer o)
 answer-said k xid offer None h = send-one (k.messages_queued + 1) _ h ∙ one-output _
@@ -263,4 +263,4 @@ server-said opened k (FrameReceived f) h = by (is_hello f)
 server-said opened k (CallSubmitted place a) h = refl
 server-said opened k (MemoryRevoked place xid) h = refl
 server-said opened k (CallExecuted e) h = answer-said k e.xid (offer_of k e.xid) (answer_of_call k e) h
-server-said opened k QueueWritten h = refl
+server-said opened k (QueueWritten taken) h = refl

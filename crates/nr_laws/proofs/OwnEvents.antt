@@ -32,7 +32,8 @@ use Rattle.nr_laws.proofs.ServerOutput.{execution_frames, execution-proper, exec
 use Rattle.nr_laws.proofs.AgreeingEnds.{EndsAgree, messages_said}
 use Rattle.nr_laws.proofs.ClientFrame.{calls_said}
 use Rattle.nr_laws.proofs.Outputs.{IsShort, send-one, CallsShort, CallShort}
-use Rattle.nr_laws.proofs.ClientSays.{short-revoked, short-written}
+use Rattle.nr_laws.proofs.ClientSays.{short-revoked}
+use Rattle.nr_reduce.proofs.WholeWrotes.{ClientEnds, ServerEnds}
 use Rattle.nr_laws.proofs.Basics.{each-kept, each-append}
 use Rattle.nr_laws.proofs.ServerOutputs.{CallFits}
 
@@ -164,7 +165,11 @@ totals-revoked opened k s w place xid c = record {
   hello = c.hello;
   calls_up = c.calls_up;
   messages_down = c.messages_down;
-  written = c.written;
+  sends = c.sends;
+  messages = c.messages;
+  all_sends = c.all_sends;
+  within_up = c.within_up;
+  within_down = c.within_down;
   out = omega (arith, c.out, length-map k.outstanding (revoked_call xid));
   waiting = c.waiting;
   whole_up = c.whole_up;
@@ -180,12 +185,12 @@ revoked opened k s u d all_up all_down w place xid l =
     same-linked opened k (client_state_after opened k (MemoryRevoked place xid)) s u d all_up all_down w w l refl refl (totals-revoked opened k s w place xid l.counts)
     (record { apart = apart-revoked xid k.outstanding l.outs.apart; below = below-revoked xid (next_xid opened k) k.outstanding l.outs.below }) (short-revoked opened xid k.outstanding l.short) refl
 
-pub written_up : (opened : LinkParameters) (k : ClientState) (s : ServerState) (u d all_up all_down : List FrameContent) (w : Transit) → EndsAgree opened k s u d all_up all_down w
-    → EndsAgree opened (client_state_after opened k QueueWritten) s u d all_up all_down (record { queued_up = []; up = w.up ++ w.queued_up; queued_down = w.queued_down; down = w.down })
+pub written_up : (opened : LinkParameters) (k : ClientState) (s : ServerState) (u d all_up all_down : List FrameContent) (w : Transit) (taken : ℕ) → k.written + taken ≡ k.due → ClientEnds k → EndsAgree opened k s u d all_up all_down w
+    → EndsAgree opened (client_state_after opened k (QueueWritten taken)) s u d all_up all_down (record { queued_up = []; up = w.up ++ w.queued_up; queued_down = w.queued_down; down = w.down })
 unfolding client_state_after
-written_up opened k s u d all_up all_down w l =
-    same-linked opened k (client_state_after opened k QueueWritten) s u d all_up all_down w (record { queued_up = []; up = w.up ++ w.queued_up; queued_down = w.queued_down; down = w.down }) l
-    (append-nil (w.up ++ w.queued_up)) refl (totals-writes_up opened k s w l.counts) (own_xids-writes opened k l.outs) (short-written opened k.has_hello k.outstanding l.short) refl
+written_up opened k s u d all_up all_down w taken all ends l =
+    same-linked opened k (client_state_after opened k (QueueWritten taken)) s u d all_up all_down w (record { queued_up = []; up = w.up ++ w.queued_up; queued_down = w.queued_down; down = w.down }) l
+    (append-nil (w.up ++ w.queued_up)) refl (totals-writes_up opened k s w taken all ends l.counts) (own_xids-writes taken opened k l.outs) l.short refl
 
 -- ---- Of a server
 
@@ -235,13 +240,13 @@ executed opened k s u d all_up all_down w e r rest l first own begun =
       };
     }
 
-pub written_down : (opened : LinkParameters) (k : ClientState) (s : ServerState) (u d all_up all_down : List FrameContent) (w : Transit) → EndsAgree opened k s u d all_up all_down w
-    → EndsAgree opened k (server_state_after opened s QueueWritten) u d all_up all_down (record { queued_up = w.queued_up; up = w.up; queued_down = []; down = w.down ++ w.queued_down })
+pub written_down : (opened : LinkParameters) (k : ClientState) (s : ServerState) (u d all_up all_down : List FrameContent) (w : Transit) (taken : ℕ) → s.written + taken ≡ s.due → ServerEnds s → EndsAgree opened k s u d all_up all_down w
+    → EndsAgree opened k (server_state_after opened s (QueueWritten taken)) u d all_up all_down (record { queued_up = w.queued_up; up = w.up; queued_down = []; down = w.down ++ w.queued_down })
 unfolding server_state_after
-written_down opened k s u d all_up all_down w l = record {
+written_down opened k s u d all_up all_down w taken all ends l = record {
   parts_up = l.parts_up;
   parts_down = ap (λ (ps : List FrameContent). d ++ ps) (append-nil (w.down ++ w.queued_down)) ∙ l.parts_down;
-  counts = totals-writes_down opened k s w l.counts;
+  counts = totals-writes_down opened k s w taken all ends l.counts;
   waits = record { numbers = l.waits.numbers; xids = l.waits.xids; calls_below = l.waits.calls_below; reads_below = l.waits.reads_below; ready_apart = l.waits.ready_apart; ready_calls = l.waits.ready_calls; whole_calls = l.waits.whole_calls };
   outs = l.outs;
   fits = l.fits;

@@ -10,7 +10,7 @@ use Rattle.nr_link.specs.ReceiveState.{ReadRequest, message_completed, read_requ
 use Rattle.nr_link.specs.Ending.{frame_segment}
 use Rattle.nr_reduce.specs.Events.Event.{FrameReceived, CallSubmitted, QueueWritten}
 use Rattle.nr_reduce.specs.ClientState.{ClientState, OutstandingCall}
-use Rattle.nr_reduce.specs.Client.{client_state_after, with_segment, with_message, with_request, outstanding_of, written_call}
+use Rattle.nr_reduce.specs.Client.{client_state_after, with_segment, with_message, with_request, outstanding_of, with_hello, due_with_response}
 use Rattle.nr_reduce.specs.SubmitAnswer.{next_xid}
 use Rattle.nr_laws.proofs.LinkInvariants.{IsUnused, AreDistinct, AreAtMost}
 use Rattle.nr_laws.proofs.Totals.{apart_kept, apart_push}
@@ -38,13 +38,13 @@ own_xids-same opened k t out accepted h = record {
 -- whatever frame is received
 pub segment-out : (k : ClientState) (f : Frame) (r : Result Segment ℕ) → ((with_segment k f r).outstanding ≡ k.outstanding) ⊎ ((p : OutstandingCall → Bool) × ((with_segment k f r).outstanding ≡ filter p k.outstanding))
 segment-out k f (Err reason) = inl refl
-segment-out k f (Ok segment) = by (message_completed k.received segment) (read_request_of segment)
+segment-out k f (Ok segment) = by (message_completed k.received segment) (due_with_response k f segment) (read_request_of segment)
   where
-    by : (m : Option (List ℕ)) (q : Option ReadRequest) → ((with_request (with_message k f.end m) q).outstanding ≡ k.outstanding) ⊎ ((p : OutstandingCall → Bool) × ((with_request (with_message k f.end m) q).outstanding ≡ filter p k.outstanding))
-    by None None = inl refl
-    by None (Some q) = inl refl
-    by (Some m) None = inr ((λ o. not (eqb o.xid (word_at 0 m))), refl)
-    by (Some m) (Some q) = inr ((λ o. not (eqb o.xid (word_at 0 m))), refl)
+    by : (m : Option (List ℕ)) (place : ℕ) (q : Option ReadRequest) → ((with_request (with_message k f.end m) place q).outstanding ≡ k.outstanding) ⊎ ((p : OutstandingCall → Bool) × ((with_request (with_message k f.end m) place q).outstanding ≡ filter p k.outstanding))
+    by None place None = inl refl
+    by None place (Some q) = inl refl
+    by (Some m) place None = inr ((λ o. not (eqb o.xid (word_at 0 m))), refl)
+    by (Some m) place (Some q) = inr ((λ o. not (eqb o.xid (word_at 0 m))), refl)
 
 pub own_xids-came : (opened : LinkParameters) (k : ClientState) (f : Frame) → OwnXids opened k → OwnXids opened (client_state_after opened k (FrameReceived f))
 unfolding client_state_after
@@ -54,8 +54,8 @@ own_xids-came opened k f h = by (is_hello f)
     segment (inl same) = own_xids-same opened k (with_segment k f (frame_segment f)) same (segment-accepted k f (frame_segment f)) h
     segment (inr left) = own_xids-kept opened k (with_segment k f (frame_segment f)) left.0 left.1 (segment-accepted k f (frame_segment f)) h
 
-    by : (b : Bool) → OwnXids opened (cond b (record k { has_hello = true }) (with_segment k f (frame_segment f)))
-    by true = own_xids-same opened k (record k { has_hello = true }) refl refl h
+    by : (b : Bool) → OwnXids opened (cond b (with_hello opened k) (with_segment k f (frame_segment f)))
+    by true = own_xids-same opened k (with_hello opened k) refl refl h
     by false = segment (segment-out k f (frame_segment f))
 
 above : (n : ℕ) (os : List OutstandingCall) → AreAtMost (λ (o : OutstandingCall). o.xid + 1) n os → IsUnused (λ (o : OutstandingCall). o.xid) n os
@@ -70,18 +70,6 @@ own_xids-accepts opened k place a is h = record {
       (below-more (λ (o : OutstandingCall). o.xid + 1) (next_xid opened k) (opened.first_xid + (k.calls_accepted + 1)) k.outstanding (omega arith) h.below) (omega (arith, is), tt);
 }
 
-absent-written : (b : Bool) (n : ℕ) (os : List OutstandingCall) → IsUnused (λ (o : OutstandingCall). o.xid) n os → IsUnused (λ (o : OutstandingCall). o.xid) n (map (written_call b) os)
-absent-written b n [] h = tt
-absent-written b n (o ∷ os) h = (h.0, absent-written b n os h.1)
-
-apart-written : (b : Bool) (os : List OutstandingCall) → AreDistinct (λ (o : OutstandingCall). o.xid) os → AreDistinct (λ (o : OutstandingCall). o.xid) (map (written_call b) os)
-apart-written b [] h = tt
-apart-written b (o ∷ os) h = (absent-written b o.xid os h.0, apart-written b os h.1)
-
-below-written : (b : Bool) (n : ℕ) (os : List OutstandingCall) → AreAtMost (λ (o : OutstandingCall). o.xid + 1) n os → AreAtMost (λ (o : OutstandingCall). o.xid + 1) n (map (written_call b) os)
-below-written b n [] h = tt
-below-written b n (o ∷ os) h = (h.0, below-written b n os h.1)
-
-pub own_xids-writes : (opened : LinkParameters) (k : ClientState) → OwnXids opened k → OwnXids opened (client_state_after opened k QueueWritten)
+pub own_xids-writes : (taken : ℕ) (opened : LinkParameters) (k : ClientState) → OwnXids opened k → OwnXids opened (client_state_after opened k (QueueWritten taken))
 unfolding client_state_after
-own_xids-writes opened k h = record { apart = apart-written k.has_hello k.outstanding h.apart; below = below-written k.has_hello (next_xid opened k) k.outstanding h.below }
+own_xids-writes taken opened k h = record { apart = h.apart; below = h.below }

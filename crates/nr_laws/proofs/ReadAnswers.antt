@@ -21,7 +21,7 @@ use Rattle.nr_reduce.specs.ClientMessages.{by_body}
 use Rattle.nr_reduce.specs.ClientMessages.Verdict.{GivesOutcome}
 use Rattle.nr_reduce.specs.ServerState.{ServerState}
 use Rattle.nr_reduce.specs.ServerFrames.{frame_effect}
-use Rattle.nr_reduce.specs.Server.{server_rules, server_end, server_state_after, initial_server, with_effect}
+use Rattle.nr_reduce.specs.Server.{server_rules, server_end, server_state_after, initial_server, with_effect, with_own_hello}
 use Rattle.nr_reduce.specs.RunLaws.{server_by}
 use Rattle.nr_link.specs.Frames.{is_hello}
 use Rattle.nr_link.specs.declared.end.End.{End as Stop}
@@ -53,13 +53,13 @@ credit-after : (opened : LinkParameters) (k : ServerState) (e : Event) → (serv
 unfolding server_state_after
 credit-after opened k (FrameReceived f) = by (is_hello f)
   where
-    by : (b : Bool) → (cond b k (with_effect k f (frame_effect k f))).credit ≡ k.credit
+    by : (b : Bool) → (cond b (with_own_hello k) (with_effect k f (frame_effect k f))).credit ≡ k.credit
     by true = refl
     by false = refl
 credit-after opened k (CallSubmitted p a) = refl
 credit-after opened k (MemoryRevoked p xid) = refl
 credit-after opened k (CallExecuted e) = refl
-credit-after opened k QueueWritten = refl
+credit-after opened k (QueueWritten taken) = refl
 
 credit-next : (opened : LinkParameters) (r : EndState ServerState) (e : Event) → (next_end_state (server_rules opened) r e).state.credit ≡ r.state.credit
 credit-next opened r e = by r.ended

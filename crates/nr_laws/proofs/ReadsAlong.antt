@@ -90,7 +90,7 @@ lasts_in (FrameReceived f ∷ es) = cond (is_hello f) 0 (last_of (frame_segment 
 lasts_in (CallSubmitted p a ∷ es) = lasts_in es
 lasts_in (MemoryRevoked p xid ∷ es) = lasts_in es
 lasts_in (CallExecuted e ∷ es) = lasts_in es
-lasts_in (QueueWritten ∷ es) = lasts_in es
+lasts_in (QueueWritten taken ∷ es) = lasts_in es
 
 lasts-append : (es more : List Event) → lasts_in (es ++ more) ≡ lasts_in es + lasts_in more
 lasts-append [] more = omega arith
@@ -98,7 +98,7 @@ lasts-append (FrameReceived f ∷ es) more = (let e = lasts-append es more in om
 lasts-append (CallSubmitted p a ∷ es) more = lasts-append es more
 lasts-append (MemoryRevoked p xid ∷ es) more = lasts-append es more
 lasts-append (CallExecuted e ∷ es) more = lasts-append es more
-lasts-append (QueueWritten ∷ es) more = lasts-append es more
+lasts-append (QueueWritten taken ∷ es) more = lasts-append es more
 
 -- ---- What is kept
 

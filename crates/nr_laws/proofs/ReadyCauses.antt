@@ -19,7 +19,7 @@ use Rattle.nr_reduce.specs.ServerMessages.{Verdict, CallVerdict, verdict, payloa
 use Rattle.nr_reduce.specs.ServerMessages.Verdict.{EndsLink, OtherVersion, BadChunks, MakesPending}
 use Rattle.nr_reduce.specs.ServerMessages.CallVerdict.{Refuses, IsReady}
 use Rattle.nr_reduce.specs.ServerFrames.{FrameEffect, no_effect, with_verdict, ready_if_whole, message_effect, with_refused_call, call_of_number, with_access, frame_effect}
-use Rattle.nr_reduce.specs.Server.{server_rules, server_end, server_state_after, initial_server, with_effect}
+use Rattle.nr_reduce.specs.Server.{server_rules, server_end, server_state_after, initial_server, with_effect, with_own_hello}
 use Rattle.nr_reduce.specs.Run.{server}
 use Rattle.nr_reduce.specs.RunLaws.{server_by, ends_response}
 use Rattle.nr_reduce.specs.Served.{IsExecuted, next_call, first_ready}
@@ -151,13 +151,13 @@ after-each opened es (FrameReceived f) h = by (is_hello f) refl
     old : Each (ReadyAt opened (es ++ FrameReceived f ∷ [])) k.ready
     old = each-later opened es (FrameReceived f) k.ready h
 
-    by : (b : Bool) → is_hello f ≡ b → Each (ReadyAt opened (es ++ FrameReceived f ∷ [])) (cond b k (with_effect k f (frame_effect k f))).ready
+    by : (b : Bool) → is_hello f ≡ b → Each (ReadyAt opened (es ++ FrameReceived f ∷ [])) (cond b (with_own_hello k) (with_effect k f (frame_effect k f))).ready
     by true is = old
     by false is = each-append (ReadyAt opened (es ++ FrameReceived f ∷ [])) k.ready (frame_effect k f).ready old (new-each opened es f (frame_effect k f).ready is refl (few-frame k f))
 after-each opened es (CallSubmitted p a) h = each-later opened es (CallSubmitted p a) (server_by opened es).ready h
 after-each opened es (MemoryRevoked p xid) h = each-later opened es (MemoryRevoked p xid) (server_by opened es).ready h
 after-each opened es (CallExecuted e) h = each-drop (ReadyAt opened (es ++ CallExecuted e ∷ [])) (server_by opened es).ready (each-later opened es (CallExecuted e) (server_by opened es).ready h)
-after-each opened es QueueWritten h = each-later opened es QueueWritten (server_by opened es).ready h
+after-each opened es (QueueWritten taken) h = each-later opened es (QueueWritten taken) (server_by opened es).ready h
 
 next-each : (opened : LinkParameters) (es : List Event) (e : Event) → Each (ReadyAt opened es) (server_by opened es).ready → Each (ReadyAt opened (es ++ e ∷ [])) (server_by opened (es ++ e ∷ [])).ready
 next-each opened es e h =

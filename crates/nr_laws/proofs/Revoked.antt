@@ -20,7 +20,7 @@ use Rattle.nr_reduce.specs.EndRules.{EndState, next_end_state, next_end_state_by
 use Rattle.nr_reduce.specs.OfferedRegions.{Region, until_or, until_at, region_grant, closed_if, regions_closed}
 use Rattle.nr_reduce.specs.Plans.{Buffer, buffers}
 use Rattle.nr_reduce.specs.ClientState.{ClientState}
-use Rattle.nr_reduce.specs.Client.{client_rules, client_end, client_state_after, outstanding_of, region_of, with_message, with_request, with_segment}
+use Rattle.nr_reduce.specs.Client.{client_rules, client_end, client_state_after, outstanding_of, region_of, with_message, with_request, with_segment, with_hello, due_with_response}
 use Rattle.nr_reduce.specs.Run.{client}
 use Rattle.nr_reduce.proofs.OwnStags.{AreNumbered}
 use Rattle.nr_reduce.proofs.Steps.{client-one}
@@ -110,15 +110,15 @@ until-new : (n xid place : ℕ) (bs : List Buffer) → UntilBy n (map (region_of
 until-new n xid place [] = tt
 until-new n xid place (b ∷ bs) = (tt, until-new n xid place bs)
 
-pub request-regions : (m : ClientState) (o : Option ReadRequest) → (with_request m o).regions ≡ m.regions
-request-regions m None = refl
-request-regions m (Some q) = refl
+pub request-regions : (m : ClientState) (due : ℕ) (o : Option ReadRequest) → (with_request m due o).regions ≡ m.regions
+request-regions m due None = refl
+request-regions m due (Some q) = refl
 
 -- what a frame does to regions, for a fact that closing keeps
 pub frame-regions : (P : List Region → Type 0) (k : ClientState) (f : Frame) → ((test : Region → Bool) → P k.regions → P (regions_closed test f.end k.regions)) → P k.regions → (r : Result Segment ℕ) → P (with_segment k f r).regions
 frame-regions P k f closes h (Err reason) = h
 frame-regions P k f closes h (Ok s) =
-    subst P (sym (request-regions (with_message k f.end (message_completed k.received s)) (read_request_of s))) (by (message_completed k.received s))
+    subst P (sym (request-regions (with_message k f.end (message_completed k.received s)) (due_with_response k f s) (read_request_of s))) (by (message_completed k.received s))
   where
     by : (o : Option (List ℕ)) → P (with_message k f.end o).regions
     by None = h
@@ -130,7 +130,7 @@ EventBy n (FrameReceived f) = f.end ≤ n
 EventBy n (CallSubmitted q a) = Unit {0}
 EventBy n (MemoryRevoked q xid) = q ≤ n
 EventBy n (CallExecuted e) = Unit {0}
-EventBy n QueueWritten = Unit {0}
+EventBy n (QueueWritten taken) = Unit {0}
 
 abbrev EventsBy : ℕ → List Event → Type 0
 EventsBy n [] = Unit {0}
@@ -140,13 +140,13 @@ until-event : (opened : LinkParameters) (n : ℕ) (k : ClientState) (e : Event) 
 unfolding client_state_after
 until-event opened n k (FrameReceived f) by h = by_hello (is_hello f)
   where
-    by_hello : (b : Bool) → UntilBy n (cond b (record k { has_hello = true }) (with_segment k f (frame_segment f))).regions
+    by_hello : (b : Bool) → UntilBy n (cond b (with_hello opened k) (with_segment k f (frame_segment f))).regions
     by_hello true = h
     by_hello false = frame-regions (UntilBy n) k f (λ test g. until-closed test f.end n k.regions by g) h (frame_segment f)
 until-event opened n k (CallSubmitted q a) by h = until-append n k.regions (map (region_of a.xid q) (buffers k.stag (outstanding_of k a).plan)) h (until-new n a.xid q (buffers k.stag (outstanding_of k a).plan))
 until-event opened n k (MemoryRevoked q xid) by h = until-closed (λ r. eqb r.call xid) q n k.regions by h
 until-event opened n k (CallExecuted e) by h = h
-until-event opened n k QueueWritten by h = h
+until-event opened n k (QueueWritten taken) by h = h
 
 until-next : (opened : LinkParameters) (n : ℕ) (k : ClientState) (ended : Option Stop) (e : Event) → EventBy n e → UntilBy n k.regions → UntilBy n (next_end_state_in (client_rules opened) k e ended).state.regions
 until-next opened n k (Some end) e by h = h
@@ -183,7 +183,7 @@ mark-by link before mark = subst (λ (n : ℕ). EventsBy n (events_at link Initi
         by_own : (b : Bool) → EventsBy (length (old ++ cond b bytes [])) (if_own b (map FrameReceived (frames_completed Responder old bytes)))
         by_own true = events-by (length (old ++ bytes)) (frames_completed Responder old bytes) (frames-by Responder old bytes)
         by_own false = tt
-    by (marks.Wrote l s bytes) = if-by (length (old ++ [])) (eqb l link && same_side s Initiator) (QueueWritten ∷ []) (tt, tt)
+    by (marks.Wrote l s bytes) = if-by (length (old ++ [])) (eqb l link && same_side s Initiator) (QueueWritten (length bytes) ∷ []) (tt, tt)
     by (marks.Submit l call form (submissions.Accepted xid)) = if-by (length (old ++ [])) (eqb l link && true) (CallSubmitted (length old) (record { xid = xid; call = call; form = form }) ∷ []) (tt, tt)
     by (marks.Submit l call form (submissions.Refused why)) = tt
     by (marks.Submit l call form submissions.Dropped) = tt

@@ -25,7 +25,7 @@ use Rattle.nr_reduce.specs.ServerMessages.{Verdict, CallVerdict, verdict, by_pay
 use Rattle.nr_reduce.specs.ServerMessages.CallVerdict.{Refuses, IsReady}
 use Rattle.nr_reduce.specs.ServerMessages.Verdict.{EndsLink, OtherVersion, BadChunks, MakesPending}
 use Rattle.nr_reduce.specs.ServerFrames.{FrameEffect, no_effect, with_verdict, ready_if_whole, with_refused_call, is_stream_read, read_effect, response_effect, call_of_number, message_effect, by_message, with_access, effect_in, frame_effect}
-use Rattle.nr_reduce.specs.Server.{server_rules, server_end, server_state_after, initial_server, with_effect}
+use Rattle.nr_reduce.specs.Server.{server_rules, server_end, server_state_after, initial_server, with_effect, with_own_hello}
 use Rattle.nr_reduce.specs.Run.{server}
 use Rattle.nr_reduce.specs.RunLaws.{server_by}
 use Rattle.nr_reduce.proofs.Steps.{end_state_after-append}
@@ -196,7 +196,7 @@ frame-event opened es f h stays = by (is_hello f) refl
     old : AllByRecursion P k.regions
     old = each-all (IsChunkOfSend opened es) P k.regions (chunk-more opened es (FrameReceived f ∷ [])) h
 
-    by : (b : Bool) → is_hello f ≡ b → AllByRecursion P (cond b k (with_effect k f (frame_effect k f))).regions
+    by : (b : Bool) → is_hello f ≡ b → AllByRecursion P (cond b (with_own_hello k) (with_effect k f (frame_effect k f))).regions
     by true is = old
     by false is =
         each-region-closed P (chunk-closed opened (es ++ FrameReceived f ∷ [])) (is_over (frame_effect k f).calls (frame_effect k f).reads) f.end (frame_effect k f).regions
@@ -225,7 +225,7 @@ regions-along opened P more frames front (e ∷ es) h =
     by (CallSubmitted place a) stays = same (CallSubmitted place a)
     by (MemoryRevoked place xid) stays = same (MemoryRevoked place xid)
     by (CallExecuted call) stays = same (CallExecuted call)
-    by QueueWritten stays = same QueueWritten
+    by (QueueWritten taken) stays = same (QueueWritten taken)
 
 pub region-of-list : (P : Region → Type 0) (xs : List Region) (r : Region) → AllByRecursion P xs → Contains xs r → P r
 region-of-list P xs r h there = All-contains P xs r (All-from_recursion P xs h) there

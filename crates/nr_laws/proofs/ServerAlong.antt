@@ -51,7 +51,7 @@ ServerGood r (FrameReceived f) = FrameGood f
 ServerGood r (CallSubmitted p a) = Unit {0}
 ServerGood r (MemoryRevoked p xid) = Unit {0}
 ServerGood r (CallExecuted e) = IsGoodExecution r e
-ServerGood r QueueWritten = Unit {0}
+ServerGood r (QueueWritten taken) = Unit {0}
 
 -- without what is known of frames
 abbrev pub ServerPlain : EndState ServerState → Event → Type 0
@@ -59,7 +59,7 @@ ServerPlain r (FrameReceived f) = Unit {0}
 ServerPlain r (CallSubmitted p a) = Unit {0}
 ServerPlain r (MemoryRevoked p xid) = Unit {0}
 ServerPlain r (CallExecuted e) = IsGoodExecution r e
-ServerPlain r QueueWritten = Unit {0}
+ServerPlain r (QueueWritten taken) = Unit {0}
 
 goes-fpdu : (opened : LinkParameters) (place : ℕ) (r : EndState ServerState) (es : List Event) (came : List Output) → GoesOn (server_rules opened) ServerPlain place r es → Brings es came → AreFrom Fpdu came → GoesOn (server_rules opened) ServerGood place r es
 goes-fpdu opened place r [] came g b from = tt
@@ -69,7 +69,7 @@ goes-fpdu opened place r (FrameReceived f ∷ es) (ASegment s ∷ came) g b from
 goes-fpdu opened place r (CallSubmitted p a ∷ es) came g b from = (g.0, g.1, goes-fpdu opened place (next_end_state (server_rules opened) r (CallSubmitted p a)) es came g.2 b from)
 goes-fpdu opened place r (MemoryRevoked p xid ∷ es) came g b from = (g.0, g.1, goes-fpdu opened place (next_end_state (server_rules opened) r (MemoryRevoked p xid)) es came g.2 b from)
 goes-fpdu opened place r (CallExecuted e ∷ es) came g b from = (g.0, g.1, goes-fpdu opened place (next_end_state (server_rules opened) r (CallExecuted e)) es came g.2 b from)
-goes-fpdu opened place r (QueueWritten ∷ es) came g b from = (g.0, g.1, goes-fpdu opened place (next_end_state (server_rules opened) r QueueWritten) es came g.2 b from)
+goes-fpdu opened place r (QueueWritten taken ∷ es) came g b from = (g.0, g.1, goes-fpdu opened place (next_end_state (server_rules opened) r (QueueWritten taken)) es came g.2 b from)
 
 pub goes-hello : (opened : LinkParameters) (place : ℕ) (r : EndState ServerState) (es : List Event) (came : List Output) → GoesOn (server_rules opened) ServerPlain place r es → Brings es came → AreFrom (HelloFrom Initiator) came → GoesOn (server_rules opened) ServerGood place r es
 goes-hello opened place r [] came g b from = tt
@@ -79,7 +79,7 @@ goes-hello opened place r (FrameReceived f ∷ es) (ASegment s ∷ came) g b fro
 goes-hello opened place r (CallSubmitted p a ∷ es) came g b from = (g.0, g.1, goes-hello opened place (next_end_state (server_rules opened) r (CallSubmitted p a)) es came g.2 b from)
 goes-hello opened place r (MemoryRevoked p xid ∷ es) came g b from = (g.0, g.1, goes-hello opened place (next_end_state (server_rules opened) r (MemoryRevoked p xid)) es came g.2 b from)
 goes-hello opened place r (CallExecuted e ∷ es) came g b from = (g.0, g.1, goes-hello opened place (next_end_state (server_rules opened) r (CallExecuted e)) es came g.2 b from)
-goes-hello opened place r (QueueWritten ∷ es) came g b from = (g.0, g.1, goes-hello opened place (next_end_state (server_rules opened) r QueueWritten) es came g.2 b from)
+goes-hello opened place r (QueueWritten taken ∷ es) came g b from = (g.0, g.1, goes-hello opened place (next_end_state (server_rules opened) r (QueueWritten taken)) es came g.2 b from)
 
 -- ---- Why a message is said
 

@@ -21,7 +21,7 @@ use Rattle.nr_reduce.specs.Holds.{Answer, answer_message, chunk_error}
 use Rattle.nr_reduce.specs.Undone.{answer_segments}
 use Rattle.nr_reduce.specs.ServerState.{ServerState, ReadyCall, credit_word}
 use Rattle.nr_reduce.specs.ServerFrames.{FrameEffect, frame_effect}
-use Rattle.nr_reduce.specs.Server.{server_rules, server_end, server_output, server_state_after, server_final_output, with_effect, received_by, is_rejected, offer_of, initial_server}
+use Rattle.nr_reduce.specs.Server.{server_rules, server_end, server_output, server_state_after, server_final_output, with_effect, received_by, is_rejected, offer_of, initial_server, with_own_hello}
 use Rattle.nr_reduce.specs.RunLaws.{server_by}
 use Rattle.nr_laws.proofs.Along.{IsNext, place_after, outputs_by, outputs_for}
 use Rattle.nr_laws.proofs.Outputs.{Output, bytes_of_all, server_says, server-said, ServerShort, server_final_outputs, server-final-said, final_outputs, effect_outputs, answer_outputs, answer_of_call, send_segment}
@@ -100,8 +100,8 @@ unfolding server_says server_output server_state_after
 hello-step opened es place k outs f next first bytes t =
     let rules = server_rules opened in
     let stays = hello-goes opened k f first bytes in
-    let same : next_end_state rules (record { state = k; ended = None }) (FrameReceived f) ≡ record { state = k; ended = None } =
-    ap (λ (o : Option Stop). next_end_state_by rules k (FrameReceived f) o) stays ∙ ap (λ (b : Bool). record { state = cond b k (with_effect k f (frame_effect k f)); ended = None }) first in
+    let same : next_end_state rules (record { state = k; ended = None }) (FrameReceived f) ≡ record { state = with_own_hello k; ended = None } =
+    ap (λ (o : Option Stop). next_end_state_by rules k (FrameReceived f) o) stays ∙ ap (λ (b : Bool). record { state = cond b (with_own_hello k) (with_effect k f (frame_effect k f)); ended = None }) first in
     let at_start : place ≡ 0 = sym next.0 ∙ eqb-true f.at 0 first in
     let none : outs ≡ [] = by_shape t.shape at_start in
     record {
@@ -145,7 +145,7 @@ segment-step opened es place k outs f s next behind is t None stays =
     let rules = server_rules opened in
     let effect : FrameEffect = frame_effect k f in
     let same : next_end_state rules (record { state = k; ended = None }) (FrameReceived f) ≡ record { state = with_effect k f effect; ended = None } =
-    ap (λ (o : Option Stop). next_end_state_by rules k (FrameReceived f) o) stays ∙ ap (λ (b : Bool). record { state = cond b k (with_effect k f effect); ended = None }) behind in
+    ap (λ (o : Option Stop). next_end_state_by rules k (FrameReceived f) o) stays ∙ ap (λ (b : Bool). record { state = cond b (with_own_hello k) (with_effect k f effect); ended = None }) behind in
     let greeted = later-shape place (record { state = k; ended = None }) outs (let p = above-zero f.at behind in let e = next.0 in omega (arith, p, e)) t.shape in
     let payload : IsBytes (payload_by s) = payload-bytes f.bytes s next.2 is in
     let fine : IsFine effect = fine-frame k f (λ x m own whole. completed-bytes k.received x m t.begun (payload-bytes f.bytes x next.2 own) whole) t.fit in
@@ -264,8 +264,8 @@ server-step opened es place k None outs (MemoryRevoked p xid) next good t = grow
     (record { outputs = refl; said = refl; begun = t.begun; fit = t.fit; shape = same-shape place (record { state = k; ended = None }) (record { state = k; ended = None }) outs refl refl t.shape; one = tt; cause = λ pre s post m is one. no-cause [] pre s post m refl is one })
 server-step opened es place k None outs (CallExecuted e) next good t =
     grown opened es place (record { state = k; ended = None }) outs (CallExecuted e) (answer_outputs k e.xid (offer_of k e.xid) (answer_of_call k e)) t (executed-step opened es place k outs e good t (answer_of_call k e) refl)
-server-step opened es place k None outs QueueWritten next good t = grown opened es place (record { state = k; ended = None }) outs QueueWritten [] t
-    (record { outputs = refl; said = refl; begun = t.begun; fit = t.fit; shape = same-shape place (record { state = k; ended = None }) (record { state = server_state_after opened k QueueWritten; ended = None }) outs refl refl t.shape; one = tt; cause = λ pre s post m is one. no-cause [] pre s post m refl is one })
+server-step opened es place k None outs (QueueWritten taken) next good t = grown opened es place (record { state = k; ended = None }) outs (QueueWritten taken) [] t
+    (record { outputs = refl; said = refl; begun = t.begun; fit = t.fit; shape = same-shape place (record { state = k; ended = None }) (record { state = server_state_after opened k (QueueWritten taken); ended = None }) outs refl refl t.shape; one = tt; cause = λ pre s post m is one. no-cause [] pre s post m refl is one })
 server-step opened es place k (Some end) outs (FrameReceived f) next good t = grown opened es place (record { state = k; ended = Some end }) outs (FrameReceived f) [] t
     (record { outputs = refl; said = refl; begun = t.begun; fit = t.fit; shape = ended-shape place f.end k end outs (let l = next.1 in omega (arith, l)) t.shape; one = tt; cause = λ pre s post m is one. no-cause [] pre s post m refl is one })
 server-step opened es place k (Some end) outs (CallSubmitted p a) next good t = grown opened es place (record { state = k; ended = Some end }) outs (CallSubmitted p a) [] t
@@ -273,5 +273,5 @@ server-step opened es place k (Some end) outs (CallSubmitted p a) next good t = 
 server-step opened es place k (Some end) outs (MemoryRevoked p xid) next good t = grown opened es place (record { state = k; ended = Some end }) outs (MemoryRevoked p xid) [] t
     (record { outputs = refl; said = refl; begun = t.begun; fit = t.fit; shape = ended-shape place place k end outs (omega arith) t.shape; one = tt; cause = λ pre s post m is one. no-cause [] pre s post m refl is one })
 server-step opened es place k (Some end) outs (CallExecuted e) next good t = absurd (let s = good.stays in cc)
-server-step opened es place k (Some end) outs QueueWritten next good t = grown opened es place (record { state = k; ended = Some end }) outs QueueWritten [] t
+server-step opened es place k (Some end) outs (QueueWritten taken) next good t = grown opened es place (record { state = k; ended = Some end }) outs (QueueWritten taken) [] t
     (record { outputs = refl; said = refl; begun = t.begun; fit = t.fit; shape = ended-shape place place k end outs (omega arith) t.shape; one = tt; cause = λ pre s post m is one. no-cause [] pre s post m refl is one })

@@ -16,7 +16,7 @@ use Rattle.nr_reduce.specs.ServerReads.{regions_of, is_over}
 use Rattle.nr_reduce.specs.ServerMessages.{CallVerdict, payload_of, by_payload}
 use Rattle.nr_reduce.specs.ServerMessages.CallVerdict.{Refuses, IsReady}
 use Rattle.nr_reduce.specs.ServerFrames.{FrameEffect, with_verdict, frame_effect}
-use Rattle.nr_reduce.specs.Server.{server_rules, server_end, server_state_after, initial_server, with_effect, tagged_accesses}
+use Rattle.nr_reduce.specs.Server.{server_rules, server_end, server_state_after, initial_server, with_effect, tagged_accesses, with_own_hello}
 use Rattle.nr_reduce.proofs.Touches.{server_touched}
 use Rattle.nr_laws.proofs.Along.{IsNext, GoesOn, along, place_after, places_after}
 use Rattle.nr_laws.proofs.Memory.{Gathering, Settled, settled-later, settled-closed, settled-append, settled-more}
@@ -76,9 +76,9 @@ frame-settled : (opened : LinkParameters) (place : ℕ) (k : ServerState) (f : F
 unfolding server_state_after
 frame-settled opened place k f next good h (Some end) is = settled-later place f.end k.regions k.accesses_received (let l = next.1 in omega (arith, l)) h
 frame-settled opened place k f next (inl g) h None is =
-    subst (λ (b : Bool). Settled f.end (cond b k (with_effect k f (frame_effect k f))).regions (cond b k (with_effect k f (frame_effect k f))).accesses_received) (sym g.0) (settled-later place f.end k.regions k.accesses_received (let l = next.1 in omega (arith, l)) h)
+    subst (λ (b : Bool). Settled f.end (cond b (with_own_hello k) (with_effect k f (frame_effect k f))).regions (cond b (with_own_hello k) (with_effect k f (frame_effect k f))).accesses_received) (sym g.0) (settled-later place f.end k.regions k.accesses_received (let l = next.1 in omega (arith, l)) h)
 frame-settled opened place k f next (inr (s, behind, own)) h None is =
-    subst (λ (b : Bool). Settled f.end (cond b k (with_effect k f (frame_effect k f))).regions (cond b k (with_effect k f (frame_effect k f))).accesses_received) (sym behind) (segment-settled opened place k f s (let l = next.1 in omega (arith, l)) behind own is h)
+    subst (λ (b : Bool). Settled f.end (cond b (with_own_hello k) (with_effect k f (frame_effect k f))).regions (cond b (with_own_hello k) (with_effect k f (frame_effect k f))).accesses_received) (sym behind) (segment-settled opened place k f s (let l = next.1 in omega (arith, l)) behind own is h)
 
 settled-step : (opened : LinkParameters) (place : ℕ) (k : ServerState) (ended : Option Stop) (e : Event) → IsNext place e → ServerGood (record { state = k; ended = ended }) e → Settled place k.regions k.accesses_received
     → Settled (place_after place e) (next_end_state_in (server_rules opened) k e ended).state.regions (next_end_state_in (server_rules opened) k e ended).state.accesses_received
@@ -87,12 +87,12 @@ settled-step opened place k None (FrameReceived f) next good h = frame-settled o
 settled-step opened place k None (CallSubmitted q a) next good h = h
 settled-step opened place k None (MemoryRevoked q xid) next good h = h
 settled-step opened place k None (CallExecuted x) next good h = h
-settled-step opened place k None QueueWritten next good h = h
+settled-step opened place k None (QueueWritten taken) next good h = h
 settled-step opened place k (Some end) (FrameReceived f) next good h = settled-later place f.end k.regions k.accesses_received (let l = next.1 in omega (arith, l)) h
 settled-step opened place k (Some end) (CallSubmitted q a) next good h = h
 settled-step opened place k (Some end) (MemoryRevoked q xid) next good h = h
 settled-step opened place k (Some end) (CallExecuted x) next good h = h
-settled-step opened place k (Some end) QueueWritten next good h = h
+settled-step opened place k (Some end) (QueueWritten taken) next good h = h
 
 pub settled-along : (opened : LinkParameters) (es : List Event) → GoesOn (server_rules opened) ServerGood 0 (initial_server opened) es
     → Settled (places_after 0 es) (end_state_after (server_rules opened) (initial_server opened) es).state.regions (end_state_after (server_rules opened) (initial_server opened) es).state.accesses_received
@@ -104,10 +104,10 @@ pub server-gathers : (opened : LinkParameters) → Gathering (server_rules opene
 unfolding server_state_after
 server-gathers opened k (FrameReceived f) = by (is_hello f)
   where
-    by : (b : Bool) → (cond b k (with_effect k f (frame_effect k f))).accesses_received ≡ cond b k.accesses_received (k.accesses_received ++ tagged_accesses f (frame_segment f))
+    by : (b : Bool) → (cond b (with_own_hello k) (with_effect k f (frame_effect k f))).accesses_received ≡ cond b k.accesses_received (k.accesses_received ++ tagged_accesses f (frame_segment f))
     by true = refl
     by false = refl
 server-gathers opened k (CallSubmitted p a) = refl
 server-gathers opened k (MemoryRevoked p xid) = refl
 server-gathers opened k (CallExecuted e) = refl
-server-gathers opened k QueueWritten = refl
+server-gathers opened k (QueueWritten taken) = refl

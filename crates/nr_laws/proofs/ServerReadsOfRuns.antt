@@ -26,7 +26,7 @@ use Rattle.nr_reduce.specs.ServerState.{ServerState, PendingCall}
 use Rattle.nr_reduce.specs.ServerMessages.{verdict}
 use Rattle.nr_reduce.specs.ServerMessages.Verdict.{MakesPending}
 use Rattle.nr_reduce.specs.ServerFrames.{frame_effect}
-use Rattle.nr_reduce.specs.Server.{server_rules, server_end, server_state_after, initial_server, with_effect}
+use Rattle.nr_reduce.specs.Server.{server_rules, server_end, server_state_after, initial_server, with_effect, with_own_hello}
 use Rattle.nr_reduce.specs.Run.{client}
 use Rattle.nr_reduce.specs.RunLaws.{known_stream, server_by}
 use Rattle.nr_reduce.specs.Undone.{lists_by}
@@ -86,7 +86,7 @@ ServerOwn r (FrameReceived f) = r.ended ≡ None → is_hello f ≡ false → Ow
 ServerOwn r (CallSubmitted p a) = Unit {0}
 ServerOwn r (MemoryRevoked p xid) = Unit {0}
 ServerOwn r (CallExecuted e) = Unit {0}
-ServerOwn r QueueWritten = Unit {0}
+ServerOwn r (QueueWritten taken) = Unit {0}
 
 abbrev pub ServerFine : EndState ServerState → Event → Type 0
 ServerFine r e = ServerGood r e × ServerOwn r e
@@ -98,7 +98,7 @@ own-event opened link run typed asked matched es (FrameReceived f) more all = λ
 own-event opened link run typed asked matched es (CallSubmitted p a) more all = tt
 own-event opened link run typed asked matched es (MemoryRevoked p xid) more all = tt
 own-event opened link run typed asked matched es (CallExecuted e) more all = tt
-own-event opened link run typed asked matched es QueueWritten more all = tt
+own-event opened link run typed asked matched es (QueueWritten taken) more all = tt
 
 goes-fine : (opened : LinkParameters) (link : ℕ) (run : List Mark) → IsTyped run → AskedSoFar opened link run → Matched link run
     → (es more : List Event) (place : ℕ) (r : EndState ServerState) → events link Responder run ≡ es ++ more → r ≡ end_state_after (server_rules opened) (initial_server opened) es → GoesOn (server_rules opened) ServerGood place r more → GoesOn (server_rules opened) ServerFine place r more
@@ -131,10 +131,10 @@ frame-next : (opened : LinkParameters) (es : List Event) (k : ServerState) (outs
     → ReadsAt opened (es ++ FrameReceived f ∷ []) (server_state_after opened k (FrameReceived f)) (outs ++ server_says opened k (FrameReceived f))
 unfolding server_state_after server_says
 frame-next opened es k outs f (inl h, own) numbered stays reads =
-    subst (λ (b : Bool). ReadsAt opened (es ++ FrameReceived f ∷ []) (cond b k (with_effect k f (frame_effect k f))) (outs ++ cond b (AHello (own_hello Responder) ∷ []) (effect_outputs k (frame_effect k f)))) (sym h.0)
-    (other-reads opened es (FrameReceived f) k k outs (AHello (own_hello Responder) ∷ []) (ap (λ (b : Bool). cond b 0 (last_of (frame_segment f)) + 0) h.0) refl refl refl refl refl reads)
+    subst (λ (b : Bool). ReadsAt opened (es ++ FrameReceived f ∷ []) (cond b (with_own_hello k) (with_effect k f (frame_effect k f))) (outs ++ cond b (AHello (own_hello Responder) ∷ []) (effect_outputs k (frame_effect k f)))) (sym h.0)
+    (other-reads opened es (FrameReceived f) k (with_own_hello k) outs (AHello (own_hello Responder) ∷ []) (ap (λ (b : Bool). cond b 0 (last_of (frame_segment f)) + 0) h.0) refl refl refl refl refl reads)
 frame-next opened es k outs f (inr (s, behind, is), own) numbered stays reads =
-    subst (λ (b : Bool). ReadsAt opened (es ++ FrameReceived f ∷ []) (cond b k (with_effect k f (frame_effect k f))) (outs ++ cond b (AHello (own_hello Responder) ∷ []) (effect_outputs k (frame_effect k f)))) (sym behind)
+    subst (λ (b : Bool). ReadsAt opened (es ++ FrameReceived f ∷ []) (cond b (with_own_hello k) (with_effect k f (frame_effect k f))) (outs ++ cond b (AHello (own_hello Responder) ∷ []) (effect_outputs k (frame_effect k f)))) (sym behind)
     (frame-reads opened es k outs f s behind is stays (own refl behind) numbered reads)
 
 reads-event : (opened : LinkParameters) (es : List Event) (k : ServerState) (outs : List Output) (e : Event) → ServerFine (record { state = k; ended = None }) e → AreNumbered 1 k.regions → (o : Option Stop) → server_end opened k e ≡ o → ReadsAt opened es k outs → ReadsNext opened es k outs e o
@@ -144,7 +144,7 @@ reads-event opened es k outs (FrameReceived f) fine numbered None stays reads = 
 reads-event opened es k outs (CallSubmitted p a) fine numbered None stays reads = λ live. other-reads opened es (CallSubmitted p a) k k outs [] refl refl refl refl refl refl reads
 reads-event opened es k outs (MemoryRevoked p xid) fine numbered None stays reads = λ live. other-reads opened es (MemoryRevoked p xid) k k outs [] refl refl refl refl refl refl reads
 reads-event opened es k outs (CallExecuted e) fine numbered None stays reads = λ live. executed-reads opened es k outs e reads
-reads-event opened es k outs QueueWritten fine numbered None stays reads = λ live. other-reads opened es QueueWritten k (record k { messages_written = k.messages_queued }) outs [] refl refl refl refl refl refl reads
+reads-event opened es k outs (QueueWritten taken) fine numbered None stays reads = λ live. other-reads opened es (QueueWritten taken) k (record k { written = k.written + taken }) outs [] refl refl refl refl refl refl reads
 
 reads-in : (opened : LinkParameters) (es : List Event) (k : ServerState) (ended : Option Stop) (outs : List Output) (e : Event) → ServerFine (record { state = k; ended = ended }) e → AreNumbered 1 k.regions → (ended ≡ None → ReadsAt opened es k outs)
     → (next_end_state_in (server_rules opened) k e ended).ended ≡ None → ReadsAt opened (es ++ e ∷ []) (next_end_state_in (server_rules opened) k e ended).state (outs ++ outputs_in (server_rules opened) (server_says opened) server_final_outputs k e ended)

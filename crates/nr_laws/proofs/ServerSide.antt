@@ -67,7 +67,7 @@ first-good opened link before (marks.Fed l s bytes) h = by (eqb l link && same_s
     by false fs = tt
 first-good opened link before (marks.Wrote l s bytes) h = by (eqb l link && same_side s Responder)
   where
-    by : (b : Bool) → FirstGood ServerPlain (server opened link before) (if_own b (QueueWritten ∷ []))
+    by : (b : Bool) → FirstGood ServerPlain (server opened link before) (if_own b (QueueWritten (length bytes) ∷ []))
     by true = tt
     by false = tt
 first-good opened link before (marks.Revoke l xid bytes) h = by (eqb l link && false)

@@ -20,7 +20,7 @@ use Rattle.nr_reduce.specs.ServerMessages.{Verdict, CallVerdict, verdict, by_pay
 use Rattle.nr_reduce.specs.ServerMessages.Verdict.{EndsLink, OtherVersion, BadChunks, MakesPending}
 use Rattle.nr_reduce.specs.ServerMessages.CallVerdict.{Refuses, IsReady}
 use Rattle.nr_reduce.specs.ServerFrames.{FrameEffect, no_effect, with_verdict, ready_if_whole, message_effect, with_refused_call, read_effect, call_of_number, response_effect, by_message, with_access, effect_in, frame_effect}
-use Rattle.nr_reduce.specs.Server.{server_rules, server_state_after, initial_server, with_effect}
+use Rattle.nr_reduce.specs.Server.{server_rules, server_state_after, initial_server, with_effect, with_own_hello}
 use Rattle.nr_reduce.specs.Run.{server}
 use Rattle.std.specs.Prelude.{slice_index_or}
 use Rattle.nr_regions.specs.declared.right.Right.TheVariants as rights
@@ -98,13 +98,13 @@ server-after : (opened : LinkParameters) (k : ServerState) (event : Event) → A
 unfolding server_state_after
 server-after opened k (FrameReceived f) h = by (is_hello f)
   where
-    by : (b : Bool) → AreSinks (cond b k (with_effect k f (frame_effect k f))).regions
+    by : (b : Bool) → AreSinks (cond b (with_own_hello k) (with_effect k f (frame_effect k f))).regions
     by true = h
     by false = sinks-closed (is_over (frame_effect k f).calls (frame_effect k f).reads) f.end (frame_effect k f).regions (effect-frame k f h)
 server-after opened k (CallSubmitted place a) h = h
 server-after opened k (MemoryRevoked place xid) h = h
 server-after opened k (CallExecuted e) h = h
-server-after opened k QueueWritten h = h
+server-after opened k (QueueWritten taken) h = h
 
 sinks : (opened : LinkParameters) (es : List Event) → AreSinks (end_state_after (server_rules opened) (initial_server opened) es).state.regions
 sinks opened es = kept-after (server_rules opened) (λ (k : ServerState). AreSinks k.regions) (server-after opened) (initial_server opened) es tt

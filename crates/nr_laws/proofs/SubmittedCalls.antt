@@ -13,7 +13,7 @@ use Rattle.nr_reduce.specs.Events.{Event}
 use Rattle.nr_reduce.specs.Events.Event.{FrameReceived, CallSubmitted, MemoryRevoked, CallExecuted, QueueWritten}
 use Rattle.nr_reduce.specs.EndRules.{EndState, next_end_state, next_end_state_by, next_end_state_in}
 use Rattle.nr_reduce.specs.ClientState.{ClientState, OutstandingCall}
-use Rattle.nr_reduce.specs.Client.{client_rules, client_end, client_state_after, initial_client, outstanding_of, with_segment, with_message, with_request, revoked_call, written_call}
+use Rattle.nr_reduce.specs.Client.{client_rules, client_end, client_state_after, initial_client, outstanding_of, with_segment, with_message, with_request, revoked_call, with_hello, due_with_response}
 use Rattle.nr_reduce.proofs.Steps.{end_state_after-append}
 use Rattle.nr_laws.proofs.Outcomes.{client_by}
 use Rattle.nr_laws.specs.PlacedBytes.{IsSubmittedCall}
@@ -61,13 +61,13 @@ each-message : (P : OutstandingCall → Type 0) (k : ClientState) (place : ℕ) 
 each-message P k place None h = h
 each-message P k place (Some m) h = each-filter P (λ o. not (eqb o.xid (word_at 0 m))) k.outstanding h
 
-each-request : (P : OutstandingCall → Type 0) (k : ClientState) (q : Option ReadRequest) → Each P k.outstanding → Each P (with_request k q).outstanding
-each-request P k None h = h
-each-request P k (Some q) h = h
+each-request : (P : OutstandingCall → Type 0) (k : ClientState) (due : ℕ) (q : Option ReadRequest) → Each P k.outstanding → Each P (with_request k due q).outstanding
+each-request P k due None h = h
+each-request P k due (Some q) h = h
 
 each-segment : (P : OutstandingCall → Type 0) (k : ClientState) (f : Frame) (r : Result Segment ℕ) → Each P k.outstanding → Each P (with_segment k f r).outstanding
 each-segment P k f (Err reason) h = h
-each-segment P k f (Ok s) h = each-request P (with_message k f.end (message_completed k.received s)) (read_request_of s) (each-message P k f.end (message_completed k.received s) h)
+each-segment P k f (Ok s) h = each-request P (with_message k f.end (message_completed k.received s)) (due_with_response k f s) (read_request_of s) (each-message P k f.end (message_completed k.received s) h)
 
 one-event : (opened : LinkParameters) (es : List Event) (e : Event) → Each (IsSubmittedCall opened es) (client_by opened es).state.outstanding
     → Each (IsSubmittedCall opened (es ++ e ∷ [])) (next_end_state (client_rules opened) (client_by opened es) e).state.outstanding
@@ -90,13 +90,10 @@ one-event opened es e h = by_ended (client_by opened es).ended
         by true = record { earlier = p.earlier; later = p.later; place = p.place; call = p.call; is_submitted = p.is_submitted; own = p.own }
         by false = p
 
-    written : (b : Bool) (o : OutstandingCall) → P o → P (written_call b o)
-    written b o p = record { earlier = p.earlier; later = p.later; place = p.place; call = p.call; is_submitted = p.is_submitted; own = p.own }
-
     by_event : (x : Event) → e ≡ x → Each P (client_state_after opened k x).outstanding
     by_event (FrameReceived f) is = by_hello (is_hello f)
       where
-        by_hello : (b : Bool) → Each P (cond b (record k { has_hello = true }) (with_segment k f (frame_segment f))).outstanding
+        by_hello : (b : Bool) → Each P (cond b (with_hello opened k) (with_segment k f (frame_segment f))).outstanding
         by_hello true = same
         by_hello false = each-segment P k f (frame_segment f) same
     by_event (CallSubmitted place a) is =
@@ -104,7 +101,7 @@ one-event opened es e h = by_ended (client_by opened es).ended
         (record { earlier = es; later = []; place = place; call = a; is_submitted = ap (λ (x : Event). es ++ x ∷ []) is; own = refl }, tt)
     by_event (MemoryRevoked place xid) is = each-map P (revoked_call xid) (revoked xid) k.outstanding same
     by_event (CallExecuted call) is = same
-    by_event QueueWritten is = each-map P (written_call k.has_hello) (written k.has_hello) k.outstanding same
+    by_event (QueueWritten taken) is = same
 
     by_why : (o : Option Stop) → Each P (next_end_state_by (client_rules opened) k e o).state.outstanding
     by_why None = by_event e refl

@@ -12,7 +12,7 @@ use Rattle.nr_reduce.specs.History.{AcceptedCall}
 use Rattle.nr_reduce.specs.Matched.{IsPrefixOf}
 use Rattle.nr_reduce.specs.Events.{Event, events}
 use Rattle.nr_reduce.specs.Plans.{TooLarge, Buffer, buffers, regions_needed}
-use Rattle.nr_reduce.specs.ClientState.{ClientState, OutstandingCall, plan_for}
+use Rattle.nr_reduce.specs.ClientState.{ClientState, OutstandingCall, plan_for, is_sent}
 use Rattle.nr_reduce.specs.ClientMessages.{answered_call}
 use Rattle.nr_reduce.specs.Client.{client_rules, initial_client, outstanding_of}
 use Rattle.nr_reduce.specs.Run.{client}
@@ -67,7 +67,7 @@ answered-submit opened link run typed asked_so es more is xid o found =
     let goes : GoesOn (client_rules opened) (ClientGood opened) 0 (initial_client opened) es =
     goes-first (client_rules opened) (ClientGood opened) 0 (initial_client opened) es more (subst (λ (xs : List Event). GoesOn (client_rules opened) (ClientGood opened) 0 (initial_client opened) xs) is g.goes) in
     let k = keeps-along opened es goes in
-    let a = asked-found opened es (λ (x : OutstandingCall). eqb x.xid xid && x.is_written) (client_by opened es).state.outstanding o k.keeps.owns found in
+    let a = asked-found opened es (λ (x : OutstandingCall). eqb x.xid xid && is_sent (client_by opened es).state x) (client_by opened es).state.outstanding o k.keeps.owns found in
     let later = asked-append opened es more in
     let whole : asked opened (events link Initiator run) ≡ a.front ++ a.own ∷ (a.back ++ later.0) =
     ap (λ (xs : List Event). asked opened xs) is ∙ later.1 ∙ ap (λ (os : List OutstandingCall). os ++ later.0) a.is ∙ append_assoc a.front (a.own ∷ a.back) later.0 in

@@ -31,7 +31,7 @@ use Rattle.nr_reduce.specs.Events.Event.{FrameReceived, CallSubmitted, MemoryRev
 use Rattle.nr_reduce.specs.EndRules.{EndState, end_state_after, next_end_state_in}
 use Rattle.nr_reduce.specs.OfferedRegions.{Region, closed_if, regions_closed}
 use Rattle.nr_reduce.specs.ClientState.{ClientState, call_payload, plan_for}
-use Rattle.nr_reduce.specs.Client.{client_rules, client_end, client_state_after, outstanding_of, plan_or, region_of, with_segment}
+use Rattle.nr_reduce.specs.Client.{client_rules, client_end, client_state_after, outstanding_of, plan_or, region_of, with_segment, with_hello}
 use Rattle.nr_reduce.specs.Matched.{IsPrefixOf}
 use Rattle.nr_reduce.specs.Asked.{AskedMark, AskedSoFar, IsAccepted}
 use Rattle.nr_reduce.specs.Run.{client, grants_of, placed_bytes}
@@ -74,13 +74,13 @@ offers-event : (opened : LinkParameters) (stag : ℕ) (bytes : List ℕ) (k : Cl
 unfolding client_state_after
 offers-event opened stag bytes k (FrameReceived f) h = by (is_hello f)
   where
-    by : (b : Bool) → Offers stag bytes (cond b (record k { has_hello = true }) (with_segment k f (frame_segment f))).regions
+    by : (b : Bool) → Offers stag bytes (cond b (with_hello opened k) (with_segment k f (frame_segment f))).regions
     by true = h
     by false = frame-regions (λ (rs : List Region). Offers stag bytes rs) k f (λ test. offers-closed test f.end stag bytes k.regions) h (frame_segment f)
 offers-event opened stag bytes k (CallSubmitted p a) h = offers-left stag bytes k.regions (map (region_of a.xid p) (buffers k.stag (outstanding_of k a).plan)) h
 offers-event opened stag bytes k (MemoryRevoked p xid) h = offers-closed (λ r. eqb r.call xid) p stag bytes k.regions h
 offers-event opened stag bytes k (CallExecuted e) h = h
-offers-event opened stag bytes k QueueWritten h = h
+offers-event opened stag bytes k (QueueWritten taken) h = h
 
 offers-from : (opened : LinkParameters) (link stag : ℕ) (bytes : List ℕ) (before run : List Mark) → Offers stag bytes (client opened link before).state.regions → Offers stag bytes (client opened link (before ++ run)).state.regions
 offers-from opened link stag bytes before [] h = subst (λ (b : List Mark). Offers stag bytes (client opened link b).state.regions) (sym (append-nil before)) h

@@ -16,7 +16,7 @@ use Rattle.nr_reduce.specs.ServerReads.{read_of, reads_of, reads_from, regions_o
 use Rattle.nr_reduce.specs.ServerMessages.{Verdict, verdict}
 use Rattle.nr_reduce.specs.ServerMessages.Verdict.{MakesPending}
 use Rattle.nr_reduce.specs.ServerFrames.{FrameEffect, with_refused_call, frame_effect}
-use Rattle.nr_reduce.specs.Server.{server_rules, server_state_after, initial_server, with_effect, received_by}
+use Rattle.nr_reduce.specs.Server.{server_rules, server_state_after, initial_server, with_effect, received_by, with_own_hello}
 use Rattle.nr_reduce.specs.RunLaws.{server_by}
 use Rattle.nr_reduce.proofs.Conveyed.{Each}
 use Rattle.nr_reduce.proofs.Once.{NumberIs, verdict-number, whole-with, rises-with}
@@ -173,13 +173,13 @@ suited-after : (opened : LinkParameters) (k : ServerState) (event : Event) → S
 unfolding server_state_after
 suited-after opened k (FrameReceived f) h = by (is_hello f)
   where
-    by : (b : Bool) → StateSuits (cond b k (with_effect k f (frame_effect k f)))
+    by : (b : Bool) → StateSuits (cond b (with_own_hello k) (with_effect k f (frame_effect k f)))
     by true = h
     by false = suited-effect k f h
 suited-after opened k (CallSubmitted place a) h = h
 suited-after opened k (MemoryRevoked place xid) h = h
 suited-after opened k (CallExecuted e) h = record { calls_suit = suited-kept k.received.sends k.reads (λ c. not (eqb c.xid e.xid)) k.calls h.calls_suit; reads_below = h.reads_below }
-suited-after opened k QueueWritten h = h
+suited-after opened k (QueueWritten taken) h = h
 
 -- whatever the client sends
 pub calls-suit : (opened : LinkParameters) (es : List Event) → AreSuited (server_by opened es).received.sends (server_by opened es).calls (server_by opened es).reads

@@ -1,7 +1,6 @@
 -- Totals agree behind each event of the client.
 use Rattle.std.proofs.Common.{◌≡◌, ℕ, zero, suc, ◌+◌, ◌-◌, ◌*◌, Bool, true, false, cond, ◌&&◌, eqb, List, [], ◌∷◌, ◌++◌, length, map, take, drop, Option, None, Some, Result, Ok, Err, refl, sym, ap, subst, ◌∙◌, arith, eq-eqb, ne_eqb, length-append}
 use Rattle.std.specs.List.{list_any, range_with_len}
-use Rattle.std.proofs.lemmas.List.{length-map}
 use Rattle.nr_wire.specs.Constants.{OPCODE_READ_REQUEST, OPCODE_READ_RESPONSE, OPCODE_SEND, QUEUE_SEND, QUEUE_READ_REQUEST}
 use Rattle.nr_xdr.specs.Item.{word, hyper}
 use Rattle.nr_wire.specs.Segment.{Segment}
@@ -22,9 +21,9 @@ use Rattle.nr_link.specs.ReceiveState.{read_request_in, begun_bytes}
 use Rattle.nr_link.specs.Ending.{frame_segment, frame_end, hello_end}
 use Rattle.nr_reduce.specs.OfferedRegions.{region_grants}
 use Rattle.nr_reduce.specs.Events.Event.{FrameReceived, CallSubmitted, QueueWritten}
-use Rattle.nr_reduce.specs.ClientState.{ClientState, OutstandingCall, memory_at, initial_state as client_initial_state}
+use Rattle.nr_reduce.specs.ClientState.{ClientState, OutstandingCall, is_sent, memory_at, initial_state as client_initial_state}
 use Rattle.nr_reduce.specs.ClientMessages.{verdict, by_header, by_call, answered_call}
-use Rattle.nr_reduce.specs.Client.{end_of_verdict, message_end, or_message_end, segment_message, readiness, client_end, client_state_after, with_segment, outstanding_of, written_call, segment_request}
+use Rattle.nr_reduce.specs.Client.{end_of_verdict, message_end, or_message_end, segment_message, readiness, client_end, client_state_after, with_segment, outstanding_of, segment_request, with_hello, call_output, call_ends, submitted_ends, response_output}
 use Rattle.nr_reduce.specs.ServerState.{ServerState, initial_state as server_initial_state}
 use Rattle.nr_laws.proofs.FrameContents.{FrameContent, Carries, total_of, sends_in, requests_in, responses_in, hellos_in, one_if_response, tagged_frame, tagged_frames, response_frames, call_frame, client_frames}
 use Rattle.nr_laws.proofs.FrameContents.FrameContent.{HelloFrame, SendFrame, RequestFrame, TaggedFrame}
@@ -32,6 +31,10 @@ use Rattle.nr_laws.proofs.LinkInvariants.{Transit, TotalsAgree, AreDistinct, cal
 use Rattle.nr_laws.proofs.Totals.{total-append, total-map-zero, total-map-one, length-fewer, any_found, any_first}
 use Rattle.nr_laws.proofs.TotalsAtServer.{segment-is}
 use Rattle.nr_laws.proofs.HeaderXid.{header-xid}
+use Rattle.nr_reduce.specs.Plans.{call_message}
+use Rattle.nr_reduce.specs.Written.{ends_waiting}
+use Rattle.nr_reduce.proofs.WholeWrotes.{ClientEnds, none-waiting}
+use Rattle.nr_laws.proofs.EndsWaiting.{waiting-append, all-waiting, one-waiting, calls-above, calls-length, send-some, output-some}
 use Rattle.nr_reduce.proofs.Waiting.{or-message}
 
 -- ---- A message that the client takes is under the xid of a call that is out
@@ -42,7 +45,7 @@ has_xid xid o = eqb o.xid xid
 out-found : (k : ClientState) (f : Frame) (message : List ℕ) (h : Header) (o : Option OutstandingCall) → answered_call k h.xid ≡ o → end_of_verdict f (by_call k f.end message h.body o) ≡ None → list_any (has_xid h.xid) k.outstanding ≡ true
 out-found k f message h None is e = absurd cc
 out-found k f message h (Some o) is e =
-    any_first (has_xid h.xid) (λ (x : OutstandingCall). x.is_written) k.outstanding (any_found (λ (x : OutstandingCall). eqb x.xid h.xid && x.is_written) k.outstanding o is)
+    any_first (has_xid h.xid) (λ (x : OutstandingCall). is_sent k x) k.outstanding (any_found (λ (x : OutstandingCall). eqb x.xid h.xid && is_sent k x) k.outstanding o is)
 
 out-header : (k : ClientState) (f : Frame) (message : List ℕ) (r : Result Header HeaderFault) → header_of message ≡ r → end_of_verdict f (by_header k f.end message r) ≡ None → list_any (has_xid (word_at 0 message)) k.outstanding ≡ true
 out-header k f message (Ok h) is e =
@@ -66,7 +69,7 @@ taken k f behind e =
 
 pub after-is : (opened : LinkParameters) (k : ClientState) (f : Frame) (r : Result Segment ℕ) → is_hello f ≡ false → frame_segment f ≡ r → client_state_after opened k (FrameReceived f) ≡ with_segment k f r
 unfolding client_state_after
-after-is opened k f r behind is = λ i. cond (behind i) (record k { has_hello = true }) (with_segment k f (is i))
+after-is opened k f r behind is = λ i. cond (behind i) (with_hello opened k) (with_segment k f (is i))
 
 pub says-is : (opened : LinkParameters) (k : ClientState) (f : Frame) (r : Result Segment ℕ) → is_hello f ≡ false → frame_segment f ≡ r → client_frames opened k (FrameReceived f) ≡ response_frames k f.end (segment_request r)
 unfolding client_frames
@@ -89,7 +92,11 @@ totals-send_down opened k s w f message rest c first p stays apart =
       hello = omega (arith, c.hello, ap (total_of hellos_in) first, total-append hellos_in w.queued_up []);
       calls_up = omega (arith, c.calls_up, total-append sends_in w.queued_up []);
       messages_down = omega (arith, c.messages_down, ap (total_of sends_in) first);
-      written = omega (arith, c.written, ap (total_of sends_in) first);
+      sends = omega (arith, c.sends, total-append sends_in w.queued_up []);
+      messages = c.messages;
+      all_sends = c.all_sends;
+      within_up = c.within_up;
+      within_down = c.within_down;
       out = omega (arith, c.out, fewer);
       waiting = c.waiting;
       whole_up = c.whole_up;
@@ -138,17 +145,22 @@ totals-read_down opened k s w f sink at size stag to rest c first p =
     let bytes = take r.size (drop r.to (memory_at k f.end r.stag)) in
     let said = tagged_frames OPCODE_READ_RESPONSE r.sink r.sink_to bytes in
     let one = responses-one r.sink r.sink_to bytes in
+    let end : ℕ = k.due + length (response_output k f.end (Some r)) in
     let m : TotalsAgree (with_segment k f (Ok segment)) s (down_one w said rest) = record {
       hello = omega (arith, c.hello, ap (total_of hellos_in) first, total-append hellos_in w.queued_up said, tagged-none hellos_in OPCODE_READ_RESPONSE r.sink r.sink_to bytes (λ last a b. refl));
       calls_up = omega (arith, c.calls_up, total-append sends_in w.queued_up said, tagged-none sends_in OPCODE_READ_RESPONSE r.sink r.sink_to bytes (λ last a b. refl));
       messages_down = omega (arith, c.messages_down, ap (total_of sends_in) first);
-      written = omega (arith, c.written, ap (total_of sends_in) first);
+      sends = omega (arith, c.sends, total-append sends_in w.queued_up said, tagged-none sends_in OPCODE_READ_RESPONSE r.sink r.sink_to bytes (λ last a b. refl));
+      messages = c.messages;
+      all_sends = c.all_sends;
+      within_up = omega (arith, c.within_up);
+      within_down = c.within_down;
       out = c.out;
       waiting = c.waiting;
       whole_up = c.whole_up;
       whole_down = c.whole_down;
       reads = omega (arith, c.reads, ap (total_of requests_in) first, total-append responses_in w.queued_up said, one);
-      responses = omega (arith, c.responses, total-append responses_in w.queued_up said, one);
+      responses = omega (arith, c.responses, total-append responses_in w.queued_up said, one, waiting-append k.written k.response_ends (end ∷ []), one-waiting k.written end (omega (arith, c.within_up, output-some k f.end r)));
     } in
     subst (λ (x : List FrameContent). TotalsAgree (client_state_after opened k (FrameReceived f)) s (down_one w x rest)) (sym (says-is opened k f (Ok segment) p.behind is))
     (subst (λ (t : ClientState). TotalsAgree t s (down_one w said rest)) (sym (after-is opened k f (Ok segment) p.behind is)) m)
@@ -165,7 +177,11 @@ totals-tagged_down opened k s w f last opcode stag to payload rest c first p =
       hello = omega (arith, c.hello, ap (total_of hellos_in) first, total-append hellos_in w.queued_up []);
       calls_up = omega (arith, c.calls_up, total-append sends_in w.queued_up []);
       messages_down = omega (arith, c.messages_down, ap (total_of sends_in) first);
-      written = omega (arith, c.written, ap (total_of sends_in) first);
+      sends = omega (arith, c.sends, total-append sends_in w.queued_up []);
+      messages = c.messages;
+      all_sends = c.all_sends;
+      within_up = c.within_up;
+      within_down = c.within_down;
       out = c.out;
       waiting = c.waiting;
       whole_up = c.whole_up;
@@ -190,11 +206,17 @@ totals-hello_down opened k s w f rest c first is =
     let hello : hello_bit k.has_hello ≡ 0 = omega (arith, c.hello, ap (total_of hellos_in) first) in
     let before : calls_sent k ≡ 0 = ap (λ (b : Bool). cond b k.calls_accepted 0) (bit_of k.has_hello hello) in
     let sends : total_of sends_in said ≡ length k.outstanding = total-map-one sends_in (call_frame opened) k.outstanding (λ o. refl) in
-    let m : TotalsAgree (record k { has_hello = true }) s (down_one w said rest) = record {
+    let none_queued : total_of sends_in w.queued_up ≡ 0 = omega (arith, c.calls_up, before) in
+    let all : length (call_ends opened k.due 1 k.outstanding) ≡ length k.outstanding = calls-length opened k.due 1 k.outstanding in
+    let m : TotalsAgree (with_hello opened k) s (down_one w said rest) = record {
       hello = omega (arith, c.hello, hello, ap (total_of hellos_in) first, total-append hellos_in w.queued_up said, total-map-zero hellos_in (call_frame opened) k.outstanding (λ o. refl));
       calls_up = omega (arith, c.calls_up, before, c.messages_down, c.waiting, c.out, sends, total-append sends_in w.queued_up said);
       messages_down = omega (arith, c.messages_down, ap (total_of sends_in) first);
-      written = omega (arith, c.written, ap (total_of sends_in) first);
+      sends = omega (arith, none_queued, all, sends, total-append sends_in w.queued_up said, c.sends, waiting-append k.written k.send_ends (call_ends opened k.due 1 k.outstanding), all-waiting k.written (call_ends opened k.due 1 k.outstanding) (calls-above opened k.written k.due 1 k.outstanding c.within_up));
+      messages = c.messages;
+      all_sends = omega (arith, all, c.all_sends, length-append k.send_ends (call_ends opened k.due 1 k.outstanding), c.out, c.messages_down, c.waiting, c.calls_up, before);
+      within_up = omega (arith, c.within_up);
+      within_down = c.within_down;
       out = c.out;
       waiting = c.waiting;
       whole_up = c.whole_up;
@@ -202,7 +224,7 @@ totals-hello_down opened k s w f rest c first is =
       reads = omega (arith, c.reads, ap (total_of requests_in) first, total-append responses_in w.queued_up said, total-map-zero responses_in (call_frame opened) k.outstanding (λ o. refl));
       responses = omega (arith, c.responses, total-append responses_in w.queued_up said, total-map-zero responses_in (call_frame opened) k.outstanding (λ o. refl));
     } in
-    subst (λ (b : Bool). TotalsAgree (cond b (record k { has_hello = true }) (with_segment k f (frame_segment f))) s (down_one w (cond b said (response_frames k f.end (segment_request (frame_segment f)))) rest)) (sym is) m
+    subst (λ (b : Bool). TotalsAgree (cond b (with_hello opened k) (with_segment k f (frame_segment f))) s (down_one w (cond b said (response_frames k f.end (segment_request (frame_segment f)))) rest)) (sym is) m
 
 -- ---- The client accepts a call, and writes
 
@@ -231,7 +253,11 @@ totals-accepts opened k s w place a c =
       hello = omega (arith, c.hello, total-append hellos_in w.queued_up said, says_no hellos_in k.has_hello p refl);
       calls_up = omega (arith, c.calls_up, said_more k.has_hello k.calls_accepted, total-append sends_in w.queued_up said, says_call k.has_hello p _ refl);
       messages_down = c.messages_down;
-      written = c.written;
+      sends = omega (arith, c.sends, total-append sends_in w.queued_up said, says_call k.has_hello p _ refl, waiting-append k.written k.send_ends (submitted_ends opened k a), submitted-waits k.has_hello);
+      messages = c.messages;
+      all_sends = omega (arith, c.all_sends, said_more k.has_hello k.calls_accepted, length-append k.send_ends (submitted_ends opened k a), submitted-length k.has_hello);
+      within_up = omega (arith, c.within_up);
+      within_down = c.within_down;
       out = omega (arith, c.out, length-append k.outstanding (outstanding_of k a ∷ []));
       waiting = c.waiting;
       whole_up = c.whole_up;
@@ -239,21 +265,36 @@ totals-accepts opened k s w place a c =
       reads = omega (arith, c.reads, total-append responses_in w.queued_up said, says_no responses_in k.has_hello p refl);
       responses = omega (arith, c.responses, total-append responses_in w.queued_up said, says_no responses_in k.has_hello p refl);
     }
+  where
+    one : List ℕ
+    one = call_output opened (k.calls_accepted + 1) (outstanding_of k a)
 
-pub totals-writes_up : (opened : LinkParameters) (k : ClientState) (s : ServerState) (w : Transit) → TotalsAgree k s w
-    → TotalsAgree (client_state_after opened k QueueWritten) s (record { queued_up = []; up = w.up ++ w.queued_up; queued_down = w.queued_down; down = w.down })
+    submitted-waits : (b : Bool) → ends_waiting k.written (cond b ((k.due + length (cond b one [])) ∷ []) []) ≡ hello_bit b
+    submitted-waits true = one-waiting k.written (k.due + length one) (omega (arith, c.within_up, send-some (k.calls_accepted + 1) (call_message a.xid opened.wished k.stag (outstanding_of k a).plan)))
+    submitted-waits false = refl
+
+    submitted-length : (b : Bool) → length (cond b ((k.due + length (cond b one [])) ∷ []) []) ≡ hello_bit b
+    submitted-length true = refl
+    submitted-length false = refl
+
+pub totals-writes_up : (opened : LinkParameters) (k : ClientState) (s : ServerState) (w : Transit) (taken : ℕ) → k.written + taken ≡ k.due → ClientEnds k → TotalsAgree k s w
+    → TotalsAgree (client_state_after opened k (QueueWritten taken)) s (record { queued_up = []; up = w.up ++ w.queued_up; queued_down = w.queued_down; down = w.down })
 unfolding client_state_after
-totals-writes_up opened k s w c = record {
+totals-writes_up opened k s w taken all ends c = record {
   hello = omega (arith, c.hello, total-append hellos_in w.up w.queued_up);
   calls_up = omega (arith, c.calls_up, total-append sends_in w.up w.queued_up);
   messages_down = c.messages_down;
-  written = c.written;
-  out = omega (arith, c.out, length-map k.outstanding (written_call k.has_hello));
+  sends = ap (λ (n : ℕ). ends_waiting n k.send_ends) all ∙ none-waiting k.due k.send_ends ends.sends;
+  messages = c.messages;
+  all_sends = c.all_sends;
+  within_up = omega (arith, all);
+  within_down = c.within_down;
+  out = c.out;
   waiting = c.waiting;
   whole_up = c.whole_up;
   whole_down = c.whole_down;
   reads = omega (arith, c.reads, total-append responses_in w.up w.queued_up);
-  responses = refl;
+  responses = ap (λ (n : ℕ). ends_waiting n k.response_ends) all ∙ none-waiting k.due k.response_ends ends.responses;
 }
 
 -- ---- At the beginning
@@ -263,7 +304,11 @@ totals-first opened = record {
   hello = refl;
   calls_up = refl;
   messages_down = refl;
-  written = refl;
+  sends = refl;
+  messages = refl;
+  all_sends = refl;
+  within_up = omega arith;
+  within_down = omega arith;
   out = refl;
   waiting = refl;
   whole_up = refl;

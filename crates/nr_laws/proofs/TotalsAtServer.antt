@@ -18,7 +18,7 @@ use Rattle.nr_reduce.specs.ServerState.{ServerState, PendingCall, PendingRead, d
 use Rattle.nr_reduce.specs.ServerFrames.{FrameEffect, frame_effect, effect_in, message_effect, no_effect, ready_if_whole, with_verdict, with_refused_call, read_effect, response_effect, call_of_number, is_stream_read, with_access}
 use Rattle.nr_reduce.specs.ServerMessages.{Verdict, CallVerdict, verdict, by_payload, payload_of, chunk_bytes}
 use Rattle.nr_reduce.specs.ServerReads.{open_reads, reads_of, regions_of, is_over}
-use Rattle.nr_reduce.specs.Server.{with_effect, newly_open_reads, server_state_after, offer_of, answer_of_target, received_by, response_bytes_after, tagged_accesses}
+use Rattle.nr_reduce.specs.Server.{with_own_hello, effect_output, send_ends_from, execution_output, with_effect, newly_open_reads, server_state_after, offer_of, answer_of_target, received_by, response_bytes_after, tagged_accesses}
 use Rattle.nr_reduce.specs.ServerMessages.Verdict.{EndsLink, OtherVersion, BadChunks, MakesPending}
 use Rattle.nr_reduce.specs.ServerMessages.CallVerdict.{Refuses, IsReady}
 use Rattle.nr_reduce.specs.OfferedRegions.{regions_closed}
@@ -33,6 +33,9 @@ use Rattle.nr_laws.proofs.FrameContents.FrameContent.{HelloFrame, SendFrame, Tag
 use Rattle.nr_laws.proofs.LinkInvariants.{Transit, TotalsAgree, AreDistinct}
 use Rattle.nr_laws.proofs.Totals.{total-append, total-map-zero, total-map-one, others, length-fewer, any_found, length-newly}
 use Rattle.nr_laws.proofs.EachEffect.{whole-rule}
+use Rattle.nr_laws.proofs.EndsWaiting.{waiting-append, all-waiting, one-waiting, sends-above, sends-length, execution-some}
+use Rattle.nr_reduce.specs.Written.{ends_waiting}
+use Rattle.nr_reduce.proofs.WholeWrotes.{ServerEnds, none-waiting}
 
 -- ---- What a step counts: the calls and error messages of so many Sends more, and how many reads stay open
 
@@ -131,7 +134,8 @@ record FrameTotals (s t : ServerState) (st : FrameEffect) (up rest : List FrameC
   sends : t.received.sends ≡ s.received.sends + new
   begun : t.received.begun ≡ None
   answers : t.messages_queued ≡ s.messages_queued + length st.errors
-  written : t.messages_written ≡ s.messages_written
+  messages : ends_waiting t.written t.message_ends ≡ ends_waiting s.written s.message_ends + length st.errors
+  within : t.written ≤ t.due
   calls : length t.calls ≡ length st.calls
   opened : length (open_reads t) ≡ length (take open_reads_max st.reads)
   up_sends : total_of sends_in up ≡ new + total_of sends_in rest
@@ -151,7 +155,11 @@ totals-moved opened k s t w st rest new kept gone c m =
       hello = omega (arith, c.hello, m.up_hello, hello-said st, total-append hellos_in w.queued_down (effect_frames st));
       calls_up = omega (arith, c.calls_up, m.sends, m.up_sends);
       messages_down = omega (arith, c.messages_down, m.answers, sends, sends_all);
-      written = omega (arith, c.written, m.written);
+      sends = c.sends;
+      messages = omega (arith, c.messages, m.messages, sends, sends_all);
+      all_sends = c.all_sends;
+      within_up = c.within_up;
+      within_down = m.within;
       out = c.out;
       waiting = omega (arith, c.waiting, m.answers, m.calls, m.sends, m.shape.counted);
       whole_up = m.begun;
@@ -159,6 +167,14 @@ totals-moved opened k s t w st rest new kept gone c m =
       reads = omega (arith, c.reads, m.opened, newly, m.shape.kept_is, m.kept_gone, m.up_responses, reads, reads_all);
       responses = c.responses;
     }
+
+-- the errors of a frame end above what is written
+errors-wait : (s : ServerState) (errors : List (List ℕ)) → s.written ≤ s.due
+    → ends_waiting s.written (s.message_ends ++ send_ends_from s.due (s.messages_queued + 1) errors) ≡ ends_waiting s.written s.message_ends + length errors
+errors-wait s errors le =
+    let news = send_ends_from s.due (s.messages_queued + 1) errors in
+    waiting-append s.written s.message_ends news
+    ∙ ap (λ (n : ℕ). ends_waiting s.written s.message_ends + n) (all-waiting s.written news (sends-above s.written s.due (s.messages_queued + 1) errors le) ∙ sends-length s.due (s.messages_queued + 1) errors)
 
 -- the state behind a frame, by the segment that the frame holds
 abbrev pub with_by : ServerState → Frame → Result Segment ℕ → FrameEffect → ServerState
@@ -171,14 +187,16 @@ with_by k f r st = record {
   regions = regions_closed (is_over st.calls st.reads) f.end st.regions;
   accesses_received = k.accesses_received ++ tagged_accesses f r;
   messages_queued = k.messages_queued + length st.errors;
-  messages_written = k.messages_written;
+  due = k.due + length (effect_output k st);
+  written = k.written;
+  message_ends = k.message_ends ++ send_ends_from k.due (k.messages_queued + 1) st.errors;
   ready = k.ready ++ st.ready;
   credit = k.credit;
 }
 
 pub after-is : (opened : LinkParameters) (s : ServerState) (f : Frame) (r : Result Segment ℕ) → is_hello f ≡ false → frame_segment f ≡ r → server_state_after opened s (FrameReceived f) ≡ with_by s f r (effect_in s f r)
 unfolding server_state_after frame_effect
-after-is opened s f r behind is = λ i. cond (behind i) s (with_by s f (is i) (effect_in s f (is i)))
+after-is opened s f r behind is = λ i. cond (behind i) (with_own_hello s) (with_by s f (is i) (effect_in s f (is i)))
 
 pub step-is : (s : ServerState) (f : Frame) (r : Result Segment ℕ) → frame_segment f ≡ r → frame_effect s f ≡ effect_in s f r
 unfolding frame_effect
@@ -205,7 +223,8 @@ totals-send_up opened k s w f message rest c first p goes_on =
       sends = refl;
       begun = refl;
       answers = refl;
-      written = refl;
+      messages = errors-wait s st.errors c.within_down;
+      within = omega (arith, c.within_down);
       calls = refl;
       opened = refl;
       up_sends = ap (total_of sends_in) first;
@@ -237,9 +256,9 @@ tagged_moves s f last opcode stag to payload up rest ends =
     up rest 0 kept gone
 
 moves-tagged : (s : ServerState) (f : Frame) (last : Bool) (opcode stag to : ℕ) (payload : List ℕ) (up rest : List FrameContent) (ends : Bool) → (opcode_ends : (eqb opcode OPCODE_READ_RESPONSE && last) ≡ ends)
-    → up ≡ TaggedFrame last opcode stag to payload ∷ rest → s.received.begun ≡ None → total_of responses_in up ≤ length (open_reads s) → AreDistinct (λ (c : PendingCall). c.number) s.calls
+    → up ≡ TaggedFrame last opcode stag to payload ∷ rest → s.received.begun ≡ None → total_of responses_in up ≤ length (open_reads s) → AreDistinct (λ (c : PendingCall). c.number) s.calls → s.written ≤ s.due
     → tagged_moves s f last opcode stag to payload up rest ends
-moves-tagged s f last opcode stag to payload up rest true is first begun few apart =
+moves-tagged s f last opcode stag to payload up rest true is first begun few apart within =
     let one : total_of responses_in up ≡ 1 + total_of responses_in rest = ap (total_of responses_in) first ∙ ap (λ (b : Bool). one_if_response b + total_of responses_in rest) is in
     let some : 0 < length (take open_reads_max s.reads) = omega (arith, one, few) in (
       length (open_reads s) - 1,
@@ -250,7 +269,8 @@ moves-tagged s f last opcode stag to payload up rest true is first begun few apa
         sends = omega arith;
         begun = begun;
         answers = refl;
-        written = refl;
+        messages = errors-wait s (response_effect (with_access s f (Tagged last opcode stag to payload)) f.end s.reads).errors within;
+        within = omega (arith, within);
         calls = refl;
         opened = refl;
         up_sends = ap (total_of sends_in) first;
@@ -258,7 +278,7 @@ moves-tagged s f last opcode stag to payload up rest true is first begun few apa
         up_hello = omega (arith, ap (total_of hellos_in) first);
       },
     )
-moves-tagged s f last opcode stag to payload up rest false is first begun few apart = (
+moves-tagged s f last opcode stag to payload up rest false is first begun few apart within = (
   length (open_reads s),
   0,
   record {
@@ -267,7 +287,8 @@ moves-tagged s f last opcode stag to payload up rest false is first begun few ap
     sends = omega arith;
     begun = begun;
     answers = omega arith;
-    written = refl;
+    messages = errors-wait s [] within;
+    within = omega (arith, within);
     calls = refl;
     opened = refl;
     up_sends = ap (total_of sends_in) first;
@@ -285,7 +306,7 @@ totals-tagged_up opened k s w f last opcode stag to payload rest c apart first p
     let is : frame_segment f ≡ Ok segment = segment-is s.received.sends s.received.requests f (TaggedFrame last opcode stag to payload) segment p refl in
     let st = effect_in s f (Ok segment) in
     let t = with_by s f (Ok segment) st in
-    let m = moves-tagged s f last opcode stag to payload w.up rest (eqb opcode OPCODE_READ_RESPONSE && last) refl first c.whole_up (omega (arith, c.reads)) apart in
+    let m = moves-tagged s f last opcode stag to payload w.up rest (eqb opcode OPCODE_READ_RESPONSE && last) refl first c.whole_up (omega (arith, c.reads)) apart c.within_down in
     subst (λ (st2 : FrameEffect). TotalsAgree k (server_state_after opened s (FrameReceived f)) (record { queued_up = w.queued_up; up = rest; queued_down = w.queued_down ++ effect_frames st2; down = w.down }))
     (sym (step-is s f (Ok segment) is))
     (subst (λ (t2 : ServerState). TotalsAgree k t2 (record { queued_up = w.queued_up; up = rest; queued_down = w.queued_down ++ effect_frames st; down = w.down }))
@@ -332,7 +353,18 @@ totals-executes opened k s w e c apart there =
       hello = omega (arith, c.hello, total-append hellos_in w.queued_down said, answer-counts hellos_in 0 (λ last stag to payload. refl) (λ message. refl) s e.xid offer answer);
       calls_up = c.calls_up;
       messages_down = omega (arith, c.messages_down, total-append sends_in w.queued_down said, answer-counts sends_in 1 (λ last stag to payload. refl) (λ message. refl) s e.xid offer answer);
-      written = c.written;
+      sends = c.sends;
+      messages = omega (
+        arith,
+        c.messages,
+        total-append sends_in w.queued_down said,
+        answer-counts sends_in 1 (λ last stag to payload. refl) (λ message. refl) s e.xid offer answer,
+        waiting-append s.written s.message_ends ((s.due + length (execution_output s e)) ∷ []),
+        one-waiting s.written (s.due + length (execution_output s e)) (omega (arith, c.within_down, execution-some s e)),
+      );
+      all_sends = c.all_sends;
+      within_up = c.within_up;
+      within_down = omega (arith, c.within_down);
       out = c.out;
       waiting = omega (arith, c.waiting, fewer);
       whole_up = c.whole_up;
@@ -342,14 +374,18 @@ totals-executes opened k s w e c apart there =
     }
 
 -- what was queued is in transit
-pub totals-writes_down : (opened : LinkParameters) (k : ClientState) (s : ServerState) (w : Transit) → TotalsAgree k s w
-    → TotalsAgree k (server_state_after opened s QueueWritten) (record { queued_up = w.queued_up; up = w.up; queued_down = []; down = w.down ++ w.queued_down })
+pub totals-writes_down : (opened : LinkParameters) (k : ClientState) (s : ServerState) (w : Transit) (taken : ℕ) → s.written + taken ≡ s.due → ServerEnds s → TotalsAgree k s w
+    → TotalsAgree k (server_state_after opened s (QueueWritten taken)) (record { queued_up = w.queued_up; up = w.up; queued_down = []; down = w.down ++ w.queued_down })
 unfolding server_state_after
-totals-writes_down opened k s w c = record {
+totals-writes_down opened k s w taken all ends c = record {
   hello = omega (arith, c.hello, total-append hellos_in w.down w.queued_down);
   calls_up = c.calls_up;
   messages_down = omega (arith, c.messages_down, total-append sends_in w.down w.queued_down);
-  written = omega (arith, c.messages_down, total-append sends_in w.down w.queued_down);
+  sends = c.sends;
+  messages = ap (λ (n : ℕ). ends_waiting n s.message_ends) all ∙ none-waiting s.due s.message_ends ends.messages;
+  all_sends = c.all_sends;
+  within_up = c.within_up;
+  within_down = omega (arith, all);
   out = c.out;
   waiting = c.waiting;
   whole_up = c.whole_up;
@@ -365,11 +401,15 @@ pub totals-hello_up : (opened : LinkParameters) (k : ClientState) (s : ServerSta
 unfolding server_state_after server_frames
 totals-hello_up opened k s w f rest c first is =
     let one = HelloFrame ∷ [] in
-    let m : TotalsAgree k s (record { queued_up = w.queued_up; up = rest; queued_down = w.queued_down ++ one; down = w.down }) = record {
+    let m : TotalsAgree k (with_own_hello s) (record { queued_up = w.queued_up; up = rest; queued_down = w.queued_down ++ one; down = w.down }) = record {
       hello = omega (arith, c.hello, ap (total_of hellos_in) first, total-append hellos_in w.queued_down one);
       calls_up = omega (arith, c.calls_up, ap (total_of sends_in) first);
       messages_down = omega (arith, c.messages_down, total-append sends_in w.queued_down one);
-      written = c.written;
+      sends = c.sends;
+      messages = omega (arith, c.messages, total-append sends_in w.queued_down one);
+      all_sends = c.all_sends;
+      within_up = c.within_up;
+      within_down = omega (arith, c.within_down);
       out = c.out;
       waiting = c.waiting;
       whole_up = c.whole_up;
@@ -377,4 +417,4 @@ totals-hello_up opened k s w f rest c first is =
       reads = omega (arith, c.reads, ap (total_of responses_in) first, total-append requests_in w.queued_down one);
       responses = c.responses;
     } in
-    subst (λ (b : Bool). TotalsAgree k (cond b s (with_effect s f (frame_effect s f))) (record { queued_up = w.queued_up; up = rest; queued_down = w.queued_down ++ cond b (HelloFrame ∷ []) (effect_frames (frame_effect s f)); down = w.down })) (sym is) m
+    subst (λ (b : Bool). TotalsAgree k (cond b (with_own_hello s) (with_effect s f (frame_effect s f))) (record { queued_up = w.queued_up; up = rest; queued_down = w.queued_down ++ cond b (HelloFrame ∷ []) (effect_frames (frame_effect s f)); down = w.down })) (sym is) m

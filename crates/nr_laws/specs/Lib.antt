@@ -21,3 +21,4 @@ pub mod HandedBack
 pub mod Sent
 pub mod SendsConvey
 pub mod AnswersConvey
+pub mod ServerItems

@@ -76,7 +76,7 @@ pub record IsSubmittedCall (opened : LinkParameters) (received : List Event) (o 
   pub place : ℕ
   pub call : AcceptedCall
   pub is_submitted : received ≡ earlier ++ CallSubmitted place call ∷ later
-  pub own : record o { is_written = false; is_revoked = false } ≡ outstanding_of (end_state_after (client_rules opened) (initial_client opened) earlier).state call
+  pub own : record o { is_revoked = false } ≡ outstanding_of (end_state_after (client_rules opened) (initial_client opened) earlier).state call
 
 -- Output that isn't read from memory: the Sends of calls that were accepted, each by its plan, or what the side writes last where the event
 -- ends it.

@@ -30,14 +30,14 @@ use Rattle.nr_reduce.specs.Plans.{TooLarge, call_message}
 use Rattle.nr_reduce.specs.Chunks.{is_read_chunk_of_item}
 use Rattle.nr_reduce.specs.Holds.{Answer, answer_writes, answer_message, chunk_error, version_error}
 use Rattle.nr_reduce.specs.ClientState.{ClientState, call_payload, plan_for}
-use Rattle.nr_reduce.specs.Client.{client_rules, client_end, client_output, client_state_after, with_segment, plan_or, outstanding_of, call_output, calls_output, response_output, segment_request}
+use Rattle.nr_reduce.specs.Client.{client_rules, client_end, client_output, client_state_after, with_segment, plan_or, outstanding_of, call_output, calls_output, response_output, segment_request, with_hello}
 use Rattle.nr_reduce.specs.ServerState.{ServerState, ReadyCall, PendingCall, PendingRead, down_max}
 use Rattle.nr_reduce.specs.ServerReads.{open_reads, is_read, regions_of, reads_of}
 use Rattle.nr_reduce.specs.ServerMessages.{Verdict, CallVerdict, verdict, by_payload, by_head, payload_of, call_xid, chunk_bytes}
 use Rattle.nr_reduce.specs.ServerMessages.Verdict.{EndsLink, OtherVersion, BadChunks, MakesPending}
 use Rattle.nr_reduce.specs.ServerMessages.CallVerdict.{Refuses, IsReady}
 use Rattle.nr_reduce.specs.ServerFrames.{FrameEffect, no_effect, with_verdict, ready_if_whole, message_effect, with_refused_call, is_stream_read, read_effect, call_of_number, response_effect, tagged_effect, by_message, with_access, effect_by, effect_in, frame_effect}
-use Rattle.nr_reduce.specs.Server.{server_rules, server_end, server_output, server_state_after, initial_server, offer_of, answer_of_target, answer_output, execution_output, effect_output, newly_open_reads, sends_from, requests_from, with_effect}
+use Rattle.nr_reduce.specs.Server.{server_rules, server_end, server_output, server_state_after, initial_server, offer_of, answer_of_target, answer_output, execution_output, effect_output, newly_open_reads, sends_from, requests_from, with_effect, with_own_hello}
 use Rattle.nr_reduce.specs.Run.{client, server, output_due}
 use Rattle.nr_reduce.specs.Asked.{IsAccepted}
 use Rattle.nr_reduce.specs.Served.{IsExecuted, next_call, first_ready}
@@ -94,7 +94,7 @@ hello-sends opened k f hello none = (
   ap (λ (o : Option Stop). output_for_by (client_rules opened) k (FrameReceived f) o) none
       ∙ ap (λ (b : Bool). cond b (calls_output opened 1 k.outstanding) (response_output k f.end (segment_request (frame_segment f)))) hello,
   ap (λ (o : Option Stop). (next_end_state_by (client_rules opened) k (FrameReceived f) o).state.has_hello) none
-      ∙ ap (λ (b : Bool). (cond b (record k { has_hello = true }) (with_segment k f (frame_segment f))).has_hello) hello,
+      ∙ ap (λ (b : Bool). (cond b (with_hello opened k) (with_segment k f (frame_segment f))).has_hello) hello,
 )
 
 -- ---- An Execute
@@ -211,13 +211,13 @@ after-heads : (opened : LinkParameters) (k : ServerState) (event : Event) → Ar
 unfolding server_state_after
 after-heads opened k (FrameReceived f) h = by (is_hello f)
   where
-    by : (b : Bool) → AreHeads (cond b k (with_effect k f (frame_effect k f))).ready
+    by : (b : Bool) → AreHeads (cond b (with_own_hello k) (with_effect k f (frame_effect k f))).ready
     by true = h
     by false = heads-append k.ready (frame_effect k f).ready h (frame-heads k f)
 after-heads opened k (CallSubmitted place a) h = h
 after-heads opened k (MemoryRevoked place xid) h = h
 after-heads opened k (CallExecuted e) h = heads-drop k.ready h
-after-heads opened k QueueWritten h = h
+after-heads opened k (QueueWritten taken) h = h
 
 events-heads : (opened : LinkParameters) (r : EndState ServerState) (es : List Event) → AreHeads r.state.ready → AreHeads (end_state_after (server_rules opened) r es).state.ready
 events-heads opened r [] h = h
@@ -269,8 +269,8 @@ only-answered opened k f answer later none is =
           ∙ append-nil (send (k.messages_queued + 1) answer ++ [])
           ∙ append-nil (send (k.messages_queued + 1) answer);
       stays = ap (λ (r : EndState ServerState). r.ended) after;
-      calls = ap (λ (r : EndState ServerState). r.state.calls) after ∙ (λ i. (cond (later i) k (with_effect k f (is i))).calls);
-      ready = ap (λ (r : EndState ServerState). r.state.ready) after ∙ (λ i. (cond (later i) k (with_effect k f (is i))).ready) ∙ append-nil k.ready;
+      calls = ap (λ (r : EndState ServerState). r.state.calls) after ∙ (λ i. (cond (later i) (with_own_hello k) (with_effect k f (is i))).calls);
+      ready = ap (λ (r : EndState ServerState). r.state.ready) after ∙ (λ i. (cond (later i) (with_own_hello k) (with_effect k f (is i))).ready) ∙ append-nil k.ready;
     }
 
 pub refused-effect : (k : ServerState) (f : Frame) (segment : Segment) (message : List ℕ) (v : Verdict) → frame_segment f ≡ Ok segment → message_completed k.received segment ≡ Some message → verdict k message ≡ v → frame_effect k f ≡ message_effect k f.end message v
@@ -324,8 +324,8 @@ refused-call opened k f segment c later is h none =
           ∙ ap (λ (s : FrameEffect). sends_from (k.messages_queued + 1) s.errors ++ requests_from (k.requests_sent + 1) (newly_open_reads (frame_effect k f))) effect
           ∙ ap (λ (xs : List ℕ). xs ++ requests_from (k.requests_sent + 1) (newly_open_reads (frame_effect k f))) (append-nil (send (k.messages_queued + 1) (chunk_error c.xid k.credit)));
       stays = ap (λ (r : EndState ServerState). r.ended) after;
-      calls = ap (λ (r : EndState ServerState). r.state.calls) after ∙ (λ i. (cond (later i) k (with_effect k f (effect i))).calls);
-      ready = ap (λ (r : EndState ServerState). r.state.ready) after ∙ (λ i. (cond (later i) k (with_effect k f (effect i))).ready) ∙ append-nil k.ready;
+      calls = ap (λ (r : EndState ServerState). r.state.calls) after ∙ (λ i. (cond (later i) (with_own_hello k) (with_effect k f (effect i))).calls);
+      ready = ap (λ (r : EndState ServerState). r.state.ready) after ∙ (λ i. (cond (later i) (with_own_hello k) (with_effect k f (effect i))).ready) ∙ append-nil k.ready;
     }
 
 -- ---- Open reads
@@ -424,7 +424,7 @@ opens-reads opened k f segment later is none =
     let s : FrameEffect = frame_effect k f in
     let keeps = keeps-frame k f segment is in
     let after : ServerState = server_state_after opened k (FrameReceived f) in
-    let reads : after.reads ≡ s.reads = ap (λ (b : Bool). (cond b k (with_effect k f s)).reads) later in
+    let reads : after.reads ≡ s.reads = ap (λ (b : Bool). (cond b (with_own_hello k) (with_effect k f s)).reads) later in
     let same : length (open_reads after) ≡ length (take 8 s.reads) = ap (λ (xs : List PendingRead). length (take 8 xs)) reads in
     record {
       kept = keeps.is;

@@ -27,7 +27,7 @@ use Rattle.nr_reduce.specs.ServerMessages.Verdict.{EndsLink, OtherVersion, BadCh
 use Rattle.nr_reduce.specs.ServerMessages.CallVerdict.{Refuses, IsReady}
 use Rattle.nr_reduce.specs.ServerFrames.{FrameEffect, no_effect, with_verdict, ready_if_whole, with_refused_call, read_effect, response_effect, call_of_number, is_stream_read, message_effect, by_message, with_access, effect_by, effect_in, frame_effect}
 use Rattle.nr_reduce.specs.Chunks.{is_read_chunk_of_item}
-use Rattle.nr_reduce.specs.Server.{with_effect, server_state_after, server_end, server_rules, initial_server}
+use Rattle.nr_reduce.specs.Server.{with_effect, server_state_after, server_end, server_rules, initial_server, with_own_hello}
 use Rattle.nr_reduce.specs.Run.{server}
 use Rattle.nr_reduce.specs.Served.{IsExecuted, next_call, first_ready}
 use Rattle.nr_reduce.specs.Undone.{lists_by}
@@ -275,8 +275,8 @@ after-known opened es (FrameReceived f) h = by (is_hello f) refl
     k : ServerState
     k = server_by opened es
 
-    by : (b : Bool) → is_hello f ≡ b → Known opened (es ++ FrameReceived f ∷ []) (cond b k (with_effect k f (effect_in k f (frame_segment f))))
-    by true is = known-later opened es (FrameReceived f) k h
+    by : (b : Bool) → is_hello f ≡ b → Known opened (es ++ FrameReceived f ∷ []) (cond b (with_own_hello k) (with_effect k f (effect_in k f (frame_segment f))))
+    by true is = (let g = known-later opened es (FrameReceived f) k h in record { calls = g.calls; ready = g.ready })
     by false is = effect-known opened es f (frame_segment f) is refl h
 after-known opened es (CallSubmitted place a) h = known-later opened es (CallSubmitted place a) (server_by opened es) h
 after-known opened es (MemoryRevoked place xid) h = known-later opened es (MemoryRevoked place xid) (server_by opened es) h
@@ -287,7 +287,7 @@ after-known opened es (CallExecuted e) h =
       calls = each-filter (IsReceivedCall opened (es ++ CallExecuted e ∷ [])) (λ c. not (eqb c.xid e.xid)) k.calls g.calls;
       ready = each-drop (WasConveyed opened (es ++ CallExecuted e ∷ [])) k.ready g.ready;
     }
-after-known opened es QueueWritten h = (let g = known-later opened es QueueWritten (server_by opened es) h in record { calls = g.calls; ready = g.ready })
+after-known opened es (QueueWritten taken) h = (let g = known-later opened es (QueueWritten taken) (server_by opened es) h in record { calls = g.calls; ready = g.ready })
 
 next-known : (opened : LinkParameters) (es : List Event) (event : Event) → Known opened es (server_by opened es) → Known opened (es ++ event ∷ []) (server_by opened (es ++ event ∷ []))
 next-known opened es event h =

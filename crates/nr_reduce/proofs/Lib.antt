@@ -1,5 +1,9 @@
 pub mod AnswerLists
 pub mod Compared
+pub mod WholeWrotes
+pub mod CountedBytes
+pub mod OutputItems
+pub mod ServerItems
 pub mod Places
 pub mod Rooms
 pub mod Recut

@@ -36,7 +36,7 @@ use Rattle.nr_reduce.specs.ServerState.{ServerState, ReadyCall, PendingRead, Pen
 use Rattle.nr_reduce.specs.ServerReads.{is_read, reads_of, reads_from, read_of, chunks_of, regions_of}
 use Rattle.nr_reduce.specs.ServerMessages.{Verdict, CallVerdict, chunk_bytes, verdict, by_header, by_body, by_stream, by_need, has_position, no_stream, by_payload, by_head, payload_of, call_xid}
 use Rattle.nr_reduce.specs.ServerFrames.{FrameEffect, no_effect, with_verdict, ready_if_whole, with_pending_call, with_refused_call, read_effect, response_effect, call_of_number, is_stream_read, tagged_effect, message_effect, by_message, with_access, effect_in, frame_effect}
-use Rattle.nr_reduce.specs.Server.{with_effect, received_by, server_state_after, server_end, server_rules, initial_server}
+use Rattle.nr_reduce.specs.Server.{with_effect, received_by, server_state_after, server_end, server_rules, initial_server, with_own_hello}
 use Rattle.nr_reduce.specs.ServerMessages.Verdict.{EndsLink, OtherVersion, BadChunks, MakesPending}
 use Rattle.nr_reduce.specs.ServerMessages.CallVerdict.{Refuses, IsReady}
 use Rattle.nr_reduce.specs.Chunks.{is_read_chunk_of_item, total_at}
@@ -384,13 +384,13 @@ pub after-goes : (opened : LinkParameters) (k : ServerState) (event : Event) →
 unfolding server_state_after
 after-goes opened k (FrameReceived f) = by (is_hello f)
   where
-    by : (b : Bool) → Goes k (cond b k (with_effect k f (frame_effect k f)))
-    by true = stays k k refl (λ n. omega arith)
+    by : (b : Bool) → Goes k (cond b (with_own_hello k) (with_effect k f (frame_effect k f)))
+    by true = stays k _ refl (λ n. omega arith)
     by false = frame_effect-goes k f
 after-goes opened k (CallSubmitted place a) = stays k k refl (λ n. omega arith)
 after-goes opened k (MemoryRevoked place xid) = stays k k refl (λ n. omega arith)
 after-goes opened k (CallExecuted e) = stays k _ refl (λ n. (let a = times_ready-drop n k.ready in omega (arith, a)))
-after-goes opened k QueueWritten = stays k _ refl (λ n. omega arith)
+after-goes opened k (QueueWritten taken) = stays k _ refl (λ n. omega arith)
 
 -- ---- What holds along a run
 

@@ -22,14 +22,14 @@ use Rattle.nr_reduce.specs.Events.{Event, events}
 use Rattle.nr_reduce.specs.Events.Event.{FrameReceived, CallSubmitted, MemoryRevoked, CallExecuted, QueueWritten}
 use Rattle.nr_reduce.specs.EndRules.{Rules, EndState, next_end_state, next_end_state_by, next_end_state_in, end_state_after}
 use Rattle.nr_reduce.specs.ClientState.{ClientState}
-use Rattle.nr_reduce.specs.Client.{client_rules, client_state_after, initial_client, outstanding_of, region_of, with_message, with_request, with_segment}
+use Rattle.nr_reduce.specs.Client.{client_rules, client_state_after, initial_client, outstanding_of, region_of, with_message, with_request, with_segment, with_hello, due_with_response}
 use Rattle.nr_reduce.specs.ServerState.{ServerState, PendingCall, PendingRead, next_stag}
 use Rattle.nr_reduce.specs.ServerReads.{regions_from, regions_of, chunks_of, is_read, is_over}
 use Rattle.nr_reduce.specs.ServerMessages.{Verdict, CallVerdict, verdict, by_payload, payload_of}
 use Rattle.nr_reduce.specs.ServerMessages.Verdict.{EndsLink, OtherVersion, BadChunks, MakesPending}
 use Rattle.nr_reduce.specs.ServerMessages.CallVerdict.{Refuses, IsReady}
 use Rattle.nr_reduce.specs.ServerFrames.{FrameEffect, no_effect, with_verdict, ready_if_whole, message_effect, with_refused_call, read_effect, call_of_number, response_effect, by_message, with_access, effect_in, frame_effect}
-use Rattle.nr_reduce.specs.Server.{server_rules, server_state_after, initial_server, with_effect}
+use Rattle.nr_reduce.specs.Server.{server_rules, server_state_after, initial_server, with_effect, with_own_hello}
 use Rattle.nr_reduce.specs.Run.{client, server, grants_of}
 
 -- ---- Consecutive STags
@@ -122,9 +122,9 @@ numbers-closed opened k t test place regions stag h = record {
   next = (let a = ap (λ (rs : List Region). length rs) regions ∙ closed-length test place k.regions in let b = h.next in omega (arith, a, b, stag));
 }
 
-numbers-request : (opened : LinkParameters) (k : ClientState) (r : Option ReadRequest) → ClientNumbers opened k → ClientNumbers opened (with_request k r)
-numbers-request opened k None h = h
-numbers-request opened k (Some r) h = numbers-same opened k (with_request k (Some r)) refl refl h
+numbers-request : (opened : LinkParameters) (k : ClientState) (due : ℕ) (r : Option ReadRequest) → ClientNumbers opened k → ClientNumbers opened (with_request k due r)
+numbers-request opened k due None h = h
+numbers-request opened k due (Some r) h = numbers-same opened k (with_request k due (Some r)) refl refl h
 
 numbers-message : (opened : LinkParameters) (k : ClientState) (place : ℕ) (m : Option (List ℕ)) → ClientNumbers opened k → ClientNumbers opened (with_message k place m)
 numbers-message opened k place None h = h
@@ -133,16 +133,16 @@ numbers-message opened k place (Some m) h = numbers-closed opened k (with_messag
 numbers-segment : (opened : LinkParameters) (k : ClientState) (f : Frame) (r : Result Segment ℕ) → ClientNumbers opened k → ClientNumbers opened (with_segment k f r)
 numbers-segment opened k f (Err reason) h = h
 numbers-segment opened k f (Ok segment) h =
-    let m : ClientState = with_request (with_message k f.end (message_completed k.received segment)) (read_request_of segment) in
+    let m : ClientState = with_request (with_message k f.end (message_completed k.received segment)) (due_with_response k f segment) (read_request_of segment) in
     numbers-same opened m (with_segment k f (Ok segment)) refl refl
-    (numbers-request opened (with_message k f.end (message_completed k.received segment)) (read_request_of segment) (numbers-message opened k f.end (message_completed k.received segment) h))
+    (numbers-request opened (with_message k f.end (message_completed k.received segment)) (due_with_response k f segment) (read_request_of segment) (numbers-message opened k f.end (message_completed k.received segment) h))
 
 numbers-after : (opened : LinkParameters) (k : ClientState) (event : Event) → ClientNumbers opened k → ClientNumbers opened (client_state_after opened k event)
 unfolding client_state_after
 numbers-after opened k (FrameReceived f) h = by (is_hello f)
   where
-    by : (b : Bool) → ClientNumbers opened (cond b (record k { has_hello = true }) (with_segment k f (frame_segment f)))
-    by true = numbers-same opened k (record k { has_hello = true }) refl refl h
+    by : (b : Bool) → ClientNumbers opened (cond b (with_hello opened k) (with_segment k f (frame_segment f)))
+    by true = numbers-same opened k (with_hello opened k) refl refl h
     by false = numbers-segment opened k f (frame_segment f) h
 numbers-after opened k (CallSubmitted place a) h =
     let p : Plan = (outstanding_of k a).plan in
@@ -153,7 +153,7 @@ numbers-after opened k (CallSubmitted place a) h =
     }
 numbers-after opened k (MemoryRevoked place xid) h = numbers-closed opened k (client_state_after opened k (MemoryRevoked place xid)) _ place refl refl h
 numbers-after opened k (CallExecuted call) h = h
-numbers-after opened k QueueWritten h = numbers-same opened k (client_state_after opened k QueueWritten) refl refl h
+numbers-after opened k (QueueWritten taken) h = numbers-same opened k (client_state_after opened k (QueueWritten taken)) refl refl h
 
 -- what each event keeps of a state stands after all of them
 kept-next : {S : Type 0} (rules : Rules S) (P : S → Type 0) → ((s : S) (event : Event) → P s → P (rules.state_after s event)) → (r : EndState S) (event : Event) → P r.state → P (next_end_state rules r event).state
@@ -233,13 +233,13 @@ server-after : (opened : LinkParameters) (k : ServerState) (event : Event) → S
 unfolding server_state_after
 server-after opened k (FrameReceived f) h = by (is_hello f)
   where
-    by : (b : Bool) → ServerNumbers (cond b k (with_effect k f (frame_effect k f)))
+    by : (b : Bool) → ServerNumbers (cond b (with_own_hello k) (with_effect k f (frame_effect k f)))
     by true = h
     by false = numbered-closed (is_over (frame_effect k f).calls (frame_effect k f).reads) f.end 1 (frame_effect k f).regions (effect-frame k f h)
 server-after opened k (CallSubmitted place a) h = h
 server-after opened k (MemoryRevoked place xid) h = h
 server-after opened k (CallExecuted e) h = h
-server-after opened k QueueWritten h = h
+server-after opened k (QueueWritten taken) h = h
 
 pub server-numbers : (opened : LinkParameters) (es : List Event) → ServerNumbers (end_state_after (server_rules opened) (initial_server opened) es).state
 server-numbers opened es = kept-after (server_rules opened) ServerNumbers (server-after opened) (initial_server opened) es tt

@@ -25,7 +25,7 @@ use Rattle.nr_reduce.specs.Events.{Event, if_own, events_at}
 use Rattle.nr_reduce.specs.EndRules.{EndState, end_state_after, next_end_state, next_end_state_by, next_end_state_in}
 use Rattle.nr_reduce.specs.Events.Event.{FrameReceived, CallSubmitted, MemoryRevoked, CallExecuted, QueueWritten}
 use Rattle.nr_reduce.specs.ClientState.{ClientState}
-use Rattle.nr_reduce.specs.Client.{client_state_after, client_end, client_rules, with_message, with_request, with_segment}
+use Rattle.nr_reduce.specs.Client.{client_state_after, client_end, client_rules, with_message, with_request, with_segment, with_hello, due_with_response}
 use Rattle.nr_reduce.specs.Run.{client}
 use Rattle.nr_reduce.specs.Asked.{AskedMark, IsAccepted}
 use Rattle.nr_reduce.specs.Journal.{AtPlace, PlacedMark, Journaled}
@@ -84,9 +84,9 @@ completes_once Relates opened link xid outcome run before after is h c there =
 
 -- ---- Xids
 
-by_request : (m : ClientState) (r : Option ReadRequest) → (with_request m r).calls_accepted ≡ m.calls_accepted
-by_request m None = refl
-by_request m (Some r) = refl
+by_request : (m : ClientState) (due : ℕ) (r : Option ReadRequest) → (with_request m due r).calls_accepted ≡ m.calls_accepted
+by_request m due None = refl
+by_request m due (Some r) = refl
 
 by_message : (k : ClientState) (place : ℕ) (message : Option (List ℕ)) → (with_message k place message).calls_accepted ≡ k.calls_accepted
 by_message k place None = refl
@@ -95,19 +95,19 @@ by_message k place (Some message) = refl
 pub segment-accepted : (k : ClientState) (f : Frame) (r : Result Segment ℕ) → (with_segment k f r).calls_accepted ≡ k.calls_accepted
 segment-accepted k f (Err reason) = refl
 segment-accepted k f (Ok segment) =
-    by_request (with_message k f.end (message_completed k.received segment)) (read_request_of segment) ∙ by_message k f.end (message_completed k.received segment)
+    by_request (with_message k f.end (message_completed k.received segment)) (due_with_response k f segment) (read_request_of segment) ∙ by_message k f.end (message_completed k.received segment)
 
-by_frame : (k : ClientState) (f : Frame) (b : Bool) → k.calls_accepted ≤ (cond b (record k { has_hello = true }) (with_segment k f (frame_segment f))).calls_accepted
-by_frame k f true = omega arith
-by_frame k f false = (let e = segment-accepted k f (frame_segment f) in omega (arith, e))
+by_frame : (opened : LinkParameters) (k : ClientState) (f : Frame) (b : Bool) → k.calls_accepted ≤ (cond b (with_hello opened k) (with_segment k f (frame_segment f))).calls_accepted
+by_frame opened k f true = omega arith
+by_frame opened k f false = (let e = segment-accepted k f (frame_segment f) in omega (arith, e))
 
 accepted_calls-after : (opened : LinkParameters) (k : ClientState) (event : Event) → k.calls_accepted ≤ (client_state_after opened k event).calls_accepted
 unfolding client_state_after
-accepted_calls-after opened k (FrameReceived f) = by_frame k f (is_hello f)
+accepted_calls-after opened k (FrameReceived f) = by_frame opened k f (is_hello f)
 accepted_calls-after opened k (CallSubmitted place a) = omega arith
 accepted_calls-after opened k (MemoryRevoked place xid) = omega arith
 accepted_calls-after opened k (CallExecuted call) = omega arith
-accepted_calls-after opened k QueueWritten = omega arith
+accepted_calls-after opened k (QueueWritten taken) = omega arith
 
 accepted_calls-next_end_state : (opened : LinkParameters) (r : EndState ClientState) (event : Event) → r.state.calls_accepted ≤ (next_end_state (client_rules opened) r event).state.calls_accepted
 accepted_calls-next_end_state opened r event = by_end r.state r.ended

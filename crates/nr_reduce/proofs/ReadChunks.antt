@@ -30,7 +30,7 @@ use Rattle.nr_reduce.specs.Events.{Event, if_own, events_at}
 use Rattle.nr_reduce.specs.Events.Event.{FrameReceived, CallSubmitted, MemoryRevoked, CallExecuted, QueueWritten}
 use Rattle.nr_reduce.specs.EndRules.{EndState, next_end_state_in, end_state_after}
 use Rattle.nr_reduce.specs.ClientState.{ClientState, call_payload, plan_for}
-use Rattle.nr_reduce.specs.Client.{client_rules, client_end, client_state_after, plan_or, outstanding_of, region_of, with_message, with_request, with_segment}
+use Rattle.nr_reduce.specs.Client.{client_rules, client_end, client_state_after, plan_or, outstanding_of, region_of, with_message, with_request, with_segment, with_hello, due_with_response}
 use Rattle.nr_reduce.specs.Run.{client, grants_of, placed_bytes}
 use Rattle.nr_reduce.specs.Asked.{IsAccepted}
 use Rattle.nr_reduce.proofs.Steps.{client-one}
@@ -108,9 +108,9 @@ chunk-closed stag bytes k t test place regions next h = record {
   below = (let b = h.below in omega (arith, b, next));
 }
 
-chunk-request : (stag : ℕ) (bytes : List ℕ) (k : ClientState) (r : Option ReadRequest) → KeepsChunk stag bytes k → KeepsChunk stag bytes (with_request k r)
-chunk-request stag bytes k None h = h
-chunk-request stag bytes k (Some r) h = chunk-same stag bytes k (with_request k (Some r)) refl refl h
+chunk-request : (stag : ℕ) (bytes : List ℕ) (k : ClientState) (due : ℕ) (r : Option ReadRequest) → KeepsChunk stag bytes k → KeepsChunk stag bytes (with_request k due r)
+chunk-request stag bytes k due None h = h
+chunk-request stag bytes k due (Some r) h = chunk-same stag bytes k (with_request k due (Some r)) refl refl h
 
 chunk-message : (stag : ℕ) (bytes : List ℕ) (k : ClientState) (place : ℕ) (m : Option (List ℕ)) → KeepsChunk stag bytes k → KeepsChunk stag bytes (with_message k place m)
 chunk-message stag bytes k place None h = h
@@ -119,16 +119,16 @@ chunk-message stag bytes k place (Some m) h = chunk-closed stag bytes k (with_me
 chunk-segment : (stag : ℕ) (bytes : List ℕ) (k : ClientState) (f : Frame) (r : Result Segment ℕ) → KeepsChunk stag bytes k → KeepsChunk stag bytes (with_segment k f r)
 chunk-segment stag bytes k f (Err reason) h = h
 chunk-segment stag bytes k f (Ok segment) h =
-    let m : ClientState = with_request (with_message k f.end (message_completed k.received segment)) (read_request_of segment) in
+    let m : ClientState = with_request (with_message k f.end (message_completed k.received segment)) (due_with_response k f segment) (read_request_of segment) in
     chunk-same stag bytes m (with_segment k f (Ok segment)) refl refl
-    (chunk-request stag bytes (with_message k f.end (message_completed k.received segment)) (read_request_of segment) (chunk-message stag bytes k f.end (message_completed k.received segment) h))
+    (chunk-request stag bytes (with_message k f.end (message_completed k.received segment)) (due_with_response k f segment) (read_request_of segment) (chunk-message stag bytes k f.end (message_completed k.received segment) h))
 
 chunk-after : (opened : LinkParameters) (stag : ℕ) (bytes : List ℕ) (k : ClientState) (event : Event) → KeepsChunk stag bytes k → KeepsChunk stag bytes (client_state_after opened k event)
 unfolding client_state_after
 chunk-after opened stag bytes k (FrameReceived f) h = by (is_hello f)
   where
-    by : (b : Bool) → KeepsChunk stag bytes (cond b (record k { has_hello = true }) (with_segment k f (frame_segment f)))
-    by true = chunk-same stag bytes k (record k { has_hello = true }) refl refl h
+    by : (b : Bool) → KeepsChunk stag bytes (cond b (with_hello opened k) (with_segment k f (frame_segment f)))
+    by true = chunk-same stag bytes k (with_hello opened k) refl refl h
     by false = chunk-segment stag bytes k f (frame_segment f) h
 chunk-after opened stag bytes k (CallSubmitted place a) h =
     let p : Plan = (outstanding_of k a).plan in
@@ -139,7 +139,7 @@ chunk-after opened stag bytes k (CallSubmitted place a) h =
     }
 chunk-after opened stag bytes k (MemoryRevoked place xid) h = chunk-closed stag bytes k (client_state_after opened k (MemoryRevoked place xid)) _ place refl refl h
 chunk-after opened stag bytes k (CallExecuted call) h = h
-chunk-after opened stag bytes k QueueWritten h = chunk-same stag bytes k (client_state_after opened k QueueWritten) refl refl h
+chunk-after opened stag bytes k (QueueWritten taken) h = chunk-same stag bytes k (client_state_after opened k (QueueWritten taken)) refl refl h
 
 chunk-more : (opened : LinkParameters) (link stag : ℕ) (bytes : List ℕ) (run more : List Mark) → KeepsChunk stag bytes (client opened link run).state → KeepsChunk stag bytes (client opened link (run ++ more)).state
 chunk-more opened link stag bytes run [] h = subst (λ (r : List Mark). KeepsChunk stag bytes (client opened link r).state) (sym (append-nil run)) h

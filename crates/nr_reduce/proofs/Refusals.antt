@@ -23,7 +23,7 @@ use Rattle.nr_reduce.specs.ServerMessages.Verdict.{EndsLink, OtherVersion, BadCh
 use Rattle.nr_reduce.specs.ServerMessages.CallVerdict.{Refuses, IsReady}
 use Rattle.nr_reduce.specs.ServerFrames.{FrameEffect, no_effect, with_verdict, ready_if_whole, with_refused_call, read_effect, response_effect, call_of_number, is_stream_read, message_effect, by_message, with_access, effect_in, frame_effect}
 use Rattle.nr_reduce.specs.Chunks.{is_read_chunk_of_item}
-use Rattle.nr_reduce.specs.Server.{with_effect, received_by, server_state_after, server_end, server_rules, initial_server}
+use Rattle.nr_reduce.specs.Server.{with_effect, received_by, server_state_after, server_end, server_rules, initial_server, with_own_hello}
 use Rattle.nr_reduce.specs.Run.{server}
 use Rattle.nr_reduce.specs.Served.{IsExecuted, next_call}
 use Rattle.nr_reduce.specs.RunLaws.{IsStreamRefused, RefusesSend}
@@ -157,24 +157,24 @@ after-dropped opened n k event d = record {
     by_ready : (event : Event) → times_ready n (server_state_after opened k event).ready ≡ 0
     by_ready (FrameReceived f) = by (is_hello f)
       where
-        by : (b : Bool) → times_ready n (cond b k (with_effect k f (frame_effect k f))).ready ≡ 0
+        by : (b : Bool) → times_ready n (cond b (with_own_hello k) (with_effect k f (frame_effect k f))).ready ≡ 0
         by true = d.ready
         by false = (let a = times_ready-append n k.ready (frame_effect k f).ready in let b = d.ready in let c = (left-frame n k f d.number_sent d.calls).ready in omega (arith, a, b, c))
     by_ready (CallSubmitted place a) = d.ready
     by_ready (MemoryRevoked place xid) = d.ready
     by_ready (CallExecuted e) = (let a = times_ready-drop n k.ready in let b = d.ready in omega (arith, a, b))
-    by_ready QueueWritten = d.ready
+    by_ready (QueueWritten taken) = d.ready
 
     by_calls : (event : Event) → pending_of n (server_state_after opened k event).calls ≡ false
     by_calls (FrameReceived f) = by (is_hello f)
       where
-        by : (b : Bool) → pending_of n (cond b k (with_effect k f (frame_effect k f))).calls ≡ false
+        by : (b : Bool) → pending_of n (cond b (with_own_hello k) (with_effect k f (frame_effect k f))).calls ≡ false
         by true = d.calls
         by false = (left-frame n k f d.number_sent d.calls).calls
     by_calls (CallSubmitted place a) = d.calls
     by_calls (MemoryRevoked place xid) = d.calls
     by_calls (CallExecuted e) = pending-filter n (λ c. not (eqb c.xid e.xid)) k.calls d.calls
-    by_calls QueueWritten = d.calls
+    by_calls (QueueWritten taken) = d.calls
 
 events-dropped : (opened : LinkParameters) (n : ℕ) (r : EndState ServerState) (es : List Event) → Dropped n r.state → Dropped n (end_state_after (server_rules opened) r es).state
 events-dropped opened n r [] d = d
@@ -198,7 +198,7 @@ settled-message : (opened : LinkParameters) (k : ServerState) (f : Frame) (segme
     → frame_effect k f ≡ record (no_effect k) { errors = answer } → Sound k → Settled (k.received.sends + 1) (server_state_after opened k (FrameReceived f))
 unfolding server_state_after
 settled-message opened k f segment message answer later is whole effect s =
-    subst (λ (b : Bool). Settled n (cond b k (with_effect k f (frame_effect k f)))) (sym later)
+    subst (λ (b : Bool). Settled n (cond b (with_own_hello k) (with_effect k f (frame_effect k f)))) (sym later)
     (subst (λ (e : FrameEffect). Settled n (with_effect k f e)) (sym effect) there)
   where
     n : ℕ
@@ -227,7 +227,7 @@ dropped-call opened k f segment c later is h s = record {
     effect = with_refused_call (with_access k f segment) c (record (no_effect (with_access k f segment)) { reads = h.others; kept = length (open_reads k) - 1 })
 
     after : server_state_after opened k (FrameReceived f) ≡ with_effect k f effect
-    after = ap (λ (b : Bool). cond b k (with_effect k f (frame_effect k f))) later ∙ ap (λ (e : FrameEffect). with_effect k f e) (refused-call-effect k f segment c is h)
+    after = ap (λ (b : Bool). cond b (with_own_hello k) (with_effect k f (frame_effect k f))) later ∙ ap (λ (e : FrameEffect). with_effect k f e) (refused-call-effect k f segment c is h)
 
     own : eqb h.read.number c.number ≡ true
     own = eq-eqb h.read.number c.number (sym (found-number h.read.number k.calls c h.call))

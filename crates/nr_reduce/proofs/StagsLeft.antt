@@ -23,7 +23,7 @@ use Rattle.nr_reduce.specs.Events.{Event, if_own, events_at, events}
 use Rattle.nr_reduce.specs.Events.Event.{FrameReceived, CallSubmitted, MemoryRevoked, CallExecuted, QueueWritten}
 use Rattle.nr_reduce.specs.EndRules.{EndState, next_end_state, next_end_state_by, next_end_state_in, end_state_after}
 use Rattle.nr_reduce.specs.ClientState.{ClientState, call_payload, plan_for}
-use Rattle.nr_reduce.specs.Client.{client_rules, client_end, client_state_after, plan_or, with_message, with_request, with_segment}
+use Rattle.nr_reduce.specs.Client.{client_rules, client_end, client_state_after, plan_or, with_message, with_request, with_segment, with_hello, due_with_response}
 use Rattle.nr_reduce.specs.Run.{client}
 use Rattle.nr_reduce.specs.Asked.{AskedSoFar, AskedMark}
 use Rattle.nr_reduce.proofs.Steps.{client-one}
@@ -38,15 +38,15 @@ OffersNothing (FrameReceived f) = Unit {0}
 OffersNothing (CallSubmitted place a) = ⊥
 OffersNothing (MemoryRevoked place xid) = Unit {0}
 OffersNothing (CallExecuted call) = Unit {0}
-OffersNothing QueueWritten = Unit {0}
+OffersNothing (QueueWritten taken) = Unit {0}
 
 abbrev OfferNothing : List Event → Type 0
 OfferNothing [] = Unit {0}
 OfferNothing (event ∷ es) = OffersNothing event × OfferNothing es
 
-pub request-stag : (m : ClientState) (r : Option ReadRequest) → (with_request m r).stag ≡ m.stag
-request-stag m None = refl
-request-stag m (Some r) = refl
+pub request-stag : (m : ClientState) (due : ℕ) (r : Option ReadRequest) → (with_request m due r).stag ≡ m.stag
+request-stag m due None = refl
+request-stag m due (Some r) = refl
 
 pub message-stag : (k : ClientState) (place : ℕ) (message : Option (List ℕ)) → (with_message k place message).stag ≡ k.stag
 message-stag k place None = refl
@@ -55,19 +55,19 @@ message-stag k place (Some message) = refl
 by_segment : (k : ClientState) (f : Frame) (r : Result Segment ℕ) → (with_segment k f r).stag ≡ k.stag
 by_segment k f (Err reason) = refl
 by_segment k f (Ok segment) =
-    request-stag (with_message k f.end (message_completed k.received segment)) (read_request_of segment) ∙ message-stag k f.end (message_completed k.received segment)
+    request-stag (with_message k f.end (message_completed k.received segment)) (due_with_response k f segment) (read_request_of segment) ∙ message-stag k f.end (message_completed k.received segment)
 
 stag-after : (opened : LinkParameters) (k : ClientState) (event : Event) → OffersNothing event → (client_state_after opened k event).stag ≡ k.stag
 unfolding client_state_after
 stag-after opened k (FrameReceived f) h = by (is_hello f)
   where
-    by : (b : Bool) → (cond b (record k { has_hello = true }) (with_segment k f (frame_segment f))).stag ≡ k.stag
+    by : (b : Bool) → (cond b (with_hello opened k) (with_segment k f (frame_segment f))).stag ≡ k.stag
     by true = refl
     by false = by_segment k f (frame_segment f)
 stag-after opened k (CallSubmitted place a) h = absurd h
 stag-after opened k (MemoryRevoked place xid) h = refl
 stag-after opened k (CallExecuted call) h = refl
-stag-after opened k QueueWritten h = refl
+stag-after opened k (QueueWritten taken) h = refl
 
 stag-next : (opened : LinkParameters) (r : EndState ClientState) (event : Event) → OffersNothing event → (next_end_state (client_rules opened) r event).state.stag ≡ r.state.stag
 stag-next opened r event h = by_end r.state r.ended
@@ -124,7 +124,7 @@ left-mark opened link before (marks.Submit l call form (submissions.Accepted xid
         omega (arith, e, room)
 left-mark opened link before (marks.Submit l call form (submissions.Refused why)) low h = low
 left-mark opened link before (marks.Submit l call form submissions.Dropped) low h = low
-left-mark opened link before (marks.Wrote l s bytes) low h = left-nothing opened link before (marks.Wrote l s bytes) low (nothing-if _ (QueueWritten ∷ []) (tt, tt))
+left-mark opened link before (marks.Wrote l s bytes) low h = left-nothing opened link before (marks.Wrote l s bytes) low (nothing-if _ (QueueWritten (length bytes) ∷ []) (tt, tt))
 left-mark opened link before (marks.Fed l s bytes) low h = left-nothing opened link before (marks.Fed l s bytes) low (nothing-if _ (map FrameReceived (frames_completed Responder (bytes_received link Initiator before) bytes)) (nothing-frames _))
 left-mark opened link before (marks.Execute l xid moment payload place reply) low h = left-nothing opened link before (marks.Execute l xid moment payload place reply) low
     (nothing-if _ (CallExecuted (record { xid = xid; moment = moment; payload = payload; place = place; reply = reply }) ∷ []) (tt, tt))

@@ -1,8 +1,8 @@
 -- Until the server's hello is received, the calls that are outstanding are all that were accepted, in order.
-use Rattle.std.proofs.Common.{◌≡◌, ℕ, ◌+◌, Bool, true, false, cond, ◌&&◌, ◌||◌, eqb, List, [], ◌∷◌, ◌++◌, length, Option, Some, None, Result, Ok, Err, refl, sym, ap, subst, ◌∙◌, append_assoc, append-nil}
+use Rattle.std.proofs.Common.{◌≡◌, ℕ, ◌+◌, ◌-◌, Bool, true, false, cond, ◌&&◌, eqb, ltb, List, [], ◌∷◌, ◌++◌, length, Option, Some, None, Result, Ok, Err, refl, sym, ap, subst, ◌∙◌, append_assoc, append-nil, arith}
 use Rattle.std.specs.Prelude.{map}
 use Rattle.std.specs.List.{find}
-use Rattle.std.proofs.lemmas.Bool.{eqb-true}
+use Rattle.std.proofs.lemmas.Bool.{eqb-true, le-ltb}
 use Rattle.std.proofs.lemmas.Grind.{flat_map-append}
 use Rattle.nr_header.specs.declared.header.Header.{Header}
 use Rattle.nr_header.specs.declared.fault.HeaderFault.{HeaderFault}
@@ -27,10 +27,11 @@ use Rattle.nr_reduce.specs.Events.{Event, if_own, events_at, events}
 use Rattle.nr_reduce.specs.Events.Event.{FrameReceived, CallSubmitted, MemoryRevoked, CallExecuted, QueueWritten}
 use Rattle.nr_reduce.specs.EndRules.{EndState, next_end_state, next_end_state_by, next_end_state_in, end_state_after, output_for, output_for_by, output_for_in}
 use Rattle.nr_reduce.specs.OfferedRegions.{region_grants}
-use Rattle.nr_reduce.specs.ClientState.{OutstandingCall, ClientState, plan_for}
+use Rattle.nr_reduce.specs.ClientState.{OutstandingCall, ClientState, is_sent, plan_for}
+use Rattle.nr_reduce.specs.Written.{ends_left}
 use Rattle.nr_reduce.specs.ClientMessages.{Verdict, verdict, by_header, by_call}
 use Rattle.nr_reduce.specs.ClientMessages.Verdict.{EndsLink, GivesOutcome}
-use Rattle.nr_reduce.specs.Client.{client_rules, client_end, client_output, client_state_after, initial_client, readiness, or_message_end, message_end, end_of_verdict, segment_message, outstanding_of, call_output, calls_output, response_output, segment_request, revoked_call, written_call, with_message, with_request, with_segment}
+use Rattle.nr_reduce.specs.Client.{client_rules, client_end, client_output, client_state_after, initial_client, readiness, or_message_end, message_end, end_of_verdict, segment_message, outstanding_of, call_output, calls_output, response_output, segment_request, revoked_call, submitted_output, with_message, with_request, with_segment, with_hello, due_with_response}
 use Rattle.nr_reduce.specs.Run.{client}
 use Rattle.nr_reduce.specs.Asked.{AskedSoFar, AskedMark}
 use Rattle.nr_reduce.specs.RunLaws.{outstanding_from, as_submitted}
@@ -47,6 +48,7 @@ stag_behind k stag (a ∷ accepted) = stag_behind k (stag + regions_needed (outs
 record Waiting (opened : LinkParameters) (accepted : List AcceptedCall) (k : ClientState) : Type 0 where
   pub calls : map as_submitted k.outstanding ≡ outstanding_from (start opened) opened.first_stag accepted
   pub stag : k.stag ≡ stag_behind (start opened) opened.first_stag accepted
+  pub ends : k.send_ends ≡ []
 
 abbrev Waits : LinkParameters → List AcceptedCall → ClientState → Type 0
 Waits opened accepted k = k.has_hello ≡ false → Waiting opened accepted k
@@ -74,43 +76,24 @@ revoked-same xid (o ∷ os) = ap (λ (x : OutstandingCall). x ∷ map as_submitt
     by true = refl
     by false = refl
 
-or-none : (b : Bool) → (b || false) ≡ b
-or-none true = refl
-or-none false = refl
-
-pub written-same : (hello : Bool) (os : List OutstandingCall) → hello ≡ false → map as_submitted (map (written_call hello) os) ≡ map as_submitted os
-written-same hello [] no_hello = refl
-written-same hello (o ∷ os) no_hello =
-    ap (λ (b : Bool). record o { is_written = b; is_revoked = false } ∷ map as_submitted (map (written_call hello) os)) (ap (λ (b : Bool). o.is_written || b) no_hello ∙ or-none o.is_written)
-    ∙ ap (λ (rest : List OutstandingCall). as_submitted o ∷ rest) (written-same hello os no_hello)
-
--- no Send of these is written, so no message answers one
-abbrev AllUnwritten : List OutstandingCall → Type 0
-AllUnwritten [] = Unit {0}
-AllUnwritten (o ∷ os) = (o.is_written ≡ false) × AllUnwritten os
-
-from-unwritten : (k : ClientState) (stag : ℕ) (accepted : List AcceptedCall) → AllUnwritten (outstanding_from k stag accepted)
-from-unwritten k stag [] = tt
-from-unwritten k stag (a ∷ accepted) = (refl, from-unwritten k (stag + regions_needed (outstanding_of (record k { stag = stag }) a).plan) accepted)
-
-unwritten-back : (os : List OutstandingCall) → AllUnwritten (map as_submitted os) → AllUnwritten os
-unwritten-back [] h = tt
-unwritten-back (o ∷ os) h = (h.0, unwritten-back os h.1)
+-- no Send is due before the hello, so none has left, and no message answers one
+unsent : (k : ClientState) (o : OutstandingCall) → k.send_ends ≡ [] → is_sent k o ≡ false
+unsent k o none = ap (λ (ends : List ℕ). ltb (o.xid - k.first_xid) (ends_left k.written ends)) none ∙ le-ltb (o.xid - k.first_xid) 0 (omega arith)
 
 and-none : (a b : Bool) → b ≡ false → (a && b) ≡ false
 and-none true b e = e
 and-none false b e = refl
 
-none-answered : (xid : ℕ) (os : List OutstandingCall) → AllUnwritten os → find (λ o. eqb o.xid xid && o.is_written) os ≡ None
-none-answered xid [] h = refl
-none-answered xid (o ∷ os) h = ap (λ (b : Bool). cond b (Some o) (find (λ o. eqb o.xid xid && o.is_written) os)) (and-none (eqb o.xid xid) o.is_written h.0) ∙ none-answered xid os h.1
+none-answered : (k : ClientState) (xid : ℕ) (os : List OutstandingCall) → k.send_ends ≡ [] → find (λ o. eqb o.xid xid && is_sent k o) os ≡ None
+none-answered k xid [] h = refl
+none-answered k xid (o ∷ os) h = ap (λ (b : Bool). cond b (Some o) (find (λ o. eqb o.xid xid && is_sent k o) os)) (and-none (eqb o.xid xid) (is_sent k o) (unsent k o h)) ∙ none-answered k xid os h
 
 abbrev Ends : Verdict → Type 0
 Ends (EndsLink reason) = Unit {0}
 Ends (GivesOutcome xid outcome) = ⊥
 
-verdict-ends : (k : ClientState) (place : ℕ) (message : List ℕ) (r : Result Header HeaderFault) → AllUnwritten k.outstanding → Ends (by_header k place message r)
-verdict-ends k place message (Ok header) h = subst (λ (o : Option OutstandingCall). Ends (by_call k place message header.body o)) (sym (none-answered header.xid k.outstanding h)) tt
+verdict-ends : (k : ClientState) (place : ℕ) (message : List ℕ) (r : Result Header HeaderFault) → k.send_ends ≡ [] → Ends (by_header k place message r)
+verdict-ends k place message (Ok header) h = subst (λ (o : Option OutstandingCall). Ends (by_call k place message header.body o)) (sym (none-answered k header.xid k.outstanding h)) tt
 verdict-ends k place message (Err faults.Short) h = tt
 verdict-ends k place message (Err (faults.Version version)) h = tt
 verdict-ends k place message (Err (faults.Kind kind)) h = tt
@@ -120,7 +103,7 @@ end-some : (f : Frame) (v : Verdict) → Ends v → end_of_verdict f v ≡ None 
 end-some f (EndsLink reason) h e = absurd cc
 end-some f (GivesOutcome xid outcome) h e = h
 
-no-message : (k : ClientState) (f : Frame) (o : Option (List ℕ)) → AllUnwritten k.outstanding → message_end k f o ≡ None → o ≡ None
+no-message : (k : ClientState) (f : Frame) (o : Option (List ℕ)) → k.send_ends ≡ [] → message_end k f o ≡ None → o ≡ None
 unfolding verdict
 no-message k f None h e = refl
 no-message k f (Some message) h e = absurd (end-some f (verdict k f.end message) (verdict-ends k f.end message (header_of message) h) e)
@@ -131,45 +114,42 @@ or-message k f None e = e
 
 -- a frame that brings no message leaves the calls
 abbrev SameCalls : ClientState → ClientState → Type 0
-SameCalls k after = (after.outstanding ≡ k.outstanding) × (after.stag ≡ k.stag) × (after.has_hello ≡ k.has_hello)
+SameCalls k after = (after.outstanding ≡ k.outstanding) × (after.stag ≡ k.stag) × (after.has_hello ≡ k.has_hello) × (after.send_ends ≡ k.send_ends)
 
-request-same : (k m : ClientState) (r : Option ReadRequest) → SameCalls k m → SameCalls k (with_request m r)
-request-same k m None h = h
-request-same k m (Some r) h = h
+request-same : (k m : ClientState) (due : ℕ) (r : Option ReadRequest) → SameCalls k m → SameCalls k (with_request m due r)
+request-same k m due None h = h
+request-same k m due (Some r) h = h
 
 segment-same : (k : ClientState) (f : Frame) (r : Result Segment ℕ) → segment_message k r ≡ None → SameCalls k (with_segment k f r)
-segment-same k f (Err reason) e = (refl, refl, refl)
+segment-same k f (Err reason) e = (refl, refl, refl, refl)
 segment-same k f (Ok segment) e =
-    request-same k (with_message k f.end (message_completed k.received segment)) (read_request_of segment)
-    (subst (λ (o : Option (List ℕ)). SameCalls k (with_message k f.end o)) (sym e) (refl, refl, refl))
+    request-same k (with_message k f.end (message_completed k.received segment)) (due_with_response k f segment) (read_request_of segment)
+    (subst (λ (o : Option (List ℕ)). SameCalls k (with_message k f.end o)) (sym e) (refl, refl, refl, refl))
 
 same-waits : (opened : LinkParameters) (accepted : List AcceptedCall) (k after : ClientState) → SameCalls k after → Waits opened accepted k → Waits opened accepted after
 same-waits opened accepted k after s w hello =
     let h = w (sym s.2 ∙ hello) in
-    record { calls = ap (λ (os : List OutstandingCall). map as_submitted os) s.0 ∙ h.calls; stag = s.1 ∙ h.stag }
-
-unwritten-of : (opened : LinkParameters) (accepted : List AcceptedCall) (k : ClientState) → Waiting opened accepted k → AllUnwritten k.outstanding
-unwritten-of opened accepted k w = unwritten-back k.outstanding (subst AllUnwritten (sym w.calls) (from-unwritten (start opened) opened.first_stag accepted))
+    record { calls = ap (λ (os : List OutstandingCall). map as_submitted os) s.0 ∙ h.calls; stag = s.1 ∙ h.stag; ends = s.3 ∙ h.ends }
 
 frame-waits : (opened : LinkParameters) (accepted : List AcceptedCall) (k : ClientState) (f : Frame) → client_end k (FrameReceived f) ≡ None → Waits opened accepted k → Waits opened accepted (client_state_after opened k (FrameReceived f))
 unfolding client_end client_state_after
 frame-waits opened accepted k f stays w = by (is_hello f) stays
   where
     by : (b : Bool) → cond b (hello_end (hello_of Responder f.bytes)) (or_message_end k f (frame_end (readiness k) (region_grants f.end k.regions) f)) ≡ None
-        → Waits opened accepted (cond b (record k { has_hello = true }) (with_segment k f (frame_segment f)))
+        → Waits opened accepted (cond b (with_hello opened k) (with_segment k f (frame_segment f)))
     by true e = λ hello. absurd cc
     by false e = λ hello. by_hello k.has_hello refl hello
       where
-        whole : AllUnwritten k.outstanding → SameCalls k (with_segment k f (frame_segment f))
+        whole : k.send_ends ≡ [] → SameCalls k (with_segment k f (frame_segment f))
         whole h = segment-same k f (frame_segment f) (no-message k f (segment_message k (frame_segment f)) h (or-message k f (frame_end (readiness k) (region_grants f.end k.regions) f) e))
 
         keeps : (r : Result Segment ℕ) → (with_segment k f r).has_hello ≡ k.has_hello
         keeps (Err reason) = refl
-        keeps (Ok segment) = keeps_request (with_message k f.end (message_completed k.received segment)) (read_request_of segment) ∙ keeps_message (message_completed k.received segment)
+        keeps (Ok segment) = keeps_request (with_message k f.end (message_completed k.received segment)) (due_with_response k f segment) (read_request_of segment) ∙ keeps_message (message_completed k.received segment)
           where
-            keeps_request : (m : ClientState) (o : Option ReadRequest) → (with_request m o).has_hello ≡ m.has_hello
-            keeps_request m None = refl
-            keeps_request m (Some q) = refl
+            keeps_request : (m : ClientState) (due : ℕ) (o : Option ReadRequest) → (with_request m due o).has_hello ≡ m.has_hello
+            keeps_request m due None = refl
+            keeps_request m due (Some q) = refl
 
             keeps_message : (o : Option (List ℕ)) → (with_message k f.end o).has_hello ≡ k.has_hello
             keeps_message None = refl
@@ -177,7 +157,7 @@ frame-waits opened accepted k f stays w = by (is_hello f) stays
 
         by_hello : (b : Bool) → k.has_hello ≡ b → (with_segment k f (frame_segment f)).has_hello ≡ false → Waiting opened accepted (with_segment k f (frame_segment f))
         by_hello true is hello = (let t : true ≡ false = sym is ∙ sym (keeps (frame_segment f)) ∙ hello in absurd cc)
-        by_hello false is hello = same-waits opened accepted k (with_segment k f (frame_segment f)) (whole (unwritten-of opened accepted k (w is))) w hello
+        by_hello false is hello = same-waits opened accepted k (with_segment k f (frame_segment f)) (whole (w is).ends) w hello
 
 submit-waits : (opened : LinkParameters) (accepted : List AcceptedCall) (k : ClientState) (place : ℕ) (a : AcceptedCall) → Waits opened accepted k → Waits opened (accepted ++ a ∷ []) (client_state_after opened k (CallSubmitted place a))
 unfolding client_state_after plan_for
@@ -192,6 +172,7 @@ submit-waits opened accepted k place a w hello =
           ∙ sym (from-append (start opened) opened.first_stag accepted a);
       stag = ap (λ (stag : ℕ). stag + regions_needed (outstanding_of (record (start opened) { stag = stag }) a).plan) h.stag
           ∙ sym (behind-append (start opened) opened.first_stag accepted a);
+      ends = ap (λ (b : Bool). k.send_ends ++ cond b ((k.due + length (submitted_output opened k a)) ∷ []) []) hello ∙ append-nil k.send_ends ∙ h.ends;
     }
 
 -- the events that submit nothing
@@ -200,15 +181,15 @@ SubmitsNothing (FrameReceived f) = Unit {0}
 SubmitsNothing (CallSubmitted place a) = ⊥
 SubmitsNothing (MemoryRevoked place xid) = Unit {0}
 SubmitsNothing (CallExecuted call) = Unit {0}
-SubmitsNothing QueueWritten = Unit {0}
+SubmitsNothing (QueueWritten taken) = Unit {0}
 
 after-waits : (opened : LinkParameters) (accepted : List AcceptedCall) (k : ClientState) (event : Event) → SubmitsNothing event → client_end k event ≡ None → Waits opened accepted k → Waits opened accepted (client_state_after opened k event)
 unfolding client_state_after
 after-waits opened accepted k (FrameReceived f) s stays w = frame-waits opened accepted k f stays w
 after-waits opened accepted k (CallSubmitted place a) s stays w = absurd s
-after-waits opened accepted k (MemoryRevoked place xid) s stays w = λ hello. (let h = w hello in record { calls = revoked-same xid k.outstanding ∙ h.calls; stag = h.stag })
+after-waits opened accepted k (MemoryRevoked place xid) s stays w = λ hello. (let h = w hello in record { calls = revoked-same xid k.outstanding ∙ h.calls; stag = h.stag; ends = h.ends })
 after-waits opened accepted k (CallExecuted call) s stays w = w
-after-waits opened accepted k QueueWritten s stays w = λ hello. (let h = w hello in record { calls = written-same k.has_hello k.outstanding hello ∙ h.calls; stag = h.stag })
+after-waits opened accepted k (QueueWritten taken) s stays w = λ hello. (let h = w hello in record { calls = h.calls; stag = h.stag; ends = h.ends })
 
 next-waits : (opened : LinkParameters) (accepted : List AcceptedCall) (r : EndState ClientState) (event : Event) → SubmitsNothing event → Waits opened accepted r.state → Waits opened accepted (next_end_state (client_rules opened) r event).state
 next-waits opened accepted r event s w = by_end r.state r.ended w
@@ -276,7 +257,7 @@ waits-mark opened link before (marks.Submit l call form submissions.Dropped) acc
     by : (b : Bool) → Waits opened (accepted ++ cond b [] []) (client opened link before).state
     by true = subst (λ (all : List AcceptedCall). Waits opened all (client opened link before).state) (sym (append-nil accepted)) w
     by false = subst (λ (all : List AcceptedCall). Waits opened all (client opened link before).state) (sym (append-nil accepted)) w
-waits-mark opened link before (marks.Wrote l s bytes) accepted w h = waits-nothing opened link before (marks.Wrote l s bytes) accepted w (nothing-if _ (QueueWritten ∷ []) (tt, tt))
+waits-mark opened link before (marks.Wrote l s bytes) accepted w h = waits-nothing opened link before (marks.Wrote l s bytes) accepted w (nothing-if _ (QueueWritten (length bytes) ∷ []) (tt, tt))
 waits-mark opened link before (marks.Fed l s bytes) accepted w h =
     waits-nothing opened link before (marks.Fed l s bytes) accepted w (nothing-if _ (map FrameReceived (frames_completed Responder (bytes_received link Initiator before) bytes)) (nothing-frames _))
 waits-mark opened link before (marks.Execute l xid moment payload place reply) accepted w h = waits-nothing opened link before (marks.Execute l xid moment payload place reply) accepted w
@@ -304,7 +285,7 @@ waits-from opened link before (mark ∷ run) w h =
 
 begins-waiting : (opened : LinkParameters) (link : ℕ) → Waits opened (accepted_calls link []) (client opened link []).state
 unfolding client events accepted_calls
-begins-waiting opened link hello = record { calls = refl; stag = refl }
+begins-waiting opened link hello = record { calls = refl; stag = refl; ends = refl }
 
 -- ---- What the hello sends
 

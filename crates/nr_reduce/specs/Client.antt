@@ -1,5 +1,5 @@
 -- The client of a link, event by event: what ends it, what it writes for an event, and what it knows after it.
-use Rattle.std.specs.Prelude.{ℕ, ◌+◌, Bool, true, false, not, ◌||◌, ◌==◌, nat_lt, if◌then◌else◌, List, [], ◌∷◌, ◌++◌, take, drop, map, Option, None, Some, Result, Ok, Err}
+use Rattle.std.specs.Prelude.{ℕ, ◌+◌, Bool, true, false, not, ◌==◌, nat_lt, if◌then◌else◌, List, [], ◌∷◌, ◌++◌, length, take, drop, map, Option, None, Some, Result, Ok, Err}
 use Rattle.std.specs.List.{filter}
 use Rattle.nr_wire.specs.declared.hello.Side.TheVariants.{Responder}
 use Rattle.nr_wire.specs.Hello.{hello_of}
@@ -21,7 +21,7 @@ use Rattle.nr_reduce.specs.OfferedRegions.{Region, region_grants, regions_closed
 use Rattle.nr_reduce.specs.Events.{Event}
 use Rattle.nr_reduce.specs.EndRules.{Rules, EndState}
 use Rattle.nr_reduce.specs.Events.Event.{FrameReceived, CallSubmitted, MemoryRevoked, CallExecuted, QueueWritten}
-use Rattle.nr_reduce.specs.ClientState.{OutstandingCall, ClientState, initial_state, down_max, call_payload, plan_for, memory_at}
+use Rattle.nr_reduce.specs.ClientState.{OutstandingCall, ClientState, initial_state, responses_owed, down_max, call_payload, plan_for, memory_at}
 use Rattle.nr_reduce.specs.ClientMessages.{Verdict, verdict}
 use Rattle.nr_reduce.specs.ClientMessages.Verdict.{EndsLink, GivesOutcome}
 use Rattle.nr_xdr.specs.Fields.{word_at}
@@ -36,7 +36,7 @@ readiness k missing = record {
   message_max = down_max k;
   missing = missing;
   expected = None;
-  responses = k.responses;
+  responses = responses_owed k;
 }
 
 abbrev pub end_of_verdict : Frame → Verdict → Option End
@@ -61,7 +61,7 @@ client_end k (FrameReceived f) =
 client_end k (CallSubmitted place a) = None
 client_end k (MemoryRevoked place xid) = None
 client_end k (CallExecuted call) = None
-client_end k QueueWritten = None
+client_end k (QueueWritten taken) = None
 
 -- ---- What the client writes
 
@@ -93,18 +93,21 @@ outstanding_of k a = record {
   call = a.call;
   plan = plan_or (call_payload a.xid a.call) (plan_for k a.xid a.call a.form);
   stag = k.stag;
-  is_written = false;
   is_revoked = false;
 }
+
+-- the Send of a call that is accepted, due at once where the server's hello came
+abbrev pub submitted_output : LinkParameters → ClientState → AcceptedCall → List ℕ
+submitted_output opened k a = if k.has_hello then call_output opened (k.calls_accepted + 1) (outstanding_of k a) else []
 
 -- The output that is due for an event. A client sends no FPDU before the server's hello; the calls that were accepted before it
 -- are sent then (RFC 5044 section 7.1).
 unfoldable pub client_output : LinkParameters → ClientState → Event → List ℕ
 client_output opened k (FrameReceived f) = if is_hello f then calls_output opened 1 k.outstanding else response_output k f.end (segment_request (frame_segment f))
-client_output opened k (CallSubmitted place a) = if k.has_hello then call_output opened (k.calls_accepted + 1) (outstanding_of k a) else []
+client_output opened k (CallSubmitted place a) = submitted_output opened k a
 client_output opened k (MemoryRevoked place xid) = []
 client_output opened k (CallExecuted call) = []
-client_output opened k QueueWritten = []
+client_output opened k (QueueWritten taken) = []
 
 -- ---- What the client knows after each
 
@@ -131,37 +134,57 @@ with_message k place (Some message) = record k {
   grant = credits_of_word (word_at 8 message);
 }
 
-abbrev pub with_request : ClientState → Option ReadRequest → ClientState
-with_request k None = k
-with_request k (Some r) = record k { responses = k.responses + 1 }
+-- how many bytes are due once the Read Response to a segment is
+abbrev pub due_with_response : ClientState → Frame → Segment → ℕ
+due_with_response k f segment = k.due + length (response_output k f.end (read_request_of segment))
+
+abbrev pub with_request : ClientState → ℕ → Option ReadRequest → ClientState
+with_request k due None = k
+with_request k due (Some r) = record k { due = due; response_ends = k.response_ends ++ due ∷ [] }
 
 -- a message and a Read Request are judged by the memory before the frame
 abbrev pub with_segment : ClientState → Frame → Result Segment ℕ → ClientState
 with_segment k f (Err reason) = k
 with_segment k f (Ok segment) =
-    let m : ClientState = with_request (with_message k f.end (message_completed k.received segment)) (read_request_of segment) in
+    let m : ClientState = with_request (with_message k f.end (message_completed k.received segment)) (due_with_response k f segment) (read_request_of segment) in
     record m { received = received_after k.received segment; accesses_received = k.accesses_received ++ tagged_access f segment }
 
 abbrev pub revoked_call : ℕ → OutstandingCall → OutstandingCall
 revoked_call xid o = if o.xid == xid then record o { is_revoked = true } else o
 
-abbrev pub written_call : Bool → OutstandingCall → OutstandingCall
-written_call has_hello o = record o { is_written = o.is_written || has_hello }
+-- where the Sends of some calls end, behind so many bytes
+abbrev pub call_ends : LinkParameters → ℕ → ℕ → List OutstandingCall → List ℕ
+call_ends opened due msn [] = []
+call_ends opened due msn (o ∷ others) =
+    (due + length (call_output opened msn o)) ∷ call_ends opened (due + length (call_output opened msn o)) (msn + 1) others
+
+-- the server's hello makes the Sends of the calls due that were accepted before it
+abbrev pub with_hello : LinkParameters → ClientState → ClientState
+with_hello opened k = record k {
+  has_hello = true;
+  due = k.due + length (calls_output opened 1 k.outstanding);
+  send_ends = k.send_ends ++ call_ends opened k.due 1 k.outstanding;
+}
+
+abbrev pub submitted_ends : LinkParameters → ClientState → AcceptedCall → List ℕ
+submitted_ends opened k a = if k.has_hello then (k.due + length (submitted_output opened k a)) ∷ [] else []
 
 unfoldable pub client_state_after : LinkParameters → ClientState → Event → ClientState
-client_state_after opened k (FrameReceived f) = if is_hello f then record k { has_hello = true } else with_segment k f (frame_segment f)
+client_state_after opened k (FrameReceived f) = if is_hello f then with_hello opened k else with_segment k f (frame_segment f)
 client_state_after opened k (CallSubmitted place a) = record k {
   calls_accepted = k.calls_accepted + 1;
   stag = k.stag + regions_needed (outstanding_of k a).plan;
   outstanding = k.outstanding ++ outstanding_of k a ∷ [];
   regions = k.regions ++ map (region_of a.xid place) (buffers k.stag (outstanding_of k a).plan);
+  due = k.due + length (submitted_output opened k a);
+  send_ends = k.send_ends ++ submitted_ends opened k a;
 }
 client_state_after opened k (MemoryRevoked place xid) = record k {
   outstanding = map (revoked_call xid) k.outstanding;
   regions = regions_closed (λ r. r.call == xid) place k.regions;
 }
 client_state_after opened k (CallExecuted call) = k
-client_state_after opened k QueueWritten = record k { outstanding = map (written_call k.has_hello) k.outstanding; responses = 0 }
+client_state_after opened k (QueueWritten taken) = record k { written = k.written + taken }
 
 abbrev pub client_rules : LinkParameters → Rules ClientState
 client_rules opened = record {

@@ -15,6 +15,7 @@ pub mod AtEachMark
 pub mod Matched
 pub mod Events
 pub mod EndRules
+pub mod Written
 pub mod OfferedRegions
 pub mod OfferedMemory
 pub mod ClientState
@@ -38,4 +39,6 @@ pub mod PayloadLaws
 pub mod SoFar
 pub mod Standing
 pub mod RunLaws
+pub mod DueItems
+pub mod OutputLaws
 pub mod MemoryLaws

@@ -47,8 +47,8 @@ pub use planning::plan;
 pub use reading::{is_read_chunk_of_item, item_position, total_at};
 pub use replying::{answer_lists, answer_message};
 pub use run_laws::{
-    accepted_calls_keep_the_law, accesses_are_allowed, ended_ends_stay, ends_stand_for_marks,
-    laws_so_far, nothing_twice, one_mark_more, places_rise, plans_are_accepted, sends_are_answered,
-    submits_are_sent,
+    accepted_calls_keep_the_law, accesses_are_allowed, counts_go_by_bytes_sent, ended_ends_stay,
+    ends_stand_for_marks, laws_so_far, nothing_twice, one_mark_more, output_is_items, places_rise,
+    plans_are_accepted, sends_are_answered, submits_are_sent,
 };
 pub use sequence::Sequence;

@@ -1,5 +1,6 @@
 //! Laws of runs: what both ends of a link cite, and what holds of every run.
 
+ghost use Rattle.nr_reduce.specs.OutputLaws.{ClientOutputIsItems, ClientBytes, ServerBytes, ClientCountsItems};
 ghost use Rattle.nr_reduce.specs.RunLaws.{ClientAfterMark, ServerAfterMark, ClientOutputAfterMark, ServerOutputAfterMark, EndedClientStays, EndedServerStays, FullHoldsSoFar, SoFarHoldsBefore, AskedWithMark, ServedWithMark, ClientBegins, ServerBegins, EventsOfInput, ClientStandsOn, ServerStandsOn, ClientQueueIsDue, ServerQueueIsDue, GrantsHaveOwnStags, ClientAllows, ServerAllows, StagsAreNumbers, AcceptedKeepsLaw, SubmitIsSent, HelloSendsCalls, AcceptedCallsWait, ReadChunkStays, PayloadHasItsXid, ReadyIsConveyed, PayloadIsConveyed, ExecuteIsAnswered, RefusedSendIsAnswered, BadMessageIsRefused, RefusedCallIsAnswered, RefusedIsNotExecuted, OpenReadsAreFew, PlanIsAccepted, SendIsExecutedOnce, CallCompletesOnce, XidsRise, PlacesRise};
 
 /// One mark more: the state of an end, and the output due, are those before with the events of the mark.
@@ -102,4 +103,19 @@ pub fn nothing_twice()
 /// Places in the one journal rise along a run: what is executed later has a place that isn't smaller.
 pub fn places_rise()
     ensures { PlacesRise }
+{}
+
+/// All output of a client that is due is its hello, and then items: a Send for each call, the Read Responses, and the last
+/// output. The bytes are their encodings, in order.
+pub fn output_is_items()
+    ensures { ClientOutputIsItems }
+{}
+
+/// While a side hasn't ended, its state counts the bytes of output that were due and those that were written. The Sends of
+/// a client that have left are the Send items of which all bytes were written, and the Read Responses that it owes are the
+/// Read Response items of which some weren't.
+pub fn counts_go_by_bytes_sent()
+    ensures client_written { ClientBytes }
+    ensures server_written { ServerBytes }
+    ensures client { ClientCountsItems }
 {}

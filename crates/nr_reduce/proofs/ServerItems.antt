@@ -1,0 +1,190 @@
+-- What an event makes due at a server: its hello, or items; and the ends that it adds are those of the items.
+use Rattle.std.proofs.Common.{◌≡◌, ℕ, ◌+◌, Bool, true, false, cond, eqb, List, [], ◌∷◌, ◌++◌, length, take, drop, Option, None, Some, refl, sym, ap, ◌∙◌, arith, append_assoc, append-nil, length-append, eqb-true}
+use Rattle.std.specs.Prelude.{min}
+use Rattle.nr_header.specs.declared.header.ChunkLists.{ChunkLists}
+use Rattle.nr_header.specs.declared.header.RdmaSegment.{RdmaSegment}
+use Rattle.nr_rpc.specs.Reading.{call_of, target_of}
+use Rattle.nr_wire.specs.Constants.{REASON_FLAGS}
+use Rattle.nr_wire.specs.declared.hello.Side.TheVariants.{Responder}
+use Rattle.nr_link.specs.declared.end.End.{End}
+use Rattle.nr_link.specs.declared.end.End.TheVariants as ends
+use Rattle.nr_link.specs.Frames.{Frame, is_hello}
+use Rattle.nr_link.specs.Ending.{final_output, rejection, is_hello_reason}
+use Rattle.nr_link.specs.Output.{send, read_request, own_hello, refusing_hello, write, terminate_message}
+use Rattle.nr_link.specs.OutputItem.{OutputItem, item_encoding, items_encoding, is_send_item, item_ends}
+use Rattle.nr_link.specs.OutputItem.OutputItem.{SendItem, WriteItem, LastItem}
+use Rattle.nr_reduce.specs.declared.mark.LinkParameters.{LinkParameters}
+use Rattle.nr_reduce.specs.History.{ExecutedCall}
+use Rattle.nr_reduce.specs.Holds.{Answer, answer_writes, answer_message, writes_into, first_chunk, no_segments}
+use Rattle.nr_reduce.specs.Events.{Event}
+use Rattle.nr_reduce.specs.Events.Event.{FrameReceived, CallSubmitted, MemoryRevoked, CallExecuted, QueueWritten}
+use Rattle.nr_reduce.specs.ServerState.{PendingRead, ServerState, down_max, credit_word}
+use Rattle.nr_reduce.specs.ServerFrames.{frame_effect}
+use Rattle.nr_reduce.specs.Server.{server_state_after, server_output, server_final_output, sends_from, send_ends_from, requests_from, newly_open_reads, effect_output, offer_of, answer_of_target, answer_output, execution_output, with_effect, with_own_hello}
+use Rattle.nr_reduce.specs.DueItems.{message_items, request_items, effect_items, write_items, answer_items, execution_items, server_items_at, server_hello_at}
+use Rattle.nr_reduce.proofs.WholeWrotes.{server-due}
+use Rattle.nr_reduce.proofs.OutputItems.{encoding-append, ends-append}
+
+messages-encoded : (number : ℕ) (ms : List (List ℕ)) → sends_from number ms ≡ items_encoding (message_items number ms)
+messages-encoded number [] = refl
+messages-encoded number (m ∷ ms) = ap (λ (bs : List ℕ). send number m ++ bs) (messages-encoded (number + 1) ms)
+
+requests-encoded : (number : ℕ) (reads : List PendingRead) → requests_from number reads ≡ items_encoding (request_items number reads)
+requests-encoded number [] = refl
+requests-encoded number (r ∷ reads) = ap (λ (bs : List ℕ). read_request number r.sink r.at r.size r.stag r.to ++ bs) (requests-encoded (number + 1) reads)
+
+writes-encoded : (chunk : List RdmaSegment) (bytes : List ℕ) → writes_into chunk bytes ≡ items_encoding (write_items chunk bytes)
+writes-encoded [] bytes = refl
+writes-encoded (s ∷ chunk) bytes = by (eqb (min s.length (length bytes)) 0) (writes-encoded chunk (drop s.length bytes))
+  where
+    rest : List OutputItem
+    rest = write_items chunk (drop s.length bytes)
+
+    one : OutputItem
+    one = WriteItem s.handle s.offset (take s.length bytes)
+
+    by : (b : Bool) → writes_into chunk (drop s.length bytes) ≡ items_encoding rest
+        → cond b [] (write s.handle s.offset (take s.length bytes)) ++ writes_into chunk (drop s.length bytes) ≡ items_encoding (cond b [] (one ∷ []) ++ rest)
+    by true h = h
+    by false h = ap (λ (bs : List ℕ). write s.handle s.offset (take s.length bytes) ++ bs) h
+
+answer-encoded : (k : ServerState) (xid : ℕ) (offer : ChunkLists) (o : Option Answer) → answer_output k xid offer o ≡ items_encoding (answer_items k xid offer o)
+unfolding answer_writes
+answer-encoded k xid offer None = sym (append-nil (answer_output k xid offer None))
+answer-encoded k xid offer (Some a) =
+    (λ i. writes i ++ sym (append-nil (send (k.messages_queued + 1) (answer_message xid (credit_word k) offer a))) i)
+    ∙ sym (encoding-append (moved ++ long a.long) (SendItem (k.messages_queued + 1) (answer_message xid (credit_word k) offer a) ∷ []))
+  where
+    moved : List OutputItem
+    moved = write_items (first_chunk offer.write) a.moved
+
+    long : Bool → List OutputItem
+    long b = cond b (write_items (no_segments offer.reply) a.stream) []
+
+    by : (b : Bool) → cond b (writes_into (no_segments offer.reply) a.stream) [] ≡ items_encoding (long b)
+    by true = writes-encoded (no_segments offer.reply) a.stream
+    by false = refl
+
+    writes : writes_into (first_chunk offer.write) a.moved ++ cond a.long (writes_into (no_segments offer.reply) a.stream) [] ≡ items_encoding (moved ++ long a.long)
+    writes = (λ i. writes-encoded (first_chunk offer.write) a.moved i ++ by a.long i) ∙ sym (encoding-append moved (long a.long))
+
+execution-encoded : (k : ServerState) (e : ExecutedCall) → execution_output k e ≡ items_encoding (execution_items k e)
+unfolding execution_output execution_items
+execution-encoded k e = answer-encoded k e.xid (offer_of k e.xid) (answer_of_target (offer_of k e.xid) (down_max k) e.reply (target_of (call_of e.payload)))
+
+effect-encoded : (k : ServerState) (f : Frame) → effect_output k (frame_effect k f) ≡ items_encoding (effect_items k (frame_effect k f))
+effect-encoded k f =
+    (λ i. messages-encoded (k.messages_queued + 1) (frame_effect k f).errors i ++ requests-encoded (k.requests_sent + 1) (newly_open_reads (frame_effect k f)) i)
+    ∙ sym (encoding-append (message_items (k.messages_queued + 1) (frame_effect k f).errors) (request_items (k.requests_sent + 1) (newly_open_reads (frame_effect k f))))
+
+pub server-encoded : (opened : LinkParameters) (k : ServerState) (e : Event) → server_output opened k e ≡ server_hello_at e ++ items_encoding (server_items_at opened k e)
+unfolding server_output server_items_at
+server-encoded opened k (FrameReceived f) = by (is_hello f)
+  where
+    by : (b : Bool) → cond b (own_hello Responder) (effect_output k (frame_effect k f)) ≡ cond b (own_hello Responder) [] ++ items_encoding (cond b [] (effect_items k (frame_effect k f)))
+    by true = sym (append-nil (own_hello Responder))
+    by false = effect-encoded k f
+server-encoded opened k (CallSubmitted place a) = refl
+server-encoded opened k (MemoryRevoked place xid) = refl
+server-encoded opened k (CallExecuted e) = execution-encoded k e
+server-encoded opened k (QueueWritten taken) = refl
+
+pub server-last : (end : End) → server_final_output end ≡ rejection Responder end ++ items_encoding (LastItem end ∷ [])
+unfolding server_final_output final_output
+server-last (ends.Bad at reason) = by (eqb reason REASON_FLAGS) refl
+  where
+    by_reason : (b : Bool) → is_hello_reason reason ≡ b → b ≡ true → cond b [] (terminate_message reason) ≡ []
+    by_reason true is e = refl
+    by_reason false is e = absurd cc
+
+    by : (b : Bool) → eqb reason REASON_FLAGS ≡ b
+        → cond b refusing_hello (cond (is_hello_reason reason) [] (terminate_message reason)) ≡ cond b refusing_hello [] ++ (cond (is_hello_reason reason) [] (terminate_message reason) ++ [])
+    by true is =
+        sym (append-nil refusing_hello)
+        ∙ ap (λ (bs : List ℕ). refusing_hello ++ (bs ++ [])) (sym (by_reason (is_hello_reason reason) refl (ap is_hello_reason (eqb-true reason REASON_FLAGS is))))
+    by false is = sym (append-nil (cond (is_hello_reason reason) [] (terminate_message reason)))
+server-last (ends.Denied stag offset why) = sym (append-nil (final_output (ends.Denied stag offset why)))
+server-last (ends.NoBuffer msn) = sym (append-nil (final_output (ends.NoBuffer msn)))
+server-last (ends.Terminated reason) = refl
+server-last ends.Memory = refl
+
+-- ---- The ends of messages
+
+messages-end : (due number : ℕ) (ms : List (List ℕ)) → send_ends_from due number ms ≡ item_ends is_send_item due (message_items number ms)
+messages-end due number [] = refl
+messages-end due number (m ∷ ms) = ap (λ (ends : List ℕ). (due + length (send number m)) ∷ ends) (messages-end (due + length (send number m)) (number + 1) ms)
+
+requests-none : (due number : ℕ) (reads : List PendingRead) → item_ends is_send_item due (request_items number reads) ≡ []
+requests-none due number [] = refl
+requests-none due number (r ∷ reads) = requests-none (due + length (read_request number r.sink r.at r.size r.stag r.to)) (number + 1) reads
+
+writes-none : (due : ℕ) (chunk : List RdmaSegment) (bytes : List ℕ) → item_ends is_send_item due (write_items chunk bytes) ≡ []
+writes-none due [] bytes = refl
+writes-none due (s ∷ chunk) bytes = by (λ n. writes-none n chunk (drop s.length bytes)) (eqb (min s.length (length bytes)) 0)
+  where
+    by : ((n : ℕ) → item_ends is_send_item n (write_items chunk (drop s.length bytes)) ≡ []) → (b : Bool)
+        → item_ends is_send_item due (cond b [] (WriteItem s.handle s.offset (take s.length bytes) ∷ []) ++ write_items chunk (drop s.length bytes)) ≡ []
+    by rest true = rest due
+    by rest false = rest (due + length (write s.handle s.offset (take s.length bytes)))
+
+-- an answer has one Send, at its end
+answer-ends : (k : ServerState) (xid : ℕ) (offer : ChunkLists) (o : Option Answer) (due : ℕ) → (due + length (answer_output k xid offer o)) ∷ [] ≡ item_ends is_send_item due (answer_items k xid offer o)
+unfolding answer_writes
+answer-ends k xid offer None due = refl
+answer-ends k xid offer (Some a) due =
+    ap (λ (n : ℕ). n ∷ []) (let e : due + length (answer_writes offer a ++ last) ≡ (due + length (items_encoding (moved ++ long a.long))) + length last = omega (arith, length-append (answer_writes offer a) last, ap (λ (bs : List ℕ). length bs) spelled) in e)
+    ∙ ap (λ (ends : List ℕ). ends ++ ((due + length (items_encoding (moved ++ long a.long))) + length last) ∷ []) (sym none)
+    ∙ sym (ends-append is_send_item due (moved ++ long a.long) (SendItem (k.messages_queued + 1) (answer_message xid (credit_word k) offer a) ∷ []))
+  where
+    last : List ℕ
+    last = send (k.messages_queued + 1) (answer_message xid (credit_word k) offer a)
+
+    moved : List OutputItem
+    moved = write_items (first_chunk offer.write) a.moved
+
+    long : Bool → List OutputItem
+    long b = cond b (write_items (no_segments offer.reply) a.stream) []
+
+    by : (b : Bool) → cond b (writes_into (no_segments offer.reply) a.stream) [] ≡ items_encoding (long b)
+    by true = writes-encoded (no_segments offer.reply) a.stream
+    by false = refl
+
+    spelled : answer_writes offer a ≡ items_encoding (moved ++ long a.long)
+    spelled = (λ i. writes-encoded (first_chunk offer.write) a.moved i ++ by a.long i) ∙ sym (encoding-append moved (long a.long))
+
+    long-none : (n : ℕ) (b : Bool) → item_ends is_send_item n (long b) ≡ []
+    long-none n true = writes-none n (no_segments offer.reply) a.stream
+    long-none n false = refl
+
+    none : item_ends is_send_item due (moved ++ long a.long) ≡ []
+    none = ends-append is_send_item due moved (long a.long) ∙ (λ i. writes-none due (first_chunk offer.write) a.moved i ++ long-none (due + length (items_encoding moved)) a.long i)
+
+execution-ends : (k : ServerState) (e : ExecutedCall) → (k.due + length (execution_output k e)) ∷ [] ≡ item_ends is_send_item k.due (execution_items k e)
+unfolding execution_output execution_items
+execution-ends k e = answer-ends k e.xid (offer_of k e.xid) (answer_of_target (offer_of k e.xid) (down_max k) e.reply (target_of (call_of e.payload))) k.due
+
+effect-ends : (k : ServerState) (f : Frame) → send_ends_from k.due (k.messages_queued + 1) (frame_effect k f).errors ≡ item_ends is_send_item k.due (effect_items k (frame_effect k f))
+effect-ends k f =
+    let messages = message_items (k.messages_queued + 1) (frame_effect k f).errors in
+    let requests = request_items (k.requests_sent + 1) (newly_open_reads (frame_effect k f)) in
+    messages-end k.due (k.messages_queued + 1) (frame_effect k f).errors
+    ∙ sym (append-nil (item_ends is_send_item k.due messages))
+    ∙ ap (λ (ends : List ℕ). item_ends is_send_item k.due messages ++ ends) (sym (requests-none (k.due + length (items_encoding messages)) (k.requests_sent + 1) (newly_open_reads (frame_effect k f))))
+    ∙ sym (ends-append is_send_item k.due messages requests)
+
+pub server-sends : (opened : LinkParameters) (k : ServerState) (e : Event) → (server_state_after opened k e).message_ends ≡ k.message_ends ++ item_ends is_send_item k.due (server_items_at opened k e)
+unfolding server_state_after server_items_at
+server-sends opened k (FrameReceived f) = by (is_hello f)
+  where
+    by : (b : Bool) → (cond b (with_own_hello k) (with_effect k f (frame_effect k f))).message_ends ≡ k.message_ends ++ item_ends is_send_item k.due (cond b [] (effect_items k (frame_effect k f)))
+    by true = sym (append-nil k.message_ends)
+    by false = ap (λ (ends : List ℕ). k.message_ends ++ ends) (effect-ends k f)
+server-sends opened k (CallSubmitted place a) = sym (append-nil k.message_ends)
+server-sends opened k (MemoryRevoked place xid) = sym (append-nil k.message_ends)
+server-sends opened k (CallExecuted e) = ap (λ (ends : List ℕ). k.message_ends ++ ends) (execution-ends k e)
+server-sends opened k (QueueWritten taken) = sym (append-nil k.message_ends)
+
+pub server-more : (opened : LinkParameters) (k : ServerState) (e : Event) → (server_state_after opened k e).due ≡ k.due + (length (server_hello_at e) + length (items_encoding (server_items_at opened k e)))
+server-more opened k e =
+    server-due opened k e ∙ ap (λ (xs : List ℕ). k.due + length xs) (server-encoded opened k e)
+    ∙ ap (λ (n : ℕ). k.due + n) (length-append (server_hello_at e) (items_encoding (server_items_at opened k e)))
