@@ -2,8 +2,7 @@
 
     python3 conformance/run.py [--jobs N]
 
-It runs check_definitions.py, laws_of_runs.py and test_evaluator.py, one after the other, on all processors. It takes some
-twelve processor minutes. Exit status: 0 if all of them agree, else 1."""
+It runs test_evaluator.py, check_grammar.py, check_definitions.py and laws_of_runs.py, one after the other, on all processors. Exit status: 0 if all of them agree, else 1."""
 import argparse
 import os
 import subprocess
@@ -13,6 +12,7 @@ import time
 HERE = os.path.dirname(os.path.abspath(__file__))
 STEPS = (
     ('The evaluator against definitions whose values are known', 'test_evaluator.py', False),
+    ('The grammar of scripts on the recorded scripts', 'check_grammar.py', True),
     ('The definitions of a run on the recorded runs', 'check_definitions.py', True),
     ('The laws on the recorded runs', 'laws_of_runs.py', True),
 )

@@ -50,6 +50,30 @@ def _starts_with(eq: Value, xs: list[Value], ys: list[Value]) -> bool:
     return len(ys) <= len(xs) and all(truth(call(eq, x, y)) for x, y in zip(xs, ys))
 
 
+def _split(is_separator: Value, xs: list[Value]) -> list[list[Value]]:
+    parts: list[list[Value]] = [[]]
+    for x in xs:
+        if truth(call(is_separator, x)):
+            parts.append([])
+        else:
+            parts[-1].append(x)
+    return parts
+
+
+def _digits(base: int, digits: list[int]) -> int:
+    value = 0
+    for d in digits:
+        value = value * base + int(chr(d), base)
+    return value
+
+
+def _decoded(digits: list[int]) -> Value:
+    text = bytes(digits).decode('latin-1')
+    if len(text) % 2 or any(c not in '0123456789abcdefABCDEF' for c in text):
+        return Con('Err', TT)
+    return Con('Ok', list(bytes.fromhex(text)))
+
+
 def _pointwise(f: Value, xs: list[Value], ys: list[Value]) -> bool:
     return len(xs) == len(ys) and all(truth(call(f, x, y)) for x, y in zip(xs, ys))
 
@@ -99,6 +123,7 @@ STD: dict[str, Value] = {
     'option_and_then': Fn(2, lambda f, o: call(f, o.a[0]) if o.n == 'Some' else o),
     'result_unwrap_or': Fn(2, lambda o, d: o.a[0] if o.n == 'Ok' else d),
     'pointwise': Fn(3, _pointwise),
+    'slice_split': Fn(2, _split), 'digits_value': Fn(2, _digits), 'decode_of': Fn(1, _decoded),
     'codes': Fn(1, lambda s: [ord(c) for c in s]),
     'w8': 1, 'w16': 2, 'w32': 4, 'w64': 8,
     'to_be_bytes': Fn(2, lambda w, n: list((n % 256 ** w).to_bytes(w, 'big'))),

@@ -96,9 +96,12 @@ def call(f: Value, *args: Value) -> Value:
 
 
 def field(v: Value, name: str) -> Value:
-    if isinstance(v, tuple) and name.isdigit() and int(name) < 2:
-        # pairs nest to the right
-        return v[int(name)]
+    if isinstance(v, tuple):
+        # Pairs nest to the right, and a triple is flat: its third part is the second of its rest, and a field of the
+        # rest is one of its second part.
+        if name.isdigit():
+            return v[int(name)] if int(name) < 2 else field(v[1], str(int(name) - 1))
+        return field(v[0], name)
     if isinstance(v, dict):
         if name in v:
             x = v[name]
