@@ -89,6 +89,10 @@ not-long : (last : Bool) (most n : ℕ) → (last && nat_lt most n) ≡ false �
 not-long true most n is h = ltb-false most n is
 not-long false most n is h = absurd cc
 
+not-short : (last : Bool) (least n : ℕ) → (last && nat_lt n least) ≡ false → last ≡ true → least ≤ n
+not-short true least n is h = ltb-false n least is
+not-short false least n is h = absurd cc
+
 pub send-fine : (s : LinkState) (last : Bool) (msn : ℕ) (payload : List ℕ) → send_end s last msn payload ≡ None → SendIsFine s last payload
 unfolding send_end
 send-fine s last msn payload is =
@@ -98,6 +102,8 @@ send-fine s last msn payload is =
     record {
       receive = free-or-begun (is_begun s.receive_queue.received.begun) s.receive_queue.free parts.0;
       fits = not-long last send_max (send_len s payload) (not-bad s.place REASON_LONG (last && nat_lt send_max (send_len s payload)) _ parts.1).0;
+      enough = not-short last 16 (send_len s payload)
+          (not-bad s.place REASON_SHORT (last && nat_lt (send_len s payload) 16) None (not-bad s.place REASON_LONG (last && nat_lt send_max (send_len s payload)) _ parts.1).1).0;
     }
 
 never-none : (at : ℕ) (b : Bool) (word : ℕ) → bad_if at REASON_FORM b (Some (ends.Terminated word)) ≢ None

@@ -130,10 +130,10 @@ event_stands before after is = ap (λ (l : Link). fed_bytes l) is ∙ event-fed 
 pub post_stands : (before after : Link) → after ≡ after_call before Post → fed_bytes after ≡ fed_bytes before
 post_stands before after is = ap (λ (l : Link). fed_bytes l) is ∙ post-fed before
 
-pub message_lent : (before after : Link) (bytes : List ℕ) → before.state.receive_queue.notices ≡ MessageReceived bytes ∷ after.state.receive_queue.notices → after ≡ after_call before NextEvent →
+pub message_lent : (before after : Link) (number : ℕ) (invalidated : Option ℕ) (bytes : List ℕ) → before.state.receive_queue.notices ≡ MessageReceived number invalidated bytes ∷ after.state.receive_queue.notices → after ≡ after_call before NextEvent →
     0 < after.state.receive_queue.lent
 unfolding after_call
-message_lent before after bytes first is =
+message_lent before after number invalidated bytes first is =
     let lent : after.state.receive_queue.lent ≡ before.state.receive_queue.lent + lent_for before.state.receive_queue.notices = ap (λ (l : Link). l.state.receive_queue.lent) is in
     let one : lent_for before.state.receive_queue.notices ≡ 1 = ap (λ (n : List Notice). lent_for n) first in
     omega (arith, lent, one)

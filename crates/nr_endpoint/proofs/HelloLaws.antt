@@ -15,7 +15,8 @@ use Rattle.nr_link.specs.declared.end.End.{End}
 use Rattle.nr_link.specs.declared.end.End.TheVariants as ends
 use Rattle.nr_link.specs.Frames.{Frame}
 use Rattle.nr_link.specs.Output.{refusing_hello}
-use Rattle.nr_endpoint.specs.SendQueue.{with_end, written, rejection, writable}
+use Rattle.nr_endpoint.specs.SendQueue.{with_end, written, writable}
+use Rattle.nr_link.specs.Ending.{rejection}
 use Rattle.nr_endpoint.specs.LinkState.{LinkState, Link, has_ended, initial_link}
 use Rattle.nr_endpoint.specs.Judging.{segment_end, next_frame, with_frame, with_segment_by, with_fpdu, with_peer_hello, with_effect, with_read_response}
 use Rattle.nr_endpoint.specs.Calls.{Call, after_call, after_calls}

@@ -25,3 +25,4 @@ pub mod FedBytes
 pub mod ClaimLaws
 pub mod StreamLaws
 pub mod GrantLaws
+pub mod WholeCalls

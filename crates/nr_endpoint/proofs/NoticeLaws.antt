@@ -79,9 +79,9 @@ names-made : (n : ℕ) (notices : List Notice) → names (map (made_at n) notice
 names-made n [] = refl
 names-made n (notice ∷ notices) = ap (λ (ns : List Notice). notice ∷ ns) (names-made n notices)
 
-message-rise : (from n : ℕ) (message : Option (List ℕ)) → from < n → NoticesRise from (map (made_at n) (message_notices message)) n
-message-rise from n None longer = omega (arith, longer)
-message-rise from n (Some message) longer = (longer, omega arith)
+message-rise : (from n number : ℕ) (message : Option (List ℕ)) → from < n → NoticesRise from (map (made_at n) (message_notices number message)) n
+message-rise from n number None longer = omega (arith, longer)
+message-rise from n number (Some message) longer = (longer, omega arith)
 
 read-rise : (from n : ℕ) (done : Bool) → from < n → NoticesRise from (map (made_at n) (cond done (ReadDone ∷ []) [])) n
 read-rise from n false longer = omega (arith, longer)
@@ -106,8 +106,8 @@ unfolding with_effect with_segment
 segment-makes s f segment (Some end) longer = ((sym (append-nil s.receive_queue.notices), (omega arith)), tt)
 segment-makes s f (Untagged last opcode w queue msn offset payload) None longer =
     let message : Option (List ℕ) = message_completed s.receive_queue.received (Untagged last opcode w queue msn offset payload) in (
-      (ap (λ (ns : List Notice). s.receive_queue.notices ++ ns) (sym (names-made f.end (message_notices message))), message-rise s.place f.end message longer),
-      at-end f.end (message_notices message),
+      (ap (λ (ns : List Notice). s.receive_queue.notices ++ ns) (sym (names-made f.end (message_notices (s.receive_queue.received.sends + 1) message))), message-rise s.place f.end (s.receive_queue.received.sends + 1) message longer),
+      at-end f.end (message_notices (s.receive_queue.received.sends + 1) message),
     )
 segment-makes s f (Tagged last opcode stag to payload) None longer =
     let done : Bool = eqb opcode OPCODE_READ_RESPONSE && last in (

@@ -11,9 +11,9 @@ use Rattle.nr_wire.specs.Constants.{OPCODE_READ_REQUEST}
 use Rattle.nr_regions.specs.RegisteredMemory.{bytes_at}
 use Rattle.nr_link.specs.ReceiveState.{read_request_in}
 use Rattle.nr_link.specs.Output.{cut, segment_count, read_response, terminate_message, own_hello, refusing_hello}
-use Rattle.nr_link.specs.Ending.{final_output}
+use Rattle.nr_link.specs.Ending.{final_output, rejection}
 use Rattle.nr_link.specs.declared.end.End.{End}
-use Rattle.nr_endpoint.specs.SendQueue.{SendQueue, output_len, with_hello, with_response, with_end, rejection}
+use Rattle.nr_endpoint.specs.SendQueue.{SendQueue, output_len, with_hello, with_response, with_end}
 use Rattle.nr_endpoint.specs.Judging.{reply_hello, with_effect, fetch_access}
 use Rattle.nr_endpoint.specs.LinkState.{LinkState}
 use Rattle.nr_endpoint.proofs.WholeFrames.{longer-by}

@@ -1,5 +1,5 @@
 -- What a receive queue keeps of its buffers, and what it tells: as a read is done, as a message comes, as the owner is told.
-use Rattle.std.proofs.Common.{◌≡◌, ℕ, zero, suc, ◌+◌, ◌-◌, ◌<◌, ◌≤◌, nat_lt, true, List, [], ◌∷◌, ◌++◌, length, take, replicate, Option, refl, sym, ap, ◌∙◌, arith, append_assoc, length-append}
+use Rattle.std.proofs.Common.{◌≡◌, ℕ, zero, suc, ◌+◌, ◌-◌, ◌<◌, ◌≤◌, nat_lt, true, List, [], ◌∷◌, ◌++◌, length, take, replicate, Option, None, refl, sym, ap, ◌∙◌, arith, append_assoc, length-append}
 use Rattle.std.proofs.lemmas.List.{length-replicate, replicate_more}
 use Rattle.std.proofs.lemmas.List.Elements.{All-head, All-tail, All-rest, All-cons}
 use Rattle.nr_endpoint.specs.ReceiveQueue.{Notice, messages_in}
@@ -13,10 +13,10 @@ use Rattle.nr_endpoint.specs.declared.receive_queue.ReceivedMessage.{ReceivedMes
 
 -- the same reads stand before the notices of the other messages
 behind : (m : ReceivedMessage) (xs ys : List Notice) (zs : List Notice) → xs ≡ ys ++ zs →
-    replicate m.reads_done ReadDone ++ MessageReceived (take m.len m.buf) ∷ xs ≡ (replicate m.reads_done ReadDone ++ MessageReceived (take m.len m.buf) ∷ ys) ++ zs
+    replicate m.reads_done ReadDone ++ MessageReceived m.number None (take m.len m.buf) ∷ xs ≡ (replicate m.reads_done ReadDone ++ MessageReceived m.number None (take m.len m.buf) ∷ ys) ++ zs
 behind m xs ys zs is =
-    ap (λ (list : List Notice). replicate m.reads_done ReadDone ++ MessageReceived (take m.len m.buf) ∷ list) is
-    ∙ sym (append_assoc (replicate m.reads_done ReadDone) (MessageReceived (take m.len m.buf) ∷ ys) zs)
+    ap (λ (list : List Notice). replicate m.reads_done ReadDone ++ MessageReceived m.number None (take m.len m.buf) ∷ list) is
+    ∙ sym (append_assoc (replicate m.reads_done ReadDone) (MessageReceived m.number None (take m.len m.buf) ∷ ys) zs)
 
 -- one more read was done
 pub notices-read : (messages : List ReceivedMessage) (reads_done : ℕ) → notices messages (reads_done + 1) ≡ notices messages reads_done ++ ReadDone ∷ []
@@ -24,17 +24,17 @@ notices-read [] reads_done = sym (replicate_more reads_done ReadDone)
 notices-read (m ∷ messages) reads_done = behind m (notices messages (reads_done + 1)) (notices messages reads_done) (ReadDone ∷ []) (notices-read messages reads_done)
 
 -- a message came: the reads that were done since the last one stand before it
-pub notices-message : (messages : List ReceivedMessage) (reads_done : ℕ) (buf : List ℕ) (len : ℕ) →
-    notices (messages ++ record { reads_done = reads_done; buf = buf; len = len } ∷ []) 0 ≡ notices messages reads_done ++ MessageReceived (take len buf) ∷ []
-notices-message [] reads_done buf len = refl
-notices-message (m ∷ messages) reads_done buf len =
-    behind m (notices (messages ++ record { reads_done = reads_done; buf = buf; len = len } ∷ []) 0) (notices messages reads_done) (MessageReceived (take len buf) ∷ []) (notices-message messages reads_done buf len)
+pub notices-message : (messages : List ReceivedMessage) (reads_done number : ℕ) (buf : List ℕ) (len : ℕ) →
+    notices (messages ++ record { reads_done = reads_done; number = number; buf = buf; len = len } ∷ []) 0 ≡ notices messages reads_done ++ MessageReceived number None (take len buf) ∷ []
+notices-message [] reads_done number buf len = refl
+notices-message (m ∷ messages) reads_done number buf len =
+    behind m (notices (messages ++ record { reads_done = reads_done; number = number; buf = buf; len = len } ∷ []) 0) (notices messages reads_done) (MessageReceived number None (take len buf) ∷ []) (notices-message messages reads_done number buf len)
 
 -- the reads that are counted are among the notices
 pub reads-within : (messages : List ReceivedMessage) (reads_done : ℕ) → reads_done ≤ length (notices messages reads_done)
 reads-within [] reads_done = omega (arith, length-replicate reads_done ReadDone)
 reads-within (m ∷ messages) reads_done =
-    omega (arith, reads-within messages reads_done, length-append (replicate m.reads_done ReadDone) (MessageReceived (take m.len m.buf) ∷ notices messages reads_done))
+    omega (arith, reads-within messages reads_done, length-append (replicate m.reads_done ReadDone) (MessageReceived m.number None (take m.len m.buf) ∷ notices messages reads_done))
 
 -- how many of the notices are of messages
 messages_in-reads : (n : ℕ) (others : List Notice) → messages_in (replicate n ReadDone ++ others) ≡ messages_in others
@@ -48,7 +48,7 @@ messages_in-notices [] reads_done = by reads_done
     by zero = refl
     by (suc n) = by n
 messages_in-notices (m ∷ messages) reads_done =
-    let first : messages_in (notices (m ∷ messages) reads_done) ≡ 1 + messages_in (notices messages reads_done) = messages_in-reads m.reads_done (MessageReceived (take m.len m.buf) ∷ notices messages reads_done) in
+    let first : messages_in (notices (m ∷ messages) reads_done) ≡ 1 + messages_in (notices messages reads_done) = messages_in-reads m.reads_done (MessageReceived m.number None (take m.len m.buf) ∷ notices messages reads_done) in
     omega (arith, first, messages_in-notices messages reads_done)
 
 -- the owner is told a read that was done before the first message, or behind the last one
@@ -58,11 +58,11 @@ notices-first_read [] reads_done some = absurd cc
 notices-first_read (m ∷ messages) reads_done some = by m.reads_done some
   where
     by : (n : ℕ) → nat_lt 0 n ≡ true →
-        replicate n ReadDone ++ MessageReceived (take m.len m.buf) ∷ notices messages reads_done ≡ ReadDone ∷ (replicate (n - 1) ReadDone ++ MessageReceived (take m.len m.buf) ∷ notices messages reads_done)
+        replicate n ReadDone ++ MessageReceived m.number None (take m.len m.buf) ∷ notices messages reads_done ≡ ReadDone ∷ (replicate (n - 1) ReadDone ++ MessageReceived m.number None (take m.len m.buf) ∷ notices messages reads_done)
     by zero s = absurd cc
     by (suc n) s =
         let less : n ≡ suc n - 1 = omega arith in
-        ap (λ (k : ℕ). ReadDone ∷ (replicate k ReadDone ++ MessageReceived (take m.len m.buf) ∷ notices messages reads_done)) less
+        ap (λ (k : ℕ). ReadDone ∷ (replicate k ReadDone ++ MessageReceived m.number None (take m.len m.buf) ∷ notices messages reads_done)) less
 
 pub notices-last_read : (messages : List ReceivedMessage) (reads_done : ℕ) → messages ≡ [] → 0 < reads_done → notices messages reads_done ≡ ReadDone ∷ notices messages (reads_done - 1)
 notices-last_read [] zero none some = absurd (omega (arith, some))
@@ -80,7 +80,7 @@ with_read_told free begun [] lent receives room message_room a = a
 with_read_told free begun (m ∷ messages) lent receives room message_room a = record {
   free_len = a.free_len;
   begun_len = a.begun_len;
-  messages_len = All-cons InBuffer (record { reads_done = m.reads_done - 1; buf = m.buf; len = m.len }) messages (All-head InBuffer m messages a.messages_len) (All-tail InBuffer m messages a.messages_len);
+  messages_len = All-cons InBuffer (record { reads_done = m.reads_done - 1; number = m.number; buf = m.buf; len = m.len }) messages (All-head InBuffer m messages a.messages_len) (All-tail InBuffer m messages a.messages_len);
   total = a.total;
   fits = a.fits;
   messages_fit = a.messages_fit;

@@ -17,11 +17,11 @@ with_request last w queue msn offset payload q e =
 
 pub with_last : (q : ReceiveQueue) (payload message : List ℕ) (free : ℕ) → message ≡ begun_bytes q.received.begun ++ payload
     → free ≡ (if not (is_begun q.received.begun) then q.free - 1 else q.free)
-    → record { receives = q.receives; received = record { sends = q.received.sends + 1; begun = None; requests = q.received.requests }; free = free; lent = q.lent; notices = q.notices ++ MessageReceived message ∷ [] }
+    → record { receives = q.receives; received = record { sends = q.received.sends + 1; begun = None; requests = q.received.requests }; free = free; lent = q.lent; notices = q.notices ++ MessageReceived (q.received.sends + 1) None message ∷ [] }
     ≡ with_segment (Untagged true OPCODE_SEND 0 0 0 0 payload) q
 unfolding with_segment
 with_last q payload message free m f =
-    λ i. record { receives = q.receives; received = record { sends = q.received.sends + 1; begun = None; requests = q.received.requests }; free = f i; lent = q.lent; notices = q.notices ++ MessageReceived (m i) ∷ [] }
+    λ i. record { receives = q.receives; received = record { sends = q.received.sends + 1; begun = None; requests = q.received.requests }; free = f i; lent = q.lent; notices = q.notices ++ MessageReceived (q.received.sends + 1) None (m i) ∷ [] }
 
 -- with these notices
 abbrev notices_as : List Notice → ReceiveQueue → ReceiveQueue

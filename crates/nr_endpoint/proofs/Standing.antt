@@ -7,7 +7,7 @@ use Rattle.nr_regions.specs.RegisteredMemory.{after_register, after_release}
 use Rattle.nr_link.specs.declared.end.End.TheVariants as ends
 use Rattle.nr_endpoint.specs.SendQueue.{with_send, with_write, with_request, writable, written}
 use Rattle.nr_endpoint.specs.ReceiveQueue.{told, posted}
-use Rattle.nr_endpoint.specs.LinkState.{Link, LinkState}
+use Rattle.nr_endpoint.specs.LinkState.{Link, LinkState, has_ended}
 use Rattle.nr_endpoint.specs.Judging.{with_end_of}
 use Rattle.nr_endpoint.specs.EndpointState.{EndpointState}
 use Rattle.nr_endpoint.specs.Calls.{Call, after_call, after_calls, StandsOn, StandsOnAll, with_state, unless_ended, ended_link}
@@ -135,3 +135,9 @@ pub out_of_memory : (before : Link) (staging : List ℕ) (now : EndpointState) (
     t ≡ record before.state { ended = Some ends.Memory } → ended_link t before ≡ after_call now.link OutOfMemory
 out_of_memory before staging now t view none is =
     seen before staging now (ended_link t before) OutOfMemory view (out-of-memory-state before t (ap (λ (e : EndpointState). e.link.state.ended) view ∙ none) is)
+
+-- one that has ended already stays as it is
+pub memory_kept : (l : Link) → has_ended l.state ≡ true → l.rest ≡ [] → l ≡ after_call l OutOfMemory
+unfolding after_call
+memory_kept l over none =
+    λ i. record { awaited = l.awaited; rest = none i; state = sym (ap (λ (b : Bool). cond b l.state (record l.state { ended = Some ends.Memory })) over) i }

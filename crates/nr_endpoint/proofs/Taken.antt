@@ -16,25 +16,32 @@ use Rattle.nr_endpoint.specs.Counted.{IsCounted}
 kept_len : (bytes : List ℕ) → length (kept_bytes bytes) ≡ length bytes
 kept_len bytes = omega (arith, length-append (take send_max bytes) (replicate (length bytes - send_max) 0), length-take send_max bytes, length-replicate {A = ℕ} (length bytes - send_max) 0)
 
-pub counted_send : (q : ReceiveQueue) (last : Bool) (payload : List ℕ) (place n : ℕ) → IsCounted q place → length payload + 1 ≤ n →
-    IsCounted (with_segment (Untagged last OPCODE_SEND 0 0 0 0 payload) q) (place + n)
+pub counted_send : (greeted : Bool) (q : ReceiveQueue) (last : Bool) (payload : List ℕ) (place n : ℕ) → IsCounted greeted q place → length payload + 1 ≤ n →
+    IsCounted greeted (with_segment (Untagged last OPCODE_SEND 0 0 0 0 payload) q) (place + n)
 unfolding with_segment
-counted_send q true payload place n counted some = record {
+counted_send greeted q true payload place n counted some = record {
   bytes = omega (arith, counted.bytes, some);
-  waiting = omega (arith, counted.waiting, some, length-append q.notices (MessageReceived (begun_bytes q.received.begun ++ payload) ∷ []));
+  waiting = omega (arith, counted.waiting, some, length-append q.notices (MessageReceived (q.received.sends + 1) None (begun_bytes q.received.begun ++ payload) ∷ []));
+  greeted = λ h. omega (arith, counted.greeted h);
 }
-counted_send q false payload place n counted some = record {
+counted_send greeted q false payload place n counted some = record {
   bytes = omega (arith, counted.bytes, some, kept_len (begun_bytes q.received.begun ++ payload), length-append (begun_bytes q.received.begun) payload);
   waiting = omega (arith, counted.waiting, length-append q.notices []);
+  greeted = λ h. omega (arith, counted.greeted h);
 }
 
 kept_same : (begun : Option (List ℕ)) → length (begun_bytes (kept_send begun)) ≡ length (begun_bytes begun)
 kept_same None = refl
 kept_same (Some bytes) = kept_len bytes
 
-pub counted_request : (q : ReceiveQueue) (place n : ℕ) → IsCounted q place → 1 ≤ n → IsCounted (with_segment (Untagged true OPCODE_READ_REQUEST 0 0 0 0 []) q) (place + n)
+pub counted_request : (greeted : Bool) (q : ReceiveQueue) (place n : ℕ) → IsCounted greeted q place → 1 ≤ n →
+    IsCounted greeted (with_segment (Untagged true OPCODE_READ_REQUEST 0 0 0 0 []) q) (place + n)
 unfolding with_segment
-counted_request q place n counted some = record { bytes = omega (arith, counted.bytes, some, kept_same q.received.begun); waiting = omega (arith, counted.waiting, length-append q.notices []) }
+counted_request greeted q place n counted some = record {
+  bytes = omega (arith, counted.bytes, some, kept_same q.received.begun);
+  waiting = omega (arith, counted.waiting, length-append q.notices []);
+  greeted = λ h. omega (arith, counted.greeted h);
+}
 
 pub took_send : (s : LinkState) (q : ReceiveQueue) (last : Bool) (payload frame : List ℕ) → q ≡ with_segment (Untagged last OPCODE_SEND 0 0 0 0 payload) s.receive_queue →
     record { side = s.side; has_hello = s.has_hello; last = s.place; place = s.place + length frame; ended = s.ended; receive_queue = q; reads = s.reads; memory = s.memory; send_queue = s.send_queue }

@@ -84,20 +84,20 @@ end_of-numbers ends.Memory = refl
 abbrev pub end_code : Coded End
 end_code = code_by (ℕ × (ℕ × (ℕ × ℕ))) (coded× coded_ℕ (coded× coded_ℕ (coded× coded_ℕ coded_ℕ))) end_numbers end_of end_of-numbers
 
-abbrev pub message_in : Notice → Option (List ℕ)
-message_in (MessageReceived bytes) = Some bytes
+abbrev pub message_in : Notice → Option (ℕ × (Option ℕ × List ℕ))
+message_in (MessageReceived number invalidated bytes) = Some (number, (invalidated, bytes))
 message_in ReadDone = None
 
-abbrev pub notice_of : Option (List ℕ) → Notice
-notice_of (Some bytes) = MessageReceived bytes
+abbrev pub notice_of : Option (ℕ × (Option ℕ × List ℕ)) → Notice
+notice_of (Some message) = MessageReceived message.0 message.1.0 message.1.1
 notice_of None = ReadDone
 
 pub notice_of-message : (notice : Notice) → notice_of (message_in notice) ≡ notice
-notice_of-message (MessageReceived bytes) = refl
+notice_of-message (MessageReceived number invalidated bytes) = refl
 notice_of-message ReadDone = refl
 
 abbrev pub notice_code : Coded Notice
-notice_code = code_by (Option (List ℕ)) (coded_option (coded_list coded_ℕ)) message_in notice_of notice_of-message
+notice_code = code_by (Option (ℕ × (Option ℕ × List ℕ))) (coded_option (coded× coded_ℕ (coded× (coded_option coded_ℕ) (coded_list coded_ℕ)))) message_in notice_of notice_of-message
 
 abbrev pub received_code : Coded ReceiveState
 received_code =

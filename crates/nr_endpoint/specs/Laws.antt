@@ -181,7 +181,7 @@ ArrivalsRise = (link : Link) (calls : List Call) → EndsRise link.state.place (
 -- what a segment that doesn't end the side tells: that a read is done, by its last Read Response, or the message that it completes
 abbrev pub notices_of : ReceiveState → Segment → List Notice
 notices_of received (Tagged last opcode stag to payload) = if (opcode == OPCODE_READ_RESPONSE) && last then ReadDone ∷ [] else []
-notices_of received (Untagged last opcode w queue msn offset payload) = message_notices (message_completed received (Untagged last opcode w queue msn offset payload))
+notices_of received (Untagged last opcode w queue msn offset payload) = message_notices (received.sends + 1) (message_completed received (Untagged last opcode w queue msn offset payload))
 
 -- a notice, with the end of the frame that made it
 pub record MadeNotice : Type 0 where

@@ -6,9 +6,10 @@ use Rattle.nr_link.specs.Limits.{send_max}
 use Rattle.nr_link.specs.ReceiveState.{ReceiveState, nothing_received, is_send, received_after, message_completed}
 use Rattle.nr_link.specs.SegmentFaults.{is_begun}
 
--- What the owner is told: a Send came whole; the response to the Read Request that was open longest came whole.
+-- What the owner is told: the Send with a number, from 1 on, came whole, with the STag that it invalidates, if any (no Send that is
+-- received here does so); the response to the Read Request that was open longest came whole.
 pub data Notice : Type 0 where
-  MessageReceived : (bytes : List ℕ) → Notice
+  MessageReceived : (number : ℕ) → (invalidated : Option ℕ) → (bytes : List ℕ) → Notice
   ReadDone : Notice
 
 -- How many receives the side was opened with. The untagged messages so far. How many receives are free. How many messages were taken
@@ -39,9 +40,9 @@ abbrev pub takes_receive : ReceiveState → Segment → Bool
 takes_receive h (Tagged last opcode stag to payload) = false
 takes_receive h (Untagged last opcode w queue msn offset payload) = is_send opcode && not (is_begun h.begun)
 
-abbrev pub message_notices : Option (List ℕ) → List Notice
-message_notices None = []
-message_notices (Some message) = MessageReceived message ∷ []
+abbrev pub message_notices : ℕ → Option (List ℕ) → List Notice
+message_notices number None = []
+message_notices number (Some message) = MessageReceived number None message ∷ []
 
 -- after one more segment
 unfoldable pub with_segment : Segment → ReceiveQueue → ReceiveQueue
@@ -50,7 +51,7 @@ with_segment segment q = record {
   received = kept (received_after q.received segment);
   free = if takes_receive q.received segment then q.free - 1 else q.free;
   lent = q.lent;
-  notices = q.notices ++ message_notices (message_completed q.received segment);
+  notices = q.notices ++ message_notices (q.received.sends + 1) (message_completed q.received segment);
 }
 
 abbrev pub with_read_done : ReceiveQueue → ReceiveQueue
@@ -59,7 +60,7 @@ with_read_done q = record q { notices = q.notices ++ ReadDone ∷ [] }
 -- the owner was told the first notice: the receive of a message is lent until it is posted again
 abbrev pub lent_for : List Notice → ℕ
 lent_for [] = 0
-lent_for (MessageReceived bytes ∷ notices) = 1
+lent_for (MessageReceived number invalidated bytes ∷ notices) = 1
 lent_for (ReadDone ∷ notices) = 0
 
 abbrev pub told : ReceiveQueue → ReceiveQueue
@@ -75,7 +76,7 @@ sends_begun (Some bytes) = 1
 
 abbrev pub messages_in : List Notice → ℕ
 messages_in [] = 0
-messages_in (MessageReceived bytes ∷ notices) = 1 + messages_in notices
+messages_in (MessageReceived number invalidated bytes ∷ notices) = 1 + messages_in notices
 messages_in (ReadDone ∷ notices) = messages_in notices
 
 -- How many receive buffers are kept, each of send_max bytes: those of the free receives, that of a begun Send, and those of the

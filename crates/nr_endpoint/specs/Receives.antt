@@ -11,14 +11,15 @@ use Rattle.nr_endpoint.specs.Views.{begun as begun_bytes_of}
 abbrev pub IsReceive : List ℕ → Type 0
 IsReceive buf = length buf ≡ send_max
 
--- a message is the first bytes of a receive buffer
+-- A message is the first bytes of a receive buffer. It has at least the 16 bytes of a transport header's fixed words (RFC 8166
+-- section 4.1): a shorter one ends the side.
 abbrev pub HasBuffer : Event → Type 0
-HasBuffer (events.Message buf len) = IsReceive buf × (len ≤ send_max)
+HasBuffer (events.Message number invalidated buf len) = IsReceive buf × ((16 ≤ len) × (len ≤ send_max))
 HasBuffer events.ReadDone = Unit {0}
 
 -- the same of a message that the owner wasn't told yet
 abbrev pub InBuffer : ReceivedMessage → Type 0
-InBuffer m = IsReceive m.buf × (m.len ≤ send_max)
+InBuffer m = IsReceive m.buf × ((16 ≤ m.len) × (m.len ≤ send_max))
 
 -- Each buffer has the length of a receive. Each receive is free, has a begun Send or a message that the owner wasn't told yet, or is
 -- lent. The vector of the free ones and the queue of the messages have room for all receives.

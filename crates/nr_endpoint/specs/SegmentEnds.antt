@@ -69,3 +69,4 @@ pub record RequestIsFine (s : LinkState) (payload : List ℕ) : Type 0 where
 pub record SendIsFine (s : LinkState) (last : Bool) (payload : List ℕ) : Type 0 where
   pub receive : is_begun s.receive_queue.received.begun ≡ false → 0 < s.receive_queue.free
   pub fits : last ≡ true → send_len s payload ≤ send_max
+  pub enough : last ≡ true → 16 ≤ send_len s payload

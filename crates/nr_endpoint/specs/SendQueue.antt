@@ -1,13 +1,11 @@
 -- What a side of a link has to write: its hello, and behind it FPDUs (RFC 5044 sections 4 and 7.1).
 use Rattle.std.specs.Prelude.{ℕ, ◌+◌, ◌-◌, ◌^◌, min, nat_lt, Bool, ◌==◌, if◌then◌else◌, List, [], ◌∷◌, ◌++◌, length, drop, map, Option, None, Some}
 use Rattle.std.specs.List.{filter}
-use Rattle.nr_wire.specs.Constants.{REASON_FLAGS}
 use Rattle.nr_wire.specs.declared.hello.Side.{Side}
 use Rattle.nr_wire.specs.declared.hello.Side.TheVariants.{Initiator, Responder}
 use Rattle.nr_link.specs.declared.end.End.{End}
-use Rattle.nr_link.specs.declared.end.End.TheVariants as ends
-use Rattle.nr_link.specs.Output.{msn_word, terminate_message, send, write, read_response, read_request, own_hello, refusing_hello}
-use Rattle.nr_link.specs.Ending.{final_output}
+use Rattle.nr_link.specs.Output.{msn_word, terminate_message, send, write, read_response, read_request, own_hello}
+use Rattle.nr_link.specs.Ending.{final_output, rejection}
 
 -- The bytes of the hello and of the FPDUs that weren't written yet. For each Send and for each Read Response among the FPDUs, in
 -- order, how many bytes of them go up to its end. How many Sends were written whole. The numbers of the last Send and of the last
@@ -71,15 +69,6 @@ with_response stag to bytes q = record q {
   fpdus = q.fpdus ++ read_response stag to bytes;
   response_ends = q.response_ends ++ length (q.fpdus ++ read_response stag to bytes) ∷ [];
 }
-
--- The hello by which a responder rejects a connection whose hello asks for markers or a CRC (RFC 5044 section 7.1).
-abbrev pub rejection : Side → End → List ℕ
-rejection Initiator end = []
-rejection Responder (ends.Bad at reason) = if reason == REASON_FLAGS then refusing_hello else []
-rejection Responder (ends.Denied stag offset why) = []
-rejection Responder (ends.NoBuffer msn) = []
-rejection Responder (ends.Terminated reason) = []
-rejection Responder ends.Memory = []
 
 -- the Terminate with a word, where there is one
 abbrev pub terminate_by : Option ℕ → List ℕ

@@ -14,13 +14,13 @@ use Rattle.nr_endpoint.specs.ReceiveQueue.Notice.{MessageReceived, ReadDone}
 
 -- an event is told with the receive buffer, of which the message is the first bytes
 abbrev pub notice : Event → Notice
-notice (events.Message buf len) = MessageReceived (take len buf)
+notice (events.Message number invalidated buf len) = MessageReceived number invalidated (take len buf)
 notice events.ReadDone = ReadDone
 
 -- each message stands behind the reads that were done before it, and behind the last message stand those that were done since
 abbrev pub notices : List ReceivedMessage → ℕ → List Notice
 notices [] reads_done = replicate reads_done ReadDone
-notices (m ∷ messages) reads_done = replicate m.reads_done ReadDone ++ MessageReceived (take m.len m.buf) ∷ notices messages reads_done
+notices (m ∷ messages) reads_done = replicate m.reads_done ReadDone ++ MessageReceived m.number None (take m.len m.buf) ∷ notices messages reads_done
 
 -- how many reads were done before the first message, and the messages once the owner was told one of those
 abbrev pub reads_first : List ReceivedMessage → ℕ
@@ -29,7 +29,7 @@ reads_first (m ∷ messages) = m.reads_done
 
 abbrev pub without_first_read : List ReceivedMessage → List ReceivedMessage
 without_first_read [] = []
-without_first_read (m ∷ messages) = record { reads_done = m.reads_done - 1; buf = m.buf; len = m.len } ∷ messages
+without_first_read (m ∷ messages) = record { reads_done = m.reads_done - 1; number = m.number; buf = m.buf; len = m.len } ∷ messages
 
 abbrev pub expected : OpenRead → ExpectedResponse
 expected r = record { sink = r.sink; at = r.at; left = r.end - r.at }

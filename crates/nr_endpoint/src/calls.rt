@@ -17,6 +17,7 @@ ghost use Rattle.nr_endpoint.specs.EndpointState.{bytes_kept};
 ghost use Rattle.nr_wire.specs.Constants.{FPDU_MAX};
 ghost use Rattle.nr_endpoint.specs.Receives.{HasBuffer};
 ghost use Rattle.nr_endpoint.specs.Views.{notice};
+ghost use Rattle.nr_link.specs.SegmentFaults.{is_begun};
 
 use crate::endpoint::Endpoint;
 use crate::event::Event;
@@ -29,14 +30,16 @@ use nr_xdr::{Memory, Octets};
 impl Endpoint {
     /// Takes the next event; `None` exactly where none waits. It stands behind all tagged segments that came before it. Takes no memory.
     pub fn next_event(&mut self) -> Option<Event>
-        // The events are told in order.
+        // The events are told in order. An event is told only after bytes came, so `stop` may be called with it.
         ensures event { self.old.link.state.receive_queue.notices ≡ option_to_list (option_map notice result) ++ self.new.link.state.receive_queue.notices }
         ensures waits { is_some result ≡ nat_lt 0 (length self.old.link.state.receive_queue.notices) }
+        ensures place { is_some result ≡ true → 0 < self.new.link.state.place }
         ensures buffer { IfSome result HasBuffer }
         ensures state { self.new.link ≡ (if is_some result then after_call self.old.link NextEvent else self.old.link) }
         ensures stands { is_some result ≡ true → StandsOn self.old.link NextEvent self.new.link }
         ensures staging { self.new.staging ≡ self.old.staging }
     {
+        self.facts();
         self.link.next_event()
     }
 
@@ -71,6 +74,34 @@ impl Endpoint {
         };
         self.staged = 0;
         self.link.stop(end)
+    }
+
+    /// Ends the side because the layer above is out of memory. It writes nothing more than what is queued, and no Terminate. A side that has
+    /// ended stays as it is. Takes no memory; answers why the side has ended.
+    pub fn run_out(&mut self) -> End
+        ensures ended { self.new.link.state.ended ≡ Some result }
+        ensures end { self.old.link.state.ended ≡ None → result ≡ ends.Memory }
+        ensures state { self.new.link ≡ after_call self.old.link OutOfMemory }
+        ensures stands { StandsOn self.old.link OutOfMemory self.new.link }
+        ensures kept { has_ended self.old.link.state ≡ true → self.new ≡ self.old }
+        ensures staging { self.new.staging ≡ self.old.staging }
+    {
+        self.facts();
+        if let Some(end) = self.end() {
+            return end;
+        }
+        self.run_out_live()
+    }
+
+    fn run_out_live(&mut self) -> End
+        requires live { self.old.link.state.ended ≡ None }
+        ensures ended { self.new.link.state.ended ≡ Some result }
+        ensures end { result ≡ ends.Memory }
+        ensures state { self.new.link ≡ after_call self.old.link OutOfMemory }
+        ensures staging { self.new.staging ≡ self.old.staging }
+    {
+        self.staged = 0;
+        self.link.run_out()
     }
 
     /// Queues a Send. Where the side has ended, it queues nothing. An `Err` changes nothing.
@@ -171,6 +202,27 @@ impl Endpoint {
         ensures { result.now.memory ≡ self.now.link.state.memory }
     {
         &self.link.regions
+    }
+
+    /// Whether the peer's hello was accepted. From then on FPDUs may be written.
+    pub fn has_hello(&self) -> bool
+        ensures { result ≡ self.now.link.state.has_hello }
+    {
+        self.link.has_hello
+    }
+
+    /// How many receives are free.
+    pub fn receives_free(&self) -> usize
+        ensures { result ≡ self.now.link.state.receive_queue.free }
+    {
+        self.link.receive_queue.free()
+    }
+
+    /// Whether a Send of the peer is begun and not whole: it has a receive.
+    pub fn is_send_begun(&self) -> bool
+        ensures { result ≡ is_begun self.now.link.state.receive_queue.received.begun }
+    {
+        self.link.receive_queue.is_begun()
     }
 
     /// How many Sends have wholly left the queue, in the order of `send`. It stands still at 2^64 - 1.

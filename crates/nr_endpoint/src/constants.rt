@@ -1,5 +1,5 @@
-//! Sizes and numbers of a link beyond those of its frames. The numbers of reasons and words, and the limits, are this
-//! implementation's own.
+//! Limits and lengths of a link beyond those of its frames. The limits are this implementation's own; the numbers of reasons and the
+//! words of a Terminate stand in `nr_link`.
 
 /// The most payload bytes of a segment that is written.
 pub const SEGMENT_MAX: usize = 4096;
@@ -17,27 +17,3 @@ pub const OPEN_READS_MAX: usize = 8;
 pub const READ_REQUEST_LEN: usize = 28;
 
 pub const TERMINATE_MIN: usize = 4;
-
-/// A message number isn't the next.
-pub const REASON_MSN: u32 = 11;
-/// A message offset isn't the number of bytes so far.
-pub const REASON_OFFSET: u32 = 12;
-/// A Read Request or a Terminate has another form.
-pub const REASON_FORM: u32 = 13;
-/// A Read Response isn't the one that is expected.
-pub const REASON_RESPONSE: u32 = 14;
-/// A Read Request while as many responses as may be are owed.
-pub const REASON_REQUESTS: u32 = 15;
-/// A Send is shorter than the fixed words of a transport header.
-pub const REASON_SHORT: u32 = 16;
-/// A Send is longer than its receive.
-pub const REASON_LONG: u32 = 22;
-
-/// The word of a Terminate for an access to an STag that isn't live, beyond its region's end, and without the right.
-pub const WORD_NO_STAG: u32 = 101;
-
-pub const WORD_BOUNDS: u32 = 102;
-
-pub const WORD_RIGHT: u32 = 103;
-/// The word of a Terminate for a Send without a receive.
-pub const WORD_NO_BUFFER: u32 = 104;

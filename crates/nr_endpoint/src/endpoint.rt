@@ -9,6 +9,8 @@ ghost use Rattle.nr_endpoint.specs.LinkState.{initial_link, peer, has_ended};
 ghost use Rattle.nr_endpoint.specs.Calls.{after_call, after_calls, StandsFor, StandsOn, StandsOnAll, IsStep, RanOutAt, QueuesOutput, makes_whole};
 ghost use Rattle.nr_endpoint.specs.Calls.Call.{Feed, FeedOne, OutOfMemory};
 ghost use Rattle.nr_endpoint.specs.EndpointState.{KeepsStaging};
+ghost use Rattle.nr_endpoint.specs.ReceiveQueue.{receives_kept};
+ghost use Rattle.nr_link.specs.Limits.{open_reads_max};
 
 use crate::link::Link;
 use crate::staging::{stage_frame, whole_in_piece};
@@ -89,7 +91,7 @@ impl Endpoint {
         ensures kept { has_ended self.old.link.state ≡ true → self.new ≡ self.old }
         ensures staging { KeepsStaging self.old self.new piece.now }
     {
-        self.kept_rest();
+        self.facts();
         if let Some(end) = self.link.end() {
             return Err(end);
         }
@@ -103,12 +105,20 @@ impl Endpoint {
         Ok(())
     }
 
-    /// What is kept of the stream is less than a frame, and nothing once the side has ended.
-    fn kept_rest(&self)
+    /// What holds of every endpoint, for the proofs of its owner. It does nothing.
+    pub fn facts(&self)
+        // What is kept of the stream is less than a frame, and nothing once the side has ended.
         ensures partial { IsPartial self.now.link.awaited self.now.link.rest }
         ensures ended { has_ended self.now.link.state ≡ true → self.now.link.rest ≡ [] }
+        // Each receive is free, has a begun Send or a message that the owner wasn't told yet, or is lent.
+        ensures receives { receives_kept self.now.link.state.receive_queue + self.now.link.state.receive_queue.lent ≡ self.now.link.state.receive_queue.receives }
+        // Some bytes came before an event, and before the peer's hello was accepted: `stop` asks this.
+        ensures waiting { length self.now.link.state.receive_queue.notices ≤ self.now.link.state.place }
+        ensures greeted { self.now.link.state.has_hello ≡ true → 0 < self.now.link.state.place }
+        ensures reads { length self.now.link.state.reads ≤ open_reads_max }
     {
         let _ = &self.staged;
+        self.link.facts();
     }
 
     /// Takes the next frame of a piece, or all of it; answers what is left, which is nothing once the side has ended.
@@ -121,13 +131,13 @@ impl Endpoint {
         ensures partial { IsPartial self.new.link.awaited self.new.link.rest }
         ensures ended_rest { has_ended self.new.link.state ≡ true → self.new.link.rest ≡ [] }
     {
-        self.kept_rest();
+        self.facts();
         let (_, none) = left.split_at(left.len());
         if self.link.end().is_some() {
             return none;
         }
         let taken = self.step(left);
-        self.kept_rest();
+        self.facts();
         if self.link.end().is_some() {
             return none;
         }

@@ -12,13 +12,14 @@ ghost use Rattle.nr_link.specs.Ending.{kind_of};
 ghost use Rattle.nr_endpoint.specs.Judging.{segment_end};
 ghost use Rattle.nr_endpoint.specs.Views.{read_request_view};
 
-use crate::constants::{
-    OPEN_READS_MAX, READ_REQUEST_LEN, REASON_FORM, REASON_LONG, REASON_MSN, REASON_OFFSET,
-    REASON_REQUESTS, REASON_RESPONSE, REASON_SHORT, SEND_MAX, SEND_MIN, TERMINATE_MIN,
-};
+use crate::constants::{OPEN_READS_MAX, READ_REQUEST_LEN, SEND_MAX, SEND_MIN, TERMINATE_MIN};
 use crate::link::Link;
 use crate::reads::is_expected;
 use nr_link::End;
+use nr_link::constants::{
+    REASON_FORM, REASON_LONG, REASON_MSN, REASON_OFFSET, REASON_REQUESTS, REASON_RESPONSE,
+    REASON_SHORT,
+};
 use nr_regions::Kind;
 use nr_wire::constants::{
     OPCODE_READ_REQUEST, OPCODE_READ_RESPONSE, OPCODE_SEND, QUEUE_READ_REQUEST, QUEUE_SEND,

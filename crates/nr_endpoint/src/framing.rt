@@ -1,10 +1,11 @@
 //! FPDUs at the end of some bytes: segments, and messages and accesses cut into segments.
 
-ghost use Rattle.std.specs.Prelude.{◌≡◌, ℕ, ◌+◌, ◌*◌, ◌^◌, ◌<◌, ◌≤◌, ◌++◌, length, take, OnOk, OnErr};
+ghost use Rattle.std.specs.Prelude.{◌≡◌, ℕ, ◌+◌, ◌*◌, ◌^◌, ◌<◌, ◌≤◌, ◌++◌, length, take, All, OnOk, OnErr};
 ghost use Rattle.nr_wire.specs.Segment.{IsWritable, encoding};
 ghost use Rattle.nr_wire.specs.View.{segment as plain};
 ghost use Rattle.nr_link.specs.Output.{cut, segment_count, segment_payload, terminate_message};
 ghost use Rattle.nr_endpoint.specs.Carriers.{carried, FitsAt, FitsCarrier};
+ghost use Rattle.nr_endpoint.specs.Offering.{FitsRegion, writes_output};
 
 use crate::constants::SEGMENT_MAX;
 use bytes::BytesMut;
@@ -22,6 +23,14 @@ pub enum Carrier {
     Send { msn: u32 },
     Write { stag: u32, to: u64 },
     Response { stag: u32, to: u64 },
+}
+
+/// An RDMA Write: some bytes into the peer's region `stag`, from byte `to` on.
+#[derive(Clone, Copy)]
+pub struct RemoteWrite<'a> {
+    pub stag: u32,
+    pub to: u64,
+    pub bytes: &'a [u8],
 }
 
 /// The segment with these bytes, which lie at `offset` of all.
@@ -120,6 +129,49 @@ pub fn push_cut(
 {
     let len = out.len();
     let pushed = push_segments(out, alloc, carrier, bytes);
+    if pushed.is_err() {
+        out.truncate(len);
+    }
+    pushed
+}
+
+/// Puts RDMA Writes at the end. After an `Err` some of them are there.
+#[tactic(auto, using(crate::proofs::Cuts::carried_write))]
+fn push_each_write(
+    out: &mut BytesMut,
+    alloc: Global,
+    writes: &[RemoteWrite<'_>],
+) -> Result<(), Memory>
+    requires { All FitsRegion writes.now }
+    ensures ok { OnOk result (out.new.items ≡ out.old.items ++ writes_output writes.now) }
+    ensures err { OnErr result (take (length out.old.items) out.new.items ≡ out.old.items) }
+{
+    for write in writes {
+        push_cut(
+            out,
+            alloc,
+            Carrier::Write {
+                stag: write.stag,
+                to: write.to,
+            },
+            write.bytes,
+        )?;
+    }
+    Ok(())
+}
+
+/// Puts RDMA Writes at the end. An `Err` leaves the bytes as they were.
+pub fn push_writes(
+    out: &mut BytesMut,
+    alloc: Global,
+    writes: &[RemoteWrite<'_>],
+) -> Result<(), Memory>
+    requires { All FitsRegion writes.now }
+    ensures ok { OnOk result (out.new.items ≡ out.old.items ++ writes_output writes.now) }
+    ensures err { OnErr result (out.new.items ≡ out.old.items) }
+{
+    let len = out.len();
+    let pushed = push_each_write(out, alloc, writes);
     if pushed.is_err() {
         out.truncate(len);
     }

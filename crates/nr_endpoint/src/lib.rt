@@ -24,6 +24,7 @@ mod frames;
 mod framing;
 mod laws;
 mod link;
+mod offering;
 mod operations;
 mod reads;
 mod receive_queue;
@@ -33,7 +34,9 @@ mod staging;
 pub use endpoint::Endpoint;
 pub use event::Event;
 pub use fault::{DrainFault, ReadRefused};
+pub use framing::RemoteWrite;
 pub use laws::{
     claims_stay, ends_by_grants, events_follow_accesses, however_cut, memory_follows_accesses,
     no_fpdu_before_hello, reasons_of_frames, stream_is_kept,
 };
+pub use offering::{Claims, Offered};

@@ -50,7 +50,7 @@ impl Model for Link {
 
     ghost view = { λ l. record { side = l.side; has_hello = l.has_hello; last = l.last; place = l.place; ended = l.ended; receive_queue = l.receive_queue; reads = map expected l.reads.items; memory = l.regions.memory; send_queue = l.send_queue } };
 
-    ghost invariant = { λ l. IsCounted l.receive_queue l.place };
+    ghost invariant = { λ l. IsCounted l.has_hello l.receive_queue l.place };
 }
 
 impl Link {

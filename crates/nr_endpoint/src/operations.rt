@@ -1,14 +1,15 @@
 //! What the owner of a side does with it.
 
 ghost use Rattle.nr_endpoint.specs.LinkState.{has_ended};
-ghost use Rattle.std.specs.Prelude.{false, ◌≡◌, ◌≢◌, ◌+◌, ◌*◌, ◌^◌, ◌<◌, ◌≤◌, ◌↔◌, [], ◌∷◌, ◌++◌, ℕ, length, take, is_some, nat_lt, if◌then◌else◌, IfOk, OnOk, IfErr, OnErr, IsErrAnd, IfSome, MatchResult, option_map, option_to_list};
+ghost use Rattle.std.specs.Prelude.{false, true, Some, ◌≡◌, ◌≢◌, ◌+◌, ◌*◌, ◌^◌, ◌<◌, ◌≤◌, ◌↔◌, [], ◌∷◌, ◌++◌, ℕ, length, take, is_some, nat_lt, if◌then◌else◌, IfOk, OnOk, IfErr, OnErr, IsErrAnd, IfSome, MatchResult, option_map, option_to_list};
 ghost use Rattle.std.specs.Io.KnownBytes.{Appends};
 ghost use Rattle.nr_outside.specs.Faults.{Rises};
 ghost use Rattle.nr_regions.specs.RegisteredMemory.{IsHeld, after_register, after_release, bytes_held, bytes_in, claim_of, held_region};
 ghost use Rattle.nr_link.specs.Limits.{send_max, open_reads_max};
+ghost use Rattle.nr_link.specs.declared.end.End.TheVariants as ends;
 ghost use Rattle.nr_endpoint.specs.declared.fault.ReadRefused.TheVariants as refusals;
 ghost use Rattle.nr_endpoint.specs.SendQueue.{with_send, with_write, with_request, writable, written};
-ghost use Rattle.nr_endpoint.specs.ReceiveQueue.{told, posted};
+ghost use Rattle.nr_endpoint.specs.ReceiveQueue.{told, posted, receives_kept};
 ghost use Rattle.nr_endpoint.specs.EndpointState.{bytes_of};
 ghost use Rattle.nr_endpoint.specs.Calls.{unless_ended};
 ghost use Rattle.nr_endpoint.specs.Receives.{HasBuffer};
@@ -29,6 +30,25 @@ impl Link {
         ensures { result ≡ self.now.ended }
     {
         self.ended
+    }
+
+    /// What holds of every side.
+    pub fn facts(&self)
+        ensures receives { receives_kept self.now.receive_queue + self.now.receive_queue.lent ≡ self.now.receive_queue.receives }
+        ensures waiting { length self.now.receive_queue.notices ≤ self.now.place }
+        ensures greeted { self.now.has_hello ≡ true → 0 < self.now.place }
+        ensures reads { length self.now.reads ≤ open_reads_max }
+    {
+        self.receive_queue.sum();
+    }
+
+    /// The side ends because the layer above is out of memory.
+    pub fn run_out(&mut self) -> End
+        ensures end { result ≡ ends.Memory }
+        ensures state { self.new ≡ record self.old { ended = Some ends.Memory } }
+    {
+        self.ended = Some(End::Memory);
+        End::Memory
     }
 
     pub fn next_event(&mut self) -> Option<Event>

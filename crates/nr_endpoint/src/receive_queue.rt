@@ -25,11 +25,12 @@ pub struct BegunSend {
     pub len: u64,
 }
 
-/// A Send that came whole: the first `len` bytes of its receive buffer. Between the message before it and this one, the responses to
+/// The Send with a number, from 1 on, which came whole: the first `len` bytes of its receive buffer. Between the message before it and this one, the responses to
 /// `reads_done` Read Requests became whole, of which the owner wasn't told yet.
 #[derive(Drop)]
 pub struct ReceivedMessage {
     pub reads_done: u64,
+    pub number: u64,
     pub buf: Octets,
     pub len: usize,
 }
@@ -184,6 +185,13 @@ impl ReceiveQueue {
         !self.free.is_empty()
     }
 
+    /// How many receives are free.
+    pub fn free(&self) -> usize
+        ensures { result ≡ self.now.free }
+    {
+        self.free.len()
+    }
+
     /// How many Sends were whole, how many Read Requests came, and how many bytes of a begun Send, which is `None` where none is
     /// begun.
     pub fn sends(&self) -> u64
@@ -218,6 +226,7 @@ impl ReceiveQueue {
     pub fn receive(&mut self, last: bool, payload: &[u8])
         requires receive { is_begun self.old.received.begun ≡ false → 0 < self.old.free }
         requires fits { last ≡ true → length (begun_bytes self.old.received.begun) + length payload.now ≤ send_max }
+        requires enough { last ≡ true → 16 ≤ length (begun_bytes self.old.received.begun) + length payload.now }
         requires count { self.old.received.sends < 2 ^ 63 }
         requires bytes { length (begun_bytes self.old.received.begun) + length payload.now < 2 ^ 63 }
         ensures { self.new ≡ with_segment (Untagged last OPCODE_SEND 0 0 0 0 payload.now) self.old }
@@ -233,6 +242,7 @@ impl ReceiveQueue {
     fn complete(&mut self, payload: &[u8])
         requires receive { is_begun self.old.received.begun ≡ false → 0 < self.old.free }
         requires fits { length (begun_bytes self.old.received.begun) + length payload.now ≤ send_max }
+        requires enough { 16 ≤ length (begun_bytes self.old.received.begun) + length payload.now }
         requires count { self.old.received.sends < 2 ^ 63 }
         ensures { self.new ≡ with_segment (Untagged true OPCODE_SEND 0 0 0 0 payload.now) self.old }
     {
@@ -240,6 +250,7 @@ impl ReceiveQueue {
         extend(&mut begun, payload);
         self.messages.push_back_reserved(ReceivedMessage {
             reads_done: self.reads_done,
+            number: self.sends + 1,
             buf: begun.buf,
             len: begun.len as usize,
         });
@@ -288,6 +299,8 @@ impl ReceiveQueue {
         if let Some(message) = self.messages.pop_front() {
             self.lent += 1;
             return Some(Event::Message {
+                number: message.number,
+                invalidated: None,
                 buf: message.buf,
                 len: message.len,
             });
@@ -307,6 +320,13 @@ impl ReceiveQueue {
     {
         self.lent -= 1;
         self.free.push_reserved(buf);
+    }
+
+    /// Each receive is free, has a begun Send or a message that the owner wasn't told yet, or is lent.
+    pub fn sum(&self)
+        ensures { receives_kept self.now + self.now.lent ≡ self.now.receives }
+    {
+        let _ = &self.lent;
     }
 
     /// How many receive buffers are kept: all but those that are lent.

@@ -1,20 +1,21 @@
 //! What a side has to write.
 
-ghost use Rattle.std.specs.Prelude.{◌≡◌, ℕ, ◌+◌, ◌-◌, ◌^◌, ◌<◌, ◌≤◌, [], ◌++◌, if◌then◌else◌, length, take, drop, IfOk, OnOk, OnErr, MatchResult, min};
+ghost use Rattle.std.specs.Prelude.{◌≡◌, ℕ, ◌+◌, ◌-◌, ◌^◌, ◌<◌, ◌≤◌, [], ◌++◌, if◌then◌else◌, length, take, drop, All, IfOk, OnOk, OnErr, MatchResult, min};
 ghost use Rattle.std.specs.Bool.{OnTrue};
 ghost use Rattle.std.specs.Io.KnownBytes.{Appends};
 ghost use Rattle.nr_xdr.specs.Item.{word, hyper};
 ghost use Rattle.nr_wire.specs.Hello.{hello_encoding};
 ghost use Rattle.nr_link.specs.Output.{refusing_hello};
-ghost use Rattle.nr_link.specs.Ending.{final_output};
+ghost use Rattle.nr_link.specs.Ending.{final_output, rejection};
 ghost use Rattle.nr_endpoint.specs.Judging.{reply_hello};
 ghost use Rattle.nr_outside.specs.Faults.{Rises};
-ghost use Rattle.nr_endpoint.specs.SendQueue.{initial_queue, output_len, with_hello, with_send, with_write, with_request, with_response, with_end, rejection, terminate_by, writable, written, ends_left, ends_passed};
+ghost use Rattle.nr_endpoint.specs.Offering.{FitsRegion, writes_output};
+ghost use Rattle.nr_endpoint.specs.SendQueue.{initial_queue, output_len, with_hello, with_fpdus, with_send, with_write, with_request, with_response, with_end, terminate_by, writable, written, ends_left, ends_passed};
 
-use crate::constants::{WORD_BOUNDS, WORD_NO_BUFFER, WORD_NO_STAG, WORD_RIGHT};
-use crate::framing::{Carrier, push_cut, push_segment, push_terminate};
+use crate::framing::{Carrier, RemoteWrite, push_cut, push_segment, push_terminate, push_writes};
 use bytes::BytesMut;
 use nr_link::End;
+use nr_link::constants::{WORD_BOUNDS, WORD_NO_BUFFER, WORD_NO_STAG, WORD_RIGHT};
 use nr_outside::{Failed, Sink};
 use nr_regions::Denied;
 use nr_wire::constants::{
@@ -272,6 +273,22 @@ impl SendQueue {
             Carrier::Write { stag, to },
             bytes,
         )
+    }
+
+    /// RDMA Writes and then a Send. An `Err` changes nothing.
+    pub fn answer(&mut self, writes: &[RemoteWrite<'_>], message: &[u8]) -> Result<(), Memory>
+        requires size { length message.now < 2 ^ 32 }
+        requires fits { All FitsRegion writes.now }
+        ensures ok { OnOk result (self.new ≡ with_send message.now (with_fpdus (writes_output writes.now) self.old)) }
+        ensures err { OnErr result (self.new ≡ self.old) }
+    {
+        let len = self.fpdus.len();
+        push_writes(&mut self.fpdus, self.alloc, writes)?;
+        let sent = self.send(message);
+        if sent.is_err() {
+            self.fpdus.truncate(len);
+        }
+        sent
     }
 
     /// A Read Request. An `Err` changes nothing.

@@ -9,7 +9,7 @@ use Rattle.nr_endpoint.proofs.Pieces.{IsFedTo, fed_none, fed_on, fewer_left, fed
 use Rattle.nr_endpoint.proofs.endpoint.Endpoint.feed.Goals as goal
 
 pub loop-left-init : goal.loop-left-init
-loop-left-init c = fed_none c.args.self.now c.args.piece.now c.kept_rest.ensures.partial c.kept_rest.ensures.ended c.requires
+loop-left-init c = fed_none c.args.self.now c.args.piece.now c.facts.ensures.partial c.facts.ensures.ended c.requires
 
 pub loop-left-smaller : goal.loop-left-smaller
 loop-left-smaller c =
@@ -59,12 +59,12 @@ returns-clause-stands c = λ other.
     (fed_all c.args.self.now c.loop-left.self c.args.piece.now fed (λ memory. absurd (let h : None ≡ Some ends.Memory = sym ended ∙ memory in cc)))
 
 pub returns-in-Some-clause-state : goal.returns-in-Some-clause-state
-returns-in-Some-clause-state c = λ other. ended_all c.args.self.now.link c.args.piece.now c.in-Some.end (ap (λ (e : EndpointState). e.link.state.ended) (sym c.self.view_is) ∙ sym c.end.ensures ∙ c.in-Some.is) c.kept_rest.ensures.ended
+returns-in-Some-clause-state c = λ other. ended_all c.args.self.now.link c.args.piece.now c.in-Some.end (ap (λ (e : EndpointState). e.link.state.ended) (sym c.self.view_is) ∙ sym c.end.ensures ∙ c.in-Some.is) c.facts.ensures.ended
 
 pub returns-in-Some-clause-stands : goal.returns-in-Some-clause-stands
 returns-in-Some-clause-stands c = λ other.
-    stands_on c.args.self.now.link (Feed c.args.piece.now) c.args.self.now.link (ended_all c.args.self.now.link c.args.piece.now c.in-Some.end (ap (λ (e : EndpointState). e.link.state.ended) (sym c.self.view_is) ∙ sym c.end.ensures ∙ c.in-Some.is) c.kept_rest.ensures.ended)
+    stands_on c.args.self.now.link (Feed c.args.piece.now) c.args.self.now.link (ended_all c.args.self.now.link c.args.piece.now c.in-Some.end (ap (λ (e : EndpointState). e.link.state.ended) (sym c.self.view_is) ∙ sym c.end.ensures ∙ c.in-Some.is) c.facts.ensures.ended)
 
 pub returns-in-Some-clause-memory : goal.returns-in-Some-clause-memory
 returns-in-Some-clause-memory c = λ memory.
-    ended_memory c.args.self.now.link c.args.piece.now ((ap (λ (e : EndpointState). e.link.state.ended) (sym c.self.view_is) ∙ sym c.end.ensures ∙ c.in-Some.is) ∙ ap (λ (e : End). Some e) (ap (λ (r : Result (Unit {0}) End). end_in r) memory)) c.kept_rest.ensures.ended
+    ended_memory c.args.self.now.link c.args.piece.now ((ap (λ (e : EndpointState). e.link.state.ended) (sym c.self.view_is) ∙ sym c.end.ensures ∙ c.in-Some.is) ∙ ap (λ (e : End). Some e) (ap (λ (r : Result (Unit {0}) End). end_in r) memory)) c.facts.ensures.ended

@@ -8,7 +8,7 @@ use Rattle.nr_endpoint.proofs.link.Link.take_request.Goals as goal
 
 pub invariant_of-self-2 : goal.invariant_of-self-2
 invariant_of-self-2 c =
-    rw c.count_request.ensures (counted_request c.self.inside.receive_queue c.self.inside.place (length c.args.frame.now) c.self.invariant (omega (arith, c.requires.some)))
+    rw c.count_request.ensures (counted_request c.self.inside.has_hello c.self.inside.receive_queue c.self.inside.place (length c.args.frame.now) c.self.invariant (omega (arith, c.requires.some)))
 
 pub returns-clause-ok : goal.returns-clause-ok
 returns-clause-ok c =

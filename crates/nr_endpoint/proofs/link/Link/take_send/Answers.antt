@@ -3,7 +3,7 @@ use Rattle.nr_endpoint.proofs.link.Link.take_send.Goals as goal
 
 pub invariant_of-self : goal.invariant_of-self
 invariant_of-self c =
-    rw c.receive.ensures (counted_send c.self.inside.receive_queue c.args.last c.args.payload.now c.self.inside.place _ c.self.invariant c.requires.size)
+    rw c.receive.ensures (counted_send c.self.inside.has_hello c.self.inside.receive_queue c.args.last c.args.payload.now c.self.inside.place _ c.self.invariant c.requires.size)
 
 pub returns : goal.returns
 returns c =

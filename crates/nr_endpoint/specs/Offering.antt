@@ -1,0 +1,81 @@
+-- Several calls of an owner at once, all or none: a Send with the buffers that it offers to the peer, and RDMA Writes before a Send.
+use Rattle.std.specs.Prelude.{◌≡◌, ℕ, ◌+◌, ◌^◌, ◌≤◌, List, [], ◌∷◌, ◌++◌, length, map, Option, None, Some, IfSome}
+use Rattle.nr_regions.specs.declared.right.Right.{Right}
+use Rattle.nr_regions.specs.declared.right.Right.TheVariants.{Fetch, Fill}
+use Rattle.nr_regions.specs.RegisteredMemory.{RegisteredMemory, Claim, IsHeld, after_register, claim_of}
+use Rattle.nr_link.specs.Output.{write}
+use Rattle.nr_endpoint.specs.declared.offering.Offered.{Offered}
+use Rattle.nr_endpoint.specs.declared.offering.Claims.{Claims}
+use Rattle.nr_endpoint.specs.declared.framing.RemoteWrite.{RemoteWrite}
+use Rattle.nr_endpoint.specs.SendQueue.{SendQueue, with_send, with_fpdus}
+use Rattle.nr_endpoint.specs.LinkState.{LinkState}
+use Rattle.nr_endpoint.specs.Calls.{Call, unless_ended}
+use Rattle.nr_endpoint.specs.Calls.Call.{Send, WriteRemote, Register}
+
+-- ---- A Send and the buffers that it offers
+
+abbrev pub one_of : Option (List ℕ) → ℕ
+one_of None = 0
+one_of (Some buf) = 1
+
+-- how many buffers there are
+abbrev pub offered_count : Offered → ℕ
+offered_count o = one_of o.read + (one_of o.write + one_of o.reply)
+
+abbrev pub register_call : Right → Option (List ℕ) → List Call
+register_call right None = []
+register_call right (Some buf) = Register buf right ∷ []
+
+-- the Send, and then the registrations: of a buffer to be read, and of those to be filled by a write chunk and by a reply chunk
+abbrev pub offer_calls : List ℕ → Offered → List Call
+offer_calls message o = Send message ∷ (register_call Fetch o.read ++ (register_call Fill o.write ++ register_call Fill o.reply))
+
+abbrev pub with_buffer : RegisteredMemory → Right → Option (List ℕ) → RegisteredMemory
+with_buffer m right None = m
+with_buffer m right (Some buf) = after_register m right buf
+
+abbrev pub claim_if : RegisteredMemory → Option (List ℕ) → Option Claim
+claim_if m None = None
+claim_if m (Some buf) = Some (claim_of m buf)
+
+-- the memory with each of them registered
+abbrev pub with_read : RegisteredMemory → Offered → RegisteredMemory
+with_read m o = with_buffer m Fetch o.read
+
+abbrev pub with_write_buffer : RegisteredMemory → Offered → RegisteredMemory
+with_write_buffer m o = with_buffer (with_read m o) Fill o.write
+
+abbrev pub with_offered : RegisteredMemory → Offered → RegisteredMemory
+with_offered m o = with_buffer (with_write_buffer m o) Fill o.reply
+
+abbrev pub claims_of : RegisteredMemory → Offered → Claims
+claims_of m o = record { read = claim_if m o.read; write = claim_if (with_read m o) o.write; reply = claim_if (with_write_buffer m o) o.reply }
+
+-- each registration is held
+abbrev pub AreHeld : RegisteredMemory → Claims → Type 0
+AreHeld m claims = IfSome claims.read (IsHeld m) × (IfSome claims.write (IsHeld m) × IfSome claims.reply (IsHeld m))
+
+abbrev pub after_sent : List ℕ → LinkState → LinkState
+after_sent message s = unless_ended s (record s { send_queue = with_send message s.send_queue })
+
+abbrev pub after_offer : List ℕ → Offered → LinkState → LinkState
+after_offer message o s = record (after_sent message s) { memory = with_offered (after_sent message s).memory o }
+
+-- ---- RDMA Writes and a Send
+
+-- the places of a Write lie within 2^64
+abbrev pub FitsRegion : RemoteWrite → Type 0
+FitsRegion w = w.to + length w.bytes.now ≤ 2 ^ 64
+
+abbrev pub write_call : RemoteWrite → Call
+write_call w = WriteRemote w.stag w.to w.bytes.now
+
+abbrev pub answer_calls : List RemoteWrite → List ℕ → List Call
+answer_calls writes message = map write_call writes ++ Send message ∷ []
+
+abbrev pub writes_output : List RemoteWrite → List ℕ
+writes_output [] = []
+writes_output (w ∷ writes) = write w.stag w.to w.bytes.now ++ writes_output writes
+
+abbrev pub after_answer : List RemoteWrite → List ℕ → LinkState → LinkState
+after_answer writes message s = unless_ended s (record s { send_queue = with_send message (with_fpdus (writes_output writes) s.send_queue) })

@@ -1,0 +1,128 @@
+//! Several calls of an owner at once, all or none.
+
+ghost use Rattle.std.specs.Prelude.{◌≡◌, ◌+◌, ◌^◌, ◌<◌, ◌≤◌, length, false, All, OnOk, OnErr, IfOk, IfErr};
+ghost use Rattle.nr_endpoint.specs.LinkState.{has_ended};
+ghost use Rattle.nr_endpoint.specs.Calls.{after_calls, StandsOnAll};
+ghost use Rattle.nr_endpoint.specs.Offering.{one_of, offered_count, offer_calls, with_buffer, claim_if, with_offered, claims_of, AreHeld, after_offer, FitsRegion, answer_calls, after_answer};
+
+use crate::endpoint::Endpoint;
+use crate::framing::RemoteWrite;
+use crate::link::Link;
+use nr_regions::{Regions, Registration, Right};
+use nr_xdr::{Memory, Octets};
+
+/// Buffers for the peer to read, and to fill: by a write chunk and by a reply chunk.
+#[derive(Drop)]
+pub struct Offered {
+    pub read: Option<Octets>,
+    pub write: Option<Octets>,
+    pub reply: Option<Octets>,
+}
+
+/// The registrations of these buffers.
+#[derive(Drop)]
+pub struct Claims {
+    pub read: Option<Registration>,
+    pub write: Option<Registration>,
+    pub reply: Option<Registration>,
+}
+
+/// Registers a buffer, if there is one. There is room for it.
+fn register_some(regions: &mut Regions, buf: Option<Octets>, right: Right) -> Option<Registration>
+    requires room { one_of buf ≤ regions.old.room }
+    requires stags { regions.old.memory.next + one_of buf ≤ 2 ^ 32 }
+    ensures memory { regions.new.memory ≡ with_buffer regions.old.memory right buf }
+    ensures claim { result ≡ claim_if regions.old.memory buf }
+    ensures next { regions.new.memory.next ≡ regions.old.memory.next + one_of buf }
+    ensures left { regions.old.room ≤ regions.new.room + one_of buf }
+{
+    let buf = match buf {
+        None => return None,
+        Some(buf) => buf,
+    };
+    match regions.register(buf, right) {
+        Ok(claim) => Some(claim),
+        Err(_) => unreachable!(),
+    }
+}
+
+/// Registers the buffers in their order. There is room for them.
+fn register_offered(regions: &mut Regions, offered: Offered) -> Claims
+    requires room { offered_count offered ≤ regions.old.room }
+    requires stags { regions.old.memory.next + offered_count offered ≤ 2 ^ 32 }
+    ensures memory { regions.new.memory ≡ with_offered regions.old.memory offered }
+    ensures claims { result ≡ claims_of regions.old.memory offered }
+{
+    let Offered { read, write, reply } = offered;
+    let read = register_some(regions, read, Right::Fetch);
+    let write = register_some(regions, write, Right::Fill);
+    let reply = register_some(regions, reply, Right::Fill);
+    Claims { read, write, reply }
+}
+
+impl Link {
+    /// Queues a Send and registers the buffers that it offers. `Err` gives the buffers back, and changes nothing.
+    pub fn offer(&mut self, message: &[u8], offered: Offered) -> Result<Claims, Offered>
+        requires size { length message.now < 2 ^ 32 }
+        requires stags { self.old.memory.next + offered_count offered ≤ 2 ^ 32 }
+        ensures ok { OnOk result (self.new ≡ after_offer message.now offered self.old) }
+        ensures claims { IfOk result (λ claims. claims ≡ claims_of self.old.memory offered) }
+        ensures err { OnErr result (self.new ≡ self.old) }
+        ensures returned { IfErr result (λ o. o ≡ offered) }
+    {
+        if self.regions.make_room(3).is_err() {
+            return Err(offered);
+        }
+        if self.send(message).is_err() {
+            return Err(offered);
+        }
+        Ok(register_offered(&mut self.regions, offered))
+    }
+
+    /// Queues RDMA Writes and then a Send. `Err` changes nothing.
+    pub fn answer(&mut self, writes: &[RemoteWrite<'_>], message: &[u8]) -> Result<(), Memory>
+        requires size { length message.now < 2 ^ 32 }
+        requires fits { All FitsRegion writes.now }
+        ensures ok { OnOk result (self.new ≡ after_answer writes.now message.now self.old) }
+        ensures err { OnErr result (self.new ≡ self.old) }
+        ensures live { OnErr result (has_ended self.old ≡ false) }
+    {
+        if self.ended.is_some() {
+            return Ok(());
+        }
+        self.send_queue.answer(writes, message)
+    }
+}
+
+impl Endpoint {
+    /// Queues a Send and registers the buffers that it offers, in the order read, write, reply: all of it or, if memory runs out, nothing,
+    /// and no STag is given. The buffers come back with an error. A side that has ended registers the buffers and queues nothing.
+    pub fn offer(&mut self, message: &[u8], offered: Offered) -> Result<Claims, Offered>
+        requires size { length message.now < 2 ^ 32 }
+        // The caller asks `stags_left` of the regions before.
+        requires stags { self.old.link.state.memory.next + offered_count offered ≤ 2 ^ 32 }
+        ensures state { OnOk result (self.new.link ≡ after_calls self.old.link (offer_calls message.now offered)) }
+        ensures stands { OnOk result (StandsOnAll self.old.link (offer_calls message.now offered) self.new.link) }
+        ensures claims { IfOk result (λ claims. claims ≡ claims_of self.old.link.state.memory offered) }
+        ensures held { IfOk result (AreHeld self.new.link.state.memory) }
+        ensures err { OnErr result (self.new.link ≡ self.old.link) }
+        ensures returned { IfErr result (λ o. o ≡ offered) }
+        ensures staging { self.new.staging ≡ self.old.staging }
+    {
+        self.link.offer(message, offered)
+    }
+
+    /// Queues RDMA Writes into the peer's regions, in their order, and then a Send: all of them or, if memory runs out, nothing. A side that
+    /// has ended queues nothing.
+    pub fn answer(&mut self, writes: &[RemoteWrite<'_>], message: &[u8]) -> Result<(), Memory>
+        requires size { length message.now < 2 ^ 32 }
+        requires fits { All FitsRegion writes.now }
+        ensures state { OnOk result (self.new.link ≡ after_calls self.old.link (answer_calls writes.now message.now)) }
+        ensures stands { OnOk result (StandsOnAll self.old.link (answer_calls writes.now message.now) self.new.link) }
+        ensures err { OnErr result (self.new.link ≡ self.old.link) }
+        ensures live { OnErr result (has_ended self.old.link.state ≡ false) }
+        ensures staging { self.new.staging ≡ self.old.staging }
+    {
+        self.link.answer(writes, message)
+    }
+}
