@@ -1,7 +1,7 @@
 -- What holds of a segment that doesn't end the side.
 use Rattle.std.proofs.Common.{◌≡◌, ℕ, ◌+◌, ◌^◌, ◌<◌, ◌≤◌, Bool, true, false, not, ◌&&◌, ◌||◌, eqb, nat_lt, nat_le, List, length, Option, Some, None, refl, subst, ◌∙◌}
 use Rattle.std.specs.Prelude.{IsTrue, ◌≢◌}
-use Rattle.std.proofs.lemmas.Bool.{eqb-true, eqb-false, ltb-false, ltb-true}
+use Rattle.std.proofs.lemmas.Bool.{eqb-true, eqb-false, ltb-false, ltb-true, leb-false}
 use Rattle.nr_wire.specs.Constants.{OPCODE_READ_REQUEST, OPCODE_SEND, OPCODE_TERMINATE}
 use Rattle.nr_wire.specs.Segment.{is_untagged_opcode}
 use Rattle.nr_wire.specs.Segment.Segment.{Tagged, Untagged}
@@ -46,6 +46,10 @@ not-denied : (stag to : ℕ) (why : Option Denied) (others : Option End) → den
 not-denied stag to None others is = refl
 not-denied stag to (Some why) others is = absurd cc
 
+denied-none : (stag to : ℕ) (why : Option Denied) (others : Option End) → denied_if stag to why others ≡ None → others ≡ None
+denied-none stag to None others is = is
+denied-none stag to (Some why) others is = absurd cc
+
 well-formed : (last : Bool) (a b : Bool) → (not last || (not a || b)) ≡ false → (a ≡ true) × (b ≡ false)
 well-formed true true false is = (refl, refl)
 well-formed true true true is = absurd cc
@@ -64,6 +68,9 @@ request-fine s last payload is =
       size = eqb-true (length payload) 28 form.0;
       within = ltb-false (2 ^ 64) ((read_request_in payload).sink_to + (read_request_in payload).size) form.1;
       allowed = not-denied (read_request_in payload).stag (read_request_in payload).to (denial s.memory (fetch_access (read_request_in payload))) _ parts.1;
+      few = leb-false open_reads_max (length s.send_queue.response_ends)
+          (not-bad s.place REASON_REQUESTS (nat_le open_reads_max (length s.send_queue.response_ends)) None
+          (denied-none (read_request_in payload).stag (read_request_in payload).to (denial s.memory (fetch_access (read_request_in payload))) _ parts.1)).0;
     }
 
 pub alive-request : (s : LinkState) (f : Frame) (last : Bool) (w queue msn offset : ℕ) (payload : List ℕ) → f.at ≡ s.place →

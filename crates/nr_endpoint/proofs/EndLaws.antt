@@ -68,7 +68,7 @@ flaw-reason b1 b2 b3 b4 b5 b6 =
     (some-if P b5 REASON_TAGGED _ (inl (omega arith, omega arith))
     (some-if P b6 REASON_QUEUE None (inl (omega arith, omega arith)) tt)))))
 
-fpdu-reason : (frame : List ℕ) → IfErr (segment_of frame) (IsFrameReason Fpdu)
+pub fpdu-reason : (frame : List ℕ) → IfErr (segment_of frame) (IsFrameReason Fpdu)
 unfolding segment_of segment_flaw
 fpdu-reason frame = value-error (IsFrameReason Fpdu) _ _ (flaw-reason _ _ _ _ _ _)
 
@@ -172,7 +172,7 @@ fault-end f segment (Some (NoBuffer msn)) is = refl
 fault-end f segment (Some (AccessDenied why)) is = denied-end (access_of segment) why f.at
 fault-end f segment (Some (PeerTerminated word)) is = refl
 
-segment-end-is : (s : LinkState) (f : Frame) (segment : Segment) → IfSome (segment_end s f segment) (IsFrameEnd Fpdu f.at)
+pub segment-end-is : (s : LinkState) (f : Frame) (segment : Segment) → IfSome (segment_end s f segment) (IsFrameEnd Fpdu f.at)
 unfolding segment_end
 segment-end-is s f segment = fault-end f segment (segment_fault (readiness s (missing_access s.memory segment)) segment) (segment-fault (readiness s (missing_access s.memory segment)) segment)
 

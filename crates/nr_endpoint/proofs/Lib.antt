@@ -26,3 +26,8 @@ pub mod ClaimLaws
 pub mod StreamLaws
 pub mod GrantLaws
 pub mod WholeCalls
+pub mod ItemEnds
+pub mod OutputItems
+pub mod QueuedItems
+pub mod Bounds
+pub mod Received

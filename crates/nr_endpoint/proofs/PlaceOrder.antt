@@ -68,7 +68,7 @@ frame-between s Fpdu frame is = fpdu-between s (next_frame s frame) (segment_of 
 
 -- ---- Frames
 
-frames-between : (frames : List (List ℕ)) (rest : List ℕ) (a : Awaited) (s : LinkState) (b : Bool) → has_ended s ≡ b → AreFrames a frames →
+pub frames-between : (frames : List (List ℕ)) (rest : List ℕ) (a : Awaited) (s : LinkState) (b : Bool) → has_ended s ≡ b → AreFrames a frames →
     Between s.place (feeding_after_frames has_ended with_frame frames rest a s).state.place (arrivals frames a s)
 frames-between [] rest a s b is each = stands s.place
 frames-between (frame ∷ frames) rest a s true is each =
@@ -141,7 +141,7 @@ calls-between link (call ∷ calls) =
     joined link.state.place (after_call link call).state.place _ (call_events link call) (memory_events (after_call link call) calls)
     (call-between link call) (calls-between (after_call link call) calls)
 
-low-end : (from until : ℕ) (events : List Event) → Between from until events → from ≤ until
+pub low-end : (from until : ℕ) (events : List Event) → Between from until events → from ≤ until
 low-end from until [] between = between
 low-end from until (RegisterRegion right buf ∷ events) between = low-end from until events between
 low-end from until (ReleaseRegion stag ∷ events) between = low-end from until events between

@@ -10,7 +10,7 @@ use Rattle.nr_wire.specs.Segment.Segment.{Untagged}
 use Rattle.nr_wire.specs.Constants.{OPCODE_READ_REQUEST}
 use Rattle.nr_regions.specs.RegisteredMemory.{bytes_at}
 use Rattle.nr_link.specs.ReceiveState.{read_request_in}
-use Rattle.nr_link.specs.Output.{cut, segment_count, read_response, terminate_message, own_hello, refusing_hello}
+use Rattle.nr_link.specs.Output.{cut, send, segment_count, read_response, terminate_message, own_hello, refusing_hello}
 use Rattle.nr_link.specs.Ending.{final_output, rejection}
 use Rattle.nr_link.specs.declared.end.End.{End}
 use Rattle.nr_endpoint.specs.SendQueue.{SendQueue, output_len, with_hello, with_response, with_end}
@@ -37,9 +37,13 @@ cut-some : (segment : Bool → ℕ → List ℕ → Segment) (bytes : List ℕ) 
 unfolding cut
 cut-some segment bytes = flat-some _ (segment_count bytes) (omega arith) (encoding-some _)
 
-response-some : (stag to : ℕ) (bytes : List ℕ) → 1 ≤ length (read_response stag to bytes)
+pub response-some : (stag to : ℕ) (bytes : List ℕ) → 1 ≤ length (read_response stag to bytes)
 unfolding read_response
 response-some stag to bytes = cut-some _ bytes
+
+pub send-some : (msn : ℕ) (message : List ℕ) → 1 ≤ length (send msn message)
+unfolding send
+send-some msn message = cut-some _ message
 
 terminate-some : (word : ℕ) → 1 ≤ length (terminate_message word)
 unfolding terminate_message

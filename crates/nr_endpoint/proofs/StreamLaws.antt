@@ -99,9 +99,9 @@ frames-taken a s (frame ∷ frames) rest false is =
 -- ---- A feed
 
 -- a side that was fed these bytes so far
-record IsFed (from : Side) (link : Link) (bytes : List ℕ) : Type 0 where
-  keeps : has_ended link.state ≡ false → KeepsInput link (input_of from bytes)
-  within : link.state.place + length link.rest ≤ length bytes
+pub record IsFed (from : Side) (link : Link) (bytes : List ℕ) : Type 0 where
+  pub keeps : has_ended link.state ≡ false → KeepsInput link (input_of from bytes)
+  pub within : link.state.place + length link.rest ≤ length bytes
 
 abbrev input_in : Link → InputState
 input_in link = record { awaited = link.awaited; rest = link.rest; place = link.state.place }
@@ -169,7 +169,7 @@ ended-fed : (from : Side) (link : Link) (bytes : List ℕ) (after : LinkState) (
 ended-fed from link bytes after true is place ended fed = record { keeps = λ live. never (has_ended link.state) is live; within = omega (arith, fed.within, length-append bytes []) }
 ended-fed from link bytes after false is place ended fed = record { keeps = λ live. never (has_ended after) ended live; within = omega (arith, place, fed.within, length-append bytes []) }
 
-call-fed : (from : Side) (link : Link) (bytes : List ℕ) (call : Call) → IsFed from link bytes → IsFed from (after_call link call) (bytes ++ bytes_in_call link call)
+pub call-fed : (from : Side) (link : Link) (bytes : List ℕ) (call : Call) → IsFed from link bytes → IsFed from (after_call link call) (bytes ++ bytes_in_call link call)
 unfolding after_call
 call-fed from link bytes (Feed piece) fed = feed-fed from link bytes piece fed
 call-fed from link bytes (FeedOne piece) fed = step-fed from link bytes piece fed (has_ended link.state) refl
@@ -198,7 +198,7 @@ initial-fed side receives first_stag = record {
   within = omega arith;
 }
 
-stream-fed : (side : Side) (receives first_stag : ℕ) (calls : List Call) →
+pub stream-fed : (side : Side) (receives first_stag : ℕ) (calls : List Call) →
     IsFed (peer side) (after_calls (initial_link side receives first_stag) calls) (bytes_fed (initial_link side receives first_stag) calls)
 stream-fed side receives first_stag calls = calls-fed (peer side) (initial_link side receives first_stag) [] calls (initial-fed side receives first_stag)
 

@@ -1,5 +1,6 @@
 -- Several calls at once: from the side's new state to the list of calls.
-use Rattle.std.proofs.Common.{◌≡◌, ℕ, ◌+◌, ◌<◌, ◌≤◌, Bool, true, false, cond, is_some, List, [], ◌∷◌, ◌++◌, length, drop, take, get_or, Option, None, Some, IfSome, refl, sym, ap, subst, ◌∙◌, arith, append_assoc, length-append}
+use Rattle.std.proofs.Common.{◌≡◌, ℕ, ◌+◌, ◌<◌, ◌≤◌, Bool, true, false, cond, is_some, List, [], ◌∷◌, ◌++◌, length, drop, take, get_or, Option, None, Some, IfSome, Result, Ok, Err, refl, sym, ap, subst, ◌∙◌, arith, append_assoc, length-append}
+use Rattle.std.specs.Prelude.{IfOk, OnOk}
 use Rattle.std.proofs.lemmas.List.{append-nil, drop_more, take-append-le}
 use Rattle.nr_regions.specs.declared.right.Right.{Right}
 use Rattle.nr_regions.specs.declared.right.Right.TheVariants.{Fetch, Fill}
@@ -9,13 +10,14 @@ use Rattle.nr_regions.specs.Events.{after_event}
 use Rattle.nr_regions.proofs.Holding.{held-after_register, held-after_event}
 use Rattle.nr_link.specs.Output.{write}
 use Rattle.nr_endpoint.specs.declared.offering.Offered.{Offered}
+use Rattle.nr_endpoint.specs.declared.offering.Claims.{Claims}
 use Rattle.nr_endpoint.specs.declared.framing.RemoteWrite.{RemoteWrite}
 use Rattle.nr_endpoint.specs.SendQueue.{SendQueue, with_send, with_fpdus, with_write}
 use Rattle.nr_endpoint.specs.LinkState.{Link, LinkState, has_ended}
 use Rattle.nr_endpoint.specs.EndpointState.{EndpointState}
 use Rattle.nr_endpoint.specs.Calls.{Call, after_call, after_calls, with_state, unless_ended}
 use Rattle.nr_endpoint.specs.Calls.Call.{Send, WriteRemote, Register}
-use Rattle.nr_endpoint.specs.Offering.{offer_calls, register_call, with_buffer, claim_if, with_read, with_write_buffer, with_offered, claims_of, AreHeld, after_sent, after_offer, write_call, answer_calls, writes_output, after_answer}
+use Rattle.nr_endpoint.specs.Offering.{offer_calls, register_call, with_buffer, claim_if, with_read, with_write_buffer, with_offered, claims_of, AreHeld, after_offer, write_call, answer_calls, writes_output, after_answer}
 
 -- what holds of the fields holds of the value
 pub seen_all : (before : Link) (staging : List ℕ) (now : EndpointState) (after : Link) (calls : List Call) → record { link = before; staging = staging } ≡ now →
@@ -41,6 +43,9 @@ registered-all l (Some a) None (Some c) = refl
 registered-all l (Some a) (Some b) None = refl
 registered-all l (Some a) (Some b) (Some c) = refl
 
+abbrev after_sent : List ℕ → LinkState → LinkState
+after_sent message s = unless_ended s (record s { send_queue = with_send message s.send_queue })
+
 sent : (l : Link) (message : List ℕ) → with_state (after_sent message l.state) l ≡ after_call l (Send message)
 unfolding after_call
 sent l message = refl
@@ -53,22 +58,19 @@ no-calls : (l : Link) → after_calls l [] ≡ l
 unfolding after_calls
 no-calls l = refl
 
+in-order : (s : LinkState) (message : List ℕ) (o : Offered) (b : Bool) →
+    record s { memory = with_offered s.memory o; send_queue = cond b s.send_queue (with_send message s.send_queue) }
+    ≡ remembers (cond b s (record s { send_queue = with_send message s.send_queue })) (with_offered (cond b s (record s { send_queue = with_send message s.send_queue })).memory o)
+in-order s message o true = refl
+in-order s message o false = refl
+
 pub offered-state : (l : Link) (t : LinkState) (message : List ℕ) (o : Offered) → t ≡ after_offer message o l.state → with_state t l ≡ after_calls l (offer_calls message o)
 offered-state l t message o is =
     let others : List Call = register_call Fetch o.read ++ (register_call Fill o.write ++ register_call Fill o.reply) in
-    ap (λ (s : LinkState). with_state s l) is
+    ap (λ (s : LinkState). with_state s l) (is ∙ in-order l.state message o (has_ended l.state))
     ∙ registered-all (with_state (after_sent message l.state) l) o.read o.write o.reply
     ∙ ap (λ (k : Link). after_calls k others) (sent l message)
     ∙ sym (first-call l (Send message) others)
-
--- its memory is as before
-sent-memory : (s : LinkState) (message : List ℕ) (b : Bool) → (cond b s (record s { send_queue = with_send message s.send_queue })).memory ≡ s.memory
-sent-memory s message true = refl
-sent-memory s message false = refl
-
-pub offered-memory : (s t : LinkState) (message : List ℕ) (o : Offered) → t ≡ after_offer message o s → t.memory ≡ with_offered s.memory o
-offered-memory s t message o is =
-    ap (λ (k : LinkState). k.memory) is ∙ ap (λ (m : RegisteredMemory). with_offered m o) (sent-memory s message (has_ended s))
 
 -- each registration is held
 claim-held : (m : RegisteredMemory) (right : Right) (buf : Option (List ℕ)) → IfSome (claim_if m buf) (IsHeld (with_buffer m right buf))
@@ -92,6 +94,11 @@ offered-held m o = (
     claim-held (with_write_buffer m o) Fill o.reply,
   ),
 )
+
+pub held-of : (r : Result Claims Offered) (m n : RegisteredMemory) (o : Offered) → IfOk r (λ claims. claims ≡ claims_of m o) → OnOk r (n ≡ with_offered m o) → IfOk r (AreHeld n)
+held-of (Ok claims) m n o is same =
+    subst (λ (k : RegisteredMemory). AreHeld k claims) (sym same) (subst (λ (given : Claims). AreHeld (with_offered m o) given) (sym is) (offered-held m o))
+held-of (Err e) m n o is same = tt
 
 -- ---- RDMA Writes and a Send
 
@@ -142,11 +149,12 @@ answered-state l t writes message is = ap (λ (s : LinkState). with_state s l) i
 
 -- ---- RDMA Writes, one at a time
 
-pub write_goes : (writes : List RemoteWrite) (i : ℕ) (w : RemoteWrite) (total now after : List ℕ) → i < length writes → w ≡ get_or writes i w →
-    now ++ writes_output (drop i writes) ≡ total → after ≡ now ++ write w.stag w.to w.bytes.now → after ++ writes_output (drop (i + 1) writes) ≡ total
-write_goes writes i w total now after lt is so_far e =
+pub write_goes : (writes : List RemoteWrite) (i : ℕ) (d : RemoteWrite) (total now after : List ℕ) → i < length writes →
+    now ++ writes_output (drop i writes) ≡ total → after ≡ now ++ write (get_or writes i d).stag (get_or writes i d).to (get_or writes i d).bytes.now → after ++ writes_output (drop (i + 1) writes) ≡ total
+write_goes writes i d total now after lt so_far e =
+    let w : RemoteWrite = get_or writes i d in
     let others : List RemoteWrite = drop (i + 1) writes in
-    let left : drop i writes ≡ w ∷ others = drop_more writes i w lt ∙ ap (λ (first : RemoteWrite). first ∷ others) (sym is) in
+    let left : drop i writes ≡ w ∷ others = drop_more writes i d lt in
     ap (λ (bytes : List ℕ). bytes ++ writes_output others) e
     ∙ append_assoc now (write w.stag w.to w.bytes.now) (writes_output others)
     ∙ ap (λ (ws : List RemoteWrite). now ++ writes_output ws) (sym left)

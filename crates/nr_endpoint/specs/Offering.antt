@@ -1,5 +1,5 @@
 -- Several calls of an owner at once, all or none: a Send with the buffers that it offers to the peer, and RDMA Writes before a Send.
-use Rattle.std.specs.Prelude.{◌≡◌, ℕ, ◌+◌, ◌^◌, ◌≤◌, List, [], ◌∷◌, ◌++◌, length, map, Option, None, Some, IfSome}
+use Rattle.std.specs.Prelude.{◌≡◌, ℕ, ◌+◌, ◌^◌, ◌≤◌, List, [], ◌∷◌, ◌++◌, length, map, if◌then◌else◌, Option, None, Some, IfSome}
 use Rattle.nr_regions.specs.declared.right.Right.{Right}
 use Rattle.nr_regions.specs.declared.right.Right.TheVariants.{Fetch, Fill}
 use Rattle.nr_regions.specs.RegisteredMemory.{RegisteredMemory, Claim, IsHeld, after_register, claim_of}
@@ -8,7 +8,7 @@ use Rattle.nr_endpoint.specs.declared.offering.Offered.{Offered}
 use Rattle.nr_endpoint.specs.declared.offering.Claims.{Claims}
 use Rattle.nr_endpoint.specs.declared.framing.RemoteWrite.{RemoteWrite}
 use Rattle.nr_endpoint.specs.SendQueue.{SendQueue, with_send, with_fpdus}
-use Rattle.nr_endpoint.specs.LinkState.{LinkState}
+use Rattle.nr_endpoint.specs.LinkState.{LinkState, has_ended}
 use Rattle.nr_endpoint.specs.Calls.{Call, unless_ended}
 use Rattle.nr_endpoint.specs.Calls.Call.{Send, WriteRemote, Register}
 
@@ -55,11 +55,11 @@ claims_of m o = record { read = claim_if m o.read; write = claim_if (with_read m
 abbrev pub AreHeld : RegisteredMemory → Claims → Type 0
 AreHeld m claims = IfSome claims.read (IsHeld m) × (IfSome claims.write (IsHeld m) × IfSome claims.reply (IsHeld m))
 
-abbrev pub after_sent : List ℕ → LinkState → LinkState
-after_sent message s = unless_ended s (record s { send_queue = with_send message s.send_queue })
-
 abbrev pub after_offer : List ℕ → Offered → LinkState → LinkState
-after_offer message o s = record (after_sent message s) { memory = with_offered (after_sent message s).memory o }
+after_offer message o s = record s {
+  memory = with_offered s.memory o;
+  send_queue = if has_ended s then s.send_queue else with_send message s.send_queue;
+}
 
 -- ---- RDMA Writes and a Send
 

@@ -65,6 +65,7 @@ pub record RequestIsFine (s : LinkState) (payload : List ℕ) : Type 0 where
   pub size : length payload ≡ 28
   pub within : (read_request_in payload).sink_to + (read_request_in payload).size ≤ 2 ^ 64
   pub allowed : denial s.memory (fetch_access (read_request_in payload)) ≡ None
+  pub few : length s.send_queue.response_ends < open_reads_max
 
 pub record SendIsFine (s : LinkState) (last : Bool) (payload : List ℕ) : Type 0 where
   pub receive : is_begun s.receive_queue.received.begun ≡ false → 0 < s.receive_queue.free

@@ -1,5 +1,7 @@
 //! Laws of an endpoint, over the calls that it stands for.
 
+ghost use Rattle.nr_endpoint.specs.ReceivedLaws.{ReceivedBytes};
+ghost use Rattle.nr_endpoint.specs.OutputLaws.{OutputIsItems, SendsGoByItems, ResponsesGoByItems, SidesStayBounded};
 ghost use Rattle.nr_endpoint.specs.Laws.{PiecesJoin, StepsReach, StepsFeed, EndStays, KeepsLessThanFrame, EndedKeepsNothing, StreamIsKept, PlaceIsFed, MemoryFollowsEvents, PlacesAreAllowed, PlacesAreInOrder, ArrivalsRise, EventsAreTold, EventsAreInOrder, EventsFollowAccesses, OneFrameTellsAtItsEnd, ReadsAreAllowed, NothingElseIsRead, OtherFramesQueueNothing, OpenRegionHolds, ReleasedBufferHolds, ReleasedStaysDead, ClaimsStay, NoFpduBeforeHello, FramesEndForThese, GrantsEndAlike, OffersDenyAlike, NoFrameStops, OthersComeFromStop, MemoryComesFromOutOfMemory, EndedQueuesNothing, EndIsKept, StopQueuesLast, OutOfMemoryQueuesNothing};
 
 /// What a side is after some bytes does not depend on how they were cut: to feed two pieces is to feed both joined, and one step on a
@@ -38,6 +40,12 @@ pub fn memory_follows_accesses()
     ensures dead { ReleasedStaysDead }
 {}
 
+/// The bytes that came, those of a begun frame among them, part the tagged segments: those placed so far end within these bytes, and those
+/// that later calls place end after them.
+pub fn accesses_follow_bytes()
+    ensures { ReceivedBytes }
+{}
+
 /// The owner is told each message and each read that a frame completes, once and in the order of the stream. When it is told, all tagged
 /// segments of the frames up to that one have been placed, and the later ones end behind it (RFC 5040 section 5.5).
 pub fn events_follow_accesses()
@@ -55,6 +63,21 @@ pub fn claims_stay()
 /// Before the peer's hello was accepted, a side writes its hello alone (RFC 5044 section 7.1).
 pub fn no_fpdu_before_hello()
     ensures { NoFpduBeforeHello }
+{}
+
+/// What a side writes is its hello and items, in order: Sends, RDMA Writes, Read Requests, Read Responses, and the output with which it
+/// ends. The Sends that have left the queue, and the Read Responses that are owed, are counts of these items by the bytes that were
+/// written.
+pub fn output_in_items()
+    ensures items { OutputIsItems }
+    ensures sends { SendsGoByItems }
+    ensures responses { ResponsesGoByItems }
+{}
+
+/// Every side that calls reach has bounds: at most eight Read Requests are open and at most eight Read Responses owed, and each receive
+/// is free, has a begun Send or a message that waits, or is lent.
+pub fn sides_stay_bounded()
+    ensures { SidesStayBounded }
 {}
 
 /// A hello ends a side only for the reasons 1 to 4, an FPDU only for the reasons 5 to 16 and 22, a denied access, a Send without a receive, or

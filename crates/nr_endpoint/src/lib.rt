@@ -36,7 +36,8 @@ pub use event::Event;
 pub use fault::{DrainFault, ReadRefused};
 pub use framing::RemoteWrite;
 pub use laws::{
-    claims_stay, ends_by_grants, events_follow_accesses, however_cut, memory_follows_accesses,
-    no_fpdu_before_hello, reasons_of_frames, stream_is_kept,
+    accesses_follow_bytes, claims_stay, ends_by_grants, events_follow_accesses, however_cut,
+    memory_follows_accesses, no_fpdu_before_hello, output_in_items, reasons_of_frames,
+    sides_stay_bounded, stream_is_kept,
 };
 pub use offering::{Claims, Offered};

@@ -1,13 +1,15 @@
 //! Several calls of an owner at once, all or none.
 
-ghost use Rattle.std.specs.Prelude.{◌≡◌, ◌+◌, ◌^◌, ◌<◌, ◌≤◌, length, false, All, OnOk, OnErr, IfOk, IfErr};
+ghost use Rattle.std.specs.Prelude.{◌≡◌, ◌+◌, ◌^◌, ◌<◌, ◌≤◌, length, false, if◌then◌else◌, All, OnOk, OnErr, IfOk, IfErr};
 ghost use Rattle.nr_endpoint.specs.LinkState.{has_ended};
+ghost use Rattle.nr_endpoint.specs.SendQueue.{with_send};
 ghost use Rattle.nr_endpoint.specs.Calls.{after_calls, StandsOnAll};
 ghost use Rattle.nr_endpoint.specs.Offering.{one_of, offered_count, offer_calls, with_buffer, claim_if, with_offered, claims_of, AreHeld, after_offer, FitsRegion, answer_calls, after_answer};
 
 use crate::endpoint::Endpoint;
 use crate::framing::RemoteWrite;
 use crate::link::Link;
+use crate::send_queue::SendQueue;
 use nr_regions::{Regions, Registration, Right};
 use nr_xdr::{Memory, Octets};
 
@@ -60,6 +62,18 @@ fn register_offered(regions: &mut Regions, offered: Offered) -> Claims
     Claims { read, write, reply }
 }
 
+/// Queues a Send unless the side has ended. An `Err` changes nothing.
+fn send_unless(ended: bool, queue: &mut SendQueue, message: &[u8]) -> Result<(), Memory>
+    requires { length message.now < 2 ^ 32 }
+    ensures ok { OnOk result (queue.new ≡ (if ended then queue.old else with_send message.now queue.old)) }
+    ensures err { OnErr result (queue.new ≡ queue.old) }
+{
+    if ended {
+        return Ok(());
+    }
+    queue.send(message)
+}
+
 impl Link {
     /// Queues a Send and registers the buffers that it offers. `Err` gives the buffers back, and changes nothing.
     pub fn offer(&mut self, message: &[u8], offered: Offered) -> Result<Claims, Offered>
@@ -73,7 +87,7 @@ impl Link {
         if self.regions.make_room(3).is_err() {
             return Err(offered);
         }
-        if self.send(message).is_err() {
+        if send_unless(self.ended.is_some(), &mut self.send_queue, message).is_err() {
             return Err(offered);
         }
         Ok(register_offered(&mut self.regions, offered))

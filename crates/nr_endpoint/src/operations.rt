@@ -39,6 +39,7 @@ impl Link {
         ensures greeted { self.now.has_hello ≡ true → 0 < self.now.place }
         ensures reads { length self.now.reads ≤ open_reads_max }
     {
+        let _open = self.reads.as_slice();
         self.receive_queue.sum();
     }
 

@@ -103,7 +103,7 @@ impl TestEndpoint {
     #[tactic(auto, using(nr_endpoint::proofs::FedBytes::message_lent))]
     pub fn message(&mut self, rt: &impl Abort, alloc: Global) -> (Vec<u8>, usize) {
         match self.endpoint.next_event() {
-            Some(Event::Message { buf, len }) => {
+            Some(Event::Message { buf, len, .. }) => {
                 let bytes = Vec::from_slice(alloc, buf.as_slice()).expect(rt, "memory");
                 self.endpoint.post(buf);
                 (bytes, len)

@@ -7,3 +7,4 @@ pub mod ReceiveState
 pub mod SegmentFaults
 pub mod Ending
 pub mod OutputItem
+pub mod KeptSends

@@ -9,5 +9,7 @@
 
 pub mod constants;
 mod end;
+mod laws;
 
 pub use end::End;
+pub use laws::begun_sends_judged_alike;

@@ -1,9 +1,6 @@
-use Rattle.std.proofs.Common.{ap, ◌∙◌}
-use Rattle.nr_endpoint.specs.contracts.endpoint.Endpoint.{the_view}
-use Rattle.nr_endpoint.specs.declared.endpoint.Endpoint.TheInside.{Inside}
 use Rattle.nr_endpoint.proofs.Standing.{out_of_memory}
 use Rattle.nr_endpoint.proofs.endpoint.Endpoint.run_out_live.Goals as goal
 
 pub returns-clause-state : goal.returns-clause-state
 returns-clause-state c =
-    out_of_memory _ _ c.args.self.now c.run_out.new.self (ap (λ (e : Inside). the_view e) c.self-inside.view_is ∙ c.self.view_is) c.requires.live c.run_out.ensures.state
+    out_of_memory _ _ c.args.self.now c.run_out.new.self c.self.view_is c.requires.live c.run_out.ensures.state
