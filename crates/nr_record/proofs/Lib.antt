@@ -1,0 +1,5 @@
+mod Lists
+mod Standing
+mod Unique
+mod Begun
+mod Above

@@ -1,0 +1,14 @@
+use Rattle.std.proofs.Common.{◌≡◌, ℕ, ◌+◌, ◌≤◌, ◌^◌, List, ◌++◌, length, None}
+use Rattle.nr_record.specs.Kept.{kept, StandsFor}
+use Rattle.nr_record.proofs.records.Records.feed_inner.Given as goal
+
+abbrev pub invariant-loop-rest : goal.invariant-loop-rest
+invariant-loop-rest l =
+    (done : List ℕ)
+    × (l.piece ≡ done ++ l.rest)
+    × (l.self.fault ≡ None)
+    × (l.self.count + length l.rest ≡ l.initial.self.count + length l.piece)
+    × ((stream : List ℕ) (taken : ℕ) → StandsFor (kept l.initial.self) stream taken → StandsFor (kept l.self) (stream ++ done) taken)
+
+abbrev pub decreases-loop-rest : goal.decreases-loop-rest
+decreases-loop-rest l = length l.rest

@@ -1,0 +1,8 @@
+use Rattle.std.proofs.Common.{rules, ◌≡◌, ℕ, suc, zero, ◌+◌, ◌<◌, ◌≤◌, [], ◌∷◌, ◌++◌, length, List, take, drop, Option, None, Some, sym, ap, refl, subst, ◌∙◌, arith, ⊎_elim}
+use Rattle.nr_record.specs.Kept.{Kept, kept, IsState, StandsFor}
+use Rattle.nr_record.specs.Step.{with_byte, with_data, with_fault}
+use Rattle.nr_record.proofs.Standing.{new_stands}
+use Rattle.nr_record.proofs.records.Records.new.Goals as goal
+
+pub returns-clause-stands : goal.returns-clause-stands
+returns-clause-stands c = new_stands _ _ _ _ c.new.ensures.items c.new-2.ensures c.new-3.ensures

@@ -1,0 +1,12 @@
+use Rattle.std.proofs.Common.{rules, ◌≡◌, ℕ, suc, zero, ◌+◌, ◌<◌, ◌≤◌, [], ◌∷◌, ◌++◌, length, List, take, drop, Option, None, Some, sym, ap, refl, subst, ◌∙◌, arith, ⊎_elim}
+use Rattle.nr_record.specs.Kept.{Kept, kept, IsState, StandsFor}
+use Rattle.nr_record.specs.Step.{with_byte, with_data, with_fault}
+use Rattle.nr_record.proofs.Standing.{byte_stands, byte_count}
+use Rattle.nr_record.proofs.records.Records.read_header.Goals as goal
+
+pub returns-clause-stands : goal.returns-clause-stands
+returns-clause-stands c = λ stream taken s. let k = kept c.args.self.now in
+    subst (λ (l : Kept). StandsFor l (stream ++ c.args.byte ∷ []) taken) (sym c.add_to_header.ensures) (byte_stands c.args.byte k stream taken c.ranges.byte.fits c.requires.state.0 c.requires.state.1 s)
+
+pub returns-clause-count : goal.returns-clause-count
+returns-clause-count c = ap (λ (l : Kept). l.count) c.add_to_header.ensures ∙ byte_count c.args.byte (kept c.args.self.now)

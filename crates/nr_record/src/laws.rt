@@ -1,0 +1,29 @@
+//! Laws of record marking.
+
+ghost use Rattle.std.specs.Prelude.{◌≡◌, ℕ, List, [], None};
+ghost use Rattle.std.specs.List.{AllByRecursion};
+ghost use Rattle.nr_record.specs.Records.{IsShort, RecordsEncode, encodings, as_one, contents};
+ghost use Rattle.nr_record.specs.Kept.{Kept, StandsFor, read_in, rest_in};
+
+/// A stream encodes its records in exactly one way.
+pub fn one_reading()
+    ensures { (bytes : List ℕ) (records others : List (List ℕ)) (rest left : List ℕ) →
+        RecordsEncode bytes records rest → RecordsEncode bytes others left → (records ≡ others) × (rest ≡ left) }
+{}
+
+/// What is written is read back: records, each as one fragment, and nothing after them.
+pub fn written_again()
+    ensures { (records : List (List ℕ)) → AllByRecursion IsShort records → RecordsEncode (encodings (as_one records)) records [] }
+{}
+
+/// The records that a value gives are those that the bytes that it read encode. Without a fault, all bytes were read.
+pub fn records_of_the_stream()
+    ensures records { (k : Kept) (stream : List ℕ) (taken : ℕ) (s : StandsFor k stream taken) → RecordsEncode (read_in s) (contents s.cuts) (rest_in s) }
+    ensures all { (k : Kept) (stream : List ℕ) (taken : ℕ) (s : StandsFor k stream taken) → k.fault ≡ None → read_in s ≡ stream }
+{}
+
+/// However a stream is cut into pieces, its records are the same.
+pub fn however_cut()
+    ensures { (k l : Kept) (stream : List ℕ) (i j : ℕ) (s : StandsFor k stream i) (t : StandsFor l stream j) →
+        k.fault ≡ None → l.fault ≡ None → contents s.cuts ≡ contents t.cuts }
+{}
