@@ -1,6 +1,6 @@
 -- The regions of a call that is done are closed.
 use Rattle.std.proofs.Common.{◌≡◌, ℕ, ◌+◌, ◌≤◌, ◌<◌, Bool, true, false, cond, eqb, List, [], ◌∷◌, ◌++◌, map, Option, None, Some, Result, Ok, refl, sym, ap, subst, ◌∙◌, arith, eq-eqb, zero, suc, length}
-use Rattle.std.specs.Prelude.{Contains, slice_index_or}
+use Rattle.std.specs.Prelude.{slice_index_or}
 use Rattle.std.specs.List.{find}
 use Rattle.nr_xdr.specs.Fields.{word_at}
 use Rattle.nr_wire.specs.declared.hello.Side.TheVariants.{Initiator}
@@ -9,7 +9,6 @@ use Rattle.nr_link.specs.declared.end.End.{End as Stop}
 use Rattle.nr_link.specs.Frames.{Frame, is_hello}
 use Rattle.nr_link.specs.ReceiveState.{message_completed, read_request_of}
 use Rattle.nr_link.specs.Ending.{frame_segment}
-use Rattle.nr_reduce.specs.declared.call.Outcome.{Outcome}
 use Rattle.nr_reduce.specs.declared.mark.Mark.{Mark}
 use Rattle.nr_reduce.specs.declared.mark.Mark.TheVariants as marks
 use Rattle.nr_reduce.specs.declared.mark.LinkParameters.{LinkParameters}

@@ -1,5 +1,5 @@
 -- Regions of a client that were closed, and all those of a client that ended, hold the same from then on.
-use Rattle.std.proofs.Common.{◌≡◌, ℕ, ◌+◌, ◌≤◌, ◌<◌, Bool, true, false, cond, eqb, List, [], ◌∷◌, ◌++◌, length, map, Option, None, Some, IfSome, Result, Ok, refl, sym, ap, subst, ◌∙◌, arith, append-nil, eq-eqb, eqb-true}
+use Rattle.std.proofs.Common.{◌≡◌, ℕ, ◌+◌, ◌≤◌, Bool, true, false, cond, eqb, List, [], ◌∷◌, ◌++◌, length, map, Option, None, Some, IfSome, Result, Ok, refl, sym, ap, subst, ◌∙◌, arith, append-nil, eq-eqb, eqb-true}
 use Rattle.std.specs.Prelude.{Contains}
 use Rattle.std.specs.List.{find}
 use Rattle.nr_xdr.specs.Fields.{word_at}
@@ -23,11 +23,10 @@ use Rattle.nr_reduce.specs.ClientState.{ClientState}
 use Rattle.nr_reduce.specs.Client.{client_rules, client_end, client_state_after, initial_client, with_message, with_segment, with_hello, due_with_response}
 use Rattle.nr_reduce.specs.Matched.{IsPrefixOf}
 use Rattle.nr_reduce.specs.Asked.{AskedMark, AskedSoFar, IsLost}
-use Rattle.nr_reduce.specs.Run.{client, end_of_side, placed_bytes}
+use Rattle.nr_reduce.specs.Run.{client, end_of_side}
 use Rattle.nr_reduce.proofs.OwnStags.{AreNumbered, ClientNumbers, client-known, client-numbers}
 use Rattle.nr_reduce.proofs.StagsLeft.{request-stag, message-stag}
 use Rattle.nr_reduce.proofs.Steps.{AtEachMark-first, end_state_after-append}
-use Rattle.nr_laws.specs.MarkAt.{MarkAt}
 use Rattle.nr_laws.specs.Typed.{TypedMark, IsTyped}
 use Rattle.nr_laws.specs.HandedBack.{Stands, ClosedRegionsStand, EndedRegionsStand, ClosedRegionsHoldWhatStood, LostHandsBack}
 use Rattle.nr_laws.proofs.Along.{GoesOn, goes-first, goes-behind, places_after}
@@ -35,7 +34,7 @@ use Rattle.nr_laws.proofs.ClientSays.{ClientGood}
 use Rattle.nr_laws.proofs.ClientRun.{client-goes}
 use Rattle.nr_laws.proofs.ClientMemory.{HasRegion, has-closed, keeps-along}
 use Rattle.nr_laws.proofs.Memory.{Part, parts_of, after_parts, after-append, parts-append, Settled, settled-later, held-parts}
-use Rattle.nr_laws.proofs.OnceByXid.{at-mark, before-mark}
+use Rattle.nr_laws.proofs.OnceByXid.{at-mark}
 use Rattle.nr_laws.proofs.Outcomes.{client_by}
 use Rattle.nr_laws.proofs.Revoked.{IsClosedBy, OnlyClosed, only-closed, only-above, frame-regions, request-regions, UntilBy, until-run}
 use Rattle.nr_laws.proofs.Frozen.{NotTo, not-parts, Frozen, EventsBehind, frozen-all, frozen-from, low-found, found-at, run-holds, ended-run}

@@ -8,7 +8,7 @@ use Rattle.nr_reduce.specs.PlainJournal.{PlainServer, journal}
 use Rattle.nr_reduce.specs.Journal.{Journaled}
 use Rattle.nr_reduce.proofs.Placing.{at_place}
 use Rattle.nr_reduce.proofs.SoFarLaws.{AtEachMark-each}
-use Rattle.nr_laws.specs.PlainLinks.{server_with, PlainOnMark, PlainlyOn, AtPlaceOnMark, AtPlacesOn, PlainReplyMark, HasPlainReplies, JournaledLinksAreAtPlaces, PlacedLinksHavePlainReplies, PlainLinksHavePlainReplies}
+use Rattle.nr_laws.specs.PlainLinks.{server_with, PlainOnMark, PlainlyOn, AtPlaceOnMark, AtPlacesOn, PlainReplyMark, JournaledLinksAreAtPlaces, PlacedLinksHavePlainReplies, PlainLinksHavePlainReplies}
 use Rattle.nr_laws.proofs.OnceByXid.{at-mark}
 
 -- what holds at each mark of a run, by what stands before and after it

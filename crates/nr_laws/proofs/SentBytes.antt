@@ -1,9 +1,8 @@
 -- Each byte that a client has sent is due for an event of it.
-use Rattle.std.proofs.Common.{◌≡◌, ℕ, ◌+◌, ◌-◌, ◌<◌, ◌≤◌, List, [], ◌∷◌, ◌++◌, length, Option, None, Some, refl, sym, ap, subst, ◌∙◌, arith, append_assoc, length-append, inl, inr, ◌⊎◌, zero, suc}
+use Rattle.std.proofs.Common.{◌≡◌, ℕ, ◌+◌, ◌-◌, List, [], ◌∷◌, ◌++◌, length, None, Some, refl, ap, subst, arith, length-append, inl, inr, ◌⊎◌, zero, suc}
 use Rattle.std.specs.Prelude.{slice_get}
 use Rattle.nr_wire.specs.declared.hello.Side.TheVariants.{Initiator}
 use Rattle.nr_link.specs.Output.{own_hello}
-use Rattle.nr_reduce.specs.declared.mark.Mark.{Mark}
 use Rattle.nr_reduce.specs.declared.mark.LinkParameters.{LinkParameters}
 use Rattle.nr_reduce.specs.History.{bytes_sent}
 use Rattle.nr_reduce.specs.Events.{Event, events}
@@ -11,7 +10,6 @@ use Rattle.nr_reduce.specs.EndRules.{EndState, output_for, output_for_all, next_
 use Rattle.nr_reduce.specs.ClientState.{ClientState}
 use Rattle.nr_reduce.specs.Client.{client_rules, initial_client}
 use Rattle.nr_reduce.specs.Run.{output_due}
-use Rattle.nr_reduce.proofs.Steps.{output_for_all-append, end_state_after-append}
 use Rattle.nr_laws.specs.Sent.{ClientSendsWhatIsDue, ServerSendsWhatIsDue, IsSentFor, SentBytesAreAllowed}
 use Rattle.nr_laws.proofs.AllowedBytes.{nothing_else_is_disclosed}
 use Rattle.nr_laws.proofs.Flows.{sent_up, sent_down}

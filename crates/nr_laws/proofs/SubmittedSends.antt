@@ -1,18 +1,16 @@
 -- What the Send of a call conveys by the regions of its client.
-use Rattle.std.proofs.Common.{◌≡◌, ℕ, ◌+◌, ◌^◌, ◌<◌, ◌≤◌, Bool, true, false, cond, ◌&&◌, eqb, List, [], ◌∷◌, ◌++◌, length, take, drop, map, Option, None, Some, IfSome, Result, Ok, refl, sym, ap, subst, ◌∙◌, arith, append_assoc, append-nil, eq-eqb}
+use Rattle.std.proofs.Common.{◌≡◌, ℕ, ◌+◌, ◌^◌, ◌≤◌, Bool, true, false, cond, ◌&&◌, eqb, List, [], ◌∷◌, ◌++◌, length, take, drop, map, Option, None, Some, IfSome, Result, Ok, refl, sym, ap, subst, ◌∙◌, arith, append_assoc, append-nil, eq-eqb}
 use Rattle.std.specs.Prelude.{sum, replicate}
 use Rattle.std.specs.List.{find, flat_map}
 use Rattle.std.proofs.Math.Seq.{take-add}
 use Rattle.std.proofs.lemmas.List.{take_all, drop-drop}
 use Rattle.std.proofs.lemmas.List.Concat.{flat_map-cons}
 use Rattle.std.proofs.lemmas.List.Sums.{sum_by-cons}
-use Rattle.nr_xdr.specs.Item.{IsBytes}
 use Rattle.nr_wire.specs.declared.hello.Side.TheVariants.{Initiator}
-use Rattle.nr_wire.specs.Segment.{Segment}
 use Rattle.nr_regions.specs.declared.right.Right.TheVariants.{Fetch, Fill}
 use Rattle.nr_header.specs.declared.header.ReadSegment.{ReadSegment}
 use Rattle.nr_link.specs.declared.end.End.{End as Stop}
-use Rattle.nr_link.specs.Frames.{Frame, is_hello}
+use Rattle.nr_link.specs.Frames.{is_hello}
 use Rattle.nr_link.specs.Ending.{frame_segment}
 use Rattle.nr_reduce.specs.declared.call.Call.{Call}
 use Rattle.nr_reduce.specs.declared.call.Form.{Form}
@@ -25,22 +23,20 @@ use Rattle.nr_reduce.specs.History.{AcceptedCall, bytes_received}
 use Rattle.nr_reduce.specs.Limits.{send_max}
 use Rattle.nr_reduce.specs.Plans.{TooLarge, Buffer, buffers, buffer_if, has_segment, write_stag, reply_stag, total, plan_of, lists_of, read_list, entries_from, regions_needed}
 use Rattle.nr_reduce.specs.Chunks.{Bytes, at_position, entry_bytes, read_bytes, call_conveyed}
-use Rattle.nr_reduce.specs.Undone.{ChunkHolds, inline_by, lists_by}
-use Rattle.nr_reduce.specs.Events.{Event, events, events_at, if_own}
+use Rattle.nr_reduce.specs.Undone.{ChunkHolds}
+use Rattle.nr_reduce.specs.Events.{Event, events_at, if_own}
 use Rattle.nr_reduce.specs.Events.Event.{FrameReceived, CallSubmitted, MemoryRevoked, CallExecuted, QueueWritten}
 use Rattle.nr_reduce.specs.EndRules.{EndState, end_state_after, next_end_state_in}
 use Rattle.nr_reduce.specs.OfferedRegions.{Region, closed_if, regions_closed}
 use Rattle.nr_reduce.specs.ClientState.{ClientState, call_payload, plan_for}
 use Rattle.nr_reduce.specs.Client.{client_rules, client_end, client_state_after, outstanding_of, plan_or, region_of, with_segment, with_hello}
 use Rattle.nr_reduce.specs.Matched.{IsPrefixOf}
-use Rattle.nr_reduce.specs.Asked.{AskedMark, AskedSoFar, IsAccepted}
+use Rattle.nr_reduce.specs.Asked.{AskedMark, IsAccepted}
 use Rattle.nr_reduce.specs.Run.{client, grants_of, placed_bytes}
-use Rattle.nr_reduce.proofs.OwnStags.{AreNumbered, own-stags, kept-after, client-known}
+use Rattle.nr_reduce.proofs.OwnStags.{own-stags, kept-after, client-known}
 use Rattle.nr_reduce.proofs.Steps.{client-one}
-use Rattle.nr_laws.specs.MarkAt.{MarkAt}
-use Rattle.nr_laws.specs.Typed.{TypedMark, IsTyped}
-use Rattle.nr_laws.specs.Payloads.{HasPlan, form_conveyed}
-use Rattle.nr_laws.specs.SendsConvey.{message_of, SendConveys, SendsConvey}
+use Rattle.nr_laws.specs.Typed.{TypedMark}
+use Rattle.nr_laws.specs.SendsConvey.{SendsConvey}
 use Rattle.nr_laws.proofs.ClientMemory.{find-left, find-right, find-closed, none-from}
 use Rattle.nr_laws.proofs.ConveyedCalls.{planned-fits, plan-reads}
 use Rattle.nr_laws.proofs.ConveyedForms.{HasChunk, no-bytes, planned-chunk, plan-conveys}
