@@ -22,3 +22,4 @@ pub mod Sent
 pub mod SendsConvey
 pub mod AnswersConvey
 pub mod ServerItems
+pub mod MessageSegments

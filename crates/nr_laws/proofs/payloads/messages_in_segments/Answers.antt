@@ -1,0 +1,14 @@
+use Rattle.nr_laws.proofs.SegmentedMessages.{send_is_its_segments, segments_read_back, message_is_received, segments_break_no_rule}
+use Rattle.nr_laws.proofs.payloads.messages_in_segments.Goals as goal
+
+pub returns-clause-sent : goal.returns-clause-sent
+returns-clause-sent c = send_is_its_segments
+
+pub returns-clause-read : goal.returns-clause-read
+returns-clause-read c = segments_read_back
+
+pub returns-clause-received : goal.returns-clause-received
+returns-clause-received c = message_is_received
+
+pub returns-clause-allowed : goal.returns-clause-allowed
+returns-clause-allowed c = segments_break_no_rule

@@ -1,0 +1,55 @@
+-- A message of any length is sent in segments, and received from them (RFC 5041 sections 5.2 and 7; RFC 5044 section 4).
+use Rattle.std.specs.Prelude.{◌≡◌, ℕ, ◌+◌, ◌*◌, ◌^◌, ◌≤◌, ◌<◌, true, ◌==◌, List, [], ◌∷◌, ◌++◌, length, map, None, Ok, option_to_list}
+use Rattle.std.specs.List.{flat_map, range_with_len}
+use Rattle.nr_regions.specs.declared.denied.Denied.{Denied}
+use Rattle.nr_wire.specs.Constants.{OPCODE_SEND, QUEUE_SEND}
+use Rattle.nr_wire.specs.Segment.{Segment, encoding, segment_of}
+use Rattle.nr_wire.specs.Segment.Segment.{Untagged}
+use Rattle.nr_link.specs.Limits.{segment_max}
+use Rattle.nr_link.specs.Output.{segment_count, segment_payload, msn_word, send}
+use Rattle.nr_link.specs.ReceiveState.{ReceiveState, received_after, message_completed}
+use Rattle.nr_link.specs.SegmentFaults.{Readiness, segment_fault}
+
+-- The segment of a message with this index: its payload at its offset, with the L bit on the last alone.
+abbrev pub message_segment : (msn : ℕ) → List ℕ → ℕ → Segment
+message_segment msn message i =
+    Untagged (i + 1 == segment_count message) OPCODE_SEND 0 QUEUE_SEND (msn_word msn) (segment_max * i) (segment_payload message i)
+
+abbrev pub message_segments : (msn : ℕ) → List ℕ → List Segment
+message_segments msn message = map (message_segment msn message) (range_with_len 0 (segment_count message))
+
+-- What is written for a Send are these segments, in order.
+abbrev pub SendIsItsSegments : Type 0
+SendIsItsSegments = (msn : ℕ) (message : List ℕ) → send msn message ≡ flat_map encoding (message_segments msn message)
+
+-- Each has at most segment_max bytes of the message, and is read as it was written, if offsets in the message are words.
+abbrev pub SegmentsReadBack : Type 0
+SegmentsReadBack = (msn : ℕ) (message : List ℕ) (i : ℕ) → i < segment_count message → length message ≤ 2 ^ 32 →
+    (length (segment_payload message i) ≤ segment_max) × (segment_of (encoding (message_segment msn message i)) ≡ Ok (message_segment msn message i))
+
+-- what a side has received after some segments, and the messages that they make whole
+abbrev pub received_after_all : ReceiveState → List Segment → ReceiveState
+received_after_all h [] = h
+received_after_all h (s ∷ segments) = received_after_all (received_after h s) segments
+
+abbrev pub messages_completed : ReceiveState → List Segment → List (List ℕ)
+messages_completed h [] = []
+messages_completed h (s ∷ segments) = option_to_list (message_completed h s) ++ messages_completed (received_after h s) segments
+
+-- A side that has no Send begun has received just the message after its segments, whole.
+pub record IsReceived (h : ReceiveState) (segments : List Segment) (message : List ℕ) : Type 0 where
+  pub messages : messages_completed h segments ≡ message ∷ []
+  pub state : received_after_all h segments ≡ record { sends = h.sends + 1; begun = None; requests = h.requests }
+
+abbrev pub MessageIsReceived : Type 0
+MessageIsReceived = (h : ReceiveState) (msn : ℕ) (message : List ℕ) → h.begun ≡ None → IsReceived h (message_segments msn message) message
+
+-- None of some segments breaks a rule of the link, each by what was received before it.
+abbrev pub BreakNoRule : Readiness Denied → List Segment → Type 0
+BreakNoRule r [] = Unit {0}
+BreakNoRule r (s ∷ segments) = (segment_fault r s ≡ None) × BreakNoRule (record r { received = received_after r.received s }) segments
+
+-- So it is of the segments of a message with the next number that is no longer than a message may be, if a receive is there.
+abbrev pub SegmentsBreakNoRule : Type 0
+SegmentsBreakNoRule = (r : Readiness Denied) (message : List ℕ) → r.received.begun ≡ None → r.has_receive ≡ true → r.missing ≡ None → 16 ≤ length message → length message ≤ r.message_max →
+    BreakNoRule r (message_segments (r.received.sends + 1) message)
