@@ -1,10 +1,10 @@
 -- All output of a server that is due is its hello, and then items; and the ends of messages that its state keeps are those of items.
-use Rattle.std.proofs.Common.{◌≡◌, ℕ, ◌+◌, ◌≤◌, ◌<◌, Bool, true, false, cond, eqb, List, [], ◌∷◌, ◌++◌, length, Option, None, Some, Result, Ok, Err, refl, sym, ap, subst, ◌∙◌, arith, append_assoc, append-nil, length-append}
+use Rattle.std.proofs.Common.{◌≡◌, ℕ, ◌+◌, ◌≤◌, ◌<◌, Bool, true, false, cond, ltb, not, eqb, List, [], ◌∷◌, ◌++◌, length, Option, None, Some, Result, Ok, Err, refl, sym, ap, subst, ◌∙◌, arith, append_assoc, append-nil, length-append}
 use Rattle.std.proofs.lemmas.Bool.{ne_eqb, eq-eqb}
-use Rattle.nr_wire.specs.Constants.{REASON_FLAGS}
+use Rattle.nr_wire.specs.Constants.{REASON_FLAGS, DDP_VERSION, RDMAP_VERSION}
 use Rattle.nr_wire.specs.declared.hello.Side.TheVariants.{Initiator, Responder}
 use Rattle.nr_wire.specs.Hello.{hello_of, value_unless}
-use Rattle.nr_wire.specs.Segment.{Segment, segment_of, segment_flaw, segment_by_form, is_tagged}
+use Rattle.nr_wire.specs.Segment.{Segment, segment_of, segment_flaw, segment_by_form, is_tagged, ulpdu_len, header_len, ddp_version, rdmap_version, opcode_of, queue_of, is_supported, is_of_other_form, is_of_other_queue}
 use Rattle.nr_link.specs.declared.end.End.{End}
 use Rattle.nr_link.specs.declared.end.End.TheVariants as ends
 use Rattle.nr_link.specs.Frames.{Frame, is_hello}
@@ -40,14 +40,20 @@ abbrev AtLeast5 : Option ℕ → Type 0
 AtLeast5 None = Unit {0}
 AtLeast5 (Some reason) = 5 ≤ reason
 
-first-of : (b : Bool) (reason : ℕ) (rest : Option ℕ) → 5 ≤ reason → AtLeast5 rest → AtLeast5 (cond b (Some reason) rest)
-first-of true reason rest le h = le
-first-of false reason rest le h = h
+six-big : (a b c d e f : Bool) → AtLeast5 (cond a (Some 5) (cond b (Some 6) (cond c (Some 7) (cond d (Some 8) (cond e (Some 9) (cond f (Some 10) None))))))
+six-big true b c d e f = omega arith
+six-big false true c d e f = omega arith
+six-big false false true d e f = omega arith
+six-big false false false true e f = omega arith
+six-big false false false false true f = omega arith
+six-big false false false false false true = omega arith
+six-big false false false false false false = tt
 
 flaw-big : (bytes : List ℕ) → AtLeast5 (segment_flaw bytes)
 unfolding segment_flaw
 flaw-big bytes =
-    first-of _ 5 _ (omega arith) (first-of _ 6 _ (omega arith) (first-of _ 7 _ (omega arith) (first-of _ 8 _ (omega arith) (first-of _ 9 _ (omega arith) (first-of _ 10 None (omega arith) tt)))))
+    six-big (ltb (ulpdu_len bytes) (header_len (is_tagged bytes))) (not (eqb (ddp_version bytes) DDP_VERSION)) (not (eqb (rdmap_version bytes) RDMAP_VERSION)) (not (is_supported (opcode_of bytes))) (is_of_other_form (is_tagged bytes) (opcode_of bytes))
+    (is_of_other_queue (is_tagged bytes) (opcode_of bytes) (queue_of bytes))
 
 segment-big : (f : Frame) (reason : ℕ) → frame_segment f ≡ Err reason → 5 ≤ reason
 unfolding frame_segment segment_of

@@ -43,6 +43,7 @@ pub mod DoneBack
 pub mod SentBytes
 pub mod SubmittedSends
 pub mod ConveyingAnswers
+pub mod BoundedSides
 pub mod SegmentedMessages
 pub mod Replied
 pub mod Otherwise

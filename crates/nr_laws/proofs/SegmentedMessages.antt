@@ -1,5 +1,5 @@
--- A message that is sent in segments is received whole, and none of its segments breaks a rule of the link.
-use Rattle.std.proofs.Common.{◌≡◌, ℕ, zero, suc, ◌+◌, ◌*◌, ◌/◌, ◌^◌, ◌≤◌, ◌<◌, max, Bool, true, false, not, cond, ◌||◌, eqb, ltb, List, [], ◌∷◌, ◌++◌, length, take, drop, map, Option, None, Some, refl, sym, ap, subst, ◌∙◌, arith, eq-eqb, ne_eqb, le-ltb, length-take-le}
+-- A message that is sent in segments is received complete, and none of its segments breaks a rule of the link.
+use Rattle.std.proofs.Common.{◌≡◌, ℕ, zero, suc, ◌+◌, ◌*◌, ◌/◌, ◌^◌, ◌≤◌, ◌<◌, max, Bool, true, false, not, cond, ◌||◌, eqb, ltb, List, [], ◌∷◌, ◌++◌, length, take, drop, map, Option, None, Some, refl, sym, ap, subst, ◌∙◌, arith, append_assoc, eq-eqb, ne_eqb, le-ltb, length-take-le}
 use Rattle.std.specs.Prelude.{option_to_list}
 use Rattle.std.specs.List.{flat_map, range_with_len}
 use Rattle.std.proofs.Math.Seq.{take-add}
@@ -11,7 +11,7 @@ use Rattle.nr_link.specs.ReceiveState.{ReceiveState, begun_bytes, received_after
 use Rattle.nr_link.specs.Reasons.{REASON_MSN, REASON_OFFSET, REASON_SHORT, REASON_LONG}
 use Rattle.nr_link.specs.SegmentFaults.{Readiness, segment_fault, first_fault, reason_if, missing_fault, is_begun, has_length}
 use Rattle.nr_link.specs.SegmentFaults.SegmentFault.{NoBuffer}
-use Rattle.nr_laws.specs.MessageSegments.{message_segment, SendIsItsSegments, SegmentsReadBack, received_after_all, messages_completed, IsReceived, MessageIsReceived, BreakNoRule, SegmentsBreakNoRule}
+use Rattle.nr_laws.specs.MessageSegments.{message_segment, message_segments, SendIsItsSegments, SegmentsReadBack, received_after_all, messages_completed, IsReceived, MessageIsReceived, segments_of_messages, MessagesAreReceived, BreakNoRule, SegmentsBreakNoRule}
 use Rattle.nr_laws.proofs.Brought.{IsWord, encoding-is}
 
 -- ---- What is written
@@ -24,7 +24,7 @@ pub send_is_its_segments : SendIsItsSegments
 unfolding send cut
 send_is_its_segments msn message = sym (flat-over encoding (message_segment msn message) (range_with_len 0 (segment_count message)))
 
--- where a segment stands in its message
+-- at which offset a segment stands in its message
 piece-starts : (n i : ℕ) → i < max 1 ((n + 4095) / 4096) → 4096 * i ≤ n
 piece-starts n i lt = omega (arith, lt)
 
@@ -103,6 +103,22 @@ message_is_received h msn message none =
     subst (λ (n : ℕ). IsReceived h (map (message_segment msn message) (range_with_len 0 n)) message) count
     (received-from h msn message s.0 0 s.1 (ap begun_bytes none))
 
+completed-append : (h : ReceiveState) (xs ys : List Segment) → messages_completed h (xs ++ ys) ≡ messages_completed h xs ++ messages_completed (received_after_all h xs) ys
+completed-append h [] ys = refl
+completed-append h (x ∷ xs) ys =
+    ap (λ (ms : List (List ℕ)). option_to_list (message_completed h x) ++ ms) (completed-append (received_after h x) xs ys)
+    ∙ sym (append_assoc (option_to_list (message_completed h x)) (messages_completed (received_after h x) xs) (messages_completed (received_after_all (received_after h x) xs) ys))
+
+pub messages_are_received : MessagesAreReceived
+messages_are_received h msn [] none = refl
+messages_are_received h msn (message ∷ messages) none =
+    let one = message_is_received h msn message none in
+    let later : List Segment = segments_of_messages (msn + 1) messages in
+    let next : ReceiveState = record { sends = h.sends + 1; begun = None; requests = h.requests } in
+    completed-append h (message_segments msn message) later
+    ∙ (λ i. one.messages i ++ messages_completed (one.state i) later)
+    ∙ ap (λ (ms : List (List ℕ)). message ∷ ms) (messages_are_received next (msn + 1) messages refl)
+
 -- ---- No segment breaks a rule
 
 itself : (n : ℕ) → eqb n n ≡ true
@@ -112,7 +128,7 @@ either : (b : Bool) → (b || true) ≡ true
 either true = refl
 either false = refl
 
--- what the tests see of a message that a segment makes whole
+-- what the tests see of a message that a segment completes
 whole-fits : (max_len : ℕ) (front payload message : List ℕ) (last : Bool) → (last ≡ true → front ++ payload ≡ message) → 16 ≤ length message → length message ≤ max_len
     → (has_length (ltb max_len) (cond last (Some (front ++ payload)) None) ≡ false) × (has_length (λ n. ltb n 16) (cond last (Some (front ++ payload)) None) ≡ false)
 whole-fits max_len front payload message false is long short = (refl, refl)

@@ -102,7 +102,7 @@ first-buffer xid place stag p some =
 offers-right : (stag : ℕ) (bytes : List ℕ) (xs ys : List Region) → find (λ x. eqb x.stag stag) xs ≡ None → Offers stag bytes ys → Offers stag bytes (xs ++ ys)
 offers-right stag bytes xs ys none h = record { region = h.region; there = find-right stag xs ys none ∙ h.there; own = h.own; right = h.right; holds = h.holds }
 
--- behind its Submit
+-- after its Submit
 submit-offers : (opened : LinkParameters) (link : ℕ) (before : List Mark) (xid : ℕ) (call : Call) (form : Form) (p : Plan) → (client opened link before).ended ≡ None → plan_for (client opened link before).state xid call form ≡ Ok p → has_segment (Some p.read) ≡ true
     → Offers (client opened link before).state.stag p.region (client opened link (before ++ marks.Submit link call form (submissions.Accepted xid) ∷ [])).state.regions
 unfolding client_end client_state_after

@@ -1,5 +1,5 @@
 -- What an answer conveys, whatever was offered (RFC 8166 sections 3.4.6 and 3.5): the payloads of its RDMA Writes, cut by the lengths that it returns,
--- and its inline stream. Read back out of memory it would be less, where the segments of an offer overlap.
+-- and its inline stream. Read back out of memory it would be less, if the segments of an offer overlap.
 use Rattle.std.specs.Prelude.{◌≡◌, ℕ, if◌then◌else◌, List, [], ◌∷◌, ◌++◌, take, drop, Option, None, Some}
 use Rattle.nr_header.specs.declared.header.ChunkLists.{ChunkLists}
 use Rattle.nr_rpc.specs.declared.head.CallTarget.{CallTarget}
@@ -35,7 +35,7 @@ moved_returned offer a = chunk_total (first_chunk (answer_lists offer a).write)
 abbrev pub stream_returned : ChunkLists → Answer → ℕ
 stream_returned offer a = chunk_total (no_segments (answer_lists offer a).reply)
 
--- what the Writes bring of each, and the stream: behind what moved, where the answer has it in the reply chunk, else inline
+-- what the Writes bring of each, and the stream: after what moved, if the answer has it in the reply chunk, else inline
 abbrev pub moved_brought : ChunkLists → Answer → List ℕ
 moved_brought offer a = take (moved_returned offer a) (payloads_of (answer_segments offer a))
 

@@ -21,5 +21,6 @@ pub mod HandedBack
 pub mod Sent
 pub mod SendsConvey
 pub mod AnswersConvey
+pub mod Bounds
 pub mod ServerItems
 pub mod MessageSegments

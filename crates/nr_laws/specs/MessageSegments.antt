@@ -27,7 +27,7 @@ abbrev pub SegmentsReadBack : Type 0
 SegmentsReadBack = (msn : ℕ) (message : List ℕ) (i : ℕ) → i < segment_count message → length message ≤ 2 ^ 32 →
     (length (segment_payload message i) ≤ segment_max) × (segment_of (encoding (message_segment msn message i)) ≡ Ok (message_segment msn message i))
 
--- what a side has received after some segments, and the messages that they make whole
+-- what a side has received after some segments, and the messages that they complete
 abbrev pub received_after_all : ReceiveState → List Segment → ReceiveState
 received_after_all h [] = h
 received_after_all h (s ∷ segments) = received_after_all (received_after h s) segments
@@ -36,13 +36,21 @@ abbrev pub messages_completed : ReceiveState → List Segment → List (List ℕ
 messages_completed h [] = []
 messages_completed h (s ∷ segments) = option_to_list (message_completed h s) ++ messages_completed (received_after h s) segments
 
--- A side that has no Send begun has received just the message after its segments, whole.
+-- A side that has no Send begun has received just the message after its segments.
 pub record IsReceived (h : ReceiveState) (segments : List Segment) (message : List ℕ) : Type 0 where
   pub messages : messages_completed h segments ≡ message ∷ []
   pub state : received_after_all h segments ≡ record { sends = h.sends + 1; begun = None; requests = h.requests }
 
 abbrev pub MessageIsReceived : Type 0
 MessageIsReceived = (h : ReceiveState) (msn : ℕ) (message : List ℕ) → h.begun ≡ None → IsReceived h (message_segments msn message) message
+
+-- So messages that are sent one after the other are received in order.
+abbrev pub segments_of_messages : (msn : ℕ) → List (List ℕ) → List Segment
+segments_of_messages msn [] = []
+segments_of_messages msn (message ∷ messages) = message_segments msn message ++ segments_of_messages (msn + 1) messages
+
+abbrev pub MessagesAreReceived : Type 0
+MessagesAreReceived = (h : ReceiveState) (msn : ℕ) (messages : List (List ℕ)) → h.begun ≡ None → messages_completed h (segments_of_messages msn messages) ≡ messages
 
 -- None of some segments breaks a rule of the link, each by what was received before it.
 abbrev pub BreakNoRule : Readiness Denied → List Segment → Type 0

@@ -34,7 +34,7 @@ RepliesArePlainAtPlaces = (reply_to : List Entry → Moment → List ℕ → Opt
     (has : HasPlan opened link run xid plan) →
     MarkAt run before (marks.Done link xid (outcomes.Reply reply)) → HasPlainReply (server_with reply_to adds) J link before xid has.call has.form reply
 
--- So it is where each is answered over the journal of its moment, and the journal is what the run's Executes of all links add.
+-- So it is if each is answered over the journal of its moment, and the journal is what the run's Executes of all links add.
 abbrev pub RepliesArePlain : Type 0
 RepliesArePlain = (reply_to : List Entry → Moment → List ℕ → Option (List ℕ)) (adds : Moment → List ℕ → List ℕ → List Entry) (J : List Entry)
     (opened : LinkParameters) (link : ℕ) (run before : List Mark) (xid : ℕ) (plan : Plan) (reply : List ℕ) →

@@ -25,7 +25,7 @@ pub record SendConveys (opened : LinkParameters) (link : ℕ) (run : List Mark) 
   pub conveys : call_conveyed (inline_by (message_of opened link run xid plan has) header.body) (lists_by header.body).read (read_bytes (placed_bytes opened link Initiator run) (lists_by header.body).read)
       ≡ form_conveyed has.form (call_payload xid has.call)
 
--- On every link whose client keeps its law, whatever the server sends: the Send of an accepted call conveys so, from its Submit on, where its header
+-- On every link whose client keeps its law, whatever the server sends: the Send of an accepted call conveys so, from its Submit on, if its header
 -- can be read. Of an offer that is given it may not be.
 abbrev pub SendsConvey : Type 0
 SendsConvey = (opened : LinkParameters) (link : ℕ) (run : List Mark) (xid : ℕ) (plan : Plan) (header : Header) → IsTyped run → AskedSoFar opened link run → (has : HasPlan opened link run xid plan) →

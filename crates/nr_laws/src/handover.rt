@@ -17,7 +17,7 @@ pub fn replies_handed_over()
 /// that place; what it adds stands there. The journal may have the entries of links of which the run has no marks.
 pub fn replies_are_plain()
     ensures at_places { RepliesArePlainAtPlaces }
-    // So it is where each call is answered over the journal of its moment, and the journal is what the run's Executes of all links add.
+    // So it is if each call is answered over the journal of its moment, and the journal is what the run's Executes of all links add.
     ensures journaled { RepliesArePlain }
 {}
 

@@ -2,6 +2,7 @@
 
 ghost use Rattle.nr_laws.specs.Touches.{ClientIsTouched, ServerIsTouched, ServerRefusesRequests, RevokeStands};
 ghost use Rattle.nr_laws.specs.Grant.{SubmitsWithinGrant};
+ghost use Rattle.nr_laws.specs.Bounds.{ClientOwesFewResponses, ServerReadsFew, ServerUsesItsReceives};
 ghost use Rattle.nr_laws.specs.Places.{PlacesFollow};
 ghost use Rattle.nr_laws.specs.Once.{NoSendTwice, NoCallTwice, NoXidTwice};
 ghost use Rattle.nr_laws.specs.ChunkOutcomes.{ChunkHasCause, OthersHaveNoCause, CausedCallsComplete, NoOtherVersion, OffersArePlanned, NoOwnPlanIsRefused, AutoHasReplies, ChangesAreAnswered, ChunkAddsNothing};
@@ -53,4 +54,13 @@ pub fn chunk_outcomes()
     ensures changes { ChangesAreAnswered }
     // So on a matched link a call that was executed and completes with Chunk added no entry.
     ensures nothing_added { ChunkAddsNothing }
+{}
+
+/// On every link, whatever the peer sends, a side holds little for it at a time. A client owes at most 8 Read Responses that haven't wholly left, and a
+/// server has at most 8 Read Requests open. A server that keeps its law uses no more receives than it granted credits: those of pending calls, of a
+/// Send that is begun, and of answers that haven't wholly left.
+pub fn sides_stay_bounded()
+    ensures responses { ClientOwesFewResponses }
+    ensures reads { ServerReadsFew }
+    ensures receives { ServerUsesItsReceives }
 {}

@@ -2,7 +2,7 @@
 
 ghost use Rattle.nr_laws.specs.AnswersConvey.{AnswersConvey};
 ghost use Rattle.nr_laws.specs.SendsConvey.{SendsConvey};
-ghost use Rattle.nr_laws.specs.MessageSegments.{SendIsItsSegments, SegmentsReadBack, MessageIsReceived, SegmentsBreakNoRule};
+ghost use Rattle.nr_laws.specs.MessageSegments.{SendIsItsSegments, SegmentsReadBack, MessageIsReceived, MessagesAreReceived, SegmentsBreakNoRule};
 ghost use Rattle.nr_laws.specs.Payloads.{ExecutesHavePlans, PayloadsAreOwn};
 
 /// On a matched link a call that is executed was accepted before that, and goes out by a plan. The payload is exactly what the call's form
@@ -25,11 +25,12 @@ pub fn answers_convey()
 {}
 
 /// A message of any length goes as segments of at most 4096 bytes each (RFC 5041 section 5.2), each read as it was written. A side that has no Send
-/// begun receives from them just that message, whole at the last; and no segment breaks a rule of the link (RFC 5041 section 7), if the message has
+/// begun receives from them just that message, complete with the last; and no segment breaks a rule of the link (RFC 5041 section 7), if the message has
 /// the next number, finds a receive and is no longer than a message may be.
 pub fn messages_in_segments()
     ensures sent { SendIsItsSegments }
     ensures read { SegmentsReadBack }
     ensures received { MessageIsReceived }
+    ensures in_order { MessagesAreReceived }
     ensures allowed { SegmentsBreakNoRule }
 {}

@@ -1,4 +1,4 @@
-use Rattle.nr_laws.proofs.SegmentedMessages.{send_is_its_segments, segments_read_back, message_is_received, segments_break_no_rule}
+use Rattle.nr_laws.proofs.SegmentedMessages.{send_is_its_segments, segments_read_back, message_is_received, messages_are_received, segments_break_no_rule}
 use Rattle.nr_laws.proofs.payloads.messages_in_segments.Goals as goal
 
 pub returns-clause-sent : goal.returns-clause-sent
@@ -9,6 +9,9 @@ returns-clause-read c = segments_read_back
 
 pub returns-clause-received : goal.returns-clause-received
 returns-clause-received c = message_is_received
+
+pub returns-clause-in_order : goal.returns-clause-in_order
+returns-clause-in_order c = messages_are_received
 
 pub returns-clause-allowed : goal.returns-clause-allowed
 returns-clause-allowed c = segments_break_no_rule
