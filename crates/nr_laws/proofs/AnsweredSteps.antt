@@ -1,7 +1,7 @@
 -- At each moment every call of a matched link is outstanding or has its message, and no call has two; so a message that is received
 -- answers a call that is outstanding and whose Send has left.
-use Rattle.std.proofs.Common.{◌≡◌, ◌≢◌, ℕ, ◌+◌, ◌-◌, ◌≤◌, ◌<◌, Bool, true, false, cond, not, ◌&&◌, eqb, List, [], ◌∷◌, ◌++◌, map, filter, Some, refl, sym, ap, subst, ◌∙◌, arith, append_assoc, ◌⊎◌, inl, inr}
-use Rattle.std.specs.List.{AllByRecursion, find}
+use Rattle.std.proofs.Common.{◌≡◌, ◌≢◌, ℕ, ◌+◌, ◌-◌, ◌≤◌, ◌<◌, Bool, true, false, cond, not, ◌&&◌, eqb, List, [], ◌∷◌, ◌++◌, map, filter, Some, refl, sym, ap, ◌∙◌, arith, ◌⊎◌, inl, inr}
+use Rattle.std.specs.List.{find}
 use Rattle.std.proofs.lemmas.Bool.{lt-ltb, eqb-true, ne_eqb, eq-eqb, cases_lt}
 use Rattle.std.proofs.lemmas.List.{map-append}
 use Rattle.nr_xdr.specs.Fields.{word_at}
@@ -11,12 +11,10 @@ use Rattle.nr_reduce.specs.Written.{ends_left}
 use Rattle.nr_reduce.specs.ClientState.{ClientState, OutstandingCall, is_sent}
 use Rattle.nr_reduce.specs.ClientMessages.{answered_call}
 use Rattle.nr_reduce.specs.ServerState.{ServerState, PendingCall}
-use Rattle.nr_laws.proofs.FrameContents.{FrameContent, total_of, sends_in}
+use Rattle.nr_laws.proofs.FrameContents.{FrameContent}
 use Rattle.nr_laws.proofs.FrameContents.FrameContent.{SendFrame}
 use Rattle.nr_laws.proofs.LinkInvariants.{Transit}
-use Rattle.nr_laws.proofs.Totals.{total-append}
 use Rattle.nr_laws.proofs.AnsweredCalls.{message_xids, times, call_xids, outstanding_xids, xids-append, times-append}
-use Rattle.nr_laws.proofs.Basics.{each-kept}
 
 -- how often an xid is that of a message of the server or of a pending call
 abbrev pub given_to : ℕ → List FrameContent → List PendingCall → ℕ

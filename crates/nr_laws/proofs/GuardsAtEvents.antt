@@ -32,15 +32,14 @@ use Rattle.nr_laws.proofs.AgreeingEnds.{EndsAgree}
 use Rattle.nr_reduce.specs.SubmitAnswer.{next_xid}
 use Rattle.nr_laws.proofs.FrameContents.{total_of, sends_in}
 use Rattle.nr_laws.proofs.CallWords.{call-words}
-use Rattle.nr_laws.proofs.CallNumbers.{NumberedCalls, XidsFrom, xids-append, own_xids-push, own_xids-map, IsNumbered}
+use Rattle.nr_laws.proofs.CallNumbers.{XidsFrom, xids-append, own_xids-push, own_xids-map, IsNumbered}
 use Rattle.nr_laws.proofs.ClientFrame.{calls_said}
 use Rattle.nr_reduce.specs.Server.{offer_of, answer_of_target}
 use Rattle.nr_reduce.specs.ServerState.{down_max}
-use Rattle.nr_laws.proofs.Totals.{total-append}
 use Rattle.nr_laws.proofs.PendingExecuted.{executed-there}
 use Rattle.nr_laws.proofs.AnsweredCalls.{times, answer-xids, executed-less}
 use Rattle.nr_laws.proofs.AnsweredSteps.{Answered, answered-submit, answered-map, answered-server}
-use Rattle.nr_laws.proofs.GuardsAtServer.{sent_most, pending-word}
+use Rattle.nr_laws.proofs.GuardsAtServer.{pending-word}
 use Rattle.nr_laws.proofs.Guards.{ClientContent, ServerContent, IsAsked, AreSized, Guards, execution-down}
 use Rattle.nr_laws.proofs.Basics.{each-append, each-kept}
 use Rattle.nr_reduce.proofs.WholeWrotes.{ClientEnds, ServerEnds}

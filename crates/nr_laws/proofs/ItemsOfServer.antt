@@ -1,5 +1,9 @@
 -- All output of a server that is due is its hello, and then items; and the ends of messages that its state keeps are those of items.
+<<<<<<< HEAD
 use Rattle.std.proofs.Common.{◌≡◌, ℕ, ◌+◌, ◌≤◌, ◌<◌, Bool, true, false, cond, ltb, not, eqb, List, [], ◌∷◌, ◌++◌, length, Option, None, Some, Result, Ok, Err, refl, sym, ap, subst, ◌∙◌, arith, append_assoc, append-nil, length-append}
+=======
+use Rattle.std.proofs.Common.{◌≡◌, ℕ, ◌+◌, ◌≤◌, ◌<◌, Bool, true, false, cond, List, [], ◌∷◌, ◌++◌, length, Option, None, Some, Result, Ok, Err, refl, sym, ap, subst, ◌∙◌, arith, append_assoc, append-nil, length-append}
+>>>>>>> 98e4be2 (nr_reduce, nr_laws: imports)
 use Rattle.std.proofs.lemmas.Bool.{ne_eqb, eq-eqb}
 use Rattle.nr_wire.specs.Constants.{REASON_FLAGS, DDP_VERSION, RDMAP_VERSION}
 use Rattle.nr_wire.specs.declared.hello.Side.TheVariants.{Initiator, Responder}
@@ -10,9 +14,8 @@ use Rattle.nr_link.specs.declared.end.End.TheVariants as ends
 use Rattle.nr_link.specs.Frames.{Frame, is_hello}
 use Rattle.nr_link.specs.Ending.{frame_segment, frame_end, frame_end_by, hello_end, rejection}
 use Rattle.nr_link.specs.Output.{own_hello, refusing_hello}
-use Rattle.nr_link.specs.OutputItem.{OutputItem, items_encoding, is_send_item, item_ends, items_left}
+use Rattle.nr_link.specs.OutputItem.{OutputItem, items_encoding, is_send_item, item_ends}
 use Rattle.nr_link.specs.OutputItem.OutputItem.{LastItem}
-use Rattle.nr_reduce.specs.declared.mark.Mark.{Mark}
 use Rattle.nr_reduce.specs.declared.mark.LinkParameters.{LinkParameters}
 use Rattle.nr_reduce.specs.History.{bytes_sent}
 use Rattle.nr_reduce.specs.Written.{ends_waiting}

@@ -1,17 +1,14 @@
 -- What is due is the encodings of items, and the ends that a state keeps are those of items.
-use Rattle.std.proofs.Common.{◌≡◌, ℕ, ◌+◌, Bool, true, false, cond, ◌&&◌, eqb, leb, ltb, List, [], ◌∷◌, ◌++◌, length, take, drop, Option, None, Some, Result, Ok, Err, refl, sym, ap, ◌∙◌, arith, append_assoc, append-nil, length-append}
-use Rattle.std.specs.Prelude.{min}
+use Rattle.std.proofs.Common.{◌≡◌, ℕ, ◌+◌, Bool, true, false, cond, ◌&&◌, leb, ltb, List, [], ◌∷◌, ◌++◌, length, Option, None, Some, Result, Ok, Err, refl, sym, ap, ◌∙◌, arith, append_assoc, append-nil, length-append}
 use Rattle.std.specs.List.{filter}
-use Rattle.nr_header.specs.declared.header.ChunkLists.{ChunkLists}
-use Rattle.nr_header.specs.declared.header.RdmaSegment.{RdmaSegment}
 use Rattle.nr_wire.specs.declared.hello.Side.TheVariants.{Initiator}
 use Rattle.nr_wire.specs.Segment.{Segment}
 use Rattle.nr_link.specs.declared.end.End.{End}
-use Rattle.nr_link.specs.Frames.{Frame, is_hello}
+use Rattle.nr_link.specs.Frames.{is_hello}
 use Rattle.nr_link.specs.Ending.{frame_segment, final_output}
-use Rattle.nr_link.specs.Output.{send, own_hello, write}
+use Rattle.nr_link.specs.Output.{own_hello}
 use Rattle.nr_link.specs.OutputItem.{OutputItem, item_encoding, items_encoding, is_send_item, is_response_item, one_if_true, item_ends, items_written, items_left}
-use Rattle.nr_link.specs.OutputItem.OutputItem.{SendItem, WriteItem, LastItem}
+use Rattle.nr_link.specs.OutputItem.OutputItem.{LastItem}
 use Rattle.nr_link.specs.ReceiveState.{ReadRequest, message_completed, read_request_of}
 use Rattle.nr_reduce.specs.declared.mark.LinkParameters.{LinkParameters}
 use Rattle.nr_reduce.specs.Events.{Event, events}
@@ -19,13 +16,13 @@ use Rattle.nr_reduce.specs.Events.Event.{FrameReceived, CallSubmitted, MemoryRev
 use Rattle.nr_reduce.specs.EndRules.{Rules, EndState, live, next_end_state, next_end_state_by, end_state_after, output_for_by, output_for_in, output_for_all}
 use Rattle.nr_reduce.specs.Written.{ends_left, ends_waiting}
 use Rattle.nr_reduce.specs.ClientState.{OutstandingCall, ClientState}
-use Rattle.nr_reduce.specs.Client.{client_rules, client_state_after, client_output, initial_client, call_output, calls_output, call_ends, response_output, segment_request, outstanding_of, submitted_output, submitted_ends, due_with_response, with_hello, with_message, with_request, with_segment}
+use Rattle.nr_reduce.specs.Client.{client_rules, client_state_after, client_output, initial_client, call_output, calls_output, call_ends, response_output, segment_request, outstanding_of, due_with_response, with_hello, with_message, with_request, with_segment}
 use Rattle.nr_reduce.specs.Run.{client, output_due}
 use Rattle.nr_reduce.specs.DueItems.{call_item, call_items, response_items, client_items_at, due_for_by, due_for_in, due_for_all, items_due, hello_due}
 use Rattle.nr_reduce.specs.OutputLaws.{ClientOutputIsItems, ClientBytes, ServerBytes, ClientCountsItems}
 use Rattle.nr_reduce.proofs.Steps.{ended-stays}
 use Rattle.nr_reduce.proofs.WholeWrotes.{client-due}
-use Rattle.nr_reduce.proofs.CountedBytes.{some-none, due-along, client_bytes_written, client_bytes_due, server_bytes_written, server_bytes_due}
+use Rattle.nr_reduce.proofs.CountedBytes.{some-none, client_bytes_written, client_bytes_due, server_bytes_written, server_bytes_due}
 
 -- ---- Lists of items
 

@@ -1,5 +1,5 @@
 -- What an event makes due at a server: its hello, or items; and the ends that it adds are those of the items.
-use Rattle.std.proofs.Common.{◌≡◌, ℕ, ◌+◌, Bool, true, false, cond, eqb, List, [], ◌∷◌, ◌++◌, length, take, drop, Option, None, Some, refl, sym, ap, ◌∙◌, arith, append_assoc, append-nil, length-append, eqb-true}
+use Rattle.std.proofs.Common.{◌≡◌, ℕ, ◌+◌, Bool, true, false, cond, eqb, List, [], ◌∷◌, ◌++◌, length, take, drop, Option, None, Some, refl, sym, ap, ◌∙◌, arith, append-nil, length-append, eqb-true}
 use Rattle.std.specs.Prelude.{min}
 use Rattle.nr_header.specs.declared.header.ChunkLists.{ChunkLists}
 use Rattle.nr_header.specs.declared.header.RdmaSegment.{RdmaSegment}
@@ -11,7 +11,7 @@ use Rattle.nr_link.specs.declared.end.End.TheVariants as ends
 use Rattle.nr_link.specs.Frames.{Frame, is_hello}
 use Rattle.nr_link.specs.Ending.{final_output, rejection, is_hello_reason}
 use Rattle.nr_link.specs.Output.{send, read_request, own_hello, refusing_hello, write, terminate_message}
-use Rattle.nr_link.specs.OutputItem.{OutputItem, item_encoding, items_encoding, is_send_item, item_ends}
+use Rattle.nr_link.specs.OutputItem.{OutputItem, items_encoding, is_send_item, item_ends}
 use Rattle.nr_link.specs.OutputItem.OutputItem.{SendItem, WriteItem, LastItem}
 use Rattle.nr_reduce.specs.declared.mark.LinkParameters.{LinkParameters}
 use Rattle.nr_reduce.specs.History.{ExecutedCall}

@@ -1,8 +1,8 @@
 -- A Wrote that takes all that is due leaves nothing: no Read Response is owed, each Send that is due has left, and only pending calls
 -- and a begun Send have receives in use.
-use Rattle.std.proofs.Common.{◌≡◌, ℕ, suc, ◌+◌, ◌≤◌, Bool, true, false, cond, leb, ltb, List, [], ◌∷◌, ◌++◌, length, Option, None, Some, Result, Ok, Err, refl, sym, ap, subst, ◌∙◌, arith, length-append}
+use Rattle.std.proofs.Common.{◌≡◌, ℕ, suc, ◌+◌, ◌≤◌, Bool, true, false, cond, leb, ltb, List, [], ◌∷◌, ◌++◌, length, Option, None, Some, Result, Ok, Err, refl, ap, ◌∙◌, arith, length-append}
 use Rattle.std.specs.List.{filter}
-use Rattle.std.proofs.lemmas.Bool.{le-leb, le-ltb, ltb-true, ltb-false, lt-leb}
+use Rattle.std.proofs.lemmas.Bool.{le-leb, le-ltb}
 use Rattle.nr_wire.specs.Segment.{Segment}
 use Rattle.nr_link.specs.Output.{send, own_hello}
 use Rattle.nr_wire.specs.declared.hello.Side.TheVariants.{Responder}
