@@ -1,9 +1,5 @@
 -- All output of a server that is due is its hello, and then items; and the ends of messages that its state keeps are those of items.
-<<<<<<< HEAD
 use Rattle.std.proofs.Common.{◌≡◌, ℕ, ◌+◌, ◌≤◌, ◌<◌, Bool, true, false, cond, ltb, not, eqb, List, [], ◌∷◌, ◌++◌, length, Option, None, Some, Result, Ok, Err, refl, sym, ap, subst, ◌∙◌, arith, append_assoc, append-nil, length-append}
-=======
-use Rattle.std.proofs.Common.{◌≡◌, ℕ, ◌+◌, ◌≤◌, ◌<◌, Bool, true, false, cond, List, [], ◌∷◌, ◌++◌, length, Option, None, Some, Result, Ok, Err, refl, sym, ap, subst, ◌∙◌, arith, append_assoc, append-nil, length-append}
->>>>>>> 98e4be2 (nr_reduce, nr_laws: imports)
 use Rattle.std.proofs.lemmas.Bool.{ne_eqb, eq-eqb}
 use Rattle.nr_wire.specs.Constants.{REASON_FLAGS, DDP_VERSION, RDMAP_VERSION}
 use Rattle.nr_wire.specs.declared.hello.Side.TheVariants.{Initiator, Responder}
