@@ -1,15 +1,15 @@
 -- A fragment above the limit is found exactly if there is one: the first of them.
-use Rattle.std.proofs.Common.{◌≡◌, ℕ, zero, suc, ◌+◌, ◌-◌, ◌*◌, ◌%◌, ◌^◌, ◌<◌, ◌≤◌, ◌⊎◌, Bool, true, false, List, [], ◌∷◌, ◌++◌, length, take, drop, Option, None, Some, Result, Ok, Err, OnOk, IfErr, refl, sym, ap, ◌∙◌, subst, ⊎_elim, append_assoc, append-nil, length-append, arith}
+use Rattle.std.proofs.Common.{◌≡◌, ℕ, ◌+◌, ◌*◌, ◌^◌, ◌<◌, ◌≤◌, Bool, true, false, List, [], ◌∷◌, ◌++◌, length, Option, None, Some, Result, Ok, Err, OnOk, IfErr, sym, ap, ◌∙◌, subst, ⊎_elim, append_assoc, append-nil, length-append, arith}
 use Rattle.std.specs.List.{concat, AllByRecursion}
 use Rattle.std.proofs.lemmas.Bool.{true≢false, false≢true}
 use Rattle.nr_xdr.specs.Item.{bit}
 use Rattle.nr_xdr.proofs.WordBytes.{length-word}
 use Rattle.nr_record.specs.declared.fault.RecordFault.{RecordFault}
 use Rattle.nr_record.specs.declared.fault.RecordFault.TheVariants.{Bad, Memory}
-use Rattle.nr_record.specs.Constants.{RECORD_MAX, HEADER_LEN, REASON_RECORD}
-use Rattle.nr_record.specs.Records.{header, fragment, fragments, Cut, content, encoding, IsShort, Fits, encodings, IsBegun, IsAboveAt}
+use Rattle.nr_record.specs.Constants.{RECORD_MAX, REASON_RECORD}
+use Rattle.nr_record.specs.Records.{header, fragment, fragments, Cut, encoding, IsShort, Fits, encodings, IsBegun, IsAboveAt}
 use Rattle.nr_record.specs.Kept.{Kept, IsWithin, InHeader, InFragment, IsLess, IsAbove, IsState, Stands, StandsFor, IsFaultOf}
-use Rattle.nr_record.proofs.Unique.{parts, same_header, SameFragment, same_fragment, one_encoding, no_more, regrouped}
+use Rattle.nr_record.proofs.Unique.{parts, same_header, same_fragment, one_encoding, no_more, regrouped}
 use Rattle.nr_record.proofs.Begun.{all_short, within_fits, all_fit, state_begun}
 
 -- a fragment and a header at one offset have one length

@@ -1,14 +1,14 @@
 -- What a `Records` has read are encodings of records, and a proper prefix of one.
-use Rattle.std.proofs.Common.{◌≡◌, ℕ, zero, suc, ◌+◌, ◌-◌, ◌*◌, ◌%◌, ◌^◌, ◌<◌, ◌≤◌, ◌⊎◌, Bool, true, false, leb, List, [], ◌∷◌, ◌++◌, length, take, drop, replicate, get_or, Option, None, Some, refl, sym, ap, ◌∙◌, subst, ⊎_elim, append_assoc, append-nil, length-append, arith}
+use Rattle.std.proofs.Common.{◌≡◌, ℕ, zero, suc, ◌+◌, ◌-◌, ◌%◌, ◌^◌, ◌<◌, ◌≤◌, Bool, true, false, leb, List, [], ◌∷◌, ◌++◌, length, replicate, Option, None, Some, refl, sym, ap, ◌∙◌, subst, ⊎_elim, append_assoc, append-nil, length-append, arith}
 use Rattle.std.specs.List.{concat, AllByRecursion}
 use Rattle.std.proofs.lemmas.List.{length-replicate}
-use Rattle.nr_xdr.specs.Item.{IsBytes, word, word_of, bit}
-use Rattle.nr_xdr.proofs.WordBytes.{length-word, word-word_of, word_of-below}
+use Rattle.nr_xdr.specs.Item.{IsBytes, word, word_of}
+use Rattle.nr_xdr.proofs.WordBytes.{word-word_of, word_of-below}
 use Rattle.nr_record.specs.declared.fault.RecordFault.{RecordFault}
 use Rattle.nr_record.specs.declared.fault.RecordFault.TheVariants.{Bad, Memory}
 use Rattle.nr_record.specs.Constants.{RECORD_MAX, HEADER_LEN}
-use Rattle.nr_record.specs.Records.{header, fragment, fragments, Cut, content, encoding, IsShort, Fits, contents, encodings, IsBegun, RecordsEncode}
-use Rattle.nr_record.specs.Kept.{Kept, IsWithin, InHeader, InFragment, IsLess, IsAbove, IsState, Stands, StandsFor, read_in, rest_in}
+use Rattle.nr_record.specs.Records.{header, fragment, fragments, Cut, IsShort, Fits, contents, encodings, IsBegun, RecordsEncode}
+use Rattle.nr_record.specs.Kept.{Kept, IsWithin, InHeader, InFragment, IsLess, IsAbove, IsState, StandsFor, read_in, rest_in}
 use Rattle.nr_record.proofs.Lists.{fragments-end, all-end}
 use Rattle.nr_record.proofs.Standing.{halves, bytes-end}
 use Rattle.nr_record.proofs.Unique.{one_list}

@@ -1,8 +1,8 @@
 -- Each step keeps what a `Records` stands for.
-use Rattle.std.proofs.Common.{◌≡◌, ℕ, zero, suc, ◌+◌, ◌-◌, ◌*◌, ◌%◌, ◌^◌, ◌<◌, ◌≤◌, ◌⊎◌, ◌≢◌, eqb, ◌&&◌, if◌then◌else◌, Bool, true, false, ltb, leb, cond, List, [], ◌∷◌, ◌++◌, length, drop, take, get_or, slice_index_or, Option, None, Some, refl, sym, ap, ◌∙◌, subst, inl, inr, ⊎_elim, append_assoc, append-nil, length-append, arith}
-use Rattle.std.specs.List.{concat, AllByRecursion}
-use Rattle.std.proofs.lemmas.Bool.{and_parts, and_cases, eqb-true, eqb-false, eq-eqb, cases_lt, ltb-true, ltb-false, leb-true, leb-false}
-use Rattle.std.proofs.lemmas.List.{take-append-drop, length-drop, take_all, get_or_append_left, get_or_past}
+use Rattle.std.proofs.Common.{◌≡◌, ℕ, zero, suc, ◌+◌, ◌-◌, ◌*◌, ◌%◌, ◌^◌, ◌<◌, ◌≤◌, eqb, ◌&&◌, if◌then◌else◌, Bool, true, false, ltb, leb, List, [], ◌∷◌, ◌++◌, length, drop, take, get_or, slice_index_or, Option, None, Some, refl, sym, ap, ◌∙◌, subst, inl, inr, ⊎_elim, append_assoc, append-nil, length-append, arith}
+use Rattle.std.specs.List.{concat}
+use Rattle.std.proofs.lemmas.Bool.{and_parts, and_cases, eqb-true, eqb-false, cases_lt, ltb-true, ltb-false, leb-true, leb-false}
+use Rattle.std.proofs.lemmas.List.{take-append-drop, length-drop, take_all}
 use mathlib.Core.Option.{some}
 use lib.ListN.{get_elem?}
 use Rattle.nr_xdr.specs.Item.{IsBytes, word, word_of, bit}
@@ -13,7 +13,7 @@ use Rattle.nr_record.specs.declared.fault.RecordFault.TheVariants.{Bad, Memory}
 use Rattle.nr_record.specs.declared.records.WaitingRecord.{WaitingRecord}
 use Rattle.nr_record.specs.Constants.{RECORD_MAX, HEADER_LEN, REASON_RECORD}
 use Rattle.nr_record.specs.Records.{header, fragment, fragments, Cut, content, contents, encoding, encodings}
-use Rattle.nr_record.specs.Kept.{Kept, IsWithin, waiting_from, InHeader, InFragment, IsLess, IsAbove, IsState, Stands, StandsFor}
+use Rattle.nr_record.specs.Kept.{Kept, IsWithin, waiting_from, InHeader, InFragment, IsState, Stands, StandsFor}
 use Rattle.nr_record.specs.Step.{with_record, ended, with_header, with_byte, with_data, with_fault}
 use Rattle.nr_record.proofs.Lists.{encodings-end, fragments-end, concat-end, waiting-end, waiting-length, drop-end, all-end, read_more, count_more}
 

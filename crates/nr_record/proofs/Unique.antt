@@ -1,11 +1,11 @@
 -- A stream encodes its records in one way.
-use Rattle.std.proofs.Common.{◌≡◌, ℕ, zero, suc, ◌+◌, ◌-◌, ◌*◌, ◌%◌, ◌^◌, ◌<◌, ◌≤◌, Bool, true, false, leb, List, [], ◌∷◌, ◌++◌, length, take, drop, replicate, refl, sym, ap, ◌∙◌, subst, append_assoc, append-nil, length-append, arith}
-use Rattle.std.specs.List.{concat, AllByRecursion}
+use Rattle.std.proofs.Common.{◌≡◌, ℕ, ◌+◌, ◌*◌, ◌^◌, ◌<◌, Bool, true, false, List, [], ◌∷◌, ◌++◌, length, take, drop, refl, sym, ap, ◌∙◌, append_assoc, append-nil, length-append, arith}
+use Rattle.std.specs.List.{AllByRecursion}
 use Rattle.std.proofs.lemmas.Bool.{true≢false, false≢true}
 use Rattle.std.proofs.lemmas.List.{take_at, drop_at}
-use Rattle.nr_xdr.specs.Item.{IsBytes, word, word_of, bit}
+use Rattle.nr_xdr.specs.Item.{word_of, bit}
 use Rattle.nr_xdr.proofs.WordBytes.{length-word, word_of-word}
-use Rattle.nr_record.specs.Records.{header, fragment, fragments, Cut, content, encoding, IsShort, Fits, contents, encodings, IsBegun, RecordsEncode, as_one}
+use Rattle.nr_record.specs.Records.{header, fragment, fragments, Cut, encoding, IsShort, Fits, contents, encodings, IsBegun, RecordsEncode, as_one}
 
 pub parts : (p q x y : List ℕ) (n : ℕ) → length p ≡ n → length q ≡ n → p ++ x ≡ q ++ y → (p ≡ q) × (x ≡ y)
 parts p q x y n lp lq e = (sym (take_at p x n lp) ∙ (ap (take n) e ∙ take_at q y n lq), sym (drop_at p x n lp) ∙ (ap (drop n) e ∙ drop_at q y n lq))

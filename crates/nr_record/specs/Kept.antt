@@ -9,7 +9,7 @@ use Rattle.nr_record.specs.declared.fault.RecordFault.TheVariants.{Bad, Memory}
 use Rattle.nr_record.specs.declared.records.Records.{Records}
 use Rattle.nr_record.specs.declared.records.WaitingRecord.{WaitingRecord}
 use Rattle.nr_record.specs.Constants.{RECORD_MAX, HEADER_LEN, REASON_RECORD}
-use Rattle.nr_record.specs.Records.{IsAboveAt, header, fragments, Cut, content, encoding, contents, encodings}
+use Rattle.nr_record.specs.Records.{IsAboveAt, header, fragments, Cut, content, encoding, encodings}
 
 -- `start` is the offset of the record that is begun, `count` that of the next byte, `payload` what came of the record that is begun,
 -- `head` the bytes of a header that is begun, `left` how many bytes of a fragment are missing, `last` whether it is the last

@@ -1,5 +1,5 @@
 -- Record marking (RFC 5531 section 11): a record is sent as fragments, each a header of four bytes and its data.
-use Rattle.std.specs.Prelude.{◌≡◌, ℕ, ◌+◌, ◌*◌, ◌^◌, ◌<◌, ◌≤◌, Bool, true, false, List, [], ◌∷◌, ◌++◌, length}
+use Rattle.std.specs.Prelude.{◌≡◌, ℕ, ◌+◌, ◌*◌, ◌^◌, ◌<◌, Bool, true, false, List, [], ◌∷◌, ◌++◌, length}
 use Rattle.std.specs.List.{concat, AllByRecursion}
 use Rattle.nr_xdr.specs.Item.{word, bit}
 use Rattle.nr_record.specs.Constants.{RECORD_MAX}

@@ -1,6 +1,5 @@
-use Rattle.std.proofs.Common.{rules, ◌≡◌, ℕ, suc, zero, ◌+◌, ◌<◌, ◌≤◌, [], ◌∷◌, ◌++◌, length, List, take, drop, Option, None, Some, sym, ap, refl, subst, ◌∙◌, arith, ⊎_elim}
-use Rattle.nr_record.specs.Kept.{Kept, kept, IsState, StandsFor}
-use Rattle.nr_record.specs.Step.{with_byte, with_data, with_fault}
+use Rattle.std.proofs.Common.{drop}
+use Rattle.nr_record.specs.Kept.{kept, IsState}
 use Rattle.nr_record.proofs.Standing.{first_of, start_of, by_first, by_none}
 use Rattle.nr_record.proofs.records.Records.at.Goals as goal
 

@@ -1,6 +1,5 @@
-use Rattle.std.proofs.Common.{rules, ◌≡◌, ℕ, ◌+◌, ◌<◌, ◌≤◌, [], ◌∷◌, ◌++◌, length, take, drop, List, None, Some, sym, ap, refl, subst, ◌∙◌, append_assoc, append-nil, arith}
+use Rattle.std.proofs.Common.{◌≡◌, ℕ, [], ◌++◌, take, drop, List, sym, ap, subst, ◌∙◌, append_assoc, append-nil, arith}
 use Rattle.std.proofs.lemmas.Grind.{common_steps}
-use Rattle.std.proofs.lemmas.List.{take-append-drop}
 use Rattle.nr_record.specs.Kept.{kept, StandsFor}
 use Rattle.nr_record.proofs.Standing.{later_stands, by_none, through, onward}
 use Rattle.nr_record.proofs.records.Records.feed_inner.Goals as goal

@@ -1,4 +1,4 @@
-use Rattle.std.proofs.Common.{◌≡◌, ℕ, ◌+◌, ◌≤◌, ◌^◌, List, ◌++◌, length, None}
+use Rattle.std.proofs.Common.{◌≡◌, ℕ, ◌+◌, List, ◌++◌, length, None}
 use Rattle.nr_record.specs.Kept.{kept, StandsFor}
 use Rattle.nr_record.proofs.records.Records.feed_inner.Given as goal
 

@@ -1,6 +1,3 @@
-use Rattle.std.proofs.Common.{rules, ◌≡◌, ℕ, suc, zero, ◌+◌, ◌<◌, ◌≤◌, [], ◌∷◌, ◌++◌, length, List, take, drop, Option, None, Some, sym, ap, refl, subst, ◌∙◌, arith, ⊎_elim}
-use Rattle.nr_record.specs.Kept.{Kept, kept, IsState, StandsFor}
-use Rattle.nr_record.specs.Step.{with_byte, with_data, with_fault}
 use Rattle.nr_record.proofs.Standing.{new_stands}
 use Rattle.nr_record.proofs.records.Records.new.Goals as goal
 

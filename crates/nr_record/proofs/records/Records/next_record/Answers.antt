@@ -1,6 +1,5 @@
-use Rattle.std.proofs.Common.{rules, ◌≡◌, ℕ, suc, zero, ◌+◌, ◌<◌, ◌≤◌, [], ◌∷◌, ◌++◌, length, List, take, drop, Option, None, Some, sym, ap, refl, subst, ◌∙◌, arith, ⊎_elim}
-use Rattle.nr_record.specs.Kept.{Kept, kept, IsState, StandsFor}
-use Rattle.nr_record.specs.Step.{with_byte, with_data, with_fault}
+use Rattle.std.proofs.Common.{ℕ, List, sym, ap, ◌∙◌}
+use Rattle.nr_record.specs.Kept.{kept, IsState}
 use mathlib.Core.Option.{some}
 use Rattle.nr_record.proofs.Standing.{by_itself, first_of, none_of, next_stands}
 use Rattle.nr_record.proofs.records.Records.next_record.Goals as goal

@@ -1,6 +1,5 @@
-use Rattle.std.proofs.Common.{rules, ◌≡◌, ℕ, suc, zero, ◌+◌, ◌<◌, ◌≤◌, [], ◌∷◌, ◌++◌, length, List, take, drop, Option, None, Some, sym, ap, refl, subst, ◌∙◌, arith, ⊎_elim}
-use Rattle.nr_record.specs.Kept.{Kept, kept, IsState, StandsFor}
-use Rattle.nr_record.specs.Step.{with_byte, with_data, with_fault}
+use Rattle.std.proofs.Common.{[], ◌∷◌, ◌++◌, sym, ap, subst, ◌∙◌}
+use Rattle.nr_record.specs.Kept.{Kept, kept, StandsFor}
 use Rattle.nr_record.proofs.Standing.{byte_stands, byte_count}
 use Rattle.nr_record.proofs.records.Records.read_header.Goals as goal
 

@@ -1,6 +1,5 @@
-use Rattle.std.proofs.Common.{rules, ◌≡◌, ℕ, suc, zero, ◌+◌, ◌<◌, ◌≤◌, [], ◌∷◌, ◌++◌, length, List, take, drop, Option, None, Some, sym, ap, refl, subst, ◌∙◌, arith, ⊎_elim}
-use Rattle.nr_record.specs.Kept.{Kept, kept, IsState, StandsFor}
-use Rattle.nr_record.specs.Step.{with_byte, with_data, with_fault}
+use Rattle.std.proofs.Common.{◌≡◌, ℕ, ◌+◌, ◌<◌, ◌≤◌, [], ◌++◌, length, take, sym, ap, subst, ◌∙◌, arith, ⊎_elim}
+use Rattle.nr_record.specs.Kept.{Kept, kept, StandsFor}
 use Rattle.std.proofs.lemmas.Bool.{cases_lt}
 use Rattle.std.proofs.lemmas.List.{length-take-le}
 use Rattle.nr_record.proofs.Standing.{data_stands, data_count, fault_stands}
