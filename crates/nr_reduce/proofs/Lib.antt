@@ -4,6 +4,7 @@ pub mod WholeWrotes
 pub mod CountedBytes
 pub mod OutputItems
 pub mod ServerItems
+pub mod WroteItems
 pub mod Places
 pub mod Rooms
 pub mod Recut

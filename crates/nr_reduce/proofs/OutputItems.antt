@@ -1,12 +1,16 @@
 -- What is due is the encodings of items, and the ends that a state keeps are those of items.
-use Rattle.std.proofs.Common.{◌≡◌, ℕ, ◌+◌, Bool, true, false, cond, ◌&&◌, leb, ltb, List, [], ◌∷◌, ◌++◌, length, Option, None, Some, Result, Ok, Err, refl, sym, ap, ◌∙◌, arith, append_assoc, append-nil, length-append}
+use Rattle.std.proofs.Common.{◌≡◌, ℕ, ◌+◌, ◌^◌, Bool, true, false, cond, ◌&&◌, leb, ltb, List, [], ◌∷◌, ◌++◌, length, Option, None, Some, Result, Ok, Err, refl, sym, ap, ◌∙◌, arith, append_assoc, append-nil, length-append}
 use Rattle.std.specs.List.{filter}
+use Rattle.std.proofs.Math.Nat.{mod-mod}
 use Rattle.nr_wire.specs.declared.hello.Side.TheVariants.{Initiator}
-use Rattle.nr_wire.specs.Segment.{Segment}
+use Rattle.nr_xdr.specs.Item.{word, hyper}
+use Rattle.nr_wire.specs.Constants.{OPCODE_READ_REQUEST, OPCODE_SEND, QUEUE_SEND, QUEUE_READ_REQUEST}
+use Rattle.nr_wire.specs.Segment.{Segment, encoding}
+use Rattle.nr_wire.specs.Segment.Segment.{Untagged}
 use Rattle.nr_link.specs.declared.end.End.{End}
 use Rattle.nr_link.specs.Frames.{is_hello}
 use Rattle.nr_link.specs.Ending.{frame_segment, final_output}
-use Rattle.nr_link.specs.Output.{own_hello}
+use Rattle.nr_link.specs.Output.{msn_word, cut, send, read_request, own_hello}
 use Rattle.nr_link.specs.OutputItem.{OutputItem, item_encoding, items_encoding, is_send_item, is_response_item, one_if_true, item_ends, items_written, items_left}
 use Rattle.nr_link.specs.OutputItem.OutputItem.{LastItem}
 use Rattle.nr_link.specs.ReceiveState.{ReadRequest, message_completed, read_request_of}
@@ -15,6 +19,7 @@ use Rattle.nr_reduce.specs.Events.{Event, events}
 use Rattle.nr_reduce.specs.Events.Event.{FrameReceived, CallSubmitted, MemoryRevoked, CallExecuted, QueueWritten}
 use Rattle.nr_reduce.specs.EndRules.{Rules, EndState, live, next_end_state, next_end_state_by, end_state_after, output_for_by, output_for_in, output_for_all}
 use Rattle.nr_reduce.specs.Written.{ends_left, ends_waiting}
+use Rattle.nr_reduce.specs.Plans.{call_message}
 use Rattle.nr_reduce.specs.ClientState.{OutstandingCall, ClientState}
 use Rattle.nr_reduce.specs.Client.{client_rules, client_state_after, client_output, initial_client, call_output, calls_output, call_ends, response_output, segment_request, outstanding_of, due_with_response, with_hello, with_message, with_request, with_segment}
 use Rattle.nr_reduce.specs.Run.{client, output_due}
@@ -116,11 +121,25 @@ module _ {S : Type 0} (rules : Rules S) (items_at : S → Event → List OutputI
           ∙ ap (λ (xs : List ℕ). ends s ++ xs) (sym (ends-append p (due s) (items_at s e) rest))
       by later (Some end) ended = absurd (some-none end (sym (ap (λ (r : EndState S). r.ended) (ended-stays rules s end es).0) ∙ ended))
 
+-- ---- A number counts modulo 2 ^ 32
+
+pub send-word : (number : ℕ) (message : List ℕ) → send number message ≡ send (msn_word number) message
+unfolding send
+send-word number message = ap (λ (w : ℕ). cut (λ last offset payload. Untagged last OPCODE_SEND 0 QUEUE_SEND w offset payload) message) (sym (mod-mod number (2 ^ 32)))
+
+pub request-word : (number sink sink_to size stag to : ℕ) → read_request number sink sink_to size stag to ≡ read_request (msn_word number) sink sink_to size stag to
+unfolding read_request
+request-word number sink sink_to size stag to =
+    ap (λ (w : ℕ). encoding (Untagged true OPCODE_READ_REQUEST 0 QUEUE_READ_REQUEST w 0 (word sink ++ (hyper sink_to ++ (word size ++ (word stag ++ hyper to)))))) (sym (mod-mod number (2 ^ 32)))
+
 -- ---- Of a client
+
+call-word : (opened : LinkParameters) (number : ℕ) (o : OutstandingCall) → call_output opened number o ≡ item_encoding (call_item opened number o)
+call-word opened number o = send-word number (call_message o.xid opened.wished o.stag o.plan)
 
 calls-encoded : (opened : LinkParameters) (number : ℕ) (os : List OutstandingCall) → calls_output opened number os ≡ items_encoding (call_items opened number os)
 calls-encoded opened number [] = refl
-calls-encoded opened number (o ∷ os) = ap (λ (bs : List ℕ). call_output opened number o ++ bs) (calls-encoded opened (number + 1) os)
+calls-encoded opened number (o ∷ os) = (λ i. call-word opened number o i ++ calls-encoded opened (number + 1) os i)
 
 client-encoded : (opened : LinkParameters) (k : ClientState) (e : Event) → client_output opened k e ≡ items_encoding (client_items_at opened k e)
 unfolding client_output client_items_at
@@ -136,7 +155,7 @@ client-encoded opened k (FrameReceived f) = by (is_hello f)
 client-encoded opened k (CallSubmitted place a) = by k.has_hello
   where
     by : (b : Bool) → cond b (call_output opened (k.calls_accepted + 1) (outstanding_of k a)) [] ≡ items_encoding (cond b (call_item opened (k.calls_accepted + 1) (outstanding_of k a) ∷ []) [])
-    by true = sym (append-nil (call_output opened (k.calls_accepted + 1) (outstanding_of k a)))
+    by true = call-word opened (k.calls_accepted + 1) (outstanding_of k a) ∙ sym (append-nil (item_encoding (call_item opened (k.calls_accepted + 1) (outstanding_of k a))))
     by false = refl
 client-encoded opened k (MemoryRevoked place xid) = refl
 client-encoded opened k (CallExecuted call) = refl
@@ -147,11 +166,13 @@ client-more opened k e = client-due opened k e ∙ ap (λ (xs : List ℕ). k.due
 
 calls-end : (opened : LinkParameters) (due number : ℕ) (os : List OutstandingCall) → call_ends opened due number os ≡ item_ends is_send_item due (call_items opened number os)
 calls-end opened due number [] = refl
-calls-end opened due number (o ∷ os) = ap (λ (ends : List ℕ). (due + length (call_output opened number o)) ∷ ends) (calls-end opened (due + length (call_output opened number o)) (number + 1) os)
+calls-end opened due number (o ∷ os) =
+    ap (λ (ends : List ℕ). (due + length (call_output opened number o)) ∷ ends) (calls-end opened (due + length (call_output opened number o)) (number + 1) os)
+    ∙ ap (λ (bs : List ℕ). (due + length bs) ∷ item_ends is_send_item (due + length bs) (call_items opened (number + 1) os)) (call-word opened number o)
 
 no-responses : (opened : LinkParameters) (due number : ℕ) (os : List OutstandingCall) → item_ends is_response_item due (call_items opened number os) ≡ []
 no-responses opened due number [] = refl
-no-responses opened due number (o ∷ os) = no-responses opened (due + length (call_output opened number o)) (number + 1) os
+no-responses opened due number (o ∷ os) = no-responses opened (due + length (item_encoding (call_item opened number o))) (number + 1) os
 
 client-sends : (opened : LinkParameters) (k : ClientState) (e : Event) → (client_state_after opened k e).send_ends ≡ k.send_ends ++ item_ends is_send_item k.due (client_items_at opened k e)
 unfolding client_state_after client_items_at
@@ -177,7 +198,7 @@ client-sends opened k (CallSubmitted place a) = by k.has_hello
     one = call_output opened (k.calls_accepted + 1) (outstanding_of k a)
 
     by : (b : Bool) → k.send_ends ++ cond b ((k.due + length (cond b one [])) ∷ []) [] ≡ k.send_ends ++ item_ends is_send_item k.due (cond b (call_item opened (k.calls_accepted + 1) (outstanding_of k a) ∷ []) [])
-    by true = refl
+    by true = ap (λ (bs : List ℕ). k.send_ends ++ (k.due + length bs) ∷ []) (call-word opened (k.calls_accepted + 1) (outstanding_of k a))
     by false = refl
 client-sends opened k (MemoryRevoked place xid) = sym (append-nil k.send_ends)
 client-sends opened k (CallExecuted call) = sym (append-nil k.send_ends)

@@ -10,12 +10,12 @@ use Rattle.nr_link.specs.declared.end.End.{End}
 use Rattle.nr_link.specs.declared.end.End.TheVariants as ends
 use Rattle.nr_link.specs.Frames.{Frame, is_hello}
 use Rattle.nr_link.specs.Ending.{final_output, rejection, is_hello_reason}
-use Rattle.nr_link.specs.Output.{send, read_request, own_hello, refusing_hello, write, terminate_message}
+use Rattle.nr_link.specs.Output.{msn_word, send, read_request, own_hello, refusing_hello, write, terminate_message}
 use Rattle.nr_link.specs.OutputItem.{OutputItem, items_encoding, is_send_item, item_ends}
 use Rattle.nr_link.specs.OutputItem.OutputItem.{SendItem, WriteItem, LastItem}
 use Rattle.nr_reduce.specs.declared.mark.LinkParameters.{LinkParameters}
 use Rattle.nr_reduce.specs.History.{ExecutedCall}
-use Rattle.nr_reduce.specs.Holds.{Answer, answer_writes, answer_message, writes_into, first_chunk, no_segments}
+use Rattle.nr_reduce.specs.Holds.{Answer, answer_writes, answer_message, chunk_error, writes_into, first_chunk, no_segments}
 use Rattle.nr_reduce.specs.Events.{Event}
 use Rattle.nr_reduce.specs.Events.Event.{FrameReceived, CallSubmitted, MemoryRevoked, CallExecuted, QueueWritten}
 use Rattle.nr_reduce.specs.ServerState.{PendingRead, ServerState, down_max, credit_word}
@@ -23,15 +23,15 @@ use Rattle.nr_reduce.specs.ServerFrames.{frame_effect}
 use Rattle.nr_reduce.specs.Server.{server_state_after, server_output, server_final_output, sends_from, send_ends_from, requests_from, newly_open_reads, effect_output, offer_of, answer_of_target, answer_output, execution_output, with_effect, with_own_hello}
 use Rattle.nr_reduce.specs.DueItems.{message_items, request_items, effect_items, write_items, answer_items, execution_items, server_items_at, server_hello_at}
 use Rattle.nr_reduce.proofs.WholeWrotes.{server-due}
-use Rattle.nr_reduce.proofs.OutputItems.{encoding-append, ends-append}
+use Rattle.nr_reduce.proofs.OutputItems.{encoding-append, ends-append, send-word, request-word}
 
 messages-encoded : (number : ℕ) (ms : List (List ℕ)) → sends_from number ms ≡ items_encoding (message_items number ms)
 messages-encoded number [] = refl
-messages-encoded number (m ∷ ms) = ap (λ (bs : List ℕ). send number m ++ bs) (messages-encoded (number + 1) ms)
+messages-encoded number (m ∷ ms) = (λ i. send-word number m i ++ messages-encoded (number + 1) ms i)
 
 requests-encoded : (number : ℕ) (reads : List PendingRead) → requests_from number reads ≡ items_encoding (request_items number reads)
 requests-encoded number [] = refl
-requests-encoded number (r ∷ reads) = ap (λ (bs : List ℕ). read_request number r.sink r.at r.size r.stag r.to ++ bs) (requests-encoded (number + 1) reads)
+requests-encoded number (r ∷ reads) = (λ i. request-word number r.sink r.at r.size r.stag r.to i ++ requests-encoded (number + 1) reads i)
 
 writes-encoded : (chunk : List RdmaSegment) (bytes : List ℕ) → writes_into chunk bytes ≡ items_encoding (write_items chunk bytes)
 writes-encoded [] bytes = refl
@@ -50,11 +50,16 @@ writes-encoded (s ∷ chunk) bytes = by (eqb (min s.length (length bytes)) 0) (w
 
 answer-encoded : (k : ServerState) (xid : ℕ) (offer : ChunkLists) (o : Option Answer) → answer_output k xid offer o ≡ items_encoding (answer_items k xid offer o)
 unfolding answer_writes
-answer-encoded k xid offer None = sym (append-nil (answer_output k xid offer None))
+answer-encoded k xid offer None =
+    let error = chunk_error xid (credit_word k) in
+    send-word (k.messages_queued + 1) error ∙ sym (append-nil (send (msn_word (k.messages_queued + 1)) error))
 answer-encoded k xid offer (Some a) =
-    (λ i. writes i ++ sym (append-nil (send (k.messages_queued + 1) (answer_message xid (credit_word k) offer a))) i)
-    ∙ sym (encoding-append (moved ++ long a.long) (SendItem (k.messages_queued + 1) (answer_message xid (credit_word k) offer a) ∷ []))
+    (λ i. writes i ++ (send-word (k.messages_queued + 1) message ∙ sym (append-nil (send (msn_word (k.messages_queued + 1)) message))) i)
+    ∙ sym (encoding-append (moved ++ long a.long) (SendItem (msn_word (k.messages_queued + 1)) message ∷ []))
   where
+    message : List ℕ
+    message = answer_message xid (credit_word k) offer a
+
     moved : List OutputItem
     moved = write_items (first_chunk offer.write) a.moved
 
@@ -112,11 +117,13 @@ server-last ends.Memory = refl
 
 messages-end : (due number : ℕ) (ms : List (List ℕ)) → send_ends_from due number ms ≡ item_ends is_send_item due (message_items number ms)
 messages-end due number [] = refl
-messages-end due number (m ∷ ms) = ap (λ (ends : List ℕ). (due + length (send number m)) ∷ ends) (messages-end (due + length (send number m)) (number + 1) ms)
+messages-end due number (m ∷ ms) =
+    ap (λ (ends : List ℕ). (due + length (send number m)) ∷ ends) (messages-end (due + length (send number m)) (number + 1) ms)
+    ∙ ap (λ (bs : List ℕ). (due + length bs) ∷ item_ends is_send_item (due + length bs) (message_items (number + 1) ms)) (send-word number m)
 
 requests-none : (due number : ℕ) (reads : List PendingRead) → item_ends is_send_item due (request_items number reads) ≡ []
 requests-none due number [] = refl
-requests-none due number (r ∷ reads) = requests-none (due + length (read_request number r.sink r.at r.size r.stag r.to)) (number + 1) reads
+requests-none due number (r ∷ reads) = requests-none (due + length (read_request (msn_word number) r.sink r.at r.size r.stag r.to)) (number + 1) reads
 
 writes-none : (due : ℕ) (chunk : List RdmaSegment) (bytes : List ℕ) → item_ends is_send_item due (write_items chunk bytes) ≡ []
 writes-none due [] bytes = refl
@@ -130,14 +137,19 @@ writes-none due (s ∷ chunk) bytes = by (λ n. writes-none n chunk (drop s.leng
 -- an answer has one Send, at its end
 answer-ends : (k : ServerState) (xid : ℕ) (offer : ChunkLists) (o : Option Answer) (due : ℕ) → (due + length (answer_output k xid offer o)) ∷ [] ≡ item_ends is_send_item due (answer_items k xid offer o)
 unfolding answer_writes
-answer-ends k xid offer None due = refl
+answer-ends k xid offer None due = ap (λ (bs : List ℕ). (due + length bs) ∷ []) (send-word (k.messages_queued + 1) (chunk_error xid (credit_word k)))
 answer-ends k xid offer (Some a) due =
-    ap (λ (n : ℕ). n ∷ []) (let e : due + length (answer_writes offer a ++ last) ≡ (due + length (items_encoding (moved ++ long a.long))) + length last = omega (arith, length-append (answer_writes offer a) last, ap (λ (bs : List ℕ). length bs) spelled) in e)
-    ∙ ap (λ (ends : List ℕ). ends ++ ((due + length (items_encoding (moved ++ long a.long))) + length last) ∷ []) (sym none)
-    ∙ sym (ends-append is_send_item due (moved ++ long a.long) (SendItem (k.messages_queued + 1) (answer_message xid (credit_word k) offer a) ∷ []))
+    let place = due + length (items_encoding (moved ++ long a.long)) in
+    let same : length (send (k.messages_queued + 1) message) ≡ length last = ap (λ (bs : List ℕ). length bs) (send-word (k.messages_queued + 1) message) in
+    ap (λ (n : ℕ). n ∷ []) (let e : due + length (answer_writes offer a ++ send (k.messages_queued + 1) message) ≡ place + length last = omega (arith, length-append (answer_writes offer a) (send (k.messages_queued + 1) message), ap (λ (bs : List ℕ). length bs) spelled, same) in e)
+    ∙ ap (λ (ends : List ℕ). ends ++ (place + length last) ∷ []) (sym none)
+    ∙ sym (ends-append is_send_item due (moved ++ long a.long) (SendItem (msn_word (k.messages_queued + 1)) message ∷ []))
   where
+    message : List ℕ
+    message = answer_message xid (credit_word k) offer a
+
     last : List ℕ
-    last = send (k.messages_queued + 1) (answer_message xid (credit_word k) offer a)
+    last = send (msn_word (k.messages_queued + 1)) message
 
     moved : List OutputItem
     moved = write_items (first_chunk offer.write) a.moved

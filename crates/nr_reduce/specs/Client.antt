@@ -96,7 +96,7 @@ outstanding_of k a = record {
   is_revoked = false;
 }
 
--- the Send of a call that is accepted, due at once where the server's hello came
+-- the Send of a call that is accepted, due at once if the server's hello was received
 abbrev pub submitted_output : LinkParameters → ClientState → AcceptedCall → List ℕ
 submitted_output opened k a = if k.has_hello then call_output opened (k.calls_accepted + 1) (outstanding_of k a) else []
 
@@ -152,7 +152,7 @@ with_segment k f (Ok segment) =
 abbrev pub revoked_call : ℕ → OutstandingCall → OutstandingCall
 revoked_call xid o = if o.xid == xid then record o { is_revoked = true } else o
 
--- where the Sends of some calls end, behind so many bytes
+-- the offsets at which the Sends of some calls end, of which the first begins at `due`
 abbrev pub call_ends : LinkParameters → ℕ → ℕ → List OutstandingCall → List ℕ
 call_ends opened due msn [] = []
 call_ends opened due msn (o ∷ others) =

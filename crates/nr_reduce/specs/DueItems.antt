@@ -9,7 +9,7 @@ use Rattle.nr_wire.specs.declared.hello.Side.TheVariants.{Initiator, Responder}
 use Rattle.nr_link.specs.declared.end.End.{End}
 use Rattle.nr_link.specs.Frames.{is_hello}
 use Rattle.nr_link.specs.Ending.{frame_segment, rejection}
-use Rattle.nr_link.specs.Output.{own_hello}
+use Rattle.nr_link.specs.Output.{msn_word, own_hello}
 use Rattle.nr_link.specs.OutputItem.{OutputItem}
 use Rattle.nr_link.specs.OutputItem.OutputItem.{SendItem, WriteItem, ReadRequestItem, ReadResponseItem, LastItem}
 use Rattle.nr_link.specs.ReceiveState.{ReadRequest}
@@ -30,7 +30,7 @@ use Rattle.nr_reduce.specs.Server.{server_rules, initial_server, newly_open_read
 -- ---- Of a client
 
 abbrev pub call_item : LinkParameters → ℕ → OutstandingCall → OutputItem
-call_item opened number o = SendItem number (call_message o.xid opened.wished o.stag o.plan)
+call_item opened number o = SendItem (msn_word number) (call_message o.xid opened.wished o.stag o.plan)
 
 abbrev pub call_items : LinkParameters → ℕ → List OutstandingCall → List OutputItem
 call_items opened number [] = []
@@ -51,11 +51,11 @@ client_items_at opened k (QueueWritten taken) = []
 
 abbrev pub message_items : ℕ → List (List ℕ) → List OutputItem
 message_items number [] = []
-message_items number (message ∷ messages) = SendItem number message ∷ message_items (number + 1) messages
+message_items number (message ∷ messages) = SendItem (msn_word number) message ∷ message_items (number + 1) messages
 
 abbrev pub request_items : ℕ → List PendingRead → List OutputItem
 request_items number [] = []
-request_items number (r ∷ reads) = ReadRequestItem number r.sink r.at r.size r.stag r.to ∷ request_items (number + 1) reads
+request_items number (r ∷ reads) = ReadRequestItem (msn_word number) r.sink r.at r.size r.stag r.to ∷ request_items (number + 1) reads
 
 abbrev pub effect_items : ServerState → FrameEffect → List OutputItem
 effect_items k s = message_items (k.messages_queued + 1) s.errors ++ request_items (k.requests_sent + 1) (newly_open_reads s)
@@ -66,10 +66,10 @@ write_items (s ∷ chunk) bytes =
     (if min s.length (length bytes) == 0 then [] else WriteItem s.handle s.offset (take s.length bytes) ∷ []) ++ write_items chunk (drop s.length bytes)
 
 abbrev pub answer_items : ServerState → ℕ → ChunkLists → Option Answer → List OutputItem
-answer_items k xid offer None = SendItem (k.messages_queued + 1) (chunk_error xid (credit_word k)) ∷ []
+answer_items k xid offer None = SendItem (msn_word (k.messages_queued + 1)) (chunk_error xid (credit_word k)) ∷ []
 answer_items k xid offer (Some a) =
     (write_items (first_chunk offer.write) a.moved ++ (if a.long then write_items (no_segments offer.reply) a.stream else []))
-    ++ SendItem (k.messages_queued + 1) (answer_message xid (credit_word k) offer a) ∷ []
+    ++ SendItem (msn_word (k.messages_queued + 1)) (answer_message xid (credit_word k) offer a) ∷ []
 
 unfoldable pub execution_items : ServerState → ExecutedCall → List OutputItem
 execution_items k e =

@@ -1,8 +1,10 @@
 -- All output of a client that is due is its hello and items, and what has left is counted by the items' bytes.
-use Rattle.std.specs.Prelude.{◌≡◌, ℕ, List, ◌++◌, length, None}
+use Rattle.std.specs.Prelude.{◌≡◌, ℕ, List, [], ◌∷◌, ◌++◌, length, None}
+use Rattle.nr_wire.specs.declared.hello.Side.{Side}
 use Rattle.nr_wire.specs.declared.hello.Side.TheVariants.{Initiator, Responder}
 use Rattle.nr_link.specs.OutputItem.{items_encoding, is_send_item, is_response_item, items_written, items_left}
 use Rattle.nr_reduce.specs.declared.mark.Mark.{Mark}
+use Rattle.nr_reduce.specs.declared.mark.Mark.TheVariants as marks
 use Rattle.nr_reduce.specs.declared.mark.LinkParameters.{LinkParameters}
 use Rattle.nr_reduce.specs.History.{bytes_sent}
 use Rattle.nr_reduce.specs.Written.{ends_left}
@@ -34,3 +36,11 @@ ClientCountsItems = (opened : LinkParameters) (link : ℕ) (run : List Mark) →
     ≡ items_written is_send_item (length (hello_due opened link Initiator run)) (length (bytes_sent link Initiator run)) (items_due opened link Initiator run))
     × (responses_owed (client opened link run).state
     ≡ items_left is_response_item (length (hello_due opened link Initiator run)) (length (bytes_sent link Initiator run)) (items_due opened link Initiator run))
+
+-- A Wrote makes nothing due: after it the hello and the items are the same, and its bytes are sent. So the counts after each drain go by
+-- the same items and by the bytes that it took.
+abbrev pub WroteAddsNothing : Type 0
+WroteAddsNothing = (opened : LinkParameters) (link : ℕ) (side : Side) (run : List Mark) (bytes : List ℕ) →
+    (items_due opened link side (run ++ marks.Wrote link side bytes ∷ []) ≡ items_due opened link side run)
+    × (hello_due opened link side (run ++ marks.Wrote link side bytes ∷ []) ≡ hello_due opened link side run)
+    × (bytes_sent link side (run ++ marks.Wrote link side bytes ∷ []) ≡ bytes_sent link side run ++ bytes)

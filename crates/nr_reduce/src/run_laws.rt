@@ -1,6 +1,6 @@
 //! Laws of runs: what both ends of a link cite, and what holds of every run.
 
-ghost use Rattle.nr_reduce.specs.OutputLaws.{ClientOutputIsItems, ClientBytes, ServerBytes, ClientCountsItems};
+ghost use Rattle.nr_reduce.specs.OutputLaws.{ClientOutputIsItems, ClientBytes, ServerBytes, ClientCountsItems, WroteAddsNothing};
 ghost use Rattle.nr_reduce.specs.RunLaws.{ClientAfterMark, ServerAfterMark, ClientOutputAfterMark, ServerOutputAfterMark, EndedClientStays, EndedServerStays, FullHoldsSoFar, SoFarHoldsBefore, AskedWithMark, ServedWithMark, ClientBegins, ServerBegins, EventsOfInput, ClientStandsOn, ServerStandsOn, ClientQueueIsDue, ServerQueueIsDue, GrantsHaveOwnStags, ClientAllows, ServerAllows, StagsAreNumbers, AcceptedKeepsLaw, SubmitIsSent, HelloSendsCalls, AcceptedCallsWait, ReadChunkStays, PayloadHasItsXid, ReadyIsConveyed, PayloadIsConveyed, ExecuteIsAnswered, RefusedSendIsAnswered, BadMessageIsRefused, RefusedCallIsAnswered, RefusedIsNotExecuted, OpenReadsAreFew, PlanIsAccepted, SendIsExecutedOnce, CallCompletesOnce, XidsRise, PlacesRise};
 
 /// One mark more: the state of an end, and the output due, are those before with the events of the mark.
@@ -113,9 +113,11 @@ pub fn output_is_items()
 
 /// While a side hasn't ended, its state counts the bytes of output that were due and those that were written. The Sends of
 /// a client that have left are the Send items of which all bytes were written, and the Read Responses that it owes are the
-/// Read Response items of which some weren't.
+/// Read Response items of which some weren't. A Wrote, of a drain, makes nothing due: the items are the same after it, and
+/// its bytes are sent.
 pub fn counts_go_by_bytes_sent()
     ensures client_written { ClientBytes }
     ensures server_written { ServerBytes }
     ensures client { ClientCountsItems }
+    ensures wrote { WroteAddsNothing }
 {}
