@@ -25,7 +25,10 @@ PLAIN = os.path.join(HERE, 'plain.json.gz')
 Finding = tuple[str, bool, tuple[str, ...], str, int]
 
 USES = [
-    'use Rattle.nr_reduce.specs.ClientState.{call_payload, plan_for, memory_at}',
+    'use Rattle.nr_reduce.specs.ClientState.{call_payload, plan_for, memory_at, responses_owed}',
+    'use Rattle.nr_reduce.specs.Written.{ends_left, ends_waiting}',
+    'use Rattle.nr_reduce.specs.DueItems.{items_due, hello_due}',
+    'use Rattle.nr_link.specs.OutputItem.{items_encoding, is_send_item, is_response_item, items_written, items_left}',
     'use Rattle.nr_reduce.specs.Plans.{lists_of, call_message, buffers}',
     'use Rattle.nr_header.specs.Reading.{header_of}',
     'use Rattle.nr_reduce.specs.RunLaws.{known_stream}',
@@ -72,6 +75,15 @@ ROLES: dict[str, str] = {
     'answer': 'λ offer state payload reply. '
               'answer_of_target offer (down_max state) reply (target_of (call_of payload))',
     'hello': 'λ frame. is_hello frame',
+    'items': 'λ opened link side run. items_due opened link side run',
+    'hello_due': 'λ opened link side run. hello_due opened link side run',
+    'items_bytes': 'λ items. items_encoding items',
+    'sends_counted': 'λ state. ends_left state.written state.send_ends',
+    'responses_counted': 'λ state. responses_owed state',
+    'messages_counted': 'λ state. ends_waiting state.written state.message_ends',
+    'sends_by_items': 'λ at written items. items_written is_send_item at written items',
+    'responses_by_items': 'λ at written items. items_left is_response_item at written items',
+    'messages_by_items': 'λ at written items. items_left is_send_item at written items',
     'access': 'λ frame. access_of frame',
     'segment': 'λ frame. frame_segment frame',
     'denial': 'λ frame regions access. grant_denial (region_grants frame.end regions) access frame.end',
@@ -101,6 +113,10 @@ LAWS = (
     'answers_convey',
     'sent_bytes: client',
     'sent_bytes: server',
+    'output_is_items: client',
+    'output_is_items: server',
+    'counts_go_by_bytes_sent: client',
+    'counts_go_by_bytes_sent: server',
     'regions_handed_back: messages',
     'regions_handed_back: ended',
     'regions_handed_back: done',
@@ -409,6 +425,7 @@ class Link:
             due = list(call(self.names.run['owed'], self.opened, self.number, self.names.side(side), list(self.marks)))
             sent = [b for m in mine if m['mark'] == 'Wrote' and m['side'] == side for b in bytes_of(m['bytes'])]
             self.note('sent_bytes: ' + side, due[:len(sent)] == sent, matched)
+            self.items(side, due, len(sent), matched)
         for x, submitted in self.submits.items():
             header = self.names.ask('header', submitted['message'])
             if header.n == 'Ok':
@@ -446,6 +463,17 @@ class Link:
             for x in self.submits:
                 if x not in given_up and self.has_cause(x):
                     self.note('chunk_outcomes: completed', self.dones.get(x) == 'Chunk', self.kind(x))
+
+    def items(self, side: str, due: list[int], written: int, kinds: tuple[str, ...]) -> None:
+        """The output due as a hello and items, and what has left of it by their bytes."""
+        ask, state = self.names.ask, self.ends[side]['state']
+        args = (self.opened, self.number, self.names.side(side), list(self.marks))
+        items, hello = ask('items', *args), list(ask('hello_due', *args))
+        self.note('output_is_items: ' + side, hello + list(ask('items_bytes', items)) == due, kinds)
+        if self.ends[side]['ended'].n == 'None':
+            counts = ('sends', 'responses') if side == 'client' else ('messages',)
+            same = all(ask(c + '_counted', state) == ask(c + '_by_items', len(hello), written, items) for c in counts)
+            self.note('counts_go_by_bytes_sent: ' + side, same, kinds)
 
     def conveys(self, s: Recorded) -> bool:
         """Whether the message of a call conveys a payload with a call head, or is refused by ERR_CHUNK."""
