@@ -3,7 +3,8 @@
     python3 docs/check_pages.py [--only WORD]
 
 A page docs/crates/NAME.md has to name, in backticks or in a code block, each public call of the crate NAME: each function
-that its lib.rt makes public, and each public method. Tests and benchmarks have a heading each in tests.md and benches.md.
+that its lib.rt makes public, and each public method; and "Stands on" has the crates of crates.txt. Tests and benchmarks
+have a heading each in tests.md and benches.md.
 Each name in backticks on any page has to be there: a word of the code, a file, a crate, a script. Lines have at most 160
 characters, prose 120, table cells 40 words; links lead to a file; the words of CONTRIBUTING's house list stand in no prose.
 Exit status: 0, or 1 with a line for each difference."""
@@ -41,6 +42,14 @@ def read(path: str) -> str:
 def crate_names() -> list[str]:
     lines = read(os.path.join(ROOT, 'crates.txt')).splitlines()
     return [x.split(':')[0].split()[0] for x in lines if ':' in x and not x.startswith('#')]
+
+
+def below(crate: str) -> set[str]:
+    """The crates of this project that a crate stands on."""
+    for line in read(os.path.join(ROOT, 'crates.txt')).splitlines():
+        if re.match(r'%s( staticlib)?:' % crate, line):
+            return set(line.split(':', 1)[1].split()) & set(crate_names())
+    return set()
 
 
 def sources(crate: str, kinds: tuple[str, ...] = ('src', 'specs', 'proofs')) -> list[str]:
@@ -183,6 +192,9 @@ def check_crates(crates: list[str]) -> list[str]:
         named = set(WORD.findall(' '.join(x for _, x in spans(text))))
         named |= set(WORD.findall('\n'.join(x for x in text.splitlines() if x.startswith('    '))))
         out += ['%s: the public call `%s` is missing' % (page, c) for c in sorted(public_calls(crate) - named)]
+        stands = re.search(r'^Stands on ([^.]*)\.', text, re.M)
+        if stands is None or set(WORD.findall(stands.group(1))) & set(crates) != below(crate):
+            out.append('%s: "Stands on" has other crates than crates.txt: %s' % (page, ' '.join(sorted(below(crate)))))
     pages = {os.path.basename(p)[:-3] for p in glob.glob(os.path.join(ROOT, 'docs', 'crates', '*.md'))}
     out += ['docs/crates/%s.md: no such crate' % p for p in sorted(pages - set(crates) - {'tests', 'benches'})]
     return out
