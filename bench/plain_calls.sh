@@ -1,6 +1,6 @@
 #!/usr/bin/env bash
 # Measures what calls cost the plain server: microseconds for READ and WRITE of 32 KiB, and for GETATTR, LOOKUP, CREATE and READDIR of 100
-# entries, each with 100 and with 100,000 entries in the directory.
+# entries, each with 100 and with 50,000 entries in the directory.
 #
 #     bench/plain_calls.sh [PROGRAM]
 #
@@ -29,7 +29,8 @@ import struct, subprocess, sys, time, timeit
 program, room = sys.argv[1:]
 RUNS = 3
 PIECE = 32768
-FEW, MANY = 100, 100_000
+# an input has at most 16 MiB, so the counts of calls are what fits
+FEW, MANY = 100, 50_000
 GETATTR, LOOKUP, READ, WRITE, CREATE, READDIR = 1, 3, 6, 7, 8, 16
 NFS, NO_PROGRAM = 100003, 100004
 
@@ -104,14 +105,14 @@ def same(name, before, proc, arguments, calls):
 
 whole = [line(WRITE, handle(2) + hyper(0) + words(PIECE, 2) + opaque(bytes(PIECE)))]
 same("READ of 32 KiB", whole, READ, handle(2) + hyper(0) + words(PIECE), 1_000)
-same("WRITE of 32 KiB", whole, WRITE, handle(2) + hyper(0) + words(PIECE, 2) + opaque(bytes(PIECE)), 1_000)
+same("WRITE of 32 KiB", whole, WRITE, handle(2) + hyper(0) + words(PIECE, 2) + opaque(bytes(PIECE)), 250)
 for entries in (FEW, MANY):
     before = fill(entries)
-    same("GETATTR beside %d entries" % entries, before, GETATTR, handle(2), 50_000)
-    same("LOOKUP of the last of %d entries" % entries, before, LOOKUP, handle(1) + opaque(b"e%06d" % (entries - 1)), 50_000)
+    same("GETATTR beside %d entries" % entries, before, GETATTR, handle(2), 20_000)
+    same("LOOKUP of the last of %d entries" % entries, before, LOOKUP, handle(1) + opaque(b"e%06d" % (entries - 1)), 20_000)
     names = [b"n%06d" % number for number in range(20_000 if entries == MANY else 1_000)]
     row(
-        "CREATE behind %d entries" % entries,
+        "CREATE after %d entries" % entries,
         before,
         [create(name) for name in names],
         [create(name, NO_PROGRAM) for name in names],

@@ -1,33 +1,44 @@
 //! A trial program of the plain server, over the drill's tree with the write verifier 1 and the export `/`.
 //!
-//! The first line of the input is `capacity B`. Each further one is `SECONDS HEX`, the seconds of the clock and the payload of a call,
-//! `-` for no bytes. For each the output has `PLACE HEX`, the place and the payload of the reply, or `notcall AT`, and at the end
-//! `journal N cost C`. Numbers are decimal, without a sign or leading zeros.
+//! It takes no words. The first line of the input is `capacity B`. Each further one is `SECONDS HEX`, the seconds of the clock and the
+//! payload of a call, `-` for no bytes. For each the output has `PLACE HEX`, the place and the payload of the reply, or `notcall AT`, and
+//! at the end `journal N cost C`. Numbers are decimal, without a sign or leading zeros. Each line ends with a newline, the last one too.
 //!
-//! At the first line that is none of these the program says `bad line N` on the error stream, counted from 1, with status 10. Want of
-//! memory is `memory` with status 2, and a fault of the input or the output is status 1.
+//! The input is read to its end first, and has at most 16,777,216 bytes. At the first line that is none of these the program says
+//! `bad line N` on the error stream, counted from 1, after the replies to the calls before it. Statuses and texts are those of `nfsrdma`.
 #![tactic(auto)]
 
 ghost use Rattle.std.specs.Prelude.{◌<◌, ◌^◌, IfOk};
 
 use hex::FromHexError;
 use nr_nfs_base::Verifier;
+use nr_outside::{ReadEnd, StdSource, read_whole};
 use nr_plain::{Fault, Reply, Server};
 use nr_reduce::Moment;
 use nr_tree::Tree;
 use nr_xdr::{Memory, Octets};
 use std::alloc::{AllocError, Global};
-use std::io::{self, BufRead, BufReader, BufWriter, Write};
+use std::env;
+use std::io::{self, BufWriter, Write};
 use std::process::ExitCode;
+
+/// The status after a word.
+const BAD_WORDS: u8 = 1;
+
+/// The status after running out of memory.
+const NO_MEMORY: u8 = 2;
+
+/// The status after a fault of the input, of the output or of the error stream.
+const FAULT: u8 = 9;
 
 /// The status after a line that can't be read.
 const BAD_LINE: u8 = 10;
 
-/// The status after want of memory.
-const NO_MEMORY: u8 = 2;
+/// The status after an input of more than `INPUT_MAX` bytes.
+const OVER_BUDGET: u8 = 11;
 
-/// The status after a fault of the input or the output.
-const FAULT: u8 = 1;
+/// The most bytes of an input, as of a script.
+const INPUT_MAX: usize = 16_777_216;
 
 /// The capacities are below this one, so that no number of the server passes 64 bits.
 const CAPACITY_END: u64 = 1 << 63;
@@ -35,20 +46,35 @@ const CAPACITY_END: u64 = 1 << 63;
 /// Why the program stops before the end of its input.
 #[derive(Clone, Copy)]
 enum Stop {
+    /// There are words, or one that is not UTF-8.
+    Words,
     /// The line that is being read has another format.
     BadLine,
     /// Memory ran out.
     Memory,
-    /// The input or the output failed.
-    Fault,
+    /// The input failed.
+    Input,
+    /// The output failed.
+    Output,
+    /// The input is too long.
+    Budget,
 }
 
 impl From<io::Error> for Stop {
     fn from(error: io::Error) -> Stop {
         match error.kind() {
             io::ErrorKind::OutOfMemory => Stop::Memory,
-            io::ErrorKind::InvalidData => Stop::BadLine,
-            _ => Stop::Fault,
+            _ => Stop::Output,
+        }
+    }
+}
+
+impl From<ReadEnd> for Stop {
+    fn from(end: ReadEnd) -> Stop {
+        match end {
+            ReadEnd::Failed => Stop::Input,
+            ReadEnd::TooLong => Stop::Budget,
+            ReadEnd::Memory => Stop::Memory,
         }
     }
 }
@@ -110,30 +136,37 @@ fn opened(alloc: Global, capacity: u64) -> Result<Server, Stop>
     Ok(Server::open(tree, capacity, Verifier { number: 1 }, export))
 }
 
+/// The first line of a text, without its newline, and the text after it.
+fn next_line(text: &[u8]) -> Option<(&[u8], &[u8])> {
+    let at = text.iter().position(|b| *b == b'\n')?;
+    let (line, rest) = text.split_at(at);
+    let (_, after) = rest.split_at(1);
+    Some((line, after))
+}
+
 /// The lines of the input, one after the other.
 #[derive(Drop)]
-struct Lines<B> {
-    input: B,
-    /// The line that was read last, with its end.
-    text: String,
+struct Lines<'a> {
+    /// The text after the line that was read last.
+    rest: &'a [u8],
     /// The number of that line, from 1.
     number: u64,
 }
 
-impl<B: BufRead> Lines<B> {
-    /// Reads the next line, and gives whether there is one.
-    fn advance(&mut self) -> Result<bool, Stop> {
-        self.text.clear();
+impl<'a> Lines<'a> {
+    /// The next line without its newline, or `None` at the end of the text.
+    fn advance(&mut self) -> Result<Option<&'a str>, Stop> {
         self.number = self.number.saturating_add(1);
-        let count = self.input.read_line(&mut self.text)?;
-        Ok(count != 0)
-    }
-
-    /// The line that was read last, without its end.
-    fn line(&self) -> &str {
-        match self.text.strip_suffix('\n') {
-            Some(line) => line,
-            None => self.text.as_str(),
+        if self.rest.is_empty() {
+            return Ok(None);
+        }
+        let Some((line, after)) = next_line(self.rest) else {
+            return Err(Stop::BadLine);
+        };
+        self.rest = after;
+        match str::from_utf8(line) {
+            Ok(line) => Ok(Some(line)),
+            Err(_) => Err(Stop::BadLine),
         }
     }
 }
@@ -198,32 +231,32 @@ fn answer<W: Write>(
 }
 
 /// The server that the first line asks for.
-fn begun<B: BufRead>(alloc: Global, lines: &mut Lines<B>) -> Result<Server, Stop> {
-    if !lines.advance()? {
+fn begun(alloc: Global, lines: &mut Lines<'_>) -> Result<Server, Stop> {
+    let Some(line) = lines.advance()? else {
         return Err(Stop::BadLine);
-    }
-    opened(alloc, capacity(lines.line())?)
+    };
+    opened(alloc, capacity(line)?)
 }
 
 /// Executes the call of the next line, and gives whether there was one.
-fn answer_next<B: BufRead, W: Write>(
+fn answer_next<W: Write>(
     alloc: Global,
     server: &mut Server,
-    lines: &mut Lines<B>,
+    lines: &mut Lines<'_>,
     out: &mut W,
 ) -> Result<bool, Stop> {
-    if !lines.advance()? {
+    let Some(line) = lines.advance()? else {
         return Ok(false);
-    }
-    answer(alloc, server, lines.line(), out)?;
+    };
+    answer(alloc, server, line, out)?;
     Ok(true)
 }
 
 /// Executes the calls of the further lines.
-fn answer_all<B: BufRead, W: Write>(
+fn answer_all<W: Write>(
     alloc: Global,
     server: &mut Server,
-    lines: &mut Lines<B>,
+    lines: &mut Lines<'_>,
     out: &mut W,
 ) -> Result<(), Stop> {
     for _ in 0..u64::MAX {
@@ -241,11 +274,11 @@ fn write_journal<W: Write>(server: &Server, out: &mut W) -> Result<(), Stop> {
     Ok(())
 }
 
-/// Serves the lines behind the first.
-fn serve_rest<B: BufRead, W: Write>(
+/// Serves the lines after the first.
+fn serve_rest<W: Write>(
     alloc: Global,
     server: &mut Server,
-    lines: &mut Lines<B>,
+    lines: &mut Lines<'_>,
     out: &mut W,
 ) -> Result<(), Stop> {
     answer_all(alloc, server, lines, out)?;
@@ -253,39 +286,66 @@ fn serve_rest<B: BufRead, W: Write>(
 }
 
 /// Serves all lines.
-fn serve<B: BufRead, W: Write>(
-    alloc: Global,
-    lines: &mut Lines<B>,
-    out: &mut W,
-) -> Result<(), Stop> {
+fn serve<W: Write>(alloc: Global, lines: &mut Lines<'_>, out: &mut W) -> Result<(), Stop> {
     let mut server = begun(alloc, lines)?;
     let served = serve_rest(alloc, &mut server, lines, out);
     drop(server);
     served
 }
 
-/// Serves the input, and writes what was answered before a stop too. `line` becomes the number of the line that was read last.
-fn run(rt: &HostRuntime, line: &mut u64) -> Result<(), Stop> {
-    let alloc = rt.alloc();
+/// How many words the program was started with, its name too.
+fn words(rt: &HostRuntime) -> Result<u64, Stop> {
+    let mut count: u64 = 0;
+    match env::args(rt) {
+        Ok(words) => {
+            for _ in words {
+                count = count.saturating_add(1);
+            }
+            Ok(count)
+        }
+        Err(error) if error.kind() == io::ErrorKind::OutOfMemory => Err(Stop::Memory),
+        Err(_) => Err(Stop::Words),
+    }
+}
+
+/// The whole input. The program may be started with its name alone.
+fn input(rt: &HostRuntime) -> Result<Vec<u8>, Stop> {
+    if words(rt)? != 1 {
+        return Err(Stop::Words);
+    }
+    let mut source = StdSource::new(rt.stdin());
+    let text = read_whole(rt.alloc(), &mut source, INPUT_MAX)?;
+    Ok(text)
+}
+
+/// Serves a text, and writes what was answered before a stop too. `line` becomes the number of the line that was read last.
+fn serve_text(rt: &HostRuntime, text: &[u8], line: &mut u64) -> Result<(), Stop> {
     let mut lines = Lines {
-        input: BufReader::new(alloc, rt.reader())?,
-        text: String::new(alloc),
+        rest: text,
         number: 0,
     };
-    let mut out = BufWriter::new(alloc, io::writer(rt))?;
-    let served = serve(alloc, &mut lines, &mut out);
+    let mut out = BufWriter::new(rt.alloc(), io::writer(rt))?;
+    let served = serve(rt.alloc(), &mut lines, &mut out);
     *line = lines.number;
-    drop(lines);
     out.flush()?;
     served
+}
+
+/// Serves the input. `line` becomes the number of the line that was read last.
+fn run(rt: &HostRuntime, line: &mut u64) -> Result<(), Stop> {
+    let text = input(rt)?;
+    serve_text(rt, text.as_slice(), line)
 }
 
 /// Says why the program stopped, and gives the status.
 fn say(rt: &HostRuntime, stop: Stop, line: u64) -> u8 {
     let (said, status) = match stop {
+        Stop::Words => (eprintln!(rt; "bad words"), BAD_WORDS),
         Stop::BadLine => (eprintln!(rt; "bad line {line}"), BAD_LINE),
         Stop::Memory => (eprintln!(rt; "memory"), NO_MEMORY),
-        Stop::Fault => (Ok(()), FAULT),
+        Stop::Input => (eprintln!(rt; "input fault"), FAULT),
+        Stop::Output => (eprintln!(rt; "output fault"), FAULT),
+        Stop::Budget => (eprintln!(rt; "budget {INPUT_MAX}"), OVER_BUDGET),
     };
     match said {
         Ok(()) => status,
