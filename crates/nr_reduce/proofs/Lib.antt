@@ -1,6 +1,14 @@
+pub mod Registering
+pub mod Submits
+pub mod Closing
+pub mod Releasing
+pub mod Pieces
+pub mod Conveying
+pub mod Keeping
+pub mod Unasked
+pub mod WholeWrotes
 pub mod AnswerLists
 pub mod Compared
-pub mod WholeWrotes
 pub mod CountedBytes
 pub mod OutputItems
 pub mod ServerItems

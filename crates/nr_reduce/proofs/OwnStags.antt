@@ -31,12 +31,12 @@ use Rattle.nr_reduce.specs.ServerMessages.CallVerdict.{Refuses, IsReady}
 use Rattle.nr_reduce.specs.ServerFrames.{FrameEffect, no_effect, with_verdict, ready_if_whole, message_effect, with_refused_call, read_effect, call_of_number, response_effect, by_message, with_access, effect_in, frame_effect}
 use Rattle.nr_reduce.specs.Server.{server_rules, server_state_after, initial_server, with_effect, with_own_hello}
 use Rattle.nr_reduce.specs.Run.{client, server, grants_of}
+use Rattle.nr_reduce.specs.StandingLaws.{StagsFrom, ClientStagsInOrder, ServerStagsInOrder, PlanStagsInOrder}
 
 -- ---- Consecutive STags
 
 abbrev pub AreNumbered : ℕ → List Region → Type 0
-AreNumbered n [] = Unit {0}
-AreNumbered n (r ∷ regions) = (r.stag ≡ n) × AreNumbered (n + 1) regions
+AreNumbered n regions = StagsFrom n regions
 
 numbered-append : (n m : ℕ) (xs ys : List Region) → AreNumbered n xs → m ≡ n + length xs → AreNumbered m ys → AreNumbered n (xs ++ ys)
 numbered-append n m [] ys h e k = subst (λ (i : ℕ). AreNumbered i ys) (let s : m ≡ n = omega (arith, e) in s) k
@@ -250,3 +250,15 @@ pub grants-own : (opened : LinkParameters) (link : ℕ) (side : Side) (run : Lis
 unfolding grants_of client server
 grants-own opened link Initiator run = own-stags _ opened.first_stag _ (client-numbers opened (events link Initiator run)).regions
 grants-own opened link Responder run = own-stags _ 1 _ (server-numbers opened (events link Responder run))
+
+-- ---- In order
+
+pub client-in-order : ClientStagsInOrder
+client-in-order opened link run = (client-known opened link run).regions
+
+pub server-in-order : ServerStagsInOrder
+unfolding server
+server-in-order opened link run = server-numbers opened (events link Responder run)
+
+pub plan-in-order : PlanStagsInOrder
+plan-in-order xid place stag plan = (numbered-buffers xid place stag plan, buffers-length xid place stag plan)

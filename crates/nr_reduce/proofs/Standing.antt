@@ -1,28 +1,31 @@
 -- An end that stands for some marks stands for one mark more, if it goes along: a piece, a drain, or a mark of another kind.
-use Rattle.std.proofs.Common.{◌≡◌, ℕ, eqb, List, [], ◌∷◌, ◌++◌, refl, sym, ap, ◌∙◌, append_assoc, append-nil, true}
+use Rattle.std.proofs.Common.{◌≡◌, ℕ, ◌+◌, eqb, List, [], ◌∷◌, ◌++◌, length, Option, None, Some, refl, sym, ap, subst, ◌∙◌, append_assoc, append-nil, length-append, true}
 use Rattle.std.proofs.lemmas.Bool.{eq-eqb}
 use Rattle.std.specs.List.{flat_map}
 use Rattle.std.proofs.lemmas.Grind.{flat_map-append}
 use Rattle.nr_wire.specs.declared.hello.Side.{Side}
 use Rattle.nr_wire.specs.declared.hello.Side.TheVariants.{Initiator, Responder}
 use Rattle.nr_link.specs.Output.{own_hello}
-use Rattle.nr_link.specs.Input.{InputState, input_of, initial_input, input_after}
+use Rattle.nr_link.specs.Input.{InputState, input_of, initial_input, input_count, input_after}
 use Rattle.nr_link.proofs.Inputs.{input_of-append, input_of-count, input_of-frames, input_of-none}
 use Rattle.nr_reduce.specs.declared.mark.Mark.{Mark}
 use Rattle.nr_reduce.specs.declared.mark.LinkParameters.{LinkParameters}
 use Rattle.nr_reduce.specs.History.{bytes_sent, bytes_received, written_at, fed_at, other}
-use Rattle.nr_reduce.specs.Events.{mark_events, events_at, events}
+use Rattle.nr_link.specs.declared.end.End.{End}
+use Rattle.nr_reduce.specs.Events.{Event, mark_events, events_at, events}
 use Rattle.nr_reduce.specs.EndRules.{Rules, EndState, end_state_after, output_for_all}
-use Rattle.nr_reduce.specs.ClientState.{ClientState}
 use Rattle.nr_reduce.specs.ServerState.{ServerState}
-use Rattle.nr_reduce.specs.Client.{client_rules, initial_client}
+use Rattle.nr_reduce.specs.Client.{client_rules}
 use Rattle.nr_reduce.specs.Server.{server_rules, initial_server}
 use Rattle.nr_reduce.specs.Run.{client, server, output_due}
 use Rattle.nr_reduce.specs.AtEachMark.{AtEachMark}
 use Rattle.nr_reduce.specs.Matched.{IsPrefixOf}
 use Rattle.nr_reduce.specs.Asked.{IsAll}
-use Rattle.nr_reduce.specs.Standing.{input_events, StandsFor, ClientStandsFor, ServerStandsFor}
-use Rattle.nr_reduce.proofs.Steps.{client-one, output_due_up-one, server-one, output_due_down-one}
+use Rattle.nr_reduce.specs.KeptClient.{ClientKeeps, opened_client}
+use Rattle.nr_reduce.specs.Standing.{input_events, StandsFor, IsState, ClientStandsFor, ServerStandsFor}
+use Rattle.nr_reduce.specs.StandingLaws.{GoesOn, ClientStandsOn, ServerStandsOn, ClientRunsOutAt, ServerRunsOutAt, ClientStaysOut, ServerStaysOut, ClientQueueIsDue, ServerQueueIsDue}
+use Rattle.nr_reduce.proofs.Steps.{client-one, output_due_up-one, server-one, output_due_down-one, ended-stays}
+use Rattle.nr_reduce.proofs.Keeping.{keeps-begins}
 
 pub AtEachMark-more : (P : List Mark → Mark → Type 0) (before run : List Mark) (mark : Mark) → AtEachMark P before run → P (before ++ run) mark → AtEachMark P before (run ++ mark ∷ [])
 AtEachMark-more P before [] mark h p = (let at : P before mark = rw append-nil at p in at, tt)
@@ -50,60 +53,174 @@ events-input link side run mark =
     let stream = bytes_received link side run in
     λ i. mark_events link side (input_of-count (other side) stream i) (λ (more : List ℕ). input_of-frames (other side) stream more i) mark
 
-stands-one : {S : Type 0} (rules : Rules S) (link : ℕ) (side : Side) (state_of : List Mark → EndState S) (due : List Mark → List ℕ) (end : EndState S) (input : InputState) (queue left : List ℕ) (run : List Mark) (mark : Mark) →
-    state_of (run ++ mark ∷ []) ≡ end_state_after rules (state_of run) (events_at link side run mark) →
-    due (run ++ mark ∷ []) ≡ due run ++ output_for_all rules (state_of run) (events_at link side run mark) →
-    StandsFor link side state_of due end input queue run →
-    written_at link side mark ++ left ≡ queue ++ output_for_all rules end (input_events link side input mark) →
-    StandsFor link side state_of due (end_state_after rules end (input_events link side input mark)) (input_after input (fed_at link side mark)) left (run ++ mark ∷ [])
-stands-one rules link side state_of due end input queue left run mark state_one due_one s queued =
-    let es : input_events link side input mark ≡ events_at link side run mark =
-    (λ i. input_events link side (s.received i) mark) ∙ events-input link side run mark in
-    let sent = bytes_sent link side run in
-    record {
-      state = (λ i. end_state_after rules (s.state i) (es i)) ∙ sym state_one;
-      received =
-          (λ i. input_after (s.received i) (fed_at link side mark))
-          ∙ sym (input_of-append (other side) (bytes_received link side run) (fed_at link side mark))
-          ∙ ap (λ (stream : List ℕ). input_of (other side) stream) (sym (received-one link side run mark));
-      output =
-          ap (λ (xs : List ℕ). xs ++ left) (sent-one link side run mark)
-          ∙ append_assoc sent (written_at link side mark) left
-          ∙ ap (λ (xs : List ℕ). sent ++ xs) queued
-          ∙ sym (append_assoc sent queue (output_for_all rules end (input_events link side input mark)))
-          ∙ (λ i. s.output i ++ output_for_all rules (s.state i) (es i))
-          ∙ sym due_one;
-    }
+-- ---- One mark more
 
-pub client-stands : (opened : LinkParameters) (link : ℕ) (end : EndState ClientState) (input : InputState) (queue left : List ℕ) (run : List Mark) (mark : Mark) →
-    ClientStandsFor opened link end input queue run →
-    written_at link Initiator mark ++ left ≡ queue ++ output_for_all (client_rules opened) end (input_events link Initiator input mark) →
-    ClientStandsFor opened link (end_state_after (client_rules opened) end (input_events link Initiator input mark)) (input_after input (fed_at link Initiator mark)) left (run ++ mark ∷ [])
-client-stands opened link end input queue left run mark s queued =
-    stands-one (client_rules opened) link Initiator (client opened link) (output_due opened link Initiator) end input queue left run mark (client-one opened link run mark) (output_due_up-one opened link run mark) s queued
+-- the state after some events, and the output that is due for them, are those of others
+record SameAfter {S : Type 0} (rules : Rules S) (r : EndState S) (es fs : List Event) : Type 0 where
+  pub state : end_state_after rules r es ≡ end_state_after rules r fs
+  pub output : output_for_all rules r es ≡ output_for_all rules r fs
 
-pub server-stands : (opened : LinkParameters) (link : ℕ) (end : EndState ServerState) (input : InputState) (queue left : List ℕ) (run : List Mark) (mark : Mark) →
-    ServerStandsFor opened link end input queue run →
-    written_at link Responder mark ++ left ≡ queue ++ output_for_all (server_rules opened) end (input_events link Responder input mark) →
-    ServerStandsFor opened link (end_state_after (server_rules opened) end (input_events link Responder input mark)) (input_after input (fed_at link Responder mark)) left (run ++ mark ∷ [])
-server-stands opened link end input queue left run mark s queued =
-    stands-one (server_rules opened) link Responder (server opened link) (output_due opened link Responder) end input queue left run mark (server-one opened link run mark) (output_due_down-one opened link run mark) s queued
+-- which events they are doesn't matter once an end has ended
+same-after : {S : Type 0} (rules : Rules S) (r : EndState S) (es fs : List Event) → (r.ended ≡ None → es ≡ fs) → SameAfter rules r es fs
+same-after rules r es fs same = by r.ended refl
+  where
+    by : (x : Option End) → r.ended ≡ x → SameAfter rules r es fs
+    by None is = record { state = ap (end_state_after rules r) (same is); output = ap (output_for_all rules r) (same is) }
+    by (Some end) is =
+        let stays = ended-stays rules r.state end es in
+        let stays2 = ended-stays rules r.state end fs in
+        subst (λ (x : Option End). SameAfter rules (record { state = r.state; ended = x }) es fs) (sym is)
+        (record { state = stays.0 ∙ sym stays2.0; output = stays.1 ∙ sym stays2.1 })
 
-pub client-begins : (opened : LinkParameters) (link : ℕ) → ClientStandsFor opened link (initial_client opened) (initial_input Responder) (own_hello Initiator) []
+-- an end that hasn't ended after some events had not before
+live-before : {S : Type 0} (rules : Rules S) (r : EndState S) (es : List Event) → (end_state_after rules r es).ended ≡ None → r.ended ≡ None
+live-before rules r es lives = by r.ended refl
+  where
+    by : (x : Option End) → r.ended ≡ x → r.ended ≡ None
+    by None is = is
+    by (Some end) is =
+        absurd (let wrong : Some end ≡ None =
+        ap (λ (q : EndState _). q.ended) (sym (ended-stays rules r.state end es).0)
+        ∙ sym (ap (λ (x : Option End). (end_state_after rules (record { state = r.state; ended = x }) es).ended) is)
+        ∙ lives in
+        cc)
+
+module _ {K S : Type 0} (Keeps : K → EndState S → ℕ → Type 0) (rules : Rules S) (link : ℕ) (side : Side) (state_of : List Mark → EndState S) (due : List Mark → List ℕ) (run : List Mark) (mark : Mark) where
+  abbrev StateGoes : Type 0
+  StateGoes = state_of (run ++ mark ∷ []) ≡ end_state_after rules (state_of run) (events_at link side run mark)
+
+  abbrev DueGoes : Type 0
+  DueGoes = due (run ++ mark ∷ []) ≡ due run ++ output_for_all rules (state_of run) (events_at link side run mark)
+
+  by-input : (kept : K) (input : InputState) (queue : List ℕ) → StandsFor Keeps link side state_of due kept input queue run →
+      SameAfter rules (state_of run) (input_events link side input mark) (events_at link side run mark)
+  by-input kept input queue s =
+      same-after rules (state_of run) (input_events link side input mark) (events_at link side run mark)
+      (λ lives. ap (λ (i : InputState). input_events link side i mark) (s.received lives) ∙ events-input link side run mark)
+
+  count-one : length (bytes_received link side run) + length (fed_at link side mark) ≡ length (bytes_received link side (run ++ mark ∷ []))
+  count-one = sym (ap (λ (xs : List ℕ). length xs) (received-one link side run mark) ∙ length-append (bytes_received link side run) (fed_at link side mark))
+
+  sent-left : (queue left more : List ℕ) → bytes_sent link side run ++ queue ≡ due run → DueGoes → output_for_all rules (state_of run) (events_at link side run mark) ≡ more →
+      written_at link side mark ++ left ≡ queue ++ more → bytes_sent link side (run ++ mark ∷ []) ++ left ≡ due (run ++ mark ∷ [])
+  sent-left queue left more output due_one more_is queued =
+      let sent = bytes_sent link side run in
+      ap (λ (xs : List ℕ). xs ++ left) (sent-one link side run mark)
+      ∙ append_assoc sent (written_at link side mark) left
+      ∙ ap (λ (xs : List ℕ). sent ++ xs) queued
+      ∙ sym (append_assoc sent queue more)
+      ∙ (λ i. output i ++ sym more_is i)
+      ∙ sym due_one
+
+  pub stands-on : (kept next : K) (input next_input : InputState) (queue left : List ℕ) → StateGoes → DueGoes → StandsFor Keeps link side state_of due kept input queue run →
+      GoesOn Keeps rules link side next input queue left mark (state_of run) (length (bytes_received link side run)) →
+      ((end_state_after rules (state_of run) (input_events link side input mark)).ended ≡ None → next_input ≡ input_after input (fed_at link side mark)) →
+      StandsFor Keeps link side state_of due next next_input left (run ++ mark ∷ [])
+  stands-on kept next input next_input queue left state_one due_one s goes fed =
+      let same = by-input kept input queue s in
+      let after : end_state_after rules (state_of run) (input_events link side input mark) ≡ state_of (run ++ mark ∷ []) = same.state ∙ sym state_one in
+      record {
+        keeps = subst (λ (n : ℕ). Keeps next (state_of (run ++ mark ∷ [])) n) count-one
+            (subst (λ (r : EndState S). Keeps next r (length (bytes_received link side run) + length (fed_at link side mark))) after goes.keeps);
+        received = λ lives.
+            (let lives_by : (end_state_after rules (state_of run) (input_events link side input mark)).ended ≡ None = ap (λ (r : EndState S). r.ended) after ∙ lives in
+            let lived : (state_of run).ended ≡ None = live-before rules (state_of run) (input_events link side input mark) lives_by in
+            fed lives_by
+            ∙ ap (λ (i : InputState). input_after i (fed_at link side mark)) (s.received lived)
+            ∙ sym (input_of-append (other side) (bytes_received link side run) (fed_at link side mark))
+            ∙ ap (λ (stream : List ℕ). input_of (other side) stream) (sym (received-one link side run mark)));
+        output = sent-left queue left (output_for_all rules (state_of run) (input_events link side input mark)) s.output due_one (sym same.output) goes.output;
+      }
+
+  -- what an end writes that runs out of memory is due
+  pub runs-out : (kept : K) (input : InputState) (queue left : List ℕ) → DueGoes → StandsFor Keeps link side state_of due kept input queue run →
+      IsPrefixOf (written_at link side mark ++ left) (queue ++ output_for_all rules (state_of run) (input_events link side input mark)) →
+      IsPrefixOf (bytes_sent link side (run ++ mark ∷ []) ++ left) (due (run ++ mark ∷ []))
+  runs-out kept input queue left due_one s first =
+      let same = by-input kept input queue s in (
+        first.0,
+        append_assoc (bytes_sent link side (run ++ mark ∷ [])) left first.0
+            ∙ sent-left queue (left ++ first.0) (output_for_all rules (state_of run) (input_events link side input mark)) s.output due_one (sym same.output)
+            (sym (append_assoc (written_at link side mark) left first.0) ∙ first.1),
+      )
+
+  pub stays-out : (queue left : List ℕ) → DueGoes → IsPrefixOf (bytes_sent link side run ++ queue) (due run) → written_at link side mark ++ left ≡ queue →
+      IsPrefixOf (bytes_sent link side (run ++ mark ∷ []) ++ left) (due (run ++ mark ∷ []))
+  stays-out queue left due_one first queued =
+      let sent = bytes_sent link side run in
+      let more = output_for_all rules (state_of run) (events_at link side run mark) in (
+        first.0 ++ more,
+        ap (λ (xs : List ℕ). (xs ++ left) ++ (first.0 ++ more)) (sent-one link side run mark)
+            ∙ ap (λ (xs : List ℕ). xs ++ (first.0 ++ more)) (append_assoc sent (written_at link side mark) left ∙ ap (λ (xs : List ℕ). sent ++ xs) queued)
+            ∙ sym (append_assoc (sent ++ queue) first.0 more)
+            ∙ ap (λ (xs : List ℕ). xs ++ more) first.1
+            ∙ sym due_one,
+      )
+
+-- ---- Clients and servers
+
+pub client-stands : ClientStandsOn
+client-stands opened link kept next input next_input queue left run mark s goes fed =
+    let count = length (bytes_received link Initiator run) in
+    let on : GoesOn (ClientKeeps opened) (client_rules opened) link Initiator next input queue left mark (client opened link run) count =
+    goes (client opened link run) count s.keeps (λ lives. ap input_count (s.received lives) ∙ input_of-count Responder (bytes_received link Initiator run)) in
+    stands-on (ClientKeeps opened) (client_rules opened) link Initiator (client opened link) (output_due opened link Initiator) run mark kept next input next_input queue left
+    (client-one opened link run mark) (output_due_up-one opened link run mark) s on
+    (λ lives. fed (on.keeps.ended ∙ lives))
+
+pub server-stands : ServerStandsOn
+server-stands opened link end input next_input queue left run mark s queued fed =
+    let e : end ≡ server opened link run = s.keeps in
+    stands-on IsState (server_rules opened) link Responder (server opened link) (output_due opened link Responder) run mark end
+    (end_state_after (server_rules opened) end (input_events link Responder input mark)) input next_input queue left
+    (server-one opened link run mark) (output_due_down-one opened link run mark) s
+    (record {
+      keeps = ap (λ (r : EndState ServerState). end_state_after (server_rules opened) r (input_events link Responder input mark)) e;
+      output = queued ∙ ap (λ (r : EndState ServerState). queue ++ output_for_all (server_rules opened) r (input_events link Responder input mark)) e;
+    })
+    (λ lives. fed (ap (λ (r : EndState ServerState). (end_state_after (server_rules opened) r (input_events link Responder input mark)).ended) e ∙ lives))
+
+pub client-runs-out : ClientRunsOutAt
+client-runs-out opened link kept next input queue left run mark s first out =
+    let count = length (bytes_received link Initiator run) in (
+      out,
+      runs-out (ClientKeeps opened) (client_rules opened) link Initiator (client opened link) (output_due opened link Initiator) run mark kept input queue left (output_due_up-one opened link run mark) s
+          (first (client opened link run) count s.keeps (λ lives. ap input_count (s.received lives) ∙ input_of-count Responder (bytes_received link Initiator run))),
+    )
+
+pub server-runs-out : ServerRunsOutAt
+server-runs-out opened link end input queue left run mark s first =
+    let e : end ≡ server opened link run = s.keeps in (
+      refl,
+      runs-out IsState (server_rules opened) link Responder (server opened link) (output_due opened link Responder) run mark end input queue left (output_due_down-one opened link run mark) s
+          (subst (λ (r : EndState ServerState). IsPrefixOf (written_at link Responder mark ++ left) (queue ++ output_for_all (server_rules opened) r (input_events link Responder input mark))) e first),
+    )
+
+pub client-stays-out : ClientStaysOut
+client-stays-out opened link kept queue left run mark out queued =
+    (out.0, stays-out (ClientKeeps opened) (client_rules opened) link Initiator (client opened link) (output_due opened link Initiator) run mark queue left (output_due_up-one opened link run mark) out.1 queued)
+
+pub server-stays-out : ServerStaysOut
+server-stays-out opened link ended queue left run mark out queued =
+    (out.0, stays-out IsState (server_rules opened) link Responder (server opened link) (output_due opened link Responder) run mark queue left (output_due_down-one opened link run mark) out.1 queued)
+
+pub client-begins : (opened : LinkParameters) (link : ℕ) → ClientStandsFor opened link (opened_client opened) (initial_input Responder) (own_hello Initiator) []
 unfolding client events bytes_received bytes_sent output_due
 client-begins opened link = record {
-  state = refl;
-  received = sym (input_of-none Responder);
+  keeps = keeps-begins opened;
+  received = λ lives. sym (input_of-none Responder);
   output = sym (append-nil (own_hello Initiator));
 }
 
 pub server-begins : (opened : LinkParameters) (link : ℕ) → ServerStandsFor opened link (initial_server opened) (initial_input Initiator) [] []
 unfolding server events bytes_received bytes_sent output_due
 server-begins opened link = record {
-  state = refl;
-  received = sym (input_of-none Initiator);
+  keeps = refl;
+  received = λ lives. sym (input_of-none Initiator);
   output = refl;
 }
+
+-- ---- What is written from a queue is due, and all of it where nothing is left
 
 due-queue : (sent taken left due : List ℕ) → sent ++ (taken ++ left) ≡ due → IsPrefixOf (sent ++ taken) due × (left ≡ [] → IsAll (sent ++ taken) due)
 due-queue sent taken left due is = (
@@ -111,17 +228,20 @@ due-queue sent taken left due is = (
   λ none. sym (append-nil (sent ++ taken)) ∙ ap (λ (xs : List ℕ). (sent ++ taken) ++ xs) (sym none) ∙ append_assoc sent taken left ∙ is,
 )
 
--- what is written from a queue is due, and all of it where nothing is left
-pub client-queue : (opened : LinkParameters) (link : ℕ) (end : EndState ClientState) (input : InputState) (taken left : List ℕ) (run : List Mark) →
-    ClientStandsFor opened link end input (taken ++ left) run →
-    IsPrefixOf (bytes_sent link Initiator run ++ taken) (output_due opened link Initiator run)
-    × (left ≡ [] → IsAll (bytes_sent link Initiator run ++ taken) (output_due opened link Initiator run))
-client-queue opened link end input taken left run s =
-    due-queue (bytes_sent link Initiator run) taken left (output_due opened link Initiator run) s.output
+due-out : (sent taken left due : List ℕ) → IsPrefixOf (sent ++ (taken ++ left)) due → IsPrefixOf (sent ++ taken) due
+due-out sent taken left due first = (
+  left ++ first.0,
+  sym (append_assoc (sent ++ taken) left first.0) ∙ ap (λ (xs : List ℕ). xs ++ first.0) (append_assoc sent taken left) ∙ first.1,
+)
 
-pub server-queue : (opened : LinkParameters) (link : ℕ) (end : EndState ServerState) (input : InputState) (taken left : List ℕ) (run : List Mark) →
-    ServerStandsFor opened link end input (taken ++ left) run →
-    IsPrefixOf (bytes_sent link Responder run ++ taken) (output_due opened link Responder run)
-    × (left ≡ [] → IsAll (bytes_sent link Responder run ++ taken) (output_due opened link Responder run))
-server-queue opened link end input taken left run s =
-    due-queue (bytes_sent link Responder run) taken left (output_due opened link Responder run) s.output
+pub client-queue : ClientQueueIsDue
+client-queue opened link kept input taken left run = (
+  λ s. due-queue (bytes_sent link Initiator run) taken left (output_due opened link Initiator run) s.output,
+  λ out. due-out (bytes_sent link Initiator run) taken left (output_due opened link Initiator run) out.1,
+)
+
+pub server-queue : ServerQueueIsDue
+server-queue opened link end ended input taken left run = (
+  λ s. due-queue (bytes_sent link Responder run) taken left (output_due opened link Responder run) s.output,
+  λ out. due-out (bytes_sent link Responder run) taken left (output_due opened link Responder run) out.1,
+)

@@ -37,7 +37,10 @@ pub mod Journal
 pub mod Undone
 pub mod PayloadLaws
 pub mod SoFar
+pub mod KeptCalls
+pub mod KeptClient
 pub mod Standing
+pub mod StandingLaws
 pub mod RunLaws
 pub mod DueItems
 pub mod OutputLaws

@@ -8,7 +8,7 @@ use Rattle.nr_wire.specs.Segment.{Segment}
 use Rattle.nr_wire.specs.Segment.Segment.{Tagged, Untagged}
 use Rattle.nr_link.specs.declared.end.End.{End}
 use Rattle.nr_link.specs.Frames.{Frame, is_hello}
-use Rattle.nr_link.specs.Output.{own_hello, send}
+use Rattle.nr_link.specs.Output.{send}
 use Rattle.nr_link.specs.Limits.{open_reads_max}
 use Rattle.nr_link.specs.ReceiveState.{message_completed}
 use Rattle.nr_header.specs.declared.header.ChunkLists.{ChunkLists}
@@ -20,7 +20,6 @@ use Rattle.nr_header.specs.Reading.{header_of, HeaderBad}
 use Rattle.nr_rpc.specs.declared.head.CallHead.{CallHead}
 use Rattle.nr_rpc.specs.Reading.{call_of, target_of}
 use Rattle.nr_reduce.specs.Holds.{Answer, answer_writes, answer_message, chunk_error, version_error}
-use Rattle.nr_link.specs.Input.{InputState, initial_input, input_of, input_after}
 use Rattle.nr_link.specs.Ending.{frame_segment, access_of}
 use Rattle.nr_regions.specs.Access.{Allowed, HaveOwnStags}
 use Rattle.nr_regions.specs.RegisteredMemory.{Access}
@@ -35,9 +34,9 @@ use Rattle.nr_reduce.specs.declared.mark.LinkParameters.{LinkParameters}
 use Rattle.nr_reduce.specs.declared.mark.Entry.{Entry}
 use Rattle.nr_reduce.specs.PlainJournal.{any_that_adds}
 use Rattle.nr_reduce.specs.Journal.{Journaled}
-use Rattle.nr_reduce.specs.History.{AcceptedCall, CompletedCall, accepted_calls, completed_calls, bytes_sent, bytes_received, written_at, fed_at, other}
+use Rattle.nr_reduce.specs.History.{AcceptedCall, CompletedCall, accepted_calls, completed_calls}
 use Rattle.nr_reduce.specs.Events.{Event, events_at, events}
-use Rattle.nr_reduce.specs.EndRules.{EndState, next_end_state, end_state_after, output_for, output_for_all, live}
+use Rattle.nr_reduce.specs.EndRules.{next_end_state, end_state_after, output_for, output_for_all, live}
 use Rattle.nr_reduce.specs.OfferedRegions.{region_grants}
 use Rattle.nr_reduce.specs.declared.outline.Plan.{Plan}
 use Rattle.nr_reduce.specs.Plans.{regions_needed, call_message, lists_of, inline_stream, has_segment, read_stag}
@@ -57,11 +56,10 @@ use Rattle.nr_rpc.specs.Credential.{CanWriteCred}
 use Rattle.nr_reduce.specs.Limits.{numbers_end}
 use Rattle.nr_reduce.specs.Credits.{calls_outstanding, credits_granted}
 use Rattle.nr_reduce.specs.SubmitAnswer.{submit_answer}
-use Rattle.nr_reduce.specs.Asked.{AskedSoFar, AskedMark, IsAccepted, IsAll}
+use Rattle.nr_reduce.specs.Asked.{AskedSoFar, AskedMark, IsAccepted}
 use Rattle.nr_reduce.specs.Served.{ServedSoFar, ServedMark, IsExecuted, next_call}
 use Rattle.nr_reduce.specs.Matched.{IsPrefixOf}
 use Rattle.nr_reduce.specs.SoFar.{SoFar, InFull}
-use Rattle.nr_reduce.specs.Standing.{input_events, ClientStandsFor, ServerStandsFor}
 use Rattle.nr_reduce.specs.PayloadLaws.{IsPlanned}
 use Rattle.nr_reduce.specs.Undone.{lists_by}
 use Rattle.nr_xdr.specs.Fields.{word_at}
@@ -187,47 +185,6 @@ AskedWithMark = (opened : LinkParameters) (link : ℕ) (run : List Mark) (mark :
 abbrev pub ServedWithMark : Type 0
 ServedWithMark = (opened : LinkParameters) (link : ℕ) (run : List Mark) (mark : Mark) → ServedSoFar opened link run → ServedMark IsPrefixOf opened link run mark →
     ServedSoFar opened link (run ++ mark ∷ [])
-
--- ---- What an end stands for
-
--- An end stands for no marks as it is opened: a client's queue has its hello.
-abbrev pub ClientBegins : Type 0
-ClientBegins = (opened : LinkParameters) (link : ℕ) → ClientStandsFor opened link (initial_client opened) (initial_input Responder) (own_hello Initiator) []
-
-abbrev pub ServerBegins : Type 0
-ServerBegins = (opened : LinkParameters) (link : ℕ) → ServerStandsFor opened link (initial_server opened) (initial_input Initiator) [] []
-
--- The events of a mark follow from the input that an end keeps.
-abbrev pub EventsOfInput : Type 0
-EventsOfInput = (link : ℕ) (side : Side) (run : List Mark) (mark : Mark) →
-    input_events link side (input_of (other side) (bytes_received link side run)) mark ≡ events_at link side run mark
-
--- One mark more: the end goes on by the events of the mark, and what is written and what is left are the queue and the output that
--- is due for them.
-abbrev pub ClientStandsOn : Type 0
-ClientStandsOn = (opened : LinkParameters) (link : ℕ) (end : EndState ClientState) (input : InputState) (queue left : List ℕ) (run : List Mark) (mark : Mark) →
-    ClientStandsFor opened link end input queue run →
-    written_at link Initiator mark ++ left ≡ queue ++ output_for_all (client_rules opened) end (input_events link Initiator input mark) →
-    ClientStandsFor opened link (end_state_after (client_rules opened) end (input_events link Initiator input mark)) (input_after input (fed_at link Initiator mark)) left (run ++ mark ∷ [])
-
-abbrev pub ServerStandsOn : Type 0
-ServerStandsOn = (opened : LinkParameters) (link : ℕ) (end : EndState ServerState) (input : InputState) (queue left : List ℕ) (run : List Mark) (mark : Mark) →
-    ServerStandsFor opened link end input queue run →
-    written_at link Responder mark ++ left ≡ queue ++ output_for_all (server_rules opened) end (input_events link Responder input mark) →
-    ServerStandsFor opened link (end_state_after (server_rules opened) end (input_events link Responder input mark)) (input_after input (fed_at link Responder mark)) left (run ++ mark ∷ [])
-
--- A prefix of the queue that is written keeps the law so far, and the whole queue keeps it in full.
-abbrev pub ClientQueueIsDue : Type 0
-ClientQueueIsDue = (opened : LinkParameters) (link : ℕ) (end : EndState ClientState) (input : InputState) (taken left : List ℕ) (run : List Mark) →
-    ClientStandsFor opened link end input (taken ++ left) run →
-    IsPrefixOf (bytes_sent link Initiator run ++ taken) (output_due opened link Initiator run)
-    × (left ≡ [] → IsAll (bytes_sent link Initiator run ++ taken) (output_due opened link Initiator run))
-
-abbrev pub ServerQueueIsDue : Type 0
-ServerQueueIsDue = (opened : LinkParameters) (link : ℕ) (end : EndState ServerState) (input : InputState) (taken left : List ℕ) (run : List Mark) →
-    ServerStandsFor opened link end input (taken ++ left) run →
-    IsPrefixOf (bytes_sent link Responder run ++ taken) (output_due opened link Responder run)
-    × (left ≡ [] → IsAll (bytes_sent link Responder run ++ taken) (output_due opened link Responder run))
 
 -- ---- Memory
 

@@ -30,6 +30,7 @@ mod reading;
 mod replying;
 mod run_laws;
 mod sequence;
+mod standing_laws;
 
 pub use call::{Call, Form, Lengths, Offer, Outcome, Refused, Submission};
 pub use comparing::answers_offer;
@@ -48,7 +49,11 @@ pub use reading::{is_read_chunk_of_item, item_position, total_at};
 pub use replying::{answer_lists, answer_message};
 pub use run_laws::{
     accepted_calls_keep_the_law, accesses_are_allowed, counts_go_by_bytes_sent, ended_ends_stay,
-    ends_stand_for_marks, laws_so_far, nothing_twice, one_mark_more, output_is_items, places_rise,
-    plans_are_accepted, sends_are_answered, submits_are_sent,
+    laws_so_far, nothing_twice, one_mark_more, output_is_items, places_rise, plans_are_accepted,
+    sends_are_answered, submits_are_sent,
 };
 pub use sequence::Sequence;
+pub use standing_laws::{
+    clients_keep_enough, ends_stand_for_marks, no_call_before_hello, pieces_in_parts,
+    stags_go_in_order,
+};

@@ -1,7 +1,7 @@
 //! Laws of runs: what both ends of a link cite, and what holds of every run.
 
 ghost use Rattle.nr_reduce.specs.OutputLaws.{ClientOutputIsItems, ClientBytes, ServerBytes, ClientCountsItems, WroteAddsNothing};
-ghost use Rattle.nr_reduce.specs.RunLaws.{ClientAfterMark, ServerAfterMark, ClientOutputAfterMark, ServerOutputAfterMark, EndedClientStays, EndedServerStays, FullHoldsSoFar, SoFarHoldsBefore, AskedWithMark, ServedWithMark, ClientBegins, ServerBegins, EventsOfInput, ClientStandsOn, ServerStandsOn, ClientQueueIsDue, ServerQueueIsDue, GrantsHaveOwnStags, ClientAllows, ServerAllows, StagsAreNumbers, AcceptedKeepsLaw, SubmitIsSent, HelloSendsCalls, AcceptedCallsWait, ReadChunkStays, PayloadHasItsXid, ReadyIsConveyed, PayloadIsConveyed, ExecuteIsAnswered, RefusedSendIsAnswered, BadMessageIsRefused, RefusedCallIsAnswered, RefusedIsNotExecuted, OpenReadsAreFew, PlanIsAccepted, SendIsExecutedOnce, CallCompletesOnce, XidsRise, PlacesRise};
+ghost use Rattle.nr_reduce.specs.RunLaws.{ClientAfterMark, ServerAfterMark, ClientOutputAfterMark, ServerOutputAfterMark, EndedClientStays, EndedServerStays, FullHoldsSoFar, SoFarHoldsBefore, AskedWithMark, ServedWithMark, GrantsHaveOwnStags, ClientAllows, ServerAllows, StagsAreNumbers, AcceptedKeepsLaw, SubmitIsSent, HelloSendsCalls, AcceptedCallsWait, ReadChunkStays, PayloadHasItsXid, ReadyIsConveyed, PayloadIsConveyed, ExecuteIsAnswered, RefusedSendIsAnswered, BadMessageIsRefused, RefusedCallIsAnswered, RefusedIsNotExecuted, OpenReadsAreFew, PlanIsAccepted, SendIsExecutedOnce, CallCompletesOnce, XidsRise, PlacesRise};
 
 /// One mark more: the state of an end, and the output due, are those before with the events of the mark.
 pub fn one_mark_more()
@@ -24,18 +24,6 @@ pub fn laws_so_far()
     ensures before { SoFarHoldsBefore }
     ensures asked { AskedWithMark }
     ensures served { ServedWithMark }
-{}
-
-/// What an end keeps stands for the marks of its link: as it is opened, and from mark to mark. What it writes from its
-/// queue is due.
-pub fn ends_stand_for_marks()
-    ensures client_begins { ClientBegins }
-    ensures server_begins { ServerBegins }
-    ensures events { EventsOfInput }
-    ensures client { ClientStandsOn }
-    ensures server { ServerStandsOn }
-    ensures client_queue { ClientQueueIsDue }
-    ensures server_queue { ServerQueueIsDue }
 {}
 
 /// No two regions that a side offers have one STag. Whatever bytes a peer sends, an access that isn't allowed ends the

@@ -1,0 +1,145 @@
+-- Until a server has received its client's hello no call waits.
+use Rattle.std.proofs.Common.{◌≡◌, ℕ, ◌&&◌, not, Bool, true, false, cond, eqb, List, [], ◌∷◌, ◌++◌, length, drop, map, Option, None, refl, sym, ap, subst, ◌∙◌, append_assoc, append-nil}
+use Rattle.std.specs.List.{filter, AllByRecursion}
+use Rattle.std.proofs.lemmas.Grind.{flat_map-append}
+use Rattle.nr_wire.specs.declared.hello.Side.{Side}
+use Rattle.nr_wire.specs.declared.hello.Side.TheVariants.{Initiator, Responder}
+use Rattle.nr_wire.specs.declared.stream.Awaited.{Awaited}
+use Rattle.nr_wire.specs.declared.stream.Awaited.TheVariants.{Hello as HelloFrom}
+use Rattle.nr_wire.specs.Stream.{awaited_after}
+use Rattle.nr_link.specs.Frames.{Frame, frames_from, frames_completed}
+use Rattle.nr_link.specs.Input.{InputState, input_of, input_split}
+use Rattle.nr_link.proofs.Inputs.{input_of-append, input_of-frames}
+use Rattle.nr_reduce.specs.declared.call.Submission.TheVariants as submissions
+use Rattle.nr_reduce.specs.declared.mark.Mark.{Mark}
+use Rattle.nr_reduce.specs.declared.mark.Mark.TheVariants as marks
+use Rattle.nr_reduce.specs.declared.mark.LinkParameters.{LinkParameters}
+use Rattle.nr_reduce.specs.History.{bytes_received, fed_at, same_side}
+use Rattle.nr_reduce.specs.Events.{Event, if_own, events_at, events}
+use Rattle.nr_reduce.specs.Events.Event.{FrameReceived, CallSubmitted, MemoryRevoked, CallExecuted, QueueWritten}
+use Rattle.nr_reduce.specs.EndRules.{EndState, next_end_state, end_state_after}
+use Rattle.nr_reduce.specs.ServerState.{PendingCall, ReadyCall, ServerState}
+use Rattle.nr_reduce.specs.Server.{server_rules, server_end, server_state_after}
+use Rattle.nr_reduce.specs.Run.{server}
+use Rattle.nr_reduce.specs.StandingLaws.{IsUnasked, NoCallBeforeHello}
+use Rattle.nr_reduce.proofs.Steps.{server-one}
+use Rattle.nr_reduce.proofs.Standing.{received-one}
+
+-- ---- A stream of which a hello is awaited has no whole frame
+
+no-frames : (a : Awaited) (frames : List (List ℕ)) (peer : Side) → awaited_after a frames ≡ HelloFrom peer → (a ≡ HelloFrom peer) × (frames ≡ [])
+no-frames a [] peer e = (e, refl)
+no-frames a (x ∷ frames) peer e = absurd cc
+
+record IsEarlier (peer : Side) (x y : List ℕ) : Type 0 where
+  before : (input_of peer x).awaited ≡ HelloFrom peer
+  none : frames_completed peer x y ≡ []
+
+earlier : (peer : Side) (x y : List ℕ) → (input_of peer (x ++ y)).awaited ≡ HelloFrom peer → IsEarlier peer x y
+earlier peer x y e =
+    let p = no-frames (input_of peer x).awaited (input_split (input_of peer x) y).frames peer (ap (λ (i : InputState). i.awaited) (sym (input_of-append peer x y)) ∙ e) in
+    record {
+      before = p.0;
+      none = sym (input_of-frames peer x y) ∙ ap (λ (frames : List (List ℕ)). frames_from (input_of peer x).place frames) p.1;
+    }
+
+-- ---- Events without a frame
+
+abbrev IsQuiet : EndState ServerState → Type 0
+IsQuiet e = (e.ended ≡ None) × IsUnasked e.state
+
+abbrev BringsNoFrame : Event → Type 0
+BringsNoFrame (FrameReceived f) = ⊥
+BringsNoFrame (CallSubmitted place a) = Unit {0}
+BringsNoFrame (MemoryRevoked place xid) = Unit {0}
+BringsNoFrame (CallExecuted call) = Unit {0}
+BringsNoFrame (QueueWritten taken) = Unit {0}
+
+unasked-after : (opened : LinkParameters) (k : ServerState) (event : Event) → BringsNoFrame event → IsUnasked k → IsUnasked (server_state_after opened k event)
+unfolding server_state_after
+unasked-after opened k (FrameReceived f) none u = absurd none
+unasked-after opened k (CallSubmitted place a) none u = u
+unasked-after opened k (MemoryRevoked place xid) none u = u
+unasked-after opened k (CallExecuted call) none u = record {
+  received = u.received;
+  calls = ap (λ (calls : List PendingCall). filter (λ c. not (eqb c.xid call.xid)) calls) u.calls;
+  reads = u.reads;
+  ready = ap (λ (ready : List ReadyCall). drop 1 ready) u.ready;
+  regions = u.regions;
+}
+unasked-after opened k (QueueWritten taken) none u = record { received = u.received; calls = u.calls; reads = u.reads; ready = u.ready; regions = u.regions }
+
+lives-after : (opened : LinkParameters) (k : ServerState) (event : Event) → BringsNoFrame event → server_end opened k event ≡ None
+unfolding server_end
+lives-after opened k (FrameReceived f) none = absurd none
+lives-after opened k (CallSubmitted place a) none = refl
+lives-after opened k (MemoryRevoked place xid) none = refl
+lives-after opened k (CallExecuted call) none = refl
+lives-after opened k (QueueWritten taken) none = refl
+
+quiet-event : (opened : LinkParameters) (e : EndState ServerState) (event : Event) → BringsNoFrame event → IsQuiet e → IsQuiet (next_end_state (server_rules opened) e event)
+quiet-event opened e event none q =
+    let lives = lives-after opened e.state event none in
+    let rules = server_rules opened in
+    let step : next_end_state rules e event ≡ record { state = server_state_after opened e.state event; ended = None } =
+    ap (λ (x : Option Rattle.nr_link.specs.declared.end.End.End). Rattle.nr_reduce.specs.EndRules.next_end_state_in rules e.state event x) q.0
+    ∙ ap (λ (x : Option Rattle.nr_link.specs.declared.end.End.End). Rattle.nr_reduce.specs.EndRules.next_end_state_by rules e.state event x) lives in
+    subst IsQuiet (sym step) (refl, unasked-after opened e.state event none q.1)
+
+quiet-events : (opened : LinkParameters) (e : EndState ServerState) (es : List Event) → AllByRecursion BringsNoFrame es → IsQuiet e → IsQuiet (end_state_after (server_rules opened) e es)
+quiet-events opened e [] none q = q
+quiet-events opened e (event ∷ es) none q = quiet-events opened (next_end_state (server_rules opened) e event) es none.1 (quiet-event opened e event none.0 q)
+
+-- ---- The events of a mark
+
+own-none : (b : Bool) (es : List Event) → AllByRecursion BringsNoFrame es → AllByRecursion BringsNoFrame (if_own b es)
+own-none true es h = h
+own-none false es h = tt
+
+mark-brings : (link : ℕ) (run : List Mark) (mark : Mark) → frames_completed Initiator (bytes_received link Responder run) (fed_at link Responder mark) ≡ [] → AllByRecursion BringsNoFrame (events_at link Responder run mark)
+mark-brings link run (marks.Fed l s bytes) none = by (eqb l link && same_side s Responder) none
+  where
+    by : (b : Bool) → frames_completed Initiator (bytes_received link Responder run) (cond b bytes []) ≡ [] →
+        AllByRecursion BringsNoFrame (if_own b (map FrameReceived (frames_completed Initiator (bytes_received link Responder run) bytes)))
+    by true e = subst (λ (frames : List Frame). AllByRecursion BringsNoFrame (map FrameReceived frames)) (sym e) tt
+    by false e = tt
+mark-brings link run (marks.Wrote l s bytes) none = own-none (eqb l link && same_side s Responder) (QueueWritten (length bytes) ∷ []) (tt, tt)
+mark-brings link run (marks.Submit l call form (submissions.Accepted xid)) none = own-none (eqb l link && same_side Initiator Responder) _ (tt, tt)
+mark-brings link run (marks.Submit l call form (submissions.Refused why)) none = tt
+mark-brings link run (marks.Submit l call form submissions.Dropped) none = tt
+mark-brings link run (marks.Execute l xid moment payload place reply) none = own-none (eqb l link && same_side Responder Responder) _ (tt, tt)
+mark-brings link run (marks.Revoke l xid bytes) none = own-none (eqb l link && same_side Initiator Responder) _ (tt, tt)
+mark-brings link run (marks.Done l xid outcome) none = tt
+mark-brings link run (marks.Lost l xid) none = tt
+mark-brings link run (marks.Forget l xid) none = tt
+mark-brings link run (marks.Drop l) none = tt
+
+quiet-mark : (opened : LinkParameters) (link : ℕ) (run : List Mark) (mark : Mark) → (input_of Initiator (bytes_received link Responder (run ++ mark ∷ []))).awaited ≡ HelloFrom Initiator →
+    IsQuiet (server opened link run) → IsQuiet (server opened link (run ++ mark ∷ []))
+quiet-mark opened link run mark e q =
+    let p = earlier Initiator (bytes_received link Responder run) (fed_at link Responder mark) (ap (λ (stream : List ℕ). (input_of Initiator stream).awaited) (sym (received-one link Responder run mark)) ∙ e) in
+    subst IsQuiet (sym (server-one opened link run mark)) (quiet-events opened (server opened link run) (events_at link Responder run mark) (mark-brings link run mark p.none) q)
+
+received-parts : (link : ℕ) (side : Side) (run more : List Mark) → bytes_received link side (run ++ more) ≡ bytes_received link side run ++ bytes_received link side more
+unfolding bytes_received
+received-parts link side run more = flat_map-append (fed_at link side) run more
+
+awaits-before : (link : ℕ) (run more : List Mark) → (input_of Initiator (bytes_received link Responder (run ++ more))).awaited ≡ HelloFrom Initiator → (input_of Initiator (bytes_received link Responder run)).awaited ≡ HelloFrom Initiator
+awaits-before link run more e =
+    (earlier Initiator (bytes_received link Responder run) (bytes_received link Responder more) (ap (λ (stream : List ℕ). (input_of Initiator stream).awaited) (sym (received-parts link Responder run more)) ∙ e)).before
+
+quiet-from : (opened : LinkParameters) (link : ℕ) (before run : List Mark) → (input_of Initiator (bytes_received link Responder (before ++ run))).awaited ≡ HelloFrom Initiator →
+    IsQuiet (server opened link before) → IsQuiet (server opened link (before ++ run))
+quiet-from opened link before [] e q = subst (λ (run : List Mark). IsQuiet (server opened link run)) (sym (append-nil before)) q
+quiet-from opened link before (mark ∷ run) e q =
+    let same : (before ++ mark ∷ []) ++ run ≡ before ++ mark ∷ run = append_assoc before (mark ∷ []) run in
+    let all : (input_of Initiator (bytes_received link Responder ((before ++ mark ∷ []) ++ run))).awaited ≡ HelloFrom Initiator = ap (λ (r : List Mark). (input_of Initiator (bytes_received link Responder r)).awaited) same ∙ e in
+    subst (λ (r : List Mark). IsQuiet (server opened link r)) same
+    (quiet-from opened link (before ++ mark ∷ []) run all (quiet-mark opened link before mark (awaits-before link (before ++ mark ∷ []) run all) q))
+
+begins-quiet : (opened : LinkParameters) (link : ℕ) → IsQuiet (server opened link [])
+unfolding server events
+begins-quiet opened link = (refl, record { received = refl; calls = refl; reads = refl; ready = refl; regions = refl })
+
+pub no-call-before-hello : NoCallBeforeHello
+no-call-before-hello opened link run e = quiet-from opened link [] run e (begins-quiet opened link)

@@ -1,0 +1,81 @@
+-- What a client keeps of its outstanding calls, and what it makes of a message by them.
+use Rattle.std.specs.Prelude.{◌≡◌, ℕ, Bool, true, false, ◌&&◌, ◌==◌, List, [], ◌∷◌, map, drop, Option, None, Some, is_none, IfSome, Result, Ok, Err}
+use Rattle.std.specs.List.{find}
+use Rattle.nr_header.specs.declared.fault.HeaderFault.{HeaderFault}
+use Rattle.nr_header.specs.declared.fault.HeaderFault.TheVariants as faults
+use Rattle.nr_header.specs.declared.header.ChunkLists.{ChunkLists}
+use Rattle.nr_header.specs.declared.header.Body.{Body}
+use Rattle.nr_header.specs.declared.header.Body.TheVariants.{Msg, Nomsg, ErrVers, ErrChunk}
+use Rattle.nr_header.specs.declared.header.Header.{Header}
+use Rattle.nr_header.specs.Reading.{header_of}
+use Rattle.nr_link.specs.Reasons.{REASON_SHORT, REASON_KIND, REASON_CALL, REASON_CHUNKS, REASON_VERSION}
+use Rattle.nr_reduce.specs.declared.call.Call.{Call}
+use Rattle.nr_reduce.specs.declared.call.Outcome.TheVariants as outcomes
+use Rattle.nr_reduce.specs.Plans.{Buffer, buffers, lists_of}
+use Rattle.nr_reduce.specs.Chunks.{Bytes, answers_offer, reply_conveyed}
+use Rattle.nr_reduce.specs.ClientState.{OutstandingCall, ClientState, is_sent}
+use Rattle.nr_reduce.specs.ClientMessages.{Verdict, by_payload}
+use Rattle.nr_reduce.specs.ClientMessages.Verdict.{EndsLink, GivesOutcome}
+
+-- A call that is outstanding: whether its Send has wholly left; the call, until its memory is revoked; the lists that its reply has to
+-- repeat; the STags of its regions, in the order in which they were offered, and none once they are released.
+pub record KeptCall : Type 0 where
+  pub xid : ℕ
+  pub is_sent : Bool
+  pub call : Option Call
+  pub offered : ChunkLists
+  pub stags : List ℕ
+
+abbrev pub stags_unless : Bool → List Buffer → List ℕ
+stags_unless true bs = []
+stags_unless false bs = map (λ b. b.stag) bs
+
+-- it is kept of this call of a client in this state
+pub record IsKept (k : ClientState) (c : KeptCall) (o : OutstandingCall) : Type 0 where
+  pub xid : c.xid ≡ o.xid
+  pub sent : c.is_sent ≡ is_sent k o
+  pub revoked : is_none c.call ≡ o.is_revoked
+  pub call : IfSome c.call (λ call. call ≡ o.call)
+  pub write : c.offered.write ≡ (lists_of o.stag o.plan).write
+  pub reply : c.offered.reply ≡ (lists_of o.stag o.plan).reply
+  pub stags : c.stags ≡ stags_unless o.is_revoked (buffers o.stag o.plan)
+
+abbrev pub AreKept : ClientState → List KeptCall → List OutstandingCall → Type 0
+AreKept k [] [] = Unit {0}
+AreKept k [] (o ∷ os) = ⊥
+AreKept k (c ∷ cs) [] = ⊥
+AreKept k (c ∷ cs) (o ∷ os) = IsKept k c o × AreKept k cs os
+
+-- ---- What is made of a message, by the bytes that memory holds under an STag
+
+abbrev pub kept_payload : ℕ → Option Call → Option (List ℕ) → ChunkLists → Bytes → Verdict
+kept_payload xid None inline lists memory = GivesOutcome xid None
+kept_payload xid (Some call) inline lists memory = by_payload xid (reply_conveyed call.prog call.vers call.proc inline lists memory)
+
+abbrev pub kept_lists : KeptCall → Option (List ℕ) → ChunkLists → Bytes → Bool → Verdict
+kept_lists c inline lists memory false = EndsLink REASON_CHUNKS
+kept_lists c inline lists memory true = kept_payload c.xid c.call inline lists memory
+
+abbrev pub kept_body : KeptCall → Bytes → List ℕ → Body → Verdict
+kept_body c memory message (Msg lists stream_at) = kept_lists c (Some (drop stream_at message)) lists memory (answers_offer false c.offered lists)
+kept_body c memory message (Nomsg lists) = kept_lists c None lists memory (answers_offer true c.offered lists)
+kept_body c memory message (ErrVers version low high) = GivesOutcome c.xid (Some (outcomes.Version low high))
+kept_body c memory message (ErrChunk version) = GivesOutcome c.xid (Some outcomes.Chunk)
+
+abbrev pub kept_call : Bytes → List ℕ → Body → Option KeptCall → Verdict
+kept_call memory message body None = EndsLink REASON_CALL
+kept_call memory message body (Some c) = kept_body c memory message body
+
+-- the call that a message with this xid answers
+abbrev pub kept_by : List KeptCall → ℕ → Option KeptCall
+kept_by calls xid = find (λ c. c.xid == xid && c.is_sent) calls
+
+abbrev pub kept_header : List KeptCall → Bytes → List ℕ → Result Header HeaderFault → Verdict
+kept_header calls memory message (Ok header) = kept_call memory message header.body (kept_by calls header.xid)
+kept_header calls memory message (Err faults.Short) = EndsLink REASON_SHORT
+kept_header calls memory message (Err (faults.Version version)) = EndsLink REASON_VERSION
+kept_header calls memory message (Err (faults.Kind kind)) = EndsLink REASON_KIND
+kept_header calls memory message (Err (faults.BadChunks at)) = EndsLink REASON_KIND
+
+unfoldable pub kept_verdict : List KeptCall → Bytes → List ℕ → Verdict
+kept_verdict calls memory message = kept_header calls memory message (header_of message)

@@ -1,0 +1,169 @@
+-- What a client keeps, and the state that it is enough for: of regions, accesses and outcomes of the past it keeps nothing but what its
+-- registered memory holds.
+use Rattle.std.specs.Prelude.{◌≡◌, ℕ, ◌+◌, ◌-◌, ◌<◌, ◌⊎◌, ◌==◌, nat_lt, Bool, true, false, not, List, [], ◌∷◌, ◌++◌, map, Option, None, Some}
+use Rattle.std.specs.List.{AllByRecursion, filter, find}
+use Rattle.nr_regions.specs.RegisteredMemory.{RegisteredMemory, initial_memory, live_region, after_register, after_release, bytes_in}
+use Rattle.nr_regions.specs.Access.{TaggedSegment}
+use Rattle.nr_regions.specs.Events.{after_event}
+use Rattle.nr_regions.specs.Events.Event.{Arrive}
+use Rattle.nr_link.specs.declared.end.End.{End}
+use Rattle.nr_reduce.specs.declared.call.Call.{Call}
+use Rattle.nr_reduce.specs.declared.outline.Plan.{Plan}
+use Rattle.nr_reduce.specs.Plans.{Buffer, buffers, lists_of}
+use Rattle.nr_reduce.specs.declared.mark.LinkParameters.{LinkParameters}
+use Rattle.nr_reduce.specs.OfferedRegions.{Region}
+use Rattle.nr_reduce.specs.OfferedMemory.{region_at, AreOffered, AreReceived, HoldsRegions}
+use Rattle.nr_reduce.specs.EndRules.{EndState}
+use Rattle.nr_reduce.specs.ClientState.{ClientState, memory_at}
+use Rattle.nr_reduce.specs.Client.{credits_of_word}
+use Rattle.nr_reduce.specs.SubmitAnswer.{next_xid}
+use Rattle.nr_xdr.specs.Fields.{word_at}
+use Rattle.nr_reduce.specs.KeptCalls.{KeptCall, AreKept}
+
+-- why the client ended, once it has; the xid that it gives next; the credits that are granted; the outstanding calls, in the order of
+-- their Submits; its registered memory
+pub record KeptClient : Type 0 where
+  pub ended : Option End
+  pub next_xid : ℕ
+  pub grant : ℕ
+  pub calls : List KeptCall
+  pub memory : RegisteredMemory
+
+-- the bytes under an STag
+abbrev pub bytes_under : RegisteredMemory → ℕ → List ℕ
+bytes_under m stag = bytes_in (live_region m stag)
+
+-- every region has an STag below this
+abbrev pub AreBelow : List Region → ℕ → Type 0
+AreBelow regions next = (stag : ℕ) (r : Region) → region_at regions stag ≡ Some r → stag < next
+
+-- ---- The calls, and the regions that are theirs
+
+abbrev pub IsAmong : {X : Type 0} → X → List X → Type 0
+IsAmong x [] = ⊥
+IsAmong x (y ∷ ys) = (y ≡ x) ⊎ IsAmong x ys
+
+-- the kept call whose region is open under an STag
+pub record IsOwned (calls : List KeptCall) (xid stag : ℕ) : Type 0 where
+  pub call : KeptCall
+  pub there : IsAmong call calls
+  pub xid_is : call.xid ≡ xid
+  pub own : IsAmong stag call.stags
+
+-- the open region under an STag of a kept call
+pub record IsOpen (regions : List Region) (xid stag : ℕ) : Type 0 where
+  pub region : Region
+  pub there : region_at regions stag ≡ Some region
+  pub is_open : region.until ≡ None
+  pub own : region.call ≡ xid
+
+-- the calls come in the order of their xids, all of which are below this
+abbrev pub AreRising : List KeptCall → ℕ → Type 0
+AreRising [] below = Unit {0}
+AreRising (c ∷ cs) below = (c.xid < below) × (AllByRecursion (λ d. c.xid < d.xid) cs × AreRising cs below)
+
+abbrev pub OpensFor : List Region → KeptCall → Type 0
+OpensFor regions c = AllByRecursion (λ stag. IsOpen regions c.xid stag) c.stags
+
+-- each kept call is an outstanding one, and the open regions are those of the kept calls
+pub record CallsKeep (calls : List KeptCall) (next : ℕ) (k : ClientState) : Type 0 where
+  pub kept : AreKept k calls k.outstanding
+  pub rising : AreRising calls next
+  pub owned : (stag : ℕ) (r : Region) → region_at k.regions stag ≡ Some r → r.until ≡ None → IsOwned calls r.call stag
+  pub opens : AllByRecursion (OpensFor k.regions) calls
+
+-- the memory holds just the open regions, after `count` bytes were received; each has an STag that was given
+pub record MemoryKeeps (m : RegisteredMemory) (k : ClientState) (count : ℕ) : Type 0 where
+  pub next : m.next ≡ k.stag
+  pub offered : AreOffered count k.regions
+  pub holds : HoldsRegions k.regions k.accesses_received count m
+  pub below : AreBelow k.regions k.stag
+
+-- the memory has under each STag of a call what the client's region holds
+abbrev pub HoldsFor : RegisteredMemory → ClientState → ℕ → KeptCall → Type 0
+HoldsFor m k count c = AllByRecursion (λ stag. bytes_under m stag ≡ memory_at k count stag) c.stags
+
+-- It is kept of a client in this state, after `count` bytes were received. Of a client that has ended nothing counts but why, and what
+-- the memory of its calls holds.
+pub record ClientKeeps (opened : LinkParameters) (kept : KeptClient) (e : EndState ClientState) (count : ℕ) : Type 0 where
+  pub ended : kept.ended ≡ e.ended
+  pub xid : kept.next_xid ≡ next_xid opened e.state
+  pub grant : e.ended ≡ None → kept.grant ≡ e.state.grant
+  pub calls : e.ended ≡ None → CallsKeep kept.calls kept.next_xid e.state
+  pub memory : e.ended ≡ None → MemoryKeeps kept.memory e.state count
+  pub rising : AreRising kept.calls kept.next_xid
+  pub opens : AllByRecursion (OpensFor e.state.regions) kept.calls
+  pub accesses : AreReceived count e.state.accesses_received
+  pub holds : AllByRecursion (HoldsFor kept.memory e.state count) kept.calls
+
+-- a client as it is opened
+abbrev pub opened_client : LinkParameters → KeptClient
+opened_client opened = record { ended = None; next_xid = opened.first_xid; grant = 1; calls = []; memory = initial_memory opened.first_stag }
+
+-- ---- What it keeps once regions are released
+
+abbrev pub released_all : RegisteredMemory → List ℕ → RegisteredMemory
+released_all m [] = m
+released_all m (stag ∷ stags) = released_all (after_release m stag) stags
+
+-- the STags of the call of an xid
+abbrev pub stags_in : Option KeptCall → List ℕ
+stags_in None = []
+stags_in (Some c) = c.stags
+
+abbrev pub stags_for : ℕ → List KeptCall → List ℕ
+stags_for xid calls = stags_in (find (λ c. c.xid == xid) calls)
+
+abbrev pub without : ℕ → List KeptCall → List KeptCall
+without xid calls = filter (λ c. not (c.xid == xid)) calls
+
+-- the memory of a call is revoked: its regions are released, and the call is handed back
+abbrev pub revoked_if : Bool → KeptCall → KeptCall
+revoked_if true c = record { xid = c.xid; is_sent = c.is_sent; call = None; offered = c.offered; stags = [] }
+revoked_if false c = c
+
+abbrev pub revoked_kept : ℕ → KeptCall → KeptCall
+revoked_kept xid c = revoked_if (c.xid == xid) c
+
+unfoldable pub kept_revoked : KeptClient → ℕ → KeptClient
+kept_revoked kept xid = record kept {
+  calls = map (revoked_kept xid) kept.calls;
+  memory = released_all kept.memory (stags_for xid kept.calls);
+}
+
+-- a message of an xid ends its call: its regions are released, and it isn't outstanding any more
+unfoldable pub kept_completed : KeptClient → List ℕ → KeptClient
+kept_completed kept message = record kept {
+  grant = credits_of_word (word_at 8 message);
+  calls = without (word_at 0 message) kept.calls;
+  memory = released_all kept.memory (stags_for (word_at 0 message) kept.calls);
+}
+
+-- ---- What it keeps after other events
+
+-- an RDMA Write, or another access of the peer, is placed if it is allowed
+unfoldable pub kept_placed : KeptClient → TaggedSegment → KeptClient
+kept_placed kept access = record kept { memory = after_event kept.memory (Arrive access) }
+
+-- the first Sends, this many, have wholly left
+abbrev pub sent_kept : (first sent : ℕ) → KeptCall → KeptCall
+sent_kept first sent c = record c { is_sent = nat_lt (c.xid - first) sent }
+
+unfoldable pub kept_sent : (first sent : ℕ) → KeptClient → KeptClient
+kept_sent first sent kept = record kept { calls = map (sent_kept first sent) kept.calls }
+
+-- memory with these regions too
+abbrev pub registered_all : RegisteredMemory → List Buffer → RegisteredMemory
+registered_all m [] = m
+registered_all m (b ∷ bs) = registered_all (after_register m b.right b.bytes) bs
+
+-- a call is accepted under the next xid, by this plan
+abbrev pub kept_of : ℕ → Call → Plan → ℕ → KeptCall
+kept_of xid call plan stag = record { xid = xid; is_sent = false; call = Some call; offered = lists_of stag plan; stags = map (λ b. b.stag) (buffers stag plan) }
+
+unfoldable pub kept_submitted : KeptClient → Call → Plan → KeptClient
+kept_submitted kept call plan = record kept {
+  next_xid = kept.next_xid + 1;
+  calls = kept.calls ++ kept_of kept.next_xid call plan kept.memory.next ∷ [];
+  memory = registered_all kept.memory (buffers kept.memory.next plan);
+}

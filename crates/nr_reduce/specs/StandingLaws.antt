@@ -1,0 +1,231 @@
+-- The marks that an end stands for, one mark more, and what a client keeps that is enough for it.
+use Rattle.std.specs.Prelude.{◌≡◌, ℕ, ◌+◌, ◌-◌, ◌<◌, ◌≤◌, nat_le, if◌then◌else◌, List, [], ◌∷◌, ◌++◌, length, map, take, drop, Option, None, Some, Result, Ok, Err}
+use Rattle.nr_wire.specs.declared.hello.Side.{Side}
+use Rattle.nr_wire.specs.declared.hello.Side.TheVariants.{Initiator, Responder}
+use Rattle.nr_wire.specs.declared.stream.Awaited.TheVariants.{Hello as HelloFrom}
+use Rattle.nr_regions.specs.declared.right.Right.TheVariants.{Fetch}
+use Rattle.std.specs.List.{AllByRecursion}
+use Rattle.nr_regions.specs.RegisteredMemory.{denial}
+use Rattle.nr_regions.specs.Access.{TaggedSegment}
+use Rattle.nr_reduce.specs.Written.{ends_left}
+use Rattle.nr_link.specs.declared.end.End.{End}
+use Rattle.nr_link.specs.declared.end.End.TheVariants as ends
+use Rattle.nr_link.specs.Output.{own_hello, read_response}
+use Rattle.nr_link.specs.Input.{InputState, input_of, initial_input, input_count, input_frames, input_after}
+use Rattle.nr_link.specs.ReceiveState.{ReadRequest, nothing_received}
+use Rattle.nr_reduce.specs.declared.call.Call.{Call}
+use Rattle.nr_reduce.specs.declared.call.Form.{Form}
+use Rattle.nr_reduce.specs.declared.call.Refused.TheVariants as refusals
+use Rattle.nr_reduce.specs.declared.call.Submission.{Submission}
+use Rattle.nr_reduce.specs.declared.call.Submission.TheVariants as submissions
+use Rattle.nr_reduce.specs.declared.mark.Mark.{Mark}
+use Rattle.nr_reduce.specs.declared.mark.LinkParameters.{LinkParameters}
+use Rattle.nr_reduce.specs.declared.outline.Plan.{Plan}
+use Rattle.nr_reduce.specs.Limits.{numbers_end, send_max}
+use Rattle.nr_reduce.specs.Plans.{TooLarge, regions_needed, buffers, plan_of}
+use Rattle.nr_reduce.specs.History.{AcceptedCall, bytes_sent, bytes_received, written_at, fed_at, other}
+use Rattle.nr_reduce.specs.Events.{events_at}
+use Rattle.nr_reduce.specs.Events.Event.{CallSubmitted, MemoryRevoked, QueueWritten}
+use Rattle.nr_reduce.specs.EndRules.{Rules, EndState, live, next_end_state, end_state_after, output_for_all}
+use Rattle.nr_reduce.specs.ClientState.{ClientState, call_payload, plan_for}
+use Rattle.nr_reduce.specs.OfferedRegions.{Region}
+use Rattle.nr_reduce.specs.Client.{client_rules, response_output, region_of, with_message, with_hello, call_ends, submitted_ends}
+use Rattle.nr_reduce.specs.ClientMessages.{verdict}
+use Rattle.nr_reduce.specs.ServerState.{ServerState}
+use Rattle.nr_reduce.specs.Server.{server_rules, initial_server}
+use Rattle.nr_reduce.specs.Run.{client, server, output_due}
+use Rattle.nr_reduce.specs.SubmitAnswer.{unless_spent, submit_answer}
+use Rattle.nr_reduce.specs.Matched.{IsPrefixOf}
+use Rattle.nr_reduce.specs.Asked.{IsAll}
+use Rattle.nr_reduce.specs.KeptCalls.{kept_verdict}
+use Rattle.nr_reduce.specs.KeptClient.{KeptClient, ClientKeeps, bytes_under, opened_client, kept_revoked, kept_completed, kept_placed, kept_sent, kept_submitted}
+use Rattle.nr_reduce.specs.Standing.{input_events, ClientStandsFor, ClientRunsOut, ServerStandsFor, ServerRunsOut}
+
+-- An end stands for no marks as it is opened: a client's queue has its hello.
+abbrev pub ClientBegins : Type 0
+ClientBegins = (opened : LinkParameters) (link : ℕ) → ClientStandsFor opened link (opened_client opened) (initial_input Responder) (own_hello Initiator) []
+
+abbrev pub ServerBegins : Type 0
+ServerBegins = (opened : LinkParameters) (link : ℕ) → ServerStandsFor opened link (initial_server opened) (initial_input Initiator) [] []
+
+-- The events of a mark follow from the input that an end keeps.
+abbrev pub EventsOfInput : Type 0
+EventsOfInput = (link : ℕ) (side : Side) (run : List Mark) (mark : Mark) →
+    input_events link side (input_of (other side) (bytes_received link side run)) mark ≡ events_at link side run mark
+
+-- ---- One mark more
+
+-- For this end, after `count` bytes were received, what is kept next keeps what its state after a mark asks for, and what is written
+-- at the mark and what is left are the queue and the output that is due for it.
+pub record GoesOn {K S : Type 0} (Keeps : K → EndState S → ℕ → Type 0) (rules : Rules S) (link : ℕ) (side : Side) (next : K) (input : InputState) (queue left : List ℕ) (mark : Mark) (e : EndState S) (count : ℕ) : Type 0 where
+  pub keeps : Keeps next (end_state_after rules e (input_events link side input mark)) (count + length (fed_at link side mark))
+  pub output : written_at link side mark ++ left ≡ queue ++ output_for_all rules e (input_events link side input mark)
+
+-- A client goes on from mark to mark if what it keeps goes on for each client that it is kept of. Once it has ended its input
+-- doesn't matter.
+abbrev pub ClientStandsOn : Type 0
+ClientStandsOn = (opened : LinkParameters) (link : ℕ) (kept next : KeptClient) (input next_input : InputState) (queue left : List ℕ) (run : List Mark) (mark : Mark) →
+    ClientStandsFor opened link kept input queue run →
+    ((e : EndState ClientState) (count : ℕ) → ClientKeeps opened kept e count → (e.ended ≡ None → input_count input ≡ count) →
+    GoesOn (ClientKeeps opened) (client_rules opened) link Initiator next input queue left mark e count) →
+    (next.ended ≡ None → next_input ≡ input_after input (fed_at link Initiator mark)) →
+    ClientStandsFor opened link next next_input left (run ++ mark ∷ [])
+
+-- A server goes on by the events of the mark.
+abbrev pub ServerStandsOn : Type 0
+ServerStandsOn = (opened : LinkParameters) (link : ℕ) (end : EndState ServerState) (input next_input : InputState) (queue left : List ℕ) (run : List Mark) (mark : Mark) →
+    ServerStandsFor opened link end input queue run →
+    written_at link Responder mark ++ left ≡ queue ++ output_for_all (server_rules opened) end (input_events link Responder input mark) →
+    ((end_state_after (server_rules opened) end (input_events link Responder input mark)).ended ≡ None → next_input ≡ input_after input (fed_at link Responder mark)) →
+    ServerStandsFor opened link (end_state_after (server_rules opened) end (input_events link Responder input mark)) next_input left (run ++ mark ∷ [])
+
+-- It runs out of memory at a mark: what is written at it and what is left are the first bytes of the queue and of the output that is due
+-- for it.
+abbrev pub ClientRunsOutAt : Type 0
+ClientRunsOutAt = (opened : LinkParameters) (link : ℕ) (kept next : KeptClient) (input : InputState) (queue left : List ℕ) (run : List Mark) (mark : Mark) →
+    ClientStandsFor opened link kept input queue run →
+    ((e : EndState ClientState) (count : ℕ) → ClientKeeps opened kept e count → (e.ended ≡ None → input_count input ≡ count) →
+    IsPrefixOf (written_at link Initiator mark ++ left) (queue ++ output_for_all (client_rules opened) e (input_events link Initiator input mark))) →
+    next.ended ≡ Some ends.Memory → ClientRunsOut opened link next left (run ++ mark ∷ [])
+
+abbrev pub ServerRunsOutAt : Type 0
+ServerRunsOutAt = (opened : LinkParameters) (link : ℕ) (end : EndState ServerState) (input : InputState) (queue left : List ℕ) (run : List Mark) (mark : Mark) →
+    ServerStandsFor opened link end input queue run →
+    IsPrefixOf (written_at link Responder mark ++ left) (queue ++ output_for_all (server_rules opened) end (input_events link Responder input mark)) →
+    ServerRunsOut opened link (Some ends.Memory) left (run ++ mark ∷ [])
+
+-- From then on it writes what is left, and no more.
+abbrev pub ClientStaysOut : Type 0
+ClientStaysOut = (opened : LinkParameters) (link : ℕ) (kept : KeptClient) (queue left : List ℕ) (run : List Mark) (mark : Mark) →
+    ClientRunsOut opened link kept queue run → written_at link Initiator mark ++ left ≡ queue → ClientRunsOut opened link kept left (run ++ mark ∷ [])
+
+abbrev pub ServerStaysOut : Type 0
+ServerStaysOut = (opened : LinkParameters) (link : ℕ) (ended : Option End) (queue left : List ℕ) (run : List Mark) (mark : Mark) →
+    ServerRunsOut opened link ended queue run → written_at link Responder mark ++ left ≡ queue → ServerRunsOut opened link ended left (run ++ mark ∷ [])
+
+-- A prefix of the queue that is written keeps the law so far, also of an end that ran out of memory; and the complete queue of one that
+-- didn't keeps it in full.
+abbrev pub ClientQueueIsDue : Type 0
+ClientQueueIsDue = (opened : LinkParameters) (link : ℕ) (kept : KeptClient) (input : InputState) (taken left : List ℕ) (run : List Mark) →
+    (ClientStandsFor opened link kept input (taken ++ left) run →
+    IsPrefixOf (bytes_sent link Initiator run ++ taken) (output_due opened link Initiator run)
+    × (left ≡ [] → IsAll (bytes_sent link Initiator run ++ taken) (output_due opened link Initiator run)))
+    × (ClientRunsOut opened link kept (taken ++ left) run → IsPrefixOf (bytes_sent link Initiator run ++ taken) (output_due opened link Initiator run))
+
+abbrev pub ServerQueueIsDue : Type 0
+ServerQueueIsDue = (opened : LinkParameters) (link : ℕ) (end : EndState ServerState) (ended : Option End) (input : InputState) (taken left : List ℕ) (run : List Mark) →
+    (ServerStandsFor opened link end input (taken ++ left) run →
+    IsPrefixOf (bytes_sent link Responder run ++ taken) (output_due opened link Responder run)
+    × (left ≡ [] → IsAll (bytes_sent link Responder run ++ taken) (output_due opened link Responder run)))
+    × (ServerRunsOut opened link ended (taken ++ left) run → IsPrefixOf (bytes_sent link Responder run ++ taken) (output_due opened link Responder run))
+
+-- ---- What a client keeps is enough
+
+-- By what it keeps it judges a message as the client does, also one that is completed further on.
+abbrev pub KeptJudges : Type 0
+KeptJudges = (opened : LinkParameters) (kept : KeptClient) (k : ClientState) (count place : ℕ) (message : List ℕ) → ClientKeeps opened kept (live k) count → count ≤ place →
+    kept_verdict kept.calls (bytes_under kept.memory) message ≡ verdict k place message
+
+-- It answers a Read Request that is allowed with the bytes that the client's region holds.
+abbrev pub KeptResponds : Type 0
+KeptResponds = (opened : LinkParameters) (kept : KeptClient) (k : ClientState) (count place : ℕ) (r : ReadRequest) → ClientKeeps opened kept (live k) count → count ≤ place →
+    denial kept.memory (record { right = Fetch; stag = r.stag; to = r.to; len = r.size }) ≡ None →
+    response_output k place (Some r) ≡ read_response r.sink r.sink_to (take r.size (drop r.to (bytes_under kept.memory r.stag)))
+
+-- What it answers to a call: refused as ended, too large, without credit, or without numbers, in this order; else accepted.
+abbrev pub kept_answer_by_plan : KeptClient → Result Plan TooLarge → Submission
+kept_answer_by_plan kept (Err large) = submissions.Refused (refusals.TooLarge large.need large.room)
+kept_answer_by_plan kept (Ok plan) =
+    if nat_le kept.grant (length kept.calls) then submissions.Refused (refusals.NoCredit (length kept.calls) kept.grant)
+    else unless_spent (numbers_end - kept.next_xid) 1
+    (unless_spent (numbers_end - kept.memory.next) (regions_needed plan) (submissions.Accepted kept.next_xid))
+
+abbrev pub kept_answer_if : KeptClient → Call → Form → Option End → Submission
+kept_answer_if kept call form (Some end) = submissions.Refused (refusals.Ended end)
+kept_answer_if kept call form None = kept_answer_by_plan kept (plan_of (call_payload kept.next_xid call) form send_max send_max)
+
+abbrev pub kept_answer : KeptClient → Call → Form → Submission
+kept_answer kept call form = kept_answer_if kept call form kept.ended
+
+abbrev pub KeptAnswers : Type 0
+KeptAnswers = (opened : LinkParameters) (kept : KeptClient) (e : EndState ClientState) (count : ℕ) (call : Call) (form : Form) → ClientKeeps opened kept e count →
+    kept_answer kept call form ≡ submit_answer opened e call form
+
+-- It knows how many calls are outstanding, and the credits that are granted.
+abbrev pub KeptCounts : Type 0
+KeptCounts = (opened : LinkParameters) (kept : KeptClient) (k : ClientState) (count : ℕ) → ClientKeeps opened kept (live k) count →
+    (length kept.calls ≡ length k.outstanding) × (kept.grant ≡ k.grant)
+
+-- It keeps as much while more bytes are received,
+abbrev pub KeptStays : Type 0
+KeptStays = (opened : LinkParameters) (kept : KeptClient) (e : EndState ClientState) (count later : ℕ) → ClientKeeps opened kept e count → count ≤ later → ClientKeeps opened kept e later
+
+-- after the memory of a call is revoked, also of a client that has ended,
+abbrev pub KeptRevokes : Type 0
+KeptRevokes = (opened : LinkParameters) (kept : KeptClient) (e : EndState ClientState) (count xid : ℕ) → ClientKeeps opened kept e count →
+    ClientKeeps opened (kept_revoked kept xid) (next_end_state (client_rules opened) e (MemoryRevoked count xid)) count
+
+-- and after a message that doesn't end the client.
+abbrev pub KeptCompletes : Type 0
+KeptCompletes = (opened : LinkParameters) (kept : KeptClient) (k : ClientState) (count place : ℕ) (message : List ℕ) → ClientKeeps opened kept (live k) count → count ≤ place →
+    ClientKeeps opened (kept_completed kept message) (live (with_message k place (Some message))) place
+
+-- It keeps as much after an access of its peer that comes later,
+abbrev pub KeptPlaces : Type 0
+KeptPlaces = (opened : LinkParameters) (kept : KeptClient) (k : ClientState) (count : ℕ) (access : TaggedSegment) → ClientKeeps opened kept (live k) count → count < access.end →
+    ClientKeeps opened (kept_placed kept access) (live (record k { accesses_received = k.accesses_received ++ access ∷ [] })) access.end
+
+-- after a write, with the number of Sends that have wholly left,
+abbrev pub KeptWrites : Type 0
+KeptWrites = (opened : LinkParameters) (kept : KeptClient) (k : ClientState) (count taken : ℕ) → ClientKeeps opened kept (live k) count →
+    ClientKeeps opened (kept_sent k.first_xid (ends_left (k.written + taken) k.send_ends) kept) (next_end_state (client_rules opened) (live k) (QueueWritten taken)) count
+
+-- with the server's hello, since no Send has left before it is due,
+abbrev pub KeptGreets : Type 0
+KeptGreets = (opened : LinkParameters) (kept : KeptClient) (k : ClientState) (count : ℕ) → ClientKeeps opened kept (live k) count →
+    AllByRecursion (λ end. k.written < end) (call_ends opened k.due 1 k.outstanding) → ClientKeeps opened kept (live (with_hello opened k)) count
+
+-- and after a call that it accepts, of which the Send hasn't left.
+abbrev pub KeptSubmits : Type 0
+KeptSubmits = (opened : LinkParameters) (kept : KeptClient) (k : ClientState) (count : ℕ) (a : AcceptedCall) (plan : Plan) → ClientKeeps opened kept (live k) count → a.xid ≡ kept.next_xid →
+    plan_for k a.xid a.call a.form ≡ Ok plan → AllByRecursion (λ end. k.written < end) (submitted_ends opened k a) → length k.send_ends ≤ a.xid - k.first_xid →
+    ClientKeeps opened (kept_submitted kept a.call plan) (next_end_state (client_rules opened) (live k) (CallSubmitted count a)) count
+
+-- ---- Before the client's hello
+
+-- No call is pending, read for or ready, and nothing was received.
+pub record IsUnasked (k : ServerState) : Type 0 where
+  pub received : k.received ≡ nothing_received
+  pub calls : k.calls ≡ []
+  pub reads : k.reads ≡ []
+  pub ready : k.ready ≡ []
+  pub regions : k.regions ≡ []
+
+abbrev pub NoCallBeforeHello : Type 0
+NoCallBeforeHello = (opened : LinkParameters) (link : ℕ) (run : List Mark) → (input_of Initiator (bytes_received link Responder run)).awaited ≡ HelloFrom Initiator →
+    ((server opened link run).ended ≡ None) × IsUnasked (server opened link run).state
+
+-- ---- Pieces and STags
+
+-- A piece in two parts completes the same frames, and leaves the same input.
+abbrev pub InputInParts : Type 0
+InputInParts = (input : InputState) (x y : List ℕ) →
+    (input_frames input (x ++ y) ≡ input_frames input x ++ input_frames (input_after input x) y)
+    × (input_after input (x ++ y) ≡ input_after (input_after input x) y)
+
+-- STags go in the order of registration: those of these regions are a number and those after it.
+abbrev pub StagsFrom : ℕ → List Region → Type 0
+StagsFrom n [] = Unit {0}
+StagsFrom n (r ∷ regions) = (r.stag ≡ n) × StagsFrom (n + 1) regions
+
+-- The regions that an end offers have STags one after the other: a client's from its first STag on, a server's from 1 on; and those of
+-- one call in the order read chunk, write chunk, reply chunk.
+abbrev pub ClientStagsInOrder : Type 0
+ClientStagsInOrder = (opened : LinkParameters) (link : ℕ) (run : List Mark) → StagsFrom opened.first_stag (client opened link run).state.regions
+
+abbrev pub ServerStagsInOrder : Type 0
+ServerStagsInOrder = (opened : LinkParameters) (link : ℕ) (run : List Mark) → StagsFrom 1 (server opened link run).state.regions
+
+abbrev pub PlanStagsInOrder : Type 0
+PlanStagsInOrder = (xid place stag : ℕ) (plan : Plan) →
+    StagsFrom stag (map (region_of xid place) (buffers stag plan)) × (length (map (region_of xid place) (buffers stag plan)) ≡ regions_needed plan)

@@ -1,0 +1,55 @@
+//! Laws of what an end keeps: the marks that it stands for, and that it is enough.
+
+ghost use Rattle.nr_reduce.specs.StandingLaws.{ClientBegins, ServerBegins, EventsOfInput, ClientStandsOn, ServerStandsOn, ClientRunsOutAt, ServerRunsOutAt, ClientStaysOut, ServerStaysOut, ClientQueueIsDue, ServerQueueIsDue, KeptJudges, KeptResponds, KeptAnswers, KeptCounts, KeptStays, KeptRevokes, KeptCompletes, KeptPlaces, KeptWrites, KeptGreets, KeptSubmits, NoCallBeforeHello, InputInParts, ClientStagsInOrder, ServerStagsInOrder, PlanStagsInOrder};
+
+/// What an end keeps stands for the marks of its link: as it is opened, and from mark to mark. A client keeps its calls and its
+/// registered memory, and of an end that has ended neither input nor calls count. An end that runs out of memory writes what is
+/// left of its queue and no more. What an end writes from its queue is due.
+pub fn ends_stand_for_marks()
+    ensures client_begins { ClientBegins }
+    ensures server_begins { ServerBegins }
+    ensures events { EventsOfInput }
+    ensures client { ClientStandsOn }
+    ensures server { ServerStandsOn }
+    ensures client_runs_out { ClientRunsOutAt }
+    ensures server_runs_out { ServerRunsOutAt }
+    ensures client_stays_out { ClientStaysOut }
+    ensures server_stays_out { ServerStaysOut }
+    ensures client_queue { ClientQueueIsDue }
+    ensures server_queue { ServerQueueIsDue }
+{}
+
+/// What a client keeps is enough: by it a message is judged, a Read Request is answered and a call is answered as the client of a
+/// run does, and it tells the calls that are outstanding and the credits that are granted. It stays enough while bytes
+/// are received, after a revoke, a message, an access, a write, the server's hello and a call that it accepts.
+pub fn clients_keep_enough()
+    ensures message { KeptJudges }
+    ensures response { KeptResponds }
+    ensures submit { KeptAnswers }
+    ensures counts { KeptCounts }
+    ensures stays { KeptStays }
+    ensures revoked { KeptRevokes }
+    ensures completed { KeptCompletes }
+    ensures placed { KeptPlaces }
+    ensures written { KeptWrites }
+    ensures greeted { KeptGreets }
+    ensures submitted { KeptSubmits }
+{}
+
+/// Until a server has received its client's hello it hasn't ended, and no call is pending, read for or ready.
+pub fn no_call_before_hello()
+    ensures { NoCallBeforeHello }
+{}
+
+/// A piece of a stream may be fed in parts: they complete the same frames, and leave the same input.
+pub fn pieces_in_parts()
+    ensures { InputInParts }
+{}
+
+/// STags are given in the order of registration: those of a side one after the other, and those of a plan's regions in the order
+/// read chunk, write chunk, reply chunk, as many as the plan needs.
+pub fn stags_go_in_order()
+    ensures client { ClientStagsInOrder }
+    ensures server { ServerStagsInOrder }
+    ensures plan { PlanStagsInOrder }
+{}
