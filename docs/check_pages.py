@@ -128,7 +128,7 @@ def vocabulary(crates: list[str]) -> set[str]:
         words.add(os.path.basename(path).split('.')[0])
         with gzip.open(path, 'rt', encoding='utf-8') as h:
             for run in json.load(h):
-                words |= {run['name'], *run['needs']}
+                words |= {run['name'], *run['needs'], *run, *run['opened'][0]}
     for folder in ('bench', 'conformance', 'docs', 'drills', '.ci', '.'):
         for path in glob.glob(os.path.join(ROOT, folder, '**' if folder != '.' else '*'), recursive=folder != '.'):
             words |= {os.path.basename(path), os.path.splitext(os.path.basename(path))[0]}
