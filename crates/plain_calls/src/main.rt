@@ -178,7 +178,7 @@ fn write_reply<W: Write>(alloc: Global, reply: &Reply, out: &mut W) -> Result<()
     Ok(())
 }
 
-/// Writes where a payload is no call.
+/// Writes the offset at which a payload is no call.
 fn write_fault<W: Write>(fault: Fault, out: &mut W) -> Result<(), Stop> {
     match fault {
         Fault::NotCall { at } => {
@@ -189,7 +189,7 @@ fn write_fault<W: Write>(fault: Fault, out: &mut W) -> Result<(), Stop> {
     }
 }
 
-/// Executes a call, and writes the place and the reply, or where the payload is no call.
+/// Executes a call, and writes the place and the reply, or the offset at which the payload is no call.
 fn execute<W: Write>(
     alloc: Global,
     server: &mut Server,
@@ -308,7 +308,7 @@ fn words(rt: &HostRuntime) -> Result<u64, Stop> {
     }
 }
 
-/// The whole input. The program may be started with its name alone.
+/// The complete input. The program may be started with its name alone.
 fn input(rt: &HostRuntime) -> Result<Vec<u8>, Stop> {
     if words(rt)? != 1 {
         return Err(Stop::Words);
