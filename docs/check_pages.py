@@ -2,11 +2,12 @@
 
     python3 docs/check_pages.py [--only WORD]
 
-A page docs/crates/NAME.md has to name, in backticks or in a code block, each public call of the crate NAME: each function
-that its lib.rt makes public, and each public method; and "Stands on" has the crates of crates.txt. Tests and benchmarks
-have a heading each in tests.md and benches.md.
-Each name in backticks on any page has to be there: a word of the code, a file, a crate, a script. Lines have at most 160
-characters, prose 120, table cells 40 words; links lead to a file; the words of CONTRIBUTING's house list stand in no prose.
+A page docs/crates/NAME.md has to name, in backticks or in a code block, each public call of the crate NAME: each
+function that its lib.rt makes public, and each public method; and "Stands on" has the crates of crates.txt. Tests and
+benchmarks have a heading each in tests.md and benches.md. Each name in backticks on any page has to be there: a word of
+the code (on a crate's page of that crate, of those that it stands on or that stand on it), a file, a crate, a script.
+Lines have at most 160 characters, prose 120, table cells 40 words; links lead to a file; the words of CONTRIBUTING's
+house list stand in no prose.
 Exit status: 0, or 1 with a line for each difference."""
 import argparse
 import glob
@@ -27,7 +28,7 @@ HOUSE = (
     (r'\b[Ww]ants? (?:of )?memory\b', 'want of memory: write out of memory'),
 )
 # words in backticks that are no names of the project: of the kit and of std, and placeholders
-OTHER = {'Display', 'malloc', 'realloc', 'incremental', 'newer', 'csv', 'md', 'Lts', 'oantt', 'NAME', 'NAME_inner', 'MOD', 'FN'}
+OTHER = {'Display', 'malloc', 'realloc', 'incremental', 'newer', 'csv', 'md', 'Lts', 'oantt', 'NAME', 'NAME_inner', 'MOD', 'FN', 'fattr3'}
 PLACEHOLDER = re.compile(r'^P_\w+$')
 # what is a command, or text that is printed
 WORD = re.compile(r"[A-Za-z_][A-Za-z0-9_']*")
@@ -113,17 +114,25 @@ def spans(text: str) -> list[tuple[int, str]]:
     return out
 
 
-def vocabulary(crates: list[str]) -> set[str]:
-    """Each word of the code, and each name of a file, a folder or a crate."""
-    words: set[str] = set(crates)
-    for crate in crates:
-        for path in sources(crate):
-            words |= set(WORD.findall(read(path)))
-            words |= set(path.replace(os.sep, '/').split('/')) | {os.path.splitext(os.path.basename(path))[0]}
-        for path in glob.glob(os.path.join(ROOT, 'crates', crate, '*')):
-            words.add(os.path.basename(path))
-        for path in glob.glob(os.path.join(ROOT, 'crates', crate, 'must-fail', '*.edit')):
-            words.add(os.path.basename(path)[:-len('.edit')])
+def code_of(path: str) -> str:
+    """The text of a source file without its comments."""
+    return re.sub(r'//[^\n]*' if path.endswith('.rt') else r'(?m)(^|\s)--(\s[^\n]*|$)', '', read(path))
+
+
+def words_of(crate: str) -> set[str]:
+    """Each word of the code of a crate, and the names of its files and folders."""
+    words = {crate}
+    for path in sources(crate):
+        words |= set(WORD.findall(code_of(path)))
+        words |= set(path.replace(os.sep, '/').split('/')) | {os.path.splitext(os.path.basename(path))[0]}
+    words |= {os.path.basename(x) for x in glob.glob(os.path.join(ROOT, 'crates', crate, '*'))}
+    edits = glob.glob(os.path.join(ROOT, 'crates', crate, 'must-fail', '*.edit'))
+    return words | {os.path.basename(x)[:-len('.edit')] for x in edits}
+
+
+def words_beside(crates: list[str]) -> set[str]:
+    """The names of crates, folders, scripts and recorded runs, and the words of scripts."""
+    words = set(crates)
     for path in glob.glob(os.path.join(ROOT, 'conformance', 'runs', '*.json.gz')):
         words.add(os.path.basename(path).split('.')[0])
         with gzip.open(path, 'rt', encoding='utf-8') as h:
@@ -135,6 +144,21 @@ def vocabulary(crates: list[str]) -> set[str]:
             if path.endswith(('.py', '.sh', '.json', '.txt')):
                 words |= set(WORD.findall(read(path)))
     return words
+
+
+def vocabularies(crates: list[str]) -> dict[str, set[str]]:
+    """The words that a page may have in backticks: of a crate's page those of the crate, of the crates on which it stands,
+    and of those that stand on it; of any other page all, under the empty name."""
+    beside, own = words_beside(crates), {c: words_of(c) for c in crates}
+    under = {c: below(c) for c in crates}
+    for c in crates:
+        for d in list(under[c]):
+            under[c] |= under.get(d, set())
+    out = {'': beside.union(*own.values())}
+    for c in crates:
+        near = {c} | under[c] | {d for d in crates if c in under[d]}
+        out[c] = beside.union(*(own[d] for d in near))
+    return out
 
 
 def check_names(page: str, text: str, words: set[str]) -> list[str]:
@@ -205,13 +229,14 @@ def main(argv: list[str]) -> int:
     p.add_argument('--only', default='', help='differences whose line has this word')
     a = p.parse_args(argv)
     crates = crate_names()
-    words = vocabulary(crates)
+    words = vocabularies(crates)
     pages = ['README.md', 'CONTRIBUTING.md', 'conformance/README.md']
     pages += [os.path.relpath(x, ROOT) for x in sorted(glob.glob(os.path.join(ROOT, 'docs', '**', '*.md'), recursive=True))]
     wrong = check_crates(crates)
     for page in pages:
         text = read(os.path.join(ROOT, page))
-        wrong += check_names(page, text, words) + check_form(page, text)
+        name = os.path.splitext(os.path.basename(page))[0] if page.startswith('docs/crates/') else ''
+        wrong += check_names(page, text, words.get(name, words[''])) + check_form(page, text)
     wrong = [w for w in wrong if a.only in w]
     print('\n'.join(wrong + ['%d pages, %d differences' % (len(pages), len(wrong))]))
     return 1 if wrong else 0
