@@ -1,5 +1,6 @@
 mod Lists
 mod Standing
+mod Waiting
 mod Unique
 mod Begun
 mod Above

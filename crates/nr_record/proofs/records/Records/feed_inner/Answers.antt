@@ -1,7 +1,8 @@
 use Rattle.std.proofs.Common.{◌≡◌, ℕ, [], ◌++◌, take, drop, List, sym, ap, subst, ◌∙◌, append_assoc, append-nil, arith}
 use Rattle.std.proofs.lemmas.Grind.{common_steps}
 use Rattle.nr_record.specs.Kept.{kept, StandsFor}
-use Rattle.nr_record.proofs.Standing.{later_stands, by_none, through, onward}
+use Rattle.nr_record.proofs.Standing.{later_stands}
+use Rattle.nr_record.proofs.Waiting.{by_none, through, onward}
 use Rattle.nr_record.proofs.records.Records.feed_inner.Goals as goal
 
 pub returns-in-Some-fault-clause-stands : goal.returns-in-Some-fault-clause-stands

@@ -1,4 +1,4 @@
-use Rattle.nr_record.proofs.Standing.{new_stands}
+use Rattle.nr_record.proofs.Waiting.{new_stands}
 use Rattle.nr_record.proofs.records.Records.new.Goals as goal
 
 pub returns-clause-stands : goal.returns-clause-stands

@@ -1,6 +1,7 @@
 use Rattle.std.proofs.Common.{[], ◌∷◌, ◌++◌, sym, ap, subst, ◌∙◌}
 use Rattle.nr_record.specs.Kept.{Kept, kept, StandsFor}
-use Rattle.nr_record.proofs.Standing.{byte_stands, byte_count}
+use Rattle.nr_record.proofs.Standing.{byte_stands}
+use Rattle.nr_record.proofs.Waiting.{byte_count}
 use Rattle.nr_record.proofs.records.Records.read_header.Goals as goal
 
 pub returns-clause-stands : goal.returns-clause-stands

@@ -2,7 +2,8 @@ use Rattle.std.proofs.Common.{◌≡◌, ℕ, ◌+◌, ◌<◌, ◌≤◌, [], �
 use Rattle.nr_record.specs.Kept.{Kept, kept, StandsFor}
 use Rattle.std.proofs.lemmas.Bool.{cases_lt}
 use Rattle.std.proofs.lemmas.List.{length-take-le}
-use Rattle.nr_record.proofs.Standing.{data_stands, data_count, fault_stands}
+use Rattle.nr_record.proofs.Standing.{data_stands, fault_stands}
+use Rattle.nr_record.proofs.Waiting.{data_count}
 use Rattle.nr_record.proofs.records.Records.read_payload.Goals as goal
 
 pub returns-clause-stands : goal.returns-clause-stands

@@ -1,0 +1,27 @@
+//! Tests of nr_turnstile and nr_record. For a turnstile there are two values that stand for a history, a counter and a list, and a
+//! value with a pass of another turnstile.
+#![tactic(auto)]
+
+mod additions;
+#[cfg(test)]
+mod compare;
+mod counter;
+mod feeder;
+mod jobs;
+mod log;
+mod open;
+mod pieces;
+mod pumping;
+#[cfg(test)]
+mod records;
+#[cfg(test)]
+mod turns;
+
+pub use additions::{append, sees};
+pub use counter::Counter;
+pub use feeder::Feeder;
+pub use jobs::Job;
+pub use log::{Log, counted, write};
+pub use open::open_feeder;
+pub use pieces::{Seen, read_in_pieces};
+pub use pumping::{pump, pump_twice};
