@@ -3,9 +3,10 @@
 use crate::compare::same;
 use crate::given::{MOUNT, NFS, Payload, call_of, payload_of, put_text, put_words};
 use nr_reduce::{
-    Item, Mismatch, Of, PayloadFault, call_item, cut, largest_reply, rebuild, rebuild_undoes_cut,
-    reducible_item,
+    Item, Mismatch, Of, PayloadFault, call_item, cut, first_bytes, largest_reply, rebuild,
+    rebuild_into, rebuild_undoes_cut, reducible_item,
 };
+use nr_xdr::Octets;
 use std::alloc::Global;
 use std::process::Abort;
 
@@ -158,6 +159,34 @@ fn streams_are_rebuilt(rt: HostRuntime) {
         same(&rt, row, got, *want);
     }
     same(&rt, 5, Mismatch::Length as u8, 3);
+}
+
+/// The same of the payload that is put into a room, and into its first bytes alone.
+fn is_hello_in_room(
+    rt: &impl Abort,
+    alloc: Global,
+    stream: &[u8],
+    pos: u32,
+    moved: &[u8],
+) -> Result<bool, PayloadFault> {
+    let whole = hello(rt, alloc, b"HELLO\0\0\0");
+    let mut room = Octets::from_vec(vec![in alloc; 0xff; 100].expect(rt, "memory"));
+    if stream.len() > 80 || moved.len() > 10 {
+        return Ok(false);
+    }
+    match rebuild_into(&mut room, &Of::Call, stream, pos, moved) {
+        Ok(len) => Ok(first_bytes(room, len).as_slice() == whole.as_slice()),
+        Err(why) => Err(PayloadFault::BadChunks { why }),
+    }
+}
+
+#[test]
+fn streams_are_rebuilt_in_room(rt: HostRuntime) {
+    let stream = hello(&rt, rt.alloc(), b"");
+    for (row, (pos, moved, want)) in CHUNKS.iter().enumerate() {
+        let got = is_hello_in_room(&rt, rt.alloc(), &stream, *pos, moved);
+        same(&rt, row, got, *want);
+    }
 }
 
 #[test]

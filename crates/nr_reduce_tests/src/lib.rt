@@ -10,6 +10,8 @@ mod given;
 #[cfg(test)]
 mod items;
 #[cfg(test)]
+mod lists;
+#[cfg(test)]
 mod plans;
 #[cfg(test)]
 mod replies;

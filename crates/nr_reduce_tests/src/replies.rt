@@ -1,9 +1,13 @@
 //! Replies that an offer holds, and how they are sent back.
 
+ghost use Rattle.std.specs.Prelude.{IfOk};
+ghost use Rattle.nr_header.specs.WithinLimits.{CanRead, ListsWithin, stream_after};
+
 use crate::compare::same;
 use crate::given::{NFS, lists_of, put_text, put_words};
-use nr_header::ChunkLists;
-use nr_reduce::{answer_for, answers_convey_replies, holds};
+use nr_header::{Body, ChunkLists, Header, HeaderFault, read_header};
+use nr_reduce::{answer_for, answer_message, answers_convey_replies, holds};
+use nr_xdr::Octets;
 use std::alloc::Global;
 use std::process::Abort;
 
@@ -89,5 +93,83 @@ static OTHERS: [(Row, u32, u32); 4] = [
 fn answers_go_by_procedure_and_room(rt: HostRuntime) {
     for (number, (row, proc, down)) in OTHERS.iter().enumerate() {
         row_answers(&rt, rt.alloc(), number, *proc, row, *down);
+    }
+}
+
+/// The length of a READ's data, the words of a call's header with its offer, and those of the message that answers it. Each
+/// segment of its lists has as many bytes as were written into it, and a stream that isn't in the reply chunk follows.
+static MESSAGES: [(u32, &[u32], &[u32]); 2] = [
+    (
+        5,
+        &[
+            9, 1, 32, 0, 0, 1, 2, 1, 3, 0, 0, 1, 4, 0, 3, 1, 1, 2, 2, 0, 0, 0, 0,
+        ],
+        &[
+            9, 1, 16, 0, 0, 1, 2, 1, 3, 0, 0, 1, 2, 0, 3, 1, 1, 2, 0, 0, 0, 0, 0, 9, 1, 0, 0, 0, 0,
+            0, 0, 5, 1, 5,
+        ],
+    ),
+    (
+        953,
+        &[9, 1, 32, 0, 0, 0, 1, 2, 1, 999, 0, 0, 2, 9, 0, 0],
+        &[9, 1, 16, 1, 0, 0, 1, 2, 1, 999, 0, 0, 2, 1, 0, 0],
+    ),
+];
+
+/// The message that answers a call with this offer by a reply to READ.
+fn message_of(alloc: Global, offer: &ChunkLists, reply: &[u8]) -> Option<Octets>
+    requires { ListsWithin offer.now }
+{
+    match answer_for(offer, NFS, 3, 6, reply, 1024) {
+        Some(answer) => answer_message(alloc, 9, 16, offer, answer).ok(),
+        None => None,
+    }
+}
+
+/// The same for the header of a call.
+fn answer_to(
+    alloc: Global,
+    read: &Result<Header, HeaderFault>,
+    call: &[u8],
+    reply: &[u8],
+) -> Option<Octets>
+    requires { IfOk read.now (λ header. CanRead header.body (stream_after header.body call.now)) }
+{
+    match read {
+        Ok(
+            Header {
+                body: Body::Msg { lists, .. },
+                ..
+            },
+        ) => message_of(alloc, lists, reply),
+        _ => None,
+    }
+}
+
+/// Whether the message that answers a call is this one.
+fn is_answered_by(alloc: Global, call: &[u8], reply: &[u8], message: &[u8]) -> bool {
+    let read = read_header(call);
+    let answer = answer_to(alloc, &read, call, reply);
+    drop(read);
+    match answer {
+        Some(octets) => octets.as_slice() == message,
+        None => false,
+    }
+}
+
+fn bytes_of(rt: &impl Abort, alloc: Global, words: &[u32]) -> Vec<u8> {
+    let mut out = Vec::new(alloc);
+    put_words(rt, &mut out, words);
+    out
+}
+
+#[test]
+fn messages_of_answers(rt: HostRuntime) {
+    for (row, (len, call, message)) in MESSAGES.iter().enumerate() {
+        let call = bytes_of(&rt, rt.alloc(), call);
+        let message = bytes_of(&rt, rt.alloc(), message);
+        let reply = read_reply(&rt, rt.alloc(), *len);
+        let got = is_answered_by(rt.alloc(), &call, &reply, &message);
+        same(&rt, row, got, true);
     }
 }
