@@ -1,0 +1,510 @@
+-- The laws of a link follow from the functions of a drill: each mark stands there by the definition by which the laws judge it.
+use Rattle.std.specs.Prelude.{is_none, ◌-◌, ◌&&◌, ◌||◌, not, if◌then◌else◌, slice_get, unwrap_or, Contains}
+use Rattle.std.specs.List.{flat_map}
+use Rattle.std.proofs.Common.{◌≡◌, ◌≢◌, ℕ, cond, eqb, filter, ◌⊎◌, inl, inr, arith, eqb-true, zero, suc, Bool, true, false, take, List, [], ◌∷◌, ◌++◌, length, drop, Option, None, Some, refl, sym, ap, subst, ◌∙◌, append_assoc, append-nil}
+use Rattle.std.proofs.Math.Seq.{drop-append_seam}
+use Rattle.std.proofs.lemmas.Bool.{eq-eqb}
+use Rattle.std.proofs.lemmas.List.Elements.{Contains-push_cases, Contains-append_cases, Contains-append_left, Contains-append_right}
+use Rattle.nr_wire.specs.declared.hello.Side.{Side}
+use Rattle.nr_wire.specs.declared.hello.Side.TheVariants.{Initiator, Responder}
+use Rattle.nr_rpc.specs.Credential.{CanWriteCred}
+use Rattle.nr_link.specs.declared.end.End.{End}
+use Rattle.nr_reduce.specs.declared.call.Call.{Call}
+use Rattle.nr_reduce.specs.declared.call.Form.{Form}
+use Rattle.nr_reduce.specs.declared.call.Submission.{Submission}
+use Rattle.nr_reduce.specs.declared.call.Submission.TheVariants as submissions
+use Rattle.nr_reduce.specs.declared.mark.Mark.{Mark}
+use Rattle.nr_reduce.specs.declared.mark.Mark.TheVariants as marks
+use Rattle.nr_reduce.specs.declared.mark.LinkParameters.{LinkParameters}
+use Rattle.nr_reduce.specs.AtEachMark.{AtEachMark}
+use Rattle.nr_reduce.specs.Opening.{IsOpened}
+use Rattle.nr_reduce.specs.PlainJournal.{journal}
+use Rattle.nr_reduce.specs.SubmitAnswer.{unless_dropped, submit_answer, submit_answer_after}
+use Rattle.nr_reduce.specs.Matched.{IsPrefixOf}
+use Rattle.nr_reduce.specs.History.{AcceptedCall, CompletedCall, accepted_as, accepted_at, bytes_sent, written_at, accepted_calls, completed_calls, is_abandoned, is_dropped}
+use Rattle.nr_reduce.specs.OutcomesDue.{is_completed, outcomes_of_call, outcomes_due}
+use Rattle.nr_reduce.specs.Events.{events_at, if_own}
+use Rattle.nr_reduce.specs.Events.Event.{QueueWritten}
+use Rattle.nr_reduce.specs.EndRules.{output_for_all}
+use Rattle.nr_reduce.specs.ClientState.{ClientState}
+use Rattle.nr_reduce.specs.ServerState.{ServerState, ReadyCall}
+use Rattle.nr_reduce.specs.Client.{client_rules, client_end, client_output}
+use Rattle.nr_reduce.specs.Server.{server_rules, server_end, server_output}
+use Rattle.nr_reduce.specs.Run.{client, server, output_due}
+use Rattle.nr_reduce.specs.Asked.{AskedMark, AskedSoFar, IsAll, IsCompleted, IsAwaited, revoked_bytes}
+use Rattle.nr_reduce.specs.Served.{ServedMark, next_call}
+use Rattle.nr_reduce.proofs.Steps.{output_due_up-one, output_due_down-one}
+use Rattle.nr_reduce.proofs.SoFarLaws.{AtEachMark-each, asked-mark}
+use Rattle.nr_reduce.proofs.Submitting.{accepted_keeps}
+use Rattle.nr_reduce.proofs.Standing.{AtEachMark-more, itself, sent-one}
+use Rattle.nr_laws.proofs.LiveRegions.{passes-any}
+use Rattle.nr_laws.specs.Grant.{AcceptedMark, AcceptsByRule}
+use Rattle.nr_drill.specs.Drill.{Setting, Drill, Pipes, plain_of, now, unwritten, after_output, after_all_output, settled, pipes_of, with_mark, after_submit, after_feeding, after_feeding_up, after_up, if_standing, waiting_call, after_answer, after_execution, after_work, after_calls, after_drop, after_feeding_down, after_handing, after_done, after_dones, after_outcomes, after_down, answer_at, answer_of_line, is_open, open_xid, after_giving_up, after_forget, after_taking_back, after_revoke, after_all_up, after_all_work, after_moves}
+
+-- what a side has to write is what it wrote and what it hasn't written yet
+abbrev pub IsDueOf : LinkParameters → ℕ → Side → List Mark → Type 0
+IsDueOf o link side run = bytes_sent link side run ++ unwritten o link side run ≡ output_due o link side run
+
+-- the laws of a link at each mark, in full
+pub record IsLawful (o : LinkParameters) (link : ℕ) (run : List Mark) : Type 0 where
+  pub asked : AtEachMark (AskedMark IsAll o link) [] run
+  pub served : AtEachMark (ServedMark IsAll o link) [] run
+  pub accepts : AcceptsByRule o link run
+  pub client : IsDueOf o link Initiator run
+  pub server : IsDueOf o link Responder run
+
+-- nothing is left to write
+pub record IsWritten (o : LinkParameters) (link : ℕ) (run : List Mark) : Type 0 where
+  pub client : unwritten o link Initiator run ≡ []
+  pub server : unwritten o link Responder run ≡ []
+
+-- ===== what is left to write
+
+rest_is : (sent rest due : List ℕ) → sent ++ rest ≡ due → drop (length sent) due ≡ rest
+rest_is sent rest due is = ap (λ (xs : List ℕ). drop (length sent) xs) (sym is) ∙ drop-append_seam sent rest
+
+pub left_is : (o : LinkParameters) (link : ℕ) (side : Side) (run : List Mark) (rest : List ℕ) → bytes_sent link side run ++ rest ≡ output_due o link side run → unwritten o link side run ≡ rest
+unfolding unwritten
+left_is o link side run rest is = rest_is (bytes_sent link side run) rest (output_due o link side run) is
+
+pub due_of : (o : LinkParameters) (link : ℕ) (side : Side) (run : List Mark) (rest : List ℕ) → bytes_sent link side run ++ rest ≡ output_due o link side run → IsDueOf o link side run
+due_of o link side run rest is = ap (λ (xs : List ℕ). bytes_sent link side run ++ xs) (left_is o link side run rest is) ∙ is
+
+-- the output due of one more mark
+abbrev pub more_due : LinkParameters → ℕ → Side → List Mark → Mark → List ℕ
+more_due o link Initiator run mark = output_for_all (client_rules o) (client o link run) (events_at link Initiator run mark)
+more_due o link Responder run mark = output_for_all (server_rules o) (server o link run) (events_at link Responder run mark)
+
+due-one : (o : LinkParameters) (link : ℕ) (side : Side) (run : List Mark) (mark : Mark) →
+    output_due o link side (run ++ mark ∷ []) ≡ output_due o link side run ++ more_due o link side run mark
+due-one o link Initiator run mark = output_due_up-one o link run mark
+due-one o link Responder run mark = output_due_down-one o link run mark
+
+-- with a mark that is no Wrote of the side, more may be due
+pub due-more : (o : LinkParameters) (link : ℕ) (side : Side) (run : List Mark) (mark : Mark) → written_at link side mark ≡ [] → IsDueOf o link side run →
+    bytes_sent link side (run ++ mark ∷ []) ++ (unwritten o link side run ++ more_due o link side run mark) ≡ output_due o link side (run ++ mark ∷ [])
+due-more o link side run mark none is =
+    let sent = bytes_sent link side run in
+    let left = unwritten o link side run in
+    let more = more_due o link side run mark in
+    ap (λ (xs : List ℕ). xs ++ (left ++ more)) (sent-one link side run mark ∙ ap (λ (xs : List ℕ). sent ++ xs) none ∙ append-nil sent)
+    ∙ sym (append_assoc sent left more) ∙ ap (λ (xs : List ℕ). xs ++ more) is ∙ sym (due-one o link side run mark)
+
+-- with a Wrote of all that was due
+due-wrote : (o : LinkParameters) (link : ℕ) (side : Side) (run : List Mark) (mark : Mark) → written_at link side mark ≡ unwritten o link side run → IsDueOf o link side run →
+    bytes_sent link side (run ++ mark ∷ []) ++ more_due o link side run mark ≡ output_due o link side (run ++ mark ∷ [])
+due-wrote o link side run mark all is =
+    let more = more_due o link side run mark in
+    ap (λ (xs : List ℕ). xs ++ more) (sent-one link side run mark ∙ ap (λ (xs : List ℕ). bytes_sent link side run ++ xs) all ∙ is)
+    ∙ sym (due-one o link side run mark)
+
+-- ===== one mark more
+
+-- a mark that is no Wrote of the link, and by which its laws hold
+pub lawful-mark : (o : LinkParameters) (link : ℕ) (run : List Mark) (mark : Mark) → IsLawful o link run →
+    written_at link Initiator mark ≡ [] → written_at link Responder mark ≡ [] →
+    AskedMark IsAll o link run mark → ServedMark IsAll o link run mark → AcceptedMark o link run mark → IsLawful o link (run ++ mark ∷ [])
+lawful-mark o link run mark h up down a s g = record {
+  asked = AtEachMark-more (AskedMark IsAll o link) [] run mark h.asked a;
+  served = AtEachMark-more (ServedMark IsAll o link) [] run mark h.served s;
+  accepts = AtEachMark-more (AcceptedMark o link) [] run mark h.accepts g;
+  client = due_of o link Initiator (run ++ mark ∷ []) (unwritten o link Initiator run ++ more_due o link Initiator run mark) (due-more o link Initiator run mark up h.client);
+  server = due_of o link Responder (run ++ mark ∷ []) (unwritten o link Responder run ++ more_due o link Responder run mark) (due-more o link Responder run mark down h.server);
+}
+
+-- ===== what is written
+
+quiet-client : (o : LinkParameters) (k : ClientState) (ended : Option End) (taken : ℕ) → output_for_all (client_rules o) (record { state = k; ended = ended }) (QueueWritten taken ∷ []) ≡ []
+unfolding client_end client_output
+quiet-client o k None taken = refl
+quiet-client o k (Some end) taken = refl
+
+quiet-server : (o : LinkParameters) (k : ServerState) (ended : Option End) (taken : ℕ) → output_for_all (server_rules o) (record { state = k; ended = ended }) (QueueWritten taken ∷ []) ≡ []
+unfolding server_end server_output
+quiet-server o k None taken = refl
+quiet-server o k (Some end) taken = refl
+
+-- a Wrote makes nothing due, at either side
+quiet : (o : LinkParameters) (link : ℕ) (side writer : Side) (run : List Mark) (bytes : List ℕ) → more_due o link side run (marks.Wrote link writer bytes) ≡ []
+quiet o link Initiator Initiator run bytes =
+    ap (λ (b : Bool). output_for_all (client_rules o) (client o link run) (if_own (b && true) (QueueWritten (length bytes) ∷ []))) (itself link)
+    ∙ quiet-client o (client o link run).state (client o link run).ended (length bytes)
+quiet o link Initiator Responder run bytes =
+    ap (λ (b : Bool). output_for_all (client_rules o) (client o link run) (if_own (b && false) (QueueWritten (length bytes) ∷ []))) (itself link)
+quiet o link Responder Initiator run bytes =
+    ap (λ (b : Bool). output_for_all (server_rules o) (server o link run) (if_own (b && false) (QueueWritten (length bytes) ∷ []))) (itself link)
+quiet o link Responder Responder run bytes =
+    ap (λ (b : Bool). output_for_all (server_rules o) (server o link run) (if_own (b && true) (QueueWritten (length bytes) ∷ []))) (itself link)
+    ∙ quiet-server o (server o link run).state (server o link run).ended (length bytes)
+
+pub own_written : (link : ℕ) (side : Side) (bytes : List ℕ) → written_at link side (marks.Wrote link side bytes) ≡ bytes
+own_written link Initiator bytes = ap (λ (b : Bool). if b && true then bytes else []) (itself link)
+own_written link Responder bytes = ap (λ (b : Bool). if b && true then bytes else []) (itself link)
+
+pub up_written : (link : ℕ) (bytes : List ℕ) → written_at link Responder (marks.Wrote link Initiator bytes) ≡ []
+up_written link bytes = ap (λ (b : Bool). if b && false then bytes else []) (itself link)
+
+pub down_written : (link : ℕ) (bytes : List ℕ) → written_at link Initiator (marks.Wrote link Responder bytes) ≡ []
+down_written link bytes = ap (λ (b : Bool). if b && false then bytes else []) (itself link)
+
+-- what the writer leaves, and what the other side leaves, which is what it left before
+wrote_all : (o : LinkParameters) (link : ℕ) (side : Side) (run : List Mark) (bytes : List ℕ) → bytes ≡ unwritten o link side run → IsDueOf o link side run →
+    bytes_sent link side (run ++ marks.Wrote link side bytes ∷ []) ++ [] ≡ output_due o link side (run ++ marks.Wrote link side bytes ∷ [])
+wrote_all o link side run bytes all is =
+    ap (λ (xs : List ℕ). bytes_sent link side (run ++ marks.Wrote link side bytes ∷ []) ++ xs) (sym (quiet o link side side run bytes))
+    ∙ due-wrote o link side run (marks.Wrote link side bytes) (own_written link side bytes ∙ all) is
+
+left_alone : (o : LinkParameters) (link : ℕ) (side writer : Side) (run : List Mark) (bytes : List ℕ) → written_at link side (marks.Wrote link writer bytes) ≡ [] → IsDueOf o link side run →
+    bytes_sent link side (run ++ marks.Wrote link writer bytes ∷ []) ++ unwritten o link side run ≡ output_due o link side (run ++ marks.Wrote link writer bytes ∷ [])
+left_alone o link side writer run bytes none is =
+    ap (λ (xs : List ℕ). bytes_sent link side (run ++ marks.Wrote link writer bytes ∷ []) ++ xs)
+    (sym (append-nil (unwritten o link side run)) ∙ ap (λ (xs : List ℕ). unwritten o link side run ++ xs) (sym (quiet o link side writer run bytes)))
+    ∙ due-more o link side run (marks.Wrote link writer bytes) none is
+
+-- after a Wrote of the client, or of the server, of all that it has to write
+pub lawful-up : (o : LinkParameters) (link : ℕ) (run : List Mark) (bytes : List ℕ) → bytes ≡ unwritten o link Initiator run → IsLawful o link run →
+    IsLawful o link (run ++ marks.Wrote link Initiator bytes ∷ [])
+lawful-up o link run bytes all h =
+    let mark = marks.Wrote link Initiator bytes in
+    record {
+      asked = AtEachMark-more (AskedMark IsAll o link) [] run mark h.asked (λ same. ap (λ (xs : List ℕ). bytes_sent link Initiator run ++ xs) all ∙ h.client);
+      served = AtEachMark-more (ServedMark IsAll o link) [] run mark h.served tt;
+      accepts = AtEachMark-more (AcceptedMark o link) [] run mark h.accepts tt;
+      client = due_of o link Initiator (run ++ mark ∷ []) [] (wrote_all o link Initiator run bytes all h.client);
+      server = due_of o link Responder (run ++ mark ∷ []) (unwritten o link Responder run) (left_alone o link Responder Initiator run bytes (up_written link bytes) h.server);
+    }
+
+pub lawful-down : (o : LinkParameters) (link : ℕ) (run : List Mark) (bytes : List ℕ) → bytes ≡ unwritten o link Responder run → IsLawful o link run →
+    IsLawful o link (run ++ marks.Wrote link Responder bytes ∷ [])
+lawful-down o link run bytes all h =
+    let mark = marks.Wrote link Responder bytes in
+    record {
+      asked = AtEachMark-more (AskedMark IsAll o link) [] run mark h.asked tt;
+      served = AtEachMark-more (ServedMark IsAll o link) [] run mark h.served (λ same. ap (λ (xs : List ℕ). bytes_sent link Responder run ++ xs) all ∙ h.server);
+      accepts = AtEachMark-more (AcceptedMark o link) [] run mark h.accepts tt;
+      client = due_of o link Initiator (run ++ mark ∷ []) (unwritten o link Initiator run) (left_alone o link Initiator Responder run bytes (down_written link bytes) h.client);
+      server = due_of o link Responder (run ++ mark ∷ []) [] (wrote_all o link Responder run bytes all h.server);
+    }
+
+-- the client writes what it has to write
+client-writes : (o : LinkParameters) (link : ℕ) (bytes : List ℕ) (d : Drill) → bytes ≡ unwritten o link Initiator d.marks → IsLawful o link d.marks →
+    IsLawful o link (after_output link Initiator bytes d).marks × (unwritten o link Initiator (after_output link Initiator bytes d).marks ≡ [])
+client-writes o link [] d all h = (h, sym all)
+client-writes o link (b ∷ bytes) d all h = (
+  lawful-up o link d.marks (b ∷ bytes) all h,
+  left_is o link Initiator (d.marks ++ marks.Wrote link Initiator (b ∷ bytes) ∷ []) [] (wrote_all o link Initiator d.marks (b ∷ bytes) all h.client),
+)
+
+-- then the server, and the client still has nothing to write
+server-writes : (o : LinkParameters) (link : ℕ) (bytes : List ℕ) (d : Drill) → bytes ≡ unwritten o link Responder d.marks → IsLawful o link d.marks → unwritten o link Initiator d.marks ≡ [] →
+    IsLawful o link (after_output link Responder bytes d).marks × IsWritten o link (after_output link Responder bytes d).marks
+server-writes o link [] d all h none = (h, record { client = none; server = sym all })
+server-writes o link (b ∷ bytes) d all h none =
+    let run = d.marks ++ marks.Wrote link Responder (b ∷ bytes) ∷ [] in (
+      lawful-down o link d.marks (b ∷ bytes) all h,
+      record {
+        client = left_is o link Initiator run (unwritten o link Initiator d.marks) (left_alone o link Initiator Responder d.marks (b ∷ bytes) (down_written link (b ∷ bytes)) h.client) ∙ none;
+        server = left_is o link Responder run [] (wrote_all o link Responder d.marks (b ∷ bytes) all h.server);
+      },
+    )
+
+pub lawful-settled : (s : Setting) (link : ℕ) (d : Drill) → IsLawful (s.opened link) link d.marks →
+    IsLawful (s.opened link) link (settled s link d).marks × IsWritten (s.opened link) link (settled s link d).marks
+unfolding settled
+lawful-settled s link d h =
+    let o = s.opened link in
+    let up = client-writes o link (unwritten o link Initiator d.marks) d refl h in
+    let mid = after_all_output s link Initiator d in
+    server-writes o link (unwritten o link Responder mid.marks) mid refl up.0 up.1
+
+-- ===== calls are submitted, bytes are fed, calls are executed
+
+asked_so_far : (o : LinkParameters) (link : ℕ) (run : List Mark) → IsLawful o link run → AskedSoFar o link run
+asked_so_far o link run h = AtEachMark-each (AskedMark IsAll o link) (AskedMark IsPrefixOf o link) [] run (asked-mark o link) h.asked
+
+not_dropped : (dropped : Bool) (answer : Submission) (xid : ℕ) → unless_dropped dropped answer ≡ submissions.Accepted xid → answer ≡ submissions.Accepted xid
+not_dropped true answer xid e = absurd cc
+not_dropped false answer xid e = e
+
+-- what a client answers keeps the law
+pub answer_asked : (o : LinkParameters) (link : ℕ) (run : List Mark) (call : Call) (form : Form) (answer : Submission) → IsOpened o → CanWriteCred call.cred → IsLawful o link run →
+    submit_answer_after o link run call form ≡ answer → AskedMark IsAll o link run (marks.Submit link call form answer)
+unfolding submit_answer_after
+answer_asked o link run call form (submissions.Accepted xid) numbers writable h e =
+    λ same. (accepted_keeps o link run call form xid (not_dropped (is_dropped link run) (submit_answer o (client o link run) call form) xid e) numbers (asked_so_far o link run h) writable).0
+answer_asked o link run call form (submissions.Refused why) numbers writable h e = tt
+answer_asked o link run call form submissions.Dropped numbers writable h e = tt
+
+answer_accepted : (o : LinkParameters) (link : ℕ) (run : List Mark) (call : Call) (form : Form) (answer : Submission) →
+    submit_answer_after o link run call form ≡ answer → AcceptedMark o link run (marks.Submit link call form answer)
+answer_accepted o link run call form (submissions.Accepted xid) e = λ same. e
+answer_accepted o link run call form (submissions.Refused why) e = tt
+answer_accepted o link run call form submissions.Dropped e = tt
+
+-- the laws of a link with nothing left to write, for a drill
+abbrev pub Keeps : Setting → ℕ → Drill → Type 0
+Keeps s link d = IsLawful (s.opened link) link d.marks × IsWritten (s.opened link) link d.marks
+
+pub lawful-submit : (s : Setting) (link : ℕ) (call : Call) (form : Form) (d : Drill) → IsOpened (s.opened link) → CanWriteCred call.cred → Keeps s link d → Keeps s link (after_submit s link call form d)
+unfolding after_submit
+lawful-submit s link call form d numbers writable h =
+    let o = s.opened link in
+    let answer = submit_answer_after o link d.marks call form in
+    let mark = marks.Submit link call form answer in
+    lawful-settled s link (with_mark mark d) (lawful-mark o link d.marks mark h.0 refl refl
+    (answer_asked o link d.marks call form answer numbers writable h.0 refl) tt (answer_accepted o link d.marks call form answer refl))
+
+lawful-fed : (s : Setting) (link : ℕ) (side : Side) (bytes : List ℕ) (rest : Pipes) (d : Drill) → IsLawful (s.opened link) link d.marks →
+    IsLawful (s.opened link) link (after_feeding link side bytes rest d).marks
+lawful-fed s link side [] rest d h = h
+lawful-fed s link side (b ∷ bytes) rest d h = lawful-mark (s.opened link) link d.marks (marks.Fed link side (b ∷ bytes)) h refl refl tt tt tt
+
+pub lawful-after_up : (s : Setting) (link n : ℕ) (d : Drill) → Keeps s link d → Keeps s link (after_up s link n d)
+unfolding after_up
+lawful-after_up s link n d h =
+    let pipes = pipes_of link d in
+    lawful-settled s link (after_feeding_up link n d) (lawful-fed s link Responder (take n pipes.up) (record pipes { up = drop n pipes.up }) d h.0)
+
+-- a call that waits is the next one of a server
+is_next : (dropped : Bool) (call : ReadyCall) (next : Option ReadyCall) → if_standing dropped next ≡ Some call → next ≡ Some call
+is_next true call next e = absurd cc
+is_next false call next e = e
+
+lawful-execution : (s : Setting) (link : ℕ) (call : ReadyCall) (reply : Option (List ℕ)) (d : Drill) → next_call (s.opened link) link d.marks ≡ Some call → Keeps s link d →
+    Keeps s link (after_answer s link call reply d)
+lawful-execution s link call None d next h = h
+lawful-execution s link call (Some reply) d next h =
+    let o = s.opened link in
+    let mark = marks.Execute link call.xid (now d) call.payload (length (journal (plain_of s.server) d.marks)) reply in
+    lawful-settled s link (with_mark mark d) (lawful-mark o link d.marks mark h.0 refl refl tt (λ same. record { call = call; is_next = next; own = refl; conveyed = refl }) tt)
+
+lawful-waiting : (s : Setting) (link : ℕ) (call : Option ReadyCall) (d : Drill) → if_standing (is_dropped link d.marks) (next_call (s.opened link) link d.marks) ≡ call → Keeps s link d →
+    Keeps s link (after_execution s link call d)
+lawful-waiting s link None d e h = h
+lawful-waiting s link (Some call) d e h =
+    lawful-execution s link call (s.server.reply_to (journal (plain_of s.server) d.marks) (now d) call.payload) d
+    (is_next (is_dropped link d.marks) call (next_call (s.opened link) link d.marks) e) h
+
+pub lawful-work : (s : Setting) (link : ℕ) (d : Drill) → Keeps s link d → Keeps s link (after_work s link d)
+unfolding after_work waiting_call
+lawful-work s link d h = lawful-waiting s link (waiting_call s link d.marks) d refl h
+
+pub lawful-calls : (s : Setting) (link n : ℕ) (d : Drill) → Keeps s link d → Keeps s link (after_calls s link n d)
+lawful-calls s link zero d h = h
+lawful-calls s link (suc n) d h = lawful-calls s link n (after_work s link d) (lawful-work s link d h)
+
+pub lawful-drop : (s : Setting) (link : ℕ) (d : Drill) → IsLawful (s.opened link) link d.marks → IsLawful (s.opened link) link (after_drop link d).marks
+lawful-drop s link d h = lawful-mark (s.opened link) link d.marks (marks.Drop link) h refl refl tt tt tt
+
+-- ===== lists
+
+here : {X : Type 0} (x : X) (xs : List X) (c : X) → x ≡ c → Contains (x ∷ xs) c
+here x xs c is = (zero, omega arith, is)
+
+there : {X : Type 0} (x : X) (xs : List X) (c : X) → Contains xs c → Contains (x ∷ xs) c
+there x xs c h = (suc h.0, (let lt = h.1 in omega (arith, lt)), h.2)
+
+none_in : {X : Type 0} {W : Type 0} (c : X) → Contains [] c → W
+none_in c h = absurd (let lt = h.1 in omega (arith, lt))
+
+one_in : {X : Type 0} (x c : X) → Contains (x ∷ []) c → x ≡ c
+one_in {X = X} x c h = by (Contains-push_cases [] x c h)
+  where
+    by : Contains [] c ⊎ (x ≡ c) → x ≡ c
+    by (inl none) = none_in {W = x ≡ c} c none
+    by (inr is) = is
+
+-- the element that stands at a place of a list, and the first one that passes a test
+got_in : {X : Type 0} (xs : List X) (i : ℕ) (c : X) → slice_get xs i ≡ Some c → Contains xs c
+got_in [] i c e = absurd cc
+got_in {X = X} (x ∷ xs) zero c e = here x xs c (ap (λ (o : Option X). unwrap_or o c) e)
+got_in (x ∷ xs) (suc i) c e = there x xs c (got_in xs i c e)
+
+passed : {X : Type 0} (p : X → Bool) (xs : List X) (c : X) → Contains (filter p xs) c → Contains xs c × (p c ≡ true)
+passed p [] c h = none_in {W = Contains [] c × (p c ≡ true)} c h
+passed {X = X} p (x ∷ xs) c h = by (passed p xs c) (p x) refl h
+  where
+    later : (Contains (filter p xs) c → Contains xs c × (p c ≡ true)) → Contains (filter p xs) c → Contains (x ∷ xs) c × (p c ≡ true)
+    later more h = (let r = more h in (there x xs c r.0, r.1))
+
+    either : (Contains (filter p xs) c → Contains xs c × (p c ≡ true)) → p x ≡ true → Contains (x ∷ []) c ⊎ Contains (filter p xs) c → Contains (x ∷ xs) c × (p c ≡ true)
+    either more is (inl first) = (here x xs c (one_in x c first), ap p (sym (one_in x c first)) ∙ is)
+    either more is (inr h) = later more h
+
+    by : (Contains (filter p xs) c → Contains xs c × (p c ≡ true)) → (b : Bool) → p x ≡ b → Contains (cond b (x ∷ filter p xs) (filter p xs)) c → Contains (x ∷ xs) c × (p c ≡ true)
+    by more true is h = either more is (Contains-append_cases (x ∷ []) (filter p xs) c h)
+    by more false is h = later more h
+
+record IsFrom {X A : Type 0} (f : X → List A) (xs : List X) (c : A) : Type 0 where
+  source : X
+  is_there : Contains xs source
+  gives : Contains (f source) c
+
+in_flat : {X A : Type 0} (f : X → List A) (xs : List X) (c : A) → Contains (flat_map f xs) c → IsFrom f xs c
+in_flat f [] c h = none_in {W = IsFrom f [] c} c h
+in_flat f (x ∷ xs) c h = by (in_flat f xs c) (Contains-append_cases (f x) (flat_map f xs) c h)
+  where
+    by : (Contains (flat_map f xs) c → IsFrom f xs c) → Contains (f x) c ⊎ Contains (flat_map f xs) c → IsFrom f (x ∷ xs) c
+    by more (inl first) = record { source = x; is_there = here x xs x refl; gives = first }
+    by more (inr h) = (let r = more h in record { source = r.source; is_there = there x xs r.source r.is_there; gives = r.gives })
+
+-- ===== outcomes are handed over
+
+neither : (a b : Bool) → not (a || b) ≡ true → (a ≡ false) × (b ≡ false)
+neither true b e = absurd cc
+neither false true e = absurd cc
+neither false false e = (refl, refl)
+
+none_completed : (link xid : ℕ) (run : List Mark) → is_completed link xid run ≡ false → (c : CompletedCall) → Contains (completed_calls link run) c → c.xid ≢ xid
+none_completed link xid run none c h same = absurd (true-not (sym (passes-any (λ (x : CompletedCall). eqb x.xid xid) (completed_calls link run) c h (eq-eqb c.xid xid same)) ∙ none))
+  where
+    true-not : true ≡ false → ⊥
+    true-not e = absurd cc
+
+handed : (o : LinkParameters) (link : ℕ) (run : List Mark) (c : CompletedCall) → slice_get (outcomes_due o link run) 0 ≡ Some c → IsCompleted o link run c.xid c.outcome
+unfolding outcomes_due
+handed o link run c e =
+    let outs = (client o link run).state.outcomes in
+    let p = λ (x : CompletedCall). not (is_abandoned link x.xid run || is_completed link x.xid run) in
+    let all = flat_map (outcomes_of_call outs) (accepted_calls link run) in
+    let due = passed p all c (got_in (filter p all) 0 c e) in
+    let from = in_flat (outcomes_of_call outs) (accepted_calls link run) c due.0 in
+    let own = passed (λ (x : CompletedCall). eqb x.xid from.source.xid) outs c from.gives in
+    let kept = neither (is_abandoned link c.xid run) (is_completed link c.xid run) due.1 in
+    record {
+      awaited = record {
+        asked = from.source;
+        is_asked = from.is_there;
+        own = sym (eqb-true c.xid from.source.xid own.1);
+        first = none_completed link c.xid run kept.1;
+        kept = kept.0;
+      };
+      is_received = own.0;
+    }
+
+pub lawful-handing : (o : LinkParameters) (link : ℕ) (c : Option CompletedCall) (d : Drill) → slice_get (outcomes_due o link d.marks) 0 ≡ c → IsLawful o link d.marks →
+    IsLawful o link (after_handing link c d).marks
+lawful-handing o link None d e h = h
+lawful-handing o link (Some c) d e h =
+    lawful-mark o link d.marks (marks.Done link c.xid c.outcome) h refl refl (λ same. handed o link d.marks c e) tt tt
+
+lawful-dones : (s : Setting) (link n : ℕ) (d : Drill) → IsLawful (s.opened link) link d.marks → IsLawful (s.opened link) link (after_dones s link n d).marks
+unfolding after_done
+lawful-dones s link zero d h = h
+lawful-dones s link (suc n) d h =
+    lawful-dones s link n (after_done s link d) (lawful-handing (s.opened link) link (slice_get (outcomes_due (s.opened link) link d.marks) 0) d refl h)
+
+pub lawful-after_down : (s : Setting) (link n : ℕ) (d : Drill) → Keeps s link d → Keeps s link (after_down s link n d)
+unfolding after_down after_outcomes
+lawful-after_down s link n d h =
+    let o = s.opened link in
+    let pipes = pipes_of link d in
+    let fed = after_feeding_down link n d in
+    let h = lawful-fed s link Initiator (take n pipes.down) (record pipes { down = drop n pipes.down }) d h.0 in
+    lawful-settled s link (after_outcomes s link fed) (lawful-dones s link (length (outcomes_due o link fed.marks)) fed h)
+
+-- ===== calls are given up
+
+abbrev accepted_xid : Submission → ℕ → ℕ
+accepted_xid (submissions.Accepted xid) other = xid
+accepted_xid (submissions.Refused why) other = other
+accepted_xid submissions.Dropped other = other
+
+open_parts : (a b c d : Bool) → not (a || (b || c)) && d ≡ true → (a ≡ false) × (b ≡ false) × (c ≡ false) × (d ≡ true)
+open_parts true b c d e = absurd cc
+open_parts false true c d e = absurd cc
+open_parts false false true d e = absurd cc
+open_parts false false false true e = (refl, refl, refl, refl)
+open_parts false false false false e = absurd cc
+
+accepted_in : (xid : ℕ) (answer : Submission) (call : Call) (form : Form) → Contains (answer ∷ []) (submissions.Accepted xid) → (a : AcceptedCall) × Contains (accepted_as answer call form) a × (a.xid ≡ xid)
+accepted_in xid answer call form h = by answer (one_in answer (submissions.Accepted xid) h)
+  where
+    by : (answer : Submission) → answer ≡ submissions.Accepted xid → (a : AcceptedCall) × Contains (accepted_as answer call form) a × (a.xid ≡ xid)
+    by (submissions.Accepted x) is =
+        let a : AcceptedCall = record { xid = x; call = call; form = form } in
+        (a, here a [] a refl, ap (λ (s : Submission). accepted_xid s x) is)
+    by (submissions.Refused why) is = absurd cc
+    by submissions.Dropped is = absurd cc
+
+accepted_of : (link xid : ℕ) (mark : Mark) → Contains (answer_at link mark) (submissions.Accepted xid) → (a : AcceptedCall) × Contains (accepted_at link mark) a × (a.xid ≡ xid)
+accepted_of link xid (marks.Submit l call form answer) h = by (eqb l link) h
+  where
+    by : (b : Bool) → Contains (cond b (answer ∷ []) []) (submissions.Accepted xid) → (a : AcceptedCall) × Contains (cond b (accepted_as answer call form) []) a × (a.xid ≡ xid)
+    by true h = accepted_in xid answer call form h
+    by false h = none_in {W = (a : AcceptedCall) × Contains [] a × (a.xid ≡ xid)} (submissions.Accepted xid) h
+accepted_of link xid (marks.Wrote l side bytes) h = none_in {W = (a : AcceptedCall) × Contains [] a × (a.xid ≡ xid)} (submissions.Accepted xid) h
+accepted_of link xid (marks.Fed l side bytes) h = none_in {W = (a : AcceptedCall) × Contains [] a × (a.xid ≡ xid)} (submissions.Accepted xid) h
+accepted_of link xid (marks.Execute l x moment payload place reply) h = none_in {W = (a : AcceptedCall) × Contains [] a × (a.xid ≡ xid)} (submissions.Accepted xid) h
+accepted_of link xid (marks.Done l x outcome) h = none_in {W = (a : AcceptedCall) × Contains [] a × (a.xid ≡ xid)} (submissions.Accepted xid) h
+accepted_of link xid (marks.Lost l x) h = none_in {W = (a : AcceptedCall) × Contains [] a × (a.xid ≡ xid)} (submissions.Accepted xid) h
+accepted_of link xid (marks.Forget l x) h = none_in {W = (a : AcceptedCall) × Contains [] a × (a.xid ≡ xid)} (submissions.Accepted xid) h
+accepted_of link xid (marks.Revoke l x bytes) h = none_in {W = (a : AcceptedCall) × Contains [] a × (a.xid ≡ xid)} (submissions.Accepted xid) h
+accepted_of link xid (marks.Drop l) h = none_in {W = (a : AcceptedCall) × Contains [] a × (a.xid ≡ xid)} (submissions.Accepted xid) h
+
+was_accepted : (link xid : ℕ) (run : List Mark) → Contains (flat_map (answer_at link) run) (submissions.Accepted xid) → (a : AcceptedCall) × Contains (accepted_calls link run) a × (a.xid ≡ xid)
+unfolding accepted_calls
+was_accepted link xid [] h = none_in {W = (a : AcceptedCall) × Contains [] a × (a.xid ≡ xid)} (submissions.Accepted xid) h
+was_accepted link xid (mark ∷ run) h = by (was_accepted link xid run) (Contains-append_cases (answer_at link mark) (flat_map (answer_at link) run) (submissions.Accepted xid) h)
+  where
+    all : List AcceptedCall
+    all = flat_map (accepted_at link) run
+
+    by : (Contains (flat_map (answer_at link) run) (submissions.Accepted xid) → (a : AcceptedCall) × Contains all a × (a.xid ≡ xid)) →
+        Contains (answer_at link mark) (submissions.Accepted xid) ⊎ Contains (flat_map (answer_at link) run) (submissions.Accepted xid) →
+        (a : AcceptedCall) × Contains (accepted_at link mark ++ all) a × (a.xid ≡ xid)
+    by more (inl first) = (let r = accepted_of link xid mark first in (r.0, Contains-append_left (accepted_at link mark) all r.0 r.1, r.2))
+    by more (inr h) = (let r = more h in (r.0, Contains-append_right (accepted_at link mark) all r.0 r.1, r.2))
+
+-- an open call is one that is awaited
+open_awaited : (s : Setting) (link number xid : ℕ) (run : List Mark) → answer_of_line link number run ≡ Some (submissions.Accepted xid) → is_open s link xid run ≡ true → IsAwaited link run xid
+unfolding answer_of_line
+open_awaited s link number xid run e is =
+    let parts = open_parts (is_dropped link run) (is_completed link xid run) (is_abandoned link xid run) (is_none (client (s.opened link) link run).ended) is in
+    let a = was_accepted link xid run (got_in (flat_map (answer_at link) run) (number - 1) (submissions.Accepted xid) e) in
+    record { asked = a.0; is_asked = a.1; own = a.2; first = none_completed link xid run parts.1; kept = parts.2 }
+
+opens_awaited : (s : Setting) (link number xid : ℕ) (run : List Mark) (answer : Option Submission) → answer_of_line link number run ≡ answer → open_xid s link run answer ≡ Some xid → IsAwaited link run xid
+opens_awaited s link number xid run (Some (submissions.Accepted x)) is e = by (is_open s link x run) refl e
+  where
+    by : (b : Bool) → is_open s link x run ≡ b → cond b (Some x) None ≡ Some xid → IsAwaited link run xid
+    by true so e = subst (IsAwaited link run) (ap (λ (o : Option ℕ). unwrap_or o xid) e) (open_awaited s link number x run is so)
+    by false so e = absurd cc
+opens_awaited s link number xid run (Some (submissions.Refused why)) is e = absurd cc
+opens_awaited s link number xid run (Some submissions.Dropped) is e = absurd cc
+opens_awaited s link number xid run None is e = absurd cc
+
+lawful-giving_up : (s : Setting) (link number : ℕ) (xid : Option ℕ) (d : Drill) → open_xid s link d.marks (answer_of_line link number d.marks) ≡ xid → IsLawful (s.opened link) link d.marks →
+    IsLawful (s.opened link) link (after_giving_up link xid d).marks
+lawful-giving_up s link number None d e h = h
+lawful-giving_up s link number (Some xid) d e h =
+    lawful-mark (s.opened link) link d.marks (marks.Forget link xid) h refl refl
+    (λ same. opens_awaited s link number xid d.marks (answer_of_line link number d.marks) refl e) tt tt
+
+pub lawful-forget : (s : Setting) (link number : ℕ) (d : Drill) → IsLawful (s.opened link) link d.marks → IsLawful (s.opened link) link (after_forget s link number d).marks
+unfolding after_forget
+lawful-forget s link number d h = lawful-giving_up s link number (open_xid s link d.marks (answer_of_line link number d.marks)) d refl h
+
+lawful-taking_back : (s : Setting) (link number : ℕ) (xid : Option ℕ) (d : Drill) → open_xid s link d.marks (answer_of_line link number d.marks) ≡ xid → Keeps s link d →
+    Keeps s link (after_taking_back s link xid d)
+lawful-taking_back s link number None d e h = h
+lawful-taking_back s link number (Some xid) d e h =
+    let o = s.opened link in
+    let mark = marks.Revoke link xid (revoked_bytes o link d.marks xid) in
+    lawful-settled s link (with_mark mark d) (lawful-mark o link d.marks mark h.0 refl refl
+    (λ same. record { awaited = opens_awaited s link number xid d.marks (answer_of_line link number d.marks) refl e; bytes_are = refl }) tt tt)
+
+pub lawful-revoke : (s : Setting) (link number : ℕ) (d : Drill) → Keeps s link d → Keeps s link (after_revoke s link number d)
+unfolding after_revoke
+lawful-revoke s link number d h = lawful-taking_back s link number (open_xid s link d.marks (answer_of_line link number d.marks)) d refl h
+
+-- ===== a round on a link
+
+pub lawful-moves : (s : Setting) (link : ℕ) (d : Drill) → Keeps s link d → Keeps s link (after_moves s link d)
+unfolding after_moves after_all_work
+lawful-moves s link d h =
+    let one = after_all_up s link d in
+    let two = after_all_work s link one in
+    lawful-after_down s link (length (pipes_of link two).down) two
+    (lawful-calls s link (length (server (s.opened link) link one.marks).state.ready) one
+    (lawful-after_up s link (length (pipes_of link d).up) d h))

@@ -1,0 +1,24 @@
+-- What the laws of nr_laws say of the memory of a link that keeps its laws.
+use Rattle.std.specs.Prelude.{ℕ, List, []}
+use Rattle.nr_reduce.specs.declared.mark.Mark.{Mark}
+use Rattle.nr_reduce.specs.declared.mark.LinkParameters.{LinkParameters}
+use Rattle.nr_reduce.specs.Asked.{AskedMark, AskedSoFar, IsAll, Asked}
+use Rattle.nr_reduce.specs.Matched.{IsPrefixOf}
+use Rattle.nr_reduce.proofs.SoFarLaws.{AtEachMark-each, asked-mark}
+use Rattle.nr_laws.specs.Typed.{IsTyped}
+use Rattle.nr_laws.proofs.Touched.{client_touched, server_touched}
+use Rattle.nr_laws.proofs.Frozen.{revoke_stands}
+use Rattle.nr_laws.proofs.SinkRegions.{server_refuses_requests}
+use Rattle.nr_laws.proofs.SentBytes.{sent_bytes_are_allowed}
+use Rattle.nr_drill.specs.Memory.{KeepsMemory}
+
+pub keeps-memory : (opened : LinkParameters) (link : ℕ) (run : List Mark) → IsTyped run → Asked opened link run → KeepsMemory opened link run
+keeps-memory opened link run typed asked =
+    let sofar : AskedSoFar opened link run = AtEachMark-each (AskedMark IsAll opened link) (AskedMark IsPrefixOf opened link) [] run (asked-mark opened link) asked.each in
+    record {
+      client_touched = client_touched opened link run;
+      server_touched = server_touched opened link run;
+      server_read = server_refuses_requests opened link run;
+      disclosed = λ offset byte is. sent_bytes_are_allowed opened link run offset byte sofar is;
+      revoked = λ before xid bytes at. revoke_stands opened link run before xid bytes typed sofar at;
+    }

@@ -1,0 +1,73 @@
+-- That a drain ends: each step that moves something leaves less work.
+use Rattle.std.specs.Prelude.{◌≡◌, ◌≢◌, ℕ, ◌-◌, ◌<◌, true, false, List, [], ◌++◌, length, Some}
+use Rattle.nr_xdr.specs.Item.{IsBytes}
+use Rattle.nr_wire.specs.declared.hello.Side.TheVariants.{Initiator, Responder}
+use Rattle.nr_link.specs.Frames.{frames_of}
+use Rattle.nr_reduce.specs.History.{bytes_sent, bytes_received, is_dropped}
+use Rattle.nr_reduce.specs.PlainJournal.{journal}
+use Rattle.nr_reduce.specs.ServerState.{ReadyCall}
+use Rattle.nr_reduce.specs.Asked.{Asked}
+use Rattle.nr_reduce.specs.Served.{Served, next_call}
+use Rattle.nr_reduce.specs.Matched.{Matched}
+use Rattle.nr_laws.specs.Grant.{AcceptsByRule}
+use Rattle.nr_laws.specs.Typed.{IsTyped}
+use Rattle.nr_script.specs.declared.script.Opening.{Opening}
+use Rattle.nr_script.specs.declared.script.Line.{Line}
+use Rattle.nr_script.specs.Script.{ScriptLines, IsScript}
+use Rattle.nr_drill.specs.Drill.{SerialServer, Setting, Drill, plain_of, now, waiting_call, links_of, pipes_of, empty_pipes, after_work}
+use Rattle.nr_drill.specs.Follows.{Drains, MakeAll, setting_of, opened_drill}
+use Rattle.nr_drill.specs.Headline.{IsLink, HasNoRaw}
+use Rattle.nr_drill.specs.WorkLeft.{DrainStep, after_step, work_left, IsLess}
+use Rattle.nr_drill.specs.WorkLeft.DrainStep.{AllUp, Work, AllDown}
+
+-- How a link of a drill stands before and after each step: both sides keep their laws and have written what was due; what each received and what
+-- waits is what the other sent, until the link is dropped, and then nothing waits; each side has the hello of the other.
+pub record IsRunning (s : Setting) (link : ℕ) (d : Drill) : Type 0 where
+  pub asked : Asked (s.opened link) link d.marks
+  pub served : Served (s.opened link) link d.marks
+  pub accepts : AcceptsByRule (s.opened link) link d.marks
+  pub matched : Matched link d.marks
+  pub room : link - 1 < length d.pipes
+  pub up : is_dropped link d.marks ≡ false → bytes_received link Responder d.marks ++ (pipes_of link d).up ≡ bytes_sent link Initiator d.marks
+  pub down : is_dropped link d.marks ≡ false → bytes_received link Initiator d.marks ++ (pipes_of link d).down ≡ bytes_sent link Responder d.marks
+  pub gone : is_dropped link d.marks ≡ true → pipes_of link d ≡ empty_pipes
+  pub client_heard : frames_of Responder (bytes_received link Initiator d.marks) ≢ []
+  pub server_heard : frames_of Initiator (bytes_received link Responder d.marks) ≢ []
+
+-- a step moves bytes that wait, or a call is executed
+abbrev pub Moves : Setting → ℕ → DrainStep → Drill → Type 0
+Moves s link AllUp d = (pipes_of link d).up ≢ []
+Moves s link Work d = (after_work s link d).marks ≢ d.marks
+Moves s link AllDown d = (pipes_of link d).down ≢ []
+
+-- On a link that runs a step that moves something leaves less work. On a link with bytes that a script put there it needn't: what is read as a
+-- Read Response by its client may be read as a Send by its server.
+abbrev pub StepsLeaveLess : Type 0
+StepsLeaveLess = (s : Setting) (link : ℕ) (step : DrainStep) (old : Drill) → IsRunning s link old → Moves s link step old → IsTyped (after_step s link step old).marks →
+    IsLess (work_left s (after_step s link step old) link) (work_left s old link)
+
+-- what steps write down are of their types
+abbrev pub StepsKeepTypes : Setting → Type 0
+StepsKeepTypes s = (link : ℕ) (step : DrainStep) (d : Drill) → IsRunning s link d → IsTyped d.marks → IsTyped (after_step s link step d).marks
+
+-- the server has a reply to each call that waits
+abbrev pub AnswersCalls : Setting → Type 0
+AnswersCalls s = (link : ℕ) (d : Drill) (call : ReadyCall) → next_call (s.opened link) link d.marks ≡ Some call →
+    (reply : List ℕ) × (s.server.reply_to (journal (plain_of s.server) d.marks) (now d) call.payload ≡ Some reply)
+
+-- What the server replies to a call that waits is bytes, if what is written down so far is of its types. What a program replies is always so.
+abbrev pub AnswersInBytes : Setting → Type 0
+AnswersInBytes s = (link : ℕ) (d : Drill) (call : ReadyCall) (reply : List ℕ) → IsTyped d.marks → waiting_call s link d.marks ≡ Some call →
+    s.server.reply_to (journal (plain_of s.server) d.marks) (now d) call.payload ≡ Some reply → IsBytes reply
+
+-- so what each step of a drain writes down on a link that runs is of its types
+abbrev pub RepliesKeepTypes : Type 0
+RepliesKeepTypes = (server : SerialServer) (opening : Opening) → AnswersInBytes (setting_of server opening) → StepsKeepTypes (setting_of server opening)
+
+-- In a script that puts no bytes into pipes a drain ends, wherever it stands: after so many rounds nothing moves on any link.
+abbrev pub DrainsEnd : Type 0
+DrainsEnd = (server : SerialServer) (script : ScriptLines) → IsScript script → ((link : ℕ) → IsLink script link → HasNoRaw script link) →
+    AnswersInBytes (setting_of server script.opening) → AnswersCalls (setting_of server script.opening) →
+    (before after : List Line) → script.lines ≡ before ++ after → (mid : Drill) → IsTyped mid.marks →
+    MakeAll (setting_of server script.opening) script.opening.clients before (opened_drill server script.opening) mid →
+    (rounds : ℕ) × (new : Drill) × Drains (setting_of server script.opening) (links_of script.opening.clients) rounds mid new

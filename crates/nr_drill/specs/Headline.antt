@@ -1,0 +1,152 @@
+-- What a drill promises: its run follows the script, both ends of each link keep their laws, and what these mean to callers.
+use Rattle.std.specs.Prelude.{◌≡◌, ◌≢◌, ℕ, ◌≤◌, Bool, true, false, ◌==◌, List, [], ◌∷◌, ◌++◌, map, None, ◌↔◌}
+use Rattle.std.specs.List.{list_any}
+use Rattle.nr_wire.specs.declared.hello.Side.TheVariants.{Initiator, Responder}
+use Rattle.nr_reduce.specs.declared.call.Call.{Call}
+use Rattle.nr_reduce.specs.declared.call.Form.{Form}
+use Rattle.nr_reduce.specs.declared.call.Form.TheVariants as forms
+use Rattle.nr_reduce.specs.declared.call.Outcome.{Outcome}
+use Rattle.nr_reduce.specs.declared.call.Outcome.TheVariants as outcomes
+use Rattle.nr_reduce.specs.declared.call.Submission.TheVariants as submissions
+use Rattle.nr_reduce.specs.declared.mark.Entry.{Entry}
+use Rattle.nr_reduce.specs.declared.mark.Moment.{Moment}
+use Rattle.nr_reduce.specs.declared.mark.Mark.{Mark}
+use Rattle.nr_reduce.specs.declared.mark.Mark.TheVariants as marks
+use Rattle.nr_reduce.specs.declared.mark.LinkParameters.{LinkParameters}
+use Rattle.nr_reduce.specs.declared.outline.Plan.{Plan}
+use Rattle.nr_reduce.specs.PlainJournal.{PlainServer, journal}
+use Rattle.nr_reduce.specs.Journal.{Journaled, Plainly}
+use Rattle.nr_reduce.specs.History.{AcceptedCall, completed_calls, bytes_sent, bytes_received, is_dropped}
+use Rattle.nr_reduce.specs.OutcomesDue.{outcomes_due}
+use Rattle.nr_reduce.specs.Run.{end_of_side}
+use Rattle.nr_reduce.specs.Asked.{Asked}
+use Rattle.nr_reduce.specs.Served.{Served}
+use Rattle.nr_reduce.specs.Matched.{Matched}
+use Rattle.nr_reduce.specs.Credits.{KeepsGrant}
+use Rattle.nr_laws.specs.MarkAt.{MarkAt}
+use Rattle.nr_laws.specs.Typed.{IsTyped}
+use Rattle.nr_laws.specs.Grant.{AcceptsByRule}
+use Rattle.nr_laws.specs.Payloads.{HasPlan}
+use Rattle.nr_laws.specs.PlainReplies.{HasPlainReply}
+use Rattle.nr_laws.specs.ChunkOutcomes.{HasChunkCause, IsAnswered}
+use Rattle.nr_laws.specs.Completion.{HaveCompleted, HasOutcome, IsKept, NothingWaits}
+use Rattle.nr_laws.specs.Stays.{HasNoRevoke, AreConveyedOrRefused}
+use Rattle.nr_script.specs.declared.script.Line.{Line}
+use Rattle.nr_script.specs.declared.script.Line.TheVariants as lines
+use Rattle.nr_drill.specs.declared.report.Report.{Report}
+use Rattle.nr_drill.specs.declared.report.LinkLog.{LinkLog}
+use Rattle.nr_script.specs.Script.{ScriptLines}
+use Rattle.nr_drill.specs.Drill.{SerialServer, plain_of, links_of}
+use Rattle.nr_drill.specs.Follows.{Follows, parameters_of, setting_of}
+use Rattle.nr_drill.specs.Memory.{KeepsMemory}
+use Rattle.nr_drill.specs.Reports.{call_reports, link_reports}
+
+-- ===== what lines of a script name
+
+abbrev pub is_raw_of : ℕ → Line → Bool
+is_raw_of link (lines.Raw client side bytes) = client == link
+is_raw_of link line = false
+
+-- a line that does something on a link: a drain does it on each
+abbrev pub acts_on : ℕ → Line → Bool
+acts_on link (lines.Cred client cred) = false
+acts_on link (lines.Call client form prog vers proc args) = client == link
+acts_on link (lines.Up client most) = client == link
+acts_on link (lines.Down client most) = client == link
+acts_on link (lines.Work client) = client == link
+acts_on link (lines.Tick seconds) = false
+acts_on link (lines.Forget client number) = client == link
+acts_on link (lines.Revoke client number) = client == link
+acts_on link (lines.Drop client) = client == link
+acts_on link (lines.Raw client side bytes) = client == link
+acts_on link lines.Drain = true
+
+-- no line puts bytes into the pipes of a link
+abbrev pub HasNoRaw : ScriptLines → ℕ → Type 0
+HasNoRaw script link = list_any (is_raw_of link) script.lines ≡ false
+
+-- a drain that no later line of the link follows
+pub record EndsWithDrain (script : ScriptLines) (link : ℕ) : Type 0 where
+  pub before : List Line
+  pub after : List Line
+  pub is_cut : script.lines ≡ before ++ lines.Drain ∷ after
+  pub none_after : list_any (acts_on link) after ≡ false
+
+-- ===== one link
+
+-- Whatever the script, hostile bytes too: both ends keep their laws in full; each call is accepted by the client's rule, so within the grant;
+-- each outcome that is due has been handed over; and where no line puts bytes into its pipes, each side receives what the other sent.
+pub record KeepsLaws (script : ScriptLines) (opened : LinkParameters) (link : ℕ) (run : List Mark) : Type 0 where
+  pub asked : Asked opened link run
+  pub served : Served opened link run
+  pub accepts : AcceptsByRule opened link run
+  pub grant : KeepsGrant opened link run
+  pub handed : outcomes_due opened link run ≡ []
+  pub matched : HasNoRaw script link → Matched link run
+
+-- A call that completes: with the plain server's reply at its place in the one journal; else with Chunk, where its message is refused or its
+-- offer doesn't hold the reply; never with another version.
+pub record Completes (plain : PlainServer) (J : List Entry) (opened : LinkParameters) (link : ℕ) (run : List Mark) : Type 0 where
+  pub reply : (before : List Mark) (xid : ℕ) (reply : List ℕ) → MarkAt run before (marks.Done link xid (outcomes.Reply reply)) →
+      (plan : Plan) × (has : HasPlan opened link before xid plan) × HasPlainReply plain J link before xid has.call has.form reply
+  pub chunk : (before : List Mark) (xid : ℕ) (outcome : Outcome) → MarkAt run before (marks.Done link xid outcome) → (outcome ≡ outcomes.Chunk) ↔ HasChunkCause opened link before xid
+  pub version : (before : List Mark) (xid low high : ℕ) → MarkAt run before (marks.Done link xid (outcomes.Version low high)) → ⊥
+  pub auto : (earlier before : List Mark) (call : Call) (xid : ℕ) (outcome : Outcome) → MarkAt run earlier (marks.Submit link call forms.Auto (submissions.Accepted xid)) →
+      MarkAt run before (marks.Done link xid outcome) → (reply : List ℕ) × (outcome ≡ outcomes.Reply reply)
+
+-- On every link, whatever a script puts into its pipes, the reply to each executed call that adds an entry goes out.
+abbrev pub AnswersChanges : SerialServer → LinkParameters → ℕ → List Mark → Type 0
+AnswersChanges server opened link run = (before : List Mark) (xid : ℕ) (moment : Moment) (payload : List ℕ) (place : ℕ) (reply : List ℕ) →
+    MarkAt run before (marks.Execute link xid moment payload place reply) → server.adds moment payload reply ≢ [] → IsAnswered opened link before xid moment payload place reply
+
+-- neither side ends, and behind a last drain all calls have completed, each that wasn't given up with its Done
+pub record Stays (script : ScriptLines) (opened : LinkParameters) (link : ℕ) (run : List Mark) : Type 0 where
+  pub client : end_of_side opened link Initiator run ≡ None
+  pub server : end_of_side opened link Responder run ≡ None
+  pub complete : EndsWithDrain script link → NothingWaits opened link run × HaveCompleted opened link run
+  pub done : EndsWithDrain script link → (a : AcceptedCall) → IsKept link run a → HasOutcome (completed_calls link run) a.xid
+
+-- ===== the run
+
+-- A call that is submitted after the outcome of another has a place that isn't smaller, whatever their links, where these are matched.
+abbrev pub PlacesRise : ℕ → ℕ → List Mark → Type 0
+PlacesRise link other_link run = (before between before_first before_second : List Mark) (call : Call) (form : Form) (xid other_xid : ℕ) (outcome : Outcome)
+    (moment other_moment : Moment) (payload other_payload : List ℕ) (place other_place : ℕ) (reply other_reply : List ℕ) →
+    MarkAt run (before ++ marks.Done link xid outcome ∷ between) (marks.Submit other_link call form (submissions.Accepted other_xid)) →
+    MarkAt run before_first (marks.Execute link xid moment payload place reply) →
+    MarkAt run before_second (marks.Execute other_link other_xid other_moment other_payload other_place other_reply) → place ≤ other_place
+
+abbrev pub IsLink : ScriptLines → ℕ → Type 0
+IsLink script link = (1 ≤ link) × (link ≤ script.opening.clients)
+
+-- The run of a drill. `opened` tells what the ends of a link were opened with.
+pub record IsDrillRun (server : SerialServer) (script : ScriptLines) (run : List Mark) : Type 0 where
+  pub follows : Follows server script run
+  pub typed : IsTyped run
+  pub journaled : Journaled (plain_of server) (journal (plain_of server) run) run
+  pub plainly : Plainly (plain_of server) run
+  pub laws : (link : ℕ) → IsLink script link → KeepsLaws script (parameters_of script.opening link) link run
+  pub memory : (link : ℕ) → IsLink script link → KeepsMemory (parameters_of script.opening link) link run
+  pub outcomes : (link : ℕ) → IsLink script link → HasNoRaw script link → Completes (plain_of server) (journal (plain_of server) run) (parameters_of script.opening link) link run
+  pub changes : (link : ℕ) → IsLink script link → AnswersChanges server (parameters_of script.opening link) link run
+  pub places : (link other_link : ℕ) → IsLink script link → IsLink script other_link → HasNoRaw script link → HasNoRaw script other_link → PlacesRise link other_link run
+  pub staying : (link : ℕ) → IsLink script link → HasNoRaw script link → is_dropped link run ≡ false → HasNoRevoke link run → AreConveyedOrRefused (parameters_of script.opening link) link run →
+      Stays script (parameters_of script.opening link) link run
+
+-- ===== the report
+
+abbrev pub log_of : List Mark → ℕ → LinkLog
+log_of run link = record {
+  client_wrote = bytes_sent link Initiator run;
+  server_wrote = bytes_sent link Responder run;
+  client_was_fed = bytes_received link Initiator run;
+  server_was_fed = bytes_received link Responder run;
+}
+
+-- what a report says beside its marks is what the marks say
+pub record Reports (server : SerialServer) (script : ScriptLines) (report : Report) : Type 0 where
+  pub drill : IsDrillRun server script report.marks
+  pub journal : report.journal ≡ journal (plain_of server) report.marks
+  pub calls : report.calls ≡ call_reports (setting_of server script.opening) report.marks
+  pub links : report.links ≡ link_reports (setting_of server script.opening) script.opening.clients report.marks
+  pub logs : report.logs ≡ map (log_of report.marks) (links_of script.opening.clients)

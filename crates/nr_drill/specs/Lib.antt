@@ -1,0 +1,11 @@
+pub mod Drill
+pub mod Follows
+pub mod WorkLeft
+pub mod Reports
+pub mod Shown
+pub mod Memory
+pub mod Headline
+pub mod Drains
+pub mod InBytes
+pub mod DrillSetup
+pub mod Laws

@@ -1,0 +1,11 @@
+//! What a drill is: the marks that a script makes on both ends of each link and on a plain server, and what is reported of them.
+#![tactic(auto)]
+
+mod laws;
+mod report;
+
+pub use laws::{drains_end, drill_is_run, reports_tell_runs, runs};
+pub use report::{
+    CallReport, CallReports, CallState, Journal, LinkLog, LinkReport, LinkReports, LinkState, Logs,
+    Report,
+};
