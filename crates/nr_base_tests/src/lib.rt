@@ -8,6 +8,8 @@ mod args;
 #[cfg(test)]
 mod base;
 #[cfg(test)]
+mod borrowed;
+#[cfg(test)]
 mod compare;
 #[cfg(test)]
 mod header;

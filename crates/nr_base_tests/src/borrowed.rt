@@ -1,0 +1,95 @@
+//! Heads and headers that are written from borrowed parts, without a value of their own.
+
+ghost use Rattle.nr_header.specs.Header.{ChunksFit};
+
+use crate::compare::{bytes_of, same};
+use nr_header::{
+    ChunkLists, InlineVec, ReadSegment, TransportError, write_error, write_plain, write_with_lists,
+};
+use nr_rpc::{CallTarget, Cred, write_call_of};
+use std::alloc::Global;
+use std::process::Abort;
+
+#[test]
+fn call_of_a_borrowed_credential(rt: HostRuntime) {
+    let cred = Cred::Other { flavor: 6 };
+    let target = CallTarget {
+        xid: 1,
+        prog: 100_003,
+        vers: 3,
+        proc: 4,
+        args_at: 7,
+    };
+    let written = write_call_of(rt.alloc(), target, &cred, b"hiho").expect(&rt, "memory");
+    let words = &[1, 0, 2, 100_003, 3, 4, 6, 0, 0, 0, 0x6869_686f];
+    same(&rt, 0, written.into_vec(), bytes_of(&rt, rt.alloc(), words));
+}
+
+#[test]
+fn header_without_chunks(rt: HostRuntime) {
+    let written = write_plain(rt.alloc(), 9, 16).expect(&rt, "memory");
+    let words = &[9, 1, 16, 0, 0, 0, 0];
+    same(&rt, 0, written.into_vec(), bytes_of(&rt, rt.alloc(), words));
+}
+
+/// The version word, the error, and the message (RFC 8166 sections 4.5.1 and 4.5.3).
+static ERRORS: [(u32, TransportError, &[u32]); 3] = [
+    (
+        7,
+        TransportError::Vers { low: 1, high: 2 },
+        &[9, 7, 16, 4, 1, 1, 2],
+    ),
+    (1, TransportError::Chunk, &[9, 1, 16, 4, 2]),
+    (3, TransportError::Chunk, &[9, 3, 16, 4, 2]),
+];
+
+#[test]
+fn error_messages(rt: HostRuntime) {
+    for (row, (version, error, words)) in ERRORS.iter().enumerate() {
+        let written = write_error(rt.alloc(), 9, *version, 16, *error).expect(&rt, "memory");
+        same(
+            &rt,
+            row,
+            written.into_vec(),
+            bytes_of(&rt, rt.alloc(), words),
+        );
+    }
+}
+
+/// Lists with one read segment.
+fn one_segment(rt: &impl Abort, alloc: Global) -> ChunkLists
+    ensures { ChunksFit result }
+{
+    let segment = ReadSegment {
+        position: 8,
+        handle: 11,
+        length: 12,
+        offset: 0x0000_000d_0000_000e,
+    };
+    ChunkLists {
+        read: InlineVec::from_vec(vec![in alloc; segment; 1].expect(rt, "memory")),
+        write: InlineVec::new(),
+        reply: None,
+    }
+}
+
+/// RDMA_NOMSG where the stream is in a chunk, else RDMA_MSG.
+static KINDS: [(bool, &[u32]); 2] = [
+    (false, &[9, 1, 16, 0, 1, 8, 11, 12, 13, 14, 0, 0, 0]),
+    (true, &[9, 1, 16, 1, 1, 8, 11, 12, 13, 14, 0, 0, 0]),
+];
+
+fn lists_written(rt: &impl Abort, alloc: Global, long: bool) -> Vec<u8> {
+    let lists = one_segment(rt, alloc);
+    let written = write_with_lists(alloc, 9, 16, long, &lists).expect(rt, "memory");
+    drop(lists);
+    written.into_vec()
+}
+
+#[test]
+fn headers_with_lists(rt: HostRuntime) {
+    for (row, (long, words)) in KINDS.iter().enumerate() {
+        let got = lists_written(&rt, rt.alloc(), *long);
+        same(&rt, row, got, bytes_of(&rt, rt.alloc(), words));
+    }
+}
