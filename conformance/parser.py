@@ -174,7 +174,7 @@ class Parser:
             e = ('num', int(t.v))
         elif t.k == 'str':
             self.next()
-            e = ('str', t.v[1:-1])
+            e = ('str', t.v[1:-1].replace('\\n', '\n'))
         elif t.k == 'id':
             if t.v in KEYWORDS or t.v in ('let', 'if'):
                 return None

@@ -2,7 +2,8 @@
 
     python3 conformance/run.py [--jobs N]
 
-It runs test_evaluator.py, check_grammar.py, check_definitions.py and laws_of_runs.py, one after the other, on all processors. Exit status: 0 if all of them agree, else 1."""
+It runs test_evaluator.py, check_grammar.py, check_drills.py, check_definitions.py and laws_of_runs.py, one after the other,
+on all processors. Exit status: 0 if all of them agree, else 1."""
 import argparse
 import os
 import subprocess
@@ -13,6 +14,7 @@ HERE = os.path.dirname(os.path.abspath(__file__))
 STEPS = (
     ('The evaluator against definitions whose values are known', 'test_evaluator.py', False),
     ('The grammar of scripts on the recorded scripts', 'check_grammar.py', True),
+    ('The definitions of a drill on the recorded scripts', 'check_drills.py', True),
     ('The definitions of a run on the recorded runs', 'check_definitions.py', True),
     ('The laws on the recorded runs', 'laws_of_runs.py', True),
 )

@@ -74,6 +74,10 @@ def _decoded(digits: list[int]) -> Value:
     return Con('Ok', list(bytes.fromhex(text)))
 
 
+def _set(xs: list[Value], i: int, x: Value) -> list[Value]:
+    return xs[:i] + [x] + xs[i + 1:] if i < len(xs) else xs
+
+
 def _pointwise(f: Value, xs: list[Value], ys: list[Value]) -> bool:
     return len(xs) == len(ys) and all(truth(call(f, x, y)) for x, y in zip(xs, ys))
 
@@ -122,7 +126,9 @@ STD: dict[str, Value] = {
     'option_map_or': Fn(3, lambda f, o, d: call(f, o.a[0]) if o.n == 'Some' else d),
     'option_and_then': Fn(2, lambda f, o: call(f, o.a[0]) if o.n == 'Some' else o),
     'result_unwrap_or': Fn(2, lambda o, d: o.a[0] if o.n == 'Ok' else d),
-    'pointwise': Fn(3, _pointwise),
+    'pointwise': Fn(3, _pointwise), 'slice_set': Fn(3, _set),
+    'decimal': Fn(1, lambda n: [ord(c) for c in str(number(n))]),
+    'encode_lower': Fn(1, lambda xs: [ord(c) for c in bytes(listed(xs)).hex()]),
     'slice_split': Fn(2, _split), 'digits_value': Fn(2, _digits), 'decode_of': Fn(1, _decoded),
     'codes': Fn(1, lambda s: [ord(c) for c in s]),
     'w8': 1, 'w16': 2, 'w32': 4, 'w64': 8,

@@ -1,0 +1,198 @@
+"""Evaluates the definitions of a drill on the recorded scripts: the marks that a script makes, and what is printed of them.
+
+    python3 conformance/check_drills.py [--only WORD] [--jobs N]
+    python3 conformance/check_drills.py --record PROGRAM
+
+The replies of the plain server are those recorded in plain_scripts.json.gz; with --record they are asked of the built
+plain_calls, and recorded. Exit status: 0 all agree, 1 some differ, 2 nothing could be run."""
+import argparse
+import gzip
+import json
+import multiprocessing
+import os
+import subprocess
+import sys
+import traceback
+from typing import Any
+
+from antt import ROOT, Project
+from check_definitions import HERE, Recorded, shorten
+from compare_scripts import SCRIPTS
+from values import NONE, CannotEvaluate, Fn, Value, call, deeply, some
+
+PLAIN = os.path.join(HERE, 'plain_scripts.json.gz')
+ROUNDS_MAX = 10_000
+USES = (
+    'use Rattle.nr_wire.specs.declared.hello.Side.TheVariants.{Initiator, Responder}',
+    'use Rattle.nr_link.specs.Output.{own_hello}',
+    'use Rattle.nr_reduce.specs.Events.{events_at}',
+    'use Rattle.nr_reduce.specs.EndRules.{next_end_state, output_for}',
+    'use Rattle.nr_reduce.specs.Client.{client_rules, initial_client}',
+    'use Rattle.nr_reduce.specs.Server.{server_rules, initial_server}',
+    'use Rattle.nr_plain.specs.Added.{entries_of_call}',
+    'use Rattle.nr_script.specs.Script.{script_of}',
+    'use Rattle.nr_drill.specs.Drill.{links_of, after_round}',
+    'use Rattle.nr_drill.specs.Follows.{after_line, is_still, setting_of, opened_drill}',
+    'use Rattle.nr_drill.specs.Shown.{shown}',
+)
+ROLES = {
+    'Initiator': 'Initiator', 'Responder': 'Responder', 'hello': 'own_hello Initiator', 'events': 'λ link side before mark. events_at link side before mark',
+    'first Initiator': 'λ opened. initial_client opened', 'first Responder': 'λ opened. initial_server opened',
+    'next Initiator': 'λ opened state event. next_end_state (client_rules opened) state event',
+    'next Responder': 'λ opened state event. next_end_state (server_rules opened) state event',
+    'output Initiator': 'λ opened state event. output_for (client_rules opened) state event',
+    'output Responder': 'λ opened state event. output_for (server_rules opened) state event',
+    'adds': 'λ moment payload reply. entries_of_call moment payload reply', 'script_of': 'λ text. script_of text',
+    'links': 'λ clients. links_of clients', 'round': 'λ setting links drill. after_round setting links drill',
+    'line': 'λ setting line drill. after_line setting line drill', 'still': 'λ setting drill link. is_still setting drill link',
+    'setting': 'λ server opening. setting_of server opening', 'opened': 'λ server opening. opened_drill server opening',
+    'shown': 'λ setting clients run. shown setting clients run',
+}
+RUN = 'Rattle.nr_reduce.specs.Run'
+
+
+class Answers:
+    """The plain server of a script: what was recorded, or what plain_calls answers now."""
+
+    def __init__(self, recorded: dict[str, str], program: str | None, capacity: int) -> None:
+        self.recorded, self.program, self.capacity = recorded, program, capacity
+        self.lines: list[str] = []
+
+    def reply_to(self, journal: list[Value], moment: Value, payload: list[int]) -> Value:
+        digits = bytes(payload).hex() or '-'
+        key = '%d %d %s' % (len(journal), moment['seconds'], digits)
+        if key not in self.recorded:
+            if self.program is None:
+                raise CannotEvaluate('no reply is recorded of a call at place %d' % len(journal))
+            self.recorded[key] = self.asked(moment['seconds'], digits)
+        reply = self.recorded[key]
+        return NONE if reply == 'none' else some(list(bytes.fromhex(reply)))
+
+    def asked(self, seconds: int, digits: str) -> str:
+        """The reply of the program after the calls so far."""
+        self.lines.append('%d %s\n' % (seconds, digits))
+        text = 'capacity %d\n' % self.capacity + ''.join(self.lines)
+        done = subprocess.run([str(self.program)], input=text, stdout=subprocess.PIPE, text=True, check=True)
+        answer = done.stdout.splitlines()[len(self.lines) - 1].split(' ')
+        return 'none' if answer[0] == 'notcall' else answer[1]
+
+
+class Drills:
+    """The definitions, with both ends of a link computed mark by mark instead of from all marks each time."""
+
+    def __init__(self, root: str) -> None:
+        self.project = Project(root)
+        module = self.project.read('names', '')
+        for u in USES:
+            self.project.use(module, u)
+        self.role = {k: self.project.expression(module, text) for k, text in ROLES.items()}
+        self.known: dict[tuple[int, str], tuple[list[Value], Value, list[int]]] = {}
+        self.project.replace(RUN, 'client', Fn(3, lambda opened, link, run: self.end(opened, link, 'Initiator', run)[0]))
+        self.project.replace(RUN, 'server', Fn(3, lambda opened, link, run: self.end(opened, link, 'Responder', run)[0]))
+        self.project.replace(RUN, 'output_due', Fn(4, lambda opened, link, side, run: self.end(opened, link, side.n, run)[1]))
+
+    def ask(self, role: str, *args: Value) -> Value:
+        return call(self.role[role], *args)
+
+    def end(self, opened: Value, link: int, side: str, run: list[Value]) -> tuple[Value, list[int]]:
+        """The state of an end after these marks, and its output due."""
+        first = (list[Value](), self.ask('first ' + side, opened), list(self.role['hello']) if side == 'Initiator' else [])
+        marks, state, due = self.known.get((link, side), first)
+        if len(marks) > len(run) or any(a is not b for a, b in zip(marks, run)):
+            marks, state, due = first
+        for i in range(len(marks), len(run)):
+            for event in self.ask('events', link, self.role[side], run[:i], run[i]):
+                due = due + self.ask('output ' + side, opened, state, event)
+                state = self.ask('next ' + side, opened, state, event)
+        self.known[(link, side)] = (run, state, due)
+        return state, due
+
+    def printed(self, script: Value, answers: Answers) -> str:
+        """What is printed of a script."""
+        self.known = {}
+        server = {'reply_to': Fn(3, answers.reply_to), 'adds': self.role['adds']}
+        opening = script['opening']
+        setting, drill = self.ask('setting', server, opening), self.ask('opened', server, opening)
+        links = self.ask('links', opening['clients'])
+        for line in script['lines']:
+            drill = self.drained(setting, links, drill) if line.n == 'Drain' else self.ask('line', setting, line, drill)
+        return bytes(self.ask('shown', setting, opening['clients'], drill['marks'])).decode('latin-1')
+
+    def drained(self, setting: Value, links: list[int], drill: Value) -> Value:
+        """A drill after rounds until nothing moves."""
+        for _ in range(ROUNDS_MAX):
+            if all(self.ask('still', setting, drill, link) for link in links):
+                return drill
+            drill = self.ask('round', setting, links, drill)
+        raise CannotEvaluate('a drain of more than %d rounds' % ROUNDS_MAX)
+
+
+STATE: dict[str, Any] = {}
+
+
+def prepare(project: str, plain: dict[str, dict[str, str]], program: str | None) -> None:
+    STATE.update(drills=deeply(Drills, project), plain=plain, program=program)
+
+
+def check(script: Recorded) -> tuple[str, str | None, dict[str, str]]:
+    """The name of a script, what differs, and the replies of the plain server."""
+    answers = dict(STATE['plain'].get(script['name'], {}))
+
+    def body() -> str:
+        drills: Drills = STATE['drills']
+        read = drills.ask('script_of', list(script['script'].encode('latin-1')))
+        if read.n != 'Ok':
+            return ''
+        return drills.printed(read.a[0], Answers(answers, STATE['program'], read.a[0]['opening']['capacity']))
+    try:
+        printed = deeply(body)
+    except CannotEvaluate as e:
+        return script['name'], "can't be evaluated: %s" % e, answers
+    except Exception as e:
+        lines = traceback.format_exc().strip().split('\n')
+        return script['name'], "can't be evaluated: %r (%s)" % (e, ' '.join(x.strip() for x in lines[-3:-1])), answers
+    if printed == script['stdout']:
+        return script['name'], None, answers
+    pairs = zip(printed.split('\n') + [''], script['stdout'].split('\n') + [''])
+    got, wanted = next((a, b) for a, b in pairs if a != b)
+    return script['name'], 'wanted %s, computed %s' % (shorten(repr(wanted), 200), shorten(repr(got), 200)), answers
+
+
+def main(argv: list[str]) -> int:
+    p = argparse.ArgumentParser(description='Evaluates the definitions of a drill on the recorded scripts.')
+    p.add_argument('--project', default=ROOT, help='the folder that has the folder crates')
+    p.add_argument('--only', default='', help='scripts whose name has this word')
+    p.add_argument('--record', metavar='PROGRAM', help='ask the built plain_calls, and record its replies')
+    p.add_argument('--jobs', type=int, default=os.cpu_count() or 1)
+    a = p.parse_args(argv)
+    with gzip.open(SCRIPTS, 'rt', encoding='utf-8') as h:
+        scripts = [s for s in json.load(h) if a.only in s['name'] and s['status'] == 0]
+    plain: dict[str, dict[str, str]] = {}
+    if os.path.exists(PLAIN):
+        with gzip.open(PLAIN, 'rt', encoding='utf-8') as h:
+            plain = json.load(h)
+    try:
+        deeply(Drills, a.project)
+    except CannotEvaluate as e:
+        print("can't be evaluated: %s" % e)
+        return 2
+    if not scripts:
+        print('no script is chosen')
+        return 2
+    scripts.sort(key=lambda s: len(s['script']), reverse=True)
+    differ = 0
+    with multiprocessing.Pool(max(1, a.jobs), prepare, (a.project, plain, a.record)) as pool:
+        for name, problem, answers in pool.imap_unordered(check, scripts):
+            plain[name] = answers
+            if problem is not None:
+                differ += 1
+                print('%s: %s' % (name, problem), flush=True)
+    if a.record:
+        with gzip.GzipFile(PLAIN, 'wb', mtime=0) as f:
+            f.write(json.dumps(plain, separators=(',', ':'), sort_keys=True).encode())
+    print('%d scripts, %d differ' % (len(scripts), differ))
+    return 1 if differ else 0
+
+
+if __name__ == '__main__':
+    sys.exit(main(sys.argv[1:]))
