@@ -1,6 +1,7 @@
 -- Until a server has received its client's hello no call waits.
-use Rattle.std.proofs.Common.{◌≡◌, ℕ, ◌&&◌, not, Bool, true, false, cond, eqb, List, [], ◌∷◌, ◌++◌, length, drop, map, Option, None, refl, sym, ap, subst, ◌∙◌, append_assoc, append-nil}
+use Rattle.std.proofs.Common.{◌≡◌, ℕ, ◌&&◌, not, Bool, true, false, cond, eqb, List, [], ◌∷◌, ◌++◌, length, drop, map, Option, None, Some, refl, sym, ap, subst, ◌∙◌, append_assoc, append-nil}
 use Rattle.std.specs.List.{filter, AllByRecursion}
+use Rattle.std.proofs.lemmas.Bool.{eqb-true}
 use Rattle.std.proofs.lemmas.Grind.{flat_map-append}
 use Rattle.nr_wire.specs.declared.hello.Side.{Side}
 use Rattle.nr_wire.specs.declared.hello.Side.TheVariants.{Initiator, Responder}
@@ -17,12 +18,16 @@ use Rattle.nr_reduce.specs.declared.mark.LinkParameters.{LinkParameters}
 use Rattle.nr_reduce.specs.History.{bytes_received, fed_at, same_side}
 use Rattle.nr_reduce.specs.Events.{Event, if_own, events_at, events}
 use Rattle.nr_reduce.specs.Events.Event.{FrameReceived, CallSubmitted, MemoryRevoked, CallExecuted, QueueWritten}
-use Rattle.nr_reduce.specs.EndRules.{EndState, next_end_state, end_state_after}
+use Rattle.nr_link.specs.declared.end.End.{End}
+use Rattle.nr_reduce.specs.AtEachMark.{AtEachMark}
+use Rattle.nr_reduce.specs.Matched.{IsPrefixOf}
+use Rattle.nr_reduce.specs.Served.{IsExecuted, ServedMark, first_ready, next_call}
+use Rattle.nr_reduce.specs.EndRules.{EndState, next_end_state, end_state_after, output_for, output_for_by, output_for_in, output_for_all}
 use Rattle.nr_reduce.specs.ServerState.{PendingCall, ReadyCall, ServerState}
-use Rattle.nr_reduce.specs.Server.{server_rules, server_end, server_state_after}
-use Rattle.nr_reduce.specs.Run.{server}
-use Rattle.nr_reduce.specs.StandingLaws.{IsUnasked, NoCallBeforeHello}
-use Rattle.nr_reduce.proofs.Steps.{server-one}
+use Rattle.nr_reduce.specs.Server.{server_rules, server_end, server_output, server_state_after}
+use Rattle.nr_reduce.specs.Run.{server, output_due}
+use Rattle.nr_reduce.specs.StandingLaws.{IsUnasked, NoCallBeforeHello, NothingDueBeforeHello}
+use Rattle.nr_reduce.proofs.Steps.{server-one, output_due_down-one}
 use Rattle.nr_reduce.proofs.Standing.{received-one}
 
 -- ---- A stream of which a hello is awaited has no whole frame
@@ -143,3 +148,98 @@ begins-quiet opened link = (refl, record { received = refl; calls = refl; reads 
 
 pub no-call-before-hello : NoCallBeforeHello
 no-call-before-hello opened link run e = quiet-from opened link [] run e (begins-quiet opened link)
+
+-- ---- Nothing is due
+
+abbrev IsSilent : Event → Type 0
+IsSilent (FrameReceived f) = ⊥
+IsSilent (CallSubmitted place a) = Unit {0}
+IsSilent (MemoryRevoked place xid) = Unit {0}
+IsSilent (CallExecuted call) = ⊥
+IsSilent (QueueWritten taken) = Unit {0}
+
+brings-no-frame : (event : Event) → IsSilent event → BringsNoFrame event
+brings-no-frame (FrameReceived f) silent = silent
+brings-no-frame (CallSubmitted place a) silent = tt
+brings-no-frame (MemoryRevoked place xid) silent = tt
+brings-no-frame (CallExecuted call) silent = tt
+brings-no-frame (QueueWritten taken) silent = tt
+
+silent-output : (opened : LinkParameters) (k : ServerState) (event : Event) → IsSilent event → server_output opened k event ≡ []
+unfolding server_output
+silent-output opened k (FrameReceived f) silent = absurd silent
+silent-output opened k (CallSubmitted place a) silent = refl
+silent-output opened k (MemoryRevoked place xid) silent = refl
+silent-output opened k (CallExecuted call) silent = absurd silent
+silent-output opened k (QueueWritten taken) silent = refl
+
+silent-event : (opened : LinkParameters) (e : EndState ServerState) (event : Event) → IsSilent event → IsQuiet e → output_for (server_rules opened) e event ≡ []
+silent-event opened e event silent q =
+    ap (λ (x : Option End). output_for_in (server_rules opened) e.state event x) q.0
+    ∙ ap (λ (x : Option End). output_for_by (server_rules opened) e.state event x) (lives-after opened e.state event (brings-no-frame event silent))
+    ∙ silent-output opened e.state event silent
+
+silent-events : (opened : LinkParameters) (e : EndState ServerState) (es : List Event) → AllByRecursion IsSilent es → IsQuiet e → output_for_all (server_rules opened) e es ≡ []
+silent-events opened e [] silent q = refl
+silent-events opened e (event ∷ es) silent q =
+    (λ i. silent-event opened e event silent.0 q i ++ output_for_all (server_rules opened) (next_end_state (server_rules opened) e event) es)
+    ∙ silent-events opened (next_end_state (server_rules opened) e event) es silent.1 (quiet-event opened e event (brings-no-frame event silent.0) q)
+
+-- no call is the next one
+never-next : (opened : LinkParameters) (link : ℕ) (run : List Mark) (xid : ℕ) (payload : List ℕ) → IsQuiet (server opened link run) → IsExecuted opened link run xid payload → ⊥
+unfolding next_call
+never-next opened link run xid payload q h =
+    let none : first_ready (server opened link run).state.ready (server opened link run).ended ≡ first_ready [] None = λ i. first_ready (q.1.ready i) (q.0 i) in
+    let wrong : None ≡ Some h.call = sym none ∙ h.is_next in
+    cc
+
+own-silent : (b : Bool) (es : List Event) → AllByRecursion IsSilent es → AllByRecursion IsSilent (if_own b es)
+own-silent true es h = h
+own-silent false es h = tt
+
+mark-silent : (opened : LinkParameters) (link : ℕ) (run : List Mark) (mark : Mark) → frames_completed Initiator (bytes_received link Responder run) (fed_at link Responder mark) ≡ [] → IsQuiet (server opened link run) →
+    ServedMark IsPrefixOf opened link run mark → AllByRecursion IsSilent (events_at link Responder run mark)
+mark-silent opened link run (marks.Fed l s bytes) none q h = by (eqb l link && same_side s Responder) none
+  where
+    by : (b : Bool) → frames_completed Initiator (bytes_received link Responder run) (cond b bytes []) ≡ [] →
+        AllByRecursion IsSilent (if_own b (map FrameReceived (frames_completed Initiator (bytes_received link Responder run) bytes)))
+    by true e = subst (λ (frames : List Frame). AllByRecursion IsSilent (map FrameReceived frames)) (sym e) tt
+    by false e = tt
+mark-silent opened link run (marks.Wrote l s bytes) none q h = own-silent (eqb l link && same_side s Responder) (QueueWritten (length bytes) ∷ []) (tt, tt)
+mark-silent opened link run (marks.Submit l call form (submissions.Accepted xid)) none q h = own-silent (eqb l link && same_side Initiator Responder) _ (tt, tt)
+mark-silent opened link run (marks.Submit l call form (submissions.Refused why)) none q h = tt
+mark-silent opened link run (marks.Submit l call form submissions.Dropped) none q h = tt
+mark-silent opened link run (marks.Execute l xid moment payload place reply) none q h = by (eqb l link) refl
+  where
+    es : List Event
+    es = CallExecuted (record { xid = xid; moment = moment; payload = payload; place = place; reply = reply }) ∷ []
+
+    by : (b : Bool) → eqb l link ≡ b → AllByRecursion IsSilent (if_own (eqb l link && true) es)
+    by true e = absurd (never-next opened link run xid payload q (h (eqb-true l link e)))
+    by false e = subst (λ (b : Bool). AllByRecursion IsSilent (if_own (b && true) es)) (sym e) tt
+mark-silent opened link run (marks.Revoke l xid bytes) none q h = own-silent (eqb l link && same_side Initiator Responder) _ (tt, tt)
+mark-silent opened link run (marks.Done l xid outcome) none q h = tt
+mark-silent opened link run (marks.Lost l xid) none q h = tt
+mark-silent opened link run (marks.Forget l xid) none q h = tt
+mark-silent opened link run (marks.Drop l) none q h = tt
+
+due-from : (opened : LinkParameters) (link : ℕ) (before run : List Mark) → (input_of Initiator (bytes_received link Responder (before ++ run))).awaited ≡ HelloFrom Initiator →
+    IsQuiet (server opened link before) → output_due opened link Responder before ≡ [] → AtEachMark (ServedMark IsPrefixOf opened link) before run → output_due opened link Responder (before ++ run) ≡ []
+due-from opened link before [] e q due served = ap (λ (run : List Mark). output_due opened link Responder run) (append-nil before) ∙ due
+due-from opened link before (mark ∷ run) e q due served =
+    let same : (before ++ mark ∷ []) ++ run ≡ before ++ mark ∷ run = append_assoc before (mark ∷ []) run in
+    let all : (input_of Initiator (bytes_received link Responder ((before ++ mark ∷ []) ++ run))).awaited ≡ HelloFrom Initiator = ap (λ (r : List Mark). (input_of Initiator (bytes_received link Responder r)).awaited) same ∙ e in
+    let one : (input_of Initiator (bytes_received link Responder (before ++ mark ∷ []))).awaited ≡ HelloFrom Initiator = awaits-before link (before ++ mark ∷ []) run all in
+    let p : IsEarlier Initiator (bytes_received link Responder before) (fed_at link Responder mark) =
+    earlier Initiator (bytes_received link Responder before) (fed_at link Responder mark) (ap (λ (stream : List ℕ). (input_of Initiator stream).awaited) (sym (received-one link Responder before mark)) ∙ one) in
+    let none : output_for_all (server_rules opened) (server opened link before) (events_at link Responder before mark) ≡ [] =
+    silent-events opened (server opened link before) (events_at link Responder before mark) (mark-silent opened link before mark p.none q served.0) q in
+    let due_one : output_due opened link Responder (before ++ mark ∷ []) ≡ [] = output_due_down-one opened link before mark ∙ (λ i. due i ++ none i) in
+    ap (λ (r : List Mark). output_due opened link Responder r) (sym same) ∙ due-from opened link (before ++ mark ∷ []) run all (quiet-mark opened link before mark one q) due_one served.1
+
+begins-silent : (opened : LinkParameters) (link : ℕ) → output_due opened link Responder [] ≡ []
+unfolding output_due events
+begins-silent opened link = refl
+
+pub nothing-due-before-hello : NothingDueBeforeHello
+nothing-due-before-hello opened link run e served = due-from opened link [] run e (begins-quiet opened link) (begins-silent opened link) served

@@ -37,6 +37,7 @@ use Rattle.nr_reduce.specs.Run.{client, server, output_due}
 use Rattle.nr_reduce.specs.SubmitAnswer.{unless_spent, submit_answer}
 use Rattle.nr_reduce.specs.Matched.{IsPrefixOf}
 use Rattle.nr_reduce.specs.Asked.{IsAll}
+use Rattle.nr_reduce.specs.Served.{ServedSoFar}
 use Rattle.nr_reduce.specs.KeptCalls.{kept_verdict}
 use Rattle.nr_reduce.specs.KeptClient.{KeptClient, ClientKeeps, bytes_under, opened_client, kept_revoked, kept_completed, kept_placed, kept_sent, kept_submitted}
 use Rattle.nr_reduce.specs.Standing.{input_events, ClientStandsFor, ClientRunsOut, ServerStandsFor, ServerRunsOut}
@@ -204,6 +205,11 @@ pub record IsUnasked (k : ServerState) : Type 0 where
 abbrev pub NoCallBeforeHello : Type 0
 NoCallBeforeHello = (opened : LinkParameters) (link : ℕ) (run : List Mark) → (input_of Initiator (bytes_received link Responder run)).awaited ≡ HelloFrom Initiator →
     ((server opened link run).ended ≡ None) × IsUnasked (server opened link run).state
+
+-- While it keeps its law nothing is due, not even its own hello.
+abbrev pub NothingDueBeforeHello : Type 0
+NothingDueBeforeHello = (opened : LinkParameters) (link : ℕ) (run : List Mark) → (input_of Initiator (bytes_received link Responder run)).awaited ≡ HelloFrom Initiator → ServedSoFar opened link run →
+    output_due opened link Responder run ≡ []
 
 -- ---- Pieces and STags
 
