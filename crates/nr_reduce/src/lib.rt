@@ -46,7 +46,7 @@ pub use memory_laws::{memory_follows_regions, regions_go_on};
 pub use outline::Plan;
 pub use planning::plan;
 pub use reading::{is_read_chunk_of_item, item_position, total_at};
-pub use replying::{answer_lists, answer_message};
+pub use replying::{answer_header, answer_lists, answer_message};
 pub use run_laws::{
     accepted_calls_keep_the_law, accesses_are_allowed, counts_go_by_bytes_sent, ended_ends_stay,
     laws_so_far, nothing_twice, one_mark_more, output_is_items, places_rise, plans_are_accepted,

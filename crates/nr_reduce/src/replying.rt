@@ -2,8 +2,9 @@
 
 ghost use Rattle.std.specs.Prelude.{◌≡◌, ◌^◌, ◌<◌, ◌++◌, All, length, min, IfOk, IfSome};
 ghost use Rattle.nr_reduce.specs.Chunks.{filled_chunk};
-ghost use Rattle.nr_reduce.specs.Holds.{empty_chunks, written_chunks, answer_lists, answer_message};
+ghost use Rattle.nr_reduce.specs.Holds.{empty_chunks, written_chunks, answer_lists, answer_body, answer_message};
 ghost use Rattle.nr_reduce.specs.Views.{answer_view, reply_of_answer};
+ghost use Rattle.nr_header.specs.Header.{header_encoding};
 ghost use Rattle.nr_header.specs.WithinLimits.{ListsWithin};
 
 use crate::holding::Answer;
@@ -120,6 +121,23 @@ pub fn answer_lists(
     })
 }
 
+/// The header of the message of an answer to a call whose offer was read.
+pub fn answer_header(
+    alloc: Global,
+    xid: u32,
+    credit: u32,
+    offer: &ChunkLists,
+    answer: Answer<'_>,
+) -> Result<Octets, Memory>
+    requires { ListsWithin offer.now }
+    ensures { IfOk result (λ o. o ≡ header_encoding (record { xid = xid; credit = credit; body = answer_body offer.now (answer_view answer.entry) })) }
+{
+    let lists = answer_lists(alloc, offer, answer)?;
+    let header = write_with_lists(alloc, xid, credit, answer.long, &lists);
+    drop(lists);
+    header
+}
+
 /// The message of an answer to a call whose offer was read: its header, and its stream if that isn't in the reply chunk.
 #[tactic(auto, unfolding(crate::specs::Holds::answer_message))]
 pub fn answer_message(
@@ -132,10 +150,7 @@ pub fn answer_message(
     requires { ListsWithin offer.now }
     ensures { IfOk result (λ o. o ≡ answer_message xid credit offer.now (answer_view answer.entry)) }
 {
-    let lists = answer_lists(alloc, offer, answer)?;
-    let header = write_with_lists(alloc, xid, credit, answer.long, &lists);
-    drop(lists);
-    let mut message = header?;
+    let mut message = answer_header(alloc, xid, credit, offer, answer)?;
     if !answer.long {
         message.extend_from_slice(answer.stream)?;
     }
