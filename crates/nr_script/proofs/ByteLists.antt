@@ -1,11 +1,13 @@
 -- Lists of bytes.
 use Rattle.std.specs.Prelude.{◌≡◌, ◌&&◌, ℕ, zero, suc, ◌<◌, nat_lt, Bool, true, false, List, [], ◌∷◌, ◌++◌, ◌-◌, ◌+◌, replicate, length}
-use Rattle.std.specs.List.{flat_map, list_all}
+use Rattle.std.specs.List.{AllByRecursion, flat_map, list_all}
 use Rattle.std.specs.Int.{byte_at, bytes_high_first}
 use Rattle.std.proofs.Common.{refl, ltb, ltb-true, get_or, subst, inl, inr, arith}
 use Rattle.std.proofs.lemmas.Bool.{cases_lt}
 use Rattle.std.proofs.lemmas.List.{get_or-append-add, get_or_append_left}
-use Rattle.nr_xdr.specs.Item.{IsBytes, word, hyper}
+use Rattle.nr_xdr.specs.Item.{Item, IsBytes, word, hyper, bit, pad_len, encoding}
+use Rattle.nr_xdr.specs.Item.Item.{Unsigned, Hyper, Boolean, Opaque, Fixed}
+use Rattle.nr_xdr.specs.Items.{encodings}
 use Rattle.nr_wire.specs.Fields.{half_word}
 
 pub no-bytes : IsBytes []
@@ -59,3 +61,29 @@ decided (x ∷ xs) e = by (ltb x 256) refl e (λ more. decided xs more)
 pub flat-bytes : {X : Type 0} (f : X → List ℕ) (xs : List X) → ((x : X) → IsBytes (f x)) → IsBytes (flat_map f xs)
 flat-bytes f [] h = no-bytes
 flat-bytes f (x ∷ xs) h = bytes_both (f x) (flat_map f xs) (h x) (flat-bytes f xs h)
+
+-- ===== items
+
+-- an item whose data are bytes
+abbrev pub OfBytes : Item → Type 0
+OfBytes (Unsigned n) = Unit {0}
+OfBytes (Hyper n) = Unit {0}
+OfBytes (Boolean b) = Unit {0}
+OfBytes (Opaque bytes) = IsBytes bytes
+OfBytes (Fixed bytes) = IsBytes bytes
+
+abbrev pub AreOfBytes : List Item → Type 0
+AreOfBytes items = AllByRecursion OfBytes items
+
+item-bytes : (item : Item) → OfBytes item → IsBytes (encoding item)
+item-bytes (Unsigned n) h = word-bytes n
+item-bytes (Hyper n) h = hyper-bytes n
+item-bytes (Boolean b) h = word-bytes _
+item-bytes (Opaque bytes) h =
+    bytes_both (word (length bytes)) (bytes ++ replicate (pad_len (length bytes)) 0) (word-bytes (length bytes))
+    (bytes_both bytes (replicate (pad_len (length bytes)) 0) h (zeros-bytes (pad_len (length bytes))))
+item-bytes (Fixed bytes) h = bytes_both bytes (replicate (pad_len (length bytes)) 0) h (zeros-bytes (pad_len (length bytes)))
+
+pub items-bytes : (items : List Item) → AreOfBytes items → IsBytes (encodings items)
+items-bytes [] h = no-bytes
+items-bytes (item ∷ items) h = bytes_both (encoding item) (encodings items) (item-bytes item h.0) (items-bytes items h.1)

@@ -21,6 +21,7 @@ use Rattle.nr_script.specs.Forms.{OfferPart, semicolon, equals, at_sign, dot, le
 use Rattle.nr_script.specs.Forms.OfferPart.{Read, Write, Reply}
 use Rattle.nr_script.specs.Lines.{capacity_in, opening_of, opening_in, sys_cred, sys_line, cred_line_of, cred_line, target_in, call_with, call_line, one_number, two_numbers, client_line, number_line, side_in, raw_line, drain_line, later_line, plain_line, line_named, line_in}
 use Rattle.nr_script.specs.Script.{ScriptLines, may_follow, space, newline, is_ascii, is_skipped, opened_by, followed_by, with_words, if_read, with_text, script_at_end, read_on, script_from, script_of, FollowOn, HasWritableCred, HasWordPosition, IsTypedLine, IsScript}
+use Rattle.nr_script.specs.Steps.{opened}
 use Rattle.nr_script.proofs.ByteLists.{no-bytes, decided}
 
 abbrev If : {A : Type 0} → (A → Type 0) → Option A → Type 0
@@ -364,6 +365,10 @@ unfolding with_text
 text-if read text h =
     if-if IfScript (is_ascii text) (cond (is_skipped text) (Some read) (if_read (with_words read (parts space text)))) None
     (if-if IfScript (is_skipped text) (Some read) (if_read (with_words read (parts space text))) h (read-it (with_words read (parts space text)) (words-if read (parts space text) h))) tt
+
+-- the first line names few clients
+pub opened_clients : (line : List ℕ) (opening : Opening) → with_text None line ≡ Some (Some (opened opening)) → opening.clients ≤ most_clients
+opened_clients line opening e = (subst (λ (o : Option (Option ScriptLines)). If IfScript o) e (text-if None line tt)).few_clients
 
 abbrev OkScript : Result ScriptLines ℕ → Type 0
 OkScript (Ok script) = IsScript script

@@ -40,7 +40,7 @@ abbrev pub write_lengths_in : List ℕ → Option (List ℕ)
 write_lengths_in [] = Some []
 write_lengths_in (c ∷ others) = lengths_in (c ∷ others)
 
--- `write=A,B`, `reply=A,B` and `read@P=A,B`, by what stands before the sign and behind it
+-- `write=A,B`, `reply=A,B` and `read@P=A,B`, by what stands before and after the sign
 abbrev pub position_by : List (List ℕ) → Option ℕ
 position_by (name ∷ position ∷ []) = if bytes_eq name (codes "read") then number_in position else None
 position_by words = None

@@ -1,7 +1,9 @@
--- The script that is made from a seed: so many calls of so many clients, each followed by a move, and a drain in the end. All is own.
-use Rattle.std.specs.Prelude.{ℕ, zero, suc, ◌+◌, ◌*◌, ◌/◌, ◌%◌, ◌==◌, if◌then◌else◌, List, [], ◌∷◌, ◌++◌, length, map, replicate}
+-- The script that is made from a seed: calls of clients, each followed by a move, and a drain in the end. All is own.
+use Rattle.std.specs.Prelude.{ℕ, zero, suc, ◌+◌, ◌*◌, ◌/◌, ◌%◌, ◌==◌, ◌||◌, if◌then◌else◌, List, [], ◌∷◌, ◌++◌, map}
 use Rattle.std.specs.List.{range_with_len}
-use Rattle.nr_xdr.specs.Item.{word, hyper, pad_len}
+use Rattle.nr_xdr.specs.Item.{hyper}
+use Rattle.nr_xdr.specs.Item.Item.{Unsigned, Hyper, Opaque}
+use Rattle.nr_xdr.specs.Items.{encodings}
 use Rattle.nr_nfs_base.specs.Procedures.{nfs_program, nfs_version}
 use Rattle.nr_reduce.specs.declared.call.Form.TheVariants.{Auto}
 use Rattle.nr_script.specs.declared.script.Line.{Line}
@@ -24,14 +26,11 @@ below bound state = drawn state % bound
 
 -- ===== arguments (RFC 1813 section 3.3), by file number
 
-abbrev pub opaque : List ℕ → List ℕ
-opaque bytes = word (length bytes) ++ bytes ++ replicate (pad_len (length bytes)) 0
-
-abbrev pub handle : ℕ → List ℕ
-handle file = opaque (hyper file)
+abbrev pub file_args : ℕ → List ℕ
+file_args file = encodings (Opaque (hyper file) ∷ [])
 
 abbrev pub read_args : ℕ → ℕ → List ℕ
-read_args offset count = handle 2 ++ hyper offset ++ word count
+read_args offset count = encodings (Opaque (hyper 2) ∷ Hyper offset ∷ Unsigned count ∷ [])
 
 -- byte i is (offset + i) mod 256; stable is FILE_SYNC
 abbrev pub written_bytes : ℕ → ℕ → List ℕ
@@ -40,70 +39,74 @@ written_bytes offset count = map (λ place. place % 256) (range_with_len offset 
 abbrev pub file_sync : ℕ
 file_sync = 2
 
+-- what precedes the bytes of a WRITE
+abbrev pub write_head : ℕ → ℕ → List ℕ
+write_head offset count = encodings (Opaque (hyper 2) ∷ Hyper offset ∷ Unsigned count ∷ Unsigned file_sync ∷ [])
+
 abbrev pub write_args : ℕ → ℕ → List ℕ
-write_args offset count = handle 2 ++ hyper offset ++ word count ++ word file_sync ++ opaque (written_bytes offset count)
+write_args offset count = write_head offset count ++ encodings (Opaque (written_bytes offset count) ∷ [])
 
 -- from cookie 0 on, with a verifier of zeros
 abbrev pub readdir_args : ℕ → List ℕ
-readdir_args count = handle 4 ++ hyper 0 ++ hyper 0 ++ word count
+readdir_args count = encodings (Opaque (hyper 4) ∷ Hyper 0 ∷ Hyper 0 ∷ Unsigned count ∷ [])
 
--- ===== a call
+-- ===== a call: NULL; GETATTR of 2; READ of 2; WRITE of 2; READDIR of 4; READLINK of 3
 
--- a procedure with its arguments, and the state of the generator after their draws
-pub record DrawnCall : Type 0 where
-  pub proc : ℕ
-  pub args : List ℕ
-  pub state : ℕ
+unfoldable pub proc_drawn : ℕ → ℕ
+proc_drawn kind =
+    if kind == 0 then 0 else (if kind == 1 then 1 else (if kind == 2 then 6 else (if kind == 3 then 7 else (if kind == 4 then 16 else 5))))
 
--- NULL; GETATTR of 2; READ of 2; WRITE of 2; READDIR of 4; READLINK of 3
-unfoldable pub call_drawn : ℕ → ℕ → DrawnCall
-call_drawn kind state =
-    if kind == 0 then record { proc = 0; args = []; state = state }
-    else (if kind == 1 then record { proc = 1; args = handle 2; state = state }
-    else (if kind == 2 then record { proc = 6; args = read_args (below 8192 (next state)) (below 4096 (next (next state))); state = next (next state) }
-    else (if kind == 3 then record { proc = 7; args = write_args (below 8192 (next state)) (below 2048 (next (next state))); state = next (next state) }
-    else (if kind == 4 then record { proc = 16; args = readdir_args 4096; state = state }
-    else record { proc = 5; args = handle 3; state = state }))))
+unfoldable pub args_drawn : ℕ → ℕ → List ℕ
+args_drawn kind state =
+    if kind == 0 then []
+    else (if kind == 1 then file_args 2
+    else (if kind == 2 then read_args (below 8192 (next state)) (below 4096 (next (next state)))
+    else (if kind == 3 then write_args (below 8192 (next state)) (below 2048 (next (next state)))
+    else (if kind == 4 then readdir_args 4096 else file_args 3))))
 
--- ===== a move of that client
+-- the state after the draws of a READ or a WRITE: an offset and a count
+abbrev pub after_args : ℕ → ℕ → ℕ
+after_args kind state = if kind == 2 || kind == 3 then next (next state) else state
 
-pub record DrawnMove : Type 0 where
-  pub lines : List Line
-  pub state : ℕ
+-- ===== a move of that client: none; up; work; down; a drain of all links
 
--- none; up; work; down; a drain of all links
-unfoldable pub move_drawn : ℕ → ℕ → ℕ → DrawnMove
-move_drawn client kind state =
-    if kind == 0 then record { lines = []; state = state }
-    else (if kind == 1 then record { lines = lines.Up client (below 3000 (next state)) ∷ []; state = next state }
-    else (if kind == 2 then record { lines = lines.Work client ∷ []; state = state }
-    else (if kind == 3 then record { lines = lines.Down client (below 3000 (next state)) ∷ []; state = next state }
-    else record { lines = lines.Drain ∷ []; state = state })))
+unfoldable pub move_lines : ℕ → ℕ → ℕ → List Line
+move_lines client kind state =
+    if kind == 0 then []
+    else (if kind == 1 then lines.Up client (below 3000 (next state)) ∷ []
+    else (if kind == 2 then lines.Work client ∷ []
+    else (if kind == 3 then lines.Down client (below 3000 (next state)) ∷ [] else lines.Drain ∷ [])))
+
+abbrev pub after_move : ℕ → ℕ → ℕ
+after_move kind state = if kind == 1 || kind == 3 then next state else state
 
 -- ===== a script
 
+-- a call of this kind and a move, and the state after their draws
+abbrev pub call_line : ℕ → ℕ → ℕ → Line
+call_line client kind state = lines.Call client Auto nfs_program nfs_version (proc_drawn kind) (args_drawn kind state)
+
+abbrev pub turn_lines : ℕ → ℕ → ℕ → List Line
+turn_lines client kind state = let move = next (after_args kind state) in call_line client kind state ∷ move_lines client (below 5 move) move
+
+abbrev pub after_turn : ℕ → ℕ → ℕ
+after_turn kind state = let move = next (after_args kind state) in after_move (below 5 move) move
+
 -- a client's number, a kind of call, the call's draws, a kind of move, the move's draw
-abbrev pub then_move : ℕ → DrawnCall → DrawnMove
-then_move client call = move_drawn client (below 5 (next call.state)) (next call.state)
+abbrev pub drawn_turn : ℕ → ℕ → List Line
+drawn_turn clients state = let kind = next (next state) in turn_lines (below clients (next state) + 1) (below 6 kind) kind
 
-abbrev pub call_line : ℕ → DrawnCall → Line
-call_line client call = lines.Call client Auto nfs_program nfs_version call.proc call.args
-
-abbrev pub turn_drawn : ℕ → DrawnCall → DrawnMove
-turn_drawn client call = let move = then_move client call in record move { lines = call_line client call ∷ move.lines }
-
-abbrev pub drawn_turn : ℕ → ℕ → DrawnMove
-drawn_turn clients state =
-    turn_drawn (below clients (next state) + 1) (call_drawn (below 6 (next (next state))) (next (next state)))
+abbrev pub after_drawn_turn : ℕ → ℕ
+after_drawn_turn state = let kind = next (next state) in after_turn (below 6 kind) kind
 
 abbrev pub drawn_lines : ℕ → ℕ → ℕ → List Line
 drawn_lines clients zero state = lines.Drain ∷ []
-drawn_lines clients (suc calls) state = let turn = drawn_turn clients state in turn.lines ++ drawn_lines clients calls turn.state
+drawn_lines clients (suc calls) state = drawn_turn clients state ++ drawn_lines clients calls (after_drawn_turn state)
 
 abbrev pub drawn_credits : ℕ
 drawn_credits = 8
 
--- the script of a seed, of so many clients and calls
+-- the script of a seed, of this many clients and calls
 unfoldable pub made_script : ℕ → ℕ → ℕ → ScriptLines
 made_script seed clients calls = record {
   opening = record { clients = clients; credits = drawn_credits; capacity = default_capacity };

@@ -4,4 +4,6 @@ pub mod Pieces
 pub mod Forms
 pub mod Lines
 pub mod Script
+pub mod Counts
+pub mod Steps
 pub mod Generator

@@ -102,7 +102,7 @@ unfoldable pub with_text : Option ScriptLines → List ℕ → Option (Option Sc
 with_text read text =
     if is_ascii text then (if is_skipped text then Some read else if_read (with_words read (parts space text))) else None
 
--- The last part of a text stands behind its last newline. It is empty in a script, and the first line was read.
+-- The last part of a text follows its last newline. It is empty in a script, and the first line was read.
 abbrev pub script_at_end : ℕ → Option ScriptLines → List ℕ → Result ScriptLines ℕ
 script_at_end number read (c ∷ others) = Err number
 script_at_end number None [] = Err number

@@ -6,7 +6,7 @@ use Rattle.std.specs.Str.Parse.{digits_value}
 use Rattle.hex.specs.Hex.{decode_of}
 use Rattle.nr_script.specs.Limits.{most_number}
 
--- what follows from a value that is read, where one is
+-- what follows from a value, if one is read
 infixl 10 ◌>>=◌
 abbrev pub ◌>>=◌ : {A B : Type 0} → Option A → (A → Option B) → Option B
 (Some x) >>= f = f x
@@ -16,7 +16,7 @@ None >>= f = None
 abbrev pub parts : ℕ → List ℕ → List (List ℕ)
 parts character text = slice_split (λ c. c == character) text
 
--- the parts as they are read one by one, where each can be read
+-- the values of the parts, if each can be read
 abbrev pub each_read : {A : Type 0} → (List ℕ → Option A) → List (List ℕ) → Option (List A)
 each_read read [] = Some []
 each_read read (part ∷ others) = do

@@ -46,7 +46,7 @@ pub enum Line {
         client: u32,
         most: u32,
     },
-    /// The next call of the link that is whole is executed and answered.
+    /// The next complete call of the link is executed and answered.
     Work {
         client: u32,
     },
