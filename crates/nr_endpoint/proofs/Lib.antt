@@ -31,3 +31,4 @@ pub mod OutputItems
 pub mod QueuedItems
 pub mod Bounds
 pub mod Received
+pub mod OneNotice

@@ -30,7 +30,7 @@ pub stands_on : (before : Link) (call : Call) (after : Link) → after ≡ after
 stands_on before call after is = λ start calls stands. is ∙ ap (λ (link : Link). after_call link call) stands ∙ sym (after_calls-append start calls call)
 
 -- what holds of the fields holds of the value
-pub seen : (before : Link) (staging : List ℕ) (now : EndpointState) (after : Link) (call : Call) → record { link = before; staging = staging } ≡ now →
+pub seen : {room : ℕ} (before : Link) (staging : List ℕ) (now : EndpointState) (after : Link) (call : Call) → record { link = before; staging = staging; room = room } ≡ now →
     after ≡ after_call before call → after ≡ after_call now.link call
 seen before staging now after call view is = is ∙ ap (λ (e : EndpointState). after_call e.link call) view
 
@@ -90,7 +90,7 @@ released-state l t stag is = ap (λ (s : LinkState). with_state s l) is
 
 -- ---- Where a call does nothing, or some of it
 
-pub told-if : (b : Bool) (l : Link) (staging : List ℕ) (now : EndpointState) (t : LinkState) → record { link = l; staging = staging } ≡ now →
+pub told-if : {room : ℕ} (b : Bool) (l : Link) (staging : List ℕ) (now : EndpointState) (t : LinkState) → record { link = l; staging = staging; room = room } ≡ now →
     t ≡ (if b then record l.state { receive_queue = told l.state.receive_queue } else l.state) → with_state t l ≡ (if b then after_call now.link NextEvent else now.link)
 told-if true l staging now t view is = seen l staging now (with_state t l) NextEvent view (told-state l t is)
 told-if false l staging now t view is = ap (λ (s : LinkState). with_state s l) is ∙ ap (λ (e : EndpointState). e.link) view
@@ -116,8 +116,8 @@ WasDrained IsTaken IsAll s t =
     (n : ℕ) × (n ≤ length (writable s.has_hello s.send_queue)) × (t ≡ record s { send_queue = written n s.send_queue })
     × IsTaken (take n (writable s.has_hello s.send_queue)) × IsAll n (length (writable s.has_hello s.send_queue))
 
-pub drained : (IsTaken : List ℕ → Type 0) (WasAll IsAll : ℕ → ℕ → Type 0) → ((n len : ℕ) → WasAll n len → IsAll n len) → (before : Link) (staging : List ℕ) (now : EndpointState) (t : LinkState) →
-    record { link = before; staging = staging } ≡ now → WasDrained IsTaken WasAll before.state t → IsDrained IsTaken IsAll now.link (with_state t before)
+pub drained : {room : ℕ} (IsTaken : List ℕ → Type 0) (WasAll IsAll : ℕ → ℕ → Type 0) → ((n len : ℕ) → WasAll n len → IsAll n len) → (before : Link) (staging : List ℕ) (now : EndpointState) (t : LinkState) →
+    record { link = before; staging = staging; room = room } ≡ now → WasDrained IsTaken WasAll before.state t → IsDrained IsTaken IsAll now.link (with_state t before)
 drained IsTaken WasAll IsAll on before staging now t view (n, fits, is, took, all) =
     let same : with_state t before ≡ after_call before (Drain n) = drained-state before t n is in
     let done : IsDrained IsTaken IsAll before (with_state t before) = (n, fits, took, same, stands_on before (Drain n) (with_state t before) same, on n (length (writable before.state.has_hello before.state.send_queue)) all) in
@@ -126,12 +126,12 @@ drained IsTaken WasAll IsAll on before staging now t view (n, fits, is, took, al
 -- ---- An end
 
 -- a side that has ended keeps no input
-pub stopped : (before : Link) (staging : List ℕ) (now : EndpointState) (t : LinkState) (reason : ℕ) → record { link = before; staging = staging } ≡ now → now.link.state.ended ≡ None →
+pub stopped : {room : ℕ} (before : Link) (staging : List ℕ) (now : EndpointState) (t : LinkState) (reason : ℕ) → record { link = before; staging = staging; room = room } ≡ now → now.link.state.ended ≡ None →
     t ≡ with_end_of (ends.Bad before.state.last reason) before.state → ended_link t before ≡ after_call now.link (Stop reason)
 stopped before staging now t reason view none is =
     seen before staging now (ended_link t before) (Stop reason) view (stopped-state before t reason (ap (λ (e : EndpointState). e.link.state.ended) view ∙ none) is)
 
-pub out_of_memory : (before : Link) (staging : List ℕ) (now : EndpointState) (t : LinkState) → record { link = before; staging = staging } ≡ now → now.link.state.ended ≡ None →
+pub out_of_memory : {room : ℕ} (before : Link) (staging : List ℕ) (now : EndpointState) (t : LinkState) → record { link = before; staging = staging; room = room } ≡ now → now.link.state.ended ≡ None →
     t ≡ record before.state { ended = Some ends.Memory } → ended_link t before ≡ after_call now.link OutOfMemory
 out_of_memory before staging now t view none is =
     seen before staging now (ended_link t before) OutOfMemory view (out-of-memory-state before t (ap (λ (e : EndpointState). e.link.state.ended) view ∙ none) is)

@@ -20,7 +20,7 @@ use Rattle.nr_endpoint.specs.Calls.Call.{Send, WriteRemote, Register}
 use Rattle.nr_endpoint.specs.Offering.{offer_calls, register_call, with_buffer, claim_if, with_read, with_write_buffer, with_offered, claims_of, AreHeld, after_offer, write_call, answer_calls, writes_output, after_answer}
 
 -- what holds of the fields holds of the value
-pub seen_all : (before : Link) (staging : List ℕ) (now : EndpointState) (after : Link) (calls : List Call) → record { link = before; staging = staging } ≡ now →
+pub seen_all : {room : ℕ} (before : Link) (staging : List ℕ) (now : EndpointState) (after : Link) (calls : List Call) → record { link = before; staging = staging; room = room } ≡ now →
     after ≡ after_calls before calls → after ≡ after_calls now.link calls
 seen_all before staging now after calls view is = is ∙ ap (λ (e : EndpointState). after_calls e.link calls) view
 

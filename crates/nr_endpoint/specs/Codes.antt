@@ -17,7 +17,7 @@ use Rattle.nr_endpoint.specs.SendQueue.{SendQueue}
 use Rattle.nr_endpoint.specs.ReceiveQueue.{Notice, ReceiveQueue}
 use Rattle.nr_endpoint.specs.ReceiveQueue.Notice.{MessageReceived, ReadDone}
 use Rattle.nr_endpoint.specs.LinkState.{LinkState, Link}
-use Rattle.nr_endpoint.specs.EndpointState.{EndpointState}
+use Rattle.nr_endpoint.specs.EndpointState.{EndpointState, LinkView}
 
 abbrev pub side_number : Side → ℕ
 side_number Initiator = 0
@@ -131,4 +131,9 @@ link_code =
     (λ p. record { awaited = p.0; rest = p.1.0; state = p.1.1 }) (λ _. refl)
 
 abbrev pub endpoint_code : Coded EndpointState
-endpoint_code = code_by (Link × List ℕ) (coded× link_code (coded_list coded_ℕ)) (λ e. (e.link, e.staging)) (λ p. record { link = p.0; staging = p.1 }) (λ _. refl)
+endpoint_code =
+    code_by (Link × (List ℕ × ℕ)) (coded× link_code (coded× (coded_list coded_ℕ) coded_ℕ)) (λ e. (e.link, (e.staging, e.room)))
+    (λ p. record { link = p.0; staging = p.1.0; room = p.1.1 }) (λ _. refl)
+
+abbrev pub link_view_code : Coded LinkView
+link_view_code = code_by (LinkState × ℕ) (coded× state_code coded_ℕ) (λ v. (v.state, v.room)) (λ p. record { state = p.0; room = p.1 }) (λ _. refl)

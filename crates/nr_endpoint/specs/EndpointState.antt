@@ -1,5 +1,5 @@
--- What contracts see of an endpoint: its side of the link, and the whole staging buffer, which begins with the bytes of the frame
--- that isn't whole.
+-- What contracts see of an endpoint: its side of the link; the whole staging buffer, which begins with the bytes of the frame that isn't
+-- whole; and the room of its regions, a number of further registrations that need no allocation.
 use Rattle.std.specs.Prelude.{◌≡◌, ℕ, ◌+◌, ◌*◌, min, max, List, [], ◌∷◌, ◌++◌, length, drop}
 use Rattle.nr_wire.specs.declared.stream.Awaited.{Awaited}
 use Rattle.nr_wire.specs.Stream.{frame_len}
@@ -11,6 +11,12 @@ use Rattle.nr_endpoint.specs.LinkState.{LinkState, Link}
 pub record EndpointState : Type 0 where
   pub link : Link
   pub staging : List ℕ
+  pub room : ℕ
+
+-- what the endpoint sees of its side: the state, and that room
+pub record LinkView : Type 0 where
+  pub state : LinkState
+  pub room : ℕ
 
 -- The number of bytes of the frame that was begun before a piece, as far as it was fed with it; none where no frame was begun.
 abbrev pub cut_frame_len : Awaited → List ℕ → List ℕ → ℕ

@@ -274,6 +274,11 @@ abbrev pub OneFrameTellsAtItsEnd : Type 0
 OneFrameTellsAtItsEnd = (link : Link) (piece : List ℕ) →
     All (λ made. made.end ≡ (after_call link (FeedOne piece)).state.place) (notices_made link (FeedOne piece ∷ []))
 
+-- It makes one notice at most.
+abbrev pub OneFrameTellsOnce : Type 0
+OneFrameTellsOnce = (link : Link) (piece : List ℕ) →
+    length (after_call link (FeedOne piece)).state.receive_queue.notices ≤ length link.state.receive_queue.notices + 1
+
 -- ---- What the peer reads of it
 
 -- A Read Request that doesn't end the side makes an access that the memory doesn't deny, and is answered with the bytes of that

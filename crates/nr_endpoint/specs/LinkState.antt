@@ -5,6 +5,7 @@ use Rattle.nr_wire.specs.declared.hello.Side.TheVariants.{Initiator, Responder}
 use Rattle.nr_wire.specs.declared.stream.Awaited.TheVariants.{Hello as HelloFrom}
 use Rattle.nr_wire.specs.Feeding.{Feeding}
 use Rattle.nr_link.specs.declared.end.End.{End}
+use Rattle.nr_link.specs.Limits.{send_max}
 use Rattle.nr_link.specs.SegmentFaults.{ExpectedResponse}
 use Rattle.nr_regions.specs.RegisteredMemory.{RegisteredMemory, initial_memory}
 use Rattle.nr_endpoint.specs.SendQueue.{SendQueue, initial_queue}
@@ -26,6 +27,10 @@ pub record LinkState : Type 0 where
 
 abbrev pub has_ended : LinkState → Bool
 has_ended s = is_some s.ended
+
+-- the length that a message of the peer has at most: what the sides agreed on at opening
+abbrev pub message_max : LinkState → ℕ
+message_max s = send_max
 
 -- the other side of the link
 abbrev pub peer : Side → Side

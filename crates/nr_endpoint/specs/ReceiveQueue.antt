@@ -1,9 +1,10 @@
 -- What came to a side in untagged messages, and its receives (RFC 5041 section 4.3).
-use Rattle.std.specs.Prelude.{ℕ, ◌+◌, ◌-◌, Bool, not, false, ◌&&◌, if◌then◌else◌, List, [], ◌∷◌, ◌++◌, length, take, drop, replicate, Option, None, Some}
+use Rattle.std.specs.Prelude.{ℕ, ◌+◌, ◌-◌, Bool, not, false, ◌&&◌, if◌then◌else◌, List, [], ◌∷◌, ◌++◌, length, drop, Option, None, Some}
 use Rattle.nr_wire.specs.Segment.{Segment}
 use Rattle.nr_wire.specs.Segment.Segment.{Tagged, Untagged}
 use Rattle.nr_link.specs.Limits.{send_max}
 use Rattle.nr_link.specs.ReceiveState.{ReceiveState, nothing_received, is_send, received_after, message_completed}
+use Rattle.nr_link.specs.KeptSends.{kept_within, begun_within, received_within}
 use Rattle.nr_link.specs.SegmentFaults.{is_begun}
 
 -- What the owner is told: the Send with a number, from 1 on, came whole, with the STag that it invalidates, if any (no Send that is
@@ -24,16 +25,17 @@ pub record ReceiveQueue : Type 0 where
 abbrev pub initial_receives : ℕ → ReceiveQueue
 initial_receives receives = record { receives = receives; received = nothing_received; free = receives; lent = 0; notices = [] }
 
--- Of a Send that is longer than its receive the bytes beyond it are counted and not kept: they stand here as zeros.
+-- the length of each receive, fixed when the side is opened
+abbrev pub receive_length : ReceiveQueue → ℕ
+receive_length q = send_max
+
+-- Of a Send that is longer than its receive the bytes beyond it are counted and not kept: they stand here as zeros. No reason sees the
+-- difference.
 abbrev pub kept_bytes : List ℕ → List ℕ
-kept_bytes bytes = take send_max bytes ++ replicate (length bytes - send_max) 0
+kept_bytes bytes = kept_within send_max bytes
 
 abbrev pub kept_send : Option (List ℕ) → Option (List ℕ)
-kept_send None = None
-kept_send (Some bytes) = Some (kept_bytes bytes)
-
-abbrev pub kept : ReceiveState → ReceiveState
-kept h = record h { begun = kept_send h.begun }
+kept_send begun = begun_within send_max begun
 
 -- the first segment of a Send takes a receive
 abbrev pub takes_receive : ReceiveState → Segment → Bool
@@ -48,7 +50,7 @@ message_notices number (Some message) = MessageReceived number None message ∷ 
 unfoldable pub with_segment : Segment → ReceiveQueue → ReceiveQueue
 with_segment segment q = record {
   receives = q.receives;
-  received = kept (received_after q.received segment);
+  received = received_within (receive_length q) (received_after q.received segment);
   free = if takes_receive q.received segment then q.free - 1 else q.free;
   lent = q.lent;
   notices = q.notices ++ message_notices (q.received.sends + 1) (message_completed q.received segment);
@@ -79,7 +81,7 @@ messages_in [] = 0
 messages_in (MessageReceived number invalidated bytes ∷ notices) = 1 + messages_in notices
 messages_in (ReadDone ∷ notices) = messages_in notices
 
--- How many receive buffers are kept, each of send_max bytes: those of the free receives, that of a begun Send, and those of the
+-- How many receive buffers are kept: those of the free receives, that of a begun Send, and those of the
 -- messages that the owner wasn't told yet. A receive that is lent isn't kept.
 abbrev pub receives_kept : ReceiveQueue → ℕ
 receives_kept q = q.free + (sends_begun q.received.begun + messages_in q.notices)

@@ -109,6 +109,7 @@ impl Endpoint {
         requires { length message.now < 2 ^ 32 }
         ensures state { OnOk result (self.new.link ≡ after_call self.old.link (Send message.now)) }
         ensures stands { OnOk result (StandsOn self.old.link (Send message.now) self.new.link) }
+        ensures room { self.new.room ≡ self.old.room }
         ensures err { OnErr result (self.new.link ≡ self.old.link) }
         ensures live { OnErr result (has_ended self.old.link.state ≡ false) }
         ensures staging { self.new.staging ≡ self.old.staging }
@@ -122,6 +123,7 @@ impl Endpoint {
         requires { to + length bytes.now ≤ 2 ^ 64 }
         ensures state { OnOk result (self.new.link ≡ after_call self.old.link (WriteRemote stag to bytes.now)) }
         ensures stands { OnOk result (StandsOn self.old.link (WriteRemote stag to bytes.now) self.new.link) }
+        ensures room { self.new.room ≡ self.old.room }
         ensures err { OnErr result (self.new.link ≡ self.old.link) }
         ensures live { OnErr result (has_ended self.old.link.state ≡ false) }
         ensures staging { self.new.staging ≡ self.old.staging }
@@ -146,6 +148,7 @@ impl Endpoint {
         ensures reads { IfErr result (λ e. e ≢ refusals.Memory → e ≡ refusals.Full open_reads_max) }
         ensures state { OnOk result (self.new.link ≡ after_call self.old.link (ReadRemote registration.now.stag at stag to len)) }
         ensures stands { OnOk result (StandsOn self.old.link (ReadRemote registration.now.stag at stag to len) self.new.link) }
+        ensures room { self.new.room ≡ self.old.room }
         ensures live { IfErr result (λ e. e ≡ refusals.Memory → has_ended self.old.link.state ≡ false) }
         ensures err { OnErr result (self.new.link ≡ self.old.link) }
         ensures staging { self.new.staging ≡ self.old.staging }
@@ -170,14 +173,28 @@ impl Endpoint {
         Ok(())
     }
 
-    /// Registers a buffer under the next STag, for a peer that may do this with it. `Spent` exactly where STag 2^32 - 1 was given. The
-    /// buffer comes back with an error, which changes nothing.
+    /// Takes the memory that `more` further registrations need: within that room, `register` doesn't run out of memory. Always `Ok` if the room
+    /// suffices already. Either way the side is unchanged and the room doesn't shrink.
+    pub fn make_room(&mut self, more: usize) -> Result<(), Memory>
+        ensures ok { OnOk result (more ≤ self.new.room) }
+        ensures succeeds { more ≤ self.old.room → IsOk result }
+        ensures link { self.new.link ≡ self.old.link }
+        ensures room { self.old.room ≤ self.new.room }
+        ensures staging { self.new.staging ≡ self.old.staging }
+    {
+        self.link.make_room(more)
+    }
+
+    /// Registers a buffer under the next STag, for a peer that may do this with it. `Spent` exactly when STag 2^32 - 1 was given. Within the room
+    /// memory never runs out. The buffer comes back with an error, which changes nothing: no STag is given.
     pub fn register(&mut self, buf: Octets, right: Right) -> Result<Registration, (Octets, Why)>
         ensures claim { IfOk result (λ claim. claim ≡ claim_of self.old.link.state.memory buf) }
         ensures held { IfOk result (λ claim. IsHeld self.new.link.state.memory claim) }
         ensures state { OnOk result (self.new.link ≡ after_call self.old.link (Register buf right)) }
         ensures stands { OnOk result (StandsOn self.old.link (Register buf right) self.new.link) }
         ensures spent { IsErrAnd result (λ e. e.1 ≡ Why.Spent) ↔ (self.old.link.state.memory.next ≡ 2 ^ 32) }
+        ensures succeeds { 0 < self.old.room → self.old.link.state.memory.next < 2 ^ 32 → IsOk result }
+        ensures room { self.old.room ≤ self.new.room + 1 }
         ensures returned { IfErr result (λ e. e.0 ≡ buf) }
         ensures err { OnErr result (self.new.link ≡ self.old.link) }
         ensures staging { self.new.staging ≡ self.old.staging }
@@ -192,6 +209,7 @@ impl Endpoint {
         ensures len { length result ≡ registration.len }
         ensures state { self.new.link ≡ after_call self.old.link (Release registration.stag) }
         ensures stands { StandsOn self.old.link (Release registration.stag) self.new.link }
+        ensures room { self.old.room ≤ self.new.room }
         ensures staging { self.new.staging ≡ self.old.staging }
     {
         self.link.release(registration)

@@ -21,11 +21,11 @@ impl Link {
     pub fn take(&mut self, segment: &Segment, frame: &[u8]) -> Result<(), Memory>
         requires supported { IsSupported (plain segment.now) }
         requires size { length (payload_in (plain segment.now)) + 1 ≤ length frame.now }
-        requires within { self.old.place + length frame.now ≤ 2 ^ 62 }
-        requires lives { segment_end self.old (next_frame self.old frame.now) (plain segment.now) ≡ None }
-        ensures ok { OnOk result (self.new ≡ behind_frame (next_frame self.old frame.now) (with_effect (plain segment.now) self.old)) }
-        ensures err { OnErr result (self.new ≡ self.old) }
-        ensures queued { OnErr result (output_len self.old.send_queue < output_len (with_effect (plain segment.now) self.old).send_queue) }
+        requires within { self.old.state.place + length frame.now ≤ 2 ^ 62 }
+        requires lives { segment_end self.old.state (next_frame self.old.state frame.now) (plain segment.now) ≡ None }
+        ensures ok { OnOk result (self.new.state ≡ behind_frame (next_frame self.old.state frame.now) (with_effect (plain segment.now) self.old.state)) }
+        ensures err { OnErr result (self.new.state ≡ self.old.state) }
+        ensures queued { OnErr result (output_len self.old.state.send_queue < output_len (with_effect (plain segment.now) self.old.state).send_queue) }
     {
         match *segment {
             Segment::Tagged {
@@ -65,10 +65,10 @@ impl Link {
         payload: &[u8],
         frame: &[u8],
     )
-        requires lives { tagged_end self.old last opcode stag to payload.now ≡ None }
+        requires lives { tagged_end self.old.state last opcode stag to payload.now ≡ None }
         requires some { 0 < length frame.now }
-        requires within { self.old.place + length frame.now ≤ 2 ^ 62 }
-        ensures { self.new ≡ behind_frame (next_frame self.old frame.now) (with_effect (Tagged last opcode stag to payload.now) self.old) }
+        requires within { self.old.state.place + length frame.now ≤ 2 ^ 62 }
+        ensures { self.new.state ≡ behind_frame (next_frame self.old.state frame.now) (with_effect (Tagged last opcode stag to payload.now) self.old.state) }
     {
         if opcode == OPCODE_READ_RESPONSE {
             if last {
@@ -86,11 +86,11 @@ impl Link {
 
     /// A Read Request is answered with the bytes as they stand (RFC 5040 section 5.2). An `Err` changes nothing.
     fn take_request(&mut self, payload: &[u8], frame: &[u8]) -> Result<(), Memory>
-        requires fine { RequestIsFine self.old payload.now }
+        requires fine { RequestIsFine self.old.state payload.now }
         requires some { 0 < length frame.now }
-        requires within { self.old.place + length frame.now ≤ 2 ^ 62 }
-        ensures ok { OnOk result (self.new ≡ behind_frame (next_frame self.old frame.now) (with_effect (Untagged true OPCODE_READ_REQUEST 0 0 0 0 payload.now) self.old)) }
-        ensures err { OnErr result (self.new ≡ self.old) }
+        requires within { self.old.state.place + length frame.now ≤ 2 ^ 62 }
+        ensures ok { OnOk result (self.new.state ≡ behind_frame (next_frame self.old.state frame.now) (with_effect (Untagged true OPCODE_READ_REQUEST 0 0 0 0 payload.now) self.old.state)) }
+        ensures err { OnErr result (self.new.state ≡ self.old.state) }
     {
         let request = read_request(payload);
         match self
@@ -110,10 +110,10 @@ impl Link {
 
     /// One more segment of a Send. Takes no memory.
     fn take_send(&mut self, last: bool, payload: &[u8], frame: &[u8])
-        requires fine { SendIsFine self.old last payload.now }
+        requires fine { SendIsFine self.old.state last payload.now }
         requires size { length payload.now + 1 ≤ length frame.now }
-        requires within { self.old.place + length frame.now ≤ 2 ^ 62 }
-        ensures { self.new ≡ behind_frame (next_frame self.old frame.now) (with_effect (Untagged last OPCODE_SEND 0 0 0 0 payload.now) self.old) }
+        requires within { self.old.state.place + length frame.now ≤ 2 ^ 62 }
+        ensures { self.new.state ≡ behind_frame (next_frame self.old.state frame.now) (with_effect (Untagged last OPCODE_SEND 0 0 0 0 payload.now) self.old.state) }
     {
         self.receive_queue.receive(last, payload);
         self.last = self.place;

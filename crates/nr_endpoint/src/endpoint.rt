@@ -41,9 +41,9 @@ impl Model for Endpoint {
 
     ghost use Rattle.nr_endpoint.specs.Staged.{IsStaged};
 
-    ghost view = { λ e. record { link = record { awaited = e.awaited; rest = take e.staged e.staging.items; state = e.link }; staging = e.staging.items } };
+    ghost view = { λ e. record { link = record { awaited = e.awaited; rest = take e.staged e.staging.items; state = e.link.state }; staging = e.staging.items; room = e.link.room } };
 
-    ghost invariant = { λ e. IsStaged e.awaited e.link.ended e.staging.items e.staged };
+    ghost invariant = { λ e. IsStaged e.awaited e.link.state.ended e.staging.items e.staged };
 }
 
 /// The other side of a link.

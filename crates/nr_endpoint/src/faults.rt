@@ -79,8 +79,8 @@ impl Link {
     pub fn fault(&self, segment: &Segment) -> Option<End>
         requires supported { IsSupported (plain segment.now) }
         requires size { length (payload_in (plain segment.now)) < 2 ^ 16 }
-        requires place { self.now.place ≤ 2 ^ 62 }
-        ensures { (frame : Frame) → frame.at ≡ self.now.place → result ≡ segment_end self.now frame (plain segment.now) }
+        requires place { self.now.state.place ≤ 2 ^ 62 }
+        ensures { (frame : Frame) → frame.at ≡ self.now.state.place → result ≡ segment_end self.now.state frame (plain segment.now) }
     {
         match *segment {
             Segment::Tagged {
@@ -116,7 +116,7 @@ impl Link {
 
     /// The end for a reason, at the frame that is judged.
     fn bad(&self, reason: u32) -> Option<End>
-        ensures { result ≡ Some (ends.Bad self.now.place reason) }
+        ensures { result ≡ Some (ends.Bad self.now.state.place reason) }
     {
         Some(End::Bad {
             at: self.place,
@@ -134,7 +134,7 @@ impl Link {
         to: u64,
         payload: &[u8],
     ) -> Option<End>
-        ensures { result ≡ tagged_end self.now last opcode stag to payload.now }
+        ensures { result ≡ tagged_end self.now.state last opcode stag to payload.now }
     {
         let len = payload.len() as u64;
         if let Some(why) = self.regions.denial(kind_of(opcode), stag, to, len) {
@@ -152,8 +152,8 @@ impl Link {
 
     /// The number of the next message of a queue (RFC 5041 section 4.3).
     fn next_msn(&self, queue: u32) -> u32
-        requires { self.now.place ≤ 2 ^ 62 }
-        ensures { result ≡ next_msn self.now.receive_queue.received queue }
+        requires { self.now.state.place ≤ 2 ^ 62 }
+        ensures { result ≡ next_msn self.now.state.receive_queue.received queue }
     {
         let count = if queue == QUEUE_SEND {
             self.receive_queue.sends()
@@ -167,7 +167,7 @@ impl Link {
 
     /// The next offset in a queue's message.
     fn next_offset(&self, queue: u32) -> u64
-        ensures { result ≡ next_offset self.now.receive_queue.received queue }
+        ensures { result ≡ next_offset self.now.state.receive_queue.received queue }
     {
         if queue == QUEUE_SEND {
             self.receive_queue.begun_len()
@@ -179,8 +179,8 @@ impl Link {
     /// A message number that isn't the next of its queue, or an offset that isn't the number of bytes of its message so far.
     #[tactic(auto, unfolding(crate::specs::SegmentEnds::message_end))]
     fn message_fault(&self, queue: u32, msn: u32, offset: u32) -> Option<End>
-        requires { self.now.place ≤ 2 ^ 62 }
-        ensures { result ≡ message_end self.now queue msn offset }
+        requires { self.now.state.place ≤ 2 ^ 62 }
+        ensures { result ≡ message_end self.now.state queue msn offset }
     {
         if msn != self.next_msn(queue) {
             return self.bad(REASON_MSN);
@@ -194,9 +194,9 @@ impl Link {
     /// A Send that finds no receive, or one that becomes whole and is too long or too short.
     #[tactic(auto, unfolding(crate::specs::SegmentEnds::send_end))]
     fn send_fault(&self, last: bool, msn: u32, payload: &[u8]) -> Option<End>
-        requires place { self.now.place ≤ 2 ^ 62 }
+        requires place { self.now.state.place ≤ 2 ^ 62 }
         requires size { length payload.now < 2 ^ 16 }
-        ensures { result ≡ send_end self.now last msn payload.now }
+        ensures { result ≡ send_end self.now.state last msn payload.now }
     {
         if !(self.receive_queue.is_begun() || self.receive_queue.has_free()) {
             return Some(End::NoBuffer { msn });
@@ -214,7 +214,7 @@ impl Link {
     /// A Read Request of another form, of bytes that the peer may not read, or while too many responses are owed.
     #[tactic(auto, unfolding(crate::specs::SegmentEnds::request_end))]
     fn request_fault(&self, last: bool, payload: &[u8]) -> Option<End>
-        ensures { result ≡ request_end self.now last payload.now }
+        ensures { result ≡ request_end self.now.state last payload.now }
     {
         if is_bad_request(last, payload) {
             return self.bad(REASON_FORM);
@@ -239,7 +239,7 @@ impl Link {
     /// The peer's Terminate, or one of another form.
     #[tactic(auto, unfolding(crate::specs::SegmentEnds::terminate_end))]
     fn terminate_fault(&self, last: bool, payload: &[u8]) -> Option<End>
-        ensures { result ≡ terminate_end self.now last payload.now }
+        ensures { result ≡ terminate_end self.now.state last payload.now }
     {
         if !last || payload.len() < TERMINATE_MIN {
             return self.bad(REASON_FORM);

@@ -2,7 +2,7 @@
 
 ghost use Rattle.nr_endpoint.specs.ReceivedLaws.{ReceivedBytes};
 ghost use Rattle.nr_endpoint.specs.OutputLaws.{OutputIsItems, SendsGoByItems, ResponsesGoByItems, SidesStayBounded};
-ghost use Rattle.nr_endpoint.specs.Laws.{PiecesJoin, StepsReach, StepsFeed, EndStays, KeepsLessThanFrame, EndedKeepsNothing, StreamIsKept, PlaceIsFed, MemoryFollowsEvents, PlacesAreAllowed, PlacesAreInOrder, ArrivalsRise, EventsAreTold, EventsAreInOrder, EventsFollowAccesses, OneFrameTellsAtItsEnd, ReadsAreAllowed, NothingElseIsRead, OtherFramesQueueNothing, OpenRegionHolds, ReleasedBufferHolds, ReleasedStaysDead, ClaimsStay, NoFpduBeforeHello, FramesEndForThese, GrantsEndAlike, OffersDenyAlike, NoFrameStops, OthersComeFromStop, MemoryComesFromOutOfMemory, EndedQueuesNothing, EndIsKept, StopQueuesLast, OutOfMemoryQueuesNothing};
+ghost use Rattle.nr_endpoint.specs.Laws.{PiecesJoin, StepsReach, StepsFeed, EndStays, KeepsLessThanFrame, EndedKeepsNothing, StreamIsKept, PlaceIsFed, MemoryFollowsEvents, PlacesAreAllowed, PlacesAreInOrder, ArrivalsRise, EventsAreTold, EventsAreInOrder, EventsFollowAccesses, OneFrameTellsAtItsEnd, OneFrameTellsOnce, ReadsAreAllowed, NothingElseIsRead, OtherFramesQueueNothing, OpenRegionHolds, ReleasedBufferHolds, ReleasedStaysDead, ClaimsStay, NoFpduBeforeHello, FramesEndForThese, GrantsEndAlike, OffersDenyAlike, NoFrameStops, OthersComeFromStop, MemoryComesFromOutOfMemory, EndedQueuesNothing, EndIsKept, StopQueuesLast, OutOfMemoryQueuesNothing};
 
 /// What a side is after some bytes does not depend on how they were cut: to feed two pieces is to feed both joined, and one step on a
 /// piece and then the rest of it is the whole piece. A side that has ended stays as it is.
@@ -53,6 +53,7 @@ pub fn events_follow_accesses()
     ensures order { EventsAreInOrder }
     ensures follow { EventsFollowAccesses }
     ensures one_frame { OneFrameTellsAtItsEnd }
+    ensures once { OneFrameTellsOnce }
 {}
 
 /// A region that was registered stays registered until it is released, whatever is called between: `release` may be called with it.

@@ -38,17 +38,17 @@ pub struct Link {
 
 impl Model for Link {
     ghost use Rattle.std.specs.Prelude.{map};
-    ghost use Rattle.nr_endpoint.specs.LinkState.{LinkState};
-    ghost use Rattle.nr_endpoint.specs.Codes.{state_code};
+    ghost use Rattle.nr_endpoint.specs.EndpointState.{LinkView};
+    ghost use Rattle.nr_endpoint.specs.Codes.{link_view_code};
 
-    ghost Value = { LinkState };
+    ghost Value = { LinkView };
 
-    ghost coded = { state_code };
+    ghost coded = { link_view_code };
 
     ghost use Rattle.nr_endpoint.specs.Views.{expected};
     ghost use Rattle.nr_endpoint.specs.Counted.{IsCounted};
 
-    ghost view = { λ l. record { side = l.side; has_hello = l.has_hello; last = l.last; place = l.place; ended = l.ended; receive_queue = l.receive_queue; reads = map expected l.reads.items; memory = l.regions.memory; send_queue = l.send_queue } };
+    ghost view = { λ l. record { state = record { side = l.side; has_hello = l.has_hello; last = l.last; place = l.place; ended = l.ended; receive_queue = l.receive_queue; reads = map expected l.reads.items; memory = l.regions.memory; send_queue = l.send_queue }; room = l.regions.room } };
 
     ghost invariant = { λ l. IsCounted l.has_hello l.receive_queue l.place };
 }
@@ -57,7 +57,7 @@ impl Link {
     /// A side as the link is opened. The first region gets this STag, which isn't 0.
     pub fn new(alloc: Global, side: Side, receives: u32, first_stag: u32) -> Result<Link, Memory>
         requires { 0 < first_stag }
-        ensures { IfOk result (λ l. l ≡ initial_state side receives first_stag) }
+        ensures { IfOk result (λ l. l.state ≡ initial_state side receives first_stag) }
     {
         let send_queue = SendQueue::new(alloc, side)?;
         let receive_queue = ReceiveQueue::new(alloc, receives)?;
@@ -78,9 +78,9 @@ impl Link {
     /// as it was before the frame. A frame that queues nothing wants no memory.
     pub fn judge(&mut self, awaited: Awaited, frame: &[u8]) -> bool
         requires frame { IsFrame awaited frame.now }
-        requires within { self.old.place + length frame.now ≤ 2 ^ 62 }
-        ensures state { self.new ≡ (if result then with_frame self.old awaited frame.now else record self.old { ended = Some ends.Memory }) }
-        ensures queued { OnFalse result (output_len self.old.send_queue < output_len (with_frame self.old awaited frame.now).send_queue) }
+        requires within { self.old.state.place + length frame.now ≤ 2 ^ 62 }
+        ensures state { self.new.state ≡ (if result then with_frame self.old.state awaited frame.now else record self.old.state { ended = Some ends.Memory }) }
+        ensures queued { OnFalse result (output_len self.old.state.send_queue < output_len (with_frame self.old.state awaited frame.now).send_queue) }
     {
         let judged = match awaited {
             Awaited::Hello(side) => self.greet(side, frame),
@@ -95,9 +95,9 @@ impl Link {
 
     /// The side ends, and queues what it writes last. An `Err` changes nothing.
     pub fn end_with(&mut self, end: End) -> Result<(), Memory>
-        ensures ok { OnOk result (self.new ≡ with_end_of end self.old) }
-        ensures err { OnErr result (self.new ≡ self.old) }
-        ensures queued { OnErr result (output_len self.old.send_queue < output_len (with_end_of end self.old).send_queue) }
+        ensures ok { OnOk result (self.new.state ≡ with_end_of end self.old.state) }
+        ensures err { OnErr result (self.new.state ≡ self.old.state) }
+        ensures queued { OnErr result (output_len self.old.state.send_queue < output_len (with_end_of end self.old.state).send_queue) }
     {
         self.send_queue.finish(self.side, end)?;
         self.ended = Some(end);
@@ -107,8 +107,8 @@ impl Link {
     /// The side ends for this, or for want of memory; answers which.
     pub fn stop(&mut self, end: End) -> End
         requires { end ≢ ends.Memory }
-        ensures end { result ≢ ends.Memory → (result ≡ end) × (self.new ≡ with_end_of end self.old) }
-        ensures memory { result ≡ ends.Memory → self.new ≡ record self.old { ended = Some ends.Memory } }
+        ensures end { result ≢ ends.Memory → (result ≡ end) × (self.new.state ≡ with_end_of end self.old.state) }
+        ensures memory { result ≡ ends.Memory → self.new.state ≡ record self.old.state { ended = Some ends.Memory } }
     {
         if self.end_with(end).is_err() {
             self.ended = Some(End::Memory);
@@ -121,10 +121,10 @@ impl Link {
     #[tactic(auto, unfolding(crate::specs::Judging::with_peer_hello))]
     fn greet(&mut self, side: Side, frame: &[u8]) -> Result<(), Memory>
         requires frame { IsFrame (Awaited.Hello side) frame.now }
-        requires within { self.old.place + length frame.now ≤ 2 ^ 62 }
-        ensures ok { OnOk result (self.new ≡ with_peer_hello (next_frame self.old frame.now) (hello_of side frame.now) self.old) }
-        ensures err { OnErr result (self.new ≡ self.old) }
-        ensures queued { OnErr result (output_len self.old.send_queue < output_len (with_peer_hello (next_frame self.old frame.now) (hello_of side frame.now) self.old).send_queue) }
+        requires within { self.old.state.place + length frame.now ≤ 2 ^ 62 }
+        ensures ok { OnOk result (self.new.state ≡ with_peer_hello (next_frame self.old.state frame.now) (hello_of side frame.now) self.old.state) }
+        ensures err { OnErr result (self.new.state ≡ self.old.state) }
+        ensures queued { OnErr result (output_len self.old.state.send_queue < output_len (with_peer_hello (next_frame self.old.state frame.now) (hello_of side frame.now) self.old.state).send_queue) }
     {
         if let Some(reason) = hello_refusal(side, frame) {
             return self.end_with(End::Bad {
@@ -143,10 +143,10 @@ impl Link {
     #[tactic(auto, unfolding(crate::specs::Judging::with_fpdu))]
     fn receive_fpdu(&mut self, frame: &[u8]) -> Result<(), Memory>
         requires frame { IsFrame Awaited.Fpdu frame.now }
-        requires within { self.old.place + length frame.now ≤ 2 ^ 62 }
-        ensures ok { OnOk result (self.new ≡ with_fpdu (next_frame self.old frame.now) (segment_of frame.now) self.old) }
-        ensures err { OnErr result (self.new ≡ self.old) }
-        ensures queued { OnErr result (output_len self.old.send_queue < output_len (with_fpdu (next_frame self.old frame.now) (segment_of frame.now) self.old).send_queue) }
+        requires within { self.old.state.place + length frame.now ≤ 2 ^ 62 }
+        ensures ok { OnOk result (self.new.state ≡ with_fpdu (next_frame self.old.state frame.now) (segment_of frame.now) self.old.state) }
+        ensures err { OnErr result (self.new.state ≡ self.old.state) }
+        ensures queued { OnErr result (output_len self.old.state.send_queue < output_len (with_fpdu (next_frame self.old.state frame.now) (segment_of frame.now) self.old.state).send_queue) }
     {
         match segment_in_frame(frame) {
             Ok(segment) => self.receive(&segment, frame),
@@ -162,10 +162,10 @@ impl Link {
         requires supported { IsSupported (plain segment.now) }
         requires payload { length (payload_in (plain segment.now)) < 2 ^ 16 }
         requires size { length (payload_in (plain segment.now)) + 1 ≤ length frame.now }
-        requires within { self.old.place + length frame.now ≤ 2 ^ 62 }
-        ensures ok { OnOk result (self.new ≡ with_segment_by (next_frame self.old frame.now) (plain segment.now) (segment_end self.old (next_frame self.old frame.now) (plain segment.now)) self.old) }
-        ensures err { OnErr result (self.new ≡ self.old) }
-        ensures queued { OnErr result (output_len self.old.send_queue < output_len (with_segment_by (next_frame self.old frame.now) (plain segment.now) (segment_end self.old (next_frame self.old frame.now) (plain segment.now)) self.old).send_queue) }
+        requires within { self.old.state.place + length frame.now ≤ 2 ^ 62 }
+        ensures ok { OnOk result (self.new.state ≡ with_segment_by (next_frame self.old.state frame.now) (plain segment.now) (segment_end self.old.state (next_frame self.old.state frame.now) (plain segment.now)) self.old.state) }
+        ensures err { OnErr result (self.new.state ≡ self.old.state) }
+        ensures queued { OnErr result (output_len self.old.state.send_queue < output_len (with_segment_by (next_frame self.old.state frame.now) (plain segment.now) (segment_end self.old.state (next_frame self.old.state frame.now) (plain segment.now)) self.old.state).send_queue) }
     {
         match self.fault(segment) {
             Some(end) => self.end_with(end),

@@ -78,10 +78,10 @@ impl Link {
     /// Queues a Send and registers the buffers that it offers. `Err` gives the buffers back, and changes nothing.
     pub fn offer(&mut self, message: &[u8], offered: Offered) -> Result<Claims, Offered>
         requires size { length message.now < 2 ^ 32 }
-        requires stags { self.old.memory.next + offered_count offered ≤ 2 ^ 32 }
-        ensures ok { OnOk result (self.new ≡ after_offer message.now offered self.old) }
-        ensures claims { IfOk result (λ claims. claims ≡ claims_of self.old.memory offered) }
-        ensures err { OnErr result (self.new ≡ self.old) }
+        requires stags { self.old.state.memory.next + offered_count offered ≤ 2 ^ 32 }
+        ensures ok { OnOk result (self.new.state ≡ after_offer message.now offered self.old.state) }
+        ensures claims { IfOk result (λ claims. claims ≡ claims_of self.old.state.memory offered) }
+        ensures err { OnErr result (self.new.state ≡ self.old.state) }
         ensures returned { IfErr result (λ o. o ≡ offered) }
     {
         if self.regions.make_room(3).is_err() {
@@ -97,9 +97,9 @@ impl Link {
     pub fn answer(&mut self, writes: &[RemoteWrite<'_>], message: &[u8]) -> Result<(), Memory>
         requires size { length message.now < 2 ^ 32 }
         requires fits { All FitsRegion writes.now }
-        ensures ok { OnOk result (self.new ≡ after_answer writes.now message.now self.old) }
-        ensures err { OnErr result (self.new ≡ self.old) }
-        ensures live { OnErr result (has_ended self.old ≡ false) }
+        ensures ok { OnOk result (self.new.state ≡ after_answer writes.now message.now self.old.state) }
+        ensures err { OnErr result (self.new.state ≡ self.old.state) }
+        ensures live { OnErr result (has_ended self.old.state ≡ false) }
     {
         if self.ended.is_some() {
             return Ok(());

@@ -21,19 +21,19 @@ end_in (Err e) = e
 
 pub returns-in-Some-clause-state : goal.returns-in-Some-clause-state
 returns-in-Some-clause-state c = λ other.
-    (sym (ap (λ (e : EndpointState). e.link) c.self.view_is)) ∙ seen (record { awaited = c.self.inside.awaited; rest = take c.self.inside.staged c.self.inside.staging.items; state = c.self.inside.link }) c.self.inside.staging.items c.args.self.now (record { awaited = c.self.inside.awaited; rest = take c.self.inside.staged c.self.inside.staging.items; state = c.self.inside.link }) (FeedOne c.args.piece.now) c.self.view_is (ended_stays_one c.self.inside.link c.self.inside.awaited (take c.self.inside.staged c.self.inside.staging.items) c.args.piece.now c.in-Some.end (sym c.end.ensures ∙ c.in-Some.is) (ap (λ (n : ℕ). take n c.self.inside.staging.items) (c.self.invariant.ended_empty (ap (λ (e : Option End). is_some e) (sym c.end.ensures ∙ c.in-Some.is)))))
+    (sym (ap (λ (e : EndpointState). e.link) c.self.view_is)) ∙ seen (record { awaited = c.self.inside.awaited; rest = take c.self.inside.staged c.self.inside.staging.items; state = c.self.inside.link.state }) c.self.inside.staging.items c.args.self.now (record { awaited = c.self.inside.awaited; rest = take c.self.inside.staged c.self.inside.staging.items; state = c.self.inside.link.state }) (FeedOne c.args.piece.now) c.self.view_is (ended_stays_one c.self.inside.link.state c.self.inside.awaited (take c.self.inside.staged c.self.inside.staging.items) c.args.piece.now c.in-Some.end (sym c.end.ensures ∙ c.in-Some.is) (ap (λ (n : ℕ). take n c.self.inside.staging.items) (c.self.invariant.ended_empty (ap (λ (e : Option End). is_some e) (sym c.end.ensures ∙ c.in-Some.is)))))
 
 pub returns-in-Some-clause-stands : goal.returns-in-Some-clause-stands
 returns-in-Some-clause-stands c = λ other.
-    stands_on c.args.self.now.link (FeedOne c.args.piece.now) c.args.self.now.link ((sym (ap (λ (e : EndpointState). e.link) c.self.view_is)) ∙ seen (record { awaited = c.self.inside.awaited; rest = take c.self.inside.staged c.self.inside.staging.items; state = c.self.inside.link }) c.self.inside.staging.items c.args.self.now (record { awaited = c.self.inside.awaited; rest = take c.self.inside.staged c.self.inside.staging.items; state = c.self.inside.link }) (FeedOne c.args.piece.now) c.self.view_is (ended_stays_one c.self.inside.link c.self.inside.awaited (take c.self.inside.staged c.self.inside.staging.items) c.args.piece.now c.in-Some.end (sym c.end.ensures ∙ c.in-Some.is) (ap (λ (n : ℕ). take n c.self.inside.staging.items) (c.self.invariant.ended_empty (ap (λ (e : Option End). is_some e) (sym c.end.ensures ∙ c.in-Some.is))))))
+    stands_on c.args.self.now.link (FeedOne c.args.piece.now) c.args.self.now.link ((sym (ap (λ (e : EndpointState). e.link) c.self.view_is)) ∙ seen (record { awaited = c.self.inside.awaited; rest = take c.self.inside.staged c.self.inside.staging.items; state = c.self.inside.link.state }) c.self.inside.staging.items c.args.self.now (record { awaited = c.self.inside.awaited; rest = take c.self.inside.staged c.self.inside.staging.items; state = c.self.inside.link.state }) (FeedOne c.args.piece.now) c.self.view_is (ended_stays_one c.self.inside.link.state c.self.inside.awaited (take c.self.inside.staged c.self.inside.staging.items) c.args.piece.now c.in-Some.end (sym c.end.ensures ∙ c.in-Some.is) (ap (λ (n : ℕ). take n c.self.inside.staging.items) (c.self.invariant.ended_empty (ap (λ (e : Option End). is_some e) (sym c.end.ensures ∙ c.in-Some.is))))))
 
 pub returns-in-Some-clause-memory : goal.returns-in-Some-clause-memory
 returns-in-Some-clause-memory c = λ memory.
-    (sym (ap (λ (e : EndpointState). e.link) c.self.view_is)) ∙ seen (record { awaited = c.self.inside.awaited; rest = take c.self.inside.staged c.self.inside.staging.items; state = c.self.inside.link }) c.self.inside.staging.items c.args.self.now (record { awaited = c.self.inside.awaited; rest = take c.self.inside.staged c.self.inside.staging.items; state = c.self.inside.link }) OutOfMemory c.self.view_is (memory_stays c.self.inside.link c.self.inside.awaited (take c.self.inside.staged c.self.inside.staging.items) ((sym c.end.ensures ∙ c.in-Some.is) ∙ ap (λ (e : End). Some e) (ap (λ (r : Result ℕ End). end_in r) memory)) (ap (λ (n : ℕ). take n c.self.inside.staging.items) (c.self.invariant.ended_empty (ap (λ (e : Option End). is_some e) (sym c.end.ensures ∙ c.in-Some.is)))))
+    (sym (ap (λ (e : EndpointState). e.link) c.self.view_is)) ∙ seen (record { awaited = c.self.inside.awaited; rest = take c.self.inside.staged c.self.inside.staging.items; state = c.self.inside.link.state }) c.self.inside.staging.items c.args.self.now (record { awaited = c.self.inside.awaited; rest = take c.self.inside.staged c.self.inside.staging.items; state = c.self.inside.link.state }) OutOfMemory c.self.view_is (memory_stays c.self.inside.link.state c.self.inside.awaited (take c.self.inside.staged c.self.inside.staging.items) ((sym c.end.ensures ∙ c.in-Some.is) ∙ ap (λ (e : End). Some e) (ap (λ (r : Result ℕ End). end_in r) memory)) (ap (λ (n : ℕ). take n c.self.inside.staging.items) (c.self.invariant.ended_empty (ap (λ (e : Option End). is_some e) (sym c.end.ensures ∙ c.in-Some.is)))))
 
 pub returns-in-Some-clause-stands_memory : goal.returns-in-Some-clause-stands_memory
 returns-in-Some-clause-stands_memory c = λ memory.
-    stands_on c.args.self.now.link OutOfMemory c.args.self.now.link ((sym (ap (λ (e : EndpointState). e.link) c.self.view_is)) ∙ seen (record { awaited = c.self.inside.awaited; rest = take c.self.inside.staged c.self.inside.staging.items; state = c.self.inside.link }) c.self.inside.staging.items c.args.self.now (record { awaited = c.self.inside.awaited; rest = take c.self.inside.staged c.self.inside.staging.items; state = c.self.inside.link }) OutOfMemory c.self.view_is (memory_stays c.self.inside.link c.self.inside.awaited (take c.self.inside.staged c.self.inside.staging.items) ((sym c.end.ensures ∙ c.in-Some.is) ∙ ap (λ (e : End). Some e) (ap (λ (r : Result ℕ End). end_in r) memory)) (ap (λ (n : ℕ). take n c.self.inside.staging.items) (c.self.invariant.ended_empty (ap (λ (e : Option End). is_some e) (sym c.end.ensures ∙ c.in-Some.is))))))
+    stands_on c.args.self.now.link OutOfMemory c.args.self.now.link ((sym (ap (λ (e : EndpointState). e.link) c.self.view_is)) ∙ seen (record { awaited = c.self.inside.awaited; rest = take c.self.inside.staged c.self.inside.staging.items; state = c.self.inside.link.state }) c.self.inside.staging.items c.args.self.now (record { awaited = c.self.inside.awaited; rest = take c.self.inside.staged c.self.inside.staging.items; state = c.self.inside.link.state }) OutOfMemory c.self.view_is (memory_stays c.self.inside.link.state c.self.inside.awaited (take c.self.inside.staged c.self.inside.staging.items) ((sym c.end.ensures ∙ c.in-Some.is) ∙ ap (λ (e : End). Some e) (ap (λ (r : Result ℕ End). end_in r) memory)) (ap (λ (n : ℕ). take n c.self.inside.staging.items) (c.self.invariant.ended_empty (ap (λ (e : Option End). is_some e) (sym c.end.ensures ∙ c.in-Some.is))))))
 
 pub returns-in-Some-clause-frame : goal.returns-in-Some-clause-frame
 returns-in-Some-clause-frame c = λ memory going. absurd (let h : true ≡ false = ap (λ (e : Option End). is_some e) (sym (sym c.end.ensures ∙ c.in-Some.is)) ∙ ap (λ (e : EndpointState). has_ended e.link.state) c.self.view_is ∙ going in cc)

@@ -3,4 +3,4 @@ use Rattle.nr_endpoint.proofs.endpoint.Endpoint.run_out_live.Goals as goal
 
 pub returns-clause-state : goal.returns-clause-state
 returns-clause-state c =
-    out_of_memory _ _ c.args.self.now c.run_out.new.self c.self.view_is c.requires.live c.run_out.ensures.state
+    out_of_memory _ _ c.args.self.now c.run_out.new.self.state c.self.view_is c.requires.live c.run_out.ensures.state

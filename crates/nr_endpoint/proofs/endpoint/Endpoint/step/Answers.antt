@@ -58,10 +58,10 @@ pub returns-then-judge-clause-state : goal.returns-then-judge-clause-state
 returns-then-judge-clause-state c =
     let found = in_piece c.self.inside.staged c.self.inside.awaited c.args.piece.now c.whole_in_piece.result c.in-Some.len c.whole_in_piece.ensures c.in-Some.is in
     let none : take c.self.inside.staged c.self.inside.staging.items ≡ [] = ap (λ (n : ℕ). take n c.self.inside.staging.items) found.0 in
-    rw (← c.self.view_is) (inl (ap (λ (rest : List ℕ). record { awaited = Fpdu; rest = rest; state = c.judge.new.self }) none
-    ∙ stepped_whole c.self.inside.link c.judge.new.self c.self.inside.awaited (take c.self.inside.staged c.self.inside.staging.items) c.args.piece.now c.split_at.result.0.now (subst (λ (e : EndpointState). e.link.state.ended ≡ None) (sym c.self.view_is) c.requires.live) (ap (is_whole c.self.inside.awaited) (none-staged c.self.inside.staging.items c.args.piece.now c.self.inside.staged found.0) ∙ found.1.0)
+    rw (← c.self.view_is) (inl (ap (λ (rest : List ℕ). record { awaited = Fpdu; rest = rest; state = c.judge.new.self.state }) none
+    ∙ stepped_whole c.self.inside.link.state c.judge.new.self.state c.self.inside.awaited (take c.self.inside.staged c.self.inside.staging.items) c.args.piece.now c.split_at.result.0.now (subst (λ (e : EndpointState). e.link.state.ended ≡ None) (sym c.self.view_is) c.requires.live) (ap (is_whole c.self.inside.awaited) (none-staged c.self.inside.staging.items c.args.piece.now c.self.inside.staged found.0) ∙ found.1.0)
     (frame-in-piece c.self.inside.awaited c.self.inside.staging.items c.args.piece.now c.split_at.result.0.now c.self.inside.staged c.in-Some.len found.0 found.1.1 c.split_at.ensures.front)
-    (judged c.judge.result c.judge.new.self _ _ c.judge.ensures.state c.if-judge.true)))
+    (judged c.judge.result c.judge.new.self.state _ _ c.judge.ensures.state c.if-judge.true)))
 
 pub returns-else-judge-clause-state : goal.returns-else-judge-clause-state
 returns-else-judge-clause-state c =
@@ -70,10 +70,10 @@ returns-else-judge-clause-state c =
     let whole : is_whole c.self.inside.awaited (take c.self.inside.staged c.self.inside.staging.items ++ c.args.piece.now) ≡ true =
     ap (is_whole c.self.inside.awaited) (none-staged c.self.inside.staging.items c.args.piece.now c.self.inside.staged found.0) ∙ found.1.0 in
     rw (← c.self.view_is) (inr (
-      (ap (λ (rest : List ℕ). record { awaited = c.self.inside.awaited; rest = rest; state = c.judge.new.self }) none
-          ∙ out_of_memory c.self.inside.link c.judge.new.self c.self.inside.awaited (take c.self.inside.staged c.self.inside.staging.items) (subst (λ (e : EndpointState). e.link.state.ended ≡ None) (sym c.self.view_is) c.requires.live) (not_judged c.judge.result c.judge.new.self _ _ c.judge.ensures.state c.if-judge.false)),
+      (ap (λ (rest : List ℕ). record { awaited = c.self.inside.awaited; rest = rest; state = c.judge.new.self.state }) none
+          ∙ out_of_memory c.self.inside.link.state c.judge.new.self.state c.self.inside.awaited (take c.self.inside.staged c.self.inside.staging.items) (subst (λ (e : EndpointState). e.link.state.ended ≡ None) (sym c.self.view_is) c.requires.live) (not_judged c.judge.result c.judge.new.self.state _ _ c.judge.ensures.state c.if-judge.false)),
       whole,
-      queues_whole c.self.inside.link c.self.inside.awaited (take c.self.inside.staged c.self.inside.staging.items) c.args.piece.now c.split_at.result.0.now (subst (λ (e : EndpointState). e.link.state.ended ≡ None) (sym c.self.view_is) c.requires.live) whole
+      queues_whole c.self.inside.link.state c.self.inside.awaited (take c.self.inside.staged c.self.inside.staging.items) c.args.piece.now c.split_at.result.0.now (subst (λ (e : EndpointState). e.link.state.ended ≡ None) (sym c.self.view_is) c.requires.live) whole
           (frame-in-piece c.self.inside.awaited c.self.inside.staging.items c.args.piece.now c.split_at.result.0.now c.self.inside.staged c.in-Some.len found.0 found.1.1 c.split_at.ensures.front)
           (not_judged_queues c.judge.result _ c.judge.ensures.queued c.if-judge.false),
     ))
@@ -94,7 +94,7 @@ invariant_of-self-then-is_none c =
       len = facts.len;
       within = c.stage_frame-taken.ensures.room;
       partial = partial_from c.self.inside.awaited (take (c.self.inside.staged + c.stage_frame-taken.result) c.stage_frame-taken.new.staging.items) partial;
-      ended_empty = λ e. absurd (let h : false ≡ true = sym (living c.self.inside.link (subst (λ (e : EndpointState). e.link.state.ended ≡ None) (sym c.self.view_is) c.requires.live)) ∙ e in cc);
+      ended_empty = λ e. absurd (let h : false ≡ true = sym (living c.self.inside.link.state (subst (λ (e : EndpointState). e.link.state.ended ≡ None) (sym c.self.view_is) c.requires.live)) ∙ e in cc);
     }
 
 pub returns-then-is_none-clause-state : goal.returns-then-is_none-clause-state
@@ -102,12 +102,12 @@ returns-then-is_none-clause-state c =
     let facts : StagedFacts c.self.inside.awaited c.self.inside.staging.items c.stage_frame-taken.new.staging.items c.args.piece.now c.self.inside.staged c.stage_frame-taken.result = staged_facts c.self.inside.awaited c.self.inside.staging.items c.stage_frame-taken.new.staging.items c.args.piece.now c.self.inside.staged c.stage_frame-taken.result c.self.invariant.len c.stage_frame-taken.ensures.room c.self.invariant.partial c.stage_frame-taken.ensures.taken c.stage_frame-taken.ensures.bytes in
     let staged : c.split_at-2.result.0.now ≡ take (c.self.inside.staged + c.stage_frame-taken.result) c.stage_frame-taken.new.staging.items = c.split_at-2.ensures.front ∙ ap (take (c.self.inside.staged + c.stage_frame-taken.result)) c.as_slice.ensures.value in
     let partial : is_whole c.self.inside.awaited ((take c.self.inside.staged c.self.inside.staging.items) ++ c.args.piece.now) ≡ false = sym facts.whole ∙ ap (is_whole c.self.inside.awaited) (sym staged) ∙ partial_is (is_whole c.self.inside.awaited c.split_at-2.result.0.now) _ c.whole_frame.result c.whole_frame.ensures.exact (c.is_none.ensures ∙ ap not c.if-is_none.true) in
-    rw (← c.self.view_is) (inl (stepped_partial c.self.inside.link c.self.inside.awaited (take c.self.inside.staged c.self.inside.staging.items) c.args.piece.now (take (c.self.inside.staged + c.stage_frame-taken.result) c.stage_frame-taken.new.staging.items) (subst (λ (e : EndpointState). e.link.state.ended ≡ None) (sym c.self.view_is) c.requires.live) partial (facts.all partial)))
+    rw (← c.self.view_is) (inl (stepped_partial c.self.inside.link.state c.self.inside.awaited (take c.self.inside.staged c.self.inside.staging.items) c.args.piece.now (take (c.self.inside.staged + c.stage_frame-taken.result) c.stage_frame-taken.new.staging.items) (subst (λ (e : EndpointState). e.link.state.ended ≡ None) (sym c.self.view_is) c.requires.live) partial (facts.all partial)))
 
 pub returns-then-is_none-clause-staging : goal.returns-then-is_none-clause-staging
 returns-then-is_none-clause-staging c =
     let facts : StagedFacts c.self.inside.awaited c.self.inside.staging.items c.stage_frame-taken.new.staging.items c.args.piece.now c.self.inside.staged c.stage_frame-taken.result = staged_facts c.self.inside.awaited c.self.inside.staging.items c.stage_frame-taken.new.staging.items c.args.piece.now c.self.inside.staged c.stage_frame-taken.result c.self.invariant.len c.stage_frame-taken.ensures.room c.self.invariant.partial c.stage_frame-taken.ensures.taken c.stage_frame-taken.ensures.bytes in
-    rw (← c.self.view_is) (keeps_partial c.self.inside.awaited c.self.inside.link c.self.inside.staging.items c.stage_frame-taken.new.staging.items c.args.piece.now c.self.inside.staged c.stage_frame-taken.result facts c.self.invariant.len)
+    rw (← c.self.view_is) (keeps_partial c.self.inside.awaited c.self.inside.link.state c.self.inside.staging.items c.stage_frame-taken.new.staging.items c.args.piece.now c.self.inside.staged c.stage_frame-taken.result facts c.self.invariant.len)
 
 pub judge-requires-2-clause-frame : goal.judge-requires-2-clause-frame
 judge-requires-2-clause-frame c =
@@ -137,8 +137,8 @@ returns-then-judge-2-clause-state c =
     let facts : StagedFacts c.self.inside.awaited c.self.inside.staging.items c.stage_frame-taken.new.staging.items c.args.piece.now c.self.inside.staged c.stage_frame-taken.result = staged_facts c.self.inside.awaited c.self.inside.staging.items c.stage_frame-taken.new.staging.items c.args.piece.now c.self.inside.staged c.stage_frame-taken.result c.self.invariant.len c.stage_frame-taken.ensures.room c.self.invariant.partial c.stage_frame-taken.ensures.taken c.stage_frame-taken.ensures.bytes in
     let staged : c.split_at-2.result.0.now ≡ take (c.self.inside.staged + c.stage_frame-taken.result) c.stage_frame-taken.new.staging.items = c.split_at-2.ensures.front ∙ ap (take (c.self.inside.staged + c.stage_frame-taken.result)) c.as_slice.ensures.value in
     let whole : is_whole c.self.inside.awaited ((take c.self.inside.staged c.self.inside.staging.items) ++ c.args.piece.now) ≡ true = sym facts.whole ∙ ap (is_whole c.self.inside.awaited) (sym staged) ∙ whole_is (is_whole c.self.inside.awaited c.split_at-2.result.0.now) _ c.whole_frame.result c.whole_frame.ensures.exact (c.is_none.ensures ∙ ap not c.if-is_none.false) in
-    rw (← c.self.view_is) (inl (stepped_whole c.self.inside.link c.judge-2.new.self c.self.inside.awaited (take c.self.inside.staged c.self.inside.staging.items) c.args.piece.now c.split_at-2.result.0.now (subst (λ (e : EndpointState). e.link.state.ended ≡ None) (sym c.self.view_is) c.requires.live) whole (staged ∙ (facts.frame whole).1)
-    (judged c.judge-2.result c.judge-2.new.self _ _ c.judge-2.ensures.state c.if-judge-2.true)))
+    rw (← c.self.view_is) (inl (stepped_whole c.self.inside.link.state c.judge-2.new.self.state c.self.inside.awaited (take c.self.inside.staged c.self.inside.staging.items) c.args.piece.now c.split_at-2.result.0.now (subst (λ (e : EndpointState). e.link.state.ended ≡ None) (sym c.self.view_is) c.requires.live) whole (staged ∙ (facts.frame whole).1)
+    (judged c.judge-2.result c.judge-2.new.self.state _ _ c.judge-2.ensures.state c.if-judge-2.true)))
 
 pub returns-else-judge-2-clause-state : goal.returns-else-judge-2-clause-state
 returns-else-judge-2-clause-state c =
@@ -146,9 +146,9 @@ returns-else-judge-2-clause-state c =
     let staged : c.split_at-2.result.0.now ≡ take (c.self.inside.staged + c.stage_frame-taken.result) c.stage_frame-taken.new.staging.items = c.split_at-2.ensures.front ∙ ap (take (c.self.inside.staged + c.stage_frame-taken.result)) c.as_slice.ensures.value in
     let whole : is_whole c.self.inside.awaited ((take c.self.inside.staged c.self.inside.staging.items) ++ c.args.piece.now) ≡ true = sym facts.whole ∙ ap (is_whole c.self.inside.awaited) (sym staged) ∙ whole_is (is_whole c.self.inside.awaited c.split_at-2.result.0.now) _ c.whole_frame.result c.whole_frame.ensures.exact (c.is_none.ensures ∙ ap not c.if-is_none.false) in
     rw (← c.self.view_is) (inr (
-      out_of_memory c.self.inside.link c.judge-2.new.self c.self.inside.awaited (take c.self.inside.staged c.self.inside.staging.items) (subst (λ (e : EndpointState). e.link.state.ended ≡ None) (sym c.self.view_is) c.requires.live) (not_judged c.judge-2.result c.judge-2.new.self _ _ c.judge-2.ensures.state c.if-judge-2.false),
+      out_of_memory c.self.inside.link.state c.judge-2.new.self.state c.self.inside.awaited (take c.self.inside.staged c.self.inside.staging.items) (subst (λ (e : EndpointState). e.link.state.ended ≡ None) (sym c.self.view_is) c.requires.live) (not_judged c.judge-2.result c.judge-2.new.self.state _ _ c.judge-2.ensures.state c.if-judge-2.false),
       whole,
-      queues_whole c.self.inside.link c.self.inside.awaited (take c.self.inside.staged c.self.inside.staging.items) c.args.piece.now c.split_at-2.result.0.now (subst (λ (e : EndpointState). e.link.state.ended ≡ None) (sym c.self.view_is) c.requires.live) whole
+      queues_whole c.self.inside.link.state c.self.inside.awaited (take c.self.inside.staged c.self.inside.staging.items) c.args.piece.now c.split_at-2.result.0.now (subst (λ (e : EndpointState). e.link.state.ended ≡ None) (sym c.self.view_is) c.requires.live) whole
           (staged ∙ (facts.frame whole).1) (not_judged_queues c.judge-2.result _ c.judge-2.ensures.queued c.if-judge-2.false),
     ))
 
@@ -157,7 +157,7 @@ returns-then-judge-2-clause-staging c =
     let facts : StagedFacts c.self.inside.awaited c.self.inside.staging.items c.stage_frame-taken.new.staging.items c.args.piece.now c.self.inside.staged c.stage_frame-taken.result = staged_facts c.self.inside.awaited c.self.inside.staging.items c.stage_frame-taken.new.staging.items c.args.piece.now c.self.inside.staged c.stage_frame-taken.result c.self.invariant.len c.stage_frame-taken.ensures.room c.self.invariant.partial c.stage_frame-taken.ensures.taken c.stage_frame-taken.ensures.bytes in
     let staged : c.split_at-2.result.0.now ≡ take (c.self.inside.staged + c.stage_frame-taken.result) c.stage_frame-taken.new.staging.items = c.split_at-2.ensures.front ∙ ap (take (c.self.inside.staged + c.stage_frame-taken.result)) c.as_slice.ensures.value in
     let whole : is_whole c.self.inside.awaited ((take c.self.inside.staged c.self.inside.staging.items) ++ c.args.piece.now) ≡ true = sym facts.whole ∙ ap (is_whole c.self.inside.awaited) (sym staged) ∙ whole_is (is_whole c.self.inside.awaited c.split_at-2.result.0.now) _ c.whole_frame.result c.whole_frame.ensures.exact (c.is_none.ensures ∙ ap not c.if-is_none.false) in
-    rw (← c.self.view_is) (keeps_whole c.self.inside.awaited Fpdu c.self.inside.link c.judge-2.new.self c.self.inside.staging.items c.stage_frame-taken.new.staging.items c.args.piece.now c.self.inside.staged c.stage_frame-taken.result facts c.self.invariant.len c.self.invariant.partial c.stage_frame-taken.ensures.taken whole
+    rw (← c.self.view_is) (keeps_whole c.self.inside.awaited Fpdu c.self.inside.link.state c.judge-2.new.self.state c.self.inside.staging.items c.stage_frame-taken.new.staging.items c.args.piece.now c.self.inside.staged c.stage_frame-taken.result facts c.self.invariant.len c.self.invariant.partial c.stage_frame-taken.ensures.taken whole
     (not_in_piece c.self.inside.staged c.self.inside.awaited c.args.piece.now c.whole_in_piece.result c.whole_in_piece.ensures c.in_default.is))
 
 pub returns-else-judge-2-clause-staging : goal.returns-else-judge-2-clause-staging
@@ -165,5 +165,5 @@ returns-else-judge-2-clause-staging c =
     let facts : StagedFacts c.self.inside.awaited c.self.inside.staging.items c.stage_frame-taken.new.staging.items c.args.piece.now c.self.inside.staged c.stage_frame-taken.result = staged_facts c.self.inside.awaited c.self.inside.staging.items c.stage_frame-taken.new.staging.items c.args.piece.now c.self.inside.staged c.stage_frame-taken.result c.self.invariant.len c.stage_frame-taken.ensures.room c.self.invariant.partial c.stage_frame-taken.ensures.taken c.stage_frame-taken.ensures.bytes in
     let staged : c.split_at-2.result.0.now ≡ take (c.self.inside.staged + c.stage_frame-taken.result) c.stage_frame-taken.new.staging.items = c.split_at-2.ensures.front ∙ ap (take (c.self.inside.staged + c.stage_frame-taken.result)) c.as_slice.ensures.value in
     let whole : is_whole c.self.inside.awaited ((take c.self.inside.staged c.self.inside.staging.items) ++ c.args.piece.now) ≡ true = sym facts.whole ∙ ap (is_whole c.self.inside.awaited) (sym staged) ∙ whole_is (is_whole c.self.inside.awaited c.split_at-2.result.0.now) _ c.whole_frame.result c.whole_frame.ensures.exact (c.is_none.ensures ∙ ap not c.if-is_none.false) in
-    rw (← c.self.view_is) (keeps_whole c.self.inside.awaited c.self.inside.awaited c.self.inside.link c.judge-2.new.self c.self.inside.staging.items c.stage_frame-taken.new.staging.items c.args.piece.now c.self.inside.staged c.stage_frame-taken.result facts c.self.invariant.len c.self.invariant.partial c.stage_frame-taken.ensures.taken whole
+    rw (← c.self.view_is) (keeps_whole c.self.inside.awaited c.self.inside.awaited c.self.inside.link.state c.judge-2.new.self.state c.self.inside.staging.items c.stage_frame-taken.new.staging.items c.args.piece.now c.self.inside.staged c.stage_frame-taken.result facts c.self.invariant.len c.self.invariant.partial c.stage_frame-taken.ensures.taken whole
     (not_in_piece c.self.inside.staged c.self.inside.awaited c.args.piece.now c.whole_in_piece.result c.whole_in_piece.ensures c.in_default.is))
