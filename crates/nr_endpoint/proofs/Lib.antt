@@ -32,3 +32,4 @@ pub mod QueuedItems
 pub mod Bounds
 pub mod Received
 pub mod OneNotice
+pub mod ReceivedEvents

@@ -135,7 +135,7 @@ frame-makes s Fpdu frame is = fpdu-makes s (next_frame s frame) (segment_of fram
 
 -- ---- Frames
 
-frames-make : (frames : List (List ℕ)) (rest : List ℕ) (a : Awaited) (s : LinkState) (b : Bool) → has_ended s ≡ b → AreFrames a frames →
+pub frames-make : (frames : List (List ℕ)) (rest : List ℕ) (a : Awaited) (s : LinkState) (b : Bool) → has_ended s ≡ b → AreFrames a frames →
     Makes s [] (notices_of_frames frames a s) (feeding_after_frames has_ended with_frame frames rest a s).state
 frames-make [] rest a s b is each = (nothing-made s s refl (omega arith)).0
 frames-make (frame ∷ frames) rest a s true is each =
@@ -156,7 +156,7 @@ fed-makes link piece =
     frames-make (frames_made_whole link piece) (split link.awaited (link.rest ++ piece)).rest link.awaited link.state (has_ended link.state) refl
     (split-Splits link.awaited (link.rest ++ piece)).each
 
-ended-notices : (frames : List (List ℕ)) (a : Awaited) (s : LinkState) → has_ended s ≡ true → notices_of_frames frames a s ≡ []
+pub ended-notices : (frames : List (List ℕ)) (a : Awaited) (s : LinkState) → has_ended s ≡ true → notices_of_frames frames a s ≡ []
 ended-notices [] a s is = refl
 ended-notices (frame ∷ frames) a s is = ap (λ (w : Bool). cond w [] (frame_notices s a frame ++ notices_of_frames frames Fpdu (with_frame s a frame))) is
 

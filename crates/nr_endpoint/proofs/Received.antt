@@ -86,11 +86,11 @@ frame-above low s (HelloFrom side) frame long = tt
 frame-above low s Fpdu frame long = fpdu-above low s (next_frame s frame) (segment_of frame) long
 
 -- the first frame ends after this place
-abbrev FirstAbove : ℕ → ℕ → List (List ℕ) → Type 0
+abbrev pub FirstAbove : ℕ → ℕ → List (List ℕ) → Type 0
 FirstAbove low place [] = Unit {0}
 FirstAbove low place (frame ∷ frames) = low < place + length frame
 
-no-end : (e : Option End) → is_some e ≡ false → e ≡ None
+pub no-end : (e : Option End) → is_some e ≡ false → e ≡ None
 no-end None is = refl
 no-end (Some end) is = absurd cc
 
@@ -115,7 +115,7 @@ longer-frame a rest piece p =
       | inr fields ↦ omega (arith, p.some, p.frame.len, length-append rest p.more, frame_len-append a rest piece fields, frame_len-append a rest p.more fields)
     ]
 
-first-above : (a : Awaited) (rest piece : List ℕ) (place : ℕ) → IsPartial a rest → FirstAbove (place + length rest) place (split a (rest ++ piece)).frames
+pub first-above : (a : Awaited) (rest piece : List ℕ) (place : ℕ) → IsPartial a rest → FirstAbove (place + length rest) place (split a (rest ++ piece)).frames
 first-above a rest piece place p = by (is_whole a (rest ++ piece)) refl
   where
     by : (w : Bool) → is_whole a (rest ++ piece) ≡ w → FirstAbove (place + length rest) place (split a (rest ++ piece)).frames
@@ -125,18 +125,18 @@ first-above a rest piece place p = by (is_whole a (rest ++ piece)) refl
         omega (arith, longer-frame a rest piece p, (whole_from a (rest ++ piece) is).frame, length-take (frame_len a (rest ++ piece)) (rest ++ piece)) in
         subst (λ (s : Split). FirstAbove (place + length rest) place s.frames) (sym (split-whole a (rest ++ piece) is)) long
 
-one-above : (low place : ℕ) (frames : List (List ℕ)) → FirstAbove low place frames → FirstAbove low place (take 1 frames)
+pub one-above : (low place : ℕ) (frames : List (List ℕ)) → FirstAbove low place frames → FirstAbove low place (take 1 frames)
 one-above low place [] first = first
 one-above low place (frame ∷ frames) first = first
 
-one-are : (a : Awaited) (frames : List (List ℕ)) → AreFrames a frames → AreFrames a (take 1 frames)
+pub one-are : (a : Awaited) (frames : List (List ℕ)) → AreFrames a frames → AreFrames a (take 1 frames)
 one-are a [] each = each
 one-are a (frame ∷ frames) each = (each.0, tt)
 
 -- ---- Calls
 
 -- what a side that was fed these bytes keeps of them
-fed-partial : (from : Side) (link : Link) (bytes : List ℕ) → KeepsInput link (input_of from bytes) → IsPartial link.awaited link.rest × (link.state.place + length link.rest ≡ length bytes)
+pub fed-partial : (from : Side) (link : Link) (bytes : List ℕ) → KeepsInput link (input_of from bytes) → IsPartial link.awaited link.rest × (link.state.place + length link.rest ≡ length bytes)
 fed-partial from link bytes k = (
   subst (λ (rest : List ℕ). IsPartial link.awaited rest) (sym k.rest) (subst (λ (a : Awaited). IsPartial a (input_of from bytes).rest) (sym k.awaited) (split-Splits (HelloFrom from) bytes).partial),
   omega (arith, k.place, ap (λ (xs : List ℕ). length xs) k.rest, input_of-count from bytes),

@@ -1,6 +1,6 @@
 //! Laws of an endpoint, over the calls that it stands for.
 
-ghost use Rattle.nr_endpoint.specs.ReceivedLaws.{ReceivedBytes};
+ghost use Rattle.nr_endpoint.specs.ReceivedLaws.{EventsOfReceivedBytes, ReceivedBytes};
 ghost use Rattle.nr_endpoint.specs.OutputLaws.{OutputIsItems, SendsGoByItems, ResponsesGoByItems, SidesStayBounded};
 ghost use Rattle.nr_endpoint.specs.Laws.{PiecesJoin, StepsReach, StepsFeed, EndStays, KeepsLessThanFrame, EndedKeepsNothing, StreamIsKept, PlaceIsFed, MemoryFollowsEvents, PlacesAreAllowed, PlacesAreInOrder, ArrivalsRise, EventsAreTold, EventsAreInOrder, EventsFollowAccesses, OneFrameTellsAtItsEnd, OneFrameTellsOnce, ReadsAreAllowed, NothingElseIsRead, OtherFramesQueueNothing, OpenRegionHolds, ReleasedBufferHolds, ReleasedStaysDead, ClaimsStay, NoFpduBeforeHello, FramesEndForThese, GrantsEndAlike, OffersDenyAlike, NoFrameStops, OthersComeFromStop, MemoryComesFromOutOfMemory, EndedQueuesNothing, EndIsKept, StopQueuesLast, OutOfMemoryQueuesNothing};
 
@@ -40,10 +40,11 @@ pub fn memory_follows_accesses()
     ensures dead { ReleasedStaysDead }
 {}
 
-/// The bytes that came, those of a begun frame among them, part the tagged segments: those placed so far end within these bytes, and those
-/// that later calls place end after them.
+/// The bytes that came, those of a begun frame among them, part the tagged segments and the events: those so far end within these bytes,
+/// and those of later calls end after them.
 pub fn accesses_follow_bytes()
-    ensures { ReceivedBytes }
+    ensures accesses { ReceivedBytes }
+    ensures events { EventsOfReceivedBytes }
 {}
 
 /// The owner is told each message and each read that a frame completes, once and in the order of the stream. When it is told, all tagged

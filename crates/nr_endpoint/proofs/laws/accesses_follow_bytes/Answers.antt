@@ -1,5 +1,9 @@
 use Rattle.nr_endpoint.proofs.Received.{received-bytes}
+use Rattle.nr_endpoint.proofs.ReceivedEvents.{events-of-received-bytes}
 use Rattle.nr_endpoint.proofs.laws.accesses_follow_bytes.Goals as goal
 
-pub returns : goal.returns
-returns c = received-bytes
+pub returns-clause-accesses : goal.returns-clause-accesses
+returns-clause-accesses c = received-bytes
+
+pub returns-clause-events : goal.returns-clause-events
+returns-clause-events c = events-of-received-bytes

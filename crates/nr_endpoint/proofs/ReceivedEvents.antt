@@ -1,0 +1,132 @@
+-- The events before and after the bytes that came.
+use Rattle.std.proofs.Common.{◌≡◌, ℕ, ◌+◌, ◌<◌, ◌≤◌, is_some, Bool, true, false, cond, List, [], ◌∷◌, ◌++◌, length, map, take, Option, Some, None, Result, Ok, Err, refl, sym, subst, arith, length-append}
+use Rattle.std.specs.Prelude.{All}
+use Rattle.std.proofs.lemmas.List.Elements.{All-nil, All-cons}
+use Rattle.nr_wire.specs.declared.hello.Side.{Side}
+use Rattle.nr_wire.specs.declared.stream.Awaited.{Awaited}
+use Rattle.nr_wire.specs.declared.stream.Awaited.TheVariants.{Hello as HelloFrom, Fpdu}
+use Rattle.nr_wire.specs.Segment.{Segment, segment_of}
+use Rattle.nr_wire.specs.Stream.{IsPartial, AreFrames}
+use Rattle.nr_wire.proofs.Splits.{split-Splits}
+use Rattle.nr_link.specs.declared.end.End.{End}
+use Rattle.nr_link.specs.Frames.{Frame}
+use Rattle.nr_endpoint.specs.ReceiveQueue.{Notice}
+use Rattle.nr_endpoint.specs.LinkState.{LinkState, Link, has_ended, peer, initial_link}
+use Rattle.nr_endpoint.specs.Judging.{segment_end, next_frame, with_frame}
+use Rattle.nr_endpoint.specs.Calls.{Call, after_call, after_calls}
+use Rattle.nr_endpoint.specs.Calls.Call.{Feed, FeedOne, NextEvent, Post, Stop, OutOfMemory, Send, WriteRemote, ReadRemote, Drain, Register, Release}
+use Rattle.nr_endpoint.specs.Laws.{frames_made_whole, bytes_in_call, bytes_fed, notices_of, MadeNotice, made_at, segment_notices, fpdu_notices, frame_notices, notices_of_frames, call_notices, notices_made, NoticesRise}
+use Rattle.nr_endpoint.specs.ReceivedLaws.{EventsOfReceivedBytes}
+use Rattle.nr_endpoint.proofs.Pieces.{frame-place}
+use Rattle.nr_endpoint.proofs.NoticeLaws.{frames-make, ended-notices, events-are-in-order}
+use Rattle.nr_endpoint.proofs.Received.{FirstAbove, no-end, fed-partial, first-above, one-above, one-are}
+use Rattle.nr_endpoint.proofs.StreamLaws.{IsFed, call-fed, stream-fed}
+
+-- each notice is made at a frame that ends after this place
+abbrev Above : ℕ → List MadeNotice → Type 0
+Above low [] = Unit {0}
+Above low (made ∷ others) = (low < made.end) × Above low others
+
+above-joined : (low : ℕ) (xs ys : List MadeNotice) → Above low xs → Above low ys → Above low (xs ++ ys)
+above-joined low [] ys first second = second
+above-joined low (made ∷ xs) ys first second = (first.0, above-joined low xs ys first.1 second)
+
+lower : (low high : ℕ) (list : List MadeNotice) → low ≤ high → Above high list → Above low list
+lower low high [] le above = tt
+lower low high (made ∷ list) le above = (omega (arith, le, above.0), lower low high list le above.1)
+
+from-rise : (low from until : ℕ) (list : List MadeNotice) → low ≤ from → NoticesRise from list until → Above low list
+from-rise low from until [] le rise = tt
+from-rise low from until (made ∷ list) le rise = (omega (arith, le, rise.0), from-rise low made.end until list (omega (arith, le, rise.0)) rise.1)
+
+rise-low : (from until : ℕ) (list : List MadeNotice) → NoticesRise from list until → from ≤ until
+rise-low from until [] rise = rise
+rise-low from until (made ∷ list) rise = omega (arith, rise.0, rise-low made.end until list rise.1)
+
+all-above : (low : ℕ) (list : List MadeNotice) → Above low list → All (λ made. low < made.end) list
+all-above low [] above = All-nil (λ (made : MadeNotice). low < made.end)
+all-above low (made ∷ list) above = All-cons (λ (x : MadeNotice). low < x.end) made list above.0 (all-above low list above.1)
+
+all-below : (from until high : ℕ) (list : List MadeNotice) → until ≤ high → NoticesRise from list until → All (λ made. made.end ≤ high) list
+all-below from until high [] le rise = All-nil (λ (made : MadeNotice). made.end ≤ high)
+all-below from until high (made ∷ list) le rise =
+    All-cons (λ (x : MadeNotice). x.end ≤ high) made list (omega (arith, le, rise-low made.end until list rise.1)) (all-below made.end until high list le rise.1)
+
+-- ---- Frames
+
+made-above : (low n : ℕ) (notices : List Notice) → low < n → Above low (map (made_at n) notices)
+made-above low n [] long = tt
+made-above low n (notice ∷ notices) long = (long, made-above low n notices long)
+
+segment-above : (low : ℕ) (s : LinkState) (f : Frame) (segment : Segment) (e : Option End) → low < f.end → Above low (segment_notices s f segment e)
+segment-above low s f segment (Some end) long = tt
+segment-above low s f segment None long = made-above low f.end (notices_of s.receive_queue.received segment) long
+
+fpdu-above : (low : ℕ) (s : LinkState) (f : Frame) (r : Result Segment ℕ) → low < f.end → Above low (fpdu_notices s f r)
+fpdu-above low s f (Ok segment) long = segment-above low s f segment (segment_end s f segment) long
+fpdu-above low s f (Err reason) long = tt
+
+frame-above : (low : ℕ) (s : LinkState) (a : Awaited) (frame : List ℕ) → low < s.place + length frame → Above low (frame_notices s a frame)
+frame-above low s (HelloFrom side) frame long = tt
+frame-above low s Fpdu frame long = fpdu-above low s (next_frame s frame) (segment_of frame) long
+
+frames-above : (low : ℕ) (frames : List (List ℕ)) (a : Awaited) (s : LinkState) → has_ended s ≡ false → AreFrames a frames → FirstAbove low s.place frames → Above low (notices_of_frames frames a s)
+frames-above low [] a s live each first = tt
+frames-above low (frame ∷ frames) a s live each first =
+    subst (λ (w : Bool). Above low (cond w [] (frame_notices s a frame ++ notices_of_frames frames Fpdu (with_frame s a frame)))) (sym live)
+    (above-joined low (frame_notices s a frame) (notices_of_frames frames Fpdu (with_frame s a frame)) (frame-above low s a frame first) (by (has_ended (with_frame s a frame)) refl))
+  where
+    by : (b : Bool) → has_ended (with_frame s a frame) ≡ b → Above low (notices_of_frames frames Fpdu (with_frame s a frame))
+    by true over = subst (λ (list : List MadeNotice). Above low list) (sym (ended-notices frames Fpdu (with_frame s a frame) over)) tt
+    by false goes =
+        let place : (with_frame s a frame).place ≡ s.place + length frame = frame-place s a frame (no-end (with_frame s a frame).ended goes) in
+        from-rise low (with_frame s a frame).place _ (notices_of_frames frames Fpdu (with_frame s a frame)) (omega (arith, first, place))
+        (frames-make frames [] Fpdu (with_frame s a frame) (has_ended (with_frame s a frame)) refl each.1).1
+
+-- ---- Calls
+
+fed-above : (from : Side) (link : Link) (bytes piece : List ℕ) → IsFed from link bytes → (b : Bool) → has_ended link.state ≡ b →
+    Above (length bytes) (notices_of_frames (frames_made_whole link piece) link.awaited link.state) × Above (length bytes) (notices_of_frames (take 1 (frames_made_whole link piece)) link.awaited link.state)
+fed-above from link bytes piece fed true over = (
+  subst (λ (list : List MadeNotice). Above (length bytes) list) (sym (ended-notices (frames_made_whole link piece) link.awaited link.state over)) tt,
+  subst (λ (list : List MadeNotice). Above (length bytes) list) (sym (ended-notices (take 1 (frames_made_whole link piece)) link.awaited link.state over)) tt,
+)
+fed-above from link bytes piece fed false live =
+    let kept : IsPartial link.awaited link.rest × (link.state.place + length link.rest ≡ length bytes) = fed-partial from link bytes (fed.keeps live) in
+    let frames : List (List ℕ) = frames_made_whole link piece in
+    let each : AreFrames link.awaited frames = (split-Splits link.awaited (link.rest ++ piece)).each in
+    let first : FirstAbove (length bytes) link.state.place frames =
+    subst (λ (n : ℕ). FirstAbove n link.state.place frames) kept.1 (first-above link.awaited link.rest piece link.state.place kept.0) in (
+      frames-above (length bytes) frames link.awaited link.state live each first,
+      frames-above (length bytes) (take 1 frames) link.awaited link.state live (one-are link.awaited frames each) (one-above (length bytes) link.state.place frames first),
+    )
+
+call-above : (from : Side) (link : Link) (bytes : List ℕ) (call : Call) → IsFed from link bytes → Above (length bytes) (call_notices link call)
+call-above from link bytes (Feed piece) fed = (fed-above from link bytes piece fed (has_ended link.state) refl).0
+call-above from link bytes (FeedOne piece) fed = (fed-above from link bytes piece fed (has_ended link.state) refl).1
+call-above from link bytes NextEvent fed = tt
+call-above from link bytes Post fed = tt
+call-above from link bytes (Stop reason) fed = tt
+call-above from link bytes OutOfMemory fed = tt
+call-above from link bytes (Send message) fed = tt
+call-above from link bytes (WriteRemote stag to payload) fed = tt
+call-above from link bytes (ReadRemote sink at stag to len) fed = tt
+call-above from link bytes (Drain count) fed = tt
+call-above from link bytes (Register buf right) fed = tt
+call-above from link bytes (Release stag) fed = tt
+
+calls-above : (from : Side) (link : Link) (bytes : List ℕ) (calls : List Call) → IsFed from link bytes → Above (length bytes) (notices_made link calls)
+calls-above from link bytes [] fed = tt
+calls-above from link bytes (call ∷ calls) fed =
+    let more : List ℕ = bytes ++ bytes_in_call link call in
+    above-joined (length bytes) (call_notices link call) (notices_made (after_call link call) calls) (call-above from link bytes call fed)
+    (lower (length bytes) (length more) (notices_made (after_call link call) calls) (omega (arith, length-append bytes (bytes_in_call link call)))
+    (calls-above from (after_call link call) more calls (call-fed from link bytes call fed)))
+
+pub events-of-received-bytes : EventsOfReceivedBytes
+events-of-received-bytes side receives first_stag before after =
+    let start : Link = initial_link side receives first_stag in
+    let fed : IsFed (peer side) (after_calls start before) (bytes_fed start before) = stream-fed side receives first_stag before in (
+      all-below start.state.place (after_calls start before).state.place (length (bytes_fed start before)) (notices_made start before) (omega (arith, fed.within)) (events-are-in-order start before),
+      all-above (length (bytes_fed start before)) (notices_made (after_calls start before) after) (calls-above (peer side) (after_calls start before) (bytes_fed start before) after fed),
+    )
