@@ -1,6 +1,7 @@
 //! An endpoint of a test. Its calls check at run time what an endpoint asks of its owner, and end the test where it doesn't hold.
 
 ghost use Rattle.std.specs.Prelude.{◌≡◌, ◌+◌, ◌^◌, ◌≤◌, length, true};
+ghost use Rattle.nr_endpoint.specs.Calls.{IsStopReason};
 
 use nr_endpoint::{DrainFault, Endpoint, Event, ReadRefused};
 use nr_link::End;
@@ -55,6 +56,34 @@ fn with_piece(rt: &impl Abort, fed: u64, piece: &[u8]) -> u64
     fed + piece.len() as u64
 }
 
+/// A reason for which the layer above may end a side.
+#[tactic(auto, using(crate::proofs::StopReasons::stop_17, crate::proofs::StopReasons::stop_18, crate::proofs::StopReasons::stop_19, crate::proofs::StopReasons::stop_20, crate::proofs::StopReasons::stop_21, crate::proofs::StopReasons::stop_23, crate::proofs::StopReasons::stop_30))]
+fn stop_reason(rt: &impl Abort, reason: u32) -> u32
+    ensures same { result ≡ reason }
+    ensures reason { IsStopReason result }
+{
+    if reason == 17 {
+        return 17;
+    }
+    if reason == 18 {
+        return 18;
+    }
+    if reason == 19 {
+        return 19;
+    }
+    if reason == 20 {
+        return 20;
+    }
+    if reason == 21 {
+        return 21;
+    }
+    if reason == 23 {
+        return 23;
+    }
+    check(rt, reason == 30);
+    30
+}
+
 impl TestEndpoint {
     /// An endpoint with two receives, whose first region has STag 1.
     pub fn open(rt: &impl Abort, alloc: Global, side: Side) -> TestEndpoint {
@@ -85,13 +114,12 @@ impl TestEndpoint {
         self.endpoint.feed_one(piece)
     }
 
-    /// Ends the side for what the layer above made of a message: for reason 17, behind a whole frame of the peer.
+    /// Ends the side for what the layer above made of a message, after a whole frame of the peer.
     pub fn stop(&mut self, rt: &impl Abort, reason: u32) -> End {
         let staged = self.endpoint.staged() as u64;
         check(rt, self.endpoint.end().is_none());
         check(rt, self.least > staged);
-        check(rt, reason == 17);
-        self.endpoint.stop(reason)
+        self.endpoint.stop(stop_reason(rt, reason))
     }
 
     /// Takes the next event. A buffer in it is no receive again.

@@ -18,6 +18,8 @@ mod messages;
 #[cfg(test)]
 mod output;
 #[cfg(test)]
+mod owner;
+#[cfg(test)]
 mod rights;
 #[cfg(test)]
 mod segments;
