@@ -85,7 +85,7 @@ fn offers(rt: HostRuntime) {
     drop(endpoint);
 }
 
-/// Two RDMA Writes of four bytes and a Send of 16, which all begin after the hello.
+/// Two RDMA Writes of four bytes and a Send of 16.
 static ANSWER: [u32; 22] = [
     0x0012_c140,
     9,
@@ -111,9 +111,21 @@ static ANSWER: [u32; 22] = [
     0,
 ];
 
-/// They are queued before the peer's hello comes, and written after the own one.
-fn answer(rt: &impl Abort, alloc: Global) {
+/// An initiator that was fed its peer's hello.
+#[tactic(auto, using(nr_endpoint::proofs::FedBytes::open_fed))]
+fn fed_hello(rt: &impl Abort, alloc: Global) -> Endpoint {
+    let hello = bytes_of(rt, alloc, &REPLY);
+    if hello.len() > 100 {
+        panic!(rt; "a hello has 20 bytes");
+    }
     let mut endpoint = Endpoint::open(alloc, Side::Initiator, 1, 1).expect(rt, "memory");
+    same(rt, 0, endpoint.feed(hello.as_slice()), Ok(()));
+    endpoint
+}
+
+/// They are queued in their order, and written after the hello.
+fn answer(rt: &impl Abort, alloc: Global) {
+    let mut endpoint = fed_hello(rt, alloc);
     let parts = [
         RemoteWrite {
             stag: 9,
@@ -126,12 +138,7 @@ fn answer(rt: &impl Abort, alloc: Global) {
             bytes: &[2; 4],
         },
     ];
-    same(rt, 0, endpoint.answer(&parts, &[3; 16]), Ok(()));
-    let hello = bytes_of(rt, alloc, &REPLY);
-    if hello.len() > 100 {
-        panic!(rt; "a hello has 20 bytes");
-    }
-    same(rt, 1, endpoint.feed(hello.as_slice()), Ok(()));
+    same(rt, 1, endpoint.answer(&parts, &[3; 16]), Ok(()));
     let mut sink = MemSink::new(alloc, Vec::new(alloc));
     same(rt, 2, endpoint.drain_into(&mut sink), Ok(()));
     let want = joined(rt, alloc, &REQUEST, &ANSWER);
