@@ -12,7 +12,7 @@ use Rattle.nr_record.specs.declared.records.WaitingRecord.{WaitingRecord}
 use Rattle.nr_record.specs.Constants.{RECORD_MAX, HEADER_LEN, REASON_RECORD}
 use Rattle.nr_record.specs.Records.{header, fragment, fragments, Cut, content, encodings}
 use Rattle.nr_record.specs.Kept.{Kept, IsWithin, waiting_from, InHeader, InFragment, IsState, Stands, StandsFor}
-use Rattle.nr_record.specs.Step.{with_record, ended, with_header, with_byte, with_data, with_fault}
+use Rattle.nr_record.specs.Step.{with_record, ended, with_header, with_byte, with_payload, with_fault}
 use Rattle.nr_record.proofs.Lists.{encodings-end, fragments-end, concat-end, waiting-end, waiting-length, drop-end, all-end, read_more, count_more}
 
 abbrev pub State : Type 1
@@ -180,9 +180,9 @@ ended_stands k stream taken none s = either_stands (eqb k.left 0 && k.last) (wit
       })
 
 -- more payload of a fragment is read
-pub data_stands : (k : Kept) (more stream : List ℕ) (taken : ℕ) → k.fault ≡ None → 0 < k.left → length more ≤ k.left → StandsFor k stream taken → StandsFor (with_data more k) (stream ++ more) taken
-unfolding with_data
-data_stands k more stream taken none any fits start = ended_stands l (stream ++ more) taken none (⊎_elim (λ h. absurd (omega (arith, h.none_left))) (λ h. grown h.1) s.state.1) where
+pub payload_stands : (k : Kept) (more stream : List ℕ) (taken : ℕ) → k.fault ≡ None → 0 < k.left → length more ≤ k.left → StandsFor k stream taken → StandsFor (with_payload more k) (stream ++ more) taken
+unfolding with_payload
+payload_stands k more stream taken none any fits start = ended_stands l (stream ++ more) taken none (⊎_elim (λ h. absurd (omega (arith, h.none_left))) (λ h. grown h.1) s.state.1) where
   s : Stands (IsState None k) k stream taken
   s = faultless k stream taken none start
 

@@ -11,7 +11,7 @@ use Rattle.nr_record.specs.declared.records.WaitingRecord.{WaitingRecord}
 use Rattle.nr_record.specs.Constants.{RECORD_MAX, HEADER_LEN, REASON_RECORD}
 use Rattle.nr_record.specs.Records.{fragments, Cut, contents, encoding, encodings}
 use Rattle.nr_record.specs.Kept.{Kept, waiting_from, IsState, Stands, StandsFor}
-use Rattle.nr_record.specs.Step.{with_record, ended, with_header, with_byte, with_data}
+use Rattle.nr_record.specs.Step.{with_record, ended, with_header, with_byte, with_payload}
 use Rattle.nr_record.proofs.Lists.{waiting-length}
 
 -- the first record that waits
@@ -133,9 +133,9 @@ byte_count byte k = either_count (ltb (length (k.head ++ byte ∷ [])) HEADER_LE
   either_count true = refl
   either_count false = header_count (word_at 0 (k.head ++ byte ∷ [])) l
 
-pub data_count : (bytes : List ℕ) (k : Kept) → (with_data bytes k).count ≡ k.count + length bytes
-unfolding with_data
-data_count bytes k = ended_count (record k { count = k.count + length bytes; payload = k.payload ++ bytes; left = k.left - length bytes })
+pub payload_count : (bytes : List ℕ) (k : Kept) → (with_payload bytes k).count ≡ k.count + length bytes
+unfolding with_payload
+payload_count bytes k = ended_count (record k { count = k.count + length bytes; payload = k.payload ++ bytes; left = k.left - length bytes })
 
 pub by_itself : {A : Type 0} (xs : List A) → xs ≡ drop 1 xs → xs ≡ []
 by_itself [] e = refl

@@ -27,8 +27,8 @@ abbrev pub kept : Records → Kept
 kept r = record { waiting = r.waiting.items; start = r.start; count = r.count; payload = r.payload; head = r.head.items; last = r.last; left = r.left; fault = r.fault }
 
 -- x is at this place of the list
-abbrev pub IsTakenBy : List (List ℕ) → ℕ → List ℕ → Type 0
-IsTakenBy xs k x = get_elem? xs k ≡ some x
+abbrev pub IsAt : List (List ℕ) → ℕ → List ℕ → Type 0
+IsAt xs k x = get_elem? xs k ≡ some x
 
 -- the record is within the limit
 abbrev pub IsWithin : Cut → Type 0

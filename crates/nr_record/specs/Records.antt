@@ -1,4 +1,4 @@
--- Record marking (RFC 5531 section 11): a record is sent as fragments, each a header of four bytes and its data.
+-- Record marking (RFC 5531 section 11): a record is sent as fragments, each a header of four bytes and its payload (the fragment data).
 use Rattle.std.specs.Prelude.{◌≡◌, ℕ, ◌+◌, ◌*◌, ◌^◌, ◌<◌, Bool, true, false, List, [], ◌∷◌, ◌++◌, length}
 use Rattle.std.specs.List.{concat, AllByRecursion}
 use Rattle.nr_xdr.specs.Item.{word, bit}
@@ -16,7 +16,7 @@ abbrev pub fragments : List (List ℕ) → List ℕ
 fragments [] = []
 fragments (payload ∷ more) = fragment false payload ++ fragments more
 
--- a record, cut into the data of its fragments
+-- a record, cut into the payloads of its fragments
 pub record Cut : Type 0 where
   pub before : List (List ℕ)
   pub last : List ℕ

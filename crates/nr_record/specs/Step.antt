@@ -27,9 +27,9 @@ with_byte byte k =
     then record k { count = k.count + 1; head = k.head ++ byte ∷ [] }
     else with_header (word_at 0 (k.head ++ byte ∷ [])) (record k { count = k.count + 1; head = [] })
 
--- more data of a fragment, which is not longer than what is missing
-unfoldable pub with_data : List ℕ → Kept → Kept
-with_data bytes k = ended (record k { count = k.count + length bytes; payload = k.payload ++ bytes; left = k.left - length bytes })
+-- more payload of a fragment, which is not longer than what is missing
+unfoldable pub with_payload : List ℕ → Kept → Kept
+with_payload bytes k = ended (record k { count = k.count + length bytes; payload = k.payload ++ bytes; left = k.left - length bytes })
 
 abbrev pub with_fault : Kept → Kept
 with_fault k = record k { fault = Some Memory }

@@ -12,7 +12,7 @@ use std::mem;
 impl Records {
     ghost use Rattle.nr_record.specs.Kept.{kept, StandsFor, IsFaultOf};
     ghost use Rattle.nr_record.specs.Records.{IsAboveAt};
-    ghost use Rattle.nr_record.specs.Step.{ended, with_header, with_byte, with_data, with_fault};
+    ghost use Rattle.nr_record.specs.Step.{ended, with_header, with_byte, with_payload, with_fault};
 
     /// Takes in the next bytes of the stream. `Bad` exactly if the length of a fragment takes the sum of its record above 1056768;
     /// `at` is the offset of the header of the first such fragment. A fault is kept, and each later call answers it again. The
@@ -93,7 +93,7 @@ impl Records {
         ensures within { result ≤ length bytes.now }
         ensures count { self.new.count ≡ self.old.count + result }
     {
-        self.read_data(bytes)
+        self.add_to_payload(bytes)
     }
 
     #[tactic(auto, unfolding(crate::specs::Step::with_byte))]
@@ -132,14 +132,14 @@ impl Records {
     }
 
     // Answers how many bytes it read, none if memory ran out.
-    #[tactic(auto, unfolding(crate::specs::Step::with_data))]
-    fn read_data(&mut self, bytes: &[u8]) -> usize
+    #[tactic(auto, unfolding(crate::specs::Step::with_payload))]
+    fn add_to_payload(&mut self, bytes: &[u8]) -> usize
         requires some { (0 < length bytes.now) × (0 < self.old.left) }
         requires within { self.old.count + length bytes.now ≤ 2 ^ 62 }
         requires room { deque_len self.old.waiting < deque_capacity self.old.waiting }
         ensures within { (result ≤ length bytes.now) × (result ≤ self.old.left) }
         ensures none { result ≡ 0 → kept self.new ≡ with_fault (kept self.old) }
-        ensures some { 0 < result → kept self.new ≡ with_data (take result bytes.now) (kept self.old) }
+        ensures some { 0 < result → kept self.new ≡ with_payload (take result bytes.now) (kept self.old) }
     {
         let len = bytes.len().min(self.left as usize);
         let (payload, _) = bytes.split_at(len);

@@ -25,7 +25,7 @@ impl WaitingRecord {
     }
 }
 
-/// Reads records out of a stream, which comes in pieces of any length. The data of each record is copied once.
+/// Reads records out of a stream, which comes in pieces of any length. Each byte of a record is copied once.
 #[derive(Drop)]
 pub struct Records {
     pub(crate) waiting: VecDeque<WaitingRecord>,
@@ -68,12 +68,12 @@ impl Records {
 impl Records {
     ghost use Rattle.std.specs.Prelude.{◌<◌, ◌∷◌, Option, None, Some, IfNone};
     ghost use Rattle.nr_record.specs.Records.{contents, encodings};
-    ghost use Rattle.nr_record.specs.Kept.{kept, StandsFor, IsTakenBy};
+    ghost use Rattle.nr_record.specs.Kept.{kept, StandsFor, IsAt};
 
     /// The next record of the stream, in their order. `None` exactly if no complete record waits. Takes no memory.
     pub fn next_record(&mut self) -> Option<Octets>
         ensures next { (stream : List ℕ) (taken : ℕ) (s : StandsFor (kept self.old) stream taken) →
-            MatchOption result (taken ≡ length s.cuts) (λ bytes. IsTakenBy (contents s.cuts) taken bytes × StandsFor (kept self.new) stream (taken + 1)) }
+            MatchOption result (taken ≡ length s.cuts) (λ bytes. IsAt (contents s.cuts) taken bytes × StandsFor (kept self.new) stream (taken + 1)) }
         ensures none { IfNone result (kept self.new ≡ kept self.old) }
         ensures others { kept self.new ≡ record (kept self.old) { waiting = (kept self.new).waiting } }
     {
