@@ -18,17 +18,12 @@ from typing import Any
 from antt import ROOT, Project
 from check_definitions import HERE, Recorded, shorten
 from compare_scripts import SCRIPTS
+from ends import Ends
 from values import NONE, CannotEvaluate, Fn, Value, call, deeply, some
 
 PLAIN = os.path.join(HERE, 'plain_scripts.json.gz')
 ROUNDS_MAX = 10_000
 USES = (
-    'use Rattle.nr_wire.specs.declared.hello.Side.TheVariants.{Initiator, Responder}',
-    'use Rattle.nr_link.specs.Output.{own_hello}',
-    'use Rattle.nr_reduce.specs.Events.{events_at}',
-    'use Rattle.nr_reduce.specs.EndRules.{next_end_state, output_for}',
-    'use Rattle.nr_reduce.specs.Client.{client_rules, initial_client}',
-    'use Rattle.nr_reduce.specs.Server.{server_rules, initial_server}',
     'use Rattle.nr_plain.specs.Added.{entries_of_call}',
     'use Rattle.nr_script.specs.Script.{script_of}',
     'use Rattle.nr_drill.specs.Drill.{links_of, after_round}',
@@ -36,19 +31,12 @@ USES = (
     'use Rattle.nr_drill.specs.Shown.{shown}',
 )
 ROLES = {
-    'Initiator': 'Initiator', 'Responder': 'Responder', 'hello': 'own_hello Initiator', 'events': 'λ link side before mark. events_at link side before mark',
-    'first Initiator': 'λ opened. initial_client opened', 'first Responder': 'λ opened. initial_server opened',
-    'next Initiator': 'λ opened state event. next_end_state (client_rules opened) state event',
-    'next Responder': 'λ opened state event. next_end_state (server_rules opened) state event',
-    'output Initiator': 'λ opened state event. output_for (client_rules opened) state event',
-    'output Responder': 'λ opened state event. output_for (server_rules opened) state event',
     'adds': 'λ moment payload reply. entries_of_call moment payload reply', 'script_of': 'λ text. script_of text',
     'links': 'λ clients. links_of clients', 'round': 'λ setting links drill. after_round setting links drill',
     'line': 'λ setting line drill. after_line setting line drill', 'still': 'λ setting drill link. is_still setting drill link',
     'setting': 'λ server opening. setting_of server opening', 'opened': 'λ server opening. opened_drill server opening',
     'shown': 'λ setting clients run. shown setting clients run',
 }
-RUN = 'Rattle.nr_reduce.specs.Run'
 
 
 class Answers:
@@ -78,7 +66,7 @@ class Answers:
 
 
 class Drills:
-    """The definitions, with both ends of a link computed mark by mark instead of from all marks each time."""
+    """The definitions of a drill."""
 
     def __init__(self, root: str) -> None:
         self.project = Project(root)
@@ -86,30 +74,14 @@ class Drills:
         for u in USES:
             self.project.use(module, u)
         self.role = {k: self.project.expression(module, text) for k, text in ROLES.items()}
-        self.known: dict[tuple[int, str], tuple[list[Value], Value, list[int]]] = {}
-        self.project.replace(RUN, 'client', Fn(3, lambda opened, link, run: self.end(opened, link, 'Initiator', run)[0]))
-        self.project.replace(RUN, 'server', Fn(3, lambda opened, link, run: self.end(opened, link, 'Responder', run)[0]))
-        self.project.replace(RUN, 'output_due', Fn(4, lambda opened, link, side, run: self.end(opened, link, side.n, run)[1]))
+        self.ends = Ends(self.project)
 
     def ask(self, role: str, *args: Value) -> Value:
         return call(self.role[role], *args)
 
-    def end(self, opened: Value, link: int, side: str, run: list[Value]) -> tuple[Value, list[int]]:
-        """The state of an end after these marks, and its output due."""
-        first = (list[Value](), self.ask('first ' + side, opened), list(self.role['hello']) if side == 'Initiator' else [])
-        marks, state, due = self.known.get((link, side), first)
-        if len(marks) > len(run) or any(a is not b for a, b in zip(marks, run)):
-            marks, state, due = first
-        for i in range(len(marks), len(run)):
-            for event in self.ask('events', link, self.role[side], run[:i], run[i]):
-                due = due + self.ask('output ' + side, opened, state, event)
-                state = self.ask('next ' + side, opened, state, event)
-        self.known[(link, side)] = (run, state, due)
-        return state, due
-
     def printed(self, script: Value, answers: Answers) -> str:
         """What is printed of a script."""
-        self.known = {}
+        self.ends.begin()
         server = {'reply_to': Fn(3, answers.reply_to), 'adds': self.role['adds']}
         opening = script['opening']
         setting, drill = self.ask('setting', server, opening), self.ask('opened', server, opening)

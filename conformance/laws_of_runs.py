@@ -17,6 +17,7 @@ from typing import Any
 
 from antt import ROOT
 from check_definitions import NAMES, RUNS, Names, Recorded, bytes_of, recorded, weight
+from ends import Ends
 from values import CannotEvaluate, Value, call, deeply
 
 HERE = os.path.dirname(os.path.abspath(__file__))
@@ -487,6 +488,7 @@ STATE: dict[str, Any] = {}
 def prepare(project: str, spec: Recorded, plain: Recorded) -> None:
     STATE['plain'] = plain
     STATE['names'] = deeply(Roles, project, spec)
+    STATE['ends'] = deeply(Ends, STATE['names'].project)
 
 
 def answers_of(run: Recorded) -> list[str]:
@@ -503,6 +505,7 @@ def is_plainly(run: Recorded) -> bool:
 def check(run: Recorded) -> list[Finding]:
     def body() -> list[Finding]:
         found: list[Finding] = []
+        STATE['ends'].begin()
         run['plainly'], run['journal'] = is_plainly(run), 0
         links = [Link(STATE['names'], run, o['link'], found) for o in run['opened']]
         for m in run['marks']:
