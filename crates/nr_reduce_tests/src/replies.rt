@@ -6,7 +6,9 @@ ghost use Rattle.nr_header.specs.WithinLimits.{CanRead, ListsWithin, stream_afte
 use crate::compare::same;
 use crate::given::{NFS, lists_of, put_text, put_words};
 use nr_header::{Body, ChunkLists, Header, HeaderFault, read_header};
-use nr_reduce::{answer_for, answer_message, answers_convey_replies, holds};
+use nr_reduce::{
+    Answer, answer_for, answer_header, answer_lists, answer_message, answers_convey_replies, holds,
+};
 use nr_xdr::Octets;
 use std::alloc::Global;
 use std::process::Abort;
@@ -97,8 +99,9 @@ fn answers_go_by_procedure_and_room(rt: HostRuntime) {
 }
 
 /// The length of a READ's data, the words of a call's header with its offer, and those of the message that answers it. Each
-/// segment of its lists has as many bytes as were written into it, and a stream that isn't in the reply chunk follows.
-static MESSAGES: [(u32, &[u32], &[u32]); 2] = [
+/// segment of its lists has as many bytes as were written into it, and a stream that isn't in the reply chunk follows. Then the
+/// length of its header, the number of its write chunks, and whether it has a reply chunk.
+static MESSAGES: [(u32, &[u32], &[u32], (usize, usize, bool)); 2] = [
     (
         5,
         &[
@@ -108,31 +111,55 @@ static MESSAGES: [(u32, &[u32], &[u32]); 2] = [
             9, 1, 16, 0, 0, 1, 2, 1, 3, 0, 0, 1, 2, 0, 3, 1, 1, 2, 0, 0, 0, 0, 0, 9, 1, 0, 0, 0, 0,
             0, 0, 5, 1, 5,
         ],
+        (92, 2, false),
     ),
     (
         953,
         &[9, 1, 32, 0, 0, 0, 1, 2, 1, 999, 0, 0, 2, 9, 0, 0],
         &[9, 1, 16, 1, 0, 0, 1, 2, 1, 999, 0, 0, 2, 1, 0, 0],
+        (64, 0, true),
     ),
 ];
 
-/// The message that answers a call with this offer by a reply to READ.
-fn message_of(alloc: Global, offer: &ChunkLists, reply: &[u8]) -> Option<Octets>
+/// The message of an answer, and the length of its header, the number of its write chunks, and whether it has a reply chunk.
+type Parts = Option<(Octets, (usize, usize, bool))>;
+
+/// The number of the write chunks of an answer, and whether it has a reply chunk.
+fn counts_of(
+    rt: &impl Abort,
+    alloc: Global,
+    offer: &ChunkLists,
+    answer: Answer<'_>,
+) -> (usize, bool) {
+    let lists = answer_lists(alloc, offer, answer).expect(rt, "memory");
+    let counts = (lists.write.len(), lists.reply.is_some());
+    drop(lists);
+    counts
+}
+
+/// The message that answers a call with this offer by a reply to READ, and its parts.
+fn message_of(rt: &impl Abort, alloc: Global, offer: &ChunkLists, reply: &[u8]) -> Parts
     requires { ListsWithin offer.now }
 {
-    match answer_for(offer, NFS, 3, 6, reply, 1024) {
-        Some(answer) => answer_message(alloc, 9, 16, offer, answer).ok(),
-        None => None,
-    }
+    let Some(answer) = answer_for(offer, NFS, 3, 6, reply, 1024) else {
+        return None;
+    };
+    let (chunks, has_reply) = counts_of(rt, alloc, offer, answer);
+    let header = answer_header(alloc, 9, 16, offer, answer)
+        .expect(rt, "memory")
+        .len();
+    let message = answer_message(alloc, 9, 16, offer, answer).expect(rt, "memory");
+    Some((message, (header, chunks, has_reply)))
 }
 
 /// The same for the header of a call.
 fn answer_to(
+    rt: &impl Abort,
     alloc: Global,
     read: &Result<Header, HeaderFault>,
     call: &[u8],
     reply: &[u8],
-) -> Option<Octets>
+) -> Parts
     requires { IfOk read.now (λ header. CanRead header.body (stream_after header.body call.now)) }
 {
     match read {
@@ -141,19 +168,25 @@ fn answer_to(
                 body: Body::Msg { lists, .. },
                 ..
             },
-        ) => message_of(alloc, lists, reply),
+        ) => message_of(rt, alloc, lists, reply),
         _ => None,
     }
 }
 
-/// Whether the message that answers a call is this one.
-fn is_answered_by(alloc: Global, call: &[u8], reply: &[u8], message: &[u8]) -> bool {
+/// Whether the message that answers a call is this one, and its parts.
+fn is_answered_by(
+    rt: &impl Abort,
+    alloc: Global,
+    call: &[u8],
+    reply: &[u8],
+    message: &[u8],
+) -> (bool, (usize, usize, bool)) {
     let read = read_header(call);
-    let answer = answer_to(alloc, &read, call, reply);
+    let answer = answer_to(rt, alloc, &read, call, reply);
     drop(read);
     match answer {
-        Some(octets) => octets.as_slice() == message,
-        None => false,
+        Some((octets, parts)) => (octets.as_slice() == message, parts),
+        None => (false, (0, 0, false)),
     }
 }
 
@@ -165,11 +198,11 @@ fn bytes_of(rt: &impl Abort, alloc: Global, words: &[u32]) -> Vec<u8> {
 
 #[test]
 fn messages_of_answers(rt: HostRuntime) {
-    for (row, (len, call, message)) in MESSAGES.iter().enumerate() {
+    for (row, (len, call, message, parts)) in MESSAGES.iter().enumerate() {
         let call = bytes_of(&rt, rt.alloc(), call);
         let message = bytes_of(&rt, rt.alloc(), message);
         let reply = read_reply(&rt, rt.alloc(), *len);
-        let got = is_answered_by(rt.alloc(), &call, &reply, &message);
-        same(&rt, row, got, true);
+        let got = is_answered_by(&rt, rt.alloc(), &call, &reply, &message);
+        same(&rt, row, got, (true, *parts));
     }
 }
