@@ -1,5 +1,5 @@
 -- Each byte that a client has sent is due for an event of it.
-use Rattle.std.proofs.Common.{◌≡◌, ℕ, ◌+◌, ◌-◌, List, [], ◌∷◌, ◌++◌, length, None, Some, refl, ap, subst, arith, length-append, inl, inr, ◌⊎◌, zero, suc}
+use Rattle.std.proofs.Common.{◌≡◌, ℕ, ◌+◌, List, [], ◌∷◌, ◌++◌, length, None, Some, refl, ap, subst, arith, length-append, inl, inr, ◌⊎◌, zero, suc}
 use Rattle.std.specs.Prelude.{slice_get}
 use Rattle.nr_wire.specs.declared.hello.Side.TheVariants.{Initiator}
 use Rattle.nr_link.specs.Output.{own_hello}
