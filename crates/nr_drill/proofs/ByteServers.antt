@@ -413,7 +413,7 @@ server-keeps o = record {
 begins : (o : LinkParameters) → ServerOfBytes (initial_server o).state
 begins o = record { begun = no-bytes; calls = tt; regions = tt; accesses = tt; ready = tt }
 
--- On every link of a run that is of its types, what its server has to write are bytes, and so are the payloads of its calls that are whole.
+-- On every link of a run that is of its types, what its server has to write are bytes, and so are the payloads of its calls that are complete.
 pub server-due : (o : LinkParameters) (link : ℕ) (run : List Mark) → IsTyped run → IsBytes (output_due o link Responder run)
 unfolding output_due
 server-due o link run typed = (run-bytes (server_rules o) ServerOfBytes (server-keeps o) (initial_server o) link Responder run typed (begins o)).0

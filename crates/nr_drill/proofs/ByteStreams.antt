@@ -1,4 +1,4 @@
--- What ends write are bytes, where what it carries is.
+-- What ends write are bytes, if what it carries is.
 use Rattle.std.specs.Prelude.{◌≡◌, ◌&&◌, ℕ, zero, suc, ◌+◌, ◌*◌, ◌<◌, ◌==◌, nat_lt, Bool, true, false, List, [], ◌∷◌, ◌++◌, length, replicate, drop, Option, None, Some}
 use Rattle.std.specs.List.{AllByRecursion, flat_map, range_with_len, list_all}
 use Rattle.std.specs.Int.{byte_at, bytes_high_first}

@@ -29,7 +29,7 @@ use Rattle.nr_reduce.specs.History.{same_side, CompletedCall, bytes_sent, bytes_
 use Rattle.nr_reduce.specs.Matched.{Matched, MatchedMark}
 use Rattle.nr_reduce.proofs.Standing.{AtEachMark-more, itself, sent-one, received-one}
 use Rattle.nr_laws.proofs.Keys.{any-append}
-use Rattle.nr_drill.specs.Drill.{Setting, Drill, Pipes, empty_pipes, plain_of, now, unwritten, behind, after_output, after_all_output, settled, pipes_of, with_mark, with_pipes, after_feeding, after_feeding_up, after_feeding_down, after_up, after_down, after_handing, after_done, after_dones, after_outcomes, after_submit, if_standing, waiting_call, after_answer, after_execution, after_work, after_calls, after_all_up, after_all_work, after_all_down, after_moves, answer_of_line, open_xid, after_giving_up, after_forget, after_taking_back, after_revoke, after_drop, after_raw, after_round, after_opening, after_openings, SerialServer, start, links_of, cred_of, with_cred}
+use Rattle.nr_drill.specs.Drill.{Setting, Drill, Pipes, empty_pipes, plain_of, now, unwritten, appended, after_output, after_all_output, settled, pipes_of, with_mark, with_pipes, after_feeding, after_feeding_up, after_feeding_down, after_up, after_down, after_handing, after_done, after_dones, after_outcomes, after_submit, if_standing, waiting_call, after_answer, after_execution, after_work, after_calls, after_all_up, after_all_work, after_all_down, after_moves, answer_of_line, open_xid, after_giving_up, after_forget, after_taking_back, after_revoke, after_drop, after_raw, after_round, after_opening, after_openings, SerialServer, start, links_of, cred_of, with_cred}
 use Rattle.nr_script.specs.declared.script.Opening.{Opening}
 use Rattle.nr_script.specs.Script.{ScriptLines, HasWritableCred, IsScript, FollowOn, may_follow, is_client, is_call_line}
 use Rattle.nr_drill.specs.Follows.{after_line, Drains, Makes, MakeAll, Follows, parameters_of, setting_of, opened_drill}
@@ -96,12 +96,12 @@ carry-output link Initiator (b ∷ bytes) d standing c =
     let mark = marks.Wrote link Initiator (b ∷ bytes) in
     let pipes = pipes_of link d in
     let mid = with_mark mark d in
-    let own = own_pipes link (behind Initiator (b ∷ bytes) pipes) mid c.room in
+    let own = own_pipes link (appended Initiator (b ∷ bytes) pipes) mid c.room in
     let h = c.carried standing in
     let kept : is_dropped link (d.marks ++ mark ∷ []) ≡ false = same_dropped link d.marks mark refl ∙ standing in
     record {
       matched = AtEachMark-more (MatchedMark link) [] d.marks mark c.matched tt;
-      room = still_room link (behind Initiator (b ∷ bytes) pipes) mid c.room;
+      room = still_room link (appended Initiator (b ∷ bytes) pipes) mid c.room;
       carried = λ e. record {
         up =
             (λ i. same_received link Responder d.marks mark refl i ++ (own i).up) ∙ sym (append_assoc (bytes_received link Responder d.marks) pipes.up (b ∷ bytes))
@@ -117,12 +117,12 @@ carry-output link Responder (b ∷ bytes) d standing c =
     let mark = marks.Wrote link Responder (b ∷ bytes) in
     let pipes = pipes_of link d in
     let mid = with_mark mark d in
-    let own = own_pipes link (behind Responder (b ∷ bytes) pipes) mid c.room in
+    let own = own_pipes link (appended Responder (b ∷ bytes) pipes) mid c.room in
     let h = c.carried standing in
     let kept : is_dropped link (d.marks ++ mark ∷ []) ≡ false = same_dropped link d.marks mark refl ∙ standing in
     record {
       matched = AtEachMark-more (MatchedMark link) [] d.marks mark c.matched tt;
-      room = still_room link (behind Responder (b ∷ bytes) pipes) mid c.room;
+      room = still_room link (appended Responder (b ∷ bytes) pipes) mid c.room;
       carried = λ e. record {
         up = (λ i. same_received link Responder d.marks mark refl i ++ (own i).up) ∙ h.up ∙ sym (same_sent link Initiator d.marks mark (down_written link (b ∷ bytes)));
         down =
@@ -147,7 +147,7 @@ carry-settled s link d standing c =
     let mid = after_all_output s link Initiator d in
     carry-output link Responder (unwritten (s.opened link) link Responder mid.marks) mid (output-dropped link Initiator up d ∙ standing) (carry-output link Initiator up d standing c)
 
--- where nothing is left to write, nothing changes
+-- if nothing is left to write, nothing changes
 pub settled-same : (s : Setting) (link : ℕ) (d : Drill) → IsWritten (s.opened link) link d.marks → settled s link d ≡ d
 unfolding settled
 settled-same s link d w =

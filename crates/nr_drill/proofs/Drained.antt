@@ -1,4 +1,4 @@
--- Behind a last drain nothing waits, and all calls have completed.
+-- After a last drain nothing waits, and all calls have completed.
 use Rattle.std.specs.Prelude.{◌≡◌, ◌≢◌, ℕ, Bool, true, false, ◌&&◌, is_none, List, [], ◌∷◌, ◌++◌, Option, None, Some}
 use Rattle.std.specs.List.{list_all, list_any, AllByRecursion}
 use Rattle.std.proofs.Common.{zero, suc, inl, inr, arith, refl, sym, ap, subst, ◌∙◌, append-nil, append_assoc}
@@ -56,7 +56,7 @@ nothing_waits s link d c standing still =
       executed = ap (λ (b : Bool). if_standing b (next_call (s.opened link) link d.marks)) (sym standing) ∙ none_there call more.1;
     }
 
--- ===== lines behind a last drain
+-- ===== lines after a last drain
 
 next_by : (o : LinkParameters) (link : ℕ) (old new : List Mark) → server o link new ≡ server o link old → next_call o link new ≡ next_call o link old
 unfolding next_call
@@ -134,13 +134,13 @@ record IsCut (s : Setting) (clients : ℕ) (before after : List Line) (old new :
   rounds : ℕ
   made : MakeAll s clients before old first
   drains : Drains s (links_of clients) rounds first drained
-  behind : MakeAll s clients after drained new
+  later : MakeAll s clients after drained new
 
 cut_at : (s : Setting) (clients : ℕ) (before after : List Line) (old new : Drill) → MakeAll s clients (before ++ lines.Drain ∷ after) old new → IsCut s clients before after old new
-cut_at s clients [] after old new e = record { first = old; drained = e.0; rounds = e.1.0; made = refl; drains = e.1.1; behind = e.2 }
+cut_at s clients [] after old new e = record { first = old; drained = e.0; rounds = e.1.0; made = refl; drains = e.1.1; later = e.2 }
 cut_at s clients (line ∷ before) after old new e =
     let r = cut_at s clients before after e.0 new e.2 in
-    record { first = r.first; drained = r.drained; rounds = r.rounds; made = (e.0, e.1, r.made); drains = r.drains; behind = r.behind }
+    record { first = r.first; drained = r.drained; rounds = r.rounds; made = (e.0, e.1, r.made); drains = r.drains; later = r.later }
 
 any_front : {X : Type 0} (p : X → Bool) (xs ys : List X) → list_any p (xs ++ ys) ≡ false → list_any p xs ≡ false
 any_front p xs ys e = (neither_raw (list_any p xs) (list_any p ys) (sym (any-append p xs ys) ∙ e)).0
@@ -149,7 +149,7 @@ all_front : {X : Type 0} (P : X → Type 0) (xs ys : List X) → AllByRecursion 
 all_front P [] ys h = tt
 all_front P (x ∷ xs) ys h = (h.0, all_front P xs ys h.1)
 
--- Behind a drain that no later line of a link follows nothing waits on it, where it wasn't dropped and no line put bytes into its pipes.
+-- After a drain that no later line of a link follows nothing waits on it, if it wasn't dropped and no line put bytes into its pipes.
 pub follows_waits : (server : SerialServer) (script : ScriptLines) (run : List Mark) → IsScript script → Follows server script run → (link : ℕ) → IsLink script link → HasNoRaw script link →
     is_dropped link run ≡ false → EndsWithDrain script link → NothingWaits (parameters_of script.opening link) link run
 unfolding opened_drill
@@ -158,15 +158,15 @@ follows_waits server script run is follows link within raw standing ends =
     let s = setting_of server opening in
     let clients = opening.clients in
     let o = parameters_of opening link in
-    let behind = lines.Drain ∷ ends.after in
+    let rest = lines.Drain ∷ ends.after in
     let parts = cut_at s clients ends.before ends.after (opened_drill server opening) follows.last (subst (λ (all : List Line). MakeAll s clients all (opened_drill server opening) follows.last) ends.is_cut follows.makes) in
     let first = opened_stands server script is link within in
     let at = lines-passed s clients link ends.before (opened_drill server opening) parts.first within.0 (opened_by_script script is)
-    (all_front HasWritableCred ends.before behind (subst (AllByRecursion HasWritableCred) ends.is_cut is.creds))
-    (all_front NamesClient ends.before behind (subst (AllByRecursion NamesClient) ends.is_cut (all_name opening [] script.lines is.follow_on)))
-    (any_front (is_raw_of link) ends.before behind (ap (λ (all : List Line). list_any (is_raw_of link) all) (sym ends.is_cut) ∙ raw)) parts.made first in
+    (all_front HasWritableCred ends.before rest (subst (AllByRecursion HasWritableCred) ends.is_cut is.creds))
+    (all_front NamesClient ends.before rest (subst (AllByRecursion NamesClient) ends.is_cut (all_name opening [] script.lines is.follow_on)))
+    (any_front (is_raw_of link) ends.before rest (ap (λ (all : List Line). list_any (is_raw_of link) all) (sym ends.is_cut) ∙ raw)) parts.made first in
     let drained = drain-stands s link (links_of clients) parts.rounds parts.first parts.drained within.0 (are_links 1 clients (omega arith)) parts.drains at in
-    let left = lines-leave s o clients link ends.after parts.drained follows.last ends.none_after parts.behind in
+    let left = lines-leave s o clients link ends.after parts.drained follows.last ends.none_after parts.later in
     let still = drained_still s link (links_of clients) parts.rounds parts.first parts.drained (among_range link 1 clients within.0 (let b = within.1 in omega (arith, b))) parts.drains in
     let here : is_dropped link parts.drained.marks ≡ false = sym left.dropped ∙ ap (λ (r : List Mark). is_dropped link r) (sym follows.marks_are) ∙ standing in
     subst (NothingWaits o link) (sym follows.marks_are) (left.waits (nothing_waits s link parts.drained drained.carries here still))

@@ -38,7 +38,7 @@ use Rattle.nr_script.specs.declared.script.Line.{Line}
 use Rattle.nr_script.specs.declared.script.Line.TheVariants as lines
 use Rattle.nr_script.specs.Script.{ScriptLines, HasWritableCred, IsScript}
 use Rattle.nr_drill.specs.Follows.{after_line, Drains, Makes, MakeAll, Follows, parameters_of, setting_of, opened_drill}
-use Rattle.nr_drill.specs.Drill.{Setting, Drill, Pipes, plain_of, now, unwritten, after_output, after_all_output, settled, pipes_of, with_mark, after_submit, after_feeding, after_feeding_up, after_up, waiting_call, after_answer, after_execution, after_work, after_calls, after_drop, after_raw, after_feeding_down, after_handing, after_done, after_dones, after_outcomes, after_down, answer_of_line, open_xid, after_giving_up, after_forget, after_taking_back, after_revoke, after_all_up, after_all_work, after_all_down, after_moves, after_round, after_opening, after_openings, SerialServer, with_pipes, behind, empty_pipes, start, links_of, cred_of}
+use Rattle.nr_drill.specs.Drill.{Setting, Drill, Pipes, plain_of, now, unwritten, after_output, after_all_output, settled, pipes_of, with_mark, after_submit, after_feeding, after_feeding_up, after_up, waiting_call, after_answer, after_execution, after_work, after_calls, after_drop, after_raw, after_feeding_down, after_handing, after_done, after_dones, after_outcomes, after_down, answer_of_line, open_xid, after_giving_up, after_forget, after_taking_back, after_revoke, after_all_up, after_all_work, after_all_down, after_moves, after_round, after_opening, after_openings, SerialServer, with_pipes, appended, empty_pipes, start, links_of, cred_of}
 use Rattle.nr_drill.proofs.Lawful.{IsLawful, IsWritten, IsDueOf, Keeps, lawful-mark, left_is, due-more, more_due, due_of, lawful-settled, lawful-drop, lawful-forget, lawful-submit, lawful-after_up, lawful-after_down, lawful-work, lawful-revoke, lawful-moves}
 
 -- ===== marks of other links
@@ -213,7 +213,7 @@ set_pipes link pipes old new x = record {
 
 pub output-adds : (link : ℕ) (side : Side) (bytes : List ℕ) (d : Drill) → Extends link d (after_output link side bytes d)
 output-adds link side [] d = nothing link d
-output-adds link side (b ∷ bytes) d = set_pipes link (behind side (b ∷ bytes) (pipes_of link d)) d (with_mark (marks.Wrote link side (b ∷ bytes)) d) (one_mark link (marks.Wrote link side (b ∷ bytes)) d refl)
+output-adds link side (b ∷ bytes) d = set_pipes link (appended side (b ∷ bytes) (pipes_of link d)) d (with_mark (marks.Wrote link side (b ∷ bytes)) d) (one_mark link (marks.Wrote link side (b ∷ bytes)) d refl)
 
 pub settled-adds : (s : Setting) (link : ℕ) (d : Drill) → Extends link d (settled s link d)
 unfolding settled
@@ -308,7 +308,7 @@ drop-adds link d = set_pipes link empty_pipes d (with_mark (marks.Drop link) d) 
 
 pub raw-adds : (link : ℕ) (side : Side) (bytes : List ℕ) (dropped : Bool) (d : Drill) → Extends link d (after_raw link side bytes dropped d)
 raw-adds link side bytes true d = nothing link d
-raw-adds link side bytes false d = set_pipes link (behind side bytes (pipes_of link d)) d d (nothing link d)
+raw-adds link side bytes false d = set_pipes link (appended side bytes (pipes_of link d)) d d (nothing link d)
 
 -- ===== a step keeps the laws of every link
 

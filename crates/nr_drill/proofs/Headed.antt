@@ -25,7 +25,7 @@ use Rattle.nr_drill.proofs.Remembered.{keeps-memory}
 use Rattle.nr_drill.proofs.Drained.{follows_waits}
 use Rattle.nr_drill.proofs.Handed.{follows_hands}
 
--- where the server is a plain one, and each reply is bytes
+-- if the server is a plain one, and each reply is bytes
 pub follows_is_drill : (server : SerialServer) (script : ScriptLines) (run : List Mark) → IsScript script → IsPlain (plain_of server) → RepliedInBytes run → Follows server script run → IsDrillRun server script run
 follows_is_drill server script run is plain replied follows =
     let typed : IsTyped run = follows_is_typed server script run is replied follows in

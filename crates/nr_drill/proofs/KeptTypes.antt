@@ -1,4 +1,4 @@
--- What steps of a drain write down are of their types, where the server replies in bytes.
+-- What steps of a drain write down are of their types, if the server replies in bytes.
 use Rattle.std.specs.Prelude.{◌-◌, slice_get, take, drop}
 use Rattle.std.proofs.Common.{◌≡◌, ◌≢◌, ℕ, zero, suc, Bool, true, false, List, [], ◌∷◌, ◌++◌, length, Option, None, Some, refl, sym, ap, subst, ◌∙◌}
 use Rattle.nr_xdr.specs.Item.{IsBytes}

@@ -227,7 +227,7 @@ fed-less s link bytes d h c heard_down waits some typed typed_new h_new c_new = 
     sends_in : List ℕ → List ℕ → ℕ
     sends_in received way = sum_by frame_len (filter is_send (frames_completed Initiator received way))
 
-    -- where neither the ends nor the Sends change
+    -- if neither the ends nor the Sends change
     last : after.ended ≡ before.ended → sends_in (bytes_received link Responder new.marks) sent_new ≡ sends_in got sent_old → IsLess (work_left s new link) (work_left s d link)
     last same same_sends = inr (
       (λ i. stays ((client_end_is ∙ same) i) + stays (server_end i)),
@@ -278,7 +278,7 @@ feeding_down : (link : ℕ) (bytes : List ℕ) (rest : Pipes) (d : Drill) → by
 feeding_down link [] rest d some = absurd (some refl)
 feeding_down link (b ∷ bytes) rest d some = refl
 
--- Where the client has the server's hello, what each side received and what waits is what the other sent, and bytes wait for the client, feeding it
+-- If the client has the server's hello, what each side received and what waits is what the other sent, and bytes wait for the client, feeding it
 -- all of them leaves less work.
 pub down-less : (s : Setting) (link : ℕ) (d : Drill) → Keeps s link d → Carries link d → frames_of Responder (bytes_received link Initiator d.marks) ≢ [] →
     (pipes_of link d).down ≢ [] → IsTyped (after_all_down s link d).marks → IsLess (work_left s (after_all_down s link d) link) (work_left s d link)

@@ -66,7 +66,7 @@ completed-two side old x y =
     (ap (λ (xs : List ℕ). frames_of side xs) (sym (append_assoc old x y)) ∙ frames-one side (old ++ x) y ∙ ap (λ (fs : List Frame). fs ++ second) (frames-one side old x) ∙ append_assoc (frames_of side old) first second)
     ∙ drop-append_seam (frames_of side old) (first ++ second)
 
--- where a frame was received, one was received later too
+-- if a frame was received, one was received later too
 pub still-heard : (side : Side) (old more : List ℕ) → frames_of side old ≢ [] → frames_of side (old ++ more) ≢ []
 still-heard side old more heard = λ none. by (frames_of side old) (frames_completed side old more) heard (sym (frames-one side old more) ∙ none)
   where
@@ -89,7 +89,7 @@ split-none : (a : Awaited) → (split a []).frames ≡ []
 unfolding split
 split-none a = refl
 
--- its hello and the segments behind it
+-- its hello and the segments after it
 stream-frames : (outs : List Output) → AreFrom Fpdu outs → frames_of Initiator (own_hello Initiator ++ bytes_of_all outs) ≡ frames_from 0 (own_hello Initiator ∷ map bytes_of outs)
 unfolding frames_of
 stream-frames outs h =
@@ -124,8 +124,8 @@ segments-sends place (AHello bytes ∷ outs) some h = absurd h
 segments-sends place (ASegment s ∷ outs) some h =
     let f : Frame = record { at = place; end = place + length (encoding s); bytes = encoding s } in
     let later = frames_from (place + length (encoding s)) (map bytes_of outs) in
-    let behind : is_hello f ≡ false = ne_eqb place 0 (λ e. omega (arith, e, some)) in
-    let read : is_send f ≡ is_send_segment (Ok s) = (λ i. cond (behind i) false (is_send_segment (segment_of (encoding s)))) ∙ ap is_send_segment (encoding-is s h.0).says in
+    let appended : is_hello f ≡ false = ne_eqb place 0 (λ e. omega (arith, e, some)) in
+    let read : is_send f ≡ is_send_segment (Ok s) = (λ i. cond (appended i) false (is_send_segment (segment_of (encoding s)))) ∙ ap is_send_segment (encoding-is s h.0).says in
     one-more f later (is_send_segment (Ok s)) read ∙ counted s (messages outs) (sends_among later) (segments-sends (place + length (encoding s)) outs (omega (arith, some)) h.1)
 
 stream-sends : (outs : List Output) → AreFrom Fpdu outs → sends_among (frames_of Initiator (own_hello Initiator ++ bytes_of_all outs)) ≡ length (messages outs)
@@ -150,7 +150,7 @@ whole-some link run heard =
     let got = bytes_received link Initiator run in
     some-bytes Responder (split (HelloFrom Responder) got).frames (λ none. heard (ap (λ (fs : List (List ℕ)). frames_from 0 fs) none)) (split-Splits (HelloFrom Responder) got).each
 
--- where it has the server's hello, there is a Send of each call that it accepted among the frames that the server has, and those to come
+-- if it has the server's hello, there is a Send of each call that it accepted among the frames that the server has, and those to come
 pub sends-waiting : (o : LinkParameters) (link : ℕ) (run : List Mark) (way : List ℕ) → IsTyped run → AskedSoFar o link run → (client o link run).ended ≡ None → frames_of Responder (bytes_received link Initiator run) ≢ [] →
     bytes_received link Responder run ++ way ≡ output_due o link Initiator run →
     length (filter is_send (frames_of Initiator (bytes_received link Responder run))) + length (filter is_send (frames_completed Initiator (bytes_received link Responder run) way)) ≡ (client o link run).state.calls_accepted

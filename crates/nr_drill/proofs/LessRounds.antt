@@ -313,7 +313,7 @@ still-cases [] down (Some call) e = inr (refl, inl (call, refl))
 still-cases [] [] None e = absurd cc
 still-cases [] (b ∷ down) None e = inr (refl, inr (refl, λ none. absurd cc))
 
--- where something moves on the link
+-- if something moves on the link
 moves-less : (s : Setting) → StepsKeepTypes s → AnswersCalls s → (link : ℕ) (d : Drill) → Good s link d → is_still s d link ≡ false → IsLess (work_left s (after_moves s link d) link) (work_left s d link)
 unfolding after_moves after_all_work is_still
 moves-less s types answers link d g e = by (still-cases (pipes_of link d).up (pipes_of link d).down (waiting_call s link d.marks) e)
@@ -488,7 +488,7 @@ all-long s (l ∷ links) d = omega (arith, length-append (work_left s d l) (all_
 Ends : Setting → List ℕ → Drill → Type 0
 Ends s links d = (rounds : ℕ) × (new : Drill) × Drains s links rounds d new
 
--- Where the server has a reply to each call that waits, and steps keep marks of their types: so many rounds, and nothing moves on any of the links.
+-- If the server has a reply to each call that waits, and steps keep marks of their types: a number of rounds, and nothing moves on any of the links.
 pub drain-ends : (s : Setting) (links : List ℕ) → AreApart links → StepsKeepTypes s → AnswersCalls s → (d : Drill) → AllRun s links d → IsTyped d.marks → (rounds : ℕ) × (new : Drill) × Drains s links rounds d new
 unfolding Ends
 drain-ends s links apart types answers d r t = by_less (6 * length links) P step (all_left s links d) (all-long s links d) d refl r t
@@ -530,7 +530,7 @@ drains_end server script is raw replies answers before after cut mid typed made 
     drain-ends s (links_of clients) (range-apart 1 clients (omega arith)) types answers mid
     (range-all (λ (l : ℕ). IsRunning s l mid) clients 1 clients (λ l low high. script-runs server script is l (low, high) (raw l (low, high)) before after cut mid made) (omega arith) (omega arith)) typed
 
--- ===== where no outcome is due, a step that adds a mark moves something
+-- ===== if no outcome is due, a step that adds a mark moves something
 
 idle-all : (s : Setting) (link : ℕ) (d : Drill) → IsRunning s link d → outcomes_due (s.opened link) link d.marks ≡ [] → (pipes_of link d).down ≡ [] → after_all_down s link d ≡ d
 unfolding after_down after_outcomes

@@ -115,12 +115,12 @@ abbrev pub Lowers : ServerState → ServerState → List ℕ → Type 0
 Lowers k left out = (length left.reads < length k.reads) ⊎ ((left.reads ≡ k.reads) × (left.ready ≡ k.ready) × (out ≡ []))
 
 not_send : (f : Frame) → is_hello f ≡ false → is_send f ≡ false → is_send_segment (frame_segment f) ≡ false
-not_send f behind none = (λ i. cond (sym behind i) false (is_send_segment (frame_segment f))) ∙ none
+not_send f appended none = (λ i. cond (sym appended i) false (is_send_segment (frame_segment f))) ∙ none
 
 frame-lowers : (o : LinkParameters) (k : ServerState) (f : Frame) → is_hello f ≡ false → is_send f ≡ false → Lowers k (server_state_after o k (FrameReceived f)) (server_output o k (FrameReceived f))
 unfolding server_state_after server_output frame_effect
-frame-lowers o k f behind none =
-    subst (λ (b : Bool). Lowers k (cond b (with_own_hello k) (with_effect k f e)) (cond b (own_hello Responder) (effect_output k e))) (sym behind) (by (effect-lessens k f (frame_segment f) (not_send f behind none)))
+frame-lowers o k f appended none =
+    subst (λ (b : Bool). Lowers k (cond b (with_own_hello k) (with_effect k f e)) (cond b (own_hello Responder) (effect_output k e))) (sym appended) (by (effect-lessens k f (frame_segment f) (not_send f appended none)))
   where
     e : FrameEffect
     e = frame_effect k f
@@ -143,8 +143,8 @@ lowers-through a b c xs ys (inr (reads, ready, none)) (inr (reads_too, ready_too
 pub frames-lower : (o : LinkParameters) (k : ServerState) (fs : List Frame) → AllByRecursion (λ (f : Frame). is_hello f ≡ false) fs → AllByRecursion (λ (f : Frame). is_send f ≡ false) fs →
     (end_state_after (server_rules o) (live k) (map FrameReceived fs)).ended ≡ None →
     Lowers k (end_state_after (server_rules o) (live k) (map FrameReceived fs)).state (output_for_all (server_rules o) (live k) (map FrameReceived fs))
-frames-lower o k [] behind none stays = inr (refl, refl, refl)
-frames-lower o k (f ∷ fs) behind none unended = by (server_end o k (FrameReceived f)) unended (frames-lower o (server_state_after o k (FrameReceived f)) fs behind.1 none.1)
+frames-lower o k [] appended none stays = inr (refl, refl, refl)
+frames-lower o k (f ∷ fs) appended none unended = by (server_end o k (FrameReceived f)) unended (frames-lower o (server_state_after o k (FrameReceived f)) fs appended.1 none.1)
   where
     event : Event
     event = FrameReceived f
@@ -160,12 +160,12 @@ frames-lower o k (f ∷ fs) behind none unended = by (server_end o k (FrameRecei
         Lowers k (end_state_after (server_rules o) (next_end_state_by (server_rules o) k event end) more).state (output_for_by (server_rules o) k event end ++ output_for_all (server_rules o) (next_end_state_by (server_rules o) k event end) more)
     by None e later =
         lowers-through k next (end_state_after (server_rules o) (live next) more).state (server_output o k event) (output_for_all (server_rules o) (live next) more)
-        (frame-lowers o k f behind.0 none.0) (later e)
+        (frame-lowers o k f appended.0 none.0) (later e)
     by (Some end) e later = absurd (let wrong : Some end ≡ None = sym (ap (λ (r : EndState ServerState). r.ended) (ended-stays (server_rules o) k end more).0) ∙ e in cc)
 
 -- ===== the frames that are completed
 
--- a frame behind the first byte is no hello
+-- a frame after the first byte is no hello
 later_frames : (at : ℕ) (fs : List (List ℕ)) → 0 < at → AllByRecursion (λ (f : Frame). is_hello f ≡ false) (frames_from at fs)
 later_frames at [] some = tt
 later_frames at (f ∷ fs) some = (ne_eqb at 0 (λ e. omega (arith, e, some)), later_frames (at + length f) fs (omega (arith, some)))
@@ -174,7 +174,7 @@ pub some-bytes : (side : Side) (fs : List (List ℕ)) → fs ≢ [] → AreFrame
 some-bytes side [] some h = absurd (some refl)
 some-bytes side (f ∷ fs) some h = (let a = h.0.fields in let b = fields_some (HelloFrom side) in omega (arith, a, b, length-append f (concat fs)))
 
--- where the first frame was received, those that more bytes complete are none
+-- if the first frame was received, those that more bytes complete are none
 pub behind_hello : (side : Side) (got more : List ℕ) → frames_of side got ≢ [] → AllByRecursion (λ (f : Frame). is_hello f ≡ false) (frames_completed side got more)
 unfolding frames_of
 behind_hello side got more heard =
@@ -332,7 +332,7 @@ fed-less s link bytes d h room heard waits some = by_end before.ended refl
     by_frames (inl lt) = inl (omega (arith, lt, ap (λ (rs : List PendingRead). length rs) reads))
     by_frames (inr same) = last same
 
-    -- where no end changes: a Send goes up, or none does
+    -- if no end changes: a Send goes up, or none does
     by_sends : after.ended ≡ before.ended →
         (AllByRecursion (λ (f : Frame). is_send f ≡ false) fs → Lowers before.state after.state (output_for_all (server_rules o) before es)) → IsLess (work_left s new link) (work_left s d link)
     by_sends same lower = by_send (no_send fs)
@@ -374,7 +374,7 @@ feeding_up : (link : ℕ) (bytes : List ℕ) (rest : Pipes) (d : Drill) → byte
 feeding_up link [] rest d some = absurd (some refl)
 feeding_up link (b ∷ bytes) rest d some = refl
 
--- Where the server has the client's hello and bytes wait for it, feeding it all of them leaves less work.
+-- If the server has the client's hello and bytes wait for it, feeding it all of them leaves less work.
 pub up-less : (s : Setting) (link : ℕ) (d : Drill) → Keeps s link d → link - 1 < length d.pipes → frames_of Initiator (bytes_received link Responder d.marks) ≢ [] → (pipes_of link d).up ≢ [] →
     IsLess (work_left s (after_all_up s link d) link) (work_left s d link)
 unfolding after_up

@@ -24,7 +24,7 @@ use Rattle.nr_reduce.specs.Served.{next_call, first_ready}
 use Rattle.nr_reduce.proofs.Steps.{client-one, server-one, output_due_up-one, output_due_down-one}
 use Rattle.nr_reduce.proofs.Standing.{itself, received-one}
 use Rattle.nr_laws.proofs.Keys.{any-append}
-use Rattle.nr_drill.specs.Drill.{Setting, Drill, Pipes, empty_pipes, plain_of, now, unwritten, behind, after_output, after_all_output, settled, pipes_of, with_mark, with_pipes, if_standing, waiting_call, after_answer, after_execution, after_work}
+use Rattle.nr_drill.specs.Drill.{Setting, Drill, Pipes, empty_pipes, plain_of, now, unwritten, appended, after_output, after_all_output, settled, pipes_of, with_mark, with_pipes, if_standing, waiting_call, after_answer, after_execution, after_work}
 use Rattle.nr_drill.specs.WorkLeft.{frame_len, is_send, send_bytes_left, work_left, stays, IsLess}
 use Rattle.nr_drill.proofs.Lawful.{IsDueOf, Keeps, more_due, left_is, due-more, lawful-mark, lawful-settled}
 
@@ -210,7 +210,7 @@ pub more-left : (o : LinkParameters) (link : ℕ) (side : Side) (run : List Mark
 more-left o link side run mark none is =
     left_is o link side (run ++ mark ∷ []) (unwritten o link side run ++ more_due o link side run mark) (due-more o link side run mark none is)
 
--- where the client has nothing to write, the server alone writes
+-- if the client has nothing to write, the server alone writes
 pub settled-down : (s : Setting) (link : ℕ) (d : Drill) → unwritten (s.opened link) link Initiator d.marks ≡ [] →
     settled s link d ≡ after_output link Responder (unwritten (s.opened link) link Responder d.marks) d
 unfolding settled
@@ -228,12 +228,12 @@ set_room link pipes d room = subst (λ (n : ℕ). link - 1 < n) (sym (length-set
 pub down-leaves_up : (link : ℕ) (bytes : List ℕ) (d : Drill) → link - 1 < length d.pipes → (pipes_of link (after_output link Responder bytes d)).up ≡ (pipes_of link d).up
 down-leaves_up link [] d room = refl
 down-leaves_up link (b ∷ bytes) d room =
-    ap (λ (p : Pipes). p.up) (set_pipes link (behind Responder (b ∷ bytes) (pipes_of link d)) (with_mark (marks.Wrote link Responder (b ∷ bytes)) d) room)
+    ap (λ (p : Pipes). p.up) (set_pipes link (appended Responder (b ∷ bytes) (pipes_of link d)) (with_mark (marks.Wrote link Responder (b ∷ bytes)) d) room)
 
 pub up-leaves_down : (link : ℕ) (bytes : List ℕ) (d : Drill) → link - 1 < length d.pipes → (pipes_of link (after_output link Initiator bytes d)).down ≡ (pipes_of link d).down
 up-leaves_down link [] d room = refl
 up-leaves_down link (b ∷ bytes) d room =
-    ap (λ (p : Pipes). p.down) (set_pipes link (behind Initiator (b ∷ bytes) (pipes_of link d)) (with_mark (marks.Wrote link Initiator (b ∷ bytes)) d) room)
+    ap (λ (p : Pipes). p.down) (set_pipes link (appended Initiator (b ∷ bytes) (pipes_of link d)) (with_mark (marks.Wrote link Initiator (b ∷ bytes)) d) room)
 
 -- ===== a call is executed
 

@@ -76,7 +76,7 @@ in_run o link run before mark xid plan at has = record {
   planned = has.planned;
 }
 
--- What is promised of a run, where it is of its types and the server is a plain one: a clause can't say it without these premises of the laws.
+-- What is promised of a run, if it is of its types and the server is a plain one: a clause can't say it without these premises of the laws.
 pub record Promise (server : SerialServer) (script : ScriptLines) (run : List Mark) : Type 0 where
   pub completes : (link : ℕ) → IsLink script link → HasNoRaw script link → Completes (plain_of server) (journal (plain_of server) run) (parameters_of script.opening link) link run
   pub places : (link other_link : ℕ) → IsLink script link → IsLink script other_link → HasNoRaw script link → HasNoRaw script other_link → PlacesRise link other_link run

@@ -1,4 +1,4 @@
--- What is printed of a run is told by its report.
+-- What is printed of a run follows from its report.
 use Rattle.std.proofs.Common.{◌≡◌, length, refl, sym, ap, ◌∙◌}
 use Rattle.nr_script.specs.Script.{ScriptLines}
 use Rattle.nr_drill.specs.declared.report.Report.{Report}

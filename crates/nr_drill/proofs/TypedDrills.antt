@@ -40,7 +40,7 @@ use Rattle.nr_laws.proofs.Bytes.{bytes_both}
 use Rattle.nr_script.specs.declared.script.Line.{Line}
 use Rattle.nr_script.specs.declared.script.Line.TheVariants as lines
 use Rattle.nr_script.specs.Script.{ScriptLines, IsTypedCred, HasWordPosition, IsTypedLine, IsScript}
-use Rattle.nr_drill.specs.Drill.{SerialServer, Setting, Drill, Pipes, plain_of, now, unwritten, after_output, after_all_output, settled, pipes_of, with_pipes, with_mark, with_cred, behind, empty_pipes, cred_of, after_submit, after_feeding, after_feeding_up, after_up, if_standing, waiting_call, after_answer, after_execution, after_work, after_calls, after_drop, after_raw, after_feeding_down, after_handing, after_done, after_dones, after_outcomes, after_down, answer_of_line, open_xid, after_giving_up, after_forget, after_taking_back, after_revoke, after_all_up, after_all_work, after_moves, after_round, after_opening, after_openings, start, links_of}
+use Rattle.nr_drill.specs.Drill.{SerialServer, Setting, Drill, Pipes, plain_of, now, unwritten, after_output, after_all_output, settled, pipes_of, with_pipes, with_mark, with_cred, appended, empty_pipes, cred_of, after_submit, after_feeding, after_feeding_up, after_up, if_standing, waiting_call, after_answer, after_execution, after_work, after_calls, after_drop, after_raw, after_feeding_down, after_handing, after_done, after_dones, after_outcomes, after_down, answer_of_line, open_xid, after_giving_up, after_forget, after_taking_back, after_revoke, after_all_up, after_all_work, after_moves, after_round, after_opening, after_openings, start, links_of}
 use Rattle.nr_drill.specs.Follows.{after_line, Drains, Makes, MakeAll, Follows, setting_of, opened_drill}
 use Rattle.nr_drill.specs.InBytes.{RepliedMark, RepliedInBytes, RepliesInBytes}
 use Rattle.nr_script.proofs.ByteLists.{no-bytes}
@@ -84,7 +84,7 @@ marked mark d t h = record { typed = AtEachMark-more TypedMark [] d.marks mark h
 piped : (link : ℕ) (p : Pipes) (d : Drill) → PipesOfBytes p → IsTypedDrill d → IsTypedDrill (with_pipes link p d)
 piped link p d g h = record { typed = h.typed; pipes = with-pipes-at d.pipes (link - 1) p h.pipes g; creds = h.creds }
 
-behind-bytes : (side : Side) (bytes : List ℕ) (p : Pipes) → IsBytes bytes → PipesOfBytes p → PipesOfBytes (behind side bytes p)
+behind-bytes : (side : Side) (bytes : List ℕ) (p : Pipes) → IsBytes bytes → PipesOfBytes p → PipesOfBytes (appended side bytes p)
 behind-bytes Initiator bytes p b h = (bytes_both p.up bytes h.0 b, h.1)
 behind-bytes Responder bytes p b h = (h.0, bytes_both p.down bytes h.1 b)
 
@@ -99,7 +99,7 @@ unwritten-bytes o link Responder run typed = IsBytes-drop (length (bytes_sent li
 output-typed : (link : ℕ) (side : Side) (bytes : List ℕ) (d : Drill) → IsBytes bytes → IsTypedDrill d → IsTypedDrill (after_output link side bytes d)
 output-typed link side [] d b h = h
 output-typed link side (x ∷ bytes) d b h =
-    piped link (behind side (x ∷ bytes) (pipes_of link d)) (with_mark (marks.Wrote link side (x ∷ bytes)) d) (behind-bytes side (x ∷ bytes) (pipes_of link d) b (pipes-at d.pipes (link - 1) h.pipes))
+    piped link (appended side (x ∷ bytes) (pipes_of link d)) (with_mark (marks.Wrote link side (x ∷ bytes)) d) (behind-bytes side (x ∷ bytes) (pipes_of link d) b (pipes-at d.pipes (link - 1) h.pipes))
     (marked (marks.Wrote link side (x ∷ bytes)) d tt h)
 
 fed-typed : (link : ℕ) (side : Side) (bytes : List ℕ) (rest : Pipes) (d : Drill) → IsBytes bytes → PipesOfBytes rest → IsTypedDrill d → IsTypedDrill (after_feeding link side bytes rest d)
@@ -263,7 +263,7 @@ raw-quiet s link side bytes false d = Same refl
 
 raw-typed : (link : ℕ) (side : Side) (bytes : List ℕ) (dropped : Bool) (d : Drill) → IsBytes bytes → IsTypedDrill d → IsTypedDrill (after_raw link side bytes dropped d)
 raw-typed link side bytes true d b h = h
-raw-typed link side bytes false d b h = piped link (behind side bytes (pipes_of link d)) d (behind-bytes side bytes (pipes_of link d) b (pipes-at d.pipes (link - 1) h.pipes)) h
+raw-typed link side bytes false d b h = piped link (appended side bytes (pipes_of link d)) d (behind-bytes side bytes (pipes_of link d) b (pipes-at d.pipes (link - 1) h.pipes)) h
 
 line-keeps : (s : Setting) (P : Drill → Type 0) → KeptBySteps s P → (line : Line) (d : Drill) → IsTypedLine line → P d → P (after_line s line d)
 unfolding after_submit
@@ -354,7 +354,7 @@ no-creds (suc n) = (tt, no-creds n)
 start-typed : (clients : ℕ) → IsTypedDrill (start clients)
 start-typed clients = record { typed = tt; pipes = none-wait clients; creds = no-creds clients }
 
--- ===== where replies are bytes
+-- ===== if replies are bytes
 
 first-replied : (run : List Mark) (mark : Mark) → RepliedInBytes (run ++ mark ∷ []) → RepliedInBytes run
 first-replied run mark h = AtEachMark-first RepliedMark [] run (mark ∷ []) h
@@ -372,13 +372,13 @@ typed-if s = record {
       marked mark d (AtEachMark-at RepliedMark [] d.marks mark [] replied) (h (first-replied d.marks mark replied)));
 }
 
--- The run of a drill is of its types, where each reply is bytes.
+-- The run of a drill is of its types, if each reply is bytes.
 pub follows_is_typed : (server : SerialServer) (script : ScriptLines) (run : List Mark) → IsScript script → RepliedInBytes run → Follows server script run → IsTyped run
 follows_is_typed server script run is replied follows =
     let last = follows_keeps_by_steps server script run (λ d. RepliedInBytes d.marks → IsTypedDrill d) is follows (typed-if (setting_of server script.opening)) (λ none. start-typed script.opening.clients) in
     subst IsTyped (sym follows.marks_are) (last (subst RepliedInBytes follows.marks_are replied)).typed
 
--- ===== where the server replies in bytes
+-- ===== if the server replies in bytes
 
 journal-one : (s : Setting) (run : List Mark) (mark : Mark) → journal (plain_of s.server) (run ++ mark ∷ []) ≡ journal (plain_of s.server) run ++ entries_added (plain_of s.server) mark
 unfolding journal
@@ -424,7 +424,7 @@ nothing-held : (s : Setting) (r : RepliesInBytes s.server) → r.Holds (journal 
 unfolding journal
 nothing-held s r = r.none
 
--- Or where its server replies in bytes.
+-- Or if its server replies in bytes.
 pub follows_in_bytes : (server : SerialServer) (script : ScriptLines) (run : List Mark) → IsScript script → RepliesInBytes server → Follows server script run → IsTyped run
 follows_in_bytes server script run is r follows =
     let s = setting_of server script.opening in

@@ -64,7 +64,7 @@ AnswersInBytes s = (link : ℕ) (d : Drill) (call : ReadyCall) (reply : List ℕ
 abbrev pub RepliesKeepTypes : Type 0
 RepliesKeepTypes = (server : SerialServer) (opening : Opening) → AnswersInBytes (setting_of server opening) → StepsKeepTypes (setting_of server opening)
 
--- In a script that puts no bytes into pipes a drain ends, wherever it stands: after so many rounds nothing moves on any link.
+-- In a script that puts no bytes into pipes a drain ends, at each line: after a number of rounds nothing moves on any link.
 abbrev pub DrainsEnd : Type 0
 DrainsEnd = (server : SerialServer) (script : ScriptLines) → IsScript script → ((link : ℕ) → IsLink script link → HasNoRaw script link) →
     AnswersInBytes (setting_of server script.opening) → AnswersCalls (setting_of server script.opening) →

@@ -75,7 +75,7 @@ pub record EndsWithDrain (script : ScriptLines) (link : ℕ) : Type 0 where
 -- ===== one link
 
 -- Whatever the script, hostile bytes too: both ends keep their laws in full; each call is accepted by the client's rule, so within the grant;
--- each outcome that is due has been handed over; and where no line puts bytes into its pipes, each side receives what the other sent.
+-- each outcome that is due has been handed over; and if no line puts bytes into its pipes, each side receives what the other sent.
 pub record KeepsLaws (script : ScriptLines) (opened : LinkParameters) (link : ℕ) (run : List Mark) : Type 0 where
   pub asked : Asked opened link run
   pub served : Served opened link run
@@ -84,7 +84,7 @@ pub record KeepsLaws (script : ScriptLines) (opened : LinkParameters) (link : �
   pub handed : outcomes_due opened link run ≡ []
   pub matched : HasNoRaw script link → Matched link run
 
--- A call that completes: with the plain server's reply at its place in the one journal; else with Chunk, where its message is refused or its
+-- A call that completes: with the plain server's reply at its place in the one journal; else with Chunk, if its message is refused or its
 -- offer doesn't hold the reply; never with another version.
 pub record Completes (plain : PlainServer) (J : List Entry) (opened : LinkParameters) (link : ℕ) (run : List Mark) : Type 0 where
   pub reply : (before : List Mark) (xid : ℕ) (reply : List ℕ) → MarkAt run before (marks.Done link xid (outcomes.Reply reply)) →
@@ -99,7 +99,7 @@ abbrev pub AnswersChanges : SerialServer → LinkParameters → ℕ → List Mar
 AnswersChanges server opened link run = (before : List Mark) (xid : ℕ) (moment : Moment) (payload : List ℕ) (place : ℕ) (reply : List ℕ) →
     MarkAt run before (marks.Execute link xid moment payload place reply) → server.adds moment payload reply ≢ [] → IsAnswered opened link before xid moment payload place reply
 
--- neither side ends, and behind a last drain all calls have completed, each that wasn't given up with its Done
+-- neither side ends, and after a last drain all calls have completed, each that wasn't given up with its Done
 pub record Stays (script : ScriptLines) (opened : LinkParameters) (link : ℕ) (run : List Mark) : Type 0 where
   pub client : end_of_side opened link Initiator run ≡ None
   pub server : end_of_side opened link Responder run ≡ None
@@ -108,7 +108,7 @@ pub record Stays (script : ScriptLines) (opened : LinkParameters) (link : ℕ) (
 
 -- ===== the run
 
--- A call that is submitted after the outcome of another has a place that isn't smaller, whatever their links, where these are matched.
+-- A call that is submitted after the outcome of another has a place that isn't smaller, whatever their links, if these are matched.
 abbrev pub PlacesRise : ℕ → ℕ → List Mark → Type 0
 PlacesRise link other_link run = (before between before_first before_second : List Mark) (call : Call) (form : Form) (xid other_xid : ℕ) (outcome : Outcome)
     (moment other_moment : Moment) (payload other_payload : List ℕ) (place other_place : ℕ) (reply other_reply : List ℕ) →

@@ -29,8 +29,8 @@ place_if xid place e = if e.xid == xid then Some e.place else place
 unfoldable pub last_place : ℕ → ℕ → List Mark → Option ℕ
 last_place link xid run = fold (place_if xid) None (executed_calls link run)
 
--- A reply has the place of its execution, or else, where only bytes of a script made it, the journal's length. An ERR_CHUNK has the place
--- of its execution, where there was one. An ERR_VERS has none.
+-- A reply has the place of its execution, or else, if only bytes of a script made it, the journal's length. An ERR_CHUNK has the place
+-- of its execution, if there was one. An ERR_VERS has none.
 abbrev pub place_or : ℕ → Option ℕ → Option ℕ
 place_or entries None = Some entries
 place_or entries (Some place) = Some place
@@ -63,7 +63,7 @@ is_open_as xid states.Dropped = false
 abbrev pub becomes : ℕ → ℕ → CallState → CallReport → CallReport
 becomes link xid state r = if r.client == link && is_open_as xid r.state then record r { state = state } else r
 
--- The reports with a call line more, or with what a mark says of an open call. Of what is said later nothing is told.
+-- The reports with a call line more, or with what a mark says of an open call. A later mark changes nothing.
 abbrev pub number_of : ℕ → List CallReport → ℕ
 number_of client reports = count_by (λ (r : CallReport). r.client == client) reports + 1
 

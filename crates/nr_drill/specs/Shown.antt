@@ -45,7 +45,7 @@ abbrev pub bytes_text : List ℕ → List ℕ
 bytes_text [] = codes "-"
 bytes_text (b ∷ bytes) = encode_lower (b ∷ bytes)
 
--- No script meets Spent: it has too few lines. No report tells of want of memory.
+-- No script meets Spent: it has too few lines. No report is made when memory runs out.
 abbrev pub refused_text : Refused → List ℕ
 refused_text (refusals.Ended end) = codes " refused ended"
 refused_text (refusals.TooLarge need room) = codes " refused large " ++ two_numbers need room
@@ -136,11 +136,22 @@ reply_bytes (states.Revoked bytes) = 0
 reply_bytes (states.Refused why) = 0
 reply_bytes states.Dropped = 0
 
+abbrev pub counted : List ℕ → ℕ → List ℕ
+counted words n = words ++ decimal n
+
+unfoldable pub call_sums : List CallReport → List ℕ
+call_sums calls =
+    counted (codes "calls ") (length calls)
+    ++ (counted (codes " done ") (count_by (λ (r : CallReport). is_done r.state) calls)
+    ++ counted (codes " refused ") (count_by (λ (r : CallReport). is_refused r.state) calls))
+
+unfoldable pub run_sums : List CallReport → ℕ → List ℕ
+run_sums calls len =
+    counted (codes " journal ") len
+    ++ (counted (codes " bytes ") (sum_by (λ (r : CallReport). reply_bytes r.state) calls) ++ codes "\n")
+
 unfoldable pub sums_of : List CallReport → ℕ → List ℕ
-sums_of calls len =
-    codes "calls " ++ decimal (length calls) ++ codes " done " ++ decimal (count_by (λ (r : CallReport). is_done r.state) calls)
-    ++ codes " refused " ++ decimal (count_by (λ (r : CallReport). is_refused r.state) calls) ++ codes " journal " ++ decimal len
-    ++ codes " bytes " ++ decimal (sum_by (λ (r : CallReport). reply_bytes r.state) calls) ++ codes "\n"
+sums_of calls len = call_sums calls ++ run_sums calls len
 
 unfoldable pub summary : Setting → List Mark → List ℕ
 summary s run = sums_of (call_reports s run) (length (journal (plain_of s.server) run))

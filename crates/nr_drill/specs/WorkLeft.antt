@@ -33,7 +33,7 @@ abbrev pub stays : Option End → ℕ
 stays end = if is_none end then 1 else 0
 
 -- Of a link: the sides that haven't ended; the bytes of Sends still to go up; the Read Requests that are open or owed; the calls that are
--- whole and not executed; the bytes that wait for the client; those that wait for the server.
+-- complete and not executed; the bytes that wait for the client; those that wait for the server.
 unfoldable pub work_left : Setting → Drill → ℕ → List ℕ
 work_left s d link =
     let opened = s.opened link in

@@ -2,9 +2,11 @@
 #![tactic(auto)]
 
 mod laws;
+mod printing;
 mod report;
 
 pub use laws::{drains_end, drill_is_run, reports_tell_runs, runs};
+pub use printing::{shown, summary};
 pub use report::{
     CallReport, CallReports, CallState, Journal, LinkLog, LinkReport, LinkReports, LinkState, Logs,
     Report,
