@@ -37,16 +37,21 @@ closed-more opened es more r h place is =
       later = c.later ++ more;
       event = c.event;
       is_received = ap (λ (xs : List Event). xs ++ more) c.is_received ∙ append_assoc c.earlier (c.event ∷ c.later) more;
+      stays = c.stays;
       was_live = c.was_live;
       why = c.why;
     }
 
+-- an event that doesn't end the client
+abbrev Stays : LinkParameters → List Event → Event → Type 0
+Stays opened es e = (next_end_state (client_rules opened) (client_by opened es) e).ended ≡ None
+
 abbrev Why : ClientState → Event → ℕ → ℕ → Type 0
 Why k e xid place = IsMessageOf k e xid place ⊎ (e ≡ MemoryRevoked place xid)
 
-close-one : (opened : LinkParameters) (es : List Event) (e : Event) (p : ℕ) (x : Region) → IsClosed opened (es ++ e ∷ []) x → Contains (client_by opened es).state.regions x → (b : Bool) → (b ≡ true → Why (client_by opened es).state e x.call p) → IsClosed opened (es ++ e ∷ []) (closed_if b p x)
-close-one opened es e p x h there false why = h
-close-one opened es e p x h there true why = λ place is. by x.until refl place is
+close-one : (opened : LinkParameters) (es : List Event) (e : Event) (p : ℕ) (x : Region) → Stays opened es e → IsClosed opened (es ++ e ∷ []) x → Contains (client_by opened es).state.regions x → (b : Bool) → (b ≡ true → Why (client_by opened es).state e x.call p) → IsClosed opened (es ++ e ∷ []) (closed_if b p x)
+close-one opened es e p x stays h there false why = h
+close-one opened es e p x stays h there true why = λ place is. by x.until refl place is
   where
     by : (u : Option ℕ) → x.until ≡ u → (place : ℕ) → until_at p u ≡ Some place → IsClosedForCall opened (es ++ e ∷ []) (closed_if true p x) place
     by None none place is = record {
@@ -54,19 +59,20 @@ close-one opened es e p x h there true why = λ place is. by x.until refl place 
       later = [];
       event = e;
       is_received = refl;
+      stays = stays;
       was_live = subst (λ (u : Option ℕ). Contains (client_by opened es).state.regions (record x { until = u })) none there;
       why = subst (λ (n : ℕ). Why (client_by opened es).state e x.call n) (some-is p place is) (why refl);
     }
     by (Some u) some place is =
         let c = h place (some ∙ is) in
-        record { earlier = c.earlier; later = c.later; event = c.event; is_received = c.is_received; was_live = c.was_live; why = c.why }
+        record { earlier = c.earlier; later = c.later; event = c.event; is_received = c.is_received; stays = c.stays; was_live = c.was_live; why = c.why }
 
-close-all : (opened : LinkParameters) (es : List Event) (e : Event) (p xid : ℕ) → Why (client_by opened es).state e xid p → (xs : List Region) → AllByRecursion (IsClosed opened (es ++ e ∷ [])) xs → AllByRecursion (Contains (client_by opened es).state.regions) xs
+close-all : (opened : LinkParameters) (es : List Event) (e : Event) (p xid : ℕ) → Stays opened es e → Why (client_by opened es).state e xid p → (xs : List Region) → AllByRecursion (IsClosed opened (es ++ e ∷ [])) xs → AllByRecursion (Contains (client_by opened es).state.regions) xs
     → AllByRecursion (IsClosed opened (es ++ e ∷ [])) (regions_closed (λ r. eqb r.call xid) p xs)
 unfolding regions_closed
-close-all opened es e p xid why [] h c = tt
-close-all opened es e p xid why (x ∷ xs) h c =
-    (close-one opened es e p x h.0 c.0 (eqb x.call xid) (λ own. subst (λ (n : ℕ). Why (client_by opened es).state e n p) (sym (eqb-true x.call xid own)) why), close-all opened es e p xid why xs h.1 c.1)
+close-all opened es e p xid stays why [] h c = tt
+close-all opened es e p xid stays why (x ∷ xs) h c =
+    (close-one opened es e p x stays h.0 c.0 (eqb x.call xid) (λ own. subst (λ (n : ℕ). Why (client_by opened es).state e n p) (sym (eqb-true x.call xid own)) why), close-all opened es e p xid stays why xs h.1 c.1)
 
 new-open : (opened : LinkParameters) (es : List Event) (xid place : ℕ) (bs : List Buffer) → AllByRecursion (IsClosed opened es) (map (region_of xid place) bs)
 new-open opened es xid place [] = tt
@@ -75,7 +81,7 @@ new-open opened es xid place (b ∷ bs) = ((λ p is. absurd (let wrong : None �
 one-event : (opened : LinkParameters) (es : List Event) (e : Event) → AllByRecursion (IsClosed opened es) (client_by opened es).state.regions
     → AllByRecursion (IsClosed opened (es ++ e ∷ [])) (next_end_state (client_rules opened) (client_by opened es) e).state.regions
 unfolding client_state_after
-one-event opened es e h = by_ended (client_by opened es).ended
+one-event opened es e h = by_ended (client_by opened es).ended refl
   where
     k : ClientState
     k = (client_by opened es).state
@@ -89,13 +95,13 @@ one-event opened es e h = by_ended (client_by opened es).ended
     all : AllByRecursion (Contains k.regions) k.regions
     all = recursion_from_All (Contains k.regions) k.regions (All-contains_itself k.regions)
 
-    by_event : (x : Event) → e ≡ x → AllByRecursion P (client_state_after opened k x).regions
-    by_event (FrameReceived f) is = by_hello (is_hello f) refl
+    by_event : Stays opened es e → (x : Event) → e ≡ x → AllByRecursion P (client_state_after opened k x).regions
+    by_event stays (FrameReceived f) is = by_hello (is_hello f) refl
       where
         by_message : (s : Segment) → frame_segment f ≡ Ok s → is_hello f ≡ false → (o : Option (List ℕ)) → message_completed k.received s ≡ o → AllByRecursion P (with_message k f.end o).regions
         by_message s own behind None whole = same
         by_message s own behind (Some m) whole =
-            close-all opened es e f.end (word_at 0 m) (inl (record { frame = f; segment = s; message = m; is = is; behind_hello = behind; is_segment = own; whole = whole; own = refl; ends_there = refl })) k.regions same all
+            close-all opened es e f.end (word_at 0 m) stays (inl (record { frame = f; segment = s; message = m; is = is; behind_hello = behind; is_segment = own; whole = whole; own = refl; ends_there = refl })) k.regions same all
 
         by_segment : (r : Result Segment ℕ) → frame_segment f ≡ r → is_hello f ≡ false → AllByRecursion P (with_segment k f r).regions
         by_segment (Err reason) own behind = same
@@ -105,18 +111,19 @@ one-event opened es e h = by_ended (client_by opened es).ended
         by_hello : (b : Bool) → is_hello f ≡ b → AllByRecursion P (cond b (with_hello opened k) (with_segment k f (frame_segment f))).regions
         by_hello true behind = same
         by_hello false behind = by_segment (frame_segment f) refl behind
-    by_event (CallSubmitted place a) is = each-append P k.regions (map (region_of a.xid place) (buffers k.stag (outstanding_of k a).plan)) same (new-open opened (es ++ e ∷ []) a.xid place (buffers k.stag (outstanding_of k a).plan))
-    by_event (MemoryRevoked place xid) is = close-all opened es e place xid (inr is) k.regions same all
-    by_event (CallExecuted call) is = same
-    by_event (QueueWritten taken) is = same
+    by_event stays (CallSubmitted place a) is = each-append P k.regions (map (region_of a.xid place) (buffers k.stag (outstanding_of k a).plan)) same (new-open opened (es ++ e ∷ []) a.xid place (buffers k.stag (outstanding_of k a).plan))
+    by_event stays (MemoryRevoked place xid) is = close-all opened es e place xid stays (inr is) k.regions same all
+    by_event stays (CallExecuted call) is = same
+    by_event stays (QueueWritten taken) is = same
 
-    by_why : (o : Option Stop) → AllByRecursion P (next_end_state_by (client_rules opened) k e o).state.regions
-    by_why None = by_event e refl
-    by_why (Some end) = same
+    by_why : (client_by opened es).ended ≡ None → (o : Option Stop) → client_end k e ≡ o → AllByRecursion P (next_end_state_by (client_rules opened) k e o).state.regions
+    by_why live None why =
+        by_event (ap (λ (o : Option Stop). (next_end_state_in (client_rules opened) k e o).ended) live ∙ ap (λ (o : Option Stop). (next_end_state_by (client_rules opened) k e o).ended) why) e refl
+    by_why live (Some end) why = same
 
-    by_ended : (o : Option Stop) → AllByRecursion P (next_end_state_in (client_rules opened) k e o).state.regions
-    by_ended None = by_why (client_end k e)
-    by_ended (Some end) = same
+    by_ended : (o : Option Stop) → (client_by opened es).ended ≡ o → AllByRecursion P (next_end_state_in (client_rules opened) k e o).state.regions
+    by_ended None live = by_why live (client_end k e) refl
+    by_ended (Some end) live = same
 
 all-events : (opened : LinkParameters) (front es : List Event) → AllByRecursion (IsClosed opened front) (client_by opened front).state.regions → AllByRecursion (IsClosed opened (front ++ es)) (client_by opened (front ++ es)).state.regions
 all-events opened front [] h = subst (λ (xs : List Event). AllByRecursion (IsClosed opened xs) (client_by opened xs).state.regions) (sym (append-nil front)) h

@@ -9,32 +9,22 @@ use Rattle.nr_xdr.specs.Item.{IsBytes, pad_len}
 use Rattle.nr_header.specs.declared.header.RdmaSegment.{RdmaSegment}
 use Rattle.nr_header.specs.declared.header.ChunkLists.{ChunkLists}
 use Rattle.nr_rpc.specs.declared.head.CallTarget.{CallTarget}
-use Rattle.nr_rpc.specs.Reading.{call_of, target_of}
 use Rattle.nr_wire.specs.Segment.{Segment}
 use Rattle.nr_wire.specs.Segment.Segment.{Tagged, Untagged}
 use Rattle.nr_link.specs.Output.{segment_count, segment_payload}
 use Rattle.nr_reduce.specs.declared.item.Item.{Item}
 use Rattle.nr_reduce.specs.declared.item.Of.TheVariants.{Reply}
-use Rattle.nr_reduce.specs.declared.mark.Mark.{Mark}
-use Rattle.nr_reduce.specs.declared.mark.Mark.TheVariants as marks
 use Rattle.nr_reduce.specs.Items.{reducible_item, stream_of, moved_of}
 use Rattle.nr_reduce.specs.Chunks.{chunk_total, filled_chunk, whole, some_bytes}
 use Rattle.nr_reduce.specs.Holds.{Answer, Parts, parts_by, parts_in, answer_size, fits_reply, answer_with, answer_for, written_chunks, first_chunk, no_segments}
 use Rattle.nr_reduce.specs.Undone.{one_write, write_segments, chunk_segments, answer_segments}
-use Rattle.nr_reduce.specs.Matched.{IsPrefixOf}
-use Rattle.nr_reduce.specs.ServerState.{ServerState, down_max}
-use Rattle.nr_reduce.specs.Server.{offer_of, answer_of_target}
-use Rattle.nr_reduce.specs.Served.{ServedMark, IsExecuted}
-use Rattle.nr_reduce.specs.Run.{server}
-use Rattle.nr_reduce.proofs.Calls.{execute-answered}
+use Rattle.nr_reduce.specs.Server.{answer_of_target}
 use Rattle.nr_reduce.proofs.Undone.{reducible, moved-length, rebuilt}
-use Rattle.nr_laws.specs.Typed.{TypedMark}
-use Rattle.nr_laws.specs.AnswersConvey.{payloads_of, moved_returned, stream_returned, moved_brought, stream_brought, replied_by, AnswersConvey}
-use Rattle.nr_laws.proofs.OnceByXid.{at-mark}
+use Rattle.nr_laws.specs.AnswersConvey.{payloads_of, moved_returned, stream_returned, moved_brought, stream_brought, replied_by}
 
 -- ---- The payloads of an RDMA Write
 
-payloads-append : (xs ys : List Segment) → payloads_of (xs ++ ys) ≡ payloads_of xs ++ payloads_of ys
+pub payloads-append : (xs ys : List Segment) → payloads_of (xs ++ ys) ≡ payloads_of xs ++ payloads_of ys
 payloads-append [] ys = refl
 payloads-append (Tagged last opcode stag to payload ∷ xs) ys = ap (λ (p : List ℕ). payload ++ p) (payloads-append xs ys) ∙ sym (append_assoc payload (payloads_of xs) (payloads_of ys))
 payloads-append (Untagged last opcode w queue msn offset payload ∷ xs) ys = payloads-append xs ys
@@ -42,7 +32,7 @@ payloads-append (Untagged last opcode w queue msn offset payload ∷ xs) ys = pa
 all-pieces : (n : ℕ) → n ≤ 4096 * max 1 ((n + 4095) / 4096)
 all-pieces n = omega arith
 
-short-drop : (n : ℕ) (xs : List ℕ) → length xs ≤ n → drop n xs ≡ []
+pub short-drop : (n : ℕ) (xs : List ℕ) → length xs ≤ n → drop n xs ≡ []
 short-drop zero [] h = refl
 short-drop zero (x ∷ xs) h = absurd (omega (arith, h))
 short-drop (suc n) [] h = refl
@@ -75,7 +65,7 @@ none-taken zero bytes e = refl
 none-taken (suc n) [] e = refl
 none-taken (suc n) (b ∷ bytes) e = absurd (omega (arith, e))
 
-chunk-payloads : (chunk : List RdmaSegment) (bytes : List ℕ) → payloads_of (chunk_segments chunk bytes) ≡ take (chunk_total chunk) bytes
+pub chunk-payloads : (chunk : List RdmaSegment) (bytes : List ℕ) → payloads_of (chunk_segments chunk bytes) ≡ take (chunk_total chunk) bytes
 unfolding chunk_total
 chunk-payloads [] bytes = refl
 chunk-payloads (s ∷ chunk) bytes =
@@ -88,7 +78,7 @@ chunk-payloads (s ∷ chunk) bytes =
     by true is = sym (none-taken s.length bytes (eqb-true (min s.length (length bytes)) 0 is))
     by false is = write-payloads s.handle s.offset (take s.length bytes)
 
-filled-total : (chunk : List RdmaSegment) (n : ℕ) → n ≤ chunk_total chunk → chunk_total (filled_chunk chunk n) ≡ n
+pub filled-total : (chunk : List RdmaSegment) (n : ℕ) → n ≤ chunk_total chunk → chunk_total (filled_chunk chunk n) ≡ n
 unfolding chunk_total
 filled-total [] n h = (let s : 0 ≡ n = omega (arith, h) in s)
 filled-total (s ∷ chunk) n h =
@@ -99,9 +89,9 @@ filled-total (s ∷ chunk) n h =
 
 -- ---- What an answer is made of
 
-record IsMade (prog vers proc : ℕ) (chunk : List RdmaSegment) (reply stream moved : List ℕ) : Type 0 where
-  conveys : whole (Reply prog vers proc) stream (some_bytes moved) ≡ Some reply
-  room : length moved ≤ chunk_total chunk
+pub record IsMade (prog vers proc : ℕ) (chunk : List RdmaSegment) (reply stream moved : List ℕ) : Type 0 where
+  pub conveys : whole (Reply prog vers proc) stream (some_bytes moved) ≡ Some reply
+  pub room : length moved ≤ chunk_total chunk
 
 parts-same : (p q : Parts) → (let o : Option Parts = Some p in o) ≡ Some q → p ≡ q
 parts-same p q e = cc
@@ -140,14 +130,14 @@ made-item prog vers proc chunk reply (Some i) p fits is e = by (leb i.len (chunk
         subst (λ (q : Parts). IsMade prog vers proc chunk reply q.stream q.moved) (parts-same cut p f)
         (record { conveys = made-moved prog vers proc reply i (moved_of reply i) fits is refl; room = omega (arith, len, room) })
 
-made : (prog vers proc : ℕ) (chunks : List (List RdmaSegment)) (reply : List ℕ) (p : Parts) → IsBytes reply → parts_in (Reply prog vers proc) chunks reply ≡ Some p → IsMade prog vers proc (first_chunk chunks) reply p.stream p.moved
+pub made : (prog vers proc : ℕ) (chunks : List (List RdmaSegment)) (reply : List ℕ) (p : Parts) → IsBytes reply → parts_in (Reply prog vers proc) chunks reply ≡ Some p → IsMade prog vers proc (first_chunk chunks) reply p.stream p.moved
 made prog vers proc [] reply p fits e = made-whole prog vers proc [] reply p e
 made prog vers proc ([] ∷ chunks) reply p fits e = made-whole prog vers proc [] reply p e
 made prog vers proc ((s ∷ chunk) ∷ chunks) reply p fits e = made-item prog vers proc (s ∷ chunk) reply (reducible_item (Reply prog vers proc) reply) p fits refl e
 
-record IsMadeFor (offer : ChunkLists) (prog vers proc : ℕ) (reply : List ℕ) (a : Answer) : Type 0 where
-  of : IsMade prog vers proc (first_chunk offer.write) reply a.stream a.moved
-  long : a.long ≡ true → length a.stream ≤ chunk_total (no_segments offer.reply)
+pub record IsMadeFor (offer : ChunkLists) (prog vers proc : ℕ) (reply : List ℕ) (a : Answer) : Type 0 where
+  pub of : IsMade prog vers proc (first_chunk offer.write) reply a.stream a.moved
+  pub long : a.long ≡ true → length a.stream ≤ chunk_total (no_segments offer.reply)
 
 answer-same : (a b : Answer) → (let o : Option Answer = Some a in o) ≡ Some b → a ≡ b
 answer-same a b e = cc
@@ -156,7 +146,7 @@ fits-total : (o : Option (List RdmaSegment)) (n : ℕ) → fits_reply o n ≡ tr
 fits-total None n e = absurd (let wrong : false ≡ true = e in cc)
 fits-total (Some chunk) n e = leb-true n (chunk_total chunk) e
 
-made-answer : (offer : ChunkLists) (down prog vers proc : ℕ) (reply : List ℕ) (o : Option Parts) (a : Answer) → ((p : Parts) → o ≡ Some p → IsMade prog vers proc (first_chunk offer.write) reply p.stream p.moved) → answer_with offer down o ≡ Some a
+pub made-answer : (offer : ChunkLists) (down prog vers proc : ℕ) (reply : List ℕ) (o : Option Parts) (a : Answer) → ((p : Parts) → o ≡ Some p → IsMade prog vers proc (first_chunk offer.write) reply p.stream p.moved) → answer_with offer down o ≡ Some a
     → IsMadeFor offer prog vers proc reply a
 made-answer offer down prog vers proc reply None a h e = absurd (let wrong : None ≡ Some a = e in cc)
 made-answer offer down prog vers proc reply (Some p) a h e = by (leb (answer_size offer.write + length p.stream) down) e
@@ -177,7 +167,7 @@ made-answer offer down prog vers proc reply (Some p) a h e = by (leb (answer_siz
 
 -- ---- What it brings
 
-first-filled : (chunks : List (List RdmaSegment)) (n : ℕ) → n ≤ chunk_total (first_chunk chunks) → chunk_total (first_chunk (written_chunks chunks n)) ≡ n
+pub first-filled : (chunks : List (List RdmaSegment)) (n : ℕ) → n ≤ chunk_total (first_chunk chunks) → chunk_total (first_chunk (written_chunks chunks n)) ≡ n
 first-filled [] n h = filled-total [] n h
 first-filled (chunk ∷ chunks) n h = filled-total chunk n h
 
@@ -224,20 +214,7 @@ unfolding answer_for
 conveys-for offer down prog vers proc reply a fits e =
     brings offer prog vers proc reply a (made-answer offer down prog vers proc reply (parts_in (Reply prog vers proc) offer.write reply) a (λ p is. made prog vers proc offer.write reply p fits is) e)
 
--- ---- The law
-
-conveys-by : (offer : ChunkLists) (down : ℕ) (reply : List ℕ) (o : Option CallTarget) (a : Answer) → IsBytes reply → answer_of_target offer down reply o ≡ Some a
+pub conveys-by : (offer : ChunkLists) (down : ℕ) (reply : List ℕ) (o : Option CallTarget) (a : Answer) → IsBytes reply → answer_of_target offer down reply o ≡ Some a
     → whole (replied_by o) (stream_brought offer a) (some_bytes (moved_brought offer a)) ≡ Some reply
 conveys-by offer down reply None a bytes e = conveys-for offer down 0 0 0 reply a bytes e
 conveys-by offer down reply (Some t) a bytes e = conveys-for offer down t.prog t.vers t.proc reply a bytes e
-
-pub answers_convey : AnswersConvey
-answers_convey opened link run before xid moment payload place reply answer typed served at held =
-    let mark : Mark = marks.Execute link xid moment payload place reply in
-    let k : ServerState = (server opened link before).state in
-    let x : IsExecuted opened link before xid payload = at-mark (ServedMark IsPrefixOf opened link) run before mark at.after at.is served refl in
-    let bytes : IsBytes reply = at-mark TypedMark run before mark at.after at.is typed in
-    record {
-      answered = record { answer = answer; is_held = held; due = (execute-answered opened link before xid moment payload place reply x).0 answer held };
-      conveys = conveys-by (offer_of k xid) (down_max k) reply (target_of (call_of payload)) answer bytes held;
-    }

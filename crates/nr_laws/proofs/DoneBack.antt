@@ -1,5 +1,5 @@
 -- The regions of a call that is done are closed.
-use Rattle.std.proofs.Common.{◌≡◌, ℕ, ◌+◌, ◌≤◌, ◌<◌, Bool, true, false, cond, eqb, List, [], ◌∷◌, ◌++◌, map, Option, None, Some, Result, Ok, refl, sym, ap, subst, ◌∙◌, arith, eq-eqb, zero, suc, length}
+use Rattle.std.proofs.Common.{◌≡◌, ℕ, ◌+◌, ◌≤◌, ◌<◌, Bool, true, false, cond, eqb, List, [], ◌∷◌, ◌++◌, map, Option, None, Some, Result, Ok, refl, sym, ap, subst, ◌∙◌, arith, eq-eqb, zero, suc, length, inl, inr, ◌⊎◌}
 use Rattle.std.specs.Prelude.{slice_index_or}
 use Rattle.std.specs.List.{find}
 use Rattle.nr_xdr.specs.Fields.{word_at}
@@ -12,31 +12,34 @@ use Rattle.nr_link.specs.Ending.{frame_segment}
 use Rattle.nr_reduce.specs.declared.mark.Mark.{Mark}
 use Rattle.nr_reduce.specs.declared.mark.Mark.TheVariants as marks
 use Rattle.nr_reduce.specs.declared.mark.LinkParameters.{LinkParameters}
-use Rattle.nr_reduce.specs.History.{CompletedCall}
+use Rattle.nr_reduce.specs.History.{CompletedCall, is_abandoned}
 use Rattle.nr_reduce.specs.Plans.{Buffer, buffers}
 use Rattle.nr_reduce.specs.Events.{Event, events}
 use Rattle.nr_reduce.specs.Events.Event.{FrameReceived, CallSubmitted, MemoryRevoked, CallExecuted, QueueWritten}
 use Rattle.nr_reduce.specs.EndRules.{EndState, next_end_state, next_end_state_by, next_end_state_in, end_state_after}
 use Rattle.nr_reduce.specs.OfferedRegions.{Region, until_at, closed_if, regions_closed}
-use Rattle.nr_reduce.specs.ClientState.{ClientState, OutstandingCall}
+use Rattle.nr_reduce.specs.ClientState.{ClientState, OutstandingCall, memory_at}
 use Rattle.nr_reduce.specs.Client.{client_rules, client_end, client_state_after, initial_client, outstanding_of, region_of, revoked_call, with_message, with_segment, with_hello, due_with_response}
 use Rattle.nr_reduce.specs.SubmitAnswer.{next_xid}
 use Rattle.nr_reduce.specs.Matched.{IsPrefixOf}
 use Rattle.nr_reduce.specs.Asked.{AskedMark, AskedSoFar, IsCompleted}
-use Rattle.nr_reduce.specs.Run.{client}
+use Rattle.nr_reduce.specs.Run.{client, placed_bytes}
 use Rattle.nr_reduce.proofs.Placing.{segment-accepted}
 use Rattle.nr_reduce.proofs.Steps.{end_state_after-append}
 use Rattle.nr_laws.specs.Typed.{TypedMark, IsTyped}
+use Rattle.nr_laws.specs.ClientRegions.{IsMessageOf, IsClosedForCall}
 use Rattle.nr_laws.specs.HandedBack.{Stands, DoneHandsBack}
 use Rattle.nr_laws.proofs.Along.{GoesOn, goes-first, goes-behind}
 use Rattle.nr_laws.proofs.ClientSays.{ClientGood}
 use Rattle.nr_laws.proofs.ClientRun.{client-goes}
 use Rattle.nr_laws.proofs.DoneCalls.{GivesBy, gives-by, verdict-xid}
-use Rattle.nr_laws.proofs.HandedBack.{closed_regions_stand}
+use Rattle.nr_laws.proofs.ClosedForCalls.{client_regions_close_with_calls}
+use Rattle.nr_laws.proofs.HandedBack.{closed_regions_stand, closed_regions_hold_what_stood}
 use Rattle.nr_laws.proofs.LinkInvariants.{IsUnused, AreDistinct, AreAtMost}
 use Rattle.nr_laws.proofs.OnceByXid.{at-mark, before-mark}
 use Rattle.nr_laws.proofs.Outcomes.{client_by, WasGiven, outcome-given}
 use Rattle.nr_laws.proofs.OwnXids.{OwnXids, own_xids-came, own_xids-accepts, own_xids-writes}
+use Rattle.nr_laws.proofs.RevokedEvents.{NoRevoke, no-revoke, revoke-at}
 use Rattle.nr_laws.proofs.Revoked.{frame-regions, request-regions}
 
 -- ---- The xids of outstanding calls are below the one that is given next
@@ -196,6 +199,25 @@ closed-by-outcome opened link run c typed asked w =
     subst (λ (r : EndState ClientState). HasClosedRegions opened c.xid r.state) (sym final)
     (keeps-all opened (λ (t : ClientState). HasClosedRegions opened c.xid t) (closed-event opened c.xid) w.frame.end after w.later rest.2 (subst (λ (r : EndState ClientState). HasClosedRegions opened c.xid r.state) (sym is_after) now))
 
+-- A region of a call that wasn't given up was closed by the call's message, and holds what it held at the end of that frame.
+closing-message : (opened : LinkParameters) (link : ℕ) (run : List Mark) (r : Region) (place : ℕ) → is_abandoned link r.call run ≡ false → (c : IsClosedForCall opened (events link Initiator run) r place)
+    → IsMessageOf (client_by opened c.earlier).state c.event r.call place
+closing-message opened link run r place kept c = by c.why
+  where
+    by : IsMessageOf (client_by opened c.earlier).state c.event r.call place ⊎ (c.event ≡ MemoryRevoked place r.call) → IsMessageOf (client_by opened c.earlier).state c.event r.call place
+    by (inl m) = m
+    by (inr revoked) =
+        absurd (revoke-at r.call place c.earlier c.later (subst (NoRevoke r.call) (c.is_received ∙ ap (λ (e : Event). c.earlier ++ e ∷ c.later) revoked) (no-revoke link r.call run kept)))
+
+held-at-message : (opened : LinkParameters) (link : ℕ) (run : List Mark) (r : Region) (place : ℕ) → IsTyped run → AskedSoFar opened link run → (c : IsClosedForCall opened (events link Initiator run) r place)
+    → IsMessageOf (client_by opened c.earlier).state c.event r.call place → placed_bytes opened link Initiator run r.stag ≡ memory_at (client_by opened c.earlier).state place r.stag
+held-at-message opened link run r place typed asked c m =
+    closed_regions_hold_what_stood opened link run c.earlier c.later m.frame m.segment m.message (record r { until = None }) typed asked
+    (c.is_received ∙ ap (λ (e : Event). c.earlier ++ e ∷ c.later) m.is)
+    (subst (λ (e : Event). (next_end_state (client_rules opened) (client_by opened c.earlier) e).ended ≡ None) m.is c.stays)
+    m.behind_hello m.is_segment m.whole m.own c.was_live refl
+    ∙ ap (λ (n : ℕ). memory_at (client_by opened c.earlier).state n r.stag) m.ends_there
+
 pub done_hands_back : DoneHandsBack
 done_hands_back opened link run before xid outcome r typed asked at there own =
     let mark : Mark = marks.Done link xid outcome in
@@ -204,9 +226,17 @@ done_hands_back opened link run before xid outcome r typed asked at there own =
     let all_closed = closed-by-outcome opened link before c (before-mark TypedMark run before mark at.after at.is typed) (before-mark (AskedMark IsPrefixOf opened link) run before mark at.after at.is asked)
     (outcome-given opened link before c done.is_received) in
     let closed = closed-at xid there.0 (client opened link before).state.regions r all_closed.regions there.1 there.2 own in
+    let typed_before = before-mark TypedMark run before mark at.after at.is typed in
+    let asked_before = before-mark (AskedMark IsPrefixOf opened link) run before mark at.after at.is asked in
+    let c : IsClosedForCall opened (events link Initiator before) r closed.0 = client_regions_close_with_calls opened link before r closed.0 there closed.1 in
+    let m = closing-message opened link before r closed.0 (ap (λ (n : ℕ). is_abandoned link n before) own ∙ done.awaited.kept) c in
+    let still : Stands opened link run before r = subst (λ (whole : List Mark). Stands opened link whole before r) (sym at.is)
+    (closed_regions_stand opened link before (mark ∷ at.after) r closed.0 (subst IsTyped at.is typed) (subst (λ (whole : List Mark). AskedSoFar opened link whole) at.is asked) there closed.1) in
     record {
       place = closed.0;
       closed = closed.1;
-      stands = subst (λ (whole : List Mark). Stands opened link whole before r) (sym at.is)
-          (closed_regions_stand opened link before (mark ∷ at.after) r closed.0 (subst IsTyped at.is typed) (subst (λ (whole : List Mark). AskedSoFar opened link whole) at.is asked) there closed.1);
+      closes = c;
+      message = m;
+      stood = still ∙ held-at-message opened link before r closed.0 typed_before asked_before c m;
+      stands = still;
     }

@@ -37,12 +37,14 @@ pub mod ReadyCauses
 pub mod ReadsAlong
 pub mod Beyond
 pub mod Revoked
+pub mod RevokedEvents
 pub mod Frozen
 pub mod HandedBack
 pub mod DoneBack
 pub mod SentBytes
 pub mod SubmittedSends
 pub mod ConveyingAnswers
+pub mod ReturnedWrites
 pub mod BoundedSides
 pub mod SegmentedMessages
 pub mod Replied

@@ -21,7 +21,7 @@ use Rattle.nr_reduce.specs.declared.mark.LinkParameters.{LinkParameters}
 use Rattle.nr_reduce.specs.declared.outline.Plan.{Plan}
 use Rattle.nr_reduce.specs.History.{AcceptedCall, bytes_received}
 use Rattle.nr_reduce.specs.Limits.{send_max}
-use Rattle.nr_reduce.specs.Plans.{TooLarge, Buffer, buffers, buffer_if, has_segment, write_stag, reply_stag, total, plan_of, lists_of, read_list, entries_from, regions_needed}
+use Rattle.nr_reduce.specs.Plans.{TooLarge, Buffer, buffers, buffer_if, has_segment, write_stag, reply_stag, total, plan_of, lists_of, read_list, entries_from, regions_needed, call_message}
 use Rattle.nr_reduce.specs.Chunks.{Bytes, at_position, entry_bytes, read_bytes, call_conveyed}
 use Rattle.nr_reduce.specs.Undone.{ChunkHolds}
 use Rattle.nr_reduce.specs.Events.{Event, events_at, if_own}
@@ -33,14 +33,17 @@ use Rattle.nr_reduce.specs.Client.{client_rules, client_end, client_state_after,
 use Rattle.nr_reduce.specs.Matched.{IsPrefixOf}
 use Rattle.nr_reduce.specs.Asked.{AskedMark, IsAccepted}
 use Rattle.nr_reduce.specs.Run.{client, grants_of, placed_bytes}
+use Rattle.nr_header.specs.declared.header.Header.{Header}
+use Rattle.nr_reduce.proofs.Asking.{asks}
 use Rattle.nr_reduce.proofs.OwnStags.{own-stags, kept-after, client-known}
 use Rattle.nr_reduce.proofs.Steps.{client-one}
 use Rattle.nr_laws.specs.Typed.{TypedMark}
-use Rattle.nr_laws.specs.SendsConvey.{SendsConvey}
+use Rattle.nr_laws.specs.SendsConvey.{SendsConvey, OwnSendsConvey}
 use Rattle.nr_laws.proofs.ClientMemory.{find-left, find-right, find-closed, none-from}
 use Rattle.nr_laws.proofs.ConveyedCalls.{planned-fits, plan-reads}
 use Rattle.nr_laws.proofs.ConveyedForms.{HasChunk, no-bytes, planned-chunk, plan-conveys}
 use Rattle.nr_laws.proofs.ExecutedPayloads.{planned-by}
+use Rattle.nr_laws.proofs.HeaderXid.{header-xid, call-xid}
 use Rattle.nr_laws.proofs.FetchedRegions.{IsFetched, fetched-bytes}
 use Rattle.nr_laws.proofs.OnceByXid.{at-mark}
 use Rattle.nr_laws.proofs.Revoked.{frame-regions}
@@ -171,6 +174,12 @@ chunk-holds memory stag p chunk holds = by p.read_at refl
 
 -- ---- The law
 
+abbrev made : Plan → Result Plan TooLarge
+made p = Ok p
+
+same-plan : (p q : Plan) → made p ≡ made q → p ≡ q
+same-plan p q e = (let t : Ok p ≡ Ok q = e in cc)
+
 pub sends_convey : SendsConvey
 sends_convey opened link run xid plan header typed asked has reads =
     let before : List Mark = has.before in
@@ -191,13 +200,23 @@ sends_convey opened link run xid plan header typed asked has reads =
     (offers-from opened link k.stag plan.region (before ++ submit ∷ []) has.at.after (submit-offers opened link before xid has.call has.form plan accepted.stays has.planned some))) in
     let holds = chunk-holds memory k.stag plan (planned-chunk payload has.form send_max send_max plan planned) offered in
     record {
+      own = header-xid (call_message xid opened.wished k.stag plan) header reads ∙ call-xid xid opened.wished k.stag plan accepted.xids;
       lists = r.lists;
       conveys = (λ i. call_conveyed (r.inline i) (r.lists i).read (read_bytes memory (r.lists i).read))
           ∙ plan-conveys payload has.form send_max k.stag plan (read_bytes memory (lists_of k.stag plan).read) fine.0 fine.1 planned stags holds;
     }
-  where
-    made : Plan → Result Plan TooLarge
-    made p = Ok p
 
-    same-plan : (p q : Plan) → made p ≡ made q → p ≡ q
-    same-plan p q e = (let t : Ok p ≡ Ok q = e in cc)
+pub own_sends_convey : OwnSendsConvey
+own_sends_convey opened link run xid plan fits typed asked has own =
+    let before : List Mark = has.before in
+    let k : ClientState = (client opened link before).state in
+    let submit : Mark = marks.Submit link has.call has.form (submissions.Accepted xid) in
+    let accepted : IsAccepted opened link before has.call has.form xid = at-mark (AskedMark IsPrefixOf opened link) run before submit has.at.after has.at.is asked refl in
+    let fine = at-mark TypedMark run before submit has.at.after has.at.is typed in
+    let same : accepted.plan ≡ plan = same-plan accepted.plan plan (sym accepted.planned ∙ has.planned) in
+    let stags : k.stag + regions_needed plan ≤ 2 ^ 32 = subst (λ (p : Plan). k.stag + regions_needed p ≤ 2 ^ 32) same accepted.stags in
+    let planned : plan_of (call_payload xid has.call) has.form send_max send_max ≡ Ok plan = planned-by opened link before xid has.call has.form plan has.planned in
+    let wished = fits.wished_fits in
+    let m = asks (call_payload xid has.call) has.form send_max send_max xid opened.wished k.stag plan fine.0 own planned accepted.xids (omega (arith, wished)) stags in
+    let header : Header = record { xid = xid; credit = opened.wished; body = m.body } in
+    record { header = header; reads = m.reads; conveys = sends_convey opened link run xid plan header typed asked has m.reads }

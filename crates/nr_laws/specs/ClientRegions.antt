@@ -12,7 +12,7 @@ use Rattle.nr_reduce.specs.Events.{Event, events}
 use Rattle.nr_reduce.specs.Events.Event.{FrameReceived, CallSubmitted, MemoryRevoked}
 use Rattle.nr_reduce.specs.History.{AcceptedCall}
 use Rattle.nr_reduce.specs.Plans.{buffers}
-use Rattle.nr_reduce.specs.EndRules.{EndState, end_state_after}
+use Rattle.nr_reduce.specs.EndRules.{EndState, next_end_state, end_state_after}
 use Rattle.nr_reduce.specs.OfferedRegions.{Region}
 use Rattle.nr_reduce.specs.Client.{client_rules, initial_client, outstanding_of, region_of}
 use Rattle.nr_reduce.specs.ClientState.{ClientState, OutstandingCall}
@@ -58,12 +58,14 @@ pub record IsMessageOf (k : ClientState) (event : Event) (xid place : ℕ) : Typ
   pub own : word_at 0 message ≡ xid
   pub ends_there : frame.end ≡ place
 
--- A region of a client that was live before an event is closed by it: the event is the message of its call, or its memory is taken back.
+-- A region of a client that was live before an event is closed by it: the event doesn't end the client, and is the message of its call, or its memory
+-- is taken back.
 pub record IsClosedForCall (opened : LinkParameters) (received : List Event) (r : Region) (place : ℕ) : Type 0 where
   pub earlier : List Event
   pub later : List Event
   pub event : Event
   pub is_received : received ≡ earlier ++ event ∷ later
+  pub stays : (next_end_state (client_rules opened) (end_state_after (client_rules opened) (initial_client opened) earlier) event).ended ≡ None
   pub was_live : Contains (end_state_after (client_rules opened) (initial_client opened) earlier).state.regions (record r { until = None })
   pub why : IsMessageOf (end_state_after (client_rules opened) (initial_client opened) earlier).state event r.call place ⊎ (event ≡ MemoryRevoked place r.call)
 

@@ -20,6 +20,7 @@ use Rattle.nr_reduce.specs.ClientState.{ClientState, memory_at}
 use Rattle.nr_reduce.specs.Client.{client_rules, initial_client}
 use Rattle.nr_reduce.specs.Asked.{AskedSoFar}
 use Rattle.nr_reduce.specs.Run.{client, end_of_side, placed_bytes}
+use Rattle.nr_laws.specs.ClientRegions.{IsMessageOf, IsClosedForCall}
 use Rattle.nr_laws.specs.MarkAt.{MarkAt}
 use Rattle.nr_laws.specs.Typed.{IsTyped}
 
@@ -47,13 +48,17 @@ ClosedRegionsHoldWhatStood = (opened : LinkParameters) (link : ℕ) (run : List 
     message_completed before.state.received segment ≡ Some message → word_at 0 message ≡ r.call → Contains before.state.regions r → r.until ≡ None →
     placed_bytes opened link Initiator run r.stag ≡ memory_at before.state frame.end r.stag)
 
--- a region is closed, and holds the same after a longer run
+-- A region is closed by the message of its call, holds after a longer run what it held at the end of the frame that completed the message, and
+-- the same as after the first marks of that run.
 pub record IsHandedBack (opened : LinkParameters) (link : ℕ) (run before : List Mark) (r : Region) : Type 0 where
   pub place : ℕ
   pub closed : r.until ≡ Some place
+  pub closes : IsClosedForCall opened (events link Initiator before) r place
+  pub message : IsMessageOf (end_state_after (client_rules opened) (initial_client opened) closes.earlier).state closes.event r.call place
+  pub stood : placed_bytes opened link Initiator run r.stag ≡ memory_at (end_state_after (client_rules opened) (initial_client opened) closes.earlier).state place r.stag
   pub stands : Stands opened link run before r
 
--- So what a Done hands back is what stands: each region of its call is closed by then, and nothing changes it.
+-- So what a Done hands back is what was placed by the end of that frame: each region of its call is closed by then, and nothing changes it.
 abbrev pub DoneHandsBack : Type 0
 DoneHandsBack = (opened : LinkParameters) (link : ℕ) (run before : List Mark) (xid : ℕ) (outcome : Outcome) (r : Region) → IsTyped run → AskedSoFar opened link run →
     MarkAt run before (marks.Done link xid outcome) → Contains (client opened link before).state.regions r → r.call ≡ xid → IsHandedBack opened link run before r

@@ -1,7 +1,7 @@
 //! With which payloads calls are executed.
 
 ghost use Rattle.nr_laws.specs.AnswersConvey.{AnswersConvey};
-ghost use Rattle.nr_laws.specs.SendsConvey.{SendsConvey};
+ghost use Rattle.nr_laws.specs.SendsConvey.{SendsConvey, OwnSendsConvey};
 ghost use Rattle.nr_laws.specs.MessageSegments.{SendIsItsSegments, SegmentsReadBack, MessageIsReceived, MessagesAreReceived, SegmentsBreakNoRule};
 ghost use Rattle.nr_laws.specs.Payloads.{ExecutesHavePlans, PayloadsAreOwn};
 
@@ -12,10 +12,12 @@ pub fn executed_payloads()
     ensures own { PayloadsAreOwn }
 {}
 
-/// On every link, whatever the server sends, the Send of an accepted call whose header can be read (RFC 8166 section 4) conveys what the call's form
-/// conveys of its payload: by its stream and the regions that its client offers to be read.
+/// On every link, whatever the server sends, the Send of an accepted call whose header can be read (RFC 8166 section 4) is read under the call's xid,
+/// and conveys what the call's form conveys of its payload: by its stream and the regions that its client offers to be read. The header can be read
+/// unless the call's offer is given.
 pub fn sends_convey()
-    ensures { SendsConvey }
+    ensures read { SendsConvey }
+    ensures own { OwnSendsConvey }
 {}
 
 /// On every link, whatever the client offered, the answer of an executed call conveys the call's reply: by its inline stream and the payloads of its

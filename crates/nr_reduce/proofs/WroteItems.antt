@@ -22,7 +22,7 @@ use Rattle.nr_reduce.proofs.Steps.{events-one}
 use Rattle.nr_reduce.proofs.Standing.{itself, sent-one}
 
 module _ {S A : Type 0} (rules : Rules S) (at_event : S → Event → List A) (at_end : End → List A) where
-  due-append : (r : EndState S) (es fs : List Event) → due_for_all rules at_event at_end r (es ++ fs) ≡ due_for_all rules at_event at_end r es ++ due_for_all rules at_event at_end (end_state_after rules r es) fs
+  pub due-append : (r : EndState S) (es fs : List Event) → due_for_all rules at_event at_end r (es ++ fs) ≡ due_for_all rules at_event at_end r es ++ due_for_all rules at_event at_end (end_state_after rules r es) fs
   due-append r [] fs = refl
   due-append r (e ∷ es) fs =
       ap (λ (xs : List A). due_for rules at_event at_end r e ++ xs) (due-append (next_end_state rules r e) es fs)
