@@ -166,7 +166,7 @@ verdict-same : (v : CallVerdict) (s : FrameEffect) → ((with_verdict v s).calls
 verdict-same (Refuses reason) s = (refl, refl)
 verdict-same (IsReady r) s = (refl, refl)
 
-whole-same : (k : ServerState) (place : ℕ) (c : PendingCall) (s : FrameEffect) → ((ready_if_whole k place c s).calls ≡ s.calls) × ((ready_if_whole k place c s).errors ≡ s.errors)
+pub whole-same : (k : ServerState) (place : ℕ) (c : PendingCall) (s : FrameEffect) → ((ready_if_whole k place c s).calls ≡ s.calls) × ((ready_if_whole k place c s).errors ≡ s.errors)
 whole-same k place c s = by (is_read s.reads c.number)
   where
     by : (b : Bool) → ((cond b (with_verdict (by_payload c (payload_of k place c)) s) s).calls ≡ s.calls) × ((cond b (with_verdict (by_payload c (payload_of k place c)) s) s).errors ≡ s.errors)
@@ -174,7 +174,7 @@ whole-same k place c s = by (is_read s.reads c.number)
     by false = (refl, refl)
 
 -- the pending calls and error messages of an effect
-abbrev uses : FrameEffect → ℕ
+abbrev pub uses : FrameEffect → ℕ
 uses e = length e.calls + length e.errors
 
 message-uses : (k : ServerState) (place : ℕ) (message : List ℕ) (v : Verdict) → uses (message_effect k place message v) ≤ length k.calls + 1
@@ -251,7 +251,7 @@ receive-left k granted msn r own free none not_begun = by (ltb (receives_in_use 
     by true is = ltb-true (receives_in_use k) granted is
     by false is = (let p : r.has_receive ≡ false = free ∙ is in absurd (fails (sym (λ i. without (not_begun i || p i)) ∙ passed)))
 
-found-number : (n : ℕ) (calls : List PendingCall) (c : PendingCall) → find (λ c. eqb c.number n) calls ≡ Some c → c.number ≡ n
+pub found-number : (n : ℕ) (calls : List PendingCall) (c : PendingCall) → find (λ c. eqb c.number n) calls ≡ Some c → c.number ≡ n
 found-number n [] c e = absurd (let wrong : None ≡ Some c = e in cc)
 found-number n (x ∷ calls) c e = by (eqb x.number n) refl e (λ h. found-number n calls c h)
   where
@@ -366,7 +366,7 @@ unfolding receives_in_use server_state_after
 written-receives granted opened k taken h = (let less = waiting-later k.written taken k.message_ends in omega (arith, less, h))
 
 -- a frame that is no segment ends the server
-wrong-frame : (opened : LinkParameters) (k : ServerState) (f : Frame) (reason : ℕ) → is_hello f ≡ false → frame_segment f ≡ Err reason → server_end opened k (FrameReceived f) ≡ None → ⊥
+pub wrong-frame : (opened : LinkParameters) (k : ServerState) (f : Frame) (reason : ℕ) → is_hello f ≡ false → frame_segment f ≡ Err reason → server_end opened k (FrameReceived f) ≡ None → ⊥
 unfolding server_end frame_end
 wrong-frame opened k f reason behind is e =
     let ends : or_refusal k f (frame_end_by (readiness opened k) (region_grants f.end k.regions) f (frame_segment f)) ≡ None =

@@ -10,11 +10,11 @@ use Rattle.nr_link.specs.declared.end.End.TheVariants as ends
 use Rattle.nr_link.specs.Frames.{Frame, is_hello}
 use Rattle.nr_link.specs.Ending.{frame_segment, frame_end, frame_end_by, hello_end, rejection}
 use Rattle.nr_link.specs.Output.{own_hello, refusing_hello}
-use Rattle.nr_link.specs.OutputItem.{OutputItem, items_encoding, is_send_item, item_ends}
+use Rattle.nr_link.specs.OutputItem.{OutputItem, items_encoding, is_send_item, item_ends, items_written}
 use Rattle.nr_link.specs.OutputItem.OutputItem.{LastItem}
 use Rattle.nr_reduce.specs.declared.mark.LinkParameters.{LinkParameters}
 use Rattle.nr_reduce.specs.History.{bytes_sent}
-use Rattle.nr_reduce.specs.Written.{ends_waiting}
+use Rattle.nr_reduce.specs.Written.{ends_left, ends_waiting}
 use Rattle.nr_reduce.specs.OfferedRegions.{region_grants}
 use Rattle.nr_reduce.specs.Events.{Event, events}
 use Rattle.nr_reduce.specs.Events.Event.{FrameReceived, CallSubmitted, MemoryRevoked, CallExecuted, QueueWritten}
@@ -25,8 +25,11 @@ use Rattle.nr_reduce.specs.Run.{server, output_due}
 use Rattle.nr_reduce.specs.DueItems.{server_items_at, server_hello_at, due_for_by, due_for_in, due_for, due_for_all, items_due, hello_due}
 use Rattle.nr_reduce.proofs.Steps.{ended-stays}
 use Rattle.nr_reduce.proofs.CountedBytes.{some-none, server_bytes_written}
-use Rattle.nr_reduce.proofs.OutputItems.{encoding-append, ends-append, waiting-items}
+use Rattle.nr_reduce.proofs.OutputItems.{encoding-append, ends-append, left-items, waiting-items}
 use Rattle.nr_reduce.proofs.ServerItems.{server-encoded, server-last, server-sends, server-more}
+use Rattle.nr_reduce.specs.declared.mark.Mark.{Mark}
+use Rattle.nr_reduce.specs.Served.{ServedSoFar}
+use Rattle.nr_laws.specs.Typed.{IsTyped}
 use Rattle.nr_laws.specs.ServerItems.{ServerOutputIsItems, ServerCountsItems}
 use Rattle.nr_laws.proofs.Along.{IsNext, GoesOn, place_after}
 use Rattle.nr_laws.proofs.ServerAlong.{ServerPlain}
@@ -264,3 +267,14 @@ server_counts-items opened link run typed served stays =
     let written = server_bytes_written opened link run stays in
     (λ i. ends_waiting (written i) (kept i))
     ∙ waiting-items is_send_item (length (hellos_of opened (initial_server opened) es)) (length (bytes_sent link Responder run)) (items_of opened (initial_server opened) es)
+
+pub server_written-items : (opened : LinkParameters) (link : ℕ) (run : List Mark) → IsTyped run → ServedSoFar opened link run → (server opened link run).ended ≡ None
+    → ends_left (server opened link run).state.written (server opened link run).state.message_ends
+    ≡ items_written is_send_item (length (hello_due opened link Responder run)) (length (bytes_sent link Responder run)) (items_due opened link Responder run)
+unfolding server items_due hello_due
+server_written-items opened link run typed served stays =
+    let es = events link Responder run in
+    let kept = start-ends opened (initial_server opened).state es (server-goes opened link run typed served).goes refl refl refl stays in
+    let written = server_bytes_written opened link run stays in
+    (λ i. ends_left (written i) (kept i))
+    ∙ left-items is_send_item (length (hellos_of opened (initial_server opened) es)) (length (bytes_sent link Responder run)) (items_of opened (initial_server opened) es)

@@ -193,3 +193,4 @@ pub mod AddedRegions
 pub mod SubmittedCalls
 pub mod ClosedForCalls
 pub mod ItemsOfServer
+pub mod CountedReceives
