@@ -7,7 +7,7 @@ function that its lib.rt makes public, and each public method; and "Stands on" h
 benchmarks have a heading each in tests.md and benches.md. Each name in backticks on any page has to be there: a word of
 the code (on a crate's page of that crate, of those that it stands on or that stand on it), a file, a crate, a script.
 Lines have at most 160 characters, prose 120, table cells 40 words; links lead to a file; the words of CONTRIBUTING's
-house list stand in no prose.
+house list stand in no prose. WIRE.md has a row for each reason and each other word of a Terminate.
 Exit status: 0, or 1 with a line for each difference."""
 import argparse
 import glob
@@ -199,6 +199,19 @@ def check_form(page: str, text: str) -> list[str]:
     return out
 
 
+def check_reasons(crates: list[str]) -> list[str]:
+    """Each reason and each other word of a Terminate that the code or a definition has is a row of WIRE.md, and no other."""
+    given: set[int] = set()
+    for crate in crates:
+        for path in sources(crate, ('src', 'specs')):
+            given |= {int(n) for n in re.findall(r'\b(?:REASON_\w+|NO_BUFFER_WORD)(?:: u32)? = (\d+)', read(path))}
+            given |= {int(n) for n in re.findall(r'\bdenied_word \w+ = (\d+)', read(path))}
+    table = read(os.path.join(ROOT, 'docs', 'WIRE.md')).split('| number | given for |', 1)[-1].split('\n\n', 1)[0]
+    rows = {int(n) for n in re.findall(r'^\| (\d+) \|', table, re.M)}
+    out = ['docs/WIRE.md: no row of the reason or word %d' % n for n in sorted(given - rows)]
+    return out + ['docs/WIRE.md: the number %d is no reason or word' % n for n in sorted(rows - given)]
+
+
 def check_crates(crates: list[str]) -> list[str]:
     out: list[str] = []
     shared = {'_tests': 'tests.md', '_bench': 'benches.md'}
@@ -232,7 +245,7 @@ def main(argv: list[str]) -> int:
     words = vocabularies(crates)
     pages = ['README.md', 'CONTRIBUTING.md', 'conformance/README.md']
     pages += [os.path.relpath(x, ROOT) for x in sorted(glob.glob(os.path.join(ROOT, 'docs', '**', '*.md'), recursive=True))]
-    wrong = check_crates(crates)
+    wrong = check_crates(crates) + check_reasons(crates)
     for page in pages:
         text = read(os.path.join(ROOT, page))
         name = os.path.splitext(os.path.basename(page))[0] if page.startswith('docs/crates/') else ''
