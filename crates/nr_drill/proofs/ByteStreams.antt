@@ -1,11 +1,8 @@
 -- What ends write are bytes, if what it carries is.
-use Rattle.std.specs.Prelude.{◌≡◌, ◌&&◌, ℕ, zero, suc, ◌+◌, ◌*◌, ◌<◌, ◌==◌, nat_lt, Bool, true, false, List, [], ◌∷◌, ◌++◌, length, replicate, drop, Option, None, Some}
-use Rattle.std.specs.List.{AllByRecursion, flat_map, range_with_len, list_all}
-use Rattle.std.specs.Int.{byte_at, bytes_high_first}
-use Rattle.std.proofs.Common.{refl, ltb, cond, ltb-true, arith}
-use Rattle.nr_xdr.specs.Item.{Item, IsBytes, bit, word, hyper, pad_len, encoding}
-use Rattle.nr_xdr.specs.Item.Item.{Unsigned, Hyper, Boolean, Opaque, Fixed}
-use Rattle.nr_xdr.specs.Items.{encodings}
+use Rattle.std.specs.Prelude.{ℕ, ◌+◌, ◌*◌, ◌<◌, ◌==◌, Bool, true, false, List, [], ◌∷◌, ◌++◌, replicate, drop, Option, None, Some}
+use Rattle.std.specs.List.{range_with_len}
+use Rattle.std.proofs.Common.{refl, ltb, cond, arith}
+use Rattle.nr_xdr.specs.Item.{Item, IsBytes, bit, word, hyper}
 use Rattle.nr_xdr.proofs.WordBytes.{IsBytes-take, IsBytes-drop}
 use Rattle.nr_wire.specs.declared.hello.Side.{Side}
 use Rattle.nr_wire.specs.declared.hello.Side.TheVariants.{Initiator, Responder}
@@ -29,33 +26,9 @@ use Rattle.nr_header.specs.Header.{read_items, segments_items, write_items, repl
 use Rattle.nr_laws.proofs.Bytes.{bytes_both}
 use Rattle.nr_laws.proofs.CallTargets.{bytes-zeros}
 use Rattle.nr_laws.proofs.WrittenBytes.{word-bytes}
-use Rattle.nr_script.proofs.ByteLists.{no-bytes, bytes-more, hyper-bytes, half-bytes, decided, flat-bytes}
+use Rattle.nr_script.proofs.ByteLists.{no-bytes, bytes-more, hyper-bytes, half-bytes, decided, flat-bytes, AreOfBytes, items-bytes}
 
 -- ===== items
-
--- an item whose data are bytes
-abbrev pub OfBytes : Item → Type 0
-OfBytes (Unsigned n) = Unit {0}
-OfBytes (Hyper n) = Unit {0}
-OfBytes (Boolean b) = Unit {0}
-OfBytes (Opaque bytes) = IsBytes bytes
-OfBytes (Fixed bytes) = IsBytes bytes
-
-abbrev pub AreOfBytes : List Item → Type 0
-AreOfBytes items = AllByRecursion OfBytes items
-
-item-bytes : (item : Item) → OfBytes item → IsBytes (encoding item)
-item-bytes (Unsigned n) h = word-bytes n
-item-bytes (Hyper n) h = hyper-bytes n
-item-bytes (Boolean b) h = word-bytes _
-item-bytes (Opaque bytes) h =
-    bytes_both (word (length bytes)) (bytes ++ replicate (pad_len (length bytes)) 0) (word-bytes (length bytes))
-    (bytes_both bytes (replicate (pad_len (length bytes)) 0) h (bytes-zeros (pad_len (length bytes))))
-item-bytes (Fixed bytes) h = bytes_both bytes (replicate (pad_len (length bytes)) 0) h (bytes-zeros (pad_len (length bytes)))
-
-pub items-bytes : (items : List Item) → AreOfBytes items → IsBytes (encodings items)
-items-bytes [] h = no-bytes
-items-bytes (item ∷ items) h = bytes_both (encoding item) (encodings items) (item-bytes item h.0) (items-bytes items h.1)
 
 read-of : (rs : List ReadSegment) (more : List Item) → AreOfBytes more → AreOfBytes (read_items rs more)
 read-of [] more h = (tt, h)

@@ -1,8 +1,8 @@
 -- What steps of a drain write down are of their types, if the server replies in bytes.
-use Rattle.std.specs.Prelude.{◌-◌, slice_get, take, drop}
-use Rattle.std.proofs.Common.{◌≡◌, ◌≢◌, ℕ, zero, suc, Bool, true, false, List, [], ◌∷◌, ◌++◌, length, Option, None, Some, refl, sym, ap, subst, ◌∙◌}
+use Rattle.std.specs.Prelude.{slice_get, take, drop}
+use Rattle.std.proofs.Common.{◌≡◌, ℕ, zero, suc, Bool, true, false, List, [], ◌∷◌, ◌++◌, length, Option, None, Some, refl, sym, ap, subst}
 use Rattle.nr_xdr.specs.Item.{IsBytes}
-use Rattle.nr_xdr.proofs.WordBytes.{IsBytes-take, IsBytes-drop}
+use Rattle.nr_xdr.proofs.WordBytes.{IsBytes-take}
 use Rattle.nr_xdr.proofs.Chains.{IsBytes-right}
 use Rattle.nr_wire.specs.declared.hello.Side.{Side}
 use Rattle.nr_wire.specs.declared.hello.Side.TheVariants.{Initiator, Responder}
@@ -15,10 +15,9 @@ use Rattle.nr_reduce.specs.OutcomesDue.{outcomes_due}
 use Rattle.nr_reduce.specs.PlainJournal.{journal}
 use Rattle.nr_laws.specs.Typed.{TypedMark, IsTyped}
 use Rattle.nr_script.proofs.ByteLists.{no-bytes}
-use Rattle.nr_drill.specs.Drill.{Setting, Drill, Pipes, empty_pipes, pipes_of, plain_of, now, with_mark, unwritten, after_output, after_all_output, settled, after_feeding, after_feeding_up, after_feeding_down, after_up, after_down, after_handing, after_done, after_dones, after_outcomes, if_standing, waiting_call, after_answer, after_execution, after_work}
-use Rattle.nr_drill.specs.WorkLeft.{DrainStep, after_step}
+use Rattle.nr_drill.specs.Drill.{Setting, Drill, Pipes, pipes_of, plain_of, now, with_mark, unwritten, after_output, after_all_output, settled, after_feeding, after_feeding_up, after_feeding_down, after_up, after_down, after_handing, after_done, after_dones, after_outcomes, waiting_call, after_answer, after_execution, after_work}
 use Rattle.nr_drill.specs.WorkLeft.DrainStep.{AllUp, Work, AllDown}
-use Rattle.nr_drill.specs.Drains.{IsRunning, StepsKeepTypes, AnswersInBytes}
+use Rattle.nr_drill.specs.Drains.{StepsKeepTypes, AnswersInBytes}
 use Rattle.nr_drill.proofs.ByteClients.{client-due}
 use Rattle.nr_drill.proofs.ByteServers.{server-due}
 

@@ -1,12 +1,11 @@
 -- A script has one run at most.
-use Rattle.std.proofs.Common.{◌≡◌, ℕ, zero, suc, Bool, true, false, List, [], ◌∷◌, refl, sym, ap, ◌∙◌, subst}
-use Rattle.std.specs.List.{list_all}
+use Rattle.std.proofs.Common.{◌≡◌, ℕ, zero, suc, List, [], ◌∷◌, sym, ap, ◌∙◌, subst}
 use Rattle.nr_reduce.specs.declared.mark.Mark.{Mark}
 use Rattle.nr_script.specs.declared.script.Line.{Line}
 use Rattle.nr_script.specs.declared.script.Line.TheVariants as lines
 use Rattle.nr_script.specs.Script.{ScriptLines}
 use Rattle.nr_drill.specs.Drill.{SerialServer, Setting, Drill, links_of, after_round}
-use Rattle.nr_drill.specs.Follows.{Drains, Makes, MakeAll, Follows, is_still, setting_of, opened_drill}
+use Rattle.nr_drill.specs.Follows.{Drains, Makes, MakeAll, Follows, setting_of, opened_drill}
 
 drains-once : (s : Setting) (links : List ℕ) (n m : ℕ) (old one two : Drill) → Drains s links n old one → Drains s links m old two → one ≡ two
 drains-once s links zero zero old one two h g = h.1 ∙ sym g.1

@@ -9,6 +9,7 @@ use Rattle.nr_laws.specs.Typed.{IsTyped}
 use Rattle.nr_laws.proofs.Touched.{client_touched, server_touched}
 use Rattle.nr_laws.proofs.Frozen.{revoke_stands}
 use Rattle.nr_laws.proofs.SinkRegions.{server_refuses_requests}
+use Rattle.nr_laws.proofs.AllowedBytes.{client_bytes_are_allowed, server_bytes_are_allowed}
 use Rattle.nr_laws.proofs.SentBytes.{sent_bytes_are_allowed}
 use Rattle.nr_drill.specs.Memory.{KeepsMemory}
 
@@ -19,6 +20,8 @@ keeps-memory opened link run typed asked =
       client_touched = client_touched opened link run;
       server_touched = server_touched opened link run;
       server_read = server_refuses_requests opened link run;
+      client_holds = client_bytes_are_allowed opened link run;
+      server_holds = server_bytes_are_allowed opened link run;
       disclosed = λ offset byte is. sent_bytes_are_allowed opened link run offset byte sofar is;
       revoked = λ before xid bytes at. revoke_stands opened link run before xid bytes typed sofar at;
     }

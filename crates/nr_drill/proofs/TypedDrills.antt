@@ -44,7 +44,7 @@ use Rattle.nr_drill.specs.Drill.{SerialServer, Setting, Drill, Pipes, plain_of, 
 use Rattle.nr_drill.specs.Follows.{after_line, Drains, Makes, MakeAll, Follows, setting_of, opened_drill}
 use Rattle.nr_drill.specs.InBytes.{RepliedMark, RepliedInBytes, RepliesInBytes}
 use Rattle.nr_script.proofs.ByteLists.{no-bytes}
-use Rattle.nr_drill.proofs.ByteStreams.{AreOfBytes, items-bytes}
+use Rattle.nr_script.proofs.ByteLists.{AreOfBytes, items-bytes}
 use Rattle.nr_drill.proofs.ByteClients.{client-due}
 use Rattle.nr_drill.proofs.ByteServers.{ReadyOfBytes, server-due, ready-bytes}
 

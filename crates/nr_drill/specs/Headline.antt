@@ -119,7 +119,7 @@ PlacesRise link other_link run = (before between before_first before_second : Li
 abbrev pub IsLink : ScriptLines → ℕ → Type 0
 IsLink script link = (1 ≤ link) × (link ≤ script.opening.clients)
 
--- The run of a drill. `opened` tells what the ends of a link were opened with.
+-- What is promised of the run of a drill. The ends of each link are opened with what the first line of the script says.
 pub record IsDrillRun (server : SerialServer) (script : ScriptLines) (run : List Mark) : Type 0 where
   pub follows : Follows server script run
   pub typed : IsTyped run

@@ -1,5 +1,5 @@
 -- The laws of drills.
-use Rattle.std.specs.Prelude.{◌≡◌, ℕ, List, length, Some}
+use Rattle.std.specs.Prelude.{◌≡◌, List, length}
 use Rattle.nr_tree.specs.Tree.{Tree}
 use Rattle.nr_tree.specs.Sane.{IsSane}
 use Rattle.nr_reduce.specs.declared.mark.Mark.{Mark}

@@ -5,7 +5,7 @@ use Rattle.std.specs.Int.{byte_at, bytes_high_first}
 use Rattle.std.proofs.Common.{refl, ltb, ltb-true, get_or, subst, inl, inr, arith}
 use Rattle.std.proofs.lemmas.Bool.{cases_lt}
 use Rattle.std.proofs.lemmas.List.{get_or-append-add, get_or_append_left}
-use Rattle.nr_xdr.specs.Item.{Item, IsBytes, word, hyper, bit, pad_len, encoding}
+use Rattle.nr_xdr.specs.Item.{Item, IsBytes, word, hyper, pad_len, encoding}
 use Rattle.nr_xdr.specs.Item.Item.{Unsigned, Hyper, Boolean, Opaque, Fixed}
 use Rattle.nr_xdr.specs.Items.{encodings}
 use Rattle.nr_wire.specs.Fields.{half_word}

@@ -1,18 +1,18 @@
 -- A script that is made from a seed is a script.
-use Rattle.std.specs.Prelude.{◌%◌, ◌&&◌, replicate}
+use Rattle.std.specs.Prelude.{◌%◌, ◌&&◌}
 use Rattle.std.specs.List.{AllByRecursion, range_with_len}
-use Rattle.std.proofs.Common.{◌≡◌, ℕ, zero, suc, ◌+◌, ◌^◌, ◌≤◌, ◌<◌, Bool, true, false, cond, eqb, leb, List, [], ◌∷◌, ◌++◌, length, map, refl, arith}
+use Rattle.std.proofs.Common.{◌≡◌, ℕ, zero, suc, ◌+◌, ◌^◌, ◌≤◌, ◌<◌, Bool, true, false, cond, eqb, leb, List, [], ◌∷◌, ◌++◌, map, refl, arith}
 use Rattle.std.proofs.lemmas.Bool.{le-leb}
 use Rattle.std.proofs.lemmas.Nat.{mod_below}
-use Rattle.nr_xdr.specs.Item.{Item, IsBytes, bit, word, hyper, pad_len, encoding}
-use Rattle.nr_xdr.specs.Item.Item.{Unsigned, Hyper, Boolean, Opaque, Fixed}
+use Rattle.nr_xdr.specs.Item.{IsBytes, hyper}
+use Rattle.nr_xdr.specs.Item.Item.{Unsigned, Hyper, Opaque}
 use Rattle.nr_xdr.specs.Items.{encodings}
 use Rattle.nr_script.specs.declared.script.Opening.{Opening}
 use Rattle.nr_script.specs.declared.script.Line.{Line}
 use Rattle.nr_script.specs.Limits.{most_clients, default_capacity}
 use Rattle.nr_script.specs.Script.{may_follow, is_client, FollowOn, HasWritableCred, IsTypedLine, IsScript}
-use Rattle.nr_script.specs.Generator.{next, drawn, below, file_args, read_args, written_bytes, file_sync, write_head, write_args, readdir_args, proc_drawn, args_drawn, after_args, move_lines, after_move, call_line, turn_lines, drawn_turn, after_drawn_turn, drawn_lines, drawn_credits, made_script}
-use Rattle.nr_script.proofs.ByteLists.{no-bytes, bytes-more, bytes_both, zeros-bytes, word-bytes, hyper-bytes, items-bytes}
+use Rattle.nr_script.specs.Generator.{next, drawn, below, file_args, read_args, written_bytes, file_sync, write_head, write_args, readdir_args, proc_drawn, args_drawn, after_args, move_lines, call_line, turn_lines, drawn_turn, after_drawn_turn, drawn_lines, drawn_credits, made_script}
+use Rattle.nr_script.proofs.ByteLists.{no-bytes, bytes-more, bytes_both, hyper-bytes, items-bytes}
 
 each-append : {X : Type 0} (P : X → Type 0) (xs ys : List X) → AllByRecursion P xs → AllByRecursion P ys → AllByRecursion P (xs ++ ys)
 each-append P [] ys h k = k

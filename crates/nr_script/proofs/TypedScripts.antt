@@ -15,7 +15,7 @@ use Rattle.nr_script.specs.declared.script.Opening.{Opening}
 use Rattle.nr_script.specs.declared.script.Line.{Line}
 use Rattle.nr_script.specs.declared.script.Line.TheVariants as lines
 use Rattle.nr_script.specs.declared.program.Program.{Program}
-use Rattle.nr_script.specs.Limits.{most_clients, most_number, most_capacity, default_capacity}
+use Rattle.nr_script.specs.Limits.{most_clients, most_number, most_capacity}
 use Rattle.nr_script.specs.Words.{◌>>=◌, is_numeral, numeral_value, number_within, number_in, decoded, bytes_in, arguments_in, parts}
 use Rattle.nr_script.specs.Forms.{OfferPart, semicolon, equals, at_sign, dot, lengths_in, write_lengths_in, position_by, read_part, write_part, reply_part, named_part, part_by, part_in, nothing_offered, with_part, offer_by, offer_in, given, given_form, form_in, numbered_program, program_in}
 use Rattle.nr_script.specs.Forms.OfferPart.{Read, Write, Reply}

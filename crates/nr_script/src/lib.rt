@@ -13,5 +13,5 @@ mod words;
 pub use generator::make_script;
 pub use lines::{DEFAULT_CAPACITY, MOST_CAPACITY, MOST_CLIENTS, MOST_CREDITS};
 pub use reading::{SCRIPT_MAX, read_script};
-pub use script::{Line, Lines, Opening, Script, ScriptFault};
+pub use script::{Line, Opening, Script, ScriptFault};
 pub use words::MOST_NUMBER;

@@ -4,7 +4,7 @@ ghost use Rattle.std.specs.Prelude.{◌≡◌, ◌≤◌, List};
 ghost use Rattle.nr_script.specs.Limits.{most_clients};
 ghost use Rattle.nr_script.specs.Script.{ScriptLines, IsScript};
 
-use nr_reduce::{Form, Sequence};
+use nr_reduce::Form;
 use nr_rpc::Cred;
 use nr_wire::Side;
 use nr_xdr::{Memory, Octets};
@@ -77,9 +77,6 @@ pub enum Line {
     /// All bytes go up, all calls are executed, all bytes go down, link after link, until nothing moves.
     Drain,
 }
-
-/// Lines in the order of the script.
-pub type Lines = Sequence<Line>;
 
 /// Why a text is no script.
 #[derive(Clone, Copy, Debug, PartialEq, Eq)]

@@ -1,4 +1,4 @@
-use Rattle.std.proofs.Common.{◌≡◌, ◌<◌, ◌^◌, ◌+◌, length, sym, ap, ◌∙◌, arith}
+use Rattle.std.proofs.Common.{◌<◌, ◌^◌, ◌+◌, length, sym, ap, ◌∙◌, arith}
 use Rattle.nr_script.specs.Script.{seconds_in}
 use Rattle.nr_script.proofs.Counts.{room, counted-are, seconds-more}
 use Rattle.nr_script.proofs.draft.Draft.push.Goals as goal
