@@ -3,7 +3,7 @@ use Rattle.std.proofs.Common.{◌≡◌, ℕ, eqb, List, [], ◌∷◌, ◌++◌
 use Rattle.nr_wire.specs.declared.hello.Side.TheVariants.{Initiator, Responder}
 use Rattle.nr_link.specs.declared.end.End.{End}
 use Rattle.nr_reduce.specs.declared.call.Submission.TheVariants as submissions
-use Rattle.nr_reduce.specs.declared.mark.Moment.{Moment}
+use Rattle.nr_outside.specs.declared.moment.Moment.{Moment}
 use Rattle.nr_reduce.specs.declared.mark.Entry.{Entry}
 use Rattle.nr_reduce.specs.declared.mark.Mark.{Mark}
 use Rattle.nr_reduce.specs.declared.mark.Mark.TheVariants as marks

@@ -13,7 +13,7 @@ use Rattle.nr_link.specs.OutputItem.{OutputItem}
 use Rattle.nr_link.specs.OutputItem.OutputItem.{SendItem, WriteItem}
 use Rattle.nr_reduce.specs.declared.item.Of.{Of}
 use Rattle.nr_reduce.specs.declared.item.Of.TheVariants.{Reply}
-use Rattle.nr_reduce.specs.declared.mark.Moment.{Moment}
+use Rattle.nr_outside.specs.declared.moment.Moment.{Moment}
 use Rattle.nr_reduce.specs.declared.mark.Mark.{Mark}
 use Rattle.nr_reduce.specs.declared.mark.Mark.TheVariants as marks
 use Rattle.nr_reduce.specs.declared.mark.LinkParameters.{LinkParameters}

@@ -1,3 +1,4 @@
+pub mod Limits
 pub mod Codec
 pub mod Laws
 pub mod Names

@@ -19,7 +19,8 @@ use Rattle.nr_tree.specs.declared.node.Node.{Node}
 use Rattle.nr_tree.specs.declared.node.Content.{Content}
 use Rattle.nr_tree.specs.declared.node.Content.TheVariants.{Directory}
 use Rattle.nr_tree.proofs.PassedRules.{got}
-use Rattle.nr_ops_dir.specs.Readdir.{longest, goes_on, total, name_size, largest_listing, listing_rules, room_rules, readdir_fits, readdir_left, readdir_taken, readdir_in, readdir_rules, readdirplus_fits, readdirplus_left, readdirplus_taken, readdirplus_in, readdirplus_rules}
+use Rattle.nr_ops_dir.specs.Readdir.{longest, goes_on, total, name_size, listing_rules, room_rules, readdir_fits, readdir_left, readdir_taken, readdir_in, readdir_rules, readdirplus_fits, readdirplus_left, readdirplus_taken, readdirplus_in, readdirplus_rules}
+use Rattle.nr_nfs_base.specs.Limits.{listing_max}
 use Rattle.nr_ops_dir.specs.Sizes.{entry_size, size_in, empty_size, within, IsRange}
 use Rattle.nr_ops_dir.specs.declared.listings.Limits.{Limits}
 use Rattle.nr_ops_dir.specs.declared.listings.Range.{Range}
@@ -67,70 +68,70 @@ and_true : (most size names limit : ℕ) → names ≤ size → most ≤ limit �
 and_true most size names limit le within_limit (inl p) = p.0 ∙ (λ i. sym p.0 i && sym (le-leb names limit (omega (arith, le, within_limit, p.1))) i)
 and_true most size names limit le within_limit (inr p) = p.0 ∙ (λ i. sym p.0 i && leb names limit)
 
-min_within : (n : ℕ) → min n largest_listing ≤ largest_listing
+min_within : (n : ℕ) → min n listing_max ≤ listing_max
 min_within n = omega arith
 
 -- ===== READDIR
 
 module _ (t : Tree) (args : ReaddirArgs) (v : Node) (named : node_of_handle t args.dir ≡ Some v) where
   abbrev limits : Limits
-  limits = record { detail = Names; entries = min args.count largest_listing - empty_size; names = 4294967295 }
+  limits = record { detail = Names; entries = min args.count listing_max - empty_size; names = 4294967295 }
 
-  size_is : (es : List Entry) → readdir_fits t args es ≡ leb (empty_size + total entry_size es) (min args.count largest_listing)
-  size_is es = ap (λ (n : ℕ). leb n (min args.count largest_listing)) (readdir_size t args.dir v es false named)
+  size_is : (es : List Entry) → readdir_fits t args es ≡ leb (empty_size + total entry_size es) (min args.count listing_max)
+  size_is es = ap (λ (n : ℕ). leb n (min args.count listing_max)) (readdir_size t args.dir v es false named)
 
-  same_test : empty_size ≤ min args.count largest_listing → (es : List Entry) → readdir_fits t args es ≡ within t limits es
+  same_test : empty_size ≤ min args.count listing_max → (es : List Entry) → readdir_fits t args es ≡ within t limits es
   same_test le es =
-      size_is es ∙ part (min args.count largest_listing) (total entry_size es) le
-      ∙ and_true (min args.count largest_listing - empty_size) (total entry_size es) (total name_size es) 4294967295 (names_within t es) (omega (arith, min_within args.count)) (leb_tells (total entry_size es) (min args.count largest_listing - empty_size))
+      size_is es ∙ part (min args.count listing_max) (total entry_size es) le
+      ∙ and_true (min args.count listing_max - empty_size) (total entry_size es) (total name_size es) 4294967295 (names_within t es) (omega (arith, min_within args.count)) (leb_tells (total entry_size es) (min args.count listing_max - empty_size))
 
   pub readdir-left : (d : Entries) → v.content ≡ Directory d → readdir_left t args ≡ entries_after args.cookie d.list
   readdir-left d is = ap (λ (o : Option Node). option_map_or (λ dir. entries_after args.cookie (entries_in dir)) o []) named ∙ ap (λ (k : Content). entries_after args.cookie (entries_of k)) is
 
-  pub readdir-taken : empty_size ≤ min args.count largest_listing → readdir_taken t args ≡ longest (within t limits) [] (readdir_left t args)
+  pub readdir-taken : empty_size ≤ min args.count listing_max → readdir_taken t args ≡ longest (within t limits) [] (readdir_left t args)
   readdir-taken le = longest-same (readdir_fits t args) (within t limits) (same_test le) [] (readdir_left t args)
 
   module _ (c : Caller) (handled : handle_rule t args.dir ≡ None) (passed : first (listing_rules c args.cookie args.verifier v) ≡ None) where
     room : first (readdir_rules t c args) ≡ first (room_rules (readdir_fits t args) (readdir_left t args))
     room = rules_of_room t args.dir v (readdir_in t c args) (first (listing_rules c args.cookie args.verifier v)) (room_rules (readdir_fits t args) (readdir_left t args)) handled named refl passed
 
-    pub readdir-wanting : min args.count largest_listing < empty_size → first (readdir_rules t c args) ≡ Some Toosmall
-    readdir-wanting lt = room ∙ room_wanting (readdir_fits t args) (readdir_left t args) (size_is [] ∙ lt-leb (empty_size + 0) (min args.count largest_listing) (omega (arith, lt)))
+    pub readdir-wanting : min args.count listing_max < empty_size → first (readdir_rules t c args) ≡ Some Toosmall
+    readdir-wanting lt = room ∙ room_wanting (readdir_fits t args) (readdir_left t args) (size_is [] ∙ lt-leb (empty_size + 0) (min args.count listing_max) (omega (arith, lt)))
 
-    pub readdir-room : empty_size ≤ min args.count largest_listing → (b : Bool) → goes_on (longest (within t limits) [] (readdir_left t args)) (readdir_left t args) ≡ b → first (readdir_rules t c args) ≡ (not b ⇒ Toosmall)
-    readdir-room le b goes = room ∙ room_by (readdir_fits t args) (readdir_left t args) (within t limits) b (same_test le) (size_is [] ∙ le-leb (empty_size + 0) (min args.count largest_listing) (omega (arith, le))) goes
+    pub readdir-room : empty_size ≤ min args.count listing_max → (b : Bool) → goes_on (longest (within t limits) [] (readdir_left t args)) (readdir_left t args) ≡ b → first (readdir_rules t c args) ≡ (not b ⇒ Toosmall)
+    readdir-room le b goes = room ∙ room_by (readdir_fits t args) (readdir_left t args) (within t limits) b (same_test le) (size_is [] ∙ le-leb (empty_size + 0) (min args.count listing_max) (omega (arith, le))) goes
 
 -- ===== READDIRPLUS
 
 module _ (t : Tree) (args : ReaddirplusArgs) (v : Node) (named : node_of_handle t args.dir ≡ Some v) where
   abbrev limits_plus : Limits
-  limits_plus = record { detail = Nodes; entries = min args.maxcount largest_listing - empty_size; names = args.dircount }
+  limits_plus = record { detail = Nodes; entries = min args.maxcount listing_max - empty_size; names = args.dircount }
 
-  size_plus : (es : List Entry) → readdirplus_fits t args es ≡ (leb (empty_size + total (size_in t Nodes) es) (min args.maxcount largest_listing) && leb (total name_size es) args.dircount)
-  size_plus es = ap (λ (n : ℕ). leb n (min args.maxcount largest_listing) && leb (total name_size es) args.dircount) (readdirplus_size t args.dir v es false named)
+  size_plus : (es : List Entry) → readdirplus_fits t args es ≡ (leb (empty_size + total (size_in t Nodes) es) (min args.maxcount listing_max) && leb (total name_size es) args.dircount)
+  size_plus es = ap (λ (n : ℕ). leb n (min args.maxcount listing_max) && leb (total name_size es) args.dircount) (readdirplus_size t args.dir v es false named)
 
-  same_test_plus : empty_size ≤ min args.maxcount largest_listing → (es : List Entry) → readdirplus_fits t args es ≡ within t limits_plus es
-  same_test_plus le es = size_plus es ∙ ap (λ (b : Bool). b && leb (total name_size es) args.dircount) (part (min args.maxcount largest_listing) (total (size_in t Nodes) es) le)
+  same_test_plus : empty_size ≤ min args.maxcount listing_max → (es : List Entry) → readdirplus_fits t args es ≡ within t limits_plus es
+  same_test_plus le es = size_plus es ∙ ap (λ (b : Bool). b && leb (total name_size es) args.dircount) (part (min args.maxcount listing_max) (total (size_in t Nodes) es) le)
 
   pub readdirplus-left : (d : Entries) → v.content ≡ Directory d → readdirplus_left t args ≡ entries_after args.cookie d.list
   readdirplus-left d is = ap (λ (o : Option Node). option_map_or (λ dir. entries_after args.cookie (entries_in dir)) o []) named ∙ ap (λ (k : Content). entries_after args.cookie (entries_of k)) is
 
-  pub readdirplus-taken : empty_size ≤ min args.maxcount largest_listing → readdirplus_taken t args ≡ longest (within t limits_plus) [] (readdirplus_left t args)
+  pub readdirplus-taken : empty_size ≤ min args.maxcount listing_max → readdirplus_taken t args ≡ longest (within t limits_plus) [] (readdirplus_left t args)
   readdirplus-taken le = longest-same (readdirplus_fits t args) (within t limits_plus) (same_test_plus le) [] (readdirplus_left t args)
 
   module _ (c : Caller) (handled : handle_rule t args.dir ≡ None) (passed : first (listing_rules c args.cookie args.verifier v) ≡ None) where
     room_plus : first (readdirplus_rules t c args) ≡ first (room_rules (readdirplus_fits t args) (readdirplus_left t args))
     room_plus = rules_of_room t args.dir v (readdirplus_in t c args) (first (listing_rules c args.cookie args.verifier v)) (room_rules (readdirplus_fits t args) (readdirplus_left t args)) handled named refl passed
 
-    pub readdirplus-wanting : min args.maxcount largest_listing < empty_size → first (readdirplus_rules t c args) ≡ Some Toosmall
+    pub readdirplus-wanting : min args.maxcount listing_max < empty_size → first (readdirplus_rules t c args) ≡ Some Toosmall
     readdirplus-wanting lt =
         room_plus ∙ room_wanting (readdirplus_fits t args) (readdirplus_left t args)
-        (size_plus [] ∙ ap (λ (b : Bool). b && leb 0 args.dircount) (lt-leb (empty_size + 0) (min args.maxcount largest_listing) (omega (arith, lt))))
+        (size_plus [] ∙ ap (λ (b : Bool). b && leb 0 args.dircount) (lt-leb (empty_size + 0) (min args.maxcount listing_max) (omega (arith, lt))))
 
-    pub readdirplus-room : empty_size ≤ min args.maxcount largest_listing → (b : Bool) → goes_on (longest (within t limits_plus) [] (readdirplus_left t args)) (readdirplus_left t args) ≡ b → first (readdirplus_rules t c args) ≡ (not b ⇒ Toosmall)
+    pub readdirplus-room : empty_size ≤ min args.maxcount listing_max → (b : Bool) → goes_on (longest (within t limits_plus) [] (readdirplus_left t args)) (readdirplus_left t args) ≡ b → first (readdirplus_rules t c args) ≡ (not b ⇒ Toosmall)
     readdirplus-room le b goes =
         room_plus ∙ room_by (readdirplus_fits t args) (readdirplus_left t args) (within t limits_plus) b (same_test_plus le)
-        (size_plus [] ∙ (λ i. le-leb (empty_size + 0) (min args.maxcount largest_listing) (omega (arith, le)) i && le-leb 0 args.dircount (omega arith) i)) goes
+        (size_plus [] ∙ (λ i. le-leb (empty_size + 0) (min args.maxcount listing_max) (omega (arith, le)) i && le-leb 0 args.dircount (omega arith) i)) goes
 
 -- ===== what is listed
 
@@ -147,9 +148,9 @@ matched P R Q S (Err e) ok err m = err e m
 
 -- what the code found is what READDIR lists or refuses
 module _ (t : Tree) (c : Caller) (args : ReaddirArgs) (v : Node) (d : Entries) (sane : IsSane t) (handled : handle_rule t args.dir ≡ None) (named : node_of_handle t args.dir ≡ Some v)
-    (passed : first (listing_rules c args.cookie args.verifier v) ≡ None) (is : v.content ≡ Directory d) (le : empty_size ≤ min args.count largest_listing) where
+    (passed : first (listing_rules c args.cookie args.verifier v) ≡ None) (is : v.content ≡ Directory d) (le : empty_size ≤ min args.count listing_max) where
   abbrev limits_of_readdir : Limits
-  limits_of_readdir = record { detail = Names; entries = min args.count largest_listing - empty_size; names = 4294967295 }
+  limits_of_readdir = record { detail = Names; entries = min args.count listing_max - empty_size; names = 4294967295 }
 
   left_of_readdir : readdir_left t args ≡ entries_after args.cookie d.list
   left_of_readdir = readdir-left t args v named d is
@@ -185,9 +186,9 @@ module _ (t : Tree) (c : Caller) (args : ReaddirArgs) (v : Node) (d : Entries) (
 
 -- what the code found is what READDIRPLUS lists or refuses
 module _ (t : Tree) (c : Caller) (args : ReaddirplusArgs) (v : Node) (d : Entries) (sane : IsSane t) (handled : handle_rule t args.dir ≡ None) (named : node_of_handle t args.dir ≡ Some v)
-    (passed : first (listing_rules c args.cookie args.verifier v) ≡ None) (is : v.content ≡ Directory d) (le : empty_size ≤ min args.maxcount largest_listing) where
+    (passed : first (listing_rules c args.cookie args.verifier v) ≡ None) (is : v.content ≡ Directory d) (le : empty_size ≤ min args.maxcount listing_max) where
   abbrev limits_of_readdirplus : Limits
-  limits_of_readdirplus = record { detail = Nodes; entries = min args.maxcount largest_listing - empty_size; names = args.dircount }
+  limits_of_readdirplus = record { detail = Nodes; entries = min args.maxcount listing_max - empty_size; names = args.dircount }
 
   left_of_readdirplus : readdirplus_left t args ≡ entries_after args.cookie d.list
   left_of_readdirplus = readdirplus-left t args v named d is

@@ -22,7 +22,7 @@ use Rattle.nr_tree.specs.declared.node.Content.TheVariants.{Directory, Block, Ch
 use Rattle.nr_tree.specs.declared.rules.Space.{Space}
 use Rattle.nr_tree.specs.Skeleton.{one_if}
 use Rattle.nr_tree.specs.Tree.{Tree, is_directory}
-use Rattle.nr_tree.specs.Sane.{longest_path}
+use Rattle.nr_nfs_base.specs.Limits.{link_target_max}
 use Rattle.nr_tree.specs.Changes.{tree_with_node}
 use Rattle.nr_tree.specs.Rules.{first, ◌⇒◌, after, answer, number_of_handle, handle_of, handle_rule, space_rule, time_rule, differs_if_given, mode_count, time_after}
 use Rattle.nr_tree.specs.Replies.{wcc_data}
@@ -111,7 +111,7 @@ mkdir_reply t c space now args =
 abbrev pub path_rules : List ℕ → List (Option Status)
 path_rules path =
     (length path == 0 ⇒ Inval) ∷
-    (nat_lt longest_path (length path) ⇒ Nametoolong) ∷ []
+    (nat_lt link_target_max (length path) ⇒ Nametoolong) ∷ []
 
 abbrev pub symlink_rules : Tree → Caller → Space → SymlinkArgs → List (Option Status)
 symlink_rules t c space args =

@@ -24,10 +24,7 @@ use Rattle.nr_tree.specs.Replies.{attributes_at}
 use Rattle.nr_tree.specs.declared.node.Node.{Node}
 use Rattle.nr_tree.specs.declared.rules.Right.TheVariants.{Read}
 use Rattle.nr_ops_dir.specs.Nodes.{attributes_of_number, handle_of_live}
-
--- the most bytes of a listing: a count above works as this one
-abbrev pub largest_listing : ℕ
-largest_listing = 32768
+use Rattle.nr_nfs_base.specs.Limits.{listing_max}
 
 -- the verifier of every cookie: entries keep their cookies
 abbrev pub cookie_verifier : Verifier
@@ -69,7 +66,7 @@ readdir_ok t h taken eof = record { dir_attributes = attributes_at t h; verifier
 
 -- the results on success, without the status, have at most count bytes (their length is the same with either eof)
 abbrev pub readdir_fits : Tree → ReaddirArgs → List Entry → Bool
-readdir_fits t args taken = nat_le (length (encodings (readdir_ok_codec.items (readdir_ok t args.dir taken false)))) (min args.count largest_listing)
+readdir_fits t args taken = nat_le (length (encodings (readdir_ok_codec.items (readdir_ok t args.dir taken false)))) (min args.count listing_max)
 
 abbrev pub readdir_left : Tree → ReaddirArgs → List Entry
 readdir_left t args = entries_behind t args.dir args.cookie
@@ -109,7 +106,7 @@ total size (e ∷ es) = size e + total size es
 -- the results on success have at most maxcount bytes, and the names in them at most dircount
 abbrev pub readdirplus_fits : Tree → ReaddirplusArgs → List Entry → Bool
 readdirplus_fits t args taken =
-    nat_le (length (encodings (readdirplus_ok_codec.items (readdirplus_ok t args.dir taken false)))) (min args.maxcount largest_listing)
+    nat_le (length (encodings (readdirplus_ok_codec.items (readdirplus_ok t args.dir taken false)))) (min args.maxcount listing_max)
     && nat_le (total name_size taken) args.dircount
 
 abbrev pub readdirplus_left : Tree → ReaddirplusArgs → List Entry

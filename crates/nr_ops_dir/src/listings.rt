@@ -7,10 +7,11 @@ ghost use Rattle.nr_tree.specs.declared.node.Content.TheVariants.{Directory as D
 ghost use Rattle.nr_nfs_base.specs.declared.status.Status.TheVariants.{Toosmall as TooSmall};
 ghost use Rattle.nr_tree.specs.Tree.{attributes_of};
 ghost use Rattle.nr_xdr.specs.Item.{pad_len};
-ghost use Rattle.nr_ops_dir.specs.Readdir.{longest, goes_on, listing_rules, largest_listing, name_size as size_of_name};
+ghost use Rattle.nr_ops_dir.specs.Readdir.{longest, goes_on, listing_rules, name_size as size_of_name};
+ghost use Rattle.nr_nfs_base.specs.Limits.{listing_max};
 ghost use Rattle.nr_ops_dir.specs.Sizes.{node_size as size_of_node, size_in, within, empty_size, IsRange};
 
-use nr_nfs_base::{Caller, Status, Verifier};
+use nr_nfs_base::{Caller, LISTING_MAX, Status, Verifier};
 use nr_tree::{Content, Directory, Node, Right, Tree, may};
 
 /// What a listing tells of each entry.
@@ -84,18 +85,15 @@ pub(crate) fn count_within(tree: &Tree, dir: &Directory, place: usize, limits: &
     count
 }
 
-/// The most bytes of a listing: a count above works as this one.
-const LARGEST_LISTING: u32 = 32_768;
-
 /// The bytes of the results without entries: the attributes of the directory, the verifier, the end of the list, and eof.
 const EMPTY_SIZE: u32 = 104;
 
 /// The limits of a listing of at most `count` bytes, whose entries have at most `names` bytes of numbers, cookies and names;
 /// none where the results without entries are larger.
 pub(crate) fn limits_of(detail: Detail, count: u32, names: u32) -> Option<Limits>
-    ensures { SomeIff result (empty_size ≤ min count largest_listing) (record { detail = detail; entries = min count largest_listing - empty_size; names = names }) }
+    ensures { SomeIff result (empty_size ≤ min count listing_max) (record { detail = detail; entries = min count listing_max - empty_size; names = names }) }
 {
-    let most = count.min(LARGEST_LISTING);
+    let most = count.min(LISTING_MAX);
     if most < EMPTY_SIZE {
         return None;
     }

@@ -9,14 +9,11 @@ ghost use Rattle.nr_ops_dir.specs.Creation.{new_node as node_of, link_mode, path
 
 use crate::creation::{add_node, check_new_name, create_failure, new_node};
 use nr_nfs_args::SymlinkArgs;
-use nr_nfs_base::{Caller, Path, SetAttributes, Status, Time};
+use nr_nfs_base::{Caller, LINK_TARGET_MAX, Path, SetAttributes, Status, Time};
 use nr_nfs_res::SymlinkRes;
 use nr_tree::{Content, Node, Space, Tree, check_space};
 use nr_xdr::Memory;
 use std::alloc::Global;
-
-/// The most bytes of a path.
-const LONGEST_PATH: usize = 1024;
 
 /// Whether a symbolic link may have the path.
 fn check_path(path: &[u8]) -> Result<(), Status>
@@ -25,7 +22,7 @@ fn check_path(path: &[u8]) -> Result<(), Status>
     if path.is_empty() {
         return Err(Status::Inval);
     }
-    if path.len() > LONGEST_PATH {
+    if path.len() > LINK_TARGET_MAX as usize {
         return Err(Status::Nametoolong);
     }
     Ok(())

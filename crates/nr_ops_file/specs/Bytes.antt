@@ -24,10 +24,7 @@ use Rattle.nr_tree.specs.Tree.{Tree, is_dir, is_regular, bytes_of}
 use Rattle.nr_tree.specs.declared.node.Node.{Node}
 use Rattle.nr_tree.specs.declared.rules.Right.TheVariants.{Read, Write}
 use Rattle.nr_tree.specs.declared.rules.Space.{Space}
-
--- the most bytes that one READ gives, or one WRITE writes
-abbrev pub most_bytes_moved : ℕ
-most_bytes_moved = 32768
+use Rattle.nr_nfs_base.specs.Limits.{transfer_max}
 
 -- bytes of the file, or of the link's path, that a handle names
 abbrev pub bytes_at : Tree → List ℕ → List ℕ
@@ -51,7 +48,7 @@ read_rules t c a = handle_rule t a.file ∷ on (node_of_handle t a.file) (read_o
 
 -- the bytes from the offset on, as many as are asked for, may be moved and are there
 abbrev pub piece_read : List ℕ → ℕ → ℕ → List ℕ
-piece_read bytes offset count = take (min count most_bytes_moved) (drop offset bytes)
+piece_read bytes offset count = take (min count transfer_max) (drop offset bytes)
 
 -- the end of a file is told where the piece reaches it, and where the offset is past it
 abbrev pub read_ok : Option Attributes → List ℕ → ℕ → List ℕ → ReadOk
@@ -73,7 +70,7 @@ read_reply t c a = answer (first (read_rules t c a)) (λ s. Failed s (attributes
 
 -- the bytes that one call writes: as many of the data as may be moved
 abbrev pub piece_written : WriteArgs → List ℕ
-piece_written a = take most_bytes_moved a.bytes
+piece_written a = take transfer_max a.bytes
 
 abbrev pub piece_rules : WriteArgs → List (Option Status)
 piece_rules a =

@@ -11,7 +11,7 @@ use Rattle.nr_nfs_args.specs.declared.file_system.PathconfArgs.{PathconfArgs}
 use Rattle.nr_nfs_res.specs.declared.file_system.FsinfoOk.{FsinfoOk}
 use Rattle.nr_nfs_res.specs.declared.file_system.FsstatOk.{FsstatOk}
 use Rattle.nr_nfs_res.specs.declared.file_system.PathconfOk.{PathconfOk}
-use Rattle.nr_ops_file.specs.Bytes.{most_bytes_moved}
+use Rattle.nr_nfs_base.specs.Limits.{listing_max, transfer_max}
 use Rattle.nr_tree.specs.Entries.{longest_name}
 use Rattle.nr_tree.specs.Replies.{attributes_at}
 use Rattle.nr_tree.specs.Rules.{first, answer, handle_rule, entry_cost}
@@ -51,10 +51,6 @@ fsstat_reply t space a = answer (first (fsstat_rules t a)) (λ s. Failed s (attr
 abbrev pub multiple_of_bytes : ℕ
 multiple_of_bytes = 4096
 
--- the size of a listing that is preferred: the largest that READDIR gives
-abbrev pub preferred_listing : ℕ
-preferred_listing = 32768
-
 -- times are told apart by a nanosecond
 abbrev pub time_step : Time
 time_step = record { seconds = 0; nanoseconds = 1 }
@@ -66,13 +62,13 @@ properties_of_server = 1 + 2 + 8 + 16
 abbrev pub fsinfo_ok : Option Attributes → FsinfoOk
 fsinfo_ok attributes = record {
   attributes = attributes;
-  rtmax = most_bytes_moved;
-  rtpref = most_bytes_moved;
+  rtmax = transfer_max;
+  rtpref = transfer_max;
   rtmult = multiple_of_bytes;
-  wtmax = most_bytes_moved;
-  wtpref = most_bytes_moved;
+  wtmax = transfer_max;
+  wtpref = transfer_max;
   wtmult = multiple_of_bytes;
-  dtpref = preferred_listing;
+  dtpref = listing_max;
   maxfilesize = largest_file;
   time_delta = time_step;
   properties = properties_of_server;

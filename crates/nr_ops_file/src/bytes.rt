@@ -1,7 +1,8 @@
 //! READ, WRITE and COMMIT.
 
 ghost use Rattle.std.specs.Prelude.{◌≡◌, ◌+◌, ◌≤◌, nat_le, take, true, None, Some, length, IfOk, OnOk, OnErr, MatchResult};
-ghost use Rattle.nr_ops_file.specs.Bytes.{most_bytes_moved, regular_rules, read_rules, piece_read, read_reply, piece_rules, piece_written, write_rules, write_tree, write_reply, commit_rules, commit_reply};
+ghost use Rattle.nr_ops_file.specs.Bytes.{regular_rules, read_rules, piece_read, read_reply, piece_rules, piece_written, write_rules, write_tree, write_reply, commit_rules, commit_reply};
+ghost use Rattle.nr_nfs_base.specs.Limits.{transfer_max};
 ghost use Rattle.nr_tree.specs.Rules.{first, node_of_handle, number_of_handle, IsWithinCapacity};
 ghost use Rattle.nr_tree.specs.Sane.{IsSane, largest_file};
 ghost use Rattle.nr_tree.specs.Steps.{is_regular_at};
@@ -9,7 +10,9 @@ ghost use Rattle.nr_nfs_base.specs.declared.stable.StableHow.TheVariants.{FileSy
 ghost use Rattle.nr_tree.specs.Tree.{is_regular, bytes_of};
 
 use nr_nfs_args::{CommitArgs, ReadArgs, WriteArgs};
-use nr_nfs_base::{Attributes, Caller, Data, StableHow, Status, StatusUnion, Time, WccData};
+use nr_nfs_base::{
+    Attributes, Caller, Data, StableHow, Status, StatusUnion, TRANSFER_MAX, Time, WccData,
+};
 use nr_nfs_res::{CommitOk, CommitRes, ReadOk, ReadRes, WriteOk, WriteRes};
 use nr_tree::{
     Content, LARGEST_FILE, Node, Right, Space, Tree, attributes_at, check_space, live_node, may,
@@ -17,9 +20,6 @@ use nr_tree::{
 };
 use nr_xdr::{Memory, Octets};
 use std::alloc::Global;
-
-/// The most bytes that one READ gives, or one WRITE writes.
-pub(crate) const MOST_BYTES_MOVED: u32 = 32_768;
 
 /// Whether the node has bytes to be read and written.
 fn check_regular(node: &Node) -> Result<(), Status>
@@ -68,10 +68,10 @@ fn file_to_read<'a>(tree: &'a Tree, caller: &Caller, args: &ReadArgs) -> Result<
 fn read_piece(alloc: Global, node: &Node, offset: u64, count: u32) -> Result<Octets, Memory>
     requires { is_regular node.now ≡ true }
     ensures value { IfOk result (λ piece. piece ≡ piece_read (bytes_of node.now.content) offset count) }
-    ensures bounded { IfOk result (λ piece. length piece ≤ most_bytes_moved) }
+    ensures bounded { IfOk result (λ piece. length piece ≤ transfer_max) }
 {
     match &node.content {
-        Content::Regular(file) => file.read(alloc, offset, count.min(MOST_BYTES_MOVED)),
+        Content::Regular(file) => file.read(alloc, offset, count.min(TRANSFER_MAX)),
         _ => unreachable!(),
     }
 }
@@ -85,7 +85,7 @@ fn reaches_end(size: u64, offset: u64, count: u32) -> bool
 
 /// The piece that was read of a file of this size.
 fn read_results(piece: Octets, size: u64, attributes: Option<Attributes>, offset: u64) -> ReadOk
-    requires { length piece ≤ most_bytes_moved }
+    requires { length piece ≤ transfer_max }
     ensures { result ≡ record { attributes = attributes; count = length piece; eof = nat_le size (offset + length piece); bytes = piece } }
 {
     let count = piece.len() as u32;
@@ -161,10 +161,10 @@ fn write_results(wcc: WccData, count: u32, space: &Space) -> WriteOk
 
 /// As many of the data as may be moved.
 fn piece_of(bytes: &[u8]) -> &[u8]
-    ensures value { result.now ≡ take most_bytes_moved bytes.now }
-    ensures bounded { length result.now ≤ most_bytes_moved }
+    ensures value { result.now ≡ take transfer_max bytes.now }
+    ensures bounded { length result.now ≤ transfer_max }
 {
-    let (piece, _) = bytes.split_at((MOST_BYTES_MOVED as usize).min(bytes.len()));
+    let (piece, _) = bytes.split_at((TRANSFER_MAX as usize).min(bytes.len()));
     piece
 }
 

@@ -3,9 +3,8 @@
 ghost use Rattle.std.specs.Prelude.{◌≡◌};
 ghost use Rattle.nr_ops_file.specs.FileSystem.{fsstat_ok, fsstat_reply, fsinfo_ok, fsinfo_reply, pathconf_ok, pathconf_reply};
 
-use crate::bytes::MOST_BYTES_MOVED;
 use nr_nfs_args::{FsinfoArgs, FsstatArgs, PathconfArgs};
-use nr_nfs_base::{Attributes, StatusUnion, Time};
+use nr_nfs_base::{Attributes, LISTING_MAX, StatusUnion, TRANSFER_MAX, Time};
 use nr_nfs_res::{FsinfoOk, FsinfoRes, FsstatOk, FsstatRes, PathconfOk, PathconfRes};
 use nr_tree::{
     ENTRY_COST, LARGEST_FILE, LONGEST_NAME, MOST_LINKS, Space, Tree, attributes_at, live_node,
@@ -13,9 +12,6 @@ use nr_tree::{
 
 /// What the bytes of a READ and of a WRITE should be a multiple of.
 const MULTIPLE_OF_BYTES: u32 = 4096;
-
-/// The bytes of a listing that are preferred: the most that READDIR gives.
-const PREFERRED_LISTING: u32 = 32_768;
 
 /// Times are told apart by a nanosecond.
 const TIME_STEP: Time = Time {
@@ -78,13 +74,13 @@ fn fsinfo_results(attributes: Option<Attributes>) -> FsinfoOk
 {
     FsinfoOk {
         attributes,
-        rtmax: MOST_BYTES_MOVED,
-        rtpref: MOST_BYTES_MOVED,
+        rtmax: TRANSFER_MAX,
+        rtpref: TRANSFER_MAX,
         rtmult: MULTIPLE_OF_BYTES,
-        wtmax: MOST_BYTES_MOVED,
-        wtpref: MOST_BYTES_MOVED,
+        wtmax: TRANSFER_MAX,
+        wtpref: TRANSFER_MAX,
         wtmult: MULTIPLE_OF_BYTES,
-        dtpref: PREFERRED_LISTING,
+        dtpref: LISTING_MAX,
         maxfilesize: LARGEST_FILE,
         time_delta: TIME_STEP,
         properties: PROPERTIES,

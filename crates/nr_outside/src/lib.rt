@@ -9,6 +9,8 @@
 //! [`StdSource`] and [`StdSink`] are adapters over a reader and a writer of std. They count faults; their bytes are
 //! unknown. [`read_whole`] and [`write_whole`] move a whole input or output.
 //!
+//! [`Moment`] is a moment of a clock.
+//!
 //! The crate stands on no other crate of the project, and each crate above that reads or writes stands on it. It opens
 //! nothing: its callers hand in the source and the sink.
 #![tactic(auto)]
@@ -17,6 +19,7 @@ mod byte_pipe;
 mod copying;
 mod mem_sink;
 mod mem_source;
+mod moment;
 mod std_sink;
 mod std_source;
 mod traits;
@@ -25,6 +28,7 @@ mod whole;
 pub use byte_pipe::Pipe;
 pub use mem_sink::MemSink;
 pub use mem_source::MemSource;
+pub use moment::Moment;
 pub use std_sink::StdSink;
 pub use std_source::StdSource;
 pub use traits::{Failed, Sink, Source};

@@ -19,7 +19,7 @@ use Rattle.nr_nfs_base.specs.declared.status_union.StatusUnion.TheVariants.{Done
 use Rattle.nr_nfs_args.specs.Arguments.{NfsArguments, nfs_arguments_codec}
 use Rattle.nr_nfs_res.specs.Results.{NfsResults, nfs_result}
 use Rattle.nr_reduce.specs.declared.mark.Entry.{Entry}
-use Rattle.nr_reduce.specs.declared.mark.Moment.{Moment}
+use Rattle.nr_outside.specs.declared.moment.Moment.{Moment}
 use Rattle.nr_plain.specs.Setup.{Parameters, Setup, State, caller_of, time_of, space_of}
 use Rattle.nr_plain.specs.Programs.{nfs_results, is_done, only_reads}
 use Rattle.nr_plain.specs.Journal.{nfs_procedure_of, state_of}

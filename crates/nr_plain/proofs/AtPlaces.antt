@@ -4,7 +4,7 @@ use Rattle.std.specs.Option.{option_map}
 use Rattle.nr_xdr.specs.Item.{IsBytes}
 use Rattle.nr_rpc.specs.Reading.{call_of, target_of}
 use Rattle.nr_reduce.specs.declared.mark.Entry.{Entry}
-use Rattle.nr_reduce.specs.declared.mark.Moment.{Moment}
+use Rattle.nr_outside.specs.declared.moment.Moment.{Moment}
 use Rattle.nr_reduce.specs.declared.call.Form.TheVariants as forms
 use Rattle.nr_reduce.specs.declared.outline.Plan.{Plan}
 use Rattle.nr_reduce.specs.Plans.{plan_of, lists_of}

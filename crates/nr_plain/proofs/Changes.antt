@@ -27,7 +27,7 @@ use Rattle.nr_reduce.specs.Items.{if_ends, item_at, before_read, before_target, 
 use Rattle.nr_reduce.specs.Server.{answer_of_target}
 use Rattle.nr_reduce.specs.declared.item.Of.TheVariants.{Reply}
 use Rattle.nr_reduce.specs.declared.mark.Entry.{Entry}
-use Rattle.nr_reduce.specs.declared.mark.Moment.{Moment}
+use Rattle.nr_outside.specs.declared.moment.Moment.{Moment}
 use Rattle.nr_tree.specs.Rules.{first}
 use Rattle.nr_ops_file.specs.Attributes.{setattr_reply}
 use Rattle.nr_ops_file.specs.Bytes.{write_reply}

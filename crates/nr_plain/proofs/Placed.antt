@@ -8,7 +8,7 @@ use Rattle.nr_header.specs.declared.header.ChunkLists.{ChunkLists}
 use Rattle.nr_rpc.specs.declared.head.CallHead.{CallHead}
 use Rattle.nr_rpc.specs.Reading.{call_of, reply_of, target_of, xid_of_call}
 use Rattle.nr_reduce.specs.declared.mark.Entry.{Entry}
-use Rattle.nr_reduce.specs.declared.mark.Moment.{Moment}
+use Rattle.nr_outside.specs.declared.moment.Moment.{Moment}
 use Rattle.nr_reduce.specs.Limits.{send_max}
 use Rattle.nr_reduce.specs.Server.{answer_of_target}
 use Rattle.nr_plain.specs.Setup.{Parameters, Setup, State}

@@ -20,7 +20,7 @@ use Rattle.nr_nfs_args.specs.Arguments.{NfsArguments, MountArguments, nfs_argume
 use Rattle.nr_nfs_res.specs.Results.{nfs_results_codec, mount_results_codec}
 use Rattle.nr_reduce.specs.ClientMessages.{reply_xid}
 use Rattle.nr_reduce.specs.declared.mark.Entry.{Entry}
-use Rattle.nr_reduce.specs.declared.mark.Moment.{Moment}
+use Rattle.nr_outside.specs.declared.moment.Moment.{Moment}
 use Rattle.nr_plain.specs.Setup.{Parameters, State, caller_of, time_of, space_of}
 use Rattle.nr_plain.specs.Programs.{nfs_results, mount_results}
 use Rattle.nr_plain.specs.Journal.{nfs_procedure_of}

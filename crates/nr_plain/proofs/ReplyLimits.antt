@@ -28,7 +28,7 @@ use Rattle.nr_nfs_res.specs.Null.{null_res_codec}
 use Rattle.nr_nfs_res.specs.Results.{nfs_results_codec, mount_results_codec}
 use Rattle.nr_reduce.specs.Largest.{read_reply_max, readdir_reply_max, by_count, read_count, readdir_count, readdirplus_count, reply_limits, limit_of, nfs_reply_max, program_reply_max, target_reply_max, largest_reply}
 use Rattle.nr_reduce.specs.declared.mark.Entry.{Entry}
-use Rattle.nr_reduce.specs.declared.mark.Moment.{Moment}
+use Rattle.nr_outside.specs.declared.moment.Moment.{Moment}
 use Rattle.nr_tree.specs.Sane.{IsSane}
 use Rattle.nr_plain.specs.Setup.{Parameters, State, caller_of, time_of, space_of}
 use Rattle.nr_plain.specs.Programs.{nfs_results, mount_results}

@@ -8,7 +8,7 @@ use Rattle.nr_rpc.specs.declared.head.CallHead.{CallHead}
 use Rattle.nr_rpc.specs.declared.head.CallHead.TheVariants as calls
 use Rattle.nr_nfs_base.specs.Procedures.{nfs_program, nfs_version}
 use Rattle.nr_nfs_base.specs.declared.procedure.NfsProcedure.{NfsProcedure}
-use Rattle.nr_reduce.specs.declared.mark.Moment.{Moment}
+use Rattle.nr_outside.specs.declared.moment.Moment.{Moment}
 use Rattle.nr_reduce.specs.declared.mark.Entry.{Entry}
 use Rattle.nr_plain.specs.Programs.{only_reads}
 use Rattle.nr_plain.specs.Journal.{nfs_procedure_of}

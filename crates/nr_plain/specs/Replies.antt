@@ -19,7 +19,7 @@ use Rattle.nr_nfs_base.specs.declared.procedure.MountProcedure.{MountProcedure}
 use Rattle.nr_nfs_base.specs.declared.procedure.NfsProcedure.{NfsProcedure}
 use Rattle.nr_nfs_args.specs.Arguments.{NfsArguments, MountArguments, nfs_arguments_codec, mount_arguments_codec}
 use Rattle.nr_nfs_res.specs.Results.{NfsResults, nfs_results_codec, mount_results_codec}
-use Rattle.nr_reduce.specs.declared.mark.Moment.{Moment}
+use Rattle.nr_outside.specs.declared.moment.Moment.{Moment}
 use Rattle.nr_reduce.specs.declared.mark.Entry.{Entry}
 use Rattle.nr_plain.specs.Setup.{Parameters, Setup, State, caller_of, time_of, space_of}
 use Rattle.nr_plain.specs.Programs.{nfs_results, is_change, mount_results}

@@ -5,7 +5,7 @@ use Rattle.nr_rpc.specs.declared.cred.Cred.TheVariants as creds
 use Rattle.nr_nfs_base.specs.declared.caller.Caller.{Caller}
 use Rattle.nr_nfs_base.specs.declared.time.Time.{Time}
 use Rattle.nr_nfs_base.specs.declared.verifier.Verifier.{Verifier}
-use Rattle.nr_reduce.specs.declared.mark.Moment.{Moment}
+use Rattle.nr_outside.specs.declared.moment.Moment.{Moment}
 use Rattle.nr_tree.specs.Tree.{Tree}
 use Rattle.nr_tree.specs.declared.rules.Space.{Space}
 

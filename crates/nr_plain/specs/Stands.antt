@@ -3,7 +3,7 @@ use Rattle.std.specs.Prelude.{◌≡◌, ℕ, ◌+◌, ◌*◌, ◌<◌, ◌≤�
 use Rattle.std.specs.Coded.{Coded, code_by, coded×, coded_ℕ, coded_list}
 use Rattle.nr_rpc.specs.declared.head.CallHead.{CallHead}
 use Rattle.nr_reduce.specs.declared.mark.Entry.{Entry}
-use Rattle.nr_reduce.specs.declared.mark.Moment.{Moment}
+use Rattle.nr_outside.specs.declared.moment.Moment.{Moment}
 use Rattle.nr_tree.specs.Code.{tree_code}
 use Rattle.nr_tree.specs.Rules.{entry_cost}
 use Rattle.nr_tree.specs.Sane.{IsSane}

@@ -1,7 +1,7 @@
 //! A call of a procedure.
 
 use nr_nfs_base::{Caller, Time};
-use nr_reduce::Moment;
+use nr_outside::Moment;
 use nr_rpc::Cred;
 use nr_tree::Space;
 use nr_xdr::Octets;

@@ -4,7 +4,7 @@ ghost use Rattle.std.specs.Prelude.{◌≡◌, [], IfOk};
 ghost use Rattle.nr_plain.specs.Setup.{caller_of, nobody, time_of};
 
 use nr_nfs_base::{Array, Caller, Time};
-use nr_reduce::Moment;
+use nr_outside::Moment;
 use nr_rpc::{Cred, Gids};
 use nr_xdr::Memory;
 use std::alloc::Global;

@@ -25,7 +25,7 @@ use nr_nfs_base::{
     MOUNT_PROGRAM, MOUNT_VERSION, MountProcedure, NFS_PROGRAM, NFS_VERSION, NfsProcedure, Numbered,
     Verifier,
 };
-use nr_reduce::Moment;
+use nr_outside::Moment;
 use nr_rpc::{AUTH_SYS, CallHead, Cred, HeadFault, RPC_VERSION, ReplyHead, read_call};
 use nr_tree::{ENTRY_COST, Space, Tree};
 use nr_xdr::{Memory, Octets};

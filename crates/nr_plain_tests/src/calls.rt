@@ -4,8 +4,8 @@ ghost use Rattle.std.specs.Prelude.{◌<◌, ◌^◌};
 
 use crate::compare::same;
 use nr_nfs_base::Verifier;
+use nr_outside::Moment;
 use nr_plain::{Fault, Server};
-use nr_reduce::Moment;
 use nr_tree::Tree;
 use nr_xdr::Octets;
 use std::alloc::Global;

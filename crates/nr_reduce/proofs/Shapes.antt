@@ -12,7 +12,7 @@ use Rattle.nr_header.specs.Constants.{PAYLOAD_MAX}
 use Rattle.nr_reduce.specs.Undone.{IsNotGiven}
 use Rattle.nr_reduce.specs.declared.call.Form.{Form}
 use Rattle.nr_reduce.specs.declared.call.Form.TheVariants as forms
-use Rattle.nr_reduce.specs.Limits.{moved_max, link_max}
+use Rattle.nr_nfs_base.specs.Limits.{link_target_max, transfer_max}
 use Rattle.nr_reduce.specs.declared.item.Item.{Item}
 use Rattle.nr_reduce.specs.Items.{reducible_item, stream_of, moved_of, READ, READLINK, is_nfs, from_place}
 use Rattle.nr_reduce.specs.declared.item.Of.TheVariants.{Call}
@@ -51,7 +51,7 @@ choose false x y p q = q
 nfs_small : (proc : ℕ) (c : Cursor) → nfs_reply_max proc c ≤ most
 unfolding limit_of
 nfs_small proc c =
-    choose (eqb proc READ) _ _ (or_least (read_count c) read_reply_max (λ n. let p = pad_small (min n moved_max) in omega (arith, p)))
+    choose (eqb proc READ) _ _ (or_least (read_count c) read_reply_max (λ n. let p = pad_small (min n transfer_max) in omega (arith, p)))
     (choose (eqb proc READDIR) _ _ (or_least (readdir_count c) readdir_reply_max (λ n. omega arith))
     (choose (eqb proc READDIRPLUS) _ _ (or_least (readdirplus_count c) readdir_reply_max (λ n. omega arith))
     (rows_small reply_limits proc refl)))
@@ -91,13 +91,13 @@ write_offering payload = by_target (target_of (call_of payload))
   where
     by_moved : (o : Option ℕ) → IsOffering (chunk_for (moved_offer o))
     by_moved None = record { offering = Nothing; small = tt; is = refl }
-    by_moved (Some n) = record { offering = One (min n moved_max); small = omega arith; is = refl }
+    by_moved (Some n) = record { offering = One (min n transfer_max); small = omega arith; is = refl }
 
-    by_link : (b : Bool) → IsOffering (chunk_for (cond b (Some link_max) None))
-    by_link true = record { offering = One link_max; small = omega arith; is = refl }
+    by_link : (b : Bool) → IsOffering (chunk_for (cond b (Some link_target_max) None))
+    by_link true = record { offering = One link_target_max; small = omega arith; is = refl }
     by_link false = record { offering = Nothing; small = tt; is = refl }
 
-    by_read : (b d : Bool) (o : Option ℕ) → IsOffering (chunk_for (cond b (moved_offer o) (cond d (Some link_max) None)))
+    by_read : (b d : Bool) (o : Option ℕ) → IsOffering (chunk_for (cond b (moved_offer o) (cond d (Some link_target_max) None)))
     by_read true d o = by_moved o
     by_read false d o = by_link d
 

@@ -9,7 +9,7 @@ use Rattle.nr_rpc.specs.Reading.{call_of, target_of}
 use Rattle.nr_nfs_base.specs.Codec.{Codec}
 use Rattle.nr_nfs_base.specs.Procedures.{mount_program, mount_version}
 use Rattle.nr_nfs_base.specs.Fronts.{read_args_front, readdir_args_front, readdirplus_args_front}
-use Rattle.nr_reduce.specs.Limits.{moved_max, readdir_max}
+use Rattle.nr_nfs_base.specs.Limits.{listing_max, transfer_max}
 use Rattle.nr_reduce.specs.Items.{READ, is_nfs, from_place}
 
 -- the procedures that list directories, and MOUNT's that gives a handle (RFC 1813 sections 3.3.16, 3.3.17, 5.2.1)
@@ -53,12 +53,12 @@ least_reply = 32
 abbrev pub padded_length : ℕ → ℕ
 padded_length n = n + pad_len n
 
--- READ: the data is at most moved_max bytes. READDIR and READDIRPLUS: the results without their status are at most that count
+-- READ: the data is at most transfer_max bytes. READDIR and READDIRPLUS: the results without their status are at most that count
 abbrev pub read_reply_max : ℕ → ℕ
-read_reply_max count = 128 + padded_length (min count moved_max)
+read_reply_max count = 128 + padded_length (min count transfer_max)
 
 abbrev pub readdir_reply_max : ℕ → ℕ
-readdir_reply_max count = max 116 (28 + min count readdir_max)
+readdir_reply_max count = max 116 (28 + min count listing_max)
 
 -- the procedures whose replies have one limit
 abbrev pub reply_limits : List (ℕ × ℕ)

@@ -11,18 +11,6 @@ most_credits = 64
 abbrev pub send_max : ℕ
 send_max = link_send_max
 
--- the bytes that one READ or WRITE moves at most
-abbrev pub moved_max : ℕ
-moved_max = 32768
-
--- the count that READDIR and READDIRPLUS work with at most
-abbrev pub readdir_max : ℕ
-readdir_max = 32768
-
--- the bytes that are offered for the target of a symbolic link
-abbrev pub link_max : ℕ
-link_max = 1024
-
 -- the bytes that an offer may have in all, where it is given
 abbrev pub given_max : ℕ
 given_max = 65536

@@ -16,7 +16,8 @@ use Rattle.nr_rpc.specs.Reading.{call_of, target_of}
 use Rattle.nr_reduce.specs.declared.call.Form.{Form}
 use Rattle.nr_reduce.specs.declared.call.Form.TheVariants as forms
 use Rattle.nr_reduce.specs.declared.call.Offer.{Offer}
-use Rattle.nr_reduce.specs.Limits.{moved_max, link_max, given_max}
+use Rattle.nr_reduce.specs.Limits.{given_max}
+use Rattle.nr_nfs_base.specs.Limits.{link_target_max, transfer_max}
 use Rattle.nr_reduce.specs.declared.outline.Plan.{Plan}
 use Rattle.nr_reduce.specs.declared.item.Item.{Item}
 use Rattle.nr_reduce.specs.Items.{READ, READLINK, is_nfs, from_place, reducible_item, stream_of, moved_of}
@@ -38,12 +39,12 @@ inline_plan payload = record { inline = payload; read_at = None; read = []; regi
 -- How many bytes of the write chunk a READ or a READLINK may offer.
 abbrev pub moved_offer : Option ℕ → Option ℕ
 moved_offer None = None
-moved_offer (Some count) = Some (min count moved_max)
+moved_offer (Some count) = Some (min count transfer_max)
 
 abbrev pub argument_offer : (prog vers proc : ℕ) → Cursor → Option ℕ
 argument_offer prog vers proc arguments =
     if is_nfs prog vers && proc == READ then moved_offer (read_count arguments)
-    else (if is_nfs prog vers && proc == READLINK then Some link_max
+    else (if is_nfs prog vers && proc == READLINK then Some link_target_max
     else None)
 
 abbrev pub target_offer : List ℕ → Option CallTarget → Option ℕ

@@ -6,10 +6,10 @@ ghost use Rattle.nr_reduce.specs.Largest.{padded_length, by_count, read_reply_ma
 
 use crate::cutting::pad_len;
 use crate::item::{is_nfs, reader_at};
-use crate::limits::{MNT, MOVED_MAX, READ, READDIR, READDIR_MAX, READDIRPLUS};
+use crate::limits::{MNT, READ, READDIR, READDIRPLUS};
 use nr_nfs_base::{
-    MOUNT_PROGRAM, MOUNT_VERSION, skip_to_read_count, skip_to_readdir_count,
-    skip_to_readdirplus_maxcount,
+    LISTING_MAX, MOUNT_PROGRAM, MOUNT_VERSION, TRANSFER_MAX, skip_to_read_count,
+    skip_to_readdir_count, skip_to_readdirplus_maxcount,
 };
 use nr_rpc::call_target;
 use nr_xdr::Reader;
@@ -45,7 +45,7 @@ fn read_reply_max(count: Option<u32>) -> u32
     ensures { result ≡ by_count read_reply_max count }
 {
     match count {
-        Some(count) => 128 + rounded(count.min(MOVED_MAX)),
+        Some(count) => 128 + rounded(count.min(TRANSFER_MAX)),
         None => LEAST_REPLY,
     }
 }
@@ -55,7 +55,7 @@ fn readdir_reply_max(count: Option<u32>) -> u32
     ensures { result ≡ by_count readdir_reply_max count }
 {
     match count {
-        Some(count) => (28 + count.min(READDIR_MAX)).max(116),
+        Some(count) => (28 + count.min(LISTING_MAX)).max(116),
         None => LEAST_REPLY,
     }
 }

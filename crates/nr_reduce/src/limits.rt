@@ -1,14 +1,5 @@
 //! Sizes and numbers. The limits are this implementation's own.
 
-/// The most bytes that one READ or WRITE moves.
-pub const MOVED_MAX: u32 = 32768;
-
-/// The largest count that READDIR and READDIRPLUS work with.
-pub const READDIR_MAX: u32 = 32768;
-
-/// The bytes that are offered for the path of a symbolic link.
-pub const LINK_MAX: u32 = 1024;
-
 /// The most bytes that an offer has in all, where it is given.
 pub const GIVEN_MAX: u32 = 65536;
 

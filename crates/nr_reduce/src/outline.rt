@@ -9,8 +9,8 @@ use crate::call::Lengths;
 use crate::cutting::reducible_item;
 use crate::item::{Item, Of, is_nfs, reader_at};
 use crate::largest::{largest_reply, number_behind};
-use crate::limits::{LINK_MAX, MOVED_MAX, READ, READLINK};
-use nr_nfs_base::skip_to_read_count;
+use crate::limits::{READ, READLINK};
+use nr_nfs_base::{LINK_TARGET_MAX, TRANSFER_MAX, skip_to_read_count};
 use nr_rpc::call_target;
 use nr_xdr::{Octets, Reader};
 
@@ -93,7 +93,7 @@ fn moved_offer(count: Option<u32>) -> Option<u32>
     ensures { result ≡ moved_offer count }
 {
     match count {
-        Some(count) => Some(count.min(MOVED_MAX)),
+        Some(count) => Some(count.min(TRANSFER_MAX)),
         None => None,
     }
 }
@@ -107,7 +107,7 @@ fn argument_offer(prog: u32, vers: u32, proc: u32, arguments: Reader<'_>) -> Opt
     }
     match proc {
         READ => moved_offer(number_behind(skip_to_read_count(arguments))),
-        READLINK => Some(LINK_MAX),
+        READLINK => Some(LINK_TARGET_MAX),
         _ => None,
     }
 }

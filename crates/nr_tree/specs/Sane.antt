@@ -8,13 +8,11 @@ use Rattle.nr_tree.specs.Tree.{Tree, value_at, is_dir, entries_in}
 use Rattle.nr_tree.specs.declared.node.Node.{Node}
 use Rattle.nr_tree.specs.declared.node.Content.{Content}
 use Rattle.nr_tree.specs.declared.node.Content.TheVariants.{Regular, Directory, Block, Character, Link, Socket, Fifo}
+use Rattle.nr_nfs_base.specs.Limits.{link_target_max}
 
 -- a file's most bytes, and a path's
 abbrev pub largest_file : ℕ
 largest_file = 16777216
-
-abbrev pub longest_path : ℕ
-longest_path = 1024
 
 -- what a node holds by itself: names and cookies of a directory, the size of a file and of a path
 abbrev pub IsFitContent : Content → Type 0
@@ -22,7 +20,7 @@ IsFitContent (Regular bytes) = length bytes ≤ largest_file
 IsFitContent (Directory entries) = CookiesAscend 1 entries.list entries.next_cookie × NamesAreValid entries.list
 IsFitContent (Block device) = Unit {0}
 IsFitContent (Character device) = Unit {0}
-IsFitContent (Link path) = (0 < length path) × (length path ≤ longest_path)
+IsFitContent (Link path) = (0 < length path) × (length path ≤ link_target_max)
 IsFitContent Socket = Unit {0}
 IsFitContent Fifo = Unit {0}
 

@@ -12,9 +12,8 @@ ghost use Rattle.std.specs.Prelude.{◌<◌, ◌^◌, IfOk};
 
 use hex::FromHexError;
 use nr_nfs_base::Verifier;
-use nr_outside::{ReadEnd, StdSource, read_whole};
+use nr_outside::{Moment, ReadEnd, StdSource, read_whole};
 use nr_plain::{Fault, Reply, Server};
-use nr_reduce::Moment;
 use nr_tree::Tree;
 use nr_xdr::{Memory, Octets};
 use std::alloc::{AllocError, Global};
