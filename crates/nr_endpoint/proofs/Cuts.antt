@@ -13,6 +13,7 @@ use Rattle.nr_link.specs.Output.{cut, segment_count, segment_payload, send, writ
 use Rattle.nr_endpoint.specs.Carriers.{carried}
 use Rattle.nr_endpoint.specs.declared.framing.Carrier.{Carrier}
 use Rattle.nr_endpoint.specs.declared.framing.Carrier.TheVariants as carriers
+use Rattle.nr_link.specs.Limits.{segment_max}
 
 -- the payload of a segment, cut within the length
 pub payload_within : (bytes : List ℕ) (n m : ℕ) →
@@ -25,7 +26,7 @@ payload_within bytes n m =
 
 -- the FPDU of the segment with this number, and those of the first n segments
 abbrev pub piece : Carrier → List ℕ → ℕ → List ℕ
-piece carrier bytes i = encoding (carried carrier (eqb (i + 1) (segment_count bytes)) (4096 * i) (segment_payload bytes i))
+piece carrier bytes i = encoding (carried carrier (eqb (i + 1) (segment_count bytes)) (segment_max * i) (segment_payload bytes i))
 
 unfoldable pub pieces : Carrier → List ℕ → ℕ → List ℕ
 pieces carrier bytes n = flat_map (piece carrier bytes) (range_with_len 0 n)
@@ -55,24 +56,24 @@ unfolding pieces cut
 pieces_all carrier bytes = refl
 
 -- a segment of a cut can be written
-pub carried_writable : (carrier : Carrier) (last : Bool) (offset : ℕ) (payload : List ℕ) → length payload ≤ 4096 →
+pub carried_writable : (carrier : Carrier) (last : Bool) (offset : ℕ) (payload : List ℕ) → length payload ≤ segment_max →
     IsWritable (carried carrier last offset payload)
 carried_writable (carriers.Send msn) last offset payload h = (omega arith, omega arith)
 carried_writable (carriers.Write stag to) last offset payload h = (omega arith, omega arith)
 carried_writable (carriers.Response stag to) last offset payload h = (omega arith, omega arith)
 
 pub writable_from : (segment : Segment) (carrier : Carrier) (last : Bool) (offset : ℕ) (payload : List ℕ) →
-    segment ≡ carried carrier last offset payload → length payload ≤ 4096 → IsWritable segment
+    segment ≡ carried carrier last offset payload → length payload ≤ segment_max → IsWritable segment
 writable_from segment carrier last offset payload is h =
     subst (λ (s : Segment). IsWritable s) (sym is) (carried_writable carrier last offset payload h)
 
-pub payload_short : (bytes : List ℕ) (i : ℕ) → length (segment_payload bytes i) ≤ 4096
-payload_short bytes i = omega (arith, length-take 4096 (drop (4096 * i) bytes))
+pub payload_short : (bytes : List ℕ) (i : ℕ) → length (segment_payload bytes i) ≤ segment_max
+payload_short bytes i = omega (arith, length-take segment_max (drop (segment_max * i) bytes))
 
 -- one segment more
 pub piece_pushed : (new old start : List ℕ) (segment : Segment) (carrier : Carrier) (bytes : List ℕ) (i : ℕ) →
     old ≡ start ++ pieces carrier bytes i → new ≡ old ++ encoding segment →
-    segment ≡ carried carrier (eqb (i + 1) (segment_count bytes)) (4096 * i) (segment_payload bytes i) →
+    segment ≡ carried carrier (eqb (i + 1) (segment_count bytes)) (segment_max * i) (segment_payload bytes i) →
     new ≡ start ++ pieces carrier bytes (i + 1)
 piece_pushed new old start segment carrier bytes i so_far pushed is =
     pushed

@@ -22,6 +22,7 @@ use Rattle.nr_ops_dir.specs.Entries.{is_taken, entry_rules}
 use Rattle.nr_ops_dir.specs.Creation.{new_name_rules, mkdir_rules, new_directory, path_rules, symlink_rules, new_link, special_content, special_attributes, mknod_rules, new_special}
 use Rattle.nr_nfs_args.specs.declared.special.MknodData.TheVariants as data_of
 use Rattle.nr_ops_dir.proofs.Passed.{directory_passed, free_name, links_passed}
+use Rattle.nr_nfs_base.specs.Limits.{link_target_max}
 
 record IsPlace (t : Tree) (h name : List ℕ) : Type 0 where
   directory : is_dir_at t (number_of_handle h) ≡ true
@@ -58,7 +59,7 @@ can_make_link t c space now args none =
     let place : IsPlace t args.dir args.name = place_passed t c args.dir args.name args.attributes all.0 in
     let path : AllClear (path_rules args.path) = all_clear (path_rules args.path) all.1.0 in
     let some : length args.path ≡ 0 → ⊥ = eqb-false (length args.path) 0 (clear (eqb (length args.path) 0) Inval path.0) in
-    let few : length args.path ≤ 1024 = ltb-false 1024 (length args.path) (clear (ltb 1024 (length args.path)) Nametoolong path.1.0) in
+    let few : length args.path ≤ link_target_max = ltb-false link_target_max (length args.path) (clear (ltb link_target_max (length args.path)) Nametoolong path.1.0) in
     record {
       directory = place.directory;
       free = place.free;

@@ -50,6 +50,8 @@ use Rattle.nr_plain.proofs.ReplyHeads.{same_answer, xid_fits}
 use Rattle.nr_plain.proofs.ReplyItems.{IsSuited, refused_suited, read_suited, readlink_suited}
 use Rattle.nr_plain.proofs.ReplyLimits.{within_limit}
 use Rattle.nr_plain.proofs.ResultLimits.{path_short, piece_short}
+use Rattle.nr_nfs_base.specs.Limits.{link_target_max, transfer_max}
+use Rattle.nr_reduce.specs.Limits.{send_max}
 
 -- ===== the replies to READ and READLINK suit their offers
 
@@ -75,26 +77,26 @@ module _ (s : Parameters) (st : State) (sane : IsSane st.tree) (xid place : ℕ)
   no_arguments n proc = refused_suited n proc xid (accepted xid 4) (λ q. absurd cc) (fits, omega arith) refl fits
 
   read_by : (count : ℕ) → read_count (standing place e.args) ≡ Some count → (r : Result (NfsArguments nfs.Read) ℕ) → read_all (nfs_arguments_codec nfs.Read) e.args ≡ r
-      → IsSuited (min count 32768) 6 (nfs_by_arguments s st xid e nfs.Read r).reply
+      → IsSuited (min count transfer_max) 6 (nfs_by_arguments s st xid e nfs.Read r).reply
   read_by count asked (Ok a) is =
       let same : a.count ≡ count = same_some (sym (read_counted place e.args bytes a is) ∙ asked) in
-      read_suited (min count 32768) xid fits _
-      (λ d done. of_success (first (read_rules st.tree (caller_of e.cred) a)) _ (read_done st.tree a) d (λ (k : ReadOk). (length k.bytes ≤ min count 32768) × (length k.bytes < 2 ^ 32)) done
+      read_suited (min count transfer_max) xid fits _
+      (λ d done. of_success (first (read_rules st.tree (caller_of e.cred) a)) _ (read_done st.tree a) d (λ (k : ReadOk). (length k.bytes ≤ min count transfer_max) × (length k.bytes < 2 ^ 32)) done
       (λ none. (
-        subst (λ (n : ℕ). length (read_done st.tree a).bytes ≤ min n 32768) same (piece_short (bytes_at st.tree a.file) a.offset a.count),
-        omega (arith, piece_short (bytes_at st.tree a.file) a.offset a.count, min-le_right a.count 32768),
+        subst (λ (n : ℕ). length (read_done st.tree a).bytes ≤ min n transfer_max) same (piece_short (bytes_at st.tree a.file) a.offset a.count),
+        omega (arith, piece_short (bytes_at st.tree a.file) a.offset a.count, min-le_right a.count transfer_max),
       )))
     where
       same_some : {x y : ℕ} → Some x ≡ Some y → x ≡ y
       same_some q = cc
-  read_by count asked (Err at) is = no_arguments (min count 32768) 6
+  read_by count asked (Err at) is = no_arguments (min count transfer_max) 6
 
-  readlink_by : (r : Result (NfsArguments nfs.Readlink) ℕ) → IsSuited 1024 5 (nfs_by_arguments s st xid e nfs.Readlink r).reply
+  readlink_by : (r : Result (NfsArguments nfs.Readlink) ℕ) → IsSuited link_target_max 5 (nfs_by_arguments s st xid e nfs.Readlink r).reply
   readlink_by (Ok a) =
-      readlink_suited 1024 xid fits _
-      (λ d done. of_success (first (readlink_rules st.tree a)) _ (readlink_done st.tree a) d (λ (k : ReadlinkOk). (length k.path ≤ 1024) × (length k.path < 2 ^ 32)) done
+      readlink_suited link_target_max xid fits _
+      (λ d done. of_success (first (readlink_rules st.tree a)) _ (readlink_done st.tree a) d (λ (k : ReadlinkOk). (length k.path ≤ link_target_max) × (length k.path < 2 ^ 32)) done
       (λ none. (path_short st.tree a sane none, omega (arith, path_short st.tree a sane none))))
-  readlink_by (Err at) = no_arguments 1024 5
+  readlink_by (Err at) = no_arguments link_target_max 5
 
   suited_by_cred : (n proc : ℕ) (cred : Cred) (a : Answer) → IsSuited n proc a.reply → IsSuited n proc (call_by_cred (cred_refusal cred) xid a).reply
   suited_by_cred n proc creds.None a is = is
@@ -109,21 +111,21 @@ module _ (s : Parameters) (st : State) (sane : IsSane st.tree) (m : Moment) (pay
   abbrev entry : ℕ → Entry
   entry proc = record { moment = m; cred = cred; proc = proc; args = drop args_at payload }
 
-  read_call_suited : (count : ℕ) → read_count (from_place args_at payload) ≡ Some count → IsSuited (min count 32768) 6 (answer_to s st m payload (calls.Version2 xid 100003 3 6 cred args_at)).reply
+  read_call_suited : (count : ℕ) → read_count (from_place args_at payload) ≡ Some count → IsSuited (min count transfer_max) 6 (answer_to s st m payload (calls.Version2 xid 100003 3 6 cred args_at)).reply
   unfolding nfs_call
   read_call_suited count asked =
-      suited_by_cred s st sane xid args_at fits (entry 6) (IsBytes-drop args_at payload bytes) (min count 32768) 6 cred (program_call s st xid 100003 3 (entry 6))
+      suited_by_cred s st sane xid args_at fits (entry 6) (IsBytes-drop args_at payload bytes) (min count transfer_max) 6 cred (program_call s st xid 100003 3 (entry 6))
       (read_by s st sane xid args_at fits (entry 6) (IsBytes-drop args_at payload bytes) count asked (read_all (nfs_arguments_codec nfs.Read) (drop args_at payload)) refl)
 
-  readlink_call_suited : IsSuited 1024 5 (answer_to s st m payload (calls.Version2 xid 100003 3 5 cred args_at)).reply
+  readlink_call_suited : IsSuited link_target_max 5 (answer_to s st m payload (calls.Version2 xid 100003 3 5 cred args_at)).reply
   unfolding nfs_call
   readlink_call_suited =
-      suited_by_cred s st sane xid args_at fits (entry 5) (IsBytes-drop args_at payload bytes) 1024 5 cred (program_call s st xid 100003 3 (entry 5))
+      suited_by_cred s st sane xid args_at fits (entry 5) (IsBytes-drop args_at payload bytes) link_target_max 5 cred (program_call s st xid 100003 3 (entry 5))
       (readlink_by s st sane xid args_at fits (entry 5) (IsBytes-drop args_at payload bytes) (read_all (nfs_arguments_codec nfs.Readlink) (drop args_at payload)))
 
 -- ===== offers that hold
 
-module _ (reply : List ℕ) (down : ℕ) (room : 1024 ≤ down) where
+module _ (reply : List ℕ) (down : ℕ) (room : send_max ≤ down) where
   -- one chunk with one segment of so many bytes
   total_one : (g : RdmaSegment) → chunk_total (g ∷ []) ≡ g.length
   unfolding chunk_total
@@ -216,7 +218,7 @@ nothing = None
 same_number : (x y : ℕ) → Some x ≡ Some y → x ≡ y
 same_number x y e = cc
 
-module _ (s : Parameters) (st : State) (m : Moment) (payload : List ℕ) (bytes : IsBytes payload) (sane : IsSane st.tree) (down : ℕ) (room : 1024 ≤ down) where
+module _ (s : Parameters) (st : State) (m : Moment) (payload : List ℕ) (bytes : IsBytes payload) (sane : IsSane st.tree) (down : ℕ) (room : send_max ≤ down) where
   module _ (offer : ChunkLists) (g : RdmaSegment) (n : ℕ) (is : offer.write ≡ (g ∷ []) ∷ []) (len : g.length ≡ n) where
     module _ (xid : ℕ) (fits : xid < 2 ^ 32) (cred : Cred) (args_at : ℕ) where
       abbrev Goal : ℕ → ℕ → ℕ → Type 0
@@ -229,26 +231,26 @@ module _ (s : Parameters) (st : State) (m : Moment) (payload : List ℕ) (bytes 
       read_held None asked e = absurd cc
       read_held (Some count) asked e =
           chunk_held (answer_to s st m payload (calls.Version2 xid 100003 3 6 cred args_at)).reply down room offer g n 6 is len
-          (subst (λ (k : ℕ). IsSuited k 6 (answer_to s st m payload (calls.Version2 xid 100003 3 6 cred args_at)).reply) (same_number (min count 32768) n e) (read_call_suited s st sane m payload bytes xid fits cred args_at count asked))
+          (subst (λ (k : ℕ). IsSuited k 6 (answer_to s st m payload (calls.Version2 xid 100003 3 6 cred args_at)).reply) (same_number (min count transfer_max) n e) (read_call_suited s st sane m payload bytes xid fits cred args_at count asked))
 
-      readlink_held : 1024 ≡ n → Goal 100003 3 5
+      readlink_held : link_target_max ≡ n → Goal 100003 3 5
       readlink_held e =
           chunk_held (answer_to s st m payload (calls.Version2 xid 100003 3 5 cred args_at)).reply down room offer g n 5 is len
           (subst (λ (k : ℕ). IsSuited k 5 (answer_to s st m payload (calls.Version2 xid 100003 3 5 cred args_at)).reply) e (readlink_call_suited s st sane m payload bytes xid fits cred args_at))
 
       argument_held : (prog vers proc : ℕ) → argument_offer prog vers proc (from_place args_at payload) ≡ Some n → Goal prog vers proc
       argument_held prog vers proc e =
-          elim (chosen (is_nfs prog vers && eqb proc 6) (moved_offer (read_count (from_place args_at payload))) (cond (is_nfs prog vers && eqb proc 5) (Some 1024) None) (Some n) e) [
+          elim (chosen (is_nfs prog vers && eqb proc 6) (moved_offer (read_count (from_place args_at payload))) (cond (is_nfs prog vers && eqb proc 5) (Some link_target_max) None) (Some n) e) [
             | inl read ↦
                 let a = both (is_nfs prog vers) (eqb proc 6) read.0 in
                 let b = both (eqb prog 100003) (eqb vers 3) a.0 in
                 of_nfs prog vers proc 6 (eqb-true prog 100003 b.0) (eqb-true vers 3 b.1) (eqb-true proc 6 a.1) (read_held (read_count (from_place args_at payload)) refl read.1)
             | inr others ↦
-                elim (chosen (is_nfs prog vers && eqb proc 5) (Some 1024) None (Some n) others.1) [
+                elim (chosen (is_nfs prog vers && eqb proc 5) (Some link_target_max) None (Some n) others.1) [
                   | inl link ↦
                       let a = both (is_nfs prog vers) (eqb proc 5) link.0 in
                       let b = both (eqb prog 100003) (eqb vers 3) a.0 in
-                      of_nfs prog vers proc 5 (eqb-true prog 100003 b.0) (eqb-true vers 3 b.1) (eqb-true proc 5 a.1) (readlink_held (same_number 1024 n link.1))
+                      of_nfs prog vers proc 5 (eqb-true prog 100003 b.0) (eqb-true vers 3 b.1) (eqb-true proc 5 a.1) (readlink_held (same_number link_target_max n link.1))
                   | inr neither ↦ absurd (let wrong : nothing ≡ Some n = neither.1 in cc)
                 ]
           ]
@@ -291,7 +293,7 @@ module _ (s : Parameters) (st : State) (m : Moment) (payload : List ℕ) (bytes 
         let kept : Keeps q p = subst (Keeps q) (planned payload up down p e) (auto_keeps payload up q) in
         auto_holds (lists_of stag p) (write_stag stag p) (reply_stag stag p) (ap (write_list (write_stag stag p)) kept.0) (ap (reply_chunk (reply_stag stag p)) kept.1)
 
-pub auto_held : (s : Parameters) (st : State) (m : Moment) (payload : List ℕ) (a : Answer) (up down stag : ℕ) (p : Plan) → IsBytes payload → IsSane st.tree → plain_answer s st m payload ≡ Some a → 1024 ≤ down → plan_of payload forms.Auto up down ≡ Ok p
+pub auto_held : (s : Parameters) (st : State) (m : Moment) (payload : List ℕ) (a : Answer) (up down stag : ℕ) (p : Plan) → IsBytes payload → IsSane st.tree → plain_answer s st m payload ≡ Some a → send_max ≤ down → plan_of payload forms.Auto up down ≡ Ok p
     → answer_of_target (lists_of stag p) down a.reply (target_of (call_of payload)) ≢ None
 auto_held s st m payload a up down stag p bytes sane e room plan = by (call_of payload) refl e
   where

@@ -66,10 +66,11 @@ use Rattle.nr_plain.specs.ReplySizes.{HandleFits}
 use Rattle.nr_plain.specs.Programs.{nfs_results}
 use Rattle.nr_plain.proofs.Lengths.{some_attributes, wcc_size, padded_rises, length-handle, lookup_size, access_size, readlink_size, read_size, write_size, commit_size, create_size, rename_size, link_size, fsstat_size, fsinfo_size, pathconf_size, mount_size, answer_fits, union_fits, done_size, failed_size, mounted_size, not_mounted_size}
 use Rattle.nr_plain.proofs.Readings.{read_counted, readdir_counted, readdirplus_counted}
+use Rattle.nr_nfs_base.specs.Limits.{link_target_max, listing_max, transfer_max}
 
 -- ===== READLINK: a path is short
 
-path_by : (c : Content) → not (is_link c) ≡ false → IsFitContent c → length (bytes_of c) ≤ 1024
+path_by : (c : Content) → not (is_link c) ≡ false → IsFitContent c → length (bytes_of c) ≤ link_target_max
 path_by (Regular bytes) e fits = absurd cc
 path_by (Directory entries) e fits = absurd cc
 path_by (Block device) e fits = absurd cc
@@ -78,19 +79,19 @@ path_by (Link path) e fits = fits.1
 path_by Socket e fits = absurd cc
 path_by Fifo e fits = absurd cc
 
-pub path_short : (t : Tree) (a : ReadlinkArgs) → IsSane t → first (readlink_rules t a) ≡ None → length (readlink_done t a).path ≤ 1024
+pub path_short : (t : Tree) (a : ReadlinkArgs) → IsSane t → first (readlink_rules t a) ≡ None → length (readlink_done t a).path ≤ link_target_max
 path_short t a sane none =
     let all : AllClear (readlink_rules t a) = all_clear (readlink_rules t a) none in
     let v : (v : Node) × (node_of_handle t a.symlink ≡ Some v) = handled t a.symlink all.0 in
     let of_node : AllClear (readlink_of v.0) = on_some (node_of_handle t a.symlink) v.0 readlink_of v.1 all.1 in
-    subst (λ (o : Option Node). length (option_map_or (λ node. bytes_of node.content) o []) ≤ 1024) (sym v.1)
+    subst (λ (o : Option Node). length (option_map_or (λ node. bytes_of node.content) o []) ≤ link_target_max) (sym v.1)
     (path_by v.0.content (clear (not (is_link v.0.content)) Inval of_node.0) (sane.contents (number_of_handle a.symlink) v.0 (got t a.symlink v.0 v.1)))
 
 -- ===== READ: so many bytes at most
 
-pub piece_short : (bytes : List ℕ) (offset count : ℕ) → length (piece_read bytes offset count) ≤ min count 32768
+pub piece_short : (bytes : List ℕ) (offset count : ℕ) → length (piece_read bytes offset count) ≤ min count transfer_max
 piece_short bytes offset count =
-    omega (arith, length-take (min count 32768) (drop offset bytes), min-le_left (min count 32768) (length (drop offset bytes)))
+    omega (arith, length-take (min count transfer_max) (drop offset bytes), min-le_left (min count transfer_max) (length (drop offset bytes)))
 
 -- ===== READDIR and READDIRPLUS: within the count
 
@@ -117,12 +118,12 @@ both true b e = refl
 both false b e = absurd cc
 
 module _ (t : Tree) (c : Caller) where
-  readdir_short : (a : ReaddirArgs) (eof : Bool) → first (readdir_rules t c a) ≡ None → items_size (readdir_ok_codec.items (readdir_ok t a.dir (readdir_taken t a) eof)) ≤ min a.count 32768
+  readdir_short : (a : ReaddirArgs) (eof : Bool) → first (readdir_rules t c a) ≡ None → items_size (readdir_ok_codec.items (readdir_ok t a.dir (readdir_taken t a) eof)) ≤ min a.count listing_max
   readdir_short a eof none =
       let all : AllClear (readdir_rules t c a) = all_clear (readdir_rules t c a) none in
       let v : (v : Node) × (node_of_handle t a.dir ≡ Some v) = handled t a.dir all.0 in
       let of_dir : AllClear (readdir_in t c a v.0) = on_some (node_of_handle t a.dir) v.0 (readdir_in t c a) v.1 all.1 in
-      let fits = leb-true (length (encodings (readdir_ok_codec.items (readdir_ok t a.dir (readdir_taken t a) false)))) (min a.count 32768) (taken_fits (readdir_fits t a) (readdir_left t a) of_dir.1.0) in
+      let fits = leb-true (length (encodings (readdir_ok_codec.items (readdir_ok t a.dir (readdir_taken t a) false)))) (min a.count listing_max) (taken_fits (readdir_fits t a) (readdir_left t a) of_dir.1.0) in
       omega (
         arith,
         fits,
@@ -131,12 +132,12 @@ module _ (t : Tree) (c : Caller) where
         readdir_size t a.dir v.0 (readdir_taken t a) eof v.1,
       )
 
-  readdirplus_short : (a : ReaddirplusArgs) (eof : Bool) → first (readdirplus_rules t c a) ≡ None → items_size (readdirplus_ok_codec.items (readdirplus_ok t a.dir (readdirplus_taken t a) eof)) ≤ min a.maxcount 32768
+  readdirplus_short : (a : ReaddirplusArgs) (eof : Bool) → first (readdirplus_rules t c a) ≡ None → items_size (readdirplus_ok_codec.items (readdirplus_ok t a.dir (readdirplus_taken t a) eof)) ≤ min a.maxcount listing_max
   readdirplus_short a eof none =
       let all : AllClear (readdirplus_rules t c a) = all_clear (readdirplus_rules t c a) none in
       let v : (v : Node) × (node_of_handle t a.dir ≡ Some v) = handled t a.dir all.0 in
       let of_dir : AllClear (readdirplus_in t c a v.0) = on_some (node_of_handle t a.dir) v.0 (readdirplus_in t c a) v.1 all.1 in
-      let fits = leb-true (length (encodings (readdirplus_ok_codec.items (readdirplus_ok t a.dir (readdirplus_taken t a) false)))) (min a.maxcount 32768)
+      let fits = leb-true (length (encodings (readdirplus_ok_codec.items (readdirplus_ok t a.dir (readdirplus_taken t a) false)))) (min a.maxcount listing_max)
       (both _ _ (taken_fits (readdirplus_fits t a) (readdirplus_left t a) of_dir.1.0)) in
       omega (
         arith,
@@ -184,9 +185,9 @@ module _ (t : Tree) (c : Caller) (space : Space) (now : Time) (sane : IsSane t) 
   unfolding null_res_codec
   null_fits a = omega arith
 
-  read_fits : (a : ReadArgs) → Fits nfs.Read a (104 + (min a.count 32768 + pad_len (min a.count 32768)))
+  read_fits : (a : ReadArgs) → Fits nfs.Read a (104 + (min a.count transfer_max + pad_len (min a.count transfer_max)))
   read_fits a =
-      let n : ℕ = min a.count 32768 in
+      let n : ℕ = min a.count transfer_max in
       answer_fits read_ok_codec (optional attributes_codec) (first (read_rules t c a)) (attributes_at t a.file) (read_done t a) (104 + (n + pad_len n))
       (attributes_part (104 + (n + pad_len n)) (omega arith) (attributes_at t a.file))
       (λ none. omega (arith, read_size (read_done t a), padded_rises (length (read_done t a).bytes) n (piece_short (bytes_at t a.file) a.offset a.count)))
@@ -196,23 +197,23 @@ module _ (t : Tree) (c : Caller) (space : Space) (now : Time) (sane : IsSane t) 
   readlink_fits a =
       answer_fits readlink_ok_codec (optional attributes_codec) (first (readlink_rules t a)) (attributes_at t a.symlink) (readlink_done t a) 1120
       (attributes_part 1120 (omega arith) (attributes_at t a.symlink))
-      (λ none. omega (arith, readlink_size (readlink_done t a), padded_rises (length (readlink_done t a).path) 1024 (path_short t a sane none)))
+      (λ none. omega (arith, readlink_size (readlink_done t a), padded_rises (length (readlink_done t a).path) link_target_max (path_short t a sane none)))
 
-  readdir_within : (a : ReaddirArgs) → Fits nfs.Readdir a (max 92 (4 + min a.count 32768))
+  readdir_within : (a : ReaddirArgs) → Fits nfs.Readdir a (max 92 (4 + min a.count listing_max))
   readdir_within a =
-      let n : ℕ = max 92 (4 + min a.count 32768) in
+      let n : ℕ = max 92 (4 + min a.count listing_max) in
       let eof : Bool = _ in
       answer_fits readdir_ok_codec (optional attributes_codec) (first (readdir_rules t c a)) (attributes_at t a.dir) (readdir_ok t a.dir (readdir_taken t a) eof) n
-      (attributes_part n (le-max_left 92 (4 + min a.count 32768)) (attributes_at t a.dir))
-      (λ none. omega (arith, readdir_short t c a eof none, le-max_right 92 (4 + min a.count 32768)))
+      (attributes_part n (le-max_left 92 (4 + min a.count listing_max)) (attributes_at t a.dir))
+      (λ none. omega (arith, readdir_short t c a eof none, le-max_right 92 (4 + min a.count listing_max)))
 
-  readdirplus_within : (a : ReaddirplusArgs) → Fits nfs.Readdirplus a (max 92 (4 + min a.maxcount 32768))
+  readdirplus_within : (a : ReaddirplusArgs) → Fits nfs.Readdirplus a (max 92 (4 + min a.maxcount listing_max))
   readdirplus_within a =
-      let n : ℕ = max 92 (4 + min a.maxcount 32768) in
+      let n : ℕ = max 92 (4 + min a.maxcount listing_max) in
       let eof : Bool = _ in
       answer_fits readdirplus_ok_codec (optional attributes_codec) (first (readdirplus_rules t c a)) (attributes_at t a.dir) (readdirplus_ok t a.dir (readdirplus_taken t a) eof) n
-      (attributes_part n (le-max_left 92 (4 + min a.maxcount 32768)) (attributes_at t a.dir))
-      (λ none. omega (arith, readdirplus_short t c a eof none, le-max_right 92 (4 + min a.maxcount 32768)))
+      (attributes_part n (le-max_left 92 (4 + min a.maxcount listing_max)) (attributes_at t a.dir))
+      (λ none. omega (arith, readdirplus_short t c a eof none, le-max_right 92 (4 + min a.maxcount listing_max)))
 
   -- a reply's head has 24 bytes
   module _ (place : ℕ) (args : List ℕ) (bytes : IsBytes args) where
@@ -246,7 +247,7 @@ module _ (t : Tree) (c : Caller) (space : Space) (now : Time) (sane : IsSane t) 
         one nfs.Access a 96 (union_fits access_ok_codec (optional attributes_codec) (access_reply t c a) 96 (attributes_part 96 (omega arith)) (λ d. omega (arith, access_size d))) (omega arith)
     results_within nfs.Readlink a e = one nfs.Readlink a 1120 (readlink_fits a) (omega arith)
     results_within nfs.Read a e =
-        counted nfs.Read a (104 + (min a.count 32768 + pad_len (min a.count 32768))) read_reply_max (read_count (standing place args)) a.count (read_counted place args bytes a e) refl (read_fits a) (omega arith)
+        counted nfs.Read a (104 + (min a.count transfer_max + pad_len (min a.count transfer_max))) read_reply_max (read_count (standing place args)) a.count (read_counted place args bytes a e) refl (read_fits a) (omega arith)
     results_within nfs.Write a e = one nfs.Write a 136 (union_fits write_ok_codec wcc_data_codec (write_reply t c space now a) 136 (wcc_part 136 (omega arith)) (λ d. omega (arith, write_size d))) (omega arith)
     results_within nfs.Create a e = one nfs.Create a 280 (make_fits (first (create_rules t c space a)) _ t (create_tree t c space now a) a.dir a.name) (omega arith)
     results_within nfs.Mkdir a e = one nfs.Mkdir a 280 (make_fits (first (mkdir_rules t c space a)) _ t (mkdir_tree t c space now a) a.dir a.name) (omega arith)
@@ -257,9 +258,9 @@ module _ (t : Tree) (c : Caller) (space : Space) (now : Time) (sane : IsSane t) 
     results_within nfs.Rename a e = one nfs.Rename a 236 (union_fits rename_wcc_codec rename_wcc_codec (rename_reply t c space now a) 236 (λ d. omega (arith, rename_size d)) (λ d. omega (arith, rename_size d))) (omega arith)
     results_within nfs.Link a e = one nfs.Link a 208 (union_fits link_wcc_codec link_wcc_codec (link_reply t c space now a) 208 (λ d. omega (arith, link_size d)) (λ d. omega (arith, link_size d))) (omega arith)
     results_within nfs.Readdir a e =
-        counted nfs.Readdir a (max 92 (4 + min a.count 32768)) readdir_reply_max (readdir_count (standing place args)) a.count (readdir_counted place args bytes a e) refl (readdir_within a) (most_listed (min a.count 32768))
+        counted nfs.Readdir a (max 92 (4 + min a.count listing_max)) readdir_reply_max (readdir_count (standing place args)) a.count (readdir_counted place args bytes a e) refl (readdir_within a) (most_listed (min a.count listing_max))
     results_within nfs.Readdirplus a e =
-        counted nfs.Readdirplus a (max 92 (4 + min a.maxcount 32768)) readdir_reply_max (readdirplus_count (standing place args)) a.maxcount (readdirplus_counted place args bytes a e) refl (readdirplus_within a) (most_listed (min a.maxcount 32768))
+        counted nfs.Readdirplus a (max 92 (4 + min a.maxcount listing_max)) readdir_reply_max (readdirplus_count (standing place args)) a.maxcount (readdirplus_counted place args bytes a e) refl (readdirplus_within a) (most_listed (min a.maxcount listing_max))
     results_within nfs.Fsstat a e =
         one nfs.Fsstat a 144 (union_fits fsstat_ok_codec (optional attributes_codec) (fsstat_reply t space a) 144 (attributes_part 144 (omega arith)) (λ d. omega (arith, fsstat_size d))) (omega arith)
     results_within nfs.Fsinfo a e =

@@ -69,24 +69,24 @@ pub write_spells : (stag to : ℕ) (bytes : List ℕ) → write stag to bytes �
 unfolding write cut
 write_spells stag to bytes = sym (flat-map encoding (one_write stag to bytes) (range_with_len 0 (segment_count bytes)))
 
-low_piece : (i n : ℕ) → i < max 1 ((n + 4095) / 4096) → 4096 * i ≤ n
+low_piece : (i n : ℕ) → i < max 1 ((n + 4095) / segment_max) → segment_max * i ≤ n
 low_piece i n h = omega (arith, h)
 
-all_pieces : (n : ℕ) → n ≤ 4096 * max 1 ((n + 4095) / 4096)
+all_pieces : (n : ℕ) → n ≤ segment_max * max 1 ((n + 4095) / segment_max)
 all_pieces n = omega arith
 
 laid-segment_count : (stag to : ℕ) (bytes old : List ℕ) (k i : ℕ) → to + length bytes ≤ length old → i + k ≡ segment_count bytes →
     bytes_after_segments stag (bytes_after_write old to (take (segment_max * i) bytes)) (map (one_write stag to bytes) (range_with_len i k)) ≡ bytes_after_write old to bytes
 laid-segment_count stag to bytes old zero i fits all =
-    ap (λ (xs : List ℕ). bytes_after_write old to xs) (take_all (4096 * i) bytes (let h = all_pieces (length bytes) in omega (arith, h, all)))
+    ap (λ (xs : List ℕ). bytes_after_write old to xs) (take_all (segment_max * i) bytes (let h = all_pieces (length bytes) in omega (arith, h, all)))
 laid-segment_count stag to bytes old (suc k) i fits all =
-    let low : 4096 * i ≤ length bytes = low_piece i (length bytes) (omega (arith, all)) in
-    let len : length (take (4096 * i) bytes) ≡ 4096 * i = length-take-le (4096 * i) bytes low in
-    ap (λ (b : Bool). bytes_after_segments stag (cond b (bytes_after_write (bytes_after_write old to (take (4096 * i) bytes)) (to + 4096 * i) (segment_payload bytes i)) (bytes_after_write old to (take (4096 * i) bytes))) (map (one_write stag to bytes) (range_with_len (i + 1) k))) (eq-eqb stag stag refl)
+    let low : segment_max * i ≤ length bytes = low_piece i (length bytes) (omega (arith, all)) in
+    let len : length (take (segment_max * i) bytes) ≡ segment_max * i = length-take-le (segment_max * i) bytes low in
+    ap (λ (b : Bool). bytes_after_segments stag (cond b (bytes_after_write (bytes_after_write old to (take (segment_max * i) bytes)) (to + segment_max * i) (segment_payload bytes i)) (bytes_after_write old to (take (segment_max * i) bytes))) (map (one_write stag to bytes) (range_with_len (i + 1) k))) (eq-eqb stag stag refl)
     ∙ ap (λ (xs : List ℕ). bytes_after_segments stag xs (map (one_write stag to bytes) (range_with_len (i + 1) k)))
-    (ap (λ (n : ℕ). bytes_after_write (bytes_after_write old to (take (4096 * i) bytes)) (to + n) (segment_payload bytes i)) (sym len)
-    ∙ written-more old (take (4096 * i) bytes) (segment_payload bytes i) to (omega (arith, len, low, fits))
-    ∙ ap (λ (xs : List ℕ). bytes_after_write old to xs) (take-split (4096 * i) 4096 bytes ∙ ap (λ (n : ℕ). take n bytes) (let s : 4096 * i + 4096 ≡ 4096 * (i + 1) = omega arith in s)))
+    (ap (λ (n : ℕ). bytes_after_write (bytes_after_write old to (take (segment_max * i) bytes)) (to + n) (segment_payload bytes i)) (sym len)
+    ∙ written-more old (take (segment_max * i) bytes) (segment_payload bytes i) to (omega (arith, len, low, fits))
+    ∙ ap (λ (xs : List ℕ). bytes_after_write old to xs) (take-split (segment_max * i) segment_max bytes ∙ ap (λ (n : ℕ). take n bytes) (let s : segment_max * i + segment_max ≡ segment_max * (i + 1) = omega arith in s)))
     ∙ laid-segment_count stag to bytes old k (i + 1) fits (omega (arith, all))
 
 pub laid-write : (stag to : ℕ) (bytes old : List ℕ) → to + length bytes ≤ length old → bytes_after_segments stag old (write_segments stag to bytes) ≡ bytes_after_write old to bytes

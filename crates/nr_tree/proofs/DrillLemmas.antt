@@ -20,6 +20,7 @@ use Rattle.nr_tree.specs.declared.node.Content.{Content}
 use Rattle.nr_tree.specs.declared.node.Content.TheVariants.{Regular, Directory, Block, Character, Link, Socket, Fifo}
 use Rattle.nr_tree.proofs.NodeMaps.{get_changed, other_key}
 use Rattle.nr_tree.proofs.Contents.{none_append}
+use Rattle.nr_nfs_base.specs.Limits.{link_target_max}
 
 own_key : (q : ℕ) → eq_by_cmp nat_cmp q q ≡ true
 own_key q = grind (arith, nat_tests)
@@ -110,7 +111,7 @@ can_add t d name mode links content v e dir none some few room new = record {
 pub new_file : (d : ℕ) (bytes : List ℕ) → length bytes ≤ 16777216 → IsNew (drill_node mode_666 1 d (Regular bytes)) d
 new_file d bytes le = record { fit = le; empty = refl; first_cookie = omega arith; parent = refl; links = refl }
 
-pub new_link : (d : ℕ) (path : List ℕ) → 0 < length path → length path ≤ 1024 → IsNew (drill_node mode_777 1 d (Link path)) d
+pub new_link : (d : ℕ) (path : List ℕ) → 0 < length path → length path ≤ link_target_max → IsNew (drill_node mode_777 1 d (Link path)) d
 new_link d path some few = record { fit = (some, few); empty = refl; first_cookie = omega arith; parent = refl; links = refl }
 
 pub new_directory : (d : ℕ) → IsNew (drill_node mode_777 2 d (Directory (record { next_cookie = 1; list = [] }))) d
