@@ -1,11 +1,9 @@
 -- Every side that is reached has bounds: on its open reads, on the responses that it owes, and on its receives.
-use Rattle.std.proofs.Common.{◌≡◌, ℕ, zero, suc, ◌+◌, ◌-◌, ◌<◌, ◌≤◌, Bool, true, false, cond, not, ◌&&◌, List, [], ◌∷◌, ◌++◌, length, take, drop, Option, Some, None, Result, Ok, Err, refl, sym, ap, subst, ◌∙◌, eqb, arith, length-append}
-use Rattle.std.specs.Prelude.{is_some, ◌≢◌}
-use Rattle.std.proofs.lemmas.List.{append-nil}
+use Rattle.std.proofs.Common.{◌≡◌, ℕ, ◌+◌, ◌-◌, ◌<◌, ◌≤◌, Bool, true, false, cond, not, ◌&&◌, List, [], ◌∷◌, ◌++◌, length, drop, Option, Some, None, Result, Ok, Err, refl, sym, subst, eqb, arith, length-append}
+use Rattle.std.specs.Prelude.{◌≢◌}
 use Rattle.std.proofs.lemmas.Bool.{eqb-true}
 use Rattle.nr_wire.specs.Constants.{OPCODE_READ_RESPONSE, OPCODE_READ_REQUEST, OPCODE_SEND}
 use Rattle.nr_wire.specs.declared.hello.Side.{Side}
-use Rattle.nr_wire.specs.declared.hello.Side.TheVariants.{Initiator, Responder}
 use Rattle.nr_wire.specs.declared.stream.Awaited.{Awaited}
 use Rattle.nr_wire.specs.declared.stream.Awaited.TheVariants.{Hello as HelloFrom, Fpdu}
 use Rattle.nr_wire.specs.Hello.{Hello, hello_of}
@@ -16,10 +14,10 @@ use Rattle.nr_link.specs.declared.end.End.{End}
 use Rattle.nr_link.specs.Frames.{Frame}
 use Rattle.nr_link.specs.Limits.{open_reads_max}
 use Rattle.nr_link.specs.Output.{read_response}
-use Rattle.nr_link.specs.ReceiveState.{ReceiveState, is_send, begun_bytes, read_request_in, read_request_of, received_after, send_continued, message_completed}
+use Rattle.nr_link.specs.ReceiveState.{is_send, begun_bytes, read_request_in, send_continued}
 use Rattle.nr_link.specs.SegmentFaults.{ExpectedResponse, is_begun}
-use Rattle.nr_endpoint.specs.SendQueue.{SendQueue, with_end, written}
-use Rattle.nr_endpoint.specs.ReceiveQueue.{Notice, ReceiveQueue, with_segment, with_read_done, told, posted, lent_for, sends_begun, messages_in, receives_kept, kept_send, takes_receive, message_notices}
+use Rattle.nr_endpoint.specs.SendQueue.{with_end, written}
+use Rattle.nr_endpoint.specs.ReceiveQueue.{Notice, ReceiveQueue, with_segment, with_read_done, lent_for, sends_begun, messages_in, receives_kept, kept_send, message_notices}
 use Rattle.nr_endpoint.specs.ReceiveQueue.Notice.{MessageReceived, ReadDone}
 use Rattle.nr_endpoint.specs.LinkState.{LinkState, Link, has_ended, initial_link}
 use Rattle.nr_endpoint.specs.Judging.{segment_end, next_frame, with_frame, with_segment_by, with_fpdu, with_peer_hello, with_effect, with_read_request, with_read_response, reads_after, fetch_access}

@@ -1,12 +1,12 @@
 -- Where the items of a list end, as items are queued and bytes are written; and how many were written whole.
-use Rattle.std.proofs.Common.{◌≡◌, ℕ, ◌+◌, ◌-◌, ◌<◌, ◌≤◌, Bool, true, false, cond, ◌&&◌, ltb, nat_lt, nat_le, List, [], ◌∷◌, ◌++◌, length, drop, inl, inr, refl, sym, ap, subst, ◌∙◌, arith, add-zero, append_assoc, length-append}
+use Rattle.std.proofs.Common.{◌≡◌, ℕ, ◌+◌, ◌-◌, ◌<◌, ◌≤◌, Bool, true, false, cond, ◌&&◌, ltb, nat_lt, nat_le, List, [], ◌∷◌, ◌++◌, length, inl, inr, refl, sym, ap, ◌∙◌, arith, add-zero, append_assoc, length-append}
 use Rattle.std.specs.Prelude.{map}
 use Rattle.std.specs.List.{filter}
 use Rattle.std.proofs.lemmas.List.{append-nil}
-use Rattle.std.proofs.lemmas.Bool.{cases_lt, ltb-true, ltb-false, lt-ltb, le-ltb, le-leb, lt-leb}
+use Rattle.std.proofs.lemmas.Bool.{cases_lt, lt-ltb, le-ltb, le-leb, lt-leb}
 use Rattle.nr_link.specs.OutputItem.{OutputItem, item_encoding, items_encoding, one_if_true, item_ends, items_written, items_left}
 use Rattle.nr_endpoint.specs.SendQueue.{ends_left, ends_passed}
-use Rattle.nr_endpoint.proofs.SendQueues.{ends_left-append, ends_left-fewer, ends_passed-append}
+use Rattle.nr_endpoint.proofs.SendQueues.{ends_left-append, ends_left-fewer}
 
 -- ---- One item more
 

@@ -1,5 +1,5 @@
 -- A frame makes one notice at most.
-use Rattle.std.proofs.Common.{◌≡◌, ℕ, ◌+◌, ◌≤◌, Bool, true, false, cond, ◌&&◌, eqb, List, [], ◌∷◌, ◌++◌, length, map, take, Option, Some, None, Result, Ok, Err, refl, ap, arith, length-append}
+use Rattle.std.proofs.Common.{◌≡◌, ℕ, ◌+◌, ◌≤◌, Bool, true, false, cond, ◌&&◌, eqb, List, [], ◌∷◌, ◌++◌, length, map, take, Option, Some, None, Result, Ok, Err, ap, arith, length-append}
 use Rattle.std.proofs.lemmas.List.{length-map}
 use Rattle.nr_wire.specs.Constants.{OPCODE_READ_RESPONSE}
 use Rattle.nr_wire.specs.declared.stream.Awaited.{Awaited}
@@ -11,11 +11,11 @@ use Rattle.nr_link.specs.Frames.{Frame}
 use Rattle.nr_link.specs.ReceiveState.{ReceiveState, message_completed}
 use Rattle.nr_endpoint.specs.ReceiveQueue.{Notice, message_notices}
 use Rattle.nr_endpoint.specs.ReceiveQueue.Notice.{ReadDone}
-use Rattle.nr_endpoint.specs.LinkState.{LinkState, Link, has_ended}
-use Rattle.nr_endpoint.specs.Judging.{segment_end, next_frame, with_frame}
-use Rattle.nr_endpoint.specs.Calls.{Call, after_call, after_calls}
+use Rattle.nr_endpoint.specs.LinkState.{LinkState, has_ended}
+use Rattle.nr_endpoint.specs.Judging.{segment_end, next_frame}
+use Rattle.nr_endpoint.specs.Calls.{after_call, after_calls}
 use Rattle.nr_endpoint.specs.Calls.Call.{FeedOne}
-use Rattle.nr_endpoint.specs.Laws.{frames_made_whole, notices_of, MadeNotice, made_at, segment_notices, fpdu_notices, frame_notices, notices_of_frames, call_notices, notices_made, OneFrameTellsOnce}
+use Rattle.nr_endpoint.specs.Laws.{frames_made_whole, notices_of, MadeNotice, made_at, segment_notices, fpdu_notices, frame_notices, notices_of_frames, call_notices, OneFrameTellsOnce}
 use Rattle.nr_endpoint.proofs.NoticeLaws.{events-are-told}
 
 message-few : (number : ℕ) (message : Option (List ℕ)) → length (message_notices number message) ≤ 1

@@ -1,30 +1,12 @@
 -- What a side has to write is its hello and the items that were queued, less the bytes that were written.
-use Rattle.std.proofs.Common.{◌≡◌, ℕ, ◌+◌, ◌-◌, ◌*◌, ◌^◌, ◌<◌, ◌≤◌, Bool, true, false, cond, not, ltb, nat_lt, List, [], ◌∷◌, ◌++◌, length, take, drop, Option, Some, None, Result, Ok, Err, IfSome, inl, inr, refl, sym, ap, subst, ◌∙◌, append_assoc, eqb, arith, length-append}
-use Rattle.std.specs.Prelude.{◌⊎◌, is_some, min}
+use Rattle.std.proofs.Common.{◌≡◌, ℕ, ◌+◌, ◌-◌, ◌^◌, ◌<◌, ◌≤◌, Bool, true, false, cond, nat_lt, List, [], ◌∷◌, ◌++◌, length, take, drop, inl, inr, refl, sym, ap, subst, ◌∙◌, append_assoc, arith, length-append}
+use Rattle.std.specs.Prelude.{◌⊎◌, min}
 use Rattle.std.proofs.lemmas.List.{append-nil, take-append-drop, take-append-le, take_all, drop_all, drop-drop, take_at, drop_at, length-take, length-drop}
 use Rattle.std.proofs.lemmas.Bool.{cases_lt, lt-ltb, le-ltb}
 use Rattle.std.proofs.Math.Seq.{take-add}
-use Rattle.nr_wire.specs.Constants.{OPCODE_READ_RESPONSE}
-use Rattle.nr_wire.specs.declared.hello.Side.{Side}
-use Rattle.nr_wire.specs.declared.hello.Side.TheVariants.{Initiator, Responder}
-use Rattle.nr_wire.specs.declared.stream.Awaited.{Awaited}
-use Rattle.nr_wire.specs.declared.stream.Awaited.TheVariants.{Hello as HelloFrom, Fpdu}
-use Rattle.nr_wire.specs.Hello.{Hello, hello_of}
-use Rattle.nr_wire.specs.Segment.{Segment, segment_of}
-use Rattle.nr_wire.specs.Segment.Segment.{Tagged, Untagged}
-use Rattle.nr_regions.specs.RegisteredMemory.{RegisteredMemory, after_place, bytes_at}
-use Rattle.nr_link.specs.declared.end.End.{End}
-use Rattle.nr_link.specs.declared.end.End.TheVariants as ends
-use Rattle.nr_link.specs.Frames.{Frame}
-use Rattle.nr_link.specs.Output.{own_hello}
-use Rattle.nr_link.specs.ReceiveState.{ReadRequest, read_request_of}
-use Rattle.nr_link.specs.Ending.{rejection, final_output}
 use Rattle.nr_link.specs.OutputItem.{OutputItem, item_encoding, items_encoding, is_send_item, is_response_item, item_ends, items_written, items_left}
 use Rattle.nr_link.specs.OutputItem.OutputItem.{SendItem, WriteItem, ReadRequestItem, ReadResponseItem, LastItem}
-use Rattle.nr_endpoint.specs.SendQueue.{SendQueue, ends_left, ends_passed, with_end, written, writable}
-use Rattle.nr_endpoint.specs.LinkState.{LinkState, Link, has_ended}
-use Rattle.nr_endpoint.specs.Judging.{with_read_request, with_effect, with_read_response, fetch_access}
-use Rattle.nr_endpoint.specs.OutputLaws.{hello_queued, own_output_hello, response_items}
+use Rattle.nr_endpoint.specs.SendQueue.{SendQueue, ends_left, ends_passed, written, writable}
 use Rattle.nr_endpoint.proofs.SendQueues.{ends_left-append, ends_passed-append}
 use Rattle.nr_endpoint.proofs.Queued.{send-some, response-some}
 use Rattle.nr_endpoint.proofs.ItemEnds.{encoding-more, end_of_item, ends-more, left-twice, passed-twice, left-kept, EndsAlike, HasBytes, left-counts, written-counts}

@@ -1,6 +1,6 @@
 -- The items that a frame, some frames and a call queue.
-use Rattle.std.proofs.Common.{◌≡◌, ℕ, ◌+◌, ◌<◌, ◌≤◌, Bool, true, false, cond, not, List, [], ◌∷◌, ◌++◌, length, take, Option, Some, None, Result, Ok, Err, IfSome, inl, inr, refl, sym, ap, subst, ◌∙◌, append_assoc, eqb, ne_eqb, arith}
-use Rattle.std.specs.Prelude.{◌⊎◌, is_some, IfErr, min}
+use Rattle.std.proofs.Common.{◌≡◌, ℕ, ◌<◌, Bool, true, false, cond, not, List, [], ◌∷◌, ◌++◌, length, take, Option, Some, None, Result, Ok, Err, IfSome, inl, inr, refl, sym, ap, subst, ◌∙◌, append_assoc, eqb, ne_eqb, arith}
+use Rattle.std.specs.Prelude.{is_some, IfErr}
 use Rattle.std.proofs.lemmas.List.{append-nil}
 use Rattle.nr_wire.specs.Constants.{OPCODE_READ_RESPONSE, REASON_FLAGS}
 use Rattle.nr_wire.specs.declared.hello.Side.{Side}
@@ -21,9 +21,9 @@ use Rattle.nr_link.specs.Frames.{Frame}
 use Rattle.nr_link.specs.Output.{own_hello, refusing_hello}
 use Rattle.nr_link.specs.ReceiveState.{ReadRequest, read_request_of}
 use Rattle.nr_link.specs.Ending.{rejection}
-use Rattle.nr_link.specs.OutputItem.{OutputItem, is_send_item, is_response_item}
+use Rattle.nr_link.specs.OutputItem.{OutputItem}
 use Rattle.nr_link.specs.OutputItem.OutputItem.{SendItem, WriteItem, ReadRequestItem, ReadResponseItem, LastItem}
-use Rattle.nr_endpoint.specs.SendQueue.{SendQueue, with_end, with_response, with_send, with_write, with_request, next_number, writable, written}
+use Rattle.nr_endpoint.specs.SendQueue.{SendQueue, with_end, with_response, with_send, with_write, with_request, next_number, writable}
 use Rattle.nr_endpoint.specs.LinkState.{LinkState, Link, has_ended, initial_link}
 use Rattle.nr_endpoint.specs.Judging.{segment_end, next_frame, with_frame, with_segment_by, with_fpdu, with_peer_hello, with_effect, with_read_request, with_read_response, reply_hello, fetch_access}
 use Rattle.nr_endpoint.specs.Calls.{Call, IsStopReason, after_call, after_calls}

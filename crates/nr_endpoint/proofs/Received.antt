@@ -1,5 +1,5 @@
 -- The tagged segments before and after the bytes that came.
-use Rattle.std.proofs.Common.{◌≡◌, ℕ, ◌+◌, ◌<◌, ◌≤◌, is_some, Bool, true, false, cond, List, [], ◌∷◌, ◌++◌, length, take, drop, Option, Some, None, Result, Ok, Err, inl, inr, refl, sym, ap, subst, ◌∙◌, arith, length-append}
+use Rattle.std.proofs.Common.{◌≡◌, ℕ, ◌+◌, ◌<◌, ◌≤◌, is_some, Bool, true, false, cond, List, [], ◌∷◌, ◌++◌, length, take, Option, Some, None, Result, Ok, Err, inl, inr, refl, sym, ap, subst, arith, length-append}
 use Rattle.std.specs.Prelude.{All}
 use Rattle.std.proofs.lemmas.List.{length-take}
 use Rattle.std.proofs.lemmas.List.Elements.{All-nil, All-cons}
@@ -17,7 +17,7 @@ use Rattle.nr_regions.specs.Events.Event.{Register as RegisterRegion, Release as
 use Rattle.nr_regions.specs.Access.{TaggedSegment}
 use Rattle.nr_link.specs.declared.end.End.{End}
 use Rattle.nr_link.specs.Frames.{Frame}
-use Rattle.nr_link.specs.Input.{InputState, input_of}
+use Rattle.nr_link.specs.Input.{input_of}
 use Rattle.nr_link.proofs.Inputs.{input_of-count}
 use Rattle.nr_endpoint.specs.LinkState.{LinkState, Link, has_ended, peer, initial_link}
 use Rattle.nr_endpoint.specs.Judging.{segment_end, next_frame, with_frame}

@@ -1,10 +1,10 @@
 -- Several calls at once: from the side's new state to the list of calls.
-use Rattle.std.proofs.Common.{◌≡◌, ℕ, ◌+◌, ◌<◌, ◌≤◌, Bool, true, false, cond, is_some, List, [], ◌∷◌, ◌++◌, length, drop, take, get_or, Option, None, Some, IfSome, Result, Ok, Err, refl, sym, ap, subst, ◌∙◌, arith, append_assoc, length-append}
+use Rattle.std.proofs.Common.{◌≡◌, ℕ, ◌+◌, ◌<◌, ◌≤◌, Bool, true, false, cond, List, [], ◌∷◌, ◌++◌, length, drop, take, get_or, Option, None, Some, IfSome, Result, Ok, Err, refl, sym, ap, subst, ◌∙◌, arith, append_assoc, length-append}
 use Rattle.std.specs.Prelude.{IfOk, OnOk}
 use Rattle.std.proofs.lemmas.List.{append-nil, drop_more, take-append-le}
 use Rattle.nr_regions.specs.declared.right.Right.{Right}
 use Rattle.nr_regions.specs.declared.right.Right.TheVariants.{Fetch, Fill}
-use Rattle.nr_regions.specs.RegisteredMemory.{RegisteredMemory, Claim, IsHeld, after_register, claim_of}
+use Rattle.nr_regions.specs.RegisteredMemory.{RegisteredMemory, Claim, IsHeld, after_register}
 use Rattle.nr_regions.specs.Events.Event.{Register as RegisterRegion}
 use Rattle.nr_regions.specs.Events.{after_event}
 use Rattle.nr_regions.proofs.Holding.{held-after_register, held-after_event}
@@ -16,7 +16,7 @@ use Rattle.nr_endpoint.specs.SendQueue.{SendQueue, with_send, with_fpdus, with_w
 use Rattle.nr_endpoint.specs.LinkState.{Link, LinkState, has_ended}
 use Rattle.nr_endpoint.specs.EndpointState.{EndpointState}
 use Rattle.nr_endpoint.specs.Calls.{Call, after_call, after_calls, with_state, unless_ended}
-use Rattle.nr_endpoint.specs.Calls.Call.{Send, WriteRemote, Register}
+use Rattle.nr_endpoint.specs.Calls.Call.{Send}
 use Rattle.nr_endpoint.specs.Offering.{offer_calls, register_call, with_buffer, claim_if, with_read, with_write_buffer, with_offered, claims_of, AreHeld, after_offer, write_call, answer_calls, writes_output, after_answer}
 
 -- what holds of the fields holds of the value

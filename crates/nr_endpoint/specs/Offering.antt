@@ -1,5 +1,5 @@
 -- Several calls of an owner at once, all or none: a Send with the buffers that it offers to the peer, and RDMA Writes before a Send.
-use Rattle.std.specs.Prelude.{◌≡◌, ℕ, ◌+◌, ◌^◌, ◌≤◌, List, [], ◌∷◌, ◌++◌, length, map, if◌then◌else◌, Option, None, Some, IfSome}
+use Rattle.std.specs.Prelude.{ℕ, ◌+◌, ◌^◌, ◌≤◌, List, [], ◌∷◌, ◌++◌, length, map, if◌then◌else◌, Option, None, Some, IfSome}
 use Rattle.nr_regions.specs.declared.right.Right.{Right}
 use Rattle.nr_regions.specs.declared.right.Right.TheVariants.{Fetch, Fill}
 use Rattle.nr_regions.specs.RegisteredMemory.{RegisteredMemory, Claim, IsHeld, after_register, claim_of}
@@ -7,7 +7,7 @@ use Rattle.nr_link.specs.Output.{write}
 use Rattle.nr_endpoint.specs.declared.offering.Offered.{Offered}
 use Rattle.nr_endpoint.specs.declared.offering.Claims.{Claims}
 use Rattle.nr_endpoint.specs.declared.framing.RemoteWrite.{RemoteWrite}
-use Rattle.nr_endpoint.specs.SendQueue.{SendQueue, with_send, with_fpdus}
+use Rattle.nr_endpoint.specs.SendQueue.{with_send, with_fpdus}
 use Rattle.nr_endpoint.specs.LinkState.{LinkState, has_ended}
 use Rattle.nr_endpoint.specs.Calls.{Call, unless_ended}
 use Rattle.nr_endpoint.specs.Calls.Call.{Send, WriteRemote, Register}

@@ -17,7 +17,7 @@ use Rattle.nr_link.specs.OutputItem.{OutputItem, items_encoding, is_send_item, i
 use Rattle.nr_link.specs.OutputItem.OutputItem.{SendItem, WriteItem, ReadRequestItem, ReadResponseItem, LastItem}
 use Rattle.nr_link.specs.ReceiveState.{ReadRequest, read_request_of}
 use Rattle.nr_link.specs.Ending.{rejection}
-use Rattle.nr_endpoint.specs.SendQueue.{SendQueue, next_number, writable}
+use Rattle.nr_endpoint.specs.SendQueue.{next_number, writable}
 use Rattle.nr_endpoint.specs.ReceiveQueue.{receives_kept}
 use Rattle.nr_endpoint.specs.LinkState.{LinkState, Link, has_ended, initial_link}
 use Rattle.nr_endpoint.specs.Judging.{segment_end, fetch_access, next_frame, with_frame}

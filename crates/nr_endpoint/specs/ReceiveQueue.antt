@@ -1,5 +1,5 @@
 -- What came to a side in untagged messages, and its receives (RFC 5041 section 4.3).
-use Rattle.std.specs.Prelude.{ℕ, ◌+◌, ◌-◌, Bool, not, false, ◌&&◌, if◌then◌else◌, List, [], ◌∷◌, ◌++◌, length, drop, Option, None, Some}
+use Rattle.std.specs.Prelude.{ℕ, ◌+◌, ◌-◌, Bool, not, false, ◌&&◌, if◌then◌else◌, List, [], ◌∷◌, ◌++◌, drop, Option, None, Some}
 use Rattle.nr_wire.specs.Segment.{Segment}
 use Rattle.nr_wire.specs.Segment.Segment.{Tagged, Untagged}
 use Rattle.nr_link.specs.Limits.{send_max}

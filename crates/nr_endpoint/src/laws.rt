@@ -40,8 +40,8 @@ pub fn memory_follows_accesses()
     ensures dead { ReleasedStaysDead }
 {}
 
-/// The bytes that came, those of a begun frame among them, part the tagged segments and the events: those so far end within these bytes,
-/// and those of later calls end after them.
+/// The bytes that came, those of an incomplete frame among them, divide the tagged segments and the events: those so far end within these
+/// bytes, and those of later calls end after them.
 pub fn accesses_follow_bytes()
     ensures accesses { ReceivedBytes }
     ensures events { EventsOfReceivedBytes }
