@@ -1,3 +1,4 @@
+pub mod KeptMarks
 pub mod Registering
 pub mod Submits
 pub mod Closing

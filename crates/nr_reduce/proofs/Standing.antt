@@ -56,12 +56,12 @@ events-input link side run mark =
 -- ---- One mark more
 
 -- the state after some events, and the output that is due for them, are those of others
-record SameAfter {S : Type 0} (rules : Rules S) (r : EndState S) (es fs : List Event) : Type 0 where
+pub record SameAfter {S : Type 0} (rules : Rules S) (r : EndState S) (es fs : List Event) : Type 0 where
   pub state : end_state_after rules r es ≡ end_state_after rules r fs
   pub output : output_for_all rules r es ≡ output_for_all rules r fs
 
 -- which events they are doesn't matter once an end has ended
-same-after : {S : Type 0} (rules : Rules S) (r : EndState S) (es fs : List Event) → (r.ended ≡ None → es ≡ fs) → SameAfter rules r es fs
+pub same-after : {S : Type 0} (rules : Rules S) (r : EndState S) (es fs : List Event) → (r.ended ≡ None → es ≡ fs) → SameAfter rules r es fs
 same-after rules r es fs same = by r.ended refl
   where
     by : (x : Option End) → r.ended ≡ x → SameAfter rules r es fs
@@ -73,7 +73,7 @@ same-after rules r es fs same = by r.ended refl
         (record { state = stays.0 ∙ sym stays2.0; output = stays.1 ∙ sym stays2.1 })
 
 -- an end that hasn't ended after some events had not before
-live-before : {S : Type 0} (rules : Rules S) (r : EndState S) (es : List Event) → (end_state_after rules r es).ended ≡ None → r.ended ≡ None
+pub live-before : {S : Type 0} (rules : Rules S) (r : EndState S) (es : List Event) → (end_state_after rules r es).ended ≡ None → r.ended ≡ None
 live-before rules r es lives = by r.ended refl
   where
     by : (x : Option End) → r.ended ≡ x → r.ended ≡ None

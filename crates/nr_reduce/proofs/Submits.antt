@@ -19,7 +19,7 @@ use Rattle.nr_reduce.specs.Events.Event.{CallSubmitted}
 use Rattle.nr_reduce.specs.ClientState.{OutstandingCall, ClientState, call_payload, plan_for}
 use Rattle.nr_reduce.specs.Client.{client_end, client_state_after, outstanding_of, plan_or, region_of, with_hello, call_ends, submitted_ends}
 use Rattle.nr_reduce.specs.KeptCalls.{KeptCall, IsKept, AreKept}
-use Rattle.nr_reduce.specs.KeptClient.{CallsKeep, MemoryKeeps, IsOwned, IsOpen, IsAmong, AreRising, AreBelow, OpensFor, registered_all, kept_placed, sent_kept, kept_sent, kept_of, kept_submitted}
+use Rattle.nr_reduce.specs.KeptClient.{CallsKeep, MemoryKeeps, HoldsFor, IsOwned, IsOpen, IsAmong, AreRising, AreBelow, OpensFor, registered_all, kept_placed, sent_kept, kept_sent, kept_of, kept_submitted}
 use Rattle.nr_reduce.specs.StandingLaws.{KeptPlaces, KeptWrites, KeptGreets, KeptSubmits}
 use Rattle.nr_reduce.proofs.MemorySteps.{holds-access, received-one, offered-later}
 use Rattle.nr_reduce.proofs.Releasing.{keeps-live}
@@ -125,7 +125,7 @@ above-sent : (first sent n : ℕ) (cs : List KeptCall) → AllByRecursion (λ d.
 above-sent first sent n [] h = tt
 above-sent first sent n (c ∷ cs) h = (h.0, above-sent first sent n cs h.1)
 
-rising-sent : (first sent : ℕ) (cs : List KeptCall) (below : ℕ) → AreRising cs below → AreRising (map (sent_kept first sent) cs) below
+pub rising-sent : (first sent : ℕ) (cs : List KeptCall) (below : ℕ) → AreRising cs below → AreRising (map (sent_kept first sent) cs) below
 rising-sent first sent [] below h = tt
 rising-sent first sent (c ∷ cs) below h = (h.0, (above-sent first sent c.xid cs h.1.0, rising-sent first sent cs below h.1.1))
 
@@ -134,9 +134,13 @@ among-sent first sent d [] is = absurd is
 among-sent first sent d (c ∷ cs) (inl e) = inl (ap (sent_kept first sent) e)
 among-sent first sent d (c ∷ cs) (inr is) = inr (among-sent first sent d cs is)
 
-opens-sent : (first sent : ℕ) (regions : List Region) (cs : List KeptCall) → AllByRecursion (OpensFor regions) cs → AllByRecursion (OpensFor regions) (map (sent_kept first sent) cs)
+pub opens-sent : (first sent : ℕ) (regions : List Region) (cs : List KeptCall) → AllByRecursion (OpensFor regions) cs → AllByRecursion (OpensFor regions) (map (sent_kept first sent) cs)
 opens-sent first sent regions [] h = tt
 opens-sent first sent regions (c ∷ cs) h = (h.0, opens-sent first sent regions cs h.1)
+
+pub holds-sent : (first sent : ℕ) (m : RegisteredMemory) (k : ClientState) (count : ℕ) (cs : List KeptCall) → AllByRecursion (HoldsFor m k count) cs → AllByRecursion (HoldsFor m k count) (map (sent_kept first sent) cs)
+holds-sent first sent m k count [] h = tt
+holds-sent first sent m k count (c ∷ cs) h = (h.0, holds-sent first sent m k count cs h.1)
 
 pub kept-writes : KeptWrites
 unfolding client_end client_state_after kept_sent

@@ -19,6 +19,7 @@ use Rattle.nr_reduce.specs.declared.call.Refused.TheVariants as refusals
 use Rattle.nr_reduce.specs.declared.call.Submission.{Submission}
 use Rattle.nr_reduce.specs.declared.call.Submission.TheVariants as submissions
 use Rattle.nr_reduce.specs.declared.mark.Mark.{Mark}
+use Rattle.nr_reduce.specs.declared.mark.Mark.TheVariants as marks
 use Rattle.nr_reduce.specs.declared.mark.LinkParameters.{LinkParameters}
 use Rattle.nr_reduce.specs.declared.outline.Plan.{Plan}
 use Rattle.nr_reduce.specs.Limits.{numbers_end, send_max}
@@ -191,6 +192,24 @@ abbrev pub KeptSubmits : Type 0
 KeptSubmits = (opened : LinkParameters) (kept : KeptClient) (k : ClientState) (count : ℕ) (a : AcceptedCall) (plan : Plan) → ClientKeeps opened kept (live k) count → a.xid ≡ kept.next_xid →
     plan_for k a.xid a.call a.form ≡ Ok plan → AllByRecursion (λ end. k.written < end) (submitted_ends opened k a) → length k.send_ends ≤ a.xid - k.first_xid →
     ClientKeeps opened (kept_submitted kept a.call plan) (next_end_state (client_rules opened) (live k) (CallSubmitted count a)) count
+
+-- ---- Marks of a client
+
+-- What it keeps stands for one mark more: a revoke,
+abbrev pub RevokeStands : Type 0
+RevokeStands = (opened : LinkParameters) (link : ℕ) (kept : KeptClient) (input : InputState) (queue : List ℕ) (run : List Mark) (xid : ℕ) (bytes : List ℕ) → ClientStandsFor opened link kept input queue run →
+    ClientStandsFor opened link (kept_revoked kept xid) input queue (run ++ marks.Revoke link xid bytes ∷ [])
+
+-- a write of a part of its queue, with the number of Sends that have wholly left by then,
+abbrev pub WroteStands : Type 0
+WroteStands = (opened : LinkParameters) (link : ℕ) (kept : KeptClient) (input : InputState) (taken left : List ℕ) (run : List Mark) (sent : ℕ) → ClientStandsFor opened link kept input (taken ++ left) run →
+    ((client opened link run).ended ≡ None → sent ≡ ends_left ((client opened link run).state.written + length taken) (client opened link run).state.send_ends) →
+    ClientStandsFor opened link (kept_sent opened.first_xid sent kept) input left (run ++ marks.Wrote link Initiator taken ∷ [])
+
+-- and a mark that is no event of it: a refused call, what is handed to its caller, and what happens elsewhere.
+abbrev pub OtherMarkStands : Type 0
+OtherMarkStands = (opened : LinkParameters) (link : ℕ) (kept : KeptClient) (input : InputState) (queue : List ℕ) (run : List Mark) (mark : Mark) → ClientStandsFor opened link kept input queue run →
+    events_at link Initiator run mark ≡ [] → written_at link Initiator mark ≡ [] → fed_at link Initiator mark ≡ [] → ClientStandsFor opened link kept input queue (run ++ mark ∷ [])
 
 -- ---- Before the client's hello
 

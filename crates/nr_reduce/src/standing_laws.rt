@@ -1,6 +1,6 @@
 //! Laws of what an end keeps: the marks that it stands for, and that it is enough.
 
-ghost use Rattle.nr_reduce.specs.StandingLaws.{ClientBegins, ServerBegins, EventsOfInput, ClientStandsOn, ServerStandsOn, ClientRunsOutAt, ServerRunsOutAt, ClientStaysOut, ServerStaysOut, ClientQueueIsDue, ServerQueueIsDue, KeptJudges, KeptResponds, KeptAnswers, KeptCounts, KeptStays, KeptRevokes, KeptCompletes, KeptPlaces, KeptWrites, KeptGreets, KeptSubmits, NoCallBeforeHello, NothingDueBeforeHello, InputInParts, ClientStagsInOrder, ServerStagsInOrder, PlanStagsInOrder};
+ghost use Rattle.nr_reduce.specs.StandingLaws.{ClientBegins, ServerBegins, EventsOfInput, ClientStandsOn, ServerStandsOn, ClientRunsOutAt, ServerRunsOutAt, ClientStaysOut, ServerStaysOut, ClientQueueIsDue, ServerQueueIsDue, KeptJudges, KeptResponds, KeptAnswers, KeptCounts, KeptStays, KeptRevokes, KeptCompletes, KeptPlaces, KeptWrites, KeptGreets, KeptSubmits, RevokeStands, WroteStands, OtherMarkStands, NoCallBeforeHello, NothingDueBeforeHello, InputInParts, ClientStagsInOrder, ServerStagsInOrder, PlanStagsInOrder};
 
 /// What an end keeps stands for the marks of its link: as it is opened, and from mark to mark. A client keeps its calls and its
 /// registered memory, and of an end that has ended neither input nor calls count. An end that runs out of memory writes what is
@@ -34,6 +34,13 @@ pub fn clients_keep_enough()
     ensures written { KeptWrites }
     ensures greeted { KeptGreets }
     ensures submitted { KeptSubmits }
+{}
+
+/// What a client keeps stands on after a revoke, after a write of a part of its queue, and after a mark that is no event of it.
+pub fn kept_clients_stand_on()
+    ensures revoke { RevokeStands }
+    ensures wrote { WroteStands }
+    ensures other { OtherMarkStands }
 {}
 
 /// Until a server has received its client's hello it hasn't ended, no call is pending, read for or ready, and nothing is due

@@ -1,0 +1,148 @@
+-- What a client keeps stands for one mark more: a revoke, a write, and a mark that is no event of it.
+use Rattle.std.proofs.Common.{◌≡◌, ℕ, ◌+◌, ◌&&◌, eqb, cond, Bool, true, List, [], ◌∷◌, ◌++◌, length, Option, None, Some, refl, sym, ap, subst, ◌∙◌, arith, append-nil}
+use Rattle.nr_wire.specs.declared.hello.Side.TheVariants.{Initiator, Responder}
+use Rattle.nr_link.specs.declared.end.End.{End}
+use Rattle.nr_link.specs.Input.{InputState, input_of, input_count, input_after}
+use Rattle.nr_link.proofs.Inputs.{input_of-append, input_of-count}
+use Rattle.nr_reduce.specs.declared.mark.Mark.{Mark}
+use Rattle.nr_reduce.specs.declared.mark.Mark.TheVariants as marks
+use Rattle.nr_reduce.specs.declared.mark.LinkParameters.{LinkParameters}
+use Rattle.nr_reduce.specs.History.{bytes_received, written_at, fed_at}
+use Rattle.nr_reduce.specs.Written.{ends_left}
+use Rattle.nr_reduce.specs.Events.{Event, if_own, events_at, events}
+use Rattle.nr_reduce.specs.Events.Event.{MemoryRevoked, QueueWritten}
+use Rattle.nr_reduce.specs.EndRules.{EndState, next_end_state, output_for, output_for_in, output_for_by, end_state_after, output_for_all, live}
+use Rattle.nr_reduce.specs.ClientState.{ClientState}
+use Rattle.nr_reduce.specs.Client.{client_rules, client_end, client_output}
+use Rattle.nr_reduce.specs.Run.{client, output_due}
+use Rattle.nr_reduce.specs.KeptClient.{KeptClient, ClientKeeps, kept_revoked, kept_sent}
+use Rattle.nr_reduce.specs.Standing.{input_events, StandsFor, ClientStandsFor}
+use Rattle.nr_reduce.specs.StandingLaws.{GoesOn, RevokeStands, WroteStands, OtherMarkStands}
+use Rattle.nr_reduce.proofs.Steps.{client-one, output_due_up-one}
+use Rattle.nr_reduce.proofs.Standing.{itself, events-input, SameAfter, same-after, live-before, stands-on}
+use Rattle.nr_reduce.proofs.Releasing.{kept-revokes}
+use Rattle.nr_reduce.proofs.Submits.{kept-writes, rising-sent, opens-sent, holds-sent}
+use Rattle.nr_reduce.proofs.CountedBytes.{first_xid-is}
+
+-- events after which no output is due
+revoke-output : (opened : LinkParameters) (e : EndState ClientState) (place xid : ℕ) → output_for (client_rules opened) e (MemoryRevoked place xid) ≡ []
+unfolding client_end client_output
+revoke-output opened e place xid = by e.ended refl
+  where
+    by : (x : Option End) → e.ended ≡ x → output_for_in (client_rules opened) e.state (MemoryRevoked place xid) e.ended ≡ []
+    by None is = ap (λ (x : Option End). output_for_in (client_rules opened) e.state (MemoryRevoked place xid) x) is
+    by (Some end) is = ap (λ (x : Option End). output_for_in (client_rules opened) e.state (MemoryRevoked place xid) x) is
+
+wrote-output : (opened : LinkParameters) (e : EndState ClientState) (taken : ℕ) → output_for (client_rules opened) e (QueueWritten taken) ≡ []
+unfolding client_end client_output
+wrote-output opened e taken = by e.ended refl
+  where
+    by : (x : Option End) → e.ended ≡ x → output_for_in (client_rules opened) e.state (QueueWritten taken) e.ended ≡ []
+    by None is = ap (λ (x : Option End). output_for_in (client_rules opened) e.state (QueueWritten taken) x) is
+    by (Some end) is = ap (λ (x : Option End). output_for_in (client_rules opened) e.state (QueueWritten taken) x) is
+
+one-output : (opened : LinkParameters) (e : EndState ClientState) (event : Event) → output_for (client_rules opened) e event ≡ [] → output_for_all (client_rules opened) e (event ∷ []) ≡ []
+one-output opened e event none = ap (λ (xs : List ℕ). xs ++ []) none
+
+none-more : (n : ℕ) (xs : List ℕ) → xs ≡ [] → n + length xs ≡ n
+none-more n xs none = ap (λ (ys : List ℕ). n + length ys) none ∙ omega arith
+
+-- the input stays where nothing is fed
+same-input : (link : ℕ) (run : List Mark) (input : InputState) (fed : List ℕ) → fed ≡ [] → input ≡ input_of Responder (bytes_received link Initiator run) → input ≡ input_after input fed
+same-input link run input fed none is =
+    let stream = bytes_received link Initiator run in
+    is
+    ∙ ap (λ (xs : List ℕ). input_of Responder xs) (sym (append-nil stream))
+    ∙ input_of-append Responder stream []
+    ∙ (λ i. input_after (sym is i) (sym none i))
+
+-- a mark with events that don't end the client, at which nothing is fed
+stands-unfed : (opened : LinkParameters) (link : ℕ) (kept next : KeptClient) (input : InputState) (queue left : List ℕ) (run : List Mark) (mark : Mark) (es : List Event) → ClientStandsFor opened link kept input queue run →
+    fed_at link Initiator mark ≡ [] → ((client opened link run).ended ≡ None → input_events link Initiator input mark ≡ es) →
+    ClientKeeps opened next (end_state_after (client_rules opened) (client opened link run) es) (length (bytes_received link Initiator run)) →
+    written_at link Initiator mark ++ left ≡ queue ++ output_for_all (client_rules opened) (client opened link run) es →
+    ClientStandsFor opened link next input left (run ++ mark ∷ [])
+stands-unfed opened link kept next input queue left run mark es s none events_are keeps output =
+    let e = client opened link run in
+    let count = length (bytes_received link Initiator run) in
+    let same : SameAfter (client_rules opened) e (input_events link Initiator input mark) es = same-after (client_rules opened) e (input_events link Initiator input mark) es events_are in
+    stands-on (ClientKeeps opened) (client_rules opened) link Initiator (client opened link) (output_due opened link Initiator) run mark kept next input input queue left
+    (client-one opened link run mark) (output_due_up-one opened link run mark) s
+    (record {
+      keeps = subst (λ (n : ℕ). ClientKeeps opened next (end_state_after (client_rules opened) e (input_events link Initiator input mark)) n) (sym (none-more count (fed_at link Initiator mark) none))
+          (subst (λ (r : EndState ClientState). ClientKeeps opened next r count) (sym same.state) keeps);
+      output = output ∙ ap (λ (xs : List ℕ). queue ++ xs) (sym same.output);
+    })
+    (λ lives. same-input link run input (fed_at link Initiator mark) none (s.received (lived e (input_events link Initiator input mark) lives)))
+  where
+    lived : (e : EndState ClientState) (es : List Event) → (end_state_after (client_rules opened) e es).ended ≡ None → e.ended ≡ None
+    lived e es lives = live-before (client_rules opened) e es lives
+
+own-events : (link : ℕ) (es : List Event) → if_own (eqb link link && true) es ≡ es
+own-events link es = ap (λ (b : Bool). if_own (b && true) es) (itself link)
+
+pub revoke-stands : RevokeStands
+revoke-stands opened link kept input queue run xid bytes s =
+    let e = client opened link run in
+    let count = length (bytes_received link Initiator run) in
+    let mark : Mark = marks.Revoke link xid bytes in
+    let event : Event = MemoryRevoked count xid in
+    stands-unfed opened link kept (kept_revoked kept xid) input queue queue run mark (event ∷ []) s refl
+    (λ lives. own-events link (MemoryRevoked (input_count input) xid ∷ []) ∙ ap (λ (n : ℕ). MemoryRevoked n xid ∷ []) (ap input_count (s.received lives) ∙ input_of-count Responder (bytes_received link Initiator run)))
+    (kept-revokes opened kept e count xid s.keeps)
+    (sym (append-nil queue) ∙ ap (λ (xs : List ℕ). queue ++ xs) (sym (one-output opened e event (revoke-output opened e count xid))))
+
+-- of a client that has ended it doesn't matter which Sends have left
+writes-ended : (opened : LinkParameters) (kept : KeptClient) (k : ClientState) (end : End) (count first sent : ℕ) → ClientKeeps opened kept (record { state = k; ended = Some end }) count → ClientKeeps opened (kept_sent first sent kept) (record { state = k; ended = Some end }) count
+unfolding kept_sent
+writes-ended opened kept k end count first sent keeps = record {
+  ended = keeps.ended;
+  xid = keeps.xid;
+  grant = λ e. absurd cc;
+  calls = λ e. absurd cc;
+  memory = λ e. absurd cc;
+  rising = rising-sent first sent kept.calls kept.next_xid keeps.rising;
+  opens = opens-sent first sent k.regions kept.calls keeps.opens;
+  accesses = keeps.accesses;
+  holds = holds-sent first sent kept.memory k count kept.calls keeps.holds;
+}
+
+first-is : (opened : LinkParameters) (link : ℕ) (run : List Mark) → (client opened link run).state.first_xid ≡ opened.first_xid
+unfolding client
+first-is opened link run = first_xid-is opened (events link Initiator run)
+
+writes : (opened : LinkParameters) (kept : KeptClient) (e : EndState ClientState) (count sent taken : ℕ) → e.state.first_xid ≡ opened.first_xid → (e.ended ≡ None → sent ≡ ends_left (e.state.written + taken) e.state.send_ends) → ClientKeeps opened kept e count →
+    ClientKeeps opened (kept_sent opened.first_xid sent kept) (next_end_state (client_rules opened) e (QueueWritten taken)) count
+writes opened kept e count sent taken first many keeps = by e.ended refl
+  where
+    by : (x : Option End) → e.ended ≡ x → ClientKeeps opened (kept_sent opened.first_xid sent kept) (next_end_state (client_rules opened) e (QueueWritten taken)) count
+    by None is =
+        subst (λ (y : Option End). ClientKeeps opened (kept_sent opened.first_xid sent kept) (next_end_state (client_rules opened) (record { state = e.state; ended = y }) (QueueWritten taken)) count) (sym is)
+        (subst (λ (m : ℕ). ClientKeeps opened (kept_sent opened.first_xid m kept) (next_end_state (client_rules opened) (live e.state) (QueueWritten taken)) count) (sym (many is))
+        (subst (λ (f : ℕ). ClientKeeps opened (kept_sent f (ends_left (e.state.written + taken) e.state.send_ends) kept) (next_end_state (client_rules opened) (live e.state) (QueueWritten taken)) count) first
+        (kept-writes opened kept e.state count taken (subst (λ (y : Option End). ClientKeeps opened kept (record { state = e.state; ended = y }) count) is keeps))))
+    by (Some end) is =
+        subst (λ (y : Option End). ClientKeeps opened (kept_sent opened.first_xid sent kept) (next_end_state (client_rules opened) (record { state = e.state; ended = y }) (QueueWritten taken)) count) (sym is)
+        (writes-ended opened kept e.state end count opened.first_xid sent (subst (λ (y : Option End). ClientKeeps opened kept (record { state = e.state; ended = y }) count) is keeps))
+
+taken-is : (link : ℕ) (taken : List ℕ) → written_at link Initiator (marks.Wrote link Initiator taken) ≡ taken
+taken-is link taken = ap (λ (b : Bool). cond (b && true) taken []) (itself link)
+
+pub wrote-stands : WroteStands
+wrote-stands opened link kept input taken left run sent s many =
+    let e = client opened link run in
+    let count = length (bytes_received link Initiator run) in
+    let mark : Mark = marks.Wrote link Initiator taken in
+    let event : Event = QueueWritten (length taken) in
+    stands-unfed opened link kept (kept_sent opened.first_xid sent kept) input (taken ++ left) left run mark (event ∷ []) s refl
+    (λ lives. own-events link (event ∷ []))
+    (writes opened kept e count sent (length taken) (first-is opened link run) many s.keeps)
+    (ap (λ (xs : List ℕ). xs ++ left) (taken-is link taken) ∙ sym (append-nil (taken ++ left)) ∙ ap (λ (xs : List ℕ). (taken ++ left) ++ xs) (sym (one-output opened e event (wrote-output opened e (length taken)))))
+
+pub other-stands : OtherMarkStands
+other-stands opened link kept input queue run mark s no_events no_write no_feed =
+    let e = client opened link run in
+    stands-unfed opened link kept kept input queue queue run mark [] s no_feed
+    (λ lives. ap (λ (i : InputState). input_events link Initiator i mark) (s.received lives) ∙ events-input link Initiator run mark ∙ no_events)
+    s.keeps
+    (ap (λ (xs : List ℕ). xs ++ queue) no_write ∙ sym (append-nil queue))
