@@ -54,6 +54,9 @@ fn offer_three(rt: &impl Abort, alloc: Global, endpoint: &mut Endpoint) {
                 stag_of(&claims.reply),
             );
             same(rt, 1, stags, (1, 2, 3));
+            if let Some(write) = &claims.write {
+                same(rt, 2, endpoint.regions().bytes(write), &[7; 8]);
+            }
         }
     }
 }
@@ -77,6 +80,14 @@ fn offers(rt: HostRuntime) {
     let alloc = rt.alloc();
     let mut endpoint = Endpoint::open(alloc, Side::Initiator, 64, 1).expect(&rt, "memory");
     same(&rt, 0, endpoint.receives_free(), 64);
+    endpoint.facts();
+    same(
+        &rt,
+        0,
+        (endpoint.has_hello(), endpoint.is_send_begun()),
+        (false, false),
+    );
+    same(&rt, 0, endpoint.make_room(3), Ok(()));
     offer_three(&rt, alloc, &mut endpoint);
     same(&rt, 2, endpoint.regions().bytes_held(), 65560);
     same(&rt, 3, endpoint.held(), HELD);
