@@ -23,7 +23,7 @@ use Rattle.nr_reduce.specs.Matched.{IsPrefixOf}
 use Rattle.nr_reduce.specs.Asked.{IsAll}
 use Rattle.nr_reduce.specs.KeptClient.{ClientKeeps, opened_client}
 use Rattle.nr_reduce.specs.Standing.{input_events, StandsFor, IsState, ClientStandsFor, ServerStandsFor}
-use Rattle.nr_reduce.specs.StandingLaws.{GoesOn, ClientStandsOn, ServerStandsOn, ClientRunsOutAt, ServerRunsOutAt, ClientStaysOut, ServerStaysOut, ClientQueueIsDue, ServerQueueIsDue}
+use Rattle.nr_reduce.specs.StandingLaws.{GoesOn, GoesByInput, ClientGoesByInput, ServerGoesByInput, ClientStandsOn, ServerStandsOn, ClientRunsOutAt, ServerRunsOutAt, ClientStaysOut, ServerStaysOut, ClientQueueIsDue, ServerQueueIsDue}
 use Rattle.nr_reduce.proofs.Steps.{client-one, output_due_up-one, server-one, output_due_down-one, ended-stays}
 use Rattle.nr_reduce.proofs.Keeping.{keeps-begins}
 
@@ -157,16 +157,48 @@ module _ {K S : Type 0} (Keeps : K → EndState S → ℕ → Type 0) (rules : R
             ∙ sym due_one,
       )
 
+-- ---- Whatever is kept
+
+pub goes-by-input : {S : Type 0} (rules : Rules S) (link : ℕ) (side : Side) (state_of : List Mark → EndState S) (due : List Mark → List ℕ) (run : List Mark) (mark : Mark) (input : InputState) →
+    state_of (run ++ mark ∷ []) ≡ end_state_after rules (state_of run) (events_at link side run mark) →
+    due (run ++ mark ∷ []) ≡ due run ++ output_for_all rules (state_of run) (events_at link side run mark) →
+    ((state_of run).ended ≡ None → input ≡ input_of (other side) (bytes_received link side run)) →
+    GoesByInput rules link side state_of due input run mark
+goes-by-input rules link side state_of due run mark input state_one due_one is =
+    let es = input_events link side input mark in
+    let same : SameAfter rules (state_of run) es (events_at link side run mark) =
+    same-after rules (state_of run) es (events_at link side run mark)
+    (λ lives. ap (λ (i : InputState). input_events link side i mark) (is lives) ∙ events-input link side run mark) in
+    record {
+      state = state_one ∙ sym same.state;
+      output = due_one ∙ ap (λ (xs : List ℕ). due run ++ xs) (sym same.output);
+      sent = sent-one link side run mark;
+      received = received-one link side run mark;
+      next_input = λ lives.
+          (let lives_by : (end_state_after rules (state_of run) es).ended ≡ None = ap (λ (r : EndState _). r.ended) (same.state ∙ sym state_one) ∙ lives in
+          let lived : (state_of run).ended ≡ None = live-before rules (state_of run) es lives_by in
+          ap (λ (i : InputState). input_after i (fed_at link side mark)) (is lived)
+          ∙ sym (input_of-append (other side) (bytes_received link side run) (fed_at link side mark))
+          ∙ ap (λ (stream : List ℕ). input_of (other side) stream) (sym (received-one link side run mark)));
+    }
+
 -- ---- Clients and servers
 
 pub client-stands : ClientStandsOn
-client-stands opened link kept next input next_input queue left run mark s goes fed =
-    let count = length (bytes_received link Initiator run) in
-    let on : GoesOn (ClientKeeps opened) (client_rules opened) link Initiator next input queue left mark (client opened link run) count =
-    goes (client opened link run) count s.keeps (λ lives. ap input_count (s.received lives) ∙ input_of-count Responder (bytes_received link Initiator run)) in
+client-stands opened link kept next input next_input queue left run mark s on fed =
     stands-on (ClientKeeps opened) (client_rules opened) link Initiator (client opened link) (output_due opened link Initiator) run mark kept next input next_input queue left
     (client-one opened link run mark) (output_due_up-one opened link run mark) s on
     (λ lives. fed (on.keeps.ended ∙ lives))
+
+pub client-by-input : ClientGoesByInput
+client-by-input opened link input run mark is =
+    goes-by-input (client_rules opened) link Initiator (client opened link) (output_due opened link Initiator) run mark input
+    (client-one opened link run mark) (output_due_up-one opened link run mark) is
+
+pub server-by-input : ServerGoesByInput
+server-by-input opened link input run mark is =
+    goes-by-input (server_rules opened) link Responder (server opened link) (output_due opened link Responder) run mark input
+    (server-one opened link run mark) (output_due_down-one opened link run mark) is
 
 pub server-stands : ServerStandsOn
 server-stands opened link end input next_input queue left run mark s queued fed =
@@ -181,12 +213,10 @@ server-stands opened link end input next_input queue left run mark s queued fed 
     (λ lives. fed (ap (λ (r : EndState ServerState). (end_state_after (server_rules opened) r (input_events link Responder input mark)).ended) e ∙ lives))
 
 pub client-runs-out : ClientRunsOutAt
-client-runs-out opened link kept next input queue left run mark s first out =
-    let count = length (bytes_received link Initiator run) in (
-      out,
-      runs-out (ClientKeeps opened) (client_rules opened) link Initiator (client opened link) (output_due opened link Initiator) run mark kept input queue left (output_due_up-one opened link run mark) s
-          (first (client opened link run) count s.keeps (λ lives. ap input_count (s.received lives) ∙ input_of-count Responder (bytes_received link Initiator run))),
-    )
+client-runs-out opened link kept next input queue left run mark s first out = (
+  out,
+  runs-out (ClientKeeps opened) (client_rules opened) link Initiator (client opened link) (output_due opened link Initiator) run mark kept input queue left (output_due_up-one opened link run mark) s first,
+)
 
 pub server-runs-out : ServerRunsOutAt
 server-runs-out opened link end input queue left run mark s first =

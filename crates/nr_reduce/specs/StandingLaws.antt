@@ -63,15 +63,33 @@ pub record GoesOn {K S : Type 0} (Keeps : K → EndState S → ℕ → Type 0) (
   pub keeps : Keeps next (end_state_after rules e (input_events link side input mark)) (count + length (fed_at link side mark))
   pub output : written_at link side mark ++ left ≡ queue ++ output_for_all rules e (input_events link side input mark)
 
--- A client goes on from mark to mark if what it keeps goes on for each client that it is kept of. Once it has ended its input
--- doesn't matter.
+-- A client goes on from mark to mark if what it keeps next goes on for the client of the run, of which its owner may know more than
+-- what it keeps here. Once it has ended its input doesn't matter.
 abbrev pub ClientStandsOn : Type 0
 ClientStandsOn = (opened : LinkParameters) (link : ℕ) (kept next : KeptClient) (input next_input : InputState) (queue left : List ℕ) (run : List Mark) (mark : Mark) →
     ClientStandsFor opened link kept input queue run →
-    ((e : EndState ClientState) (count : ℕ) → ClientKeeps opened kept e count → (e.ended ≡ None → input_count input ≡ count) →
-    GoesOn (ClientKeeps opened) (client_rules opened) link Initiator next input queue left mark e count) →
+    GoesOn (ClientKeeps opened) (client_rules opened) link Initiator next input queue left mark (client opened link run) (length (bytes_received link Initiator run)) →
     (next.ended ≡ None → next_input ≡ input_after input (fed_at link Initiator mark)) →
     ClientStandsFor opened link next next_input left (run ++ mark ∷ [])
+
+-- Whatever else an owner keeps of an end: by its input alone, what one mark more makes of the end's state, of the output that is due,
+-- of the bytes that were sent and received, and of the input of an end that hasn't ended.
+pub record GoesByInput {S : Type 0} (rules : Rules S) (link : ℕ) (side : Side) (state_of : List Mark → EndState S) (due : List Mark → List ℕ) (input : InputState) (run : List Mark) (mark : Mark) : Type 0 where
+  pub state : state_of (run ++ mark ∷ []) ≡ end_state_after rules (state_of run) (input_events link side input mark)
+  pub output : due (run ++ mark ∷ []) ≡ due run ++ output_for_all rules (state_of run) (input_events link side input mark)
+  pub sent : bytes_sent link side (run ++ mark ∷ []) ≡ bytes_sent link side run ++ written_at link side mark
+  pub received : bytes_received link side (run ++ mark ∷ []) ≡ bytes_received link side run ++ fed_at link side mark
+  pub next_input : (state_of (run ++ mark ∷ [])).ended ≡ None → input_after input (fed_at link side mark) ≡ input_of (other side) (bytes_received link side (run ++ mark ∷ []))
+
+abbrev pub ClientGoesByInput : Type 0
+ClientGoesByInput = (opened : LinkParameters) (link : ℕ) (input : InputState) (run : List Mark) (mark : Mark) →
+    ((client opened link run).ended ≡ None → input ≡ input_of Responder (bytes_received link Initiator run)) →
+    GoesByInput (client_rules opened) link Initiator (client opened link) (output_due opened link Initiator) input run mark
+
+abbrev pub ServerGoesByInput : Type 0
+ServerGoesByInput = (opened : LinkParameters) (link : ℕ) (input : InputState) (run : List Mark) (mark : Mark) →
+    ((server opened link run).ended ≡ None → input ≡ input_of Initiator (bytes_received link Responder run)) →
+    GoesByInput (server_rules opened) link Responder (server opened link) (output_due opened link Responder) input run mark
 
 -- A server goes on by the events of the mark.
 abbrev pub ServerStandsOn : Type 0
@@ -86,8 +104,7 @@ ServerStandsOn = (opened : LinkParameters) (link : ℕ) (end : EndState ServerSt
 abbrev pub ClientRunsOutAt : Type 0
 ClientRunsOutAt = (opened : LinkParameters) (link : ℕ) (kept next : KeptClient) (input : InputState) (queue left : List ℕ) (run : List Mark) (mark : Mark) →
     ClientStandsFor opened link kept input queue run →
-    ((e : EndState ClientState) (count : ℕ) → ClientKeeps opened kept e count → (e.ended ≡ None → input_count input ≡ count) →
-    IsPrefixOf (written_at link Initiator mark ++ left) (queue ++ output_for_all (client_rules opened) e (input_events link Initiator input mark))) →
+    IsPrefixOf (written_at link Initiator mark ++ left) (queue ++ output_for_all (client_rules opened) (client opened link run) (input_events link Initiator input mark)) →
     next.ended ≡ Some ends.Memory → ClientRunsOut opened link next left (run ++ mark ∷ [])
 
 abbrev pub ServerRunsOutAt : Type 0

@@ -184,6 +184,7 @@ fn restore_into(room: &mut Octets, stream: &[u8], item: &Item, moved: &[u8]) -> 
     requires room { length stream.now + length moved.now + 3 ≤ length room.old }
     ensures payload { take result room.new ≡ restored_payload item.now stream.now moved.now }
     ensures within { result ≤ length room.new }
+    ensures length { length room.new ≡ length room.old }
 {
     let len = item.len as usize;
     let (front, behind) = stream.split_at(item.pos);
@@ -195,7 +196,7 @@ fn restore_into(room: &mut Octets, stream: &[u8], item: &Item, moved: &[u8]) -> 
 }
 
 /// Puts the payload that [`rebuild`] gives into the first bytes of a room that was taken before, and gives its length; or why
-/// there is none, and then the room is as before. Takes no memory.
+/// there is none, and then the room is as before. The room keeps its length. Takes no memory.
 #[tactic(auto, unfolding(crate::specs::Cuts::rebuilt_of))]
 pub fn rebuild_into(
     room: &mut Octets,
@@ -208,6 +209,7 @@ pub fn rebuild_into(
     ensures whole { IfOk result (λ len. IsWhole of.now (take len room.new) stream.now (Some moved.now)) }
     ensures exact { RebuildsInto result room.new (rebuilt_of of.now stream.now pos moved.now) }
     ensures refused { OnErr result (room.new ≡ room.old) }
+    ensures length { length room.new ≡ length room.old }
 {
     let Some(item) = item_of(of, stream) else {
         return Err(Mismatch::NoItem);

@@ -1,9 +1,10 @@
 //! Laws of what an end keeps: the marks that it stands for, and that it is enough.
 
-ghost use Rattle.nr_reduce.specs.StandingLaws.{ClientBegins, ServerBegins, EventsOfInput, ClientStandsOn, ServerStandsOn, ClientRunsOutAt, ServerRunsOutAt, ClientStaysOut, ServerStaysOut, ClientQueueIsDue, ServerQueueIsDue, KeptJudges, KeptResponds, KeptAnswers, KeptCounts, KeptStays, KeptRevokes, KeptCompletes, KeptPlaces, KeptWrites, KeptGreets, KeptSubmits, RevokeStands, WroteStands, OtherMarkStands, NoCallBeforeHello, NothingDueBeforeHello, InputInParts, ClientStagsInOrder, ServerStagsInOrder, PlanStagsInOrder};
+ghost use Rattle.nr_reduce.specs.StandingLaws.{ClientBegins, ServerBegins, EventsOfInput, ClientStandsOn, ServerStandsOn, ClientGoesByInput, ServerGoesByInput, ClientRunsOutAt, ServerRunsOutAt, ClientStaysOut, ServerStaysOut, ClientQueueIsDue, ServerQueueIsDue, KeptJudges, KeptResponds, KeptAnswers, KeptCounts, KeptStays, KeptRevokes, KeptCompletes, KeptPlaces, KeptWrites, KeptGreets, KeptSubmits, RevokeStands, WroteStands, OtherMarkStands, NoCallBeforeHello, NothingDueBeforeHello, InputInParts, ClientStagsInOrder, ServerStagsInOrder, PlanStagsInOrder};
 
 /// What an end keeps stands for the marks of its link: as it is opened, and from mark to mark. A client keeps its calls and its
-/// registered memory, and of an end that has ended neither input nor calls count. An end that runs out of memory writes what is
+/// registered memory, and of an end that has ended neither input nor calls count. By its input alone an end knows what a mark
+/// makes of its state and of what is due, whatever else is kept of it. An end that runs out of memory writes what is
 /// left of its queue and no more. What an end writes from its queue is due.
 pub fn ends_stand_for_marks()
     ensures client_begins { ClientBegins }
@@ -11,6 +12,8 @@ pub fn ends_stand_for_marks()
     ensures events { EventsOfInput }
     ensures client { ClientStandsOn }
     ensures server { ServerStandsOn }
+    ensures client_by_input { ClientGoesByInput }
+    ensures server_by_input { ServerGoesByInput }
     ensures client_runs_out { ClientRunsOutAt }
     ensures server_runs_out { ServerRunsOutAt }
     ensures client_stays_out { ClientStaysOut }

@@ -1,4 +1,4 @@
-use Rattle.nr_reduce.proofs.Standing.{client-stands, server-stands, client-begins, server-begins, events-input, client-queue, server-queue, client-runs-out, server-runs-out, client-stays-out, server-stays-out}
+use Rattle.nr_reduce.proofs.Standing.{client-stands, server-stands, client-by-input, server-by-input, client-begins, server-begins, events-input, client-queue, server-queue, client-runs-out, server-runs-out, client-stays-out, server-stays-out}
 use Rattle.nr_reduce.proofs.standing_laws.ends_stand_for_marks.Goals as goal
 
 pub returns-clause-client_begins : goal.returns-clause-client_begins
@@ -15,6 +15,12 @@ returns-clause-client c = client-stands
 
 pub returns-clause-server : goal.returns-clause-server
 returns-clause-server c = server-stands
+
+pub returns-clause-client_by_input : goal.returns-clause-client_by_input
+returns-clause-client_by_input c = client-by-input
+
+pub returns-clause-server_by_input : goal.returns-clause-server_by_input
+returns-clause-server_by_input c = server-by-input
 
 pub returns-clause-client_runs_out : goal.returns-clause-client_runs_out
 returns-clause-client_runs_out c = client-runs-out
