@@ -7,7 +7,7 @@ use Rattle.nr_link.proofs.Inputs.{input_of-append, input_of-count}
 use Rattle.nr_reduce.specs.declared.mark.Mark.{Mark}
 use Rattle.nr_reduce.specs.declared.mark.Mark.TheVariants as marks
 use Rattle.nr_reduce.specs.declared.mark.LinkParameters.{LinkParameters}
-use Rattle.nr_reduce.specs.History.{bytes_received, written_at, fed_at}
+use Rattle.nr_reduce.specs.History.{bytes_sent, bytes_received, written_at, fed_at}
 use Rattle.nr_reduce.specs.Written.{ends_left}
 use Rattle.nr_reduce.specs.Events.{Event, if_own, events_at, events}
 use Rattle.nr_reduce.specs.Events.Event.{MemoryRevoked, QueueWritten}
@@ -15,11 +15,12 @@ use Rattle.nr_reduce.specs.EndRules.{EndState, next_end_state, output_for, outpu
 use Rattle.nr_reduce.specs.ClientState.{ClientState}
 use Rattle.nr_reduce.specs.Client.{client_rules, client_end, client_output}
 use Rattle.nr_reduce.specs.Run.{client, output_due}
+use Rattle.nr_reduce.specs.Matched.{IsPrefixOf}
 use Rattle.nr_reduce.specs.KeptClient.{KeptClient, ClientKeeps, kept_revoked, kept_sent}
-use Rattle.nr_reduce.specs.Standing.{input_events, StandsFor, ClientStandsFor}
-use Rattle.nr_reduce.specs.StandingLaws.{GoesOn, RevokeStands, WroteStands, OtherMarkStands}
+use Rattle.nr_reduce.specs.Standing.{input_events, StandsFor, ClientStandsFor, ClientRunsOut}
+use Rattle.nr_reduce.specs.StandingLaws.{GoesOn, RevokeStands, RevokeStaysOut, WroteStands, OtherMarkStands}
 use Rattle.nr_reduce.proofs.Steps.{client-one, output_due_up-one}
-use Rattle.nr_reduce.proofs.Standing.{itself, events-input, SameAfter, same-after, live-before, stands-on}
+use Rattle.nr_reduce.proofs.Standing.{itself, received-one, events-input, SameAfter, same-after, live-before, stands-on, client-stays-out}
 use Rattle.nr_reduce.proofs.Releasing.{kept-revokes}
 use Rattle.nr_reduce.proofs.Submits.{kept-writes, rising-sent, opens-sent, holds-sent}
 use Rattle.nr_reduce.proofs.CountedBytes.{first_xid-is}
@@ -91,6 +92,48 @@ revoke-stands opened link kept input queue run xid bytes s =
     (λ lives. own-events link (MemoryRevoked (input_count input) xid ∷ []) ∙ ap (λ (n : ℕ). MemoryRevoked n xid ∷ []) (ap input_count (s.received lives) ∙ input_of-count Responder (bytes_received link Initiator run)))
     (kept-revokes opened kept e count xid s.keeps)
     (sym (append-nil queue) ∙ ap (λ (xs : List ℕ). queue ++ xs) (sym (one-output opened e event (revoke-output opened e count xid))))
+
+-- a mark of revoke at which nothing is due, as the run tells
+revoke-at : (link : ℕ) (run : List Mark) (xid : ℕ) (bytes : List ℕ) → events_at link Initiator run (marks.Revoke link xid bytes) ≡ MemoryRevoked (length (bytes_received link Initiator run)) xid ∷ []
+revoke-at link run xid bytes = own-events link (MemoryRevoked (length (bytes_received link Initiator run)) xid ∷ [])
+
+revoke-due : (opened : LinkParameters) (link : ℕ) (run : List Mark) (xid : ℕ) (bytes : List ℕ) → output_due opened link Initiator (run ++ marks.Revoke link xid bytes ∷ []) ≡ output_due opened link Initiator run
+revoke-due opened link run xid bytes =
+    let e = client opened link run in
+    let event : Event = MemoryRevoked (length (bytes_received link Initiator run)) xid in
+    output_due_up-one opened link run (marks.Revoke link xid bytes)
+    ∙ ap (λ (es : List Event). output_due opened link Initiator run ++ output_for_all (client_rules opened) e es) (revoke-at link run xid bytes)
+    ∙ ap (λ (xs : List ℕ). output_due opened link Initiator run ++ xs) (one-output opened e event (revoke-output opened e (length (bytes_received link Initiator run)) xid))
+    ∙ append-nil (output_due opened link Initiator run)
+
+revoked-still : (opened : LinkParameters) (kept : KeptClient) (e : EndState ClientState) (count xid : ℕ) →
+    ClientKeeps opened (kept_revoked (record kept { ended = None }) xid) e count → ClientKeeps opened (record (kept_revoked kept xid) { ended = None }) e count
+unfolding kept_revoked
+revoked-still opened kept e count xid keeps = keeps
+
+revoked-ended : (kept : KeptClient) (xid : ℕ) → (kept_revoked kept xid).ended ≡ kept.ended
+unfolding kept_revoked
+revoked-ended kept xid = refl
+
+pub revoke-stays-out : RevokeStaysOut
+revoke-stays-out opened link kept queue stopped run xid bytes out =
+    let mark : Mark = marks.Revoke link xid bytes in
+    let e = client opened link stopped in
+    let count = length (bytes_received link Initiator stopped) in
+    let after : client opened link (stopped ++ mark ∷ []) ≡ next_end_state (client_rules opened) e (MemoryRevoked count xid) =
+    client-one opened link stopped mark ∙ ap (λ (es : List Event). end_state_after (client_rules opened) e es) (revoke-at link stopped xid bytes) in
+    let counts : length (bytes_received link Initiator (stopped ++ mark ∷ [])) ≡ count =
+    ap (λ (xs : List ℕ). length xs) (received-one link Initiator stopped mark ∙ append-nil (bytes_received link Initiator stopped)) in
+    let stays : ClientRunsOut opened link kept queue stopped (run ++ mark ∷ []) = client-stays-out opened link kept queue queue stopped run mark out refl in
+    record {
+      ended = revoked-ended kept xid ∙ out.ended;
+      keeps = revoked-still opened kept (client opened link (stopped ++ mark ∷ [])) (length (bytes_received link Initiator (stopped ++ mark ∷ []))) xid
+          (subst (λ (m : ℕ). ClientKeeps opened (kept_revoked (record kept { ended = None }) xid) (client opened link (stopped ++ mark ∷ [])) m) (sym counts)
+          (subst (λ (r : EndState ClientState). ClientKeeps opened (kept_revoked (record kept { ended = None }) xid) r count) (sym after)
+          (kept-revokes opened (record kept { ended = None }) e count xid out.keeps)));
+      queued = subst (λ (xs : List ℕ). IsPrefixOf xs (bytes_sent link Initiator (run ++ mark ∷ []) ++ queue)) (sym (revoke-due opened link stopped xid bytes)) stays.queued;
+      output = stays.output;
+    }
 
 -- of a client that has ended it doesn't matter which Sends have left
 writes-ended : (opened : LinkParameters) (kept : KeptClient) (k : ClientState) (end : End) (count first sent : ℕ) → ClientKeeps opened kept (record { state = k; ended = Some end }) count → ClientKeeps opened (kept_sent first sent kept) (record { state = k; ended = Some end }) count

@@ -1,5 +1,5 @@
 -- An end that stands for some marks stands for one mark more, if it goes along: a piece, a drain, or a mark of another kind.
-use Rattle.std.proofs.Common.{◌≡◌, ℕ, ◌+◌, eqb, List, [], ◌∷◌, ◌++◌, length, Option, None, Some, refl, sym, ap, subst, ◌∙◌, append_assoc, append-nil, length-append, true}
+use Rattle.std.proofs.Common.{◌≡◌, ℕ, ◌+◌, eqb, List, [], ◌∷◌, ◌++◌, length, take, Option, None, Some, refl, sym, ap, subst, ◌∙◌, append_assoc, append-nil, length-append, true}
 use Rattle.std.proofs.lemmas.Bool.{eq-eqb}
 use Rattle.std.specs.List.{flat_map}
 use Rattle.std.proofs.lemmas.Grind.{flat_map-append}
@@ -9,6 +9,7 @@ use Rattle.nr_link.specs.Output.{own_hello}
 use Rattle.nr_link.specs.Input.{InputState, input_of, initial_input, input_count, input_after}
 use Rattle.nr_link.proofs.Inputs.{input_of-append, input_of-count, input_of-frames, input_of-none}
 use Rattle.nr_reduce.specs.declared.mark.Mark.{Mark}
+use Rattle.nr_reduce.specs.declared.mark.Mark.TheVariants as marks
 use Rattle.nr_reduce.specs.declared.mark.LinkParameters.{LinkParameters}
 use Rattle.nr_reduce.specs.History.{bytes_sent, bytes_received, written_at, fed_at, other}
 use Rattle.nr_link.specs.declared.end.End.{End}
@@ -21,7 +22,7 @@ use Rattle.nr_reduce.specs.Run.{client, server, output_due}
 use Rattle.nr_reduce.specs.AtEachMark.{AtEachMark}
 use Rattle.nr_reduce.specs.Matched.{IsPrefixOf}
 use Rattle.nr_reduce.specs.Asked.{IsAll}
-use Rattle.nr_reduce.specs.KeptClient.{ClientKeeps, opened_client}
+use Rattle.nr_reduce.specs.KeptClient.{KeptClient, ClientKeeps, opened_client}
 use Rattle.nr_reduce.specs.Standing.{input_events, StandsFor, IsState, ClientStandsFor, ServerStandsFor}
 use Rattle.nr_reduce.specs.StandingLaws.{GoesOn, GoesByInput, ClientGoesByInput, ServerGoesByInput, ClientStandsOn, ServerStandsOn, ClientRunsOutAt, ServerRunsOutAt, ClientStaysOut, ServerStaysOut, ClientQueueIsDue, ServerQueueIsDue}
 use Rattle.nr_reduce.proofs.Steps.{client-one, output_due_up-one, server-one, output_due_down-one, ended-stays}
@@ -212,11 +213,29 @@ server-stands opened link end input next_input queue left run mark s queued fed 
     })
     (λ lives. fed (ap (λ (r : EndState ServerState). (end_state_after (server_rules opened) r (input_events link Responder input mark)).ended) e ∙ lives))
 
+fed-writes : (link : ℕ) (run : List Mark) (piece : List ℕ) → bytes_sent link Initiator (run ++ marks.Fed link Initiator piece ∷ []) ≡ bytes_sent link Initiator run
+fed-writes link run piece = sent-one link Initiator run (marks.Fed link Initiator piece) ∙ append-nil (bytes_sent link Initiator run)
+
+first-more : (sent queued left due : List ℕ) → sent ++ queued ≡ due → IsPrefixOf queued left → IsPrefixOf due (sent ++ left)
+first-more sent queued left due is first =
+    (first.0, ap (λ (xs : List ℕ). xs ++ first.0) (sym is) ∙ append_assoc sent queued first.0 ∙ ap (λ (xs : List ℕ). sent ++ xs) first.1)
+
 pub client-runs-out : ClientRunsOutAt
-client-runs-out opened link kept next input queue left run mark s first out = (
-  out,
-  runs-out (ClientKeeps opened) (client_rules opened) link Initiator (client opened link) (output_due opened link Initiator) run mark kept input queue left (output_due_up-one opened link run mark) s first,
-)
+client-runs-out opened link kept next input queue queued left run piece n s on queues first out =
+    let part : Mark = marks.Fed link Initiator (take n piece) in
+    let mark : Mark = marks.Fed link Initiator piece in
+    let live_next : KeptClient = record next { ended = None } in
+    let at : ClientStandsFor opened link live_next (input_after input (fed_at link Initiator part)) queued (run ++ part ∷ []) =
+    client-stands opened link kept live_next input (input_after input (fed_at link Initiator part)) queue queued run part s on (λ lives. refl) in
+    let due : bytes_sent link Initiator run ++ queued ≡ output_due opened link Initiator (run ++ part ∷ []) =
+    ap (λ (xs : List ℕ). xs ++ queued) (sym (fed-writes link run (take n piece))) ∙ at.output in
+    record {
+      ended = out;
+      keeps = at.keeps;
+      queued = subst (λ (xs : List ℕ). IsPrefixOf (output_due opened link Initiator (run ++ part ∷ [])) (xs ++ left)) (sym (fed-writes link run piece))
+          (first-more (bytes_sent link Initiator run) queued left (output_due opened link Initiator (run ++ part ∷ [])) due queues);
+      output = runs-out (ClientKeeps opened) (client_rules opened) link Initiator (client opened link) (output_due opened link Initiator) run mark kept input queue left (output_due_up-one opened link run mark) s first;
+    }
 
 pub server-runs-out : ServerRunsOutAt
 server-runs-out opened link end input queue left run mark s first =
@@ -226,9 +245,20 @@ server-runs-out opened link end input queue left run mark s first =
           (subst (λ (r : EndState ServerState). IsPrefixOf (written_at link Responder mark ++ left) (queue ++ output_for_all (server_rules opened) r (input_events link Responder input mark))) e first),
     )
 
+sent-still : (link : ℕ) (queue left : List ℕ) (run : List Mark) (mark : Mark) → written_at link Initiator mark ++ left ≡ queue →
+    bytes_sent link Initiator run ++ queue ≡ bytes_sent link Initiator (run ++ mark ∷ []) ++ left
+sent-still link queue left run mark queued =
+    ap (λ (xs : List ℕ). bytes_sent link Initiator run ++ xs) (sym queued)
+    ∙ sym (append_assoc (bytes_sent link Initiator run) (written_at link Initiator mark) left)
+    ∙ ap (λ (xs : List ℕ). xs ++ left) (sym (sent-one link Initiator run mark))
+
 pub client-stays-out : ClientStaysOut
-client-stays-out opened link kept queue left run mark out queued =
-    (out.0, stays-out (ClientKeeps opened) (client_rules opened) link Initiator (client opened link) (output_due opened link Initiator) run mark queue left (output_due_up-one opened link run mark) out.1 queued)
+client-stays-out opened link kept queue left stopped run mark out queued = record {
+  ended = out.ended;
+  keeps = out.keeps;
+  queued = subst (λ (xs : List ℕ). IsPrefixOf (output_due opened link Initiator stopped) xs) (sent-still link queue left run mark queued) out.queued;
+  output = stays-out (ClientKeeps opened) (client_rules opened) link Initiator (client opened link) (output_due opened link Initiator) run mark queue left (output_due_up-one opened link run mark) out.output queued;
+}
 
 pub server-stays-out : ServerStaysOut
 server-stays-out opened link ended queue left run mark out queued =
@@ -265,9 +295,9 @@ due-out sent taken left due first = (
 )
 
 pub client-queue : ClientQueueIsDue
-client-queue opened link kept input taken left run = (
+client-queue opened link kept input taken left stopped run = (
   λ s. due-queue (bytes_sent link Initiator run) taken left (output_due opened link Initiator run) s.output,
-  λ out. due-out (bytes_sent link Initiator run) taken left (output_due opened link Initiator run) out.1,
+  λ out. due-out (bytes_sent link Initiator run) taken left (output_due opened link Initiator run) out.output,
 )
 
 pub server-queue : ServerQueueIsDue

@@ -36,8 +36,14 @@ abbrev pub ClientStandsFor : LinkParameters → ℕ → KeptClient → InputStat
 ClientStandsFor opened link kept input queue run =
     StandsFor (ClientKeeps opened) link Initiator (client opened link) (output_due opened link Initiator) kept input queue run
 
-abbrev pub ClientRunsOut : LinkParameters → ℕ → KeptClient → List ℕ → List Mark → Type 0
-ClientRunsOut opened link kept queue run = RunsOut link Initiator (output_due opened link Initiator) kept.ended queue run
+-- A client ran out of memory while it was fed. When it stopped, after the marks `stopped`, it hadn't ended, and what it keeps, but for
+-- why it ended, was kept of it; so each of its calls still has the memory that the client's regions held. All that these marks make due
+-- is written or in its queue, and what it wrote and its queue are the first bytes of what is due by `run`.
+pub record ClientRunsOut (opened : LinkParameters) (link : ℕ) (kept : KeptClient) (queue : List ℕ) (stopped run : List Mark) : Type 0 where
+  pub ended : kept.ended ≡ Some ends.Memory
+  pub keeps : ClientKeeps opened (record kept { ended = None }) (client opened link stopped) (length (bytes_received link Initiator stopped))
+  pub queued : IsPrefixOf (output_due opened link Initiator stopped) (bytes_sent link Initiator run ++ queue)
+  pub output : IsPrefixOf (bytes_sent link Initiator run ++ queue) (output_due opened link Initiator run)
 
 -- a server, by the state that it keeps
 abbrev pub IsState : EndState ServerState → EndState ServerState → ℕ → Type 0

@@ -99,13 +99,16 @@ ServerStandsOn = (opened : LinkParameters) (link : ℕ) (end : EndState ServerSt
     ((end_state_after (server_rules opened) end (input_events link Responder input mark)).ended ≡ None → next_input ≡ input_after input (fed_at link Responder mark)) →
     ServerStandsFor opened link (end_state_after (server_rules opened) end (input_events link Responder input mark)) next_input left (run ++ mark ∷ [])
 
--- It runs out of memory at a mark: what is written at it and what is left are the first bytes of the queue and of the output that is due
--- for it.
+-- It runs out of memory at a piece that is fed: after the first n bytes of it a client hadn't ended, what it keeps goes on for these, and
+-- what they make due is queued; and what is left are the first bytes of the queue and of the output that is due for the piece.
 abbrev pub ClientRunsOutAt : Type 0
-ClientRunsOutAt = (opened : LinkParameters) (link : ℕ) (kept next : KeptClient) (input : InputState) (queue left : List ℕ) (run : List Mark) (mark : Mark) →
+ClientRunsOutAt = (opened : LinkParameters) (link : ℕ) (kept next : KeptClient) (input : InputState) (queue queued left : List ℕ) (run : List Mark) (piece : List ℕ) (n : ℕ) →
     ClientStandsFor opened link kept input queue run →
-    IsPrefixOf (written_at link Initiator mark ++ left) (queue ++ output_for_all (client_rules opened) (client opened link run) (input_events link Initiator input mark)) →
-    next.ended ≡ Some ends.Memory → ClientRunsOut opened link next left (run ++ mark ∷ [])
+    GoesOn (ClientKeeps opened) (client_rules opened) link Initiator (record next { ended = None }) input queue queued (marks.Fed link Initiator (take n piece)) (client opened link run) (length (bytes_received link Initiator run)) →
+    IsPrefixOf queued left →
+    IsPrefixOf left (queue ++ output_for_all (client_rules opened) (client opened link run) (input_events link Initiator input (marks.Fed link Initiator piece))) →
+    next.ended ≡ Some ends.Memory →
+    ClientRunsOut opened link next left (run ++ marks.Fed link Initiator (take n piece) ∷ []) (run ++ marks.Fed link Initiator piece ∷ [])
 
 abbrev pub ServerRunsOutAt : Type 0
 ServerRunsOutAt = (opened : LinkParameters) (link : ℕ) (end : EndState ServerState) (input : InputState) (queue left : List ℕ) (run : List Mark) (mark : Mark) →
@@ -115,8 +118,8 @@ ServerRunsOutAt = (opened : LinkParameters) (link : ℕ) (end : EndState ServerS
 
 -- From then on it writes what is left, and no more.
 abbrev pub ClientStaysOut : Type 0
-ClientStaysOut = (opened : LinkParameters) (link : ℕ) (kept : KeptClient) (queue left : List ℕ) (run : List Mark) (mark : Mark) →
-    ClientRunsOut opened link kept queue run → written_at link Initiator mark ++ left ≡ queue → ClientRunsOut opened link kept left (run ++ mark ∷ [])
+ClientStaysOut = (opened : LinkParameters) (link : ℕ) (kept : KeptClient) (queue left : List ℕ) (stopped run : List Mark) (mark : Mark) →
+    ClientRunsOut opened link kept queue stopped run → written_at link Initiator mark ++ left ≡ queue → ClientRunsOut opened link kept left stopped (run ++ mark ∷ [])
 
 abbrev pub ServerStaysOut : Type 0
 ServerStaysOut = (opened : LinkParameters) (link : ℕ) (ended : Option End) (queue left : List ℕ) (run : List Mark) (mark : Mark) →
@@ -125,11 +128,11 @@ ServerStaysOut = (opened : LinkParameters) (link : ℕ) (ended : Option End) (qu
 -- A prefix of the queue that is written keeps the law so far, also of an end that ran out of memory; and the complete queue of one that
 -- didn't keeps it in full.
 abbrev pub ClientQueueIsDue : Type 0
-ClientQueueIsDue = (opened : LinkParameters) (link : ℕ) (kept : KeptClient) (input : InputState) (taken left : List ℕ) (run : List Mark) →
+ClientQueueIsDue = (opened : LinkParameters) (link : ℕ) (kept : KeptClient) (input : InputState) (taken left : List ℕ) (stopped run : List Mark) →
     (ClientStandsFor opened link kept input (taken ++ left) run →
     IsPrefixOf (bytes_sent link Initiator run ++ taken) (output_due opened link Initiator run)
     × (left ≡ [] → IsAll (bytes_sent link Initiator run ++ taken) (output_due opened link Initiator run)))
-    × (ClientRunsOut opened link kept (taken ++ left) run → IsPrefixOf (bytes_sent link Initiator run ++ taken) (output_due opened link Initiator run))
+    × (ClientRunsOut opened link kept (taken ++ left) stopped run → IsPrefixOf (bytes_sent link Initiator run ++ taken) (output_due opened link Initiator run))
 
 abbrev pub ServerQueueIsDue : Type 0
 ServerQueueIsDue = (opened : LinkParameters) (link : ℕ) (end : EndState ServerState) (ended : Option End) (input : InputState) (taken left : List ℕ) (run : List Mark) →
@@ -222,6 +225,11 @@ abbrev pub WroteStands : Type 0
 WroteStands = (opened : LinkParameters) (link : ℕ) (kept : KeptClient) (input : InputState) (taken left : List ℕ) (run : List Mark) (sent : ℕ) → ClientStandsFor opened link kept input (taken ++ left) run →
     ((client opened link run).ended ≡ None → sent ≡ ends_left ((client opened link run).state.written + length taken) (client opened link run).state.send_ends) →
     ClientStandsFor opened link (kept_sent opened.first_xid sent kept) input left (run ++ marks.Wrote link Initiator taken ∷ [])
+
+-- also of a client that ran out of memory, as if it was revoked when it stopped,
+abbrev pub RevokeStaysOut : Type 0
+RevokeStaysOut = (opened : LinkParameters) (link : ℕ) (kept : KeptClient) (queue : List ℕ) (stopped run : List Mark) (xid : ℕ) (bytes : List ℕ) → ClientRunsOut opened link kept queue stopped run →
+    ClientRunsOut opened link (kept_revoked kept xid) queue (stopped ++ marks.Revoke link xid bytes ∷ []) (run ++ marks.Revoke link xid bytes ∷ [])
 
 -- and a mark that is no event of it: a refused call, what is handed to its caller, and what happens elsewhere.
 abbrev pub OtherMarkStands : Type 0

@@ -1,6 +1,6 @@
 //! Laws of what an end keeps: the marks that it stands for, and that it is enough.
 
-ghost use Rattle.nr_reduce.specs.StandingLaws.{ClientBegins, ServerBegins, EventsOfInput, ClientStandsOn, ServerStandsOn, ClientGoesByInput, ServerGoesByInput, ClientRunsOutAt, ServerRunsOutAt, ClientStaysOut, ServerStaysOut, ClientQueueIsDue, ServerQueueIsDue, KeptJudges, KeptResponds, KeptAnswers, KeptCounts, KeptStays, KeptRevokes, KeptCompletes, KeptPlaces, KeptWrites, KeptGreets, KeptSubmits, RevokeStands, WroteStands, OtherMarkStands, NoCallBeforeHello, NothingDueBeforeHello, InputInParts, ClientStagsInOrder, ServerStagsInOrder, PlanStagsInOrder};
+ghost use Rattle.nr_reduce.specs.StandingLaws.{ClientBegins, ServerBegins, EventsOfInput, ClientStandsOn, ServerStandsOn, ClientGoesByInput, ServerGoesByInput, ClientRunsOutAt, ServerRunsOutAt, ClientStaysOut, ServerStaysOut, ClientQueueIsDue, ServerQueueIsDue, KeptJudges, KeptResponds, KeptAnswers, KeptCounts, KeptStays, KeptRevokes, KeptCompletes, KeptPlaces, KeptWrites, KeptGreets, KeptSubmits, RevokeStands, RevokeStaysOut, WroteStands, OtherMarkStands, NoCallBeforeHello, NothingDueBeforeHello, InputInParts, ClientStagsInOrder, ServerStagsInOrder, PlanStagsInOrder};
 
 /// What an end keeps stands for the marks of its link: as it is opened, and from mark to mark. A client keeps its calls and its
 /// registered memory, and of an end that has ended neither input nor calls count. By its input alone an end knows what a mark
@@ -39,9 +39,10 @@ pub fn clients_keep_enough()
     ensures submitted { KeptSubmits }
 {}
 
-/// What a client keeps stands on after a revoke, after a write of a part of its queue, and after a mark that is no event of it.
+/// What a client keeps stands on after a revoke, also when it ran out of memory, after a write of a part of its queue, and after a mark that is no event of it.
 pub fn kept_clients_stand_on()
     ensures revoke { RevokeStands }
+    ensures revoke_out { RevokeStaysOut }
     ensures wrote { WroteStands }
     ensures other { OtherMarkStands }
 {}
