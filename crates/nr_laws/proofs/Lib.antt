@@ -194,3 +194,4 @@ pub mod SubmittedCalls
 pub mod ClosedForCalls
 pub mod ItemsOfServer
 pub mod CountedReceives
+pub mod SentCalls

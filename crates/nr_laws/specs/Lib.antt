@@ -20,6 +20,7 @@ pub mod ClientRegions
 pub mod HandedBack
 pub mod Sent
 pub mod SendsConvey
+pub mod SentCalls
 pub mod AnswersConvey
 pub mod Bounds
 pub mod ServerItems
