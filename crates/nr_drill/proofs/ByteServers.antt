@@ -25,7 +25,8 @@ use Rattle.nr_link.specs.Reasons.{REASON_XID}
 use Rattle.nr_link.specs.Frames.{Frame, is_hello}
 use Rattle.nr_link.specs.Output.{own_hello, refusing_hello, write}
 use Rattle.nr_link.specs.ReceiveState.{begun_bytes}
-use Rattle.nr_link.specs.Ending.{frame_segment, tagged_access, final_output}
+use Rattle.nr_wire.specs.Constants.{REASON_FLAGS}
+use Rattle.nr_link.specs.Ending.{frame_segment, tagged_access, final_output, rejection, last_output}
 use Rattle.nr_reduce.specs.declared.item.Item.{Item}
 use Rattle.nr_reduce.specs.declared.item.Of.{Of}
 use Rattle.nr_reduce.specs.declared.item.Of.TheVariants as items
@@ -44,7 +45,7 @@ use Rattle.nr_reduce.specs.ServerMessages.{Verdict, CallVerdict, verdict, by_nee
 use Rattle.nr_reduce.specs.ServerMessages.CallVerdict.{Refuses, IsReady}
 use Rattle.nr_reduce.specs.ServerMessages.Verdict.{EndsLink, OtherVersion, BadChunks, MakesPending}
 use Rattle.nr_reduce.specs.ServerFrames.{effect_in, FrameEffect, no_effect, with_verdict, ready_if_whole, message_effect, with_access, frame_effect}
-use Rattle.nr_reduce.specs.Server.{with_own_hello, server_rules, server_output, server_state_after, server_final_output, is_rejected, sends_from, newly_open_reads, requests_from, effect_output, offer_of, answer_of_target, answer_output, execution_output, received_by, tagged_accesses, with_effect, initial_server}
+use Rattle.nr_reduce.specs.Server.{with_own_hello, server_rules, server_output, server_state_after, sends_from, newly_open_reads, requests_from, effect_output, offer_of, answer_of_target, answer_output, execution_output, received_by, tagged_accesses, with_effect, initial_server}
 use Rattle.nr_reduce.specs.Run.{server, output_due}
 use Rattle.nr_laws.specs.Typed.{IsTyped}
 use Rattle.nr_laws.proofs.Along.{IsNext}
@@ -349,13 +350,15 @@ server-written o place k (MemoryRevoked p xid) next c h = no-bytes
 server-written o place k (CallExecuted e) next c h = execution-bytes k e c
 server-written o place k (QueueWritten taken) next c h = no-bytes
 
-final-of-server : (end : End) → IsBytes (server_final_output end)
-unfolding server_final_output
-final-of-server (ends.Bad at reason) = bytes-if (is_rejected reason) refusing_hello (final_output (ends.Bad at reason)) refusing-bytes (final-bytes (ends.Bad at reason))
-final-of-server (ends.Denied stag offset why) = final-bytes (ends.Denied stag offset why)
-final-of-server (ends.NoBuffer msn) = final-bytes (ends.NoBuffer msn)
-final-of-server (ends.Terminated reason) = no-bytes
-final-of-server ends.Memory = no-bytes
+rejection-bytes : (end : End) → IsBytes (rejection Responder end)
+rejection-bytes (ends.Bad at reason) = bytes-if (eqb reason REASON_FLAGS) refusing_hello [] refusing-bytes no-bytes
+rejection-bytes (ends.Denied stag offset why) = no-bytes
+rejection-bytes (ends.NoBuffer msn) = no-bytes
+rejection-bytes (ends.Terminated reason) = no-bytes
+rejection-bytes ends.Memory = no-bytes
+
+final-of-server : (end : End) → IsBytes (last_output Responder end)
+final-of-server end = bytes_both (rejection Responder end) (final_output end) (rejection-bytes end) (final-bytes end)
 
 -- ===== what it knows then
 

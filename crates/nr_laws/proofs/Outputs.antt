@@ -1,9 +1,9 @@
 -- What each side writes, as hellos and segments.
-use Rattle.std.proofs.Common.{◌≡◌, ℕ, ◌+◌, ◌*◌, ◌≤◌, Bool, true, false, cond, eqb, List, [], ◌∷◌, ◌++◌, length, take, drop, map, Option, None, Some, refl, sym, ap, ◌∙◌, arith, append-nil, take_all}
+use Rattle.std.proofs.Common.{◌≡◌, ℕ, ◌+◌, ◌*◌, ◌≤◌, Bool, true, false, cond, eqb, List, [], ◌∷◌, ◌++◌, length, take, drop, map, Option, None, Some, refl, sym, ap, ◌∙◌, arith, append-nil, take_all, lt-ltb, eqb-true}
 use Rattle.std.specs.List.{flat_map, range_with_len, AllByRecursion}
 use Rattle.std.proofs.lemmas.Grind.{flat_map-append}
 use Rattle.nr_xdr.specs.Item.{word, hyper}
-use Rattle.nr_wire.specs.Constants.{OPCODE_READ_REQUEST, OPCODE_READ_RESPONSE, OPCODE_SEND, OPCODE_TERMINATE, QUEUE_SEND, QUEUE_READ_REQUEST, QUEUE_TERMINATE}
+use Rattle.nr_wire.specs.Constants.{OPCODE_READ_REQUEST, OPCODE_READ_RESPONSE, OPCODE_SEND, OPCODE_TERMINATE, QUEUE_SEND, QUEUE_READ_REQUEST, QUEUE_TERMINATE, REASON_FLAGS}
 use Rattle.nr_wire.specs.declared.hello.Side.TheVariants.{Responder}
 use Rattle.nr_wire.specs.Segment.{Segment, encoding}
 use Rattle.nr_wire.specs.Segment.Segment.{Tagged, Untagged}
@@ -14,7 +14,7 @@ use Rattle.nr_link.specs.Reasons.{denied_word, NO_BUFFER_WORD}
 use Rattle.nr_link.specs.Output.{segment_count, segment_payload, cut, msn_word, send, read_response, read_request, terminate_message, own_hello, refusing_hello}
 use Rattle.nr_link.specs.Frames.{is_hello}
 use Rattle.nr_link.specs.ReceiveState.{ReadRequest}
-use Rattle.nr_link.specs.Ending.{frame_segment, final_output, is_hello_reason}
+use Rattle.nr_link.specs.Ending.{frame_segment, final_output, last_output, is_hello_reason}
 use Rattle.nr_reduce.specs.declared.mark.LinkParameters.{LinkParameters}
 use Rattle.nr_reduce.specs.History.{ExecutedCall}
 use Rattle.nr_reduce.specs.Events.{Event}
@@ -29,7 +29,7 @@ use Rattle.nr_reduce.specs.ClientState.{ClientState, OutstandingCall, memory_at}
 use Rattle.nr_reduce.specs.Client.{client_output, calls_output, call_output, response_output, segment_request, outstanding_of}
 use Rattle.nr_reduce.specs.ServerState.{ServerState, PendingRead, down_max, credit_word}
 use Rattle.nr_reduce.specs.ServerFrames.{FrameEffect, frame_effect}
-use Rattle.nr_reduce.specs.Server.{server_output, server_final_output, is_rejected, sends_from, requests_from, newly_open_reads, effect_output, offer_of, answer_of_target, answer_output, execution_output}
+use Rattle.nr_reduce.specs.Server.{server_output, sends_from, requests_from, newly_open_reads, effect_output, offer_of, answer_of_target, answer_output, execution_output}
 
 pub data Output : Type 0 where
   AHello : (bytes : List ℕ) → Output
@@ -155,23 +155,27 @@ final-said (ends.Terminated reason) = refl
 final-said ends.Memory = refl
 
 abbrev pub server_final_outputs : Stop → List Output
-server_final_outputs (ends.Bad at reason) = cond (is_rejected reason) (AHello refusing_hello ∷ []) (final_outputs (ends.Bad at reason))
+server_final_outputs (ends.Bad at reason) = cond (eqb reason REASON_FLAGS) (AHello refusing_hello ∷ []) (final_outputs (ends.Bad at reason))
 server_final_outputs (ends.Denied stag offset why) = final_outputs (ends.Denied stag offset why)
 server_final_outputs (ends.NoBuffer msn) = final_outputs (ends.NoBuffer msn)
 server_final_outputs (ends.Terminated reason) = []
 server_final_outputs ends.Memory = []
 
-pub server-final-said : (end : Stop) → server_final_output end ≡ bytes_of_all (server_final_outputs end)
-unfolding server_final_output
-server-final-said (ends.Bad at reason) = by (is_rejected reason)
+-- a refused hello has no Terminate
+no-terminate : (at reason : ℕ) → eqb reason REASON_FLAGS ≡ true → final_output (ends.Bad at reason) ≡ []
+unfolding final_output
+no-terminate at reason is = ap (λ (b : Bool). cond b [] (terminate_message reason)) (lt-ltb reason 5 (let e = eqb-true reason REASON_FLAGS is in omega (arith, e)))
+
+pub server-final-said : (end : Stop) → last_output Responder end ≡ bytes_of_all (server_final_outputs end)
+server-final-said (ends.Bad at reason) = by (eqb reason REASON_FLAGS) refl
   where
-    by : (b : Bool) → cond b refusing_hello (final_output (ends.Bad at reason)) ≡ bytes_of_all (cond b (AHello refusing_hello ∷ []) (final_outputs (ends.Bad at reason)))
-    by true = sym (append-nil refusing_hello)
-    by false = final-said (ends.Bad at reason)
+    by : (b : Bool) → eqb reason REASON_FLAGS ≡ b → cond b refusing_hello [] ++ final_output (ends.Bad at reason) ≡ bytes_of_all (cond b (AHello refusing_hello ∷ []) (final_outputs (ends.Bad at reason)))
+    by true is = ap (λ (bs : List ℕ). refusing_hello ++ bs) (no-terminate at reason is)
+    by false is = final-said (ends.Bad at reason)
 server-final-said (ends.Denied stag offset why) = final-said (ends.Denied stag offset why)
 server-final-said (ends.NoBuffer msn) = final-said (ends.NoBuffer msn)
-server-final-said (ends.Terminated reason) = refl
-server-final-said ends.Memory = refl
+server-final-said (ends.Terminated reason) = final-said (ends.Terminated reason)
+server-final-said ends.Memory = final-said ends.Memory
 
 -- ---- For each event
 

@@ -151,15 +151,15 @@ no-sends k place None = refl
 no-sends k place (Some r) = refl
 
 place-zero : (place : ℕ) (b : Bool) → HasHello place b → place ≡ 0 → b ≡ false
-place-zero place b (inl h) zero = h.1
-place-zero place b (inr h) zero = absurd (let some = h.0 in omega (arith, some, zero))
+place-zero place b (inl h) first = h.1
+place-zero place b (inr h) first = absurd (let some = h.0 in omega (arith, some, first))
 
 place-some : (place : ℕ) (b : Bool) → HasHello place b → (place ≡ 0 → ⊥) → b ≡ true
 place-some place b (inl h) some = absurd (some h.0)
 place-some place b (inr h) some = h.1
 
 clash : {W : Type 0} (b : Bool) → b ≡ true → b ≡ false → W
-clash b yes no_ = absurd (let wrong : true ≡ false = sym yes ∙ no_ in cc)
+clash b is_so isnt = absurd (let wrong : true ≡ false = sym is_so ∙ isnt in cc)
 
 kept-hello : (k : ClientState) (f : Frame) (r : Result Segment ℕ) → (with_segment k f r).has_hello ≡ k.has_hello
 kept-hello k f (Err reason) = refl
@@ -191,8 +191,8 @@ revoked-length xid [] = refl
 revoked-length xid (o ∷ os) = ap (λ (m : ℕ). suc m) (revoked-length xid os)
 
 hello-step : (opened : LinkParameters) (place end : ℕ) (k : ClientState) (sends : List OutputItem) → place ≡ 0 → place < end → SendsAreDue opened place k sends → SendsAreDue opened end (with_hello opened k) (sends ++ send_items (call_items opened 1 k.outstanding))
-hello-step opened place end k sends zero lt h =
-    let quiet = place-zero place k.has_hello h.greeted zero in
+hello-step opened place end k sends first lt h =
+    let quiet = place-zero place k.has_hello h.greeted first in
     let w = h.waiting quiet in
     let all : sends ++ send_items (call_items opened 1 k.outstanding) ≡ call_items opened 1 k.outstanding = (λ i. h.silent quiet i ++ calls-are-sends opened 1 k.outstanding i) in
     let count = calls-count opened 1 k.outstanding in
@@ -202,8 +202,8 @@ hello-step opened place end k sends zero lt h =
       greeted = inr ((omega (arith, lt)), refl);
       silent = λ wrong. absurd (let e : true ≡ false = wrong in cc);
       waiting = λ wrong. absurd (let e : true ≡ false = wrong in cc);
-      count = λ yes. omega (arith, size, count, accepted);
-      own = λ yes. subst (λ (xs : List OutputItem). AllByRecursion (HasSend opened xs) k.outstanding) (sym all)
+      count = λ is_so. omega (arith, size, count, accepted);
+      own = λ is_so. subst (λ (xs : List OutputItem). AllByRecursion (HasSend opened xs) k.outstanding) (sym all)
           (hello-sends opened [] k.outstanding (subst (λ (n : ℕ). NumberedCalls n k.outstanding) (let e : opened.first_xid ≡ opened.first_xid + 0 = omega arith in e) w.0));
     }
 
@@ -221,8 +221,8 @@ segment-step opened place end k f r sends some lt h =
       greeted = inr ((omega (arith, lt)), still);
       silent = λ wrong. clash (with_segment k f r).has_hello still wrong;
       waiting = λ wrong. clash (with_segment k f r).has_hello still wrong;
-      count = λ yes. omega (arith, size, count, accepted);
-      own = λ yes. subst (λ (xs : List OutputItem). AllByRecursion (HasSend opened xs) (with_segment k f r).outstanding) (sym same) (left (segment-out k f r) held);
+      count = λ is_so. omega (arith, size, count, accepted);
+      own = λ is_so. subst (λ (xs : List OutputItem). AllByRecursion (HasSend opened xs) (with_segment k f r).outstanding) (sym same) (left (segment-out k f r) held);
     }
   where
     left : ((with_segment k f r).outstanding ≡ k.outstanding) ⊎ ((p : OutstandingCall → Bool) × ((with_segment k f r).outstanding ≡ filter p k.outstanding)) → AllByRecursion (HasSend opened sends) k.outstanding → AllByRecursion (HasSend opened sends) (with_segment k f r).outstanding
@@ -243,20 +243,20 @@ submit-step opened place p k a sends next h = by k.has_hello refl
     t : ClientState
     t = client_state_after opened k (CallSubmitted p a)
 
-    at : o.xid - opened.first_xid ≡ k.calls_accepted
+    at : a.xid - opened.first_xid ≡ k.calls_accepted
     at = omega (arith, next)
 
     by : (b : Bool) → k.has_hello ≡ b → SendsAreDue opened place t (sends ++ send_items (cond b (x ∷ []) []))
     by true is =
         let count = h.count is in
         let more = length-append sends (x ∷ []) in
-        let here : o.xid - opened.first_xid ≡ length sends = omega (arith, next, count) in
+        let here : a.xid - opened.first_xid ≡ length sends = omega (arith, next, count) in
         record {
           greeted = h.greeted;
           silent = λ wrong. clash k.has_hello is wrong;
           waiting = λ wrong. clash k.has_hello is wrong;
-          count = λ yes. omega (arith, count, more);
-          own = λ yes. each-append (HasSend opened (sends ++ x ∷ [])) k.outstanding (o ∷ [])
+          count = λ is_so. omega (arith, count, more);
+          own = λ is_so. each-append (HasSend opened (sends ++ x ∷ [])) k.outstanding (o ∷ [])
               (each-all (HasSend opened sends) (HasSend opened (sends ++ x ∷ [])) k.outstanding (λ y e. get-more sends (x ∷ []) (y.xid - opened.first_xid) (call_item opened (y.xid - opened.first_xid + 1) y) e) (h.own is))
               ((λ i. slice_get (sends ++ x ∷ []) (here i)) ∙ get-first sends x [] ∙ ap (λ (n : ℕ). Some (call_item opened (n + 1) o)) (sym at), tt);
         }
@@ -280,7 +280,7 @@ event-step opened place k (FrameReceived f) items next good h = by (is_hello f) 
     by : (b : Bool) → is_hello f ≡ b → SendsAreDue opened f.end (cond b (with_hello opened k) (with_segment k f (frame_segment f)))
         (send_items items ++ send_items (cond b (call_items opened 1 k.outstanding) (response_items k f.end (segment_request (frame_segment f)))))
     by true is = (let e = eqb-true f.at 0 is in let at = next.0 in hello-step opened place f.end k (send_items items) (omega (arith, e, at)) next.1 h)
-    by false is = segment-step opened place f.end k f (frame_segment f) (send_items items) (λ zero. clash (is_hello f) (eq-eqb f.at 0 (next.0 ∙ zero)) is) next.1 h
+    by false is = segment-step opened place f.end k f (frame_segment f) (send_items items) (λ first. clash (is_hello f) (eq-eqb f.at 0 (next.0 ∙ first)) is) next.1 h
 event-step opened place k (CallSubmitted p a) items next good h = submit-step opened place p k a (send_items items) good.next h
 event-step opened place k (MemoryRevoked p xid) items next good h =
     let same : send_items items ++ [] ≡ send_items items = append-nil (send_items items) in
@@ -290,7 +290,7 @@ event-step opened place k (MemoryRevoked p xid) items next good h =
       silent = h.silent;
       waiting = λ quiet. (let w = h.waiting quiet in let accepted = w.1 in (own_xids-map (revoked_call xid) opened.first_xid k.outstanding (revoked-xid xid) w.0, omega (arith, size, accepted)));
       count = h.count;
-      own = λ yes. has-revoked opened (send_items items) xid k.outstanding (h.own yes);
+      own = λ is_so. has-revoked opened (send_items items) xid k.outstanding (h.own is_so);
     })
 event-step opened place k (CallExecuted c) items next good h = subst (SendsAreDue opened place k) (sym (append-nil (send_items items))) h
 event-step opened place k (QueueWritten taken) items next good h =

@@ -21,7 +21,7 @@ use Rattle.nr_reduce.specs.Holds.{Answer, answer_message, chunk_error}
 use Rattle.nr_reduce.specs.Undone.{answer_segments}
 use Rattle.nr_reduce.specs.ServerState.{ServerState, ReadyCall, credit_word}
 use Rattle.nr_reduce.specs.ServerFrames.{FrameEffect, frame_effect}
-use Rattle.nr_reduce.specs.Server.{server_rules, server_end, server_output, server_state_after, server_final_output, with_effect, received_by, is_rejected, offer_of, initial_server, with_own_hello}
+use Rattle.nr_reduce.specs.Server.{server_rules, server_end, server_output, server_state_after, with_effect, received_by, offer_of, initial_server, with_own_hello}
 use Rattle.nr_reduce.specs.RunLaws.{server_by}
 use Rattle.nr_laws.proofs.Along.{IsNext, place_after, outputs_by, outputs_for}
 use Rattle.nr_laws.proofs.Outputs.{Output, bytes_of_all, server_says, server-said, ServerShort, server_final_outputs, server-final-said, final_outputs, effect_outputs, answer_outputs, answer_of_call, send_segment}
@@ -78,7 +78,7 @@ server-final-words (ends.Terminated reason) h = tt
 server-final-words ends.Memory h = tt
 
 server-final-none : (end : Stop) → (messages (server_final_outputs end) ≡ []) × AreOne (server_final_outputs end)
-server-final-none (ends.Bad at reason) = by (is_rejected reason)
+server-final-none (ends.Bad at reason) = by (eqb reason 2)
   where
     by : (b : Bool) → (messages (cond b (AHello refusing_hello ∷ []) (final_outputs (ends.Bad at reason))) ≡ []) × AreOne (cond b (AHello refusing_hello ∷ []) (final_outputs (ends.Bad at reason)))
     by true = (refl, tt)

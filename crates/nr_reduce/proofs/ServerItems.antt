@@ -1,16 +1,14 @@
 -- What an event makes due at a server: its hello, or items; and the ends that it adds are those of the items.
-use Rattle.std.proofs.Common.{◌≡◌, ℕ, ◌+◌, Bool, true, false, cond, eqb, List, [], ◌∷◌, ◌++◌, length, take, drop, Option, None, Some, refl, sym, ap, ◌∙◌, arith, append-nil, length-append, eqb-true}
+use Rattle.std.proofs.Common.{◌≡◌, ℕ, ◌+◌, Bool, true, false, cond, eqb, List, [], ◌∷◌, ◌++◌, length, take, drop, Option, None, Some, refl, sym, ap, ◌∙◌, arith, append-nil, length-append}
 use Rattle.std.specs.Prelude.{min}
 use Rattle.nr_header.specs.declared.header.ChunkLists.{ChunkLists}
 use Rattle.nr_header.specs.declared.header.RdmaSegment.{RdmaSegment}
 use Rattle.nr_rpc.specs.Reading.{call_of, target_of}
-use Rattle.nr_wire.specs.Constants.{REASON_FLAGS}
 use Rattle.nr_wire.specs.declared.hello.Side.TheVariants.{Responder}
 use Rattle.nr_link.specs.declared.end.End.{End}
-use Rattle.nr_link.specs.declared.end.End.TheVariants as ends
 use Rattle.nr_link.specs.Frames.{Frame, is_hello}
-use Rattle.nr_link.specs.Ending.{final_output, rejection, is_hello_reason}
-use Rattle.nr_link.specs.Output.{msn_word, send, read_request, own_hello, refusing_hello, write, terminate_message}
+use Rattle.nr_link.specs.Ending.{final_output, rejection, last_output}
+use Rattle.nr_link.specs.Output.{msn_word, send, read_request, own_hello, write}
 use Rattle.nr_link.specs.OutputItem.{OutputItem, items_encoding, is_send_item, item_ends}
 use Rattle.nr_link.specs.OutputItem.OutputItem.{SendItem, WriteItem, LastItem}
 use Rattle.nr_reduce.specs.declared.mark.LinkParameters.{LinkParameters}
@@ -20,7 +18,7 @@ use Rattle.nr_reduce.specs.Events.{Event}
 use Rattle.nr_reduce.specs.Events.Event.{FrameReceived, CallSubmitted, MemoryRevoked, CallExecuted, QueueWritten}
 use Rattle.nr_reduce.specs.ServerState.{PendingRead, ServerState, down_max, credit_word}
 use Rattle.nr_reduce.specs.ServerFrames.{frame_effect}
-use Rattle.nr_reduce.specs.Server.{server_state_after, server_output, server_final_output, sends_from, send_ends_from, requests_from, newly_open_reads, effect_output, offer_of, answer_of_target, answer_output, execution_output, with_effect, with_own_hello}
+use Rattle.nr_reduce.specs.Server.{server_state_after, server_output, sends_from, send_ends_from, requests_from, newly_open_reads, effect_output, offer_of, answer_of_target, answer_output, execution_output, with_effect, with_own_hello}
 use Rattle.nr_reduce.specs.DueItems.{message_items, request_items, effect_items, write_items, answer_items, execution_items, server_items_at, server_hello_at}
 use Rattle.nr_reduce.proofs.WholeWrotes.{server-due}
 use Rattle.nr_reduce.proofs.OutputItems.{encoding-append, ends-append, send-word, request-word}
@@ -94,24 +92,8 @@ server-encoded opened k (MemoryRevoked place xid) = refl
 server-encoded opened k (CallExecuted e) = execution-encoded k e
 server-encoded opened k (QueueWritten taken) = refl
 
-pub server-last : (end : End) → server_final_output end ≡ rejection Responder end ++ items_encoding (LastItem end ∷ [])
-unfolding server_final_output final_output
-server-last (ends.Bad at reason) = by (eqb reason REASON_FLAGS) refl
-  where
-    by_reason : (b : Bool) → is_hello_reason reason ≡ b → b ≡ true → cond b [] (terminate_message reason) ≡ []
-    by_reason true is e = refl
-    by_reason false is e = absurd cc
-
-    by : (b : Bool) → eqb reason REASON_FLAGS ≡ b
-        → cond b refusing_hello (cond (is_hello_reason reason) [] (terminate_message reason)) ≡ cond b refusing_hello [] ++ (cond (is_hello_reason reason) [] (terminate_message reason) ++ [])
-    by true is =
-        sym (append-nil refusing_hello)
-        ∙ ap (λ (bs : List ℕ). refusing_hello ++ (bs ++ [])) (sym (by_reason (is_hello_reason reason) refl (ap is_hello_reason (eqb-true reason REASON_FLAGS is))))
-    by false is = sym (append-nil (cond (is_hello_reason reason) [] (terminate_message reason)))
-server-last (ends.Denied stag offset why) = sym (append-nil (final_output (ends.Denied stag offset why)))
-server-last (ends.NoBuffer msn) = sym (append-nil (final_output (ends.NoBuffer msn)))
-server-last (ends.Terminated reason) = refl
-server-last ends.Memory = refl
+pub server-last : (end : End) → last_output Responder end ≡ rejection Responder end ++ items_encoding (LastItem end ∷ [])
+server-last end = ap (λ (bs : List ℕ). rejection Responder end ++ bs) (sym (append-nil (final_output end)))
 
 -- ---- The ends of messages
 

@@ -1,7 +1,7 @@
 -- The client of a link, event by event: what ends it, what it writes for an event, and what it knows after it.
 use Rattle.std.specs.Prelude.{ℕ, ◌+◌, true, false, not, ◌==◌, nat_lt, if◌then◌else◌, List, [], ◌∷◌, ◌++◌, length, take, drop, map, Option, None, Some, Result, Ok, Err}
 use Rattle.std.specs.List.{filter}
-use Rattle.nr_wire.specs.declared.hello.Side.TheVariants.{Responder}
+use Rattle.nr_wire.specs.declared.hello.Side.TheVariants.{Initiator, Responder}
 use Rattle.nr_wire.specs.Hello.{hello_of}
 use Rattle.nr_wire.specs.Segment.{Segment}
 use Rattle.nr_link.specs.declared.end.End.{End}
@@ -15,7 +15,7 @@ use Rattle.nr_link.specs.Output.{send, read_response}
 use Rattle.nr_link.specs.Frames.{Frame, is_hello}
 use Rattle.nr_link.specs.ReceiveState.{received_after, message_completed, ReadRequest, read_request_of}
 use Rattle.nr_link.specs.SegmentFaults.{Readiness}
-use Rattle.nr_link.specs.Ending.{tagged_access, frame_segment, frame_end, hello_end, final_output}
+use Rattle.nr_link.specs.Ending.{tagged_access, frame_segment, frame_end, hello_end, last_output}
 use Rattle.nr_regions.specs.declared.denied.Denied.{Denied}
 use Rattle.nr_reduce.specs.OfferedRegions.{Region, region_grants, regions_closed}
 use Rattle.nr_reduce.specs.Events.{Event}
@@ -191,7 +191,7 @@ client_rules opened = record {
   end_at = client_end;
   output_at = client_output opened;
   state_after = client_state_after opened;
-  final_output = final_output;
+  final_output = last_output Initiator;
 }
 
 -- a client to which nothing has happened

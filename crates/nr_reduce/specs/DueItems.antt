@@ -1,5 +1,5 @@
 -- The output that is due, as items beside its bytes: the hello of a side, and the Sends, Read Requests, Read Responses and RDMA Writes
--- that are due after it, in order.
+-- that are due after it, in order, and the last output of a side that ends.
 use Rattle.std.specs.Prelude.{ℕ, ◌+◌, ◌==◌, min, if◌then◌else◌, List, [], ◌∷◌, ◌++◌, length, take, drop, Option, None, Some}
 use Rattle.nr_header.specs.declared.header.ChunkLists.{ChunkLists}
 use Rattle.nr_header.specs.declared.header.RdmaSegment.{RdmaSegment}
