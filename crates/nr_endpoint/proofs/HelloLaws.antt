@@ -68,7 +68,7 @@ hello-early side out a s f (Err reason) live early = (
 )
 
 -- an FPDU changes neither the side nor whether the hello came
-abbrev SameSide : LinkState → LinkState → Type 0
+abbrev pub SameSide : LinkState → LinkState → Type 0
 SameSide s after = (after.side ≡ s.side) × (after.has_hello ≡ s.has_hello)
 
 placed-side : (s : LinkState) (b last : Bool) (n : ℕ) → SameSide s (cond b (with_read_response last n s) s)
@@ -82,7 +82,7 @@ segment-side s f (Untagged last opcode w queue msn offset payload) None = (refl,
 segment-side s f (Tagged last opcode stag to payload) None =
     placed-side (record s { memory = after_place s.memory stag to payload }) (eqb opcode OPCODE_READ_RESPONSE) last (length payload)
 
-fpdu-side : (s : LinkState) (f : Frame) (r : Result Segment ℕ) → SameSide s (with_fpdu f r s)
+pub fpdu-side : (s : LinkState) (f : Frame) (r : Result Segment ℕ) → SameSide s (with_fpdu f r s)
 unfolding with_fpdu
 fpdu-side s f (Ok segment) = segment-side s f segment (segment_end s f segment)
 fpdu-side s f (Err reason) = (refl, refl)

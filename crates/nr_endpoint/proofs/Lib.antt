@@ -17,6 +17,7 @@ pub mod MemoryLaws
 pub mod ReadLaws
 pub mod AlongFrames
 pub mod HelloLaws
+pub mod HelloFirst
 pub mod EndLaws
 pub mod LastOutput
 pub mod PlaceOrder

@@ -15,7 +15,7 @@ use Rattle.nr_link.specs.ReceiveState.{ReadRequest, read_request_of, read_reques
 use Rattle.nr_endpoint.specs.SendQueue.{with_response, with_end}
 use Rattle.nr_endpoint.specs.LinkState.{LinkState}
 use Rattle.nr_endpoint.specs.Judging.{segment_end, fetch_access, next_frame, with_frame, with_segment_by, with_fpdu, with_peer_hello, with_effect, with_read_response, with_read_request}
-use Rattle.nr_endpoint.specs.Laws.{ReadsAreAllowed, IsAllowedRead, last_output, NothingElseIsRead, OtherFramesQueueNothing}
+use Rattle.nr_endpoint.specs.Laws.{ReadsAreAllowed, IsAllowedRead, final_fpdus, NothingElseIsRead, OtherFramesQueueNothing}
 use Rattle.nr_endpoint.proofs.Alive.{alive-request}
 
 -- the frame of a segment that doesn't end the side
@@ -57,10 +57,10 @@ reads-are-allowed s frame segment request whole asks lives = (
 -- ---- Any other frame
 
 abbrev QueuesLast : LinkState → LinkState → Type 0
-QueuesLast s after = after.send_queue.fpdus ≡ s.send_queue.fpdus ++ last_output after.ended
+QueuesLast s after = after.send_queue.fpdus ≡ s.send_queue.fpdus ++ final_fpdus after.ended
 
-nothing-more : (before after : List ℕ) (e : Option End) → e ≡ None → after ≡ before → after ≡ before ++ last_output e
-nothing-more before after e lives same = same ∙ sym (append-nil before) ∙ ap (λ (x : Option End). before ++ last_output x) (sym lives)
+nothing-more : (before after : List ℕ) (e : Option End) → e ≡ None → after ≡ before → after ≡ before ++ final_fpdus e
+nothing-more before after e lives same = same ∙ sym (append-nil before) ∙ ap (λ (x : Option End). before ++ final_fpdus x) (sym lives)
 
 hello-queues : (s : LinkState) (f : Frame) (r : Result Hello ℕ) → s.ended ≡ None → QueuesLast s (with_peer_hello f r s)
 unfolding with_peer_hello with_end

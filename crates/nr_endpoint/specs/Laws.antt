@@ -298,15 +298,15 @@ pub record IsAllowedRead (s : LinkState) (a : Awaited) (frame : List ℕ) : Type
   pub asks : read_request_of segment ≡ Some request
   pub lives : segment_end s (next_frame s frame) segment ≡ None
 
--- what a side writes last, where it has ended
-abbrev pub last_output : Option End → List ℕ
-last_output None = []
-last_output (Some end) = final_output end
+-- the FPDUs with which a side ends, if it has ended
+abbrev pub final_fpdus : Option End → List ℕ
+final_fpdus None = []
+final_fpdus (Some end) = final_output end
 
 -- Any other frame queues no FPDU but the one with which the side ends.
 abbrev pub NothingElseIsRead : Type 0
 NothingElseIsRead = (s : LinkState) (a : Awaited) (frame : List ℕ) → s.ended ≡ None →
-    IsAllowedRead s a frame ⊎ ((with_frame s a frame).send_queue.fpdus ≡ s.send_queue.fpdus ++ last_output (with_frame s a frame).ended)
+    IsAllowedRead s a frame ⊎ ((with_frame s a frame).send_queue.fpdus ≡ s.send_queue.fpdus ++ final_fpdus (with_frame s a frame).ended)
 
 -- A frame that isn't a Read Request, and doesn't end the side, leaves what there is to write as it was.
 abbrev pub OtherFramesQueueNothing : Type 0

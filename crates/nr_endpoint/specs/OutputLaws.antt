@@ -1,6 +1,6 @@
 -- Laws of what a side has to write, over the calls that it stands for: its output is a hello and items, in order, and its counts of Sends
 -- and of Read Responses are counts of these items.
-use Rattle.std.specs.Prelude.{◌≡◌, ℕ, ◌+◌, ◌-◌, ◌^◌, ◌<◌, ◌≤◌, min, Bool, if◌then◌else◌, List, [], ◌∷◌, ◌++◌, length, take, Option, None, Some, Result, Ok, Err}
+use Rattle.std.specs.Prelude.{◌≡◌, ℕ, ◌+◌, ◌-◌, ◌^◌, ◌<◌, ◌≤◌, min, Bool, true, false, if◌then◌else◌, List, [], ◌∷◌, ◌++◌, length, take, Option, None, Some, Result, Ok, Err}
 use Rattle.nr_wire.specs.declared.hello.Side.{Side}
 use Rattle.nr_wire.specs.declared.hello.Side.TheVariants.{Initiator, Responder}
 use Rattle.nr_wire.specs.declared.stream.Awaited.{Awaited}
@@ -110,6 +110,11 @@ abbrev pub AreAllowedCalls : Link → List Call → Type 0
 AreAllowedCalls link [] = Unit {0}
 AreAllowedCalls link (call ∷ calls) = IsAllowedCall link call × AreAllowedCalls (after_call link call) calls
 
+-- Calls that are allowed, and then calls that are allowed after them, are together calls that are allowed.
+abbrev pub AllowedCallsJoin : Type 0
+AllowedCallsJoin = (start : Link) (calls more : List Call) → AreAllowedCalls start calls → AreAllowedCalls (after_calls start calls) more →
+    AreAllowedCalls start (calls ++ more)
+
 -- ---- The laws
 
 -- What was written and then what is queued is the hello and then the encodings of the items, in order.
@@ -146,3 +151,9 @@ pub record IsBounded (opened : ℕ) (s : LinkState) : Type 0 where
 abbrev pub SidesStayBounded : Type 0
 SidesStayBounded = (side : Side) (receives first_stag : ℕ) (calls : List Call) → AreAllowedCalls (initial_link side receives first_stag) calls →
     IsBounded receives (after_calls (initial_link side receives first_stag) calls).state
+
+-- A side that awaits an FPDU and hasn't ended has accepted the peer's hello.
+abbrev pub FpdusFollowHello : Type 0
+FpdusFollowHello = (side : Side) (receives first_stag : ℕ) (calls : List Call) →
+    let link = after_calls (initial_link side receives first_stag) calls in
+    has_ended link.state ≡ false → link.awaited ≡ Fpdu → link.state.has_hello ≡ true

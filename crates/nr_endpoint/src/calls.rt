@@ -37,6 +37,7 @@ impl Endpoint {
         ensures buffer { IfSome result HasBuffer }
         ensures state { self.new.link ≡ (if is_some result then after_call self.old.link NextEvent else self.old.link) }
         ensures stands { is_some result ≡ true → StandsOn self.old.link NextEvent self.new.link }
+        ensures room { self.new.room ≡ self.old.room }
         ensures staging { self.new.staging ≡ self.old.staging }
     {
         self.facts();
@@ -49,6 +50,7 @@ impl Endpoint {
         requires len { length buf ≡ send_max }
         ensures state { self.new.link ≡ after_call self.old.link Post }
         ensures stands { StandsOn self.old.link Post self.new.link }
+        ensures room { self.new.room ≡ self.old.room }
         ensures staging { self.new.staging ≡ self.old.staging }
     {
         self.link.post(buf);
@@ -66,6 +68,7 @@ impl Endpoint {
         ensures memory { result ≡ ends.Memory → self.new.link ≡ after_call self.old.link OutOfMemory }
         ensures stands { result ≢ ends.Memory → StandsOn self.old.link (Stop reason) self.new.link }
         ensures stands_memory { result ≡ ends.Memory → StandsOn self.old.link OutOfMemory self.new.link }
+        ensures room { self.new.room ≡ self.old.room }
         ensures staging { self.new.staging ≡ self.old.staging }
     {
         let end = End::Bad {
@@ -84,6 +87,7 @@ impl Endpoint {
         ensures state { self.new.link ≡ after_call self.old.link OutOfMemory }
         ensures stands { StandsOn self.old.link OutOfMemory self.new.link }
         ensures kept { has_ended self.old.link.state ≡ true → self.new ≡ self.old }
+        ensures room { self.new.room ≡ self.old.room }
         ensures staging { self.new.staging ≡ self.old.staging }
     {
         self.facts();
@@ -98,6 +102,7 @@ impl Endpoint {
         ensures ended { self.new.link.state.ended ≡ Some result }
         ensures end { result ≡ ends.Memory }
         ensures state { self.new.link ≡ after_call self.old.link OutOfMemory }
+        ensures room { self.new.room ≡ self.old.room }
         ensures staging { self.new.staging ≡ self.old.staging }
     {
         self.staged = 0;
@@ -167,6 +172,7 @@ impl Endpoint {
         ensures counted { MatchResult result
             (λ _. K.faults sink.new ≡ K.faults sink.old) (λ e. (e ≡ drains.LinkWrite) × Rises (K.faults sink.old) (K.faults sink.new)) }
         ensures never_falls { K.faults sink.old ≤ K.faults sink.new }
+        ensures room { self.new.room ≡ self.old.room }
         ensures staging { self.new.staging ≡ self.old.staging }
     {
         self.link.drain_into(sink)?;
@@ -195,6 +201,7 @@ impl Endpoint {
         ensures spent { IsErrAnd result (λ e. e.1 ≡ Why.Spent) ↔ (self.old.link.state.memory.next ≡ 2 ^ 32) }
         ensures succeeds { 0 < self.old.room → self.old.link.state.memory.next < 2 ^ 32 → IsOk result }
         ensures room { self.old.room ≤ self.new.room + 1 }
+        ensures room_kept { OnErr result (self.old.room ≤ self.new.room) }
         ensures returned { IfErr result (λ e. e.0 ≡ buf) }
         ensures err { OnErr result (self.new.link ≡ self.old.link) }
         ensures staging { self.new.staging ≡ self.old.staging }

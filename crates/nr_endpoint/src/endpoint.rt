@@ -112,7 +112,7 @@ impl Endpoint {
         ensures ended { has_ended self.now.link.state ≡ true → self.now.link.rest ≡ [] }
         // Each receive is free, has a begun Send or a message that the owner wasn't told yet, or is lent.
         ensures receives { receives_kept self.now.link.state.receive_queue + self.now.link.state.receive_queue.lent ≡ self.now.link.state.receive_queue.receives }
-        // Some bytes came before an event, and before the peer's hello was accepted: `stop` asks this.
+        // An event waits, or the hello was accepted, only after some bytes came: `stop` requires this.
         ensures waiting { length self.now.link.state.receive_queue.notices ≤ self.now.link.state.place }
         ensures greeted { self.now.link.state.has_hello ≡ true → 0 < self.now.link.state.place }
         ensures reads { length self.now.link.state.reads ≤ open_reads_max }

@@ -28,8 +28,11 @@ pub enum Carrier {
 /// An RDMA Write: some bytes into the peer's region `stag`, from byte `to` on.
 #[derive(Clone, Copy)]
 pub struct RemoteWrite<'a> {
+    /// The peer's region.
     pub stag: u32,
+    /// The offset of the first byte in that region.
     pub to: u64,
+    /// What is written. Offset and length stay within 2^64 in sum.
     pub bytes: &'a [u8],
 }
 

@@ -1,7 +1,7 @@
 //! Laws of an endpoint, over the calls that it stands for.
 
 ghost use Rattle.nr_endpoint.specs.ReceivedLaws.{EventsOfReceivedBytes, ReceivedBytes};
-ghost use Rattle.nr_endpoint.specs.OutputLaws.{OutputIsItems, SendsGoByItems, ResponsesGoByItems, SidesStayBounded};
+ghost use Rattle.nr_endpoint.specs.OutputLaws.{AllowedCallsJoin, FpdusFollowHello, OutputIsItems, SendsGoByItems, ResponsesGoByItems, SidesStayBounded};
 ghost use Rattle.nr_endpoint.specs.Laws.{PiecesJoin, StepsReach, StepsFeed, EndStays, KeepsLessThanFrame, EndedKeepsNothing, StreamIsKept, PlaceIsFed, MemoryFollowsEvents, PlacesAreAllowed, PlacesAreInOrder, ArrivalsRise, EventsAreTold, EventsAreInOrder, EventsFollowAccesses, OneFrameTellsAtItsEnd, OneFrameTellsOnce, ReadsAreAllowed, NothingElseIsRead, OtherFramesQueueNothing, OpenRegionHolds, ReleasedBufferHolds, ReleasedStaysDead, ClaimsStay, NoFpduBeforeHello, FramesEndForThese, GrantsEndAlike, OffersDenyAlike, NoFrameStops, OthersComeFromStop, MemoryComesFromOutOfMemory, EndedQueuesNothing, EndIsKept, StopQueuesLast, OutOfMemoryQueuesNothing};
 
 /// What a side is after some bytes does not depend on how they were cut: to feed two pieces is to feed both joined, and one step on a
@@ -74,12 +74,14 @@ pub fn output_in_items()
     ensures items { OutputIsItems }
     ensures sends { SendsGoByItems }
     ensures responses { ResponsesGoByItems }
+    ensures join { AllowedCallsJoin }
 {}
 
 /// Every side that calls reach has bounds: at most eight Read Requests are open and at most eight Read Responses owed, and each receive
-/// is free, has a begun Send or a message that waits, or is lent.
+/// is free, has a begun Send or a message that waits, or is lent. A side that awaits an FPDU and hasn't ended has accepted the peer's hello.
 pub fn sides_stay_bounded()
-    ensures { SidesStayBounded }
+    ensures bounds { SidesStayBounded }
+    ensures greeted { FpdusFollowHello }
 {}
 
 /// A hello ends a side only for the reasons 1 to 4, an FPDU only for the reasons 5 to 16 and 22, a denied access, a Send without a receive, or

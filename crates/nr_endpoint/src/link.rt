@@ -98,6 +98,7 @@ impl Link {
         ensures ok { OnOk result (self.new.state ≡ with_end_of end self.old.state) }
         ensures err { OnErr result (self.new.state ≡ self.old.state) }
         ensures queued { OnErr result (output_len self.old.state.send_queue < output_len (with_end_of end self.old.state).send_queue) }
+        ensures room { self.new.room ≡ self.old.room }
     {
         self.send_queue.finish(self.side, end)?;
         self.ended = Some(end);
@@ -109,6 +110,7 @@ impl Link {
         requires { end ≢ ends.Memory }
         ensures end { result ≢ ends.Memory → (result ≡ end) × (self.new.state ≡ with_end_of end self.old.state) }
         ensures memory { result ≡ ends.Memory → self.new.state ≡ record self.old.state { ended = Some ends.Memory } }
+        ensures room { self.new.room ≡ self.old.room }
     {
         if self.end_with(end).is_err() {
             self.ended = Some(End::Memory);

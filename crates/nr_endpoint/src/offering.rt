@@ -16,16 +16,22 @@ use nr_xdr::{Memory, Octets};
 /// Buffers for the peer to read, and to fill: by a write chunk and by a reply chunk.
 #[derive(Drop)]
 pub struct Offered {
+    /// The peer may read it.
     pub read: Option<Octets>,
+    /// The peer may fill it by a write chunk.
     pub write: Option<Octets>,
+    /// The peer may fill it by a reply chunk.
     pub reply: Option<Octets>,
 }
 
 /// The registrations of these buffers.
 #[derive(Drop)]
 pub struct Claims {
+    /// That of the buffer that the peer may read.
     pub read: Option<Registration>,
+    /// That of the buffer that the peer may fill by a write chunk.
     pub write: Option<Registration>,
+    /// That of the buffer that the peer may fill by a reply chunk.
     pub reply: Option<Registration>,
 }
 
@@ -54,6 +60,7 @@ fn register_offered(regions: &mut Regions, offered: Offered) -> Claims
     requires stags { regions.old.memory.next + offered_count offered ≤ 2 ^ 32 }
     ensures memory { regions.new.memory ≡ with_offered regions.old.memory offered }
     ensures claims { result ≡ claims_of regions.old.memory offered }
+    ensures left { regions.old.room ≤ regions.new.room + offered_count offered }
 {
     let Offered { read, write, reply } = offered;
     let read = register_some(regions, read, Right::Fetch);
@@ -83,6 +90,8 @@ impl Link {
         ensures claims { IfOk result (λ claims. claims ≡ claims_of self.old.state.memory offered) }
         ensures err { OnErr result (self.new.state ≡ self.old.state) }
         ensures returned { IfErr result (λ o. o ≡ offered) }
+        ensures room { self.old.room ≤ self.new.room + offered_count offered }
+        ensures room_kept { OnErr result (self.old.room ≤ self.new.room) }
     {
         if self.regions.make_room(3).is_err() {
             return Err(offered);
@@ -100,6 +109,7 @@ impl Link {
         ensures ok { OnOk result (self.new.state ≡ after_answer writes.now message.now self.old.state) }
         ensures err { OnErr result (self.new.state ≡ self.old.state) }
         ensures live { OnErr result (has_ended self.old.state ≡ false) }
+        ensures room { self.new.room ≡ self.old.room }
     {
         if self.ended.is_some() {
             return Ok(());
@@ -121,6 +131,8 @@ impl Endpoint {
         ensures held { IfOk result (AreHeld self.new.link.state.memory) }
         ensures err { OnErr result (self.new.link ≡ self.old.link) }
         ensures returned { IfErr result (λ o. o ≡ offered) }
+        ensures room { self.old.room ≤ self.new.room + offered_count offered }
+        ensures room_kept { OnErr result (self.old.room ≤ self.new.room) }
         ensures staging { self.new.staging ≡ self.old.staging }
     {
         self.link.offer(message, offered)
@@ -135,6 +147,7 @@ impl Endpoint {
         ensures stands { OnOk result (StandsOnAll self.old.link (answer_calls writes.now message.now) self.new.link) }
         ensures err { OnErr result (self.new.link ≡ self.old.link) }
         ensures live { OnErr result (has_ended self.old.link.state ≡ false) }
+        ensures room { self.new.room ≡ self.old.room }
         ensures staging { self.new.staging ≡ self.old.staging }
     {
         self.link.answer(writes, message)

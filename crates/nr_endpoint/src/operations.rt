@@ -47,6 +47,7 @@ impl Link {
     pub fn run_out(&mut self) -> End
         ensures end { result ≡ ends.Memory }
         ensures state { self.new.state ≡ record self.old.state { ended = Some ends.Memory } }
+        ensures room { self.new.room ≡ self.old.room }
     {
         self.ended = Some(End::Memory);
         End::Memory
@@ -57,6 +58,7 @@ impl Link {
         ensures waits { is_some result ≡ nat_lt 0 (length self.old.state.receive_queue.notices) }
         ensures buffer { IfSome result HasBuffer }
         ensures after { self.new.state ≡ (if is_some result then record self.old.state { receive_queue = told self.old.state.receive_queue } else self.old.state) }
+        ensures room { self.new.room ≡ self.old.room }
     {
         self.receive_queue.next_event()
     }
@@ -64,7 +66,8 @@ impl Link {
     pub fn post(&mut self, buf: Octets)
         requires lent { 0 < self.old.state.receive_queue.lent }
         requires len { length buf ≡ send_max }
-        ensures { self.new.state ≡ record self.old.state { receive_queue = posted self.old.state.receive_queue } }
+        ensures state { self.new.state ≡ record self.old.state { receive_queue = posted self.old.state.receive_queue } }
+        ensures room { self.new.room ≡ self.old.room }
     {
         self.receive_queue.post(buf);
     }
@@ -141,6 +144,7 @@ impl Link {
         ensures counted { MatchResult result
             (λ _. K.faults sink.new ≡ K.faults sink.old) (λ _. Rises (K.faults sink.old) (K.faults sink.new)) }
         ensures never_falls { K.faults sink.old ≤ K.faults sink.new }
+        ensures room { self.new.room ≡ self.old.room }
     {
         self.send_queue.drain_into(self.has_hello, sink)
     }
@@ -162,6 +166,7 @@ impl Link {
         ensures spent { IsErrAnd result (λ e. e.1 ≡ Why.Spent) ↔ (self.old.state.memory.next ≡ 2 ^ 32) }
         ensures succeeds { 0 < self.old.room → self.old.state.memory.next < 2 ^ 32 → IsOk result }
         ensures room { self.old.room ≤ self.new.room + 1 }
+        ensures room_kept { OnErr result (self.old.room ≤ self.new.room) }
         ensures returned { IfErr result (λ e. e.0 ≡ buf) }
         ensures err { OnErr result (self.new.state ≡ self.old.state) }
     {

@@ -25,8 +25,8 @@ pub struct BegunSend {
     pub len: u64,
 }
 
-/// The Send with a number, from 1 on, which came whole: the first `len` bytes of its receive buffer. Between the message before it and this one, the responses to
-/// `reads_done` Read Requests became whole, of which the owner wasn't told yet.
+/// A complete Send with its number, from 1 on: the first `len` bytes of its receive buffer. After the message before it and before this one,
+/// the responses to `reads_done` Read Requests became complete that were not yet reported to the owner.
 #[derive(Drop)]
 pub struct ReceivedMessage {
     pub reads_done: u64,

@@ -20,6 +20,8 @@ mod output;
 #[cfg(test)]
 mod owner;
 #[cfg(test)]
+mod reasons;
+#[cfg(test)]
 mod rights;
 #[cfg(test)]
 mod segments;

@@ -1,6 +1,12 @@
 //! Laws of a link.
 
+ghost use Rattle.std.specs.Prelude.{◌≡◌};
 ghost use Rattle.nr_link.specs.KeptSends.{JudgedAlike, KeptAlike, MessagesAlike};
+ghost use Rattle.nr_link.specs.Reasons as reasons;
+
+use crate::constants::{
+    REASON_CALL, REASON_CHUNKS, REASON_HEAD, REASON_KIND, REASON_STAGS, REASON_VERSION, REASON_XID,
+};
 
 /// A side may keep of a begun Send only the bytes that its receive has room for, if it counts those beyond: each segment ends the link
 /// for the same reason as if all bytes were kept, what is kept after it is the same, and a message that fits its receive is the same.
@@ -8,4 +14,15 @@ pub fn begun_sends_judged_alike()
     ensures judged { JudgedAlike }
     ensures kept { KeptAlike }
     ensures messages { MessagesAlike }
+{}
+
+/// The numbers for which the layer above stops a link are those of the definitions.
+pub fn stop_reasons_numbered()
+    ensures kind { REASON_KIND ≡ reasons.REASON_KIND }
+    ensures head { REASON_HEAD ≡ reasons.REASON_HEAD }
+    ensures xid { REASON_XID ≡ reasons.REASON_XID }
+    ensures call { REASON_CALL ≡ reasons.REASON_CALL }
+    ensures chunks { REASON_CHUNKS ≡ reasons.REASON_CHUNKS }
+    ensures version { REASON_VERSION ≡ reasons.REASON_VERSION }
+    ensures stags { REASON_STAGS ≡ reasons.REASON_STAGS }
 {}

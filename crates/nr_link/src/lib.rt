@@ -12,4 +12,4 @@ mod end;
 mod laws;
 
 pub use end::End;
-pub use laws::begun_sends_judged_alike;
+pub use laws::{begun_sends_judged_alike, stop_reasons_numbered};
