@@ -44,9 +44,11 @@ pub keeps-begins : (opened : LinkParameters) → ClientKeeps opened (opened_clie
 keeps-begins opened = record {
   ended = refl;
   xid = omega arith;
-  grant = λ lives. refl;
+  grant = refl;
+  outstanding = refl;
   calls = λ lives. record { kept = tt; rising = tt; owned = λ stag r e is. absurd cc; opens = tt };
   memory = λ lives. record { next = next-begins opened.first_stag; offered = tt; holds = memory-begins opened.first_stag; below = λ stag r e. absurd cc };
+  waits = tt;
   rising = tt;
   opens = tt;
   accesses = tt;
@@ -94,7 +96,7 @@ kept-responds opened kept k count place r keeps later allowed =
 
 -- ---- Calls
 
-kept-count : (k : ClientState) (cs : List KeptCall) (os : List OutstandingCall) → AreKept k cs os → length cs ≡ length os
+pub kept-count : (k : ClientState) (cs : List KeptCall) (os : List OutstandingCall) → AreKept k cs os → length cs ≡ length os
 kept-count k [] [] is = refl
 kept-count k [] (o ∷ os) is = absurd is
 kept-count k (c ∷ cs) [] is = absurd is
@@ -127,7 +129,7 @@ answer-live opened kept k count call form keeps =
     let memory : MemoryKeeps kept.memory k count = keeps.memory refl in
     let calls : CallsKeep kept.calls kept.next_xid k = keeps.calls refl in
     own-parts kept (plan_of (call_payload kept.next_xid call) form send_max send_max)
-    ∙ (λ i. answer-parts (plan_of (call_payload (keeps.xid i) call) form send_max send_max) (keeps.grant refl i) (kept-count k kept.calls k.outstanding calls.kept i) (keeps.xid i) (memory.next i))
+    ∙ (λ i. answer-parts (plan_of (call_payload (keeps.xid i) call) form send_max send_max) (keeps.grant i) (kept-count k kept.calls k.outstanding calls.kept i) (keeps.xid i) (memory.next i))
     ∙ sym (client-parts opened k (plan_of (call_payload (next_xid opened k) call) form send_max send_max))
     ∙ ap (by_plan opened k) (plan-same k (next_xid opened k) call form)
 
@@ -143,6 +145,7 @@ kept-answers opened kept e count call form keeps =
     ap (kept_answer_if kept call form) keeps.ended ∙ answer-if opened kept e count call form keeps e.ended refl
 
 pub kept-counts : KeptCounts
-kept-counts opened kept k count keeps =
-    let calls : CallsKeep kept.calls kept.next_xid k = keeps.calls refl in
-    (kept-count k kept.calls k.outstanding calls.kept, keeps.grant refl)
+kept-counts opened kept e count keeps = (
+  keeps.outstanding,
+  (keeps.grant, λ lives. (let calls : CallsKeep kept.calls kept.next_xid e.state = keeps.calls lives in kept-count e.state kept.calls e.state.outstanding calls.kept ∙ sym keeps.outstanding)),
+)

@@ -1,10 +1,12 @@
 -- What a client keeps stands for one mark more: a revoke, a write, and a mark that is no event of it.
-use Rattle.std.proofs.Common.{◌≡◌, ℕ, ◌+◌, ◌&&◌, eqb, cond, Bool, true, List, [], ◌∷◌, ◌++◌, length, Option, None, Some, refl, sym, ap, subst, ◌∙◌, arith, append-nil}
+use Rattle.std.proofs.Common.{◌≡◌, ℕ, ◌+◌, ◌&&◌, eqb, cond, Bool, true, List, [], ◌∷◌, ◌++◌, length, map, Option, None, Some, refl, sym, ap, subst, ◌∙◌, arith, append-nil}
 use Rattle.nr_wire.specs.declared.hello.Side.TheVariants.{Initiator, Responder}
 use Rattle.nr_link.specs.declared.end.End.{End}
 use Rattle.nr_link.specs.Input.{InputState, input_of, input_count, input_after}
 use Rattle.nr_link.proofs.Inputs.{input_of-append, input_of-count}
 use Rattle.nr_reduce.specs.declared.mark.Mark.{Mark}
+use Rattle.nr_reduce.specs.KeptCalls.{KeptCall}
+use Rattle.std.specs.List.{AllByRecursion}
 use Rattle.nr_reduce.specs.declared.mark.Mark.TheVariants as marks
 use Rattle.nr_reduce.specs.declared.mark.LinkParameters.{LinkParameters}
 use Rattle.nr_reduce.specs.History.{bytes_sent, bytes_received, written_at, fed_at}
@@ -12,11 +14,11 @@ use Rattle.nr_reduce.specs.Written.{ends_left}
 use Rattle.nr_reduce.specs.Events.{Event, if_own, events_at, events}
 use Rattle.nr_reduce.specs.Events.Event.{MemoryRevoked, QueueWritten}
 use Rattle.nr_reduce.specs.EndRules.{EndState, next_end_state, output_for, output_for_in, output_for_by, end_state_after, output_for_all, live}
-use Rattle.nr_reduce.specs.ClientState.{ClientState}
+use Rattle.nr_reduce.specs.ClientState.{OutstandingCall, ClientState}
 use Rattle.nr_reduce.specs.Client.{client_rules, client_end, client_output}
 use Rattle.nr_reduce.specs.Run.{client, output_due}
 use Rattle.nr_reduce.specs.Matched.{IsPrefixOf}
-use Rattle.nr_reduce.specs.KeptClient.{KeptClient, ClientKeeps, kept_revoked, kept_sent}
+use Rattle.nr_reduce.specs.KeptClient.{KeptClient, ClientKeeps, IsWaiting, kept_revoked, sent_kept, kept_sent}
 use Rattle.nr_reduce.specs.Standing.{input_events, StandsFor, ClientStandsFor, ClientRunsOut}
 use Rattle.nr_reduce.specs.StandingLaws.{GoesOn, RevokeStands, RevokeStaysOut, WroteStands, OtherMarkStands}
 use Rattle.nr_reduce.proofs.Steps.{client-one, output_due_up-one}
@@ -135,15 +137,21 @@ revoke-stays-out opened link kept queue stopped run xid bytes out =
       output = stays.output;
     }
 
+waits-sent : (first sent : ℕ) (os : List OutstandingCall) (cs : List KeptCall) → AllByRecursion (IsWaiting os) cs → AllByRecursion (IsWaiting os) (map (sent_kept first sent) cs)
+waits-sent first sent os [] h = tt
+waits-sent first sent os (c ∷ cs) h = (h.0, waits-sent first sent os cs h.1)
+
 -- of a client that has ended it doesn't matter which Sends have left
 writes-ended : (opened : LinkParameters) (kept : KeptClient) (k : ClientState) (end : End) (count first sent : ℕ) → ClientKeeps opened kept (record { state = k; ended = Some end }) count → ClientKeeps opened (kept_sent first sent kept) (record { state = k; ended = Some end }) count
 unfolding kept_sent
 writes-ended opened kept k end count first sent keeps = record {
   ended = keeps.ended;
   xid = keeps.xid;
-  grant = λ e. absurd cc;
+  grant = keeps.grant;
+  outstanding = keeps.outstanding;
   calls = λ e. absurd cc;
   memory = λ e. absurd cc;
+  waits = waits-sent first sent k.outstanding kept.calls keeps.waits;
   rising = rising-sent first sent kept.calls kept.next_xid keeps.rising;
   opens = opens-sent first sent k.regions kept.calls keeps.opens;
   accesses = keeps.accesses;

@@ -1,7 +1,8 @@
 -- The regions of a call are released where its memory is revoked, and where a message of its xid comes.
-use Rattle.std.proofs.Common.{◌≡◌, ℕ, ◌<◌, ◌≤◌, Bool, true, false, cond, eqb, leb, List, [], ◌∷◌, map, inl, inr, Option, None, Some, refl, sym, ap, subst, ◌∙◌, arith}
+use Rattle.std.proofs.Common.{◌≡◌, ℕ, ◌<◌, ◌≤◌, Bool, true, false, cond, eqb, leb, List, [], ◌∷◌, length, map, inl, inr, Option, None, Some, is_some, refl, sym, ap, subst, ◌∙◌, arith}
 use Rattle.std.specs.List.{AllByRecursion, find}
 use Rattle.std.proofs.lemmas.Bool.{eqb-true, eq-eqb, le-leb}
+use Rattle.std.proofs.lemmas.List.{length-map}
 use Rattle.nr_xdr.specs.Fields.{word_at}
 use Rattle.nr_regions.specs.RegisteredMemory.{RegisteredMemory, live_region, bytes_in}
 use Rattle.nr_regions.specs.Access.{contents}
@@ -15,12 +16,13 @@ use Rattle.nr_reduce.specs.EndRules.{next_end_state, live}
 use Rattle.nr_reduce.specs.ClientState.{OutstandingCall, ClientState, memory_at}
 use Rattle.nr_reduce.specs.Client.{client_rules, client_end, client_state_after, revoked_call, with_message}
 use Rattle.nr_reduce.specs.KeptCalls.{KeptCall, IsKept, AreKept}
-use Rattle.nr_reduce.specs.KeptClient.{KeptClient, ClientKeeps, CallsKeep, MemoryKeeps, HoldsFor, IsOwned, IsOpen, IsAmong, AreRising, OpensFor, bytes_under, released_all, stags_in, stags_for, without, revoked_if, revoked_kept, kept_revoked, kept_completed}
+use Rattle.nr_reduce.specs.KeptClient.{KeptClient, ClientKeeps, CallsKeep, MemoryKeeps, HoldsFor, IsOwned, IsOpen, IsAmong, AreRising, OpensFor, IsWaiting, bytes_under, released_all, stags_in, stags_for, without, revoked_if, revoked_kept, kept_revoked, kept_completed}
 use Rattle.nr_reduce.specs.StandingLaws.{KeptStays, KeptRevokes, KeptCompletes}
 use Rattle.nr_reduce.proofs.OfferedMemory.{grants_from, contents-same, AreAlike, alike-offers}
 use Rattle.nr_reduce.proofs.MemorySteps.{holds-closed, holds-later, offered-closed, offered-later, received-later}
 use Rattle.nr_reduce.proofs.Closing.{of_call, releases-closed, below-closed, released-next, open-closed, closed-owner, released-other, calls-closed, kept-alike}
 use Rattle.nr_reduce.proofs.Conveying.{all-among, open-bytes}
+use Rattle.nr_reduce.proofs.Keeping.{kept-count}
 
 -- ---- The call of an xid
 
@@ -233,6 +235,7 @@ kept-stays opened kept e count later keeps le = record {
   ended = keeps.ended;
   xid = keeps.xid;
   grant = keeps.grant;
+  outstanding = keeps.outstanding;
   calls = keeps.calls;
   memory = λ lives.
       (let memory : MemoryKeeps kept.memory e.state count = keeps.memory lives in
@@ -242,21 +245,52 @@ kept-stays opened kept e count later keeps le = record {
         holds = holds-later e.state.regions e.state.accesses_received count later kept.memory le keeps.accesses memory.holds;
         below = memory.below;
       });
+  waits = keeps.waits;
   rising = keeps.rising;
   opens = keeps.opens;
   accesses = received-later count later e.state.accesses_received le keeps.accesses;
   holds = holds-on e.state count later kept.memory kept.calls le keeps.accesses keeps.holds;
 }
 
+waits-first : (c : KeptCall) (o : OutstandingCall) (os : List OutstandingCall) → c.xid ≡ o.xid → IsWaiting (o ∷ os) c
+waits-first c o os is = ap (λ (b : Bool). is_some (cond b (Some o) (find (λ (p : OutstandingCall). eqb p.xid c.xid) os))) (eq-eqb o.xid c.xid (sym is))
+
+waits-more : (c : KeptCall) (o : OutstandingCall) (os : List OutstandingCall) → IsWaiting os c → IsWaiting (o ∷ os) c
+waits-more c o os is = by (eqb o.xid c.xid)
+  where
+    by : (b : Bool) → is_some (cond b (Some o) (find (λ (p : OutstandingCall). eqb p.xid c.xid) os)) ≡ true
+    by true = refl
+    by false = is
+
+all-more : (o : OutstandingCall) (os : List OutstandingCall) (cs : List KeptCall) → AllByRecursion (IsWaiting os) cs → AllByRecursion (IsWaiting (o ∷ os)) cs
+all-more o os [] is = tt
+all-more o os (c ∷ cs) is = (waits-more c o os is.0, all-more o os cs is.1)
+
+-- each kept call is an outstanding one
+kept-waits : (k : ClientState) (cs : List KeptCall) (os : List OutstandingCall) → AreKept k cs os → AllByRecursion (IsWaiting os) cs
+kept-waits k [] os is = tt
+kept-waits k (c ∷ cs) [] is = absurd is
+kept-waits k (c ∷ cs) (o ∷ os) is = (waits-first c o os is.0.xid, all-more o os cs (kept-waits k cs os is.1))
+
+waits-revoked : (xid : ℕ) (os : List OutstandingCall) (cs : List KeptCall) → AllByRecursion (IsWaiting os) cs → AllByRecursion (IsWaiting os) (map (revoked_kept xid) cs)
+waits-revoked xid os [] h = tt
+waits-revoked xid os (c ∷ cs) h = (by (eqb c.xid xid), waits-revoked xid os cs h.1)
+  where
+    by : (b : Bool) → IsWaiting os (revoked_if b c)
+    by true = h.0
+    by false = h.0
+
 -- of a client that hasn't ended the memory of its calls is that of its open regions
-pub keeps-live : (opened : LinkParameters) (kept : KeptClient) (k : ClientState) (count : ℕ) → kept.ended ≡ None → kept.next_xid ≡ Rattle.nr_reduce.specs.SubmitAnswer.next_xid opened k → kept.grant ≡ k.grant →
+pub keeps-live : (opened : LinkParameters) (kept : KeptClient) (k : ClientState) (count : ℕ) → kept.ended ≡ None → kept.next_xid ≡ Rattle.nr_reduce.specs.SubmitAnswer.next_xid opened k → kept.grant ≡ k.grant → kept.outstanding ≡ length k.outstanding →
     AreReceived count k.accesses_received → MemoryKeeps kept.memory k count → CallsKeep kept.calls kept.next_xid k → ClientKeeps opened kept (live k) count
-keeps-live opened kept k count ended xid grant accesses memory calls = record {
+keeps-live opened kept k count ended xid grant outstanding accesses memory calls = record {
   ended = ended;
   xid = xid;
-  grant = λ lives. grant;
+  grant = grant;
+  outstanding = outstanding;
   calls = λ lives. calls;
   memory = λ lives. memory;
+  waits = kept-waits k kept.calls k.outstanding calls.kept;
   rising = calls.rising;
   opens = calls.opens;
   accesses = accesses;
@@ -279,7 +313,7 @@ revokes : (opened : LinkParameters) (kept : KeptClient) (k : ClientState) (count
 unfolding client_end client_state_after kept_revoked
 revokes opened kept k count xid keeps =
     let calls : CallsKeep kept.calls kept.next_xid k = keeps.calls refl in
-    keeps-live opened (kept_revoked kept xid) (client_state_after opened k (MemoryRevoked count xid)) count keeps.ended keeps.xid (keeps.grant refl) keeps.accesses
+    keeps-live opened (kept_revoked kept xid) (client_state_after opened k (MemoryRevoked count xid)) count keeps.ended keeps.xid keeps.grant (keeps.outstanding ∙ sym (length-map k.outstanding (revoked_call xid))) keeps.accesses
     (memory-closed xid count count kept.calls kept.next_xid k (client_state_after opened k (MemoryRevoked count xid)) kept.memory (omega arith) calls keeps.accesses (keeps.memory refl) refl refl refl)
     (calls-revoked opened kept.calls kept.next_xid xid count k calls)
 
@@ -288,9 +322,11 @@ unfolding kept_revoked
 revokes-ended opened kept k end count xid keeps = record {
   ended = keeps.ended;
   xid = keeps.xid;
-  grant = λ e. absurd cc;
+  grant = keeps.grant;
+  outstanding = keeps.outstanding;
   calls = λ e. absurd cc;
   memory = λ e. absurd cc;
+  waits = waits-revoked xid k.outstanding kept.calls keeps.waits;
   rising = rising-revoked xid kept.calls kept.next_xid keeps.rising;
   opens = opens-still xid k.regions kept.calls keeps.opens;
   accesses = keeps.accesses;
@@ -313,6 +349,8 @@ unfolding kept_completed
 kept-completes opened kept k count place message keeps le =
     let calls : CallsKeep kept.calls kept.next_xid k = keeps.calls refl in
     let after : ClientState = with_message k place (Some message) in
-    keeps-live opened (kept_completed kept message) after place keeps.ended keeps.xid refl (received-later count place k.accesses_received le keeps.accesses)
+    let closed : CallsKeep (without (word_at 0 message) kept.calls) kept.next_xid after =
+    calls-closed kept.calls kept.next_xid (word_at 0 message) place k after (record { first = refl; written = refl; ends = refl }) calls refl refl in
+    keeps-live opened (kept_completed kept message) after place keeps.ended keeps.xid refl (kept-count after (without (word_at 0 message) kept.calls) after.outstanding closed.kept) (received-later count place k.accesses_received le keeps.accesses)
     (memory-closed (word_at 0 message) count place kept.calls kept.next_xid k after kept.memory le calls keeps.accesses (keeps.memory refl) refl refl refl)
-    (calls-closed kept.calls kept.next_xid (word_at 0 message) place k after (record { first = refl; written = refl; ends = refl }) calls refl refl)
+    closed

@@ -1,5 +1,5 @@
 -- What a client keeps after an access of its peer, after a write, with the server's hello, and after a call that it accepts.
-use Rattle.std.proofs.Common.{◌≡◌, ℕ, ◌+◌, ◌-◌, ◌<◌, ◌≤◌, Bool, true, false, cond, eqb, leb, ltb, List, [], ◌∷◌, ◌++◌, length, map, inl, inr, Option, None, Some, Result, Ok, refl, sym, ap, subst, ◌∙◌, arith}
+use Rattle.std.proofs.Common.{◌≡◌, ℕ, ◌+◌, ◌-◌, ◌<◌, ◌≤◌, Bool, true, false, cond, eqb, leb, ltb, List, [], ◌∷◌, ◌++◌, length, map, inl, inr, Option, None, Some, Result, Ok, refl, sym, ap, subst, ◌∙◌, arith, length-append}
 use Rattle.std.specs.List.{AllByRecursion, filter}
 use Rattle.std.proofs.lemmas.Bool.{lt-leb, le-ltb}
 use Rattle.nr_regions.specs.RegisteredMemory.{RegisteredMemory, denial}
@@ -93,7 +93,7 @@ unfolding kept_placed
 kept-places opened kept k count access keeps lt =
     let memory : MemoryKeeps kept.memory k count = keeps.memory refl in
     let after : ClientState = record k { accesses_received = k.accesses_received ++ access ∷ [] } in
-    keeps-live opened (kept_placed kept access) after access.end keeps.ended keeps.xid (keeps.grant refl) (received-one count k.accesses_received access (omega (arith, lt)) keeps.accesses)
+    keeps-live opened (kept_placed kept access) after access.end keeps.ended keeps.xid keeps.grant keeps.outstanding (received-one count k.accesses_received access (omega (arith, lt)) keeps.accesses)
     (record {
       next = event-next kept.memory access ∙ memory.next;
       offered = offered-later count access.end k.regions (omega (arith, lt)) memory.offered;
@@ -149,7 +149,7 @@ kept-writes opened kept k count taken keeps =
     let memory : MemoryKeeps kept.memory k count = keeps.memory refl in
     let after : ClientState = record k { written = k.written + taken } in
     let sent : ℕ = ends_left (k.written + taken) k.send_ends in
-    keeps-live opened (kept_sent k.first_xid sent kept) after count keeps.ended keeps.xid (keeps.grant refl) keeps.accesses
+    keeps-live opened (kept_sent k.first_xid sent kept) after count keeps.ended keeps.xid keeps.grant keeps.outstanding keeps.accesses
     (record { next = memory.next; offered = memory.offered; holds = memory.holds; below = memory.below })
     (record {
       kept = sent-all k after k.first_xid sent kept.calls k.outstanding refl refl calls.kept;
@@ -166,7 +166,7 @@ pub kept-greets : KeptGreets
 kept-greets opened kept k count keeps later =
     let calls : CallsKeep kept.calls kept.next_xid k = keeps.calls refl in
     let memory : MemoryKeeps kept.memory k count = keeps.memory refl in
-    keeps-live opened kept (with_hello opened k) count keeps.ended keeps.xid (keeps.grant refl) keeps.accesses
+    keeps-live opened kept (with_hello opened k) count keeps.ended keeps.xid keeps.grant keeps.outstanding keeps.accesses
     (record { next = memory.next; offered = memory.offered; holds = memory.holds; below = memory.below })
     (record {
       kept = kept-stay k (with_hello opened k) kept.calls k.outstanding (record { first = refl; left = left-append k.written k.send_ends (call_ends opened k.due 1 k.outstanding) later }) calls.kept;
@@ -277,6 +277,6 @@ kept-submits opened kept k count a plan keeps next is later few =
       reply = λ i. (lists_of (memory.next i) (sym plan_is i)).reply;
       stags = λ i. map (λ (b : Buffer). b.stag) (buffers (memory.next i) (sym plan_is i));
     } in
-    keeps-live opened (kept_submitted kept a.call plan) after count keeps.ended (let e = keeps.xid in omega (arith, e)) (keeps.grant refl) keeps.accesses
+    keeps-live opened (kept_submitted kept a.call plan) after count keeps.ended (let e = keeps.xid in omega (arith, e)) keeps.grant (ap (λ (n : ℕ). n + 1) keeps.outstanding ∙ sym (length-append k.outstanding (o ∷ []))) keeps.accesses
     (record { next = all.next_is; offered = all.offered; holds = all.holds; below = all.below })
     (calls-submitted opened kept.calls kept.next_xid k count a (kept_of kept.next_xid a.call plan kept.memory.next) calls memory.below (record { first = refl; left = left }) next own)

@@ -1,6 +1,6 @@
 -- What a client keeps, and the state that it is enough for: of regions, accesses and outcomes of the past it keeps nothing but what its
 -- registered memory holds.
-use Rattle.std.specs.Prelude.{◌≡◌, ℕ, ◌+◌, ◌-◌, ◌<◌, ◌⊎◌, ◌==◌, nat_lt, Bool, true, false, not, List, [], ◌∷◌, ◌++◌, map, Option, None, Some}
+use Rattle.std.specs.Prelude.{◌≡◌, ℕ, ◌+◌, ◌-◌, ◌<◌, ◌⊎◌, ◌==◌, nat_lt, Bool, true, false, not, List, [], ◌∷◌, ◌++◌, length, map, Option, None, Some, is_some}
 use Rattle.std.specs.List.{AllByRecursion, filter, find}
 use Rattle.nr_regions.specs.RegisteredMemory.{RegisteredMemory, initial_memory, live_region, after_register, after_release, bytes_in}
 use Rattle.nr_regions.specs.Access.{TaggedSegment}
@@ -14,18 +14,19 @@ use Rattle.nr_reduce.specs.declared.mark.LinkParameters.{LinkParameters}
 use Rattle.nr_reduce.specs.OfferedRegions.{Region}
 use Rattle.nr_reduce.specs.OfferedMemory.{region_at, AreOffered, AreReceived, HoldsRegions}
 use Rattle.nr_reduce.specs.EndRules.{EndState}
-use Rattle.nr_reduce.specs.ClientState.{ClientState, memory_at}
+use Rattle.nr_reduce.specs.ClientState.{OutstandingCall, ClientState, memory_at}
 use Rattle.nr_reduce.specs.Client.{credits_of_word}
 use Rattle.nr_reduce.specs.SubmitAnswer.{next_xid}
 use Rattle.nr_xdr.specs.Fields.{word_at}
 use Rattle.nr_reduce.specs.KeptCalls.{KeptCall, AreKept}
 
--- why the client ended, once it has; the xid that it gives next; the credits that are granted; the outstanding calls, in the order of
--- their Submits; its registered memory
+-- Why the client ended, once it has; the xid that it gives next; the credits that are granted; how many calls are outstanding; the calls
+-- among them that weren't handed back, in the order of their Submits; its registered memory.
 pub record KeptClient : Type 0 where
   pub ended : Option End
   pub next_xid : ℕ
   pub grant : ℕ
+  pub outstanding : ℕ
   pub calls : List KeptCall
   pub memory : RegisteredMemory
 
@@ -83,14 +84,20 @@ pub record MemoryKeeps (m : RegisteredMemory) (k : ClientState) (count : ℕ) : 
 abbrev pub HoldsFor : RegisteredMemory → ClientState → ℕ → KeptCall → Type 0
 HoldsFor m k count c = AllByRecursion (λ stag. bytes_under m stag ≡ memory_at k count stag) c.stags
 
--- It is kept of a client in this state, after `count` bytes were received. Of a client that has ended nothing counts but why, and what
--- the memory of its calls holds.
+-- an outstanding call has its xid
+abbrev pub IsWaiting : List OutstandingCall → KeptCall → Type 0
+IsWaiting outstanding c = is_some (find (λ o. o.xid == c.xid) outstanding) ≡ true
+
+-- It is kept of a client in this state, after `count` bytes were received. Of a client that has ended its calls are some of those that
+-- were outstanding, and the memory counts by what it holds for them.
 pub record ClientKeeps (opened : LinkParameters) (kept : KeptClient) (e : EndState ClientState) (count : ℕ) : Type 0 where
   pub ended : kept.ended ≡ e.ended
   pub xid : kept.next_xid ≡ next_xid opened e.state
-  pub grant : e.ended ≡ None → kept.grant ≡ e.state.grant
+  pub grant : kept.grant ≡ e.state.grant
+  pub outstanding : kept.outstanding ≡ length e.state.outstanding
   pub calls : e.ended ≡ None → CallsKeep kept.calls kept.next_xid e.state
   pub memory : e.ended ≡ None → MemoryKeeps kept.memory e.state count
+  pub waits : AllByRecursion (IsWaiting e.state.outstanding) kept.calls
   pub rising : AreRising kept.calls kept.next_xid
   pub opens : AllByRecursion (OpensFor e.state.regions) kept.calls
   pub accesses : AreReceived count e.state.accesses_received
@@ -98,7 +105,7 @@ pub record ClientKeeps (opened : LinkParameters) (kept : KeptClient) (e : EndSta
 
 -- a client as it is opened
 abbrev pub opened_client : LinkParameters → KeptClient
-opened_client opened = record { ended = None; next_xid = opened.first_xid; grant = 1; calls = []; memory = initial_memory opened.first_stag }
+opened_client opened = record { ended = None; next_xid = opened.first_xid; grant = 1; outstanding = 0; calls = []; memory = initial_memory opened.first_stag }
 
 -- ---- What it keeps once regions are released
 
@@ -135,6 +142,7 @@ kept_revoked kept xid = record kept {
 unfoldable pub kept_completed : KeptClient → List ℕ → KeptClient
 kept_completed kept message = record kept {
   grant = credits_of_word (word_at 8 message);
+  outstanding = length (without (word_at 0 message) kept.calls);
   calls = without (word_at 0 message) kept.calls;
   memory = released_all kept.memory (stags_for (word_at 0 message) kept.calls);
 }
@@ -164,6 +172,7 @@ kept_of xid call plan stag = record { xid = xid; is_sent = false; call = Some ca
 unfoldable pub kept_submitted : KeptClient → Call → Plan → KeptClient
 kept_submitted kept call plan = record kept {
   next_xid = kept.next_xid + 1;
+  outstanding = kept.outstanding + 1;
   calls = kept.calls ++ kept_of kept.next_xid call plan kept.memory.next ∷ [];
   memory = registered_all kept.memory (buffers kept.memory.next plan);
 }

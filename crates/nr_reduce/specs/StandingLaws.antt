@@ -173,10 +173,10 @@ abbrev pub KeptAnswers : Type 0
 KeptAnswers = (opened : LinkParameters) (kept : KeptClient) (e : EndState ClientState) (count : ℕ) (call : Call) (form : Form) → ClientKeeps opened kept e count →
     kept_answer kept call form ≡ submit_answer opened e call form
 
--- It knows how many calls are outstanding, and the credits that are granted.
+-- It knows how many calls are outstanding, and the credits that are granted, also once it has ended; until then it has all these calls.
 abbrev pub KeptCounts : Type 0
-KeptCounts = (opened : LinkParameters) (kept : KeptClient) (k : ClientState) (count : ℕ) → ClientKeeps opened kept (live k) count →
-    (length kept.calls ≡ length k.outstanding) × (kept.grant ≡ k.grant)
+KeptCounts = (opened : LinkParameters) (kept : KeptClient) (e : EndState ClientState) (count : ℕ) → ClientKeeps opened kept e count →
+    (kept.outstanding ≡ length e.state.outstanding) × ((kept.grant ≡ e.state.grant) × (e.ended ≡ None → length kept.calls ≡ kept.outstanding))
 
 -- It keeps as much while more bytes are received,
 abbrev pub KeptStays : Type 0
