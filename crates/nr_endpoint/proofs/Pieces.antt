@@ -256,6 +256,7 @@ pub record IsFedTo (old : EndpointState) (piece : List ℕ) (now : EndpointState
   pub far : HowFar old.link piece now.link left
   pub first : ((now ≡ old) × (left ≡ piece)) ⊎ ((now.link.rest ≡ []) ⊎ (left ≡ []))
   pub within : 0 < length left → now.link.state.ended ≡ None → now.link.state.place + length now.link.rest + length left ≤ 2 ^ 62
+  pub room : now.room ≡ old.room
 
 pub fed_none : (old : EndpointState) (piece : List ℕ) → IsPartial old.link.awaited old.link.rest → (has_ended old.link.state ≡ true → old.link.rest ≡ []) →
     old.link.state.place + length old.link.rest + length piece ≤ 2 ^ 62 → IsFedTo old piece old piece
@@ -266,6 +267,7 @@ fed_none old piece p ended within = record {
   far = On (begins old.link piece p ended);
   first = inl (refl, refl);
   within = λ _ _. within;
+  room = refl;
 }
 
 -- the facts of one advance
@@ -276,6 +278,7 @@ pub record Advanced (now new : EndpointState) (left after : List ℕ) : Type 0 w
   pub staging : KeepsStaging now new left
   pub partial : IsPartial new.link.awaited new.link.rest
   pub ended_rest : has_ended new.link.state ≡ true → new.link.rest ≡ []
+  pub room : new.room ≡ now.room
 
 none-left : (b : Bool) (xs after : List ℕ) → after ≡ cond b [] xs → b ≡ true → after ≡ []
 none-left true xs after is e = is
@@ -312,6 +315,7 @@ fed-ended old now new piece left after fed some adv ended =
       far = All (ap (λ (e : EndpointState). e.link) same ∙ ended_fed old.link now.link piece left (on-of old.link now.link piece left fed.far some) ended (fed.ended_rest ended)) none;
       first = inr (inr none);
       within = λ _ going. absurd (let h : true ≡ false = sym still ∙ ap (λ (e : Option End). is_some e) going in cc);
+      room = adv.room ∙ fed.room;
     }
 
 -- a side that goes on by a frame, or by all that is left
@@ -326,6 +330,7 @@ fed-live old now new piece left after fed some adv live is true e =
       far = All (ended_fed old.link new.link piece _ (goes_on_by old.link now.link new.link piece left (on-of old.link now.link piece left fed.far some) live fed.partial is) e (adv.ended_rest e)) none;
       first = inr (inr none);
       within = λ _ going. absurd (let h : true ≡ false = sym e ∙ ap (λ (x : Option End). is_some x) going in cc);
+      room = adv.room ∙ fed.room;
     }
 fed-live old now new piece left after fed some adv live is false e =
     let t : ℕ = bytes_taken now.link.awaited now.link.rest left in
@@ -342,6 +347,7 @@ fed-live old now new piece left after fed some adv live is false e =
             far = On (subst (λ (x : List ℕ). IsOn old.link piece new.link x) (sym rest) on);
             first = inr (inl b.rest);
             within = λ _ going. omega (arith, b.place going, bound, ap (λ (x : List ℕ). length x) b.rest, ap (λ (x : List ℕ). length x) rest, length-drop t left, less);
+            room = adv.room ∙ fed.room;
           }
       | inr all ↦
           let none : after ≡ [] = rest ∙ drop_all t left all in
@@ -352,6 +358,7 @@ fed-live old now new piece left after fed some adv live is false e =
             far = All (all_fed old.link new.link piece (drop t left) on (drop_all t left all)) none;
             first = inr (inr none);
             within = λ more going. absurd (omega (arith, more, ap (λ (x : List ℕ). length x) none));
+            room = adv.room ∙ fed.room;
           }
     ]
 
@@ -374,6 +381,7 @@ fed-out old now new piece left after fed some adv live is whole queues =
       far = Out out none;
       first = inr (inr none);
       within = λ _ going. absurd (let h : true ≡ false = sym e ∙ ap (λ (x : Option End). is_some x) going in cc);
+      room = adv.room ∙ fed.room;
     }
 
 fed-step : (old now new : EndpointState) (piece left after : List ℕ) → IsFedTo old piece now left → 0 < length left → Advanced now new left after → now.link.state.ended ≡ None → IsStep now.link left new.link → IsFedTo old piece new after

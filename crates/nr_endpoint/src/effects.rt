@@ -26,6 +26,7 @@ impl Link {
         ensures ok { OnOk result (self.new.state ≡ behind_frame (next_frame self.old.state frame.now) (with_effect (plain segment.now) self.old.state)) }
         ensures err { OnErr result (self.new.state ≡ self.old.state) }
         ensures queued { OnErr result (output_len self.old.state.send_queue < output_len (with_effect (plain segment.now) self.old.state).send_queue) }
+        ensures room { self.new.room ≡ self.old.room }
     {
         match *segment {
             Segment::Tagged {
@@ -68,7 +69,8 @@ impl Link {
         requires lives { tagged_end self.old.state last opcode stag to payload.now ≡ None }
         requires some { 0 < length frame.now }
         requires within { self.old.state.place + length frame.now ≤ 2 ^ 62 }
-        ensures { self.new.state ≡ behind_frame (next_frame self.old.state frame.now) (with_effect (Tagged last opcode stag to payload.now) self.old.state) }
+        ensures state { self.new.state ≡ behind_frame (next_frame self.old.state frame.now) (with_effect (Tagged last opcode stag to payload.now) self.old.state) }
+        ensures room { self.new.room ≡ self.old.room }
     {
         if opcode == OPCODE_READ_RESPONSE {
             if last {
@@ -91,6 +93,7 @@ impl Link {
         requires within { self.old.state.place + length frame.now ≤ 2 ^ 62 }
         ensures ok { OnOk result (self.new.state ≡ behind_frame (next_frame self.old.state frame.now) (with_effect (Untagged true OPCODE_READ_REQUEST 0 0 0 0 payload.now) self.old.state)) }
         ensures err { OnErr result (self.new.state ≡ self.old.state) }
+        ensures room { self.new.room ≡ self.old.room }
     {
         let request = read_request(payload);
         match self
@@ -113,7 +116,8 @@ impl Link {
         requires fine { SendIsFine self.old.state last payload.now }
         requires size { length payload.now + 1 ≤ length frame.now }
         requires within { self.old.state.place + length frame.now ≤ 2 ^ 62 }
-        ensures { self.new.state ≡ behind_frame (next_frame self.old.state frame.now) (with_effect (Untagged last OPCODE_SEND 0 0 0 0 payload.now) self.old.state) }
+        ensures state { self.new.state ≡ behind_frame (next_frame self.old.state frame.now) (with_effect (Untagged last OPCODE_SEND 0 0 0 0 payload.now) self.old.state) }
+        ensures room { self.new.room ≡ self.old.room }
     {
         self.receive_queue.receive(last, payload);
         self.last = self.place;

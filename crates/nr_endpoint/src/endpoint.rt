@@ -89,6 +89,7 @@ impl Endpoint {
             × StandsOnAll self.old.link (Feed (take n piece.now) ∷ OutOfMemory ∷ []) self.new.link
             × (has_ended self.old.link.state ≡ false → RanOutAt self.old.link piece.now n) }
         ensures kept { has_ended self.old.link.state ≡ true → self.new ≡ self.old }
+        ensures room { self.new.room ≡ self.old.room }
         ensures staging { KeepsStaging self.old self.new piece.now }
     {
         self.facts();
@@ -130,6 +131,7 @@ impl Endpoint {
         ensures staging { KeepsStaging self.old self.new left.now }
         ensures partial { IsPartial self.new.link.awaited self.new.link.rest }
         ensures ended_rest { has_ended self.new.link.state ≡ true → self.new.link.rest ≡ [] }
+        ensures room { self.new.room ≡ self.old.room }
     {
         self.facts();
         let (_, none) = left.split_at(left.len());
@@ -158,6 +160,7 @@ impl Endpoint {
         ensures stands_memory { result ≡ Err ends.Memory → StandsOn self.old.link OutOfMemory self.new.link }
         ensures frame { result ≡ Err ends.Memory → has_ended self.old.link.state ≡ false → (makes_whole self.old.link piece.now ≡ true) × QueuesOutput self.old.link piece.now }
         ensures kept { has_ended self.old.link.state ≡ true → self.new ≡ self.old }
+        ensures room { self.new.room ≡ self.old.room }
         ensures staging { KeepsStaging self.old self.new piece.now }
     {
         if let Some(end) = self.link.end() {
@@ -178,6 +181,7 @@ impl Endpoint {
         ensures taken { result ≡ bytes_taken self.old.link.awaited self.old.link.rest piece.now }
         ensures state { IsStep self.old.link piece.now self.new.link }
         ensures staging { KeepsStaging self.old self.new piece.now }
+        ensures room { self.new.room ≡ self.old.room }
     {
         if let Some(len) = whole_in_piece(self.staged, self.awaited, piece) {
             let (frame, _) = piece.split_at(len);

@@ -81,6 +81,7 @@ impl Link {
         requires within { self.old.state.place + length frame.now ≤ 2 ^ 62 }
         ensures state { self.new.state ≡ (if result then with_frame self.old.state awaited frame.now else record self.old.state { ended = Some ends.Memory }) }
         ensures queued { OnFalse result (output_len self.old.state.send_queue < output_len (with_frame self.old.state awaited frame.now).send_queue) }
+        ensures room { self.new.room ≡ self.old.room }
     {
         let judged = match awaited {
             Awaited::Hello(side) => self.greet(side, frame),
@@ -127,6 +128,7 @@ impl Link {
         ensures ok { OnOk result (self.new.state ≡ with_peer_hello (next_frame self.old.state frame.now) (hello_of side frame.now) self.old.state) }
         ensures err { OnErr result (self.new.state ≡ self.old.state) }
         ensures queued { OnErr result (output_len self.old.state.send_queue < output_len (with_peer_hello (next_frame self.old.state frame.now) (hello_of side frame.now) self.old.state).send_queue) }
+        ensures room { self.new.room ≡ self.old.room }
     {
         if let Some(reason) = hello_refusal(side, frame) {
             return self.end_with(End::Bad {
@@ -149,6 +151,7 @@ impl Link {
         ensures ok { OnOk result (self.new.state ≡ with_fpdu (next_frame self.old.state frame.now) (segment_of frame.now) self.old.state) }
         ensures err { OnErr result (self.new.state ≡ self.old.state) }
         ensures queued { OnErr result (output_len self.old.state.send_queue < output_len (with_fpdu (next_frame self.old.state frame.now) (segment_of frame.now) self.old.state).send_queue) }
+        ensures room { self.new.room ≡ self.old.room }
     {
         match segment_in_frame(frame) {
             Ok(segment) => self.receive(&segment, frame),
@@ -168,6 +171,7 @@ impl Link {
         ensures ok { OnOk result (self.new.state ≡ with_segment_by (next_frame self.old.state frame.now) (plain segment.now) (segment_end self.old.state (next_frame self.old.state frame.now) (plain segment.now)) self.old.state) }
         ensures err { OnErr result (self.new.state ≡ self.old.state) }
         ensures queued { OnErr result (output_len self.old.state.send_queue < output_len (with_segment_by (next_frame self.old.state frame.now) (plain segment.now) (segment_end self.old.state (next_frame self.old.state frame.now) (plain segment.now)) self.old.state).send_queue) }
+        ensures room { self.new.room ≡ self.old.room }
     {
         match self.fault(segment) {
             Some(end) => self.end_with(end),

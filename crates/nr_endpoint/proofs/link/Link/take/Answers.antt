@@ -55,6 +55,6 @@ returns-else-opcode-eq-OPCODE_READ_REQUEST-clause-ok c =
     (alive-send c.args.self.now.state (next_frame c.args.self.now.state c.args.frame.now) c.in-Untagged.last c.in-Untagged.opcode c.in-Untagged.word c.in-Untagged.queue c.in-Untagged.msn c.in-Untagged.offset c.in-Untagged.payload.now refl
     supported.0 c.if-opcode-eq-OPCODE_READ_REQUEST.false
     (subst (λ (s : Segment). segment_end c.args.self.now.state (next_frame c.args.self.now.state c.args.frame.now) (plain s) ≡ None) c.in-Untagged.is c.requires.lives)).0 in
-    c.take_send.ensures ∙ ap (behind_frame (next_frame c.args.self.now.state c.args.frame.now)) (same_send c.args.self.now.state c.in-Untagged.last c.in-Untagged.word c.in-Untagged.queue c.in-Untagged.msn c.in-Untagged.offset c.in-Untagged.payload.now)
+    c.take_send.ensures.state ∙ ap (behind_frame (next_frame c.args.self.now.state c.args.frame.now)) (same_send c.args.self.now.state c.in-Untagged.last c.in-Untagged.word c.in-Untagged.queue c.in-Untagged.msn c.in-Untagged.offset c.in-Untagged.payload.now)
     ∙ ap (λ (segment : Segment). behind_frame (next_frame c.args.self.now.state c.args.frame.now) (with_effect (plain segment) c.args.self.now.state)) (sym (c.in-Untagged.is
     ∙ ap (λ (opcode : ℕ). Segment.Untagged c.in-Untagged.last opcode c.in-Untagged.word c.in-Untagged.queue c.in-Untagged.msn c.in-Untagged.offset c.in-Untagged.payload) opcode))
