@@ -149,7 +149,7 @@ all-without P xid (c ∷ cs) h = by (eqb c.xid xid) (all-without P xid cs h.1)
     by true rest = rest
     by false rest = (h.0, rest)
 
-rising-without : (xid : ℕ) (cs : List KeptCall) (below : ℕ) → AreRising cs below → AreRising (without xid cs) below
+pub rising-without : (xid : ℕ) (cs : List KeptCall) (below : ℕ) → AreRising cs below → AreRising (without xid cs) below
 rising-without xid [] below h = tt
 rising-without xid (c ∷ cs) below h = by (eqb c.xid xid) (rising-without xid cs below h.1.1)
   where

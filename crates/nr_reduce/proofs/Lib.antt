@@ -11,6 +11,7 @@ pub mod WholeWrotes
 pub mod AnswerLists
 pub mod Compared
 pub mod CountedBytes
+pub mod OutcomesStay
 pub mod OutputItems
 pub mod ServerItems
 pub mod WroteItems

@@ -1,5 +1,5 @@
 -- The regions of a call are released where its memory is revoked, and where a message of its xid comes.
-use Rattle.std.proofs.Common.{◌≡◌, ℕ, ◌<◌, ◌≤◌, Bool, true, false, cond, eqb, leb, List, [], ◌∷◌, length, map, inl, inr, Option, None, Some, is_some, refl, sym, ap, subst, ◌∙◌, arith}
+use Rattle.std.proofs.Common.{◌≡◌, ℕ, ◌<◌, ◌≤◌, Bool, true, false, not, cond, eqb, leb, List, [], ◌∷◌, length, map, inl, inr, Option, None, Some, is_some, refl, sym, ap, subst, ◌∙◌, arith}
 use Rattle.std.specs.List.{AllByRecursion, find}
 use Rattle.std.proofs.lemmas.Bool.{eqb-true, eq-eqb, le-leb}
 use Rattle.std.proofs.lemmas.List.{length-map}
@@ -16,11 +16,11 @@ use Rattle.nr_reduce.specs.EndRules.{next_end_state, live}
 use Rattle.nr_reduce.specs.ClientState.{OutstandingCall, ClientState, memory_at}
 use Rattle.nr_reduce.specs.Client.{client_rules, client_end, client_state_after, revoked_call, with_message}
 use Rattle.nr_reduce.specs.KeptCalls.{KeptCall, IsKept, AreKept}
-use Rattle.nr_reduce.specs.KeptClient.{KeptClient, ClientKeeps, CallsKeep, MemoryKeeps, HoldsFor, IsOwned, IsOpen, IsAmong, AreRising, OpensFor, IsWaiting, bytes_under, released_all, stags_in, stags_for, without, revoked_if, revoked_kept, kept_revoked, kept_completed}
-use Rattle.nr_reduce.specs.StandingLaws.{KeptStays, KeptRevokes, KeptCompletes}
+use Rattle.nr_reduce.specs.KeptClient.{KeptClient, ClientKeeps, CallsKeep, MemoryKeeps, HoldsFor, IsOwned, IsOpen, IsAmong, AreRising, OpensFor, IsWaiting, bytes_under, released_all, stags_in, stags_for, without, revoked_if, revoked_kept, kept_revoked, kept_handed_back, kept_completed}
+use Rattle.nr_reduce.specs.StandingLaws.{KeptStays, KeptRevokes, KeptHandsBack, KeptCompletes}
 use Rattle.nr_reduce.proofs.OfferedMemory.{grants_from, contents-same, AreAlike, alike-offers}
 use Rattle.nr_reduce.proofs.MemorySteps.{holds-closed, holds-later, offered-closed, offered-later, received-later}
-use Rattle.nr_reduce.proofs.Closing.{of_call, releases-closed, below-closed, released-next, open-closed, closed-owner, released-other, calls-closed, kept-alike}
+use Rattle.nr_reduce.proofs.Closing.{of_call, releases-closed, below-closed, released-next, open-closed, closed-owner, released-other, all-without, rising-without, calls-closed, kept-alike}
 use Rattle.nr_reduce.proofs.Conveying.{all-among, open-bytes}
 use Rattle.nr_reduce.proofs.Keeping.{kept-count}
 
@@ -191,6 +191,16 @@ holds-revoked : (xid : ℕ) (m : RegisteredMemory) (k : ClientState) (count : �
     AllByRecursion (HoldsFor (released_all m (stags_for xid calls)) k count) (map (revoked_kept xid) calls)
 holds-revoked xid m k count calls next_xid rising opens h = holds-still xid m k count calls calls opens opens h
 
+holds-without : (xid : ℕ) (m : RegisteredMemory) (k : ClientState) (count : ℕ) (calls cs : List KeptCall) → AllByRecursion (OpensFor k.regions) calls → AllByRecursion (OpensFor k.regions) cs → AllByRecursion (HoldsFor m k count) cs →
+    AllByRecursion (HoldsFor (released_all m (stags_for xid calls)) k count) (without xid cs)
+holds-without xid m k count calls [] opens o h = tt
+holds-without xid m k count calls (c ∷ cs) opens o h = by (eqb c.xid xid) refl (holds-without xid m k count calls cs opens o.1 h.1)
+  where
+    by : (b : Bool) → eqb c.xid xid ≡ b → AllByRecursion (HoldsFor (released_all m (stags_for xid calls)) k count) (without xid cs) →
+        AllByRecursion (HoldsFor (released_all m (stags_for xid calls)) k count) (cond (not b) (c ∷ without xid cs) (without xid cs))
+    by true e rest = rest
+    by false e rest = (stags-still xid c.xid m k count calls c.stags opens e o.0 h.0, rest)
+
 -- ---- What the memory holds
 
 stags-hold : (k : ClientState) (count xid : ℕ) (m : RegisteredMemory) (stags : List ℕ) → HoldsRegions k.regions k.accesses_received count m → AllByRecursion (λ s. IsOpen k.regions xid s) stags → AllByRecursion (λ s. bytes_under m s ≡ memory_at k count s) stags
@@ -343,6 +353,22 @@ kept-revokes opened kept e count xid keeps = by e.ended refl
     by (Some end) is =
         subst (λ (y : Option End). ClientKeeps opened (kept_revoked kept xid) (next_end_state (client_rules opened) (record { state = e.state; ended = y }) (MemoryRevoked count xid)) count) (sym is)
         (revokes-ended opened kept e.state end count xid (subst (λ (y : Option End). ClientKeeps opened kept (record { state = e.state; ended = y }) count) is keeps))
+
+pub kept-hands-back : KeptHandsBack
+unfolding kept_handed_back
+kept-hands-back opened kept e end count xid ended keeps = record {
+  ended = keeps.ended;
+  xid = keeps.xid;
+  grant = keeps.grant;
+  outstanding = keeps.outstanding;
+  calls = λ lives. absurd (let wrong : Some end ≡ None = sym ended ∙ lives in cc);
+  memory = λ lives. absurd (let wrong : Some end ≡ None = sym ended ∙ lives in cc);
+  waits = all-without (IsWaiting e.state.outstanding) xid kept.calls keeps.waits;
+  rising = rising-without xid kept.calls kept.next_xid keeps.rising;
+  opens = all-without (OpensFor e.state.regions) xid kept.calls keeps.opens;
+  accesses = keeps.accesses;
+  holds = holds-without xid kept.memory e.state count kept.calls kept.calls keeps.opens keeps.opens keeps.holds;
+}
 
 pub kept-completes : KeptCompletes
 unfolding kept_completed

@@ -147,6 +147,13 @@ kept_completed kept message = record kept {
   memory = released_all kept.memory (stags_for (word_at 0 message) kept.calls);
 }
 
+-- once it has ended, a call is handed back: its regions are released
+unfoldable pub kept_handed_back : KeptClient → ℕ → KeptClient
+kept_handed_back kept xid = record kept {
+  calls = without xid kept.calls;
+  memory = released_all kept.memory (stags_for xid kept.calls);
+}
+
 -- ---- What it keeps after other events
 
 -- an RDMA Write, or another access of the peer, is placed if it is allowed

@@ -1,5 +1,5 @@
 -- The marks that an end stands for, one mark more, and what a client keeps that is enough for it.
-use Rattle.std.specs.Prelude.{◌≡◌, ℕ, ◌+◌, ◌-◌, ◌<◌, ◌≤◌, nat_le, if◌then◌else◌, List, [], ◌∷◌, ◌++◌, length, map, take, drop, Option, None, Some, Result, Ok, Err}
+use Rattle.std.specs.Prelude.{◌≡◌, ℕ, ◌+◌, ◌-◌, ◌<◌, ◌≤◌, nat_le, if◌then◌else◌, List, [], ◌∷◌, ◌++◌, length, map, take, drop, Option, None, Some, Result, Ok, Err, Contains}
 use Rattle.nr_wire.specs.declared.hello.Side.{Side}
 use Rattle.nr_wire.specs.declared.hello.Side.TheVariants.{Initiator, Responder}
 use Rattle.nr_wire.specs.declared.stream.Awaited.TheVariants.{Hello as HelloFrom}
@@ -24,7 +24,7 @@ use Rattle.nr_reduce.specs.declared.mark.LinkParameters.{LinkParameters}
 use Rattle.nr_reduce.specs.declared.outline.Plan.{Plan}
 use Rattle.nr_reduce.specs.Limits.{numbers_end, send_max}
 use Rattle.nr_reduce.specs.Plans.{TooLarge, regions_needed, buffers, plan_of}
-use Rattle.nr_reduce.specs.History.{AcceptedCall, bytes_sent, bytes_received, written_at, fed_at, other}
+use Rattle.nr_reduce.specs.History.{AcceptedCall, CompletedCall, bytes_sent, bytes_received, written_at, fed_at, other}
 use Rattle.nr_reduce.specs.Events.{events_at}
 use Rattle.nr_reduce.specs.Events.Event.{CallSubmitted, MemoryRevoked, QueueWritten}
 use Rattle.nr_reduce.specs.EndRules.{Rules, EndState, live, next_end_state, end_state_after, output_for_all}
@@ -40,7 +40,7 @@ use Rattle.nr_reduce.specs.Matched.{IsPrefixOf}
 use Rattle.nr_reduce.specs.Asked.{IsAll}
 use Rattle.nr_reduce.specs.Served.{ServedSoFar}
 use Rattle.nr_reduce.specs.KeptCalls.{kept_verdict}
-use Rattle.nr_reduce.specs.KeptClient.{KeptClient, ClientKeeps, bytes_under, opened_client, kept_revoked, kept_completed, kept_placed, kept_sent, kept_submitted}
+use Rattle.nr_reduce.specs.KeptClient.{KeptClient, ClientKeeps, bytes_under, opened_client, kept_revoked, kept_handed_back, kept_completed, kept_placed, kept_sent, kept_submitted}
 use Rattle.nr_reduce.specs.Standing.{input_events, ClientStandsFor, ClientRunsOut, ServerStandsFor, ServerRunsOut}
 
 -- An end stands for no marks as it is opened: a client's queue has its hello.
@@ -187,6 +187,11 @@ abbrev pub KeptRevokes : Type 0
 KeptRevokes = (opened : LinkParameters) (kept : KeptClient) (e : EndState ClientState) (count xid : ℕ) → ClientKeeps opened kept e count →
     ClientKeeps opened (kept_revoked kept xid) (next_end_state (client_rules opened) e (MemoryRevoked count xid)) count
 
+-- after a call of a client that has ended is handed back: it is still outstanding,
+abbrev pub KeptHandsBack : Type 0
+KeptHandsBack = (opened : LinkParameters) (kept : KeptClient) (e : EndState ClientState) (end : End) (count xid : ℕ) → e.ended ≡ Some end → ClientKeeps opened kept e count →
+    ClientKeeps opened (kept_handed_back kept xid) e count
+
 -- and after a message that doesn't end the client.
 abbrev pub KeptCompletes : Type 0
 KeptCompletes = (opened : LinkParameters) (kept : KeptClient) (k : ClientState) (count place : ℕ) (message : List ℕ) → ClientKeeps opened kept (live k) count → count ≤ place →
@@ -212,6 +217,16 @@ abbrev pub KeptSubmits : Type 0
 KeptSubmits = (opened : LinkParameters) (kept : KeptClient) (k : ClientState) (count : ℕ) (a : AcceptedCall) (plan : Plan) → ClientKeeps opened kept (live k) count → a.xid ≡ kept.next_xid →
     plan_for k a.xid a.call a.form ≡ Ok plan → AllByRecursion (λ end. k.written < end) (submitted_ends opened k a) → length k.send_ends ≤ a.xid - k.first_xid →
     ClientKeeps opened (kept_submitted kept a.call plan) (next_end_state (client_rules opened) (live k) (CallSubmitted count a)) count
+
+-- ---- The client of a run
+
+-- Its first xid is that of its opening, and an outcome stays.
+abbrev pub FirstXidStays : Type 0
+FirstXidStays = (opened : LinkParameters) (link : ℕ) (run : List Mark) → (client opened link run).state.first_xid ≡ opened.first_xid
+
+abbrev pub OutcomesStay : Type 0
+OutcomesStay = (opened : LinkParameters) (link : ℕ) (run more : List Mark) (c : CompletedCall) →
+    Contains (client opened link run).state.outcomes c → Contains (client opened link (run ++ more)).state.outcomes c
 
 -- ---- Marks of a client
 

@@ -1,6 +1,6 @@
 //! Laws of what an end keeps: the marks that it stands for, and that it is enough.
 
-ghost use Rattle.nr_reduce.specs.StandingLaws.{ClientBegins, ServerBegins, EventsOfInput, ClientStandsOn, ServerStandsOn, ClientGoesByInput, ServerGoesByInput, ClientRunsOutAt, ServerRunsOutAt, ClientStaysOut, ServerStaysOut, ClientQueueIsDue, ServerQueueIsDue, KeptJudges, KeptResponds, KeptAnswers, KeptCounts, KeptStays, KeptRevokes, KeptCompletes, KeptPlaces, KeptWrites, KeptGreets, KeptSubmits, RevokeStands, RevokeStaysOut, WroteStands, OtherMarkStands, NoCallBeforeHello, NothingDueBeforeHello, InputInParts, ClientStagsInOrder, ServerStagsInOrder, PlanStagsInOrder};
+ghost use Rattle.nr_reduce.specs.StandingLaws.{ClientBegins, ServerBegins, EventsOfInput, ClientStandsOn, ServerStandsOn, ClientGoesByInput, ServerGoesByInput, ClientRunsOutAt, ServerRunsOutAt, ClientStaysOut, ServerStaysOut, ClientQueueIsDue, ServerQueueIsDue, KeptJudges, KeptResponds, KeptAnswers, KeptCounts, KeptStays, KeptRevokes, KeptHandsBack, KeptCompletes, KeptPlaces, KeptWrites, KeptGreets, KeptSubmits, FirstXidStays, OutcomesStay, RevokeStands, RevokeStaysOut, WroteStands, OtherMarkStands, NoCallBeforeHello, NothingDueBeforeHello, InputInParts, ClientStagsInOrder, ServerStagsInOrder, PlanStagsInOrder};
 
 /// What an end keeps stands for the marks of its link: as it is opened, and from mark to mark. A client keeps its calls and its
 /// registered memory, and of an end that has ended neither input nor calls count. By its input alone an end knows what a mark
@@ -24,7 +24,7 @@ pub fn ends_stand_for_marks()
 
 /// What a client keeps is enough: by it a message is judged, a Read Request is answered and a call is answered as the client of a
 /// run does, and it tells the calls that are outstanding and the credits that are granted. It stays enough while bytes
-/// are received, after a revoke, a message, an access, a write, the server's hello and a call that it accepts.
+/// are received, after a revoke, after a call is handed back once it has ended, after a message, an access, a write, the server's hello and a call that it accepts.
 pub fn clients_keep_enough()
     ensures message { KeptJudges }
     ensures response { KeptResponds }
@@ -32,6 +32,7 @@ pub fn clients_keep_enough()
     ensures counts { KeptCounts }
     ensures stays { KeptStays }
     ensures revoked { KeptRevokes }
+    ensures handed_back { KeptHandsBack }
     ensures completed { KeptCompletes }
     ensures placed { KeptPlaces }
     ensures written { KeptWrites }
@@ -45,6 +46,12 @@ pub fn kept_clients_stand_on()
     ensures revoke_out { RevokeStaysOut }
     ensures wrote { WroteStands }
     ensures other { OtherMarkStands }
+{}
+
+/// The client of a run has the first xid of its opening, and keeps each outcome.
+pub fn clients_keep_outcomes()
+    ensures first_xid { FirstXidStays }
+    ensures outcomes { OutcomesStay }
 {}
 
 /// Until a server has received its client's hello it hasn't ended, no call is pending, read for or ready, and nothing is due

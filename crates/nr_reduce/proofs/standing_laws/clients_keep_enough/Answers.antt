@@ -1,5 +1,5 @@
 use Rattle.nr_reduce.proofs.Keeping.{kept-judges, kept-responds, kept-answers, kept-counts}
-use Rattle.nr_reduce.proofs.Releasing.{kept-stays, kept-revokes, kept-completes}
+use Rattle.nr_reduce.proofs.Releasing.{kept-stays, kept-revokes, kept-hands-back, kept-completes}
 use Rattle.nr_reduce.proofs.Submits.{kept-places, kept-writes, kept-greets, kept-submits}
 use Rattle.nr_reduce.proofs.standing_laws.clients_keep_enough.Goals as goal
 
@@ -20,6 +20,9 @@ returns-clause-stays c = kept-stays
 
 pub returns-clause-revoked : goal.returns-clause-revoked
 returns-clause-revoked c = kept-revokes
+
+pub returns-clause-handed_back : goal.returns-clause-handed_back
+returns-clause-handed_back c = kept-hands-back
 
 pub returns-clause-completed : goal.returns-clause-completed
 returns-clause-completed c = kept-completes
