@@ -1,6 +1,7 @@
 pub mod KeptMarks
 pub mod Registering
 pub mod Submits
+pub mod LaterSends
 pub mod Closing
 pub mod Releasing
 pub mod Pieces

@@ -23,6 +23,7 @@ use Rattle.nr_reduce.specs.KeptClient.{CallsKeep, MemoryKeeps, HoldsFor, IsOwned
 use Rattle.nr_reduce.specs.StandingLaws.{KeptPlaces, KeptWrites, KeptGreets, KeptSubmits}
 use Rattle.nr_reduce.proofs.MemorySteps.{holds-access, received-one, offered-later}
 use Rattle.nr_reduce.proofs.Releasing.{keeps-live}
+use Rattle.nr_reduce.proofs.LaterSends.{calls-later, submit-later}
 use Rattle.nr_reduce.proofs.Registering.{Registers, register-all, buffers-numbered, buffers-count, opens-new, opens-old, own-region, at-both, or_region}
 
 -- ---- The Sends that have left
@@ -163,7 +164,8 @@ kept-writes opened kept k count taken keeps =
 -- ---- The server's hello
 
 pub kept-greets : KeptGreets
-kept-greets opened kept k count keeps later =
+kept-greets opened kept k count keeps within =
+    let later : AllByRecursion (λ end. k.written < end) (call_ends opened k.due 1 k.outstanding) = calls-later opened k.written k.due 1 k.outstanding within in
     let calls : CallsKeep kept.calls kept.next_xid k = keeps.calls refl in
     let memory : MemoryKeeps kept.memory k count = keeps.memory refl in
     keeps-live opened kept (with_hello opened k) count keeps.ended keeps.xid keeps.grant keeps.outstanding keeps.accesses
@@ -254,7 +256,8 @@ not-sent x first left le = le-ltb (x - first) left le
 
 pub kept-submits : KeptSubmits
 unfolding client_end client_state_after kept_submitted
-kept-submits opened kept k count a plan keeps next is later few =
+kept-submits opened kept k count a plan keeps next is within few =
+    let later : AllByRecursion (λ end. k.written < end) (submitted_ends opened k a) = submit-later opened k a within in
     let calls : CallsKeep kept.calls kept.next_xid k = keeps.calls refl in
     let memory : MemoryKeeps kept.memory k count = keeps.memory refl in
     let after : ClientState = client_state_after opened k (CallSubmitted count a) in

@@ -4,7 +4,6 @@ use Rattle.nr_wire.specs.declared.hello.Side.{Side}
 use Rattle.nr_wire.specs.declared.hello.Side.TheVariants.{Initiator, Responder}
 use Rattle.nr_wire.specs.declared.stream.Awaited.TheVariants.{Hello as HelloFrom}
 use Rattle.nr_regions.specs.declared.right.Right.TheVariants.{Fetch}
-use Rattle.std.specs.List.{AllByRecursion}
 use Rattle.nr_regions.specs.RegisteredMemory.{denial}
 use Rattle.nr_regions.specs.Access.{TaggedSegment}
 use Rattle.nr_reduce.specs.Written.{ends_left}
@@ -30,7 +29,7 @@ use Rattle.nr_reduce.specs.Events.Event.{CallSubmitted, MemoryRevoked, QueueWrit
 use Rattle.nr_reduce.specs.EndRules.{Rules, EndState, live, next_end_state, end_state_after, output_for_all}
 use Rattle.nr_reduce.specs.ClientState.{ClientState, call_payload, plan_for}
 use Rattle.nr_reduce.specs.OfferedRegions.{Region}
-use Rattle.nr_reduce.specs.Client.{client_rules, response_output, region_of, with_message, with_hello, call_ends, submitted_ends}
+use Rattle.nr_reduce.specs.Client.{client_rules, response_output, region_of, with_message, with_hello}
 use Rattle.nr_reduce.specs.ClientMessages.{verdict}
 use Rattle.nr_reduce.specs.ServerState.{ServerState}
 use Rattle.nr_reduce.specs.Server.{server_rules, initial_server}
@@ -207,15 +206,15 @@ abbrev pub KeptWrites : Type 0
 KeptWrites = (opened : LinkParameters) (kept : KeptClient) (k : ClientState) (count taken : ℕ) → ClientKeeps opened kept (live k) count →
     ClientKeeps opened (kept_sent k.first_xid (ends_left (k.written + taken) k.send_ends) kept) (next_end_state (client_rules opened) (live k) (QueueWritten taken)) count
 
--- with the server's hello, since no Send has left before it is due,
+-- with the server's hello: no Send has left before it is due, since at most what is due was written,
 abbrev pub KeptGreets : Type 0
 KeptGreets = (opened : LinkParameters) (kept : KeptClient) (k : ClientState) (count : ℕ) → ClientKeeps opened kept (live k) count →
-    AllByRecursion (λ end. k.written < end) (call_ends opened k.due 1 k.outstanding) → ClientKeeps opened kept (live (with_hello opened k)) count
+    k.written ≤ k.due → ClientKeeps opened kept (live (with_hello opened k)) count
 
 -- and after a call that it accepts, of which the Send hasn't left.
 abbrev pub KeptSubmits : Type 0
 KeptSubmits = (opened : LinkParameters) (kept : KeptClient) (k : ClientState) (count : ℕ) (a : AcceptedCall) (plan : Plan) → ClientKeeps opened kept (live k) count → a.xid ≡ kept.next_xid →
-    plan_for k a.xid a.call a.form ≡ Ok plan → AllByRecursion (λ end. k.written < end) (submitted_ends opened k a) → length k.send_ends ≤ a.xid - k.first_xid →
+    plan_for k a.xid a.call a.form ≡ Ok plan → k.written ≤ k.due → length k.send_ends ≤ a.xid - k.first_xid →
     ClientKeeps opened (kept_submitted kept a.call plan) (next_end_state (client_rules opened) (live k) (CallSubmitted count a)) count
 
 -- ---- The client of a run
