@@ -1,6 +1,7 @@
 pub mod KeptMarks
 pub mod Registering
 pub mod Submits
+pub mod Taking
 pub mod LaterSends
 pub mod Closing
 pub mod Releasing

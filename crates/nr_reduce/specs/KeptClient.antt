@@ -7,6 +7,10 @@ use Rattle.nr_regions.specs.Access.{TaggedSegment}
 use Rattle.nr_regions.specs.Events.{after_event}
 use Rattle.nr_regions.specs.Events.Event.{Arrive}
 use Rattle.nr_link.specs.declared.end.End.{End}
+use Rattle.nr_link.specs.Frames.{Frame}
+use Rattle.nr_link.specs.Ending.{tagged_access}
+use Rattle.nr_link.specs.ReceiveState.{ReceiveState, message_completed}
+use Rattle.nr_wire.specs.Segment.{Segment}
 use Rattle.nr_reduce.specs.declared.call.Call.{Call}
 use Rattle.nr_reduce.specs.declared.outline.Plan.{Plan}
 use Rattle.nr_reduce.specs.Plans.{Buffer, buffers, lists_of}
@@ -159,6 +163,18 @@ kept_handed_back kept xid = record kept {
 -- an RDMA Write, or another access of the peer, is placed if it is allowed
 unfoldable pub kept_placed : KeptClient → TaggedSegment → KeptClient
 kept_placed kept access = record kept { memory = after_event kept.memory (Arrive access) }
+
+-- a segment is received: a message ends its call, and an access is placed
+abbrev pub kept_by_message : KeptClient → Option (List ℕ) → KeptClient
+kept_by_message kept None = kept
+kept_by_message kept (Some message) = kept_completed kept message
+
+abbrev pub kept_by_accesses : KeptClient → List TaggedSegment → KeptClient
+kept_by_accesses kept [] = kept
+kept_by_accesses kept (access ∷ accesses) = kept_by_accesses (kept_placed kept access) accesses
+
+abbrev pub kept_received : KeptClient → ReceiveState → Frame → Segment → KeptClient
+kept_received kept received f segment = kept_by_accesses (kept_by_message kept (message_completed received segment)) (tagged_access f segment)
 
 -- the first Sends, this many, have wholly left
 abbrev pub sent_kept : (first sent : ℕ) → KeptCall → KeptCall

@@ -1,5 +1,5 @@
 -- The marks that an end stands for, one mark more, and what a client keeps that is enough for it.
-use Rattle.std.specs.Prelude.{◌≡◌, ℕ, ◌+◌, ◌-◌, ◌<◌, ◌≤◌, nat_le, if◌then◌else◌, List, [], ◌∷◌, ◌++◌, length, map, take, drop, Option, None, Some, Result, Ok, Err, Contains}
+use Rattle.std.specs.Prelude.{◌≡◌, ℕ, ◌+◌, ◌-◌, ◌<◌, ◌≤◌, nat_le, if◌then◌else◌, false, List, [], ◌∷◌, ◌++◌, length, map, take, drop, Option, None, Some, Result, Ok, Err, Contains}
 use Rattle.nr_wire.specs.declared.hello.Side.{Side}
 use Rattle.nr_wire.specs.declared.hello.Side.TheVariants.{Initiator, Responder}
 use Rattle.nr_wire.specs.declared.stream.Awaited.TheVariants.{Hello as HelloFrom}
@@ -10,6 +10,9 @@ use Rattle.nr_reduce.specs.Written.{ends_left}
 use Rattle.nr_link.specs.declared.end.End.{End}
 use Rattle.nr_link.specs.declared.end.End.TheVariants as ends
 use Rattle.nr_link.specs.Output.{own_hello, read_response}
+use Rattle.nr_link.specs.Frames.{Frame, is_hello}
+use Rattle.nr_link.specs.Ending.{frame_segment}
+use Rattle.nr_wire.specs.Segment.{Segment}
 use Rattle.nr_link.specs.Input.{InputState, input_of, initial_input, input_count, input_frames, input_after}
 use Rattle.nr_link.specs.ReceiveState.{ReadRequest, nothing_received}
 use Rattle.nr_reduce.specs.declared.call.Call.{Call}
@@ -25,11 +28,11 @@ use Rattle.nr_reduce.specs.Limits.{numbers_end, send_max}
 use Rattle.nr_reduce.specs.Plans.{TooLarge, regions_needed, buffers, plan_of}
 use Rattle.nr_reduce.specs.History.{AcceptedCall, CompletedCall, bytes_sent, bytes_received, written_at, fed_at, other}
 use Rattle.nr_reduce.specs.Events.{events_at}
-use Rattle.nr_reduce.specs.Events.Event.{CallSubmitted, MemoryRevoked, QueueWritten}
+use Rattle.nr_reduce.specs.Events.Event.{FrameReceived, CallSubmitted, MemoryRevoked, QueueWritten}
 use Rattle.nr_reduce.specs.EndRules.{Rules, EndState, live, next_end_state, end_state_after, output_for_all}
 use Rattle.nr_reduce.specs.ClientState.{ClientState, call_payload, plan_for}
 use Rattle.nr_reduce.specs.OfferedRegions.{Region}
-use Rattle.nr_reduce.specs.Client.{client_rules, response_output, region_of, with_message, with_hello}
+use Rattle.nr_reduce.specs.Client.{client_rules, client_end, response_output, region_of, with_message, with_hello}
 use Rattle.nr_reduce.specs.ClientMessages.{verdict}
 use Rattle.nr_reduce.specs.ServerState.{ServerState}
 use Rattle.nr_reduce.specs.Server.{server_rules, initial_server}
@@ -39,7 +42,7 @@ use Rattle.nr_reduce.specs.Matched.{IsPrefixOf}
 use Rattle.nr_reduce.specs.Asked.{IsAll}
 use Rattle.nr_reduce.specs.Served.{ServedSoFar}
 use Rattle.nr_reduce.specs.KeptCalls.{kept_verdict}
-use Rattle.nr_reduce.specs.KeptClient.{KeptClient, ClientKeeps, bytes_under, opened_client, kept_revoked, kept_handed_back, kept_completed, kept_placed, kept_sent, kept_submitted}
+use Rattle.nr_reduce.specs.KeptClient.{KeptClient, ClientKeeps, bytes_under, opened_client, kept_revoked, kept_handed_back, kept_completed, kept_placed, kept_received, kept_sent, kept_submitted}
 use Rattle.nr_reduce.specs.Standing.{input_events, ClientStandsFor, ClientRunsOut, ServerStandsFor, ServerRunsOut}
 
 -- An end stands for no marks as it is opened: a client's queue has its hello.
@@ -200,6 +203,12 @@ KeptCompletes = (opened : LinkParameters) (kept : KeptClient) (k : ClientState) 
 abbrev pub KeptPlaces : Type 0
 KeptPlaces = (opened : LinkParameters) (kept : KeptClient) (k : ClientState) (count : ℕ) (access : TaggedSegment) → ClientKeeps opened kept (live k) count → count < access.end →
     ClientKeeps opened (kept_placed kept access) (live (record k { accesses_received = k.accesses_received ++ access ∷ [] })) access.end
+
+-- after each complete frame later than the hello that doesn't end the client,
+abbrev pub KeptTakes : Type 0
+KeptTakes = (opened : LinkParameters) (kept : KeptClient) (k : ClientState) (count : ℕ) (f : Frame) (segment : Segment) → ClientKeeps opened kept (live k) count → count < f.end →
+    is_hello f ≡ false → frame_segment f ≡ Ok segment → client_end k (FrameReceived f) ≡ None →
+    ClientKeeps opened (kept_received kept k.received f segment) (next_end_state (client_rules opened) (live k) (FrameReceived f)) f.end
 
 -- after a write, with the number of Sends that have wholly left,
 abbrev pub KeptWrites : Type 0

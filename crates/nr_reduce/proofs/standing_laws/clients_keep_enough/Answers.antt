@@ -1,6 +1,7 @@
 use Rattle.nr_reduce.proofs.Keeping.{kept-judges, kept-responds, kept-answers, kept-counts}
 use Rattle.nr_reduce.proofs.Releasing.{kept-stays, kept-revokes, kept-hands-back, kept-completes}
 use Rattle.nr_reduce.proofs.Submits.{kept-places, kept-writes, kept-greets, kept-submits}
+use Rattle.nr_reduce.proofs.Taking.{kept-takes}
 use Rattle.nr_reduce.proofs.standing_laws.clients_keep_enough.Goals as goal
 
 pub returns-clause-message : goal.returns-clause-message
@@ -29,6 +30,9 @@ returns-clause-completed c = kept-completes
 
 pub returns-clause-placed : goal.returns-clause-placed
 returns-clause-placed c = kept-places
+
+pub returns-clause-taken : goal.returns-clause-taken
+returns-clause-taken c = kept-takes
 
 pub returns-clause-written : goal.returns-clause-written
 returns-clause-written c = kept-writes
