@@ -1,11 +1,13 @@
 -- Once an FPDU is awaited, the peer's hello was accepted; and calls that are allowed one after the other.
-use Rattle.std.proofs.Common.{◌≡◌, ℕ, Bool, true, false, cond, List, [], ◌∷◌, ◌++◌, Option, Some, None, Result, Ok, Err, refl, ◌∙◌}
+use Rattle.std.proofs.Common.{◌≡◌, ℕ, Bool, true, false, cond, List, [], ◌∷◌, ◌++◌, Option, Some, None, Result, Ok, Err, is_some, refl, sym, ap, subst, ◌∙◌}
 use Rattle.nr_wire.specs.declared.hello.Side.{Side}
 use Rattle.nr_wire.specs.declared.hello.Side.TheVariants.{Initiator, Responder}
 use Rattle.nr_wire.specs.declared.stream.Awaited.{Awaited}
 use Rattle.nr_wire.specs.declared.stream.Awaited.TheVariants.{Hello as HelloFrom, Fpdu}
 use Rattle.nr_wire.specs.Hello.{Hello, hello_of}
 use Rattle.nr_wire.specs.Segment.{segment_of}
+use Rattle.nr_link.specs.declared.end.End.{End}
+use Rattle.nr_link.specs.declared.end.End.TheVariants as ends
 use Rattle.nr_link.specs.Frames.{Frame}
 use Rattle.nr_endpoint.specs.LinkState.{LinkState, Link, has_ended, initial_link}
 use Rattle.nr_endpoint.specs.Judging.{next_frame, with_frame, with_fpdu, with_peer_hello}
@@ -20,7 +22,7 @@ unfolding after_calls
 allowed-join start [] more first later = later
 allowed-join start (call ∷ calls) more first later = (first.0, allowed-join (after_call start call) calls more first.1 later)
 
-abbrev Greeted : Awaited → LinkState → Type 0
+abbrev pub Greeted : Awaited → LinkState → Type 0
 Greeted a s = has_ended s ≡ false → a ≡ Fpdu → s.has_hello ≡ true
 
 hello-greeted : (s : LinkState) (f : Frame) (r : Result Hello ℕ) → Greeted Fpdu (with_peer_hello f r s)
@@ -33,6 +35,15 @@ frame-greeted (HelloFrom side) s frame live greeted = hello-greeted s (next_fram
 frame-greeted Fpdu s frame live greeted =
     let same : SameSide s (with_fpdu (next_frame s frame) (segment_of frame) s) = fpdu-side s (next_frame s frame) (segment_of frame) in
     λ lives is. same.1 ∙ greeted live refl
+
+-- after a frame that was judged
+pub greeted-judged : (a : Awaited) (s next : LinkState) (frame : List ℕ) → s.ended ≡ None → Greeted a s → next ≡ with_frame s a frame → Greeted Fpdu next
+greeted-judged a s next frame none greeted is =
+    subst (λ (t : LinkState). Greeted Fpdu t) (sym is) (frame-greeted a s frame (ap (λ (e : Option End). is_some e) none) greeted)
+
+-- after memory ran out
+pub greeted-out : (a : Awaited) (s next : LinkState) → next ≡ record s { ended = Some ends.Memory } → Greeted a next
+greeted-out a s next is = λ live awaits. absurd (let h : true ≡ false = sym (ap (λ (t : LinkState). has_ended t) is) ∙ live in cc)
 
 either-greeted : (a : Awaited) (s after : LinkState) (b : Bool) → Greeted a s → Greeted a after → Greeted a (cond b s after)
 either-greeted a s after true greeted later = greeted

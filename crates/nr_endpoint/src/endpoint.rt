@@ -43,7 +43,7 @@ impl Model for Endpoint {
 
     ghost view = { λ e. record { link = record { awaited = e.awaited; rest = take e.staged e.staging.items; state = e.link.state }; staging = e.staging.items; room = e.link.room } };
 
-    ghost invariant = { λ e. IsStaged e.awaited e.link.state.ended e.staging.items e.staged };
+    ghost invariant = { λ e. IsStaged e.awaited e.link.state.ended e.link.state.has_hello e.staging.items e.staged };
 }
 
 /// The other side of a link.
@@ -116,6 +116,8 @@ impl Endpoint {
         // An event waits, or the hello was accepted, only after some bytes came: `stop` requires this.
         ensures waiting { length self.now.link.state.receive_queue.notices ≤ self.now.link.state.place }
         ensures greeted { self.now.link.state.has_hello ≡ true → 0 < self.now.link.state.place }
+        // An FPDU is awaited only after the peer's hello was accepted.
+        ensures awaits { self.now.link.state.ended ≡ None → self.now.link.awaited ≡ Awaited.Fpdu → self.now.link.state.has_hello ≡ true }
         ensures reads { length self.now.link.state.reads ≤ open_reads_max }
     {
         let _ = &self.staged;

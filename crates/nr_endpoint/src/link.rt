@@ -109,6 +109,7 @@ impl Link {
     /// The side ends for this, or for want of memory; answers which.
     pub fn stop(&mut self, end: End) -> End
         requires { end ≢ ends.Memory }
+        ensures ended { self.new.state.ended ≡ Some result }
         ensures end { result ≢ ends.Memory → (result ≡ end) × (self.new.state ≡ with_end_of end self.old.state) }
         ensures memory { result ≡ ends.Memory → self.new.state ≡ record self.old.state { ended = Some ends.Memory } }
         ensures room { self.new.room ≡ self.old.room }

@@ -12,6 +12,7 @@ invariant_of-result c = record {
   within = omega arith;
   partial = partial_nil (HelloFrom c.peer.result);
   ended_empty = λ _. refl;
+  greeted = λ live is. absurd cc;
 }
 
 pub returns-clause-state : goal.returns-clause-state

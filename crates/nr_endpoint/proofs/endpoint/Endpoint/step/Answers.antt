@@ -7,6 +7,7 @@ use Rattle.nr_wire.proofs.Frames.{partial_from, partial_nil, whole_from, IsFrame
 use Rattle.nr_wire.proofs.Feedings.{bytes_taken-whole}
 use Rattle.nr_endpoint.specs.EndpointState.{EndpointState}
 use Rattle.nr_endpoint.proofs.OneStep.{living, stepped_whole, stepped_partial, out_of_memory, judged, not_judged, not_judged_queues, queues_whole, in_piece, not_in_piece, whole_is, partial_is, StagedFacts, staged_facts, keeps_partial, keeps_whole}
+use Rattle.nr_endpoint.proofs.HelloFirst.{greeted-judged, greeted-out}
 use Rattle.nr_endpoint.proofs.endpoint.Endpoint.step.Goals as goal
 
 -- the rest is none where nothing is staged
@@ -23,6 +24,7 @@ invariant_of-self c =
       within = c.self.invariant.within;
       partial = subst (λ (n : ℕ). IsPartial Fpdu (take n c.self.inside.staging.items)) (sym found.0) (partial_nil Fpdu);
       ended_empty = λ _. found.0;
+      greeted = greeted-judged c.self.inside.awaited c.self.inside.link.state c.judge.new.self.state c.split_at.result.0.now (subst (λ (e : EndpointState). e.link.state.ended ≡ None) (sym c.self.view_is) c.requires.live) c.self.invariant.greeted (judged c.judge.result c.judge.new.self.state _ _ c.judge.ensures.state c.if-judge.true);
     }
 
 taken-in-piece : (a : Awaited) (old piece : List ℕ) (s len : ℕ) → s ≡ 0 → is_whole a piece ≡ true → len ≡ frame_len a piece → len ≡ bytes_taken a (take s old) piece
@@ -95,6 +97,7 @@ invariant_of-self-then-is_none c =
       within = c.stage_frame-taken.ensures.room;
       partial = partial_from c.self.inside.awaited (take (c.self.inside.staged + c.stage_frame-taken.result) c.stage_frame-taken.new.staging.items) partial;
       ended_empty = λ e. absurd (let h : false ≡ true = sym (living c.self.inside.link.state (subst (λ (e : EndpointState). e.link.state.ended ≡ None) (sym c.self.view_is) c.requires.live)) ∙ e in cc);
+      greeted = c.self.invariant.greeted;
     }
 
 pub returns-then-is_none-clause-state : goal.returns-then-is_none-clause-state
@@ -125,12 +128,12 @@ judge-requires-2-clause-within c =
 pub invariant_of-self-then-judge-2 : goal.invariant_of-self-then-judge-2
 invariant_of-self-then-judge-2 c =
     let facts : StagedFacts c.self.inside.awaited c.self.inside.staging.items c.stage_frame-taken.new.staging.items c.args.piece.now c.self.inside.staged c.stage_frame-taken.result = staged_facts c.self.inside.awaited c.self.inside.staging.items c.stage_frame-taken.new.staging.items c.args.piece.now c.self.inside.staged c.stage_frame-taken.result c.self.invariant.len c.stage_frame-taken.ensures.room c.self.invariant.partial c.stage_frame-taken.ensures.taken c.stage_frame-taken.ensures.bytes in
-    record { len = facts.len; within = omega arith; partial = partial_nil Fpdu; ended_empty = λ _. refl }
+    record { len = facts.len; within = omega arith; partial = partial_nil Fpdu; ended_empty = λ _. refl; greeted = greeted-judged c.self.inside.awaited c.self.inside.link.state c.judge-2.new.self.state c.split_at-2.result.0.now (subst (λ (e : EndpointState). e.link.state.ended ≡ None) (sym c.self.view_is) c.requires.live) c.self.invariant.greeted (judged c.judge-2.result c.judge-2.new.self.state _ _ c.judge-2.ensures.state c.if-judge-2.true) }
 
 pub invariant_of-self-else-judge-2 : goal.invariant_of-self-else-judge-2
 invariant_of-self-else-judge-2 c =
     let facts : StagedFacts c.self.inside.awaited c.self.inside.staging.items c.stage_frame-taken.new.staging.items c.args.piece.now c.self.inside.staged c.stage_frame-taken.result = staged_facts c.self.inside.awaited c.self.inside.staging.items c.stage_frame-taken.new.staging.items c.args.piece.now c.self.inside.staged c.stage_frame-taken.result c.self.invariant.len c.stage_frame-taken.ensures.room c.self.invariant.partial c.stage_frame-taken.ensures.taken c.stage_frame-taken.ensures.bytes in
-    record { len = facts.len; within = omega arith; partial = partial_nil c.self.inside.awaited; ended_empty = λ _. refl }
+    record { len = facts.len; within = omega arith; partial = partial_nil c.self.inside.awaited; ended_empty = λ _. refl; greeted = greeted-out c.self.inside.awaited c.self.inside.link.state c.judge-2.new.self.state (not_judged c.judge-2.result c.judge-2.new.self.state _ _ c.judge-2.ensures.state c.if-judge-2.false) }
 
 pub returns-then-judge-2-clause-state : goal.returns-then-judge-2-clause-state
 returns-then-judge-2-clause-state c =
