@@ -13,14 +13,14 @@ use Rattle.nr_reduce.specs.History.{bytes_sent, bytes_received, written_at, fed_
 use Rattle.nr_reduce.specs.Written.{ends_left}
 use Rattle.nr_reduce.specs.Events.{Event, if_own, events_at, events}
 use Rattle.nr_reduce.specs.Events.Event.{MemoryRevoked, QueueWritten}
-use Rattle.nr_reduce.specs.EndRules.{EndState, next_end_state, output_for, output_for_in, output_for_by, end_state_after, output_for_all, live}
+use Rattle.nr_reduce.specs.EndRules.{EndState, next_end_state, output_for, output_for_in, end_state_after, output_for_all, live}
 use Rattle.nr_reduce.specs.ClientState.{OutstandingCall, ClientState}
 use Rattle.nr_reduce.specs.Client.{client_rules, client_end, client_output}
 use Rattle.nr_reduce.specs.Run.{client, output_due}
 use Rattle.nr_reduce.specs.Matched.{IsPrefixOf}
 use Rattle.nr_reduce.specs.KeptClient.{KeptClient, ClientKeeps, IsWaiting, kept_revoked, sent_kept, kept_sent}
-use Rattle.nr_reduce.specs.Standing.{input_events, StandsFor, ClientStandsFor, ClientRunsOut}
-use Rattle.nr_reduce.specs.StandingLaws.{GoesOn, RevokeStands, RevokeStaysOut, WroteStands, OtherMarkStands}
+use Rattle.nr_reduce.specs.Standing.{input_events, ClientStandsFor, ClientRunsOut}
+use Rattle.nr_reduce.specs.StandingLaws.{RevokeStands, RevokeStaysOut, WroteStands, OtherMarkStands}
 use Rattle.nr_reduce.proofs.Steps.{client-one, output_due_up-one}
 use Rattle.nr_reduce.proofs.Standing.{itself, received-one, events-input, SameAfter, same-after, live-before, stands-on, client-stays-out}
 use Rattle.nr_reduce.proofs.Releasing.{kept-revokes}

@@ -1,9 +1,9 @@
 -- A Send has at least one byte, so one that becomes due ends later than what was written.
-use Rattle.std.proofs.Common.{◌≡◌, ℕ, zero, suc, ◌+◌, ◌*◌, ◌<◌, ◌≤◌, Bool, true, false, cond, eqb, List, [], ◌∷◌, ◌++◌, length, refl, sym, ap, subst, arith, length-append}
+use Rattle.std.proofs.Common.{ℕ, zero, suc, ◌+◌, ◌*◌, ◌<◌, ◌≤◌, Bool, true, false, cond, eqb, List, [], ◌∷◌, ◌++◌, length, arith, length-append}
 use Rattle.std.specs.List.{AllByRecursion, flat_map, range_with_len}
 use Rattle.std.proofs.Math.Nat.{le-max_left}
 use Rattle.nr_wire.specs.Fields.{half_word}
-use Rattle.nr_wire.specs.Segment.{Segment, encoding, fpdu_with, header, payload_in, ulpdu_size, tail_len}
+use Rattle.nr_wire.specs.Segment.{Segment, encoding, ulpdu_size}
 use Rattle.nr_wire.proofs.HalfWords.{length-half_word}
 use Rattle.nr_link.specs.Limits.{segment_max}
 use Rattle.nr_link.specs.Output.{cut, send, segment_count, segment_payload}

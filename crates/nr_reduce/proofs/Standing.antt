@@ -6,7 +6,7 @@ use Rattle.std.proofs.lemmas.Grind.{flat_map-append}
 use Rattle.nr_wire.specs.declared.hello.Side.{Side}
 use Rattle.nr_wire.specs.declared.hello.Side.TheVariants.{Initiator, Responder}
 use Rattle.nr_link.specs.Output.{own_hello}
-use Rattle.nr_link.specs.Input.{InputState, input_of, initial_input, input_count, input_after}
+use Rattle.nr_link.specs.Input.{InputState, input_of, initial_input, input_after}
 use Rattle.nr_link.proofs.Inputs.{input_of-append, input_of-count, input_of-frames, input_of-none}
 use Rattle.nr_reduce.specs.declared.mark.Mark.{Mark}
 use Rattle.nr_reduce.specs.declared.mark.Mark.TheVariants as marks

@@ -1,11 +1,11 @@
 -- What a client keeps after a complete frame that doesn't end it.
-use Rattle.std.proofs.Common.{◌≡◌, ℕ, ◌+◌, ◌<◌, ◌≤◌, Bool, false, cond, List, [], ◌∷◌, ◌++◌, Option, None, Some, Result, Ok, refl, sym, subst, arith, append-nil}
+use Rattle.std.proofs.Common.{◌≡◌, ℕ, ◌<◌, ◌≤◌, Bool, cond, List, [], ◌∷◌, ◌++◌, Option, None, Some, Result, Ok, refl, sym, subst, arith, append-nil}
 use Rattle.nr_wire.specs.Segment.{Segment}
 use Rattle.nr_wire.specs.Segment.Segment.{Tagged, Untagged}
 use Rattle.nr_regions.specs.Access.{TaggedSegment}
 use Rattle.nr_link.specs.declared.end.End.{End}
-use Rattle.nr_link.specs.Frames.{Frame, is_hello}
-use Rattle.nr_link.specs.Ending.{frame_segment, tagged_access, kind_of}
+use Rattle.nr_link.specs.Frames.{Frame}
+use Rattle.nr_link.specs.Ending.{frame_segment, kind_of}
 use Rattle.nr_link.specs.ReceiveState.{ReceiveState, ReadRequest, received_after, message_completed, read_request_of}
 use Rattle.nr_reduce.specs.declared.mark.LinkParameters.{LinkParameters}
 use Rattle.nr_reduce.specs.Events.Event.{FrameReceived}
@@ -13,7 +13,7 @@ use Rattle.nr_reduce.specs.EndRules.{next_end_state_by, live}
 use Rattle.nr_reduce.specs.ClientState.{ClientState}
 use Rattle.nr_reduce.specs.Client.{client_rules, client_state_after, with_message, with_request, with_segment, with_hello, due_with_response}
 use Rattle.nr_reduce.specs.KeptClient.{KeptClient, ClientKeeps, CallsKeep, MemoryKeeps, kept_placed, kept_by_message, kept_received}
-use Rattle.nr_reduce.specs.StandingLaws.{KeptTakes}
+use Rattle.nr_reduce.specs.StandingLaws.{KeptTakes, KeptEnds}
 use Rattle.nr_reduce.proofs.Closing.{kept-alike}
 use Rattle.nr_reduce.proofs.Releasing.{keeps-live, kept-stays, kept-completes}
 use Rattle.nr_reduce.proofs.Submits.{kept-places}
@@ -77,3 +77,20 @@ kept-takes opened kept k count f segment keeps lt other is lives =
     (subst (λ (b : Bool). ClientKeeps opened (kept_received kept k.received f segment) (live (cond b (with_hello opened k) (with_segment k f (frame_segment f)))) f.end) (sym other)
     (subst (λ (r : Result Segment ℕ). ClientKeeps opened (kept_received kept k.received f segment) (live (with_segment k f r)) f.end) (sym is)
     (segment-keeps opened kept k count f segment keeps lt)))
+
+pub kept-ends : KeptEnds
+kept-ends opened kept k end count event keeps is =
+    subst (λ (x : Option End). ClientKeeps opened (record kept { ended = Some end }) (next_end_state_by (client_rules opened) k event x) count) (sym is)
+    (record {
+      ended = refl;
+      xid = keeps.xid;
+      grant = keeps.grant;
+      outstanding = keeps.outstanding;
+      calls = λ lives. absurd (let wrong : Some end ≡ None = lives in cc);
+      memory = λ lives. absurd (let wrong : Some end ≡ None = lives in cc);
+      waits = keeps.waits;
+      rising = keeps.rising;
+      opens = keeps.opens;
+      accesses = keeps.accesses;
+      holds = keeps.holds;
+    })

@@ -13,7 +13,7 @@ use Rattle.nr_link.specs.Output.{own_hello, read_response}
 use Rattle.nr_link.specs.Frames.{Frame, is_hello}
 use Rattle.nr_link.specs.Ending.{frame_segment}
 use Rattle.nr_wire.specs.Segment.{Segment}
-use Rattle.nr_link.specs.Input.{InputState, input_of, initial_input, input_count, input_frames, input_after}
+use Rattle.nr_link.specs.Input.{InputState, input_of, initial_input, input_frames, input_after}
 use Rattle.nr_link.specs.ReceiveState.{ReadRequest, nothing_received}
 use Rattle.nr_reduce.specs.declared.call.Call.{Call}
 use Rattle.nr_reduce.specs.declared.call.Form.{Form}
@@ -27,7 +27,7 @@ use Rattle.nr_reduce.specs.declared.outline.Plan.{Plan}
 use Rattle.nr_reduce.specs.Limits.{numbers_end, send_max}
 use Rattle.nr_reduce.specs.Plans.{TooLarge, regions_needed, buffers, plan_of}
 use Rattle.nr_reduce.specs.History.{AcceptedCall, CompletedCall, bytes_sent, bytes_received, written_at, fed_at, other}
-use Rattle.nr_reduce.specs.Events.{events_at}
+use Rattle.nr_reduce.specs.Events.{Event, events_at}
 use Rattle.nr_reduce.specs.Events.Event.{FrameReceived, CallSubmitted, MemoryRevoked, QueueWritten}
 use Rattle.nr_reduce.specs.EndRules.{Rules, EndState, live, next_end_state, end_state_after, output_for_all}
 use Rattle.nr_reduce.specs.ClientState.{ClientState, call_payload, plan_for}
@@ -209,6 +209,11 @@ abbrev pub KeptTakes : Type 0
 KeptTakes = (opened : LinkParameters) (kept : KeptClient) (k : ClientState) (count : ℕ) (f : Frame) (segment : Segment) → ClientKeeps opened kept (live k) count → count < f.end →
     is_hello f ≡ false → frame_segment f ≡ Ok segment → client_end k (FrameReceived f) ≡ None →
     ClientKeeps opened (kept_received kept k.received f segment) (next_end_state (client_rules opened) (live k) (FrameReceived f)) f.end
+
+-- after an event that ends the client, with the reason,
+abbrev pub KeptEnds : Type 0
+KeptEnds = (opened : LinkParameters) (kept : KeptClient) (k : ClientState) (end : End) (count : ℕ) (event : Event) → ClientKeeps opened kept (live k) count → client_end k event ≡ Some end →
+    ClientKeeps opened (record kept { ended = Some end }) (next_end_state (client_rules opened) (live k) event) count
 
 -- after a write, with the number of Sends that have wholly left,
 abbrev pub KeptWrites : Type 0

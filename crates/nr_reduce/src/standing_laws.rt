@@ -1,6 +1,6 @@
 //! Laws of what an end keeps: the marks that it stands for, and that it is enough.
 
-ghost use Rattle.nr_reduce.specs.StandingLaws.{ClientBegins, ServerBegins, EventsOfInput, ClientStandsOn, ServerStandsOn, ClientGoesByInput, ServerGoesByInput, ClientRunsOutAt, ServerRunsOutAt, ClientStaysOut, ServerStaysOut, ClientQueueIsDue, ServerQueueIsDue, KeptJudges, KeptResponds, KeptAnswers, KeptCounts, KeptStays, KeptRevokes, KeptHandsBack, KeptCompletes, KeptPlaces, KeptTakes, KeptWrites, KeptGreets, KeptSubmits, FirstXidStays, OutcomesStay, RevokeStands, RevokeStaysOut, WroteStands, OtherMarkStands, NoCallBeforeHello, NothingDueBeforeHello, InputInParts, ClientStagsInOrder, ServerStagsInOrder, PlanStagsInOrder};
+ghost use Rattle.nr_reduce.specs.StandingLaws.{ClientBegins, ServerBegins, EventsOfInput, ClientStandsOn, ServerStandsOn, ClientGoesByInput, ServerGoesByInput, ClientRunsOutAt, ServerRunsOutAt, ClientStaysOut, ServerStaysOut, ClientQueueIsDue, ServerQueueIsDue, KeptJudges, KeptResponds, KeptAnswers, KeptCounts, KeptStays, KeptRevokes, KeptHandsBack, KeptCompletes, KeptPlaces, KeptTakes, KeptEnds, KeptWrites, KeptGreets, KeptSubmits, FirstXidStays, OutcomesStay, RevokeStands, RevokeStaysOut, WroteStands, OtherMarkStands, NoCallBeforeHello, NothingDueBeforeHello, InputInParts, ClientStagsInOrder, ServerStagsInOrder, PlanStagsInOrder};
 
 /// What an end keeps stands for the marks of its link: as it is opened, and from mark to mark. A client keeps its calls and its
 /// registered memory, and of an end that has ended neither input nor calls count. By its input alone an end knows what a mark
@@ -24,7 +24,7 @@ pub fn ends_stand_for_marks()
 
 /// What a client keeps is enough: by it a message is judged, a Read Request is answered and a call is answered as the client of a
 /// run does, and it tells the calls that are outstanding and the credits that are granted. It stays enough while bytes
-/// are received, after a revoke, after a call is handed back once it has ended, after a message, an access, a frame, a write, the server's hello and a call that it accepts.
+/// are received, after a revoke, after a call is handed back once it has ended, after a message, an access, a frame, also one that ends it, a write, the server's hello and a call that it accepts.
 pub fn clients_keep_enough()
     ensures message { KeptJudges }
     ensures response { KeptResponds }
@@ -36,6 +36,7 @@ pub fn clients_keep_enough()
     ensures completed { KeptCompletes }
     ensures placed { KeptPlaces }
     ensures taken { KeptTakes }
+    ensures ended { KeptEnds }
     ensures written { KeptWrites }
     ensures greeted { KeptGreets }
     ensures submitted { KeptSubmits }

@@ -1,7 +1,7 @@
 use Rattle.nr_reduce.proofs.Keeping.{kept-judges, kept-responds, kept-answers, kept-counts}
 use Rattle.nr_reduce.proofs.Releasing.{kept-stays, kept-revokes, kept-hands-back, kept-completes}
 use Rattle.nr_reduce.proofs.Submits.{kept-places, kept-writes, kept-greets, kept-submits}
-use Rattle.nr_reduce.proofs.Taking.{kept-takes}
+use Rattle.nr_reduce.proofs.Taking.{kept-takes, kept-ends}
 use Rattle.nr_reduce.proofs.standing_laws.clients_keep_enough.Goals as goal
 
 pub returns-clause-message : goal.returns-clause-message
@@ -33,6 +33,9 @@ returns-clause-placed c = kept-places
 
 pub returns-clause-taken : goal.returns-clause-taken
 returns-clause-taken c = kept-takes
+
+pub returns-clause-ended : goal.returns-clause-ended
+returns-clause-ended c = kept-ends
 
 pub returns-clause-written : goal.returns-clause-written
 returns-clause-written c = kept-writes
