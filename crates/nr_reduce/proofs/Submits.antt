@@ -63,14 +63,6 @@ left-append n (x ∷ xs) ys h = by (leb x n) (left-append n xs ys h)
     by true rest = ap (λ (m : ℕ). Rattle.std.proofs.Common.suc m) rest
     by false rest = rest
 
-left-most : (n : ℕ) (ends : List ℕ) → ends_left n ends ≤ length ends
-left-most n [] = omega arith
-left-most n (end ∷ ends) = by (leb end n) (left-most n ends)
-  where
-    by : (b : Bool) → ends_left n ends ≤ length ends → length (cond b (end ∷ filter (λ e. leb e n) ends) (filter (λ e. leb e n) ends)) ≤ length (end ∷ ends)
-    by true rest = omega (arith, rest)
-    by false rest = omega (arith, rest)
-
 -- ---- An access
 
 arrival-next : (m : RegisteredMemory) (s : TaggedSegment) (d : Option Denied) → (after_arrival d m s).next ≡ m.next
@@ -273,7 +265,7 @@ kept-submits opened kept k count a plan keeps next is within few =
     (subst (λ (n : ℕ). Registers (k.regions ++ map (region_of a.xid count) (buffers k.stag plan)) k.accesses_received count (registered_all kept.memory (buffers k.stag plan)) (k.stag + n)) (buffers-count k.stag plan) registered)) in
     let own : IsKept after (kept_of kept.next_xid a.call plan kept.memory.next) o = record {
       xid = sym next;
-      sent = sym (ap (λ (n : ℕ). ltb (a.xid - k.first_xid) n) left ∙ not-sent a.xid k.first_xid (ends_left k.written k.send_ends) (let most = left-most k.written k.send_ends in omega (arith, most, few)));
+      sent = sym (ap (λ (n : ℕ). ltb (a.xid - k.first_xid) n) left ∙ not-sent a.xid k.first_xid (ends_left k.written k.send_ends) few);
       revoked = refl;
       call = refl;
       write = λ i. (lists_of (memory.next i) (sym plan_is i)).write;

@@ -225,10 +225,10 @@ abbrev pub KeptGreets : Type 0
 KeptGreets = (opened : LinkParameters) (kept : KeptClient) (k : ClientState) (count : ℕ) → ClientKeeps opened kept (live k) count →
     k.written ≤ k.due → ClientKeeps opened kept (live (with_hello opened k)) count
 
--- and after a call that it accepts, of which the Send hasn't left.
+-- and after a call that it accepts: its Send hasn't left, since no more Sends have left than calls were accepted before.
 abbrev pub KeptSubmits : Type 0
 KeptSubmits = (opened : LinkParameters) (kept : KeptClient) (k : ClientState) (count : ℕ) (a : AcceptedCall) (plan : Plan) → ClientKeeps opened kept (live k) count → a.xid ≡ kept.next_xid →
-    plan_for k a.xid a.call a.form ≡ Ok plan → k.written ≤ k.due → length k.send_ends ≤ a.xid - k.first_xid →
+    plan_for k a.xid a.call a.form ≡ Ok plan → k.written ≤ k.due → ends_left k.written k.send_ends ≤ a.xid - k.first_xid →
     ClientKeeps opened (kept_submitted kept a.call plan) (next_end_state (client_rules opened) (live k) (CallSubmitted count a)) count
 
 -- ---- The client of a run
