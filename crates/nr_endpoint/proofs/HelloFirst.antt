@@ -1,7 +1,6 @@
 -- Once an FPDU is awaited, the peer's hello was accepted; and calls that are allowed one after the other.
-use Rattle.std.proofs.Common.{◌≡◌, ℕ, Bool, true, false, cond, List, [], ◌∷◌, ◌++◌, Option, Some, None, Result, Ok, Err, is_some, refl, sym, ap, subst, ◌∙◌}
+use Rattle.std.proofs.Common.{◌≡◌, ℕ, Bool, true, false, cond, List, [], ◌∷◌, Option, Some, None, Result, Ok, Err, is_some, refl, sym, ap, subst, ◌∙◌}
 use Rattle.nr_wire.specs.declared.hello.Side.{Side}
-use Rattle.nr_wire.specs.declared.hello.Side.TheVariants.{Initiator, Responder}
 use Rattle.nr_wire.specs.declared.stream.Awaited.{Awaited}
 use Rattle.nr_wire.specs.declared.stream.Awaited.TheVariants.{Hello as HelloFrom, Fpdu}
 use Rattle.nr_wire.specs.Hello.{Hello, hello_of}
@@ -13,7 +12,7 @@ use Rattle.nr_endpoint.specs.LinkState.{LinkState, Link, has_ended, initial_link
 use Rattle.nr_endpoint.specs.Judging.{next_frame, with_frame, with_fpdu, with_peer_hello}
 use Rattle.nr_endpoint.specs.Calls.{Call, after_call, after_calls}
 use Rattle.nr_endpoint.specs.Calls.Call.{Feed, FeedOne, NextEvent, Post, Stop, OutOfMemory, Send, WriteRemote, ReadRemote, Drain, Register, Release}
-use Rattle.nr_endpoint.specs.OutputLaws.{AreAllowedCalls, AllowedCallsJoin, FpdusFollowHello}
+use Rattle.nr_endpoint.specs.OutputLaws.{AllowedCallsJoin, FpdusFollowHello}
 use Rattle.nr_endpoint.proofs.AlongFrames.{feed-keeps, feed_one-keeps}
 use Rattle.nr_endpoint.proofs.HelloLaws.{SameSide, fpdu-side}
 

@@ -78,7 +78,8 @@ pub fn output_in_items()
 {}
 
 /// Every side that calls reach has bounds: at most eight Read Requests are open and at most eight Read Responses owed, and each receive
-/// is free, has a begun Send or a message that waits, or is lent. A side that awaits an FPDU and hasn't ended has accepted the peer's hello.
+/// is free, has a begun Send or a message that waits, or is lent. A side that awaits an FPDU and hasn't ended has accepted the
+/// peer's hello.
 pub fn sides_stay_bounded()
     ensures bounds { SidesStayBounded }
     ensures greeted { FpdusFollowHello }
