@@ -1,14 +1,13 @@
 -- What a receive keeps of a begun Send counts for all of it.
-use Rattle.std.proofs.Common.{◌≡◌, ℕ, ◌+◌, ◌-◌, ◌<◌, ◌≤◌, Bool, true, false, cond, not, ◌&&◌, ◌||◌, eqb, nat_lt, List, [], ◌∷◌, ◌++◌, length, take, drop, replicate, Option, None, Some, inl, inr, refl, sym, ap, ◌∙◌, arith, append_assoc, length-append}
+use Rattle.std.proofs.Common.{◌≡◌, ℕ, ◌+◌, ◌-◌, ◌≤◌, Bool, true, false, cond, not, ◌&&◌, ◌||◌, eqb, nat_lt, List, [], ◌∷◌, ◌++◌, length, take, replicate, Option, None, Some, inl, inr, refl, sym, ap, ◌∙◌, arith, append_assoc, length-append}
 use Rattle.std.proofs.lemmas.List.{append-nil, length-take, length-replicate, take_all, take-append-le}
 use Rattle.std.proofs.lemmas.Bool.{cases_lt}
-use Rattle.nr_wire.specs.Constants.{OPCODE_READ_REQUEST, QUEUE_SEND, QUEUE_READ_REQUEST}
-use Rattle.nr_wire.specs.Segment.{Segment}
+use Rattle.nr_wire.specs.Constants.{OPCODE_READ_REQUEST, QUEUE_SEND}
 use Rattle.nr_wire.specs.Segment.Segment.{Tagged, Untagged}
 use Rattle.nr_regions.specs.declared.denied.Denied.{Denied}
 use Rattle.nr_link.specs.Reasons.{REASON_MSN, REASON_OFFSET, REASON_FORM, REASON_REQUESTS, REASON_SHORT, REASON_LONG}
-use Rattle.nr_link.specs.ReceiveState.{ReceiveState, is_send, begun_bytes, send_continued, received_after, message_completed}
-use Rattle.nr_link.specs.SegmentFaults.{Readiness, SegmentFault, segment_fault, first_fault, reason_if, no_buffer, missing_fault, has_length, terminate_fault, next_msn, next_offset, is_begun, is_malformed, is_too_many}
+use Rattle.nr_link.specs.ReceiveState.{ReceiveState, is_send, begun_bytes, send_continued}
+use Rattle.nr_link.specs.SegmentFaults.{Readiness, SegmentFault, segment_fault, first_fault, reason_if, no_buffer, missing_fault, has_length, terminate_fault, next_msn, is_begun, is_malformed, is_too_many}
 use Rattle.nr_link.specs.KeptSends.{kept_within, begun_within, received_within, JudgedAlike, KeptAlike, MessagesAlike}
 
 pub kept-len : (n : ℕ) (bytes : List ℕ) → length (kept_within n bytes) ≡ length bytes
