@@ -20,6 +20,7 @@ pub mod WroteItems
 pub mod Places
 pub mod Rooms
 pub mod Recut
+pub mod RefusedChunks
 pub mod Offers
 pub mod Ways
 pub mod Answering

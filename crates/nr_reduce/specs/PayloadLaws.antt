@@ -1,5 +1,5 @@
 -- Both ways of a payload undo each other: what is cut is rebuilt, what is planned is conveyed, what is answered is conveyed.
-use Rattle.std.specs.Prelude.{◌≡◌, ℕ, ◌+◌, ◌*◌, ◌^◌, ◌<◌, ◌≤◌, true, false, ◌==◌, List, [], ◌∷◌, length, take, sum, Option, None, Some, Ok, if◌then◌else◌}
+use Rattle.std.specs.Prelude.{◌≡◌, ◌≢◌, ℕ, ◌+◌, ◌*◌, ◌^◌, ◌<◌, ◌≤◌, true, false, ◌==◌, List, [], ◌∷◌, length, take, sum, Option, None, Some, Ok, Err, if◌then◌else◌}
 use Rattle.std.specs.List.{flat_map}
 use Rattle.nr_xdr.specs.Item.{IsBytes}
 use Rattle.nr_wire.specs.Segment.{encoding}
@@ -8,6 +8,8 @@ use Rattle.nr_header.specs.declared.header.ChunkLists.{ChunkLists}
 use Rattle.nr_header.specs.Constants.{PAYLOAD_MAX}
 use Rattle.nr_header.specs.Header.{HeaderFits}
 use Rattle.nr_header.specs.WithinLimits.{CanRead}
+use Rattle.nr_reduce.specs.declared.fault.Mismatch.{Mismatch}
+use Rattle.nr_reduce.specs.declared.fault.Mismatch.TheVariants as mismatches
 use Rattle.nr_reduce.specs.declared.call.Form.{Form}
 use Rattle.nr_reduce.specs.declared.call.Form.TheVariants as forms
 use Rattle.nr_reduce.specs.declared.call.Offer.{Offer}
@@ -27,6 +29,12 @@ use Rattle.nr_reduce.specs.Undone.{IsNotGiven, MessageConveys, ChunkHolds, Reads
 abbrev pub CutIsRebuilt : Type 0
 CutIsRebuilt = (of : Of) (payload : List ℕ) (c : Cut) → IsBytes payload → cut_of of payload ≡ Some c →
     rebuilt_of of c.stream c.item.pos c.moved ≡ Ok payload
+
+-- A stream without an item, and a chunk of another length than the item's, have no payload. Only a chunk that is refused by its position
+-- may have one, at the item's own position.
+abbrev pub RefusedHasNoPayload : Type 0
+RefusedHasNoPayload = (of : Of) (stream : List ℕ) (pos : ℕ) (moved : List ℕ) (why : Mismatch) → rebuilt_of of stream pos moved ≡ Err why → why ≢ mismatches.Position →
+    whole of stream (Some moved) ≡ None
 
 -- The stream and what moved of a reducible payload convey it.
 abbrev pub CutConveys : Type 0

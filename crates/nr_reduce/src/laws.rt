@@ -1,11 +1,13 @@
 //! Laws of payloads: what is cut, planned and answered conveys what it was made of.
 
-ghost use Rattle.nr_reduce.specs.PayloadLaws.{CutIsRebuilt, CutConveys, PlanReadsBack, PlanHasItsSize, MessageReadsBack, RegionBringsChunks, OfferConveys, OfferMessageConveys, AnswerConveysReply, AnswerWritesSegments, AnswerSuitsOffer, AnswerHasItsSize, AnswerReadsBack};
+ghost use Rattle.nr_reduce.specs.PayloadLaws.{CutIsRebuilt, CutConveys, RefusedHasNoPayload, PlanReadsBack, PlanHasItsSize, MessageReadsBack, RegionBringsChunks, OfferConveys, OfferMessageConveys, AnswerConveysReply, AnswerWritesSegments, AnswerSuitsOffer, AnswerHasItsSize, AnswerReadsBack};
 
-/// What is cut of a payload is put together to that payload again, and conveys it (RFC 8166 section 3.4).
+/// What is cut of a payload is put together to that payload again, and conveys it (RFC 8166 section 3.4). A chunk that is
+/// refused, other than by its position, conveys no payload with its stream.
 pub fn rebuild_undoes_cut()
     ensures rebuilt { CutIsRebuilt }
     ensures conveys { CutConveys }
+    ensures refused { RefusedHasNoPayload }
 {}
 
 /// The message of a plan of any form has the size that was tested. For Auto, Inline, Chunk and Long it reads back as its

@@ -1,5 +1,6 @@
 use Rattle.nr_reduce.proofs.Recut.{cut_rebuilt}
 use Rattle.nr_reduce.proofs.Undone.{rebuilt}
+use Rattle.nr_reduce.proofs.RefusedChunks.{refused-has-none}
 use Rattle.nr_reduce.proofs.laws.rebuild_undoes_cut.Goals as goal
 
 pub returns-clause-rebuilt : goal.returns-clause-rebuilt
@@ -7,3 +8,6 @@ returns-clause-rebuilt c = cut_rebuilt
 
 pub returns-clause-conveys : goal.returns-clause-conveys
 returns-clause-conveys c = rebuilt
+
+pub returns-clause-refused : goal.returns-clause-refused
+returns-clause-refused c = refused-has-none
