@@ -50,6 +50,7 @@ use Rattle.nr_laws.proofs.WrittenBytes.{WrittenAs, written-as}
 use Rattle.nr_laws.proofs.WrittenAnswers.{answer-same}
 use Rattle.nr_laws.proofs.ReadAnswers.{client-reads}
 use Rattle.nr_laws.proofs.HandedOver.{outcome-frame}
+use Rattle.nr_link.specs.Limits.{send_max}
 
 -- both replies are conveyed by the same stream, lists and memory
 pub record BothConveyed (call : Call) (plan : Plan) (offer : ChunkLists) (down : ℕ) (executed reply : List ℕ) (a : Answer) : Type 0 where
@@ -61,7 +62,7 @@ pub record BothConveyed (call : Call) (plan : Plan) (offer : ChunkLists) (down :
 
 pub both-conveyed : (opened : LinkParameters) (link : ℕ) (run before : List Mark) (xid : ℕ) (plan : Plan) (reply : List ℕ) → IsTyped run → MatchedSoFar opened link run → (has : HasPlan opened link run xid plan)
     → (at : MarkAt run before (marks.Done link xid (outcomes.Reply reply))) → (r : RepliedBy opened link before xid reply)
-    → BothConveyed has.call plan (offer_of (server_by opened r.answer.earlier) r.answer.call.xid) 1024 r.answer.call.reply reply r.answer.answer
+    → BothConveyed has.call plan (offer_of (server_by opened r.answer.earlier) r.answer.call.xid) send_max r.answer.call.reply reply r.answer.answer
 unfolding lists_of
 both-conveyed opened link run before xid plan reply typed far has at r = by offered
   where
@@ -141,11 +142,11 @@ both-conveyed opened link run before xid plan reply typed far has at r = by offe
         → reply_conveyed has.call.prog has.call.vers has.call.proc inline lists (memory_at k place) ≡ Some reply
     same_call inline lists h = ap (λ (c : Call). reply_conveyed c.prog c.vers c.proc inline lists (memory_at k place)) (sym call_is) ∙ h
 
-    t : (prog : ℕ) × (vers : ℕ) × (proc : ℕ) × (answer_for (offer_of server e.xid) 1024 prog vers proc e.reply ≡ Some a)
+    t : (prog : ℕ) × (vers : ℕ) × (proc : ℕ) × (answer_for (offer_of server e.xid) send_max prog vers proc e.reply ≡ Some a)
     t = for_target (offer_of server e.xid) (down_max server) e.reply (target_of (call_of e.payload)) a r.answer.is_answer
 
-    answers : (offer : ChunkLists) → offer_of server e.xid ≡ offer → (prog vers proc : ℕ) → answer_for (offer_of server e.xid) 1024 prog vers proc e.reply ≡ Some a → answer_for offer 1024 prog vers proc e.reply ≡ Some a
-    answers offer is prog vers proc h = ap (λ (o : ChunkLists). answer_for o 1024 prog vers proc e.reply) (sym is) ∙ h
+    answers : (offer : ChunkLists) → offer_of server e.xid ≡ offer → (prog vers proc : ℕ) → answer_for (offer_of server e.xid) send_max prog vers proc e.reply ≡ Some a → answer_for offer send_max prog vers proc e.reply ≡ Some a
+    answers offer is prog vers proc h = ap (λ (o : ChunkLists). answer_for o send_max prog vers proc e.reply) (sym is) ∙ h
 
     message : (offer : ChunkLists) → offer_of server e.xid ≡ offer → d.given.message ≡ answer_message e.xid credit.number offer a
     message offer is = r.answer.message ∙ ap (λ (o : ChunkLists). answer_message e.xid (credit_word server) o a) is ∙ answer-same e.xid (credit_word server) credit.number offer a credit.same
@@ -153,7 +154,7 @@ both-conveyed opened link run before xid plan reply typed far has at r = by offe
     own_offer : (offer : ChunkLists) → offer_of server xid ≡ offer → offer_of server e.xid ≡ offer
     own_offer offer is = ap (λ (x : ℕ). offer_of server x) r.own ∙ is
 
-    by : KeptOffer server xid stag plan → BothConveyed has.call plan (offer_of server e.xid) 1024 e.reply reply a
+    by : KeptOffer server xid stag plan → BothConveyed has.call plan (offer_of server e.xid) send_max e.reply reply a
     by (Kept kept offer) =
         let is = own_offer (lists_of stag plan) kept in
         record {
@@ -161,9 +162,9 @@ both-conveyed opened link run before xid plan reply typed far has at r = by offe
           lists = answer_lists (lists_of stag plan) a;
           memory = memory_at k place;
           handed = same_call (cond a.long None (Some a.stream)) (answer_lists (lists_of stag plan) a)
-              (client-reads (read_list stag plan plan.read_at) (write_stag stag plan) (reply_stag stag plan) plan.write plan.reply 1024 t.0 t.1 t.2 e.xid credit.number e.reply a k place g.call d.given.message g.header xid reply bytes offer
+              (client-reads (read_list stag plan plan.read_at) (write_stag stag plan) (reply_stag stag plan) plan.write plan.reply send_max t.0 t.1 t.2 e.xid credit.number e.reply a k place g.call d.given.message g.header xid reply bytes offer
               (answers (lists_of stag plan) is t.0 t.1 t.2 t.3) (omega arith) word credit.fits (message (lists_of stag plan) is) g.is_header g.by_its_body);
-          own = λ prog vers proc h. memory-conveys k place opened.first_stag stag plan a front 1024 prog vers proc e.reply bytes numbers.regions settled backed (parts (lists_of stag plan) is) (answers (lists_of stag plan) is prog vers proc h);
+          own = λ prog vers proc h. memory-conveys k place opened.first_stag stag plan a front send_max prog vers proc e.reply bytes numbers.regions settled backed (parts (lists_of stag plan) is) (answers (lists_of stag plan) is prog vers proc h);
         }
     by (NotKept kept) =
         let is = own_offer no_chunks kept in
@@ -172,8 +173,8 @@ both-conveyed opened link run before xid plan reply typed far has at r = by offe
           lists = answer_lists no_chunks a;
           memory = memory_at k place;
           handed = same_call (cond a.long None (Some a.stream)) (answer_lists no_chunks a)
-              (client-reads [] 0 0 None None 1024 t.0 t.1 t.2 e.xid credit.number e.reply a k place g.call d.given.message g.header xid reply bytes no-offer (answers no_chunks is t.0 t.1 t.2 t.3) (omega arith) word credit.fits (message no_chunks is) g.is_header g.by_its_body);
+              (client-reads [] 0 0 None None send_max t.0 t.1 t.2 e.xid credit.number e.reply a k place g.call d.given.message g.header xid reply bytes no-offer (answers no_chunks is t.0 t.1 t.2 t.3) (omega arith) word credit.fits (message no_chunks is) g.is_header g.by_its_body);
           own = λ prog vers proc h. conveyed-same (memory_at k place) (after (memory_at k place) no_chunks a) [] 0 0 None None a prog vers proc (λ no. absurd (let w : false ≡ true = no in cc)) (λ no. absurd (let w : false ≡ true = no in cc))
-              ∙ conveyed [] 0 0 None None 1024 prog vers proc e.reply a (memory_at k place) bytes (record { write = λ no. absurd (let w : false ≡ true = no in cc); reply = λ no. absurd (let w : false ≡ true = no in cc); apart = λ no. absurd (let w : false ≡ true = no in cc) })
+              ∙ conveyed [] 0 0 None None send_max prog vers proc e.reply a (memory_at k place) bytes (record { write = λ no. absurd (let w : false ≡ true = no in cc); reply = λ no. absurd (let w : false ≡ true = no in cc); apart = λ no. absurd (let w : false ≡ true = no in cc) })
               (answers no_chunks is prog vers proc h);
         }

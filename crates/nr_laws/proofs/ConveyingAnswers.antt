@@ -21,6 +21,7 @@ use Rattle.nr_reduce.specs.Undone.{one_write, write_segments, chunk_segments, an
 use Rattle.nr_reduce.specs.Server.{answer_of_target}
 use Rattle.nr_reduce.proofs.Undone.{reducible, moved-length, rebuilt}
 use Rattle.nr_laws.specs.AnswersConvey.{payloads_of, moved_returned, stream_returned, moved_brought, stream_brought, replied_by}
+use Rattle.nr_link.specs.Limits.{segment_max}
 
 -- ---- The payloads of an RDMA Write
 
@@ -29,7 +30,7 @@ payloads-append [] ys = refl
 payloads-append (Tagged last opcode stag to payload ∷ xs) ys = ap (λ (p : List ℕ). payload ++ p) (payloads-append xs ys) ∙ sym (append_assoc payload (payloads_of xs) (payloads_of ys))
 payloads-append (Untagged last opcode w queue msn offset payload ∷ xs) ys = payloads-append xs ys
 
-all-pieces : (n : ℕ) → n ≤ 4096 * max 1 ((n + 4095) / 4096)
+all-pieces : (n : ℕ) → n ≤ segment_max * max 1 ((n + 4095) / segment_max)
 all-pieces n = omega arith
 
 pub short-drop : (n : ℕ) (xs : List ℕ) → length xs ≤ n → drop n xs ≡ []
@@ -43,17 +44,17 @@ take-then-drop zero xs = refl
 take-then-drop (suc n) [] = refl
 take-then-drop (suc n) (x ∷ xs) = ap (λ (ys : List ℕ). x ∷ ys) (take-then-drop n xs)
 
-pieces-payloads : (stag to : ℕ) (bytes : List ℕ) (k i : ℕ) → i + k ≡ segment_count bytes → payloads_of (map (one_write stag to bytes) (range_with_len i k)) ≡ drop (4096 * i) bytes
+pieces-payloads : (stag to : ℕ) (bytes : List ℕ) (k i : ℕ) → i + k ≡ segment_count bytes → payloads_of (map (one_write stag to bytes) (range_with_len i k)) ≡ drop (segment_max * i) bytes
 pieces-payloads stag to bytes zero i all =
     let h = all-pieces (length bytes) in
-    sym (short-drop (4096 * i) bytes (omega (arith, h, all)))
+    sym (short-drop (segment_max * i) bytes (omega (arith, h, all)))
 pieces-payloads stag to bytes (suc k) i all =
     ap (λ (xs : List ℕ). segment_payload bytes i ++ xs) (pieces-payloads stag to bytes k (i + 1) (omega (arith, all)))
-    ∙ ap (λ (xs : List ℕ). take 4096 (drop (4096 * i) bytes) ++ xs) (ap (λ (n : ℕ). drop n bytes) (let s : 4096 * (i + 1) ≡ 4096 * i + 4096 = omega arith in s) ∙ more)
-    ∙ take-then-drop 4096 (drop (4096 * i) bytes)
+    ∙ ap (λ (xs : List ℕ). take segment_max (drop (segment_max * i) bytes) ++ xs) (ap (λ (n : ℕ). drop n bytes) (let s : segment_max * (i + 1) ≡ segment_max * i + segment_max = omega arith in s) ∙ more)
+    ∙ take-then-drop segment_max (drop (segment_max * i) bytes)
   where
-    more : drop (4096 * i + 4096) bytes ≡ drop 4096 (drop (4096 * i) bytes)
-    more = sym (drop-drop 4096 (4096 * i) bytes)
+    more : drop (segment_max * i + segment_max) bytes ≡ drop segment_max (drop (segment_max * i) bytes)
+    more = sym (drop-drop segment_max (segment_max * i) bytes)
 
 write-payloads : (stag to : ℕ) (bytes : List ℕ) → payloads_of (write_segments stag to bytes) ≡ bytes
 write-payloads stag to bytes = pieces-payloads stag to bytes (segment_count bytes) 0 (omega arith)

@@ -59,7 +59,7 @@ reached-more opened k event stays r = (
 sized-call : (opened : LinkParameters) (k : ClientState) (a : AcceptedCall) (plan : Plan) → plan_for k a.xid a.call a.form ≡ Ok plan → a.xid < numbers_end → IsAsked opened (outstanding_of k a)
 unfolding plan_for plan_size
 sized-call opened k a plan is lt =
-    let size = message_size (call_payload a.xid a.call) a.form 1024 1024 a.xid opened.wished k.stag plan is in
+    let size = message_size (call_payload a.xid a.call) a.form send_max send_max a.xid opened.wished k.stag plan is in
     let words = call-words a.xid opened.wished k.stag (outstanding_of k a).plan lt in
     let fits = subst (λ (p : Plan). (16 ≤ length (call_message a.xid opened.wished k.stag p)) × (length (call_message a.xid opened.wished k.stag p) ≤ send_max))
     (sym (planned (call_payload a.xid a.call) (plan_for k a.xid a.call a.form) plan is)) (omega (arith, size.0), size.1) in

@@ -65,6 +65,7 @@ use Rattle.nr_laws.proofs.PendingRuns.{executes-pending}
 use Rattle.nr_laws.proofs.OwnExecutes.{IsOwnPayload, own-executes}
 use Rattle.nr_laws.proofs.JudgedMessages.{EndsFor}
 use Rattle.nr_laws.proofs.JudgedReplies.{JudgedBy, answer-judged, own-reply-judged}
+use Rattle.nr_link.specs.Limits.{send_max}
 
 record FoundOne (xid : ℕ) (calls : List PendingCall) : Type 0 where
   call : PendingCall
@@ -179,16 +180,16 @@ answer-judges opened link run reason opens typed far d j s = record {
     own = own-executes opened link run m.earlier u.xid plan e.moment e.payload e.place e.reply typed far has
         (record { after = m.later; is = m.is ∙ ap (λ (n : ℕ). m.earlier ++ marks.Execute link n e.moment e.payload e.place e.reply ∷ m.later) same })
 
-    answer : answer_for (lists_of stag plan) 1024 u.call.prog u.call.vers u.call.proc e.reply ≡ Some a
-    answer = ap (λ (o : ChunkLists). answer_for o 1024 u.call.prog u.call.vers u.call.proc e.reply) (sym offer)
-        ∙ ap (λ (r : Result CallHead ℕ). answer_of_target (offer_of server e.xid) 1024 e.reply (target_of r)) (sym own.head) ∙ s.is_answer
+    answer : answer_for (lists_of stag plan) send_max u.call.prog u.call.vers u.call.proc e.reply ≡ Some a
+    answer = ap (λ (o : ChunkLists). answer_for o send_max u.call.prog u.call.vers u.call.proc e.reply) (sym offer)
+        ∙ ap (λ (r : Result CallHead ℕ). answer_of_target (offer_of server e.xid) send_max e.reply (target_of r)) (sym own.head) ∙ s.is_answer
 
     -- what is read of its message
     message : d.message ≡ answer_message e.xid (credit_word server) (lists_of stag plan) a
     message = s.message ∙ ap (λ (o : ChunkLists). answer_message e.xid (credit_word server) o a) offer
 
     again : ReadsAsAnswer (lists_of stag plan) a e.xid (credit_word server) (answer_message e.xid (credit_word server) (lists_of stag plan) a)
-    again = answer_again (read_list stag plan plan.read_at) (write_stag stag plan) (reply_stag stag plan) plan.write plan.reply 1024 u.call.prog u.call.vers u.call.proc e.xid (credit_word server) e.reply a bytes p.offer answer (omega arith) word credit
+    again = answer_again (read_list stag plan plan.read_at) (write_stag stag plan) (reply_stag stag plan) plan.write plan.reply send_max u.call.prog u.call.vers u.call.proc e.xid (credit_word server) e.reply a bytes p.offer answer (omega arith) word credit
 
     body : again.body ≡ j.header.body
     body = same-body e.xid (credit_word server) again.body j.header (sym again.reads ∙ ap header_of (sym message) ∙ j.is_header)
@@ -200,8 +201,8 @@ answer-judges opened link run reason opens typed far d j s = record {
     lists = ap lists_by (sym body) ∙ again.lists
 
     suits : answers_offer a.long (lists_of stag plan) (answer_lists (lists_of stag plan) a) ≡ true
-    suits = suits_offer (read_list stag plan plan.read_at) (write_stag stag plan) (reply_stag stag plan) plan.write plan.reply 1024 u.call.prog u.call.vers u.call.proc e.reply a
-        (answered (read_list stag plan plan.read_at) (write_stag stag plan) (reply_stag stag plan) plan.write plan.reply 1024 u.call.prog u.call.vers u.call.proc e.reply a bytes answer)
+    suits = suits_offer (read_list stag plan plan.read_at) (write_stag stag plan) (reply_stag stag plan) plan.write plan.reply send_max u.call.prog u.call.vers u.call.proc e.reply a
+        (answered (read_list stag plan plan.read_at) (write_stag stag plan) (reply_stag stag plan) plan.write plan.reply send_max u.call.prog u.call.vers u.call.proc e.reply a bytes answer)
 
     -- what the client's memory holds
     next : places_after 0 d.earlier < place
@@ -226,7 +227,7 @@ answer-judges opened link run reason opens typed far d j s = record {
         ∙ ap (λ (o : ChunkLists). front ++ parts_out (map ASegment (answer_segments o a))) offer
 
     conveys : reply_conveyed u.call.prog u.call.vers u.call.proc (cond a.long None (Some a.stream)) (answer_lists (lists_of stag plan) a) (memory_at k place) ≡ Some e.reply
-    conveys = memory-conveys k place opened.first_stag stag plan a front 1024 u.call.prog u.call.vers u.call.proc e.reply bytes numbers.regions settled backed parts answer
+    conveys = memory-conveys k place opened.first_stag stag plan a front send_max u.call.prog u.call.vers u.call.proc e.reply bytes numbers.regions settled backed parts answer
 
 pub answer-ends-none : (reply_to : List Entry → Moment → List ℕ → Option (List ℕ)) (adds : Moment → List ℕ → List ℕ → List Entry) (opened : LinkParameters) (link : ℕ) (run : List Mark) (reason : ℕ) → IsOpened opened → IsTyped run → MatchedSoFar opened link run
     → HasPlainReplies (server_with reply_to adds) link run → IsPlain (server_with reply_to adds)

@@ -36,6 +36,7 @@ use Rattle.nr_laws.proofs.ClientSays.{short-revoked}
 use Rattle.nr_reduce.proofs.WholeWrotes.{ClientEnds, ServerEnds}
 use Rattle.nr_laws.proofs.Basics.{each-kept, each-append}
 use Rattle.nr_laws.proofs.ServerOutputs.{CallFits}
+use Rattle.nr_link.specs.Limits.{send_max}
 
 -- ---- Of a client
 
@@ -76,7 +77,7 @@ pub record Submitted (opened : LinkParameters) (k : ClientState) (s : ServerStat
 short-call : (opened : LinkParameters) (k : ClientState) (a : AcceptedCall) (plan : Plan) → plan_for k a.xid a.call a.form ≡ Ok plan → IsShort (call_message a.xid opened.wished k.stag (outstanding_of k a).plan)
 unfolding plan_for
 short-call opened k a plan is =
-    let size = message_size (call_payload a.xid a.call) a.form 1024 1024 a.xid opened.wished k.stag plan is in
+    let size = message_size (call_payload a.xid a.call) a.form send_max send_max a.xid opened.wished k.stag plan is in
     subst (λ (p : Plan). IsShort (call_message a.xid opened.wished k.stag p)) (sym (planned (call_payload a.xid a.call) (plan_for k a.xid a.call a.form) plan is)) (omega (arith, size.1))
 
 pub submitted : (opened : LinkParameters) (k : ClientState) (s : ServerState) (u d all_up all_down : List FrameContent) (w : Transit) (place : ℕ) (a : AcceptedCall) (plan : Plan) → EndsAgree opened k s u d all_up all_down w

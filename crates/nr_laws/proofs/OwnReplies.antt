@@ -18,6 +18,7 @@ use Rattle.nr_laws.proofs.OwnExecutes.{own-executes}
 use Rattle.nr_laws.proofs.OwnPayloads.{payloads_are_own}
 use Rattle.nr_laws.proofs.Replied.{replied-by}
 use Rattle.nr_laws.proofs.Basics.{some-is}
+use Rattle.nr_link.specs.Limits.{send_max}
 
 pub executed_replies_are_handed_over : ExecutedRepliesAreHandedOver
 executed_replies_are_handed_over opened link run before xid plan reply typed far has at =
@@ -33,8 +34,8 @@ executed_replies_are_handed_over opened link run before xid plan reply typed far
     let conveyed : form_conveyed has.form (call_payload xid has.call) ≡ Some e.payload = payloads_are_own opened link run m.earlier xid plan e.moment e.payload e.place e.reply typed far has mark in
     let own = own-executes opened link run m.earlier xid plan e.moment e.payload e.place e.reply typed far has mark in
     let offer : ChunkLists = offer_of (server_by opened r.answer.earlier) e.xid in
-    let answers : answer_for offer 1024 has.call.prog has.call.vers has.call.proc e.reply ≡ Some r.answer.answer =
-    ap (λ (x : Result CallHead ℕ). answer_of_target offer 1024 e.reply (target_of x)) (sym own.head) ∙ r.answer.is_answer in
+    let answers : answer_for offer send_max has.call.prog has.call.vers has.call.proc e.reply ≡ Some r.answer.answer =
+    ap (λ (x : Result CallHead ℕ). answer_of_target offer send_max e.reply (target_of x)) (sym own.head) ∙ r.answer.is_answer in
     let same : reply ≡ e.reply = some-is reply e.reply (sym b.handed ∙ b.own has.call.prog has.call.vers has.call.proc answers) in
     record {
       moment = e.moment;

@@ -59,11 +59,11 @@ counts : (p : Plan) → plan_size p ≤ send_max → (length (Rattle.nr_reduce.s
 unfolding plan_size
 counts p small = (by_write p.write (omega (arith, small)), by_reply p.reply (omega (arith, small)))
   where
-    by_write : (w : Option (List ℕ)) → plans.write_size w ≤ 1024 → length (Rattle.nr_reduce.specs.Undone.lengths w) < 2 ^ 32
+    by_write : (w : Option (List ℕ)) → plans.write_size w ≤ send_max → length (Rattle.nr_reduce.specs.Undone.lengths w) < 2 ^ 32
     by_write None h = omega arith
     by_write (Some ns) h = omega (arith, h)
 
-    by_reply : (r : Option (List ℕ)) → plans.reply_size r ≤ 1024 → length (Rattle.nr_reduce.specs.Undone.lengths r) < 2 ^ 32
+    by_reply : (r : Option (List ℕ)) → plans.reply_size r ≤ send_max → length (Rattle.nr_reduce.specs.Undone.lengths r) < 2 ^ 32
     by_reply None h = omega arith
     by_reply (Some ns) h = omega (arith, h)
 

@@ -22,6 +22,7 @@ use Rattle.nr_laws.proofs.TotalsAtServer.{segment-is}
 use Rattle.nr_laws.proofs.TotalsAtClient.{says-is, request_payload, down_one}
 use Rattle.nr_laws.proofs.ExpectedResponses.{answers-append, answers-one}
 use Rattle.nr_laws.proofs.ReadsAtServer.{requests-append}
+use Rattle.nr_link.specs.Limits.{segment_max}
 
 -- ---- The client receives a Read Request, and answers it by as many bytes
 
@@ -94,7 +95,7 @@ none-filled (p ∷ chunk) bytes =
 
     by : (b : Bool) → requests_of (cond b [] (tagged_frames OPCODE_WRITE p.handle p.offset (take p.length bytes))) ≡ []
     by true = refl
-    by false = none-cut (λ i. eqb (i + 1) (segment_count (take p.length bytes))) (λ i. OPCODE_WRITE) (λ i. p.offset + 4096 * i) (λ i. segment_payload (take p.length bytes) i) (range_with_len 0 (segment_count (take p.length bytes)))
+    by false = none-cut (λ i. eqb (i + 1) (segment_count (take p.length bytes))) (λ i. OPCODE_WRITE) (λ i. p.offset + segment_max * i) (λ i. segment_payload (take p.length bytes) i) (range_with_len 0 (segment_count (take p.length bytes)))
 
 none-long : (b : Bool) (chunk : List Part) (bytes : List ℕ) → requests_of (cond b (write_frames chunk bytes) []) ≡ []
 none-long true chunk bytes = none-filled chunk bytes

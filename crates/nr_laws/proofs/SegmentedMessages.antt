@@ -13,6 +13,7 @@ use Rattle.nr_link.specs.SegmentFaults.{Readiness, segment_fault, first_fault, r
 use Rattle.nr_link.specs.SegmentFaults.SegmentFault.{NoBuffer}
 use Rattle.nr_laws.specs.MessageSegments.{message_segment, message_segments, SendIsItsSegments, SegmentsReadBack, received_after_all, messages_completed, IsReceived, MessageIsReceived, segments_of_messages, MessagesAreReceived, BreakNoRule, SegmentsBreakNoRule}
 use Rattle.nr_laws.proofs.Brought.{IsWord, encoding-is}
+use Rattle.nr_link.specs.Limits.{segment_max}
 
 -- ---- What is written
 
@@ -25,17 +26,17 @@ unfolding send cut
 send_is_its_segments msn message = sym (flat-over encoding (message_segment msn message) (range_with_len 0 (segment_count message)))
 
 -- at which offset a segment stands in its message
-piece-starts : (n i : ℕ) → i < max 1 ((n + 4095) / 4096) → 4096 * i ≤ n
+piece-starts : (n i : ℕ) → i < max 1 ((n + 4095) / segment_max) → segment_max * i ≤ n
 piece-starts n i lt = omega (arith, lt)
 
-pieces-end : (n : ℕ) → n ≤ 4096 * max 1 ((n + 4095) / 4096)
+pieces-end : (n : ℕ) → n ≤ segment_max * max 1 ((n + 4095) / segment_max)
 pieces-end n = omega arith
 
-offset-word : (n i : ℕ) → i < max 1 ((n + 4095) / 4096) → n ≤ 2 ^ 32 → 4096 * i < 2 ^ 32
+offset-word : (n i : ℕ) → i < max 1 ((n + 4095) / segment_max) → n ≤ 2 ^ 32 → segment_max * i < 2 ^ 32
 offset-word n i lt le = omega (arith, lt, le)
 
-payload-size : (bytes : List ℕ) (i : ℕ) → length (segment_payload bytes i) ≤ 4096
-payload-size bytes i = (let l = length-take 4096 (drop (4096 * i) bytes) in omega (arith, l))
+payload-size : (bytes : List ℕ) (i : ℕ) → length (segment_payload bytes i) ≤ segment_max
+payload-size bytes i = (let l = length-take segment_max (drop (segment_max * i) bytes) in omega (arith, l))
 
 segment-word : (msn : ℕ) (message : List ℕ) (i : ℕ) → i < segment_count message → length message ≤ 2 ^ 32 → IsWord (message_segment msn message i)
 segment-word msn message i lt short =
@@ -54,15 +55,15 @@ not-last : (i k n : ℕ) → i + suc (suc k) ≡ n → eqb (i + 1) n ≡ false
 not-last i k n is = ne_eqb (i + 1) n (λ e. omega (arith, e, is))
 
 -- the front of the message, and the next segment's bytes
-joined : (message : List ℕ) (i : ℕ) (front : List ℕ) → front ≡ take (4096 * i) message → front ++ segment_payload message i ≡ take (4096 * (i + 1)) message
+joined : (message : List ℕ) (i : ℕ) (front : List ℕ) → front ≡ take (segment_max * i) message → front ++ segment_payload message i ≡ take (segment_max * (i + 1)) message
 joined message i front is =
-    ap (λ (xs : List ℕ). xs ++ take 4096 (drop (4096 * i) message)) is
-    ∙ sym (take-add (4096 * i) 4096 message)
-    ∙ ap (λ (n : ℕ). take n message) (let s : 4096 * i + 4096 ≡ 4096 * (i + 1) = omega arith in s)
+    ap (λ (xs : List ℕ). xs ++ take segment_max (drop (segment_max * i) message)) is
+    ∙ sym (take-add (segment_max * i) segment_max message)
+    ∙ ap (λ (n : ℕ). take n message) (let s : segment_max * i + segment_max ≡ segment_max * (i + 1) = omega arith in s)
 
-all-joined : (message : List ℕ) (i : ℕ) (front : List ℕ) → front ≡ take (4096 * i) message → i + 1 ≡ segment_count message → front ++ segment_payload message i ≡ message
+all-joined : (message : List ℕ) (i : ℕ) (front : List ℕ) → front ≡ take (segment_max * i) message → i + 1 ≡ segment_count message → front ++ segment_payload message i ≡ message
 all-joined message i front is last =
-    joined message i front is ∙ take_all (4096 * (i + 1)) message (let e = pieces-end (length message) in omega (arith, e, last))
+    joined message i front is ∙ take_all (segment_max * (i + 1)) message (let e = pieces-end (length message) in omega (arith, e, last))
 
 after-one : (h : ReceiveState) (msn : ℕ) (message : List ℕ) (i : ℕ) (last : Bool) → eqb (i + 1) (segment_count message) ≡ last → received_after h (message_segment msn message i) ≡ send_continued h last (segment_payload message i)
 after-one h msn message i last is = ap (λ (b : Bool). send_continued h b (segment_payload message i)) is
@@ -70,7 +71,7 @@ after-one h msn message i last is = ap (λ (b : Bool). send_continued h b (segme
 made-whole : (h : ReceiveState) (msn : ℕ) (message : List ℕ) (i : ℕ) (last : Bool) → eqb (i + 1) (segment_count message) ≡ last → message_completed h (message_segment msn message i) ≡ cond last (Some (begun_bytes h.begun ++ segment_payload message i)) None
 made-whole h msn message i last is = ap (λ (b : Bool). cond b (Some (begun_bytes h.begun ++ segment_payload message i)) None) is
 
-received-from : (h : ReceiveState) (msn : ℕ) (message : List ℕ) (k i : ℕ) → i + suc k ≡ segment_count message → begun_bytes h.begun ≡ take (4096 * i) message → IsReceived h (map (message_segment msn message) (range_with_len i (suc k))) message
+received-from : (h : ReceiveState) (msn : ℕ) (message : List ℕ) (k i : ℕ) → i + suc k ≡ segment_count message → begun_bytes h.begun ≡ take (segment_max * i) message → IsReceived h (map (message_segment msn message) (range_with_len i (suc k))) message
 received-from h msn message zero i all front =
     let last = is-last i (segment_count message) (omega (arith, all)) in
     record {
@@ -137,14 +138,14 @@ whole-fits max_len front payload message true is long short = (
   ap (λ (m : List ℕ). ltb (length m) 16) (is refl) ∙ le-ltb (length message) 16 long,
 )
 
-segment-fine : (r : Readiness Denied) (message : List ℕ) (i : ℕ) (last : Bool) → eqb (i + 1) (segment_count message) ≡ last → i < segment_count message → begun_bytes r.received.begun ≡ take (4096 * i) message
+segment-fine : (r : Readiness Denied) (message : List ℕ) (i : ℕ) (last : Bool) → eqb (i + 1) (segment_count message) ≡ last → i < segment_count message → begun_bytes r.received.begun ≡ take (segment_max * i) message
     → (last ≡ true → begun_bytes r.received.begun ++ segment_payload message i ≡ message) → r.has_receive ≡ true → r.missing ≡ None → 16 ≤ length message → length message ≤ r.message_max
     → segment_fault r (message_segment (r.received.sends + 1) message i) ≡ None
 unfolding segment_fault
 segment-fine r message i last is lt front whole h l long short =
     let starts = piece-starts (length message) i lt in
-    let offset : eqb (4096 * i) (length (begun_bytes r.received.begun)) ≡ true =
-    eq-eqb (4096 * i) (length (begun_bytes r.received.begun)) (sym (ap (λ (xs : List ℕ). length xs) front ∙ length-take-le (4096 * i) message starts)) in
+    let offset : eqb (segment_max * i) (length (begun_bytes r.received.begun)) ≡ true =
+    eq-eqb (segment_max * i) (length (begun_bytes r.received.begun)) (sym (ap (λ (xs : List ℕ). length xs) front ∙ length-take-le (segment_max * i) message starts)) in
     let fits = whole-fits r.message_max (begun_bytes r.received.begun) (segment_payload message i) message last whole long short in
     (λ j. first_fault (reason_if REASON_MSN (not (itself (msn_word (r.received.sends + 1)) j))
     ∷ reason_if REASON_OFFSET (not (offset j))
@@ -162,7 +163,7 @@ segment-fine r message i last is lt front whole h l long short =
     ∷ reason_if REASON_SHORT (fits.1 j)
     ∷ None ∷ []))
 
-fine-from : (r : Readiness Denied) (n : ℕ) (message : List ℕ) (k i : ℕ) → n ≡ r.received.sends + 1 → i + suc k ≡ segment_count message → begun_bytes r.received.begun ≡ take (4096 * i) message → r.has_receive ≡ true → r.missing ≡ None
+fine-from : (r : Readiness Denied) (n : ℕ) (message : List ℕ) (k i : ℕ) → n ≡ r.received.sends + 1 → i + suc k ≡ segment_count message → begun_bytes r.received.begun ≡ take (segment_max * i) message → r.has_receive ≡ true → r.missing ≡ None
     → 16 ≤ length message → length message ≤ r.message_max → BreakNoRule r (map (message_segment n message) (range_with_len i (suc k)))
 fine-from r n message zero i number all front h l long short =
     let last = is-last i (segment_count message) (omega (arith, all)) in (

@@ -32,6 +32,7 @@ use Rattle.std.proofs.lemmas.List.{map-append}
 use Rattle.nr_laws.proofs.EachEffect.{MessageRule, ResponseRule, each-effect}
 use Rattle.nr_reduce.proofs.Sizes.{word_len}
 use Rattle.nr_laws.proofs.Basics.{each-append, each-kept}
+use Rattle.nr_link.specs.Limits.{send_max}
 
 -- ---- Error messages
 
@@ -150,7 +151,7 @@ answer-words offer a h =
     by true = chunk-words (no_segments offer.reply) a.stream h.replies
     by false = tt
 
-pub answer-short : (offer : ChunkLists) (down prog vers proc xid credit : ℕ) (reply : List ℕ) (a : Answer) → down ≤ 1024 → OfferFits offer → answer_for offer down prog vers proc reply ≡ Some a → IsShort (answer_message xid credit offer a)
+pub answer-short : (offer : ChunkLists) (down prog vers proc xid credit : ℕ) (reply : List ℕ) (a : Answer) → down ≤ send_max → OfferFits offer → answer_for offer down prog vers proc reply ≡ Some a → IsShort (answer_message xid credit offer a)
 answer-short offer down prog vers proc xid credit reply a small fits e =
     let sizes = answer_length offer down prog vers proc xid credit reply a e in
     by a.long refl sizes.0 sizes.1

@@ -44,8 +44,8 @@ terminate-word n = (let a = length-word n in record { supported = (refl, refl); 
 
 -- ---- Segments of an access
 
-payload-small : (bytes : List ℕ) (i : ℕ) → length (segment_payload bytes i) ≤ 4096
-payload-small bytes i = (let l = length-take 4096 (drop (4096 * i) bytes) in omega (arith, l))
+payload-small : (bytes : List ℕ) (i : ℕ) → length (segment_payload bytes i) ≤ segment_max
+payload-small bytes i = (let l = length-take segment_max (drop (segment_max * i) bytes) in omega (arith, l))
 
 range-words : (f : ℕ → Segment) (a n : ℕ) → ((i : ℕ) → a ≤ i → i < a + n → IsWord (f i)) → AreFrom Fpdu (map ASegment (map f (range_with_len a n)))
 range-words f a zero h = tt
