@@ -16,8 +16,8 @@ impl Records {
 
     /// Takes in the next bytes of the stream. `Bad` exactly if the length of a fragment takes the sum of its record above 1056768;
     /// `at` is the offset of the header of the first such fragment. A fault is kept, and each later call answers it again. The
-    /// records that end before it are kept too. No answer loses a record that waits, or takes back what
-    /// was read. At most 2^62 bytes may be fed in all.
+    /// records that end before it are kept too. No answer loses a record that waits, or takes back what was read. At most 2^62 bytes
+    /// may be fed in all.
     pub fn feed(&mut self, piece: &[u8]) -> Result<(), RecordFault>
         requires { (kept self.old).count + length piece.now ≤ 2 ^ 62 }
         ensures stands { (stream : List ℕ) (taken : ℕ) → StandsFor (kept self.old) stream taken → StandsFor (kept self.new) (stream ++ piece.now) taken }
