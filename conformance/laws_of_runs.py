@@ -39,7 +39,6 @@ USES = [
     'use Rattle.nr_laws.specs.AnswersConvey.{replied_by, stream_brought, moved_brought}',
     'use Rattle.nr_reduce.specs.Run.{placed_bytes}',
     'use Rattle.nr_reduce.specs.Server.{answer_of_target, offer_of}',
-    'use Rattle.nr_reduce.specs.ServerState.{down_max}',
     'use Rattle.nr_rpc.specs.Reading.{call_of, target_of}',
     'use Rattle.nr_link.specs.Frames.{is_hello}',
     'use Rattle.nr_link.specs.Ending.{frame_segment, access_of}',
@@ -74,7 +73,7 @@ ROLES: dict[str, str] = {
     'adds': 'λ moment payload reply. entries_of_call moment payload reply',
     'offer': 'λ state xid. offer_of state xid',
     'answer': 'λ offer state payload reply. '
-              'answer_of_target offer (down_max state) reply (target_of (call_of payload))',
+              'answer_of_target offer state.down_max reply (target_of (call_of payload))',
     'hello': 'λ frame. is_hello frame',
     'items': 'λ opened link side run. items_due opened link side run',
     'hello_due': 'λ opened link side run. hello_due opened link side run',

@@ -9,7 +9,7 @@ use Rattle.nr_regions.specs.declared.denied.Denied.{Denied}
 use Rattle.nr_regions.specs.RegisteredMemory.{denial}
 use Rattle.nr_link.specs.declared.end.End.{End}
 use Rattle.nr_link.specs.declared.end.End.TheVariants as ends
-use Rattle.nr_link.specs.Limits.{send_max, open_reads_max}
+use Rattle.nr_link.specs.Limits.{open_reads_max}
 use Rattle.nr_link.specs.Frames.{Frame}
 use Rattle.nr_link.specs.Reasons.{REASON_FORM, REASON_REQUESTS, REASON_LONG, REASON_SHORT}
 use Rattle.nr_link.specs.ReceiveState.{read_request_in}
@@ -103,14 +103,14 @@ not-short false least n is h = absurd cc
 pub send-fine : (s : LinkState) (last : Bool) (msn : ℕ) (payload : List ℕ) → send_end s last msn payload ≡ None → SendIsFine s last payload
 unfolding send_end
 send-fine s last msn payload is =
-    let parts : (not (is_begun s.receive_queue.received.begun || nat_lt 0 s.receive_queue.free) ≡ false) × (bad_if s.place REASON_LONG (last && nat_lt send_max (send_len s payload))
+    let parts : (not (is_begun s.receive_queue.received.begun || nat_lt 0 s.receive_queue.free) ≡ false) × (bad_if s.place REASON_LONG (last && nat_lt s.message_max (send_len s payload))
     (bad_if s.place REASON_SHORT (last && nat_lt (send_len s payload) 16) None) ≡ None) =
     has-buffer msn (not (is_begun s.receive_queue.received.begun || nat_lt 0 s.receive_queue.free)) _ is in
     record {
       receive = free-or-begun (is_begun s.receive_queue.received.begun) s.receive_queue.free parts.0;
-      fits = not-long last send_max (send_len s payload) (not-bad s.place REASON_LONG (last && nat_lt send_max (send_len s payload)) _ parts.1).0;
+      fits = not-long last s.message_max (send_len s payload) (not-bad s.place REASON_LONG (last && nat_lt s.message_max (send_len s payload)) _ parts.1).0;
       enough = not-short last 16 (send_len s payload)
-          (not-bad s.place REASON_SHORT (last && nat_lt (send_len s payload) 16) None (not-bad s.place REASON_LONG (last && nat_lt send_max (send_len s payload)) _ parts.1).1).0;
+          (not-bad s.place REASON_SHORT (last && nat_lt (send_len s payload) 16) None (not-bad s.place REASON_LONG (last && nat_lt s.message_max (send_len s payload)) _ parts.1).1).0;
     }
 
 never-none : (at : ℕ) (b : Bool) (word : ℕ) → bad_if at REASON_FORM b (Some (ends.Terminated word)) ≢ None

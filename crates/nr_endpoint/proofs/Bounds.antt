@@ -12,12 +12,13 @@ use Rattle.nr_wire.specs.Segment.Segment.{Tagged, Untagged}
 use Rattle.nr_regions.specs.RegisteredMemory.{after_place, bytes_at}
 use Rattle.nr_link.specs.declared.end.End.{End}
 use Rattle.nr_link.specs.Frames.{Frame}
+use Rattle.nr_link.specs.KeptSends.{begun_within}
 use Rattle.nr_link.specs.Limits.{open_reads_max}
 use Rattle.nr_link.specs.Output.{read_response}
 use Rattle.nr_link.specs.ReceiveState.{is_send, begun_bytes, read_request_in, send_continued}
 use Rattle.nr_link.specs.SegmentFaults.{ExpectedResponse, is_begun}
 use Rattle.nr_endpoint.specs.SendQueue.{with_end, written}
-use Rattle.nr_endpoint.specs.ReceiveQueue.{Notice, ReceiveQueue, with_segment, with_read_done, lent_for, sends_begun, messages_in, receives_kept, kept_send, message_notices}
+use Rattle.nr_endpoint.specs.ReceiveQueue.{Notice, ReceiveQueue, with_segment, with_read_done, lent_for, sends_begun, messages_in, receives_kept, message_notices}
 use Rattle.nr_endpoint.specs.ReceiveQueue.Notice.{MessageReceived, ReadDone}
 use Rattle.nr_endpoint.specs.LinkState.{LinkState, Link, has_ended, initial_link}
 use Rattle.nr_endpoint.specs.Judging.{segment_end, next_frame, with_frame, with_segment_by, with_fpdu, with_peer_hello, with_effect, with_read_request, with_read_response, reads_after, fetch_access}
@@ -44,9 +45,9 @@ read-receives : (opened : ℕ) (q : ReceiveQueue) (last : Bool) → HasReceives 
 read-receives opened q true has = (omega (arith, has.0, messages-append q.notices (ReadDone ∷ [])), has.1)
 read-receives opened q false has = has
 
-kept-begun : (begun : Option (List ℕ)) → sends_begun (kept_send begun) ≡ sends_begun begun
-kept-begun None = refl
-kept-begun (Some bytes) = refl
+kept-begun : (n : ℕ) (begun : Option (List ℕ)) → sends_begun (begun_within n begun) ≡ sends_begun begun
+kept-begun n None = refl
+kept-begun n (Some bytes) = refl
 
 -- the receive of the begun Send, or else a free one
 one-taken : (begun : Option (List ℕ)) (free : ℕ) → (is_begun begun ≡ false → 0 < free) → cond (not (is_begun begun)) (free - 1) free + 1 ≡ free + sends_begun begun
@@ -64,7 +65,7 @@ send-receives opened q false w queue msn offset payload some has =
 request-receives : (opened : ℕ) (q : ReceiveQueue) (last : Bool) (w queue msn offset : ℕ) (payload : List ℕ) → HasReceives opened q →
     HasReceives opened (with_segment (Untagged last OPCODE_READ_REQUEST w queue msn offset payload) q)
 unfolding with_segment
-request-receives opened q last w queue msn offset payload has = (omega (arith, has.0, kept-begun q.received.begun, messages-append q.notices []), has.1)
+request-receives opened q last w queue msn offset payload has = (omega (arith, has.0, kept-begun q.receive_length q.received.begun, messages-append q.notices []), has.1)
 
 -- of another opcode nothing is counted
 other-receives : (opened : ℕ) (q : ReceiveQueue) (last : Bool) (opcode w queue msn offset : ℕ) (payload : List ℕ) → is_send opcode ≡ false → eqb opcode OPCODE_READ_REQUEST ≡ false →
@@ -75,9 +76,10 @@ other-receives opened q last opcode w queue msn offset payload no_send no_reques
   where
     by : (b r : Bool) → b ≡ false → r ≡ false → HasReceives opened (record {
       receives = q.receives;
+      receive_length = q.receive_length;
       received = record {
         sends = (cond b (send_continued q.received last payload) (cond r (record q.received { requests = q.received.requests + 1 }) q.received)).sends;
-        begun = kept_send (cond b (send_continued q.received last payload) (cond r (record q.received { requests = q.received.requests + 1 }) q.received)).begun;
+        begun = begun_within q.receive_length (cond b (send_continued q.received last payload) (cond r (record q.received { requests = q.received.requests + 1 }) q.received)).begun;
         requests = (cond b (send_continued q.received last payload) (cond r (record q.received { requests = q.received.requests + 1 }) q.received)).requests;
       };
       free = cond (b && not (is_begun q.received.begun)) (q.free - 1) q.free;
@@ -86,7 +88,7 @@ other-receives opened q last opcode w queue msn offset payload no_send no_reques
     })
     by true r is none = absurd cc
     by false true is none = absurd cc
-    by false false is none = (omega (arith, has.0, kept-begun q.received.begun, messages-append q.notices []), has.1)
+    by false false is none = (omega (arith, has.0, kept-begun q.receive_length q.received.begun, messages-append q.notices []), has.1)
 
 segment-receives : (opened : ℕ) (s : LinkState) (f : Frame) (last : Bool) (opcode w queue msn offset : ℕ) (payload : List ℕ) → f.at ≡ s.place →
     segment_end s f (Untagged last opcode w queue msn offset payload) ≡ None → HasReceives opened s.receive_queue →

@@ -8,7 +8,7 @@ use Rattle.nr_regions.specs.declared.denied.Denied.{Denied}
 use Rattle.nr_regions.specs.RegisteredMemory.{denial, right_for}
 use Rattle.nr_link.specs.declared.end.End.{End}
 use Rattle.nr_link.specs.declared.end.End.TheVariants as ends
-use Rattle.nr_link.specs.Limits.{send_max, open_reads_max}
+use Rattle.nr_link.specs.Limits.{open_reads_max}
 use Rattle.nr_link.specs.Frames.{Frame}
 use Rattle.nr_link.specs.Reasons.{REASON_MSN, REASON_OFFSET, REASON_FORM, REASON_RESPONSE, REASON_REQUESTS, REASON_SHORT, REASON_LONG}
 use Rattle.nr_link.specs.ReceiveState.{begun_bytes, read_request_in}
@@ -57,7 +57,7 @@ later_faults s last opcode w queue msn offset payload =
     ∷ reason_if REASON_FORM (is_malformed opcode last payload)
     ∷ missing_fault (missing_access s.memory (Untagged last opcode w queue msn offset payload))
     ∷ reason_if REASON_REQUESTS (eqb opcode OPCODE_READ_REQUEST && nat_le open_reads_max (length s.send_queue.response_ends))
-    ∷ reason_if REASON_LONG (has_length (nat_lt send_max) (cond (eqb opcode OPCODE_SEND && last) (Some (begun_bytes s.receive_queue.received.begun ++ payload)) None))
+    ∷ reason_if REASON_LONG (has_length (nat_lt s.message_max) (cond (eqb opcode OPCODE_SEND && last) (Some (begun_bytes s.receive_queue.received.begun ++ payload)) None))
     ∷ reason_if REASON_SHORT (has_length (λ n. nat_lt n 16) (cond (eqb opcode OPCODE_SEND && last) (Some (begun_bytes s.receive_queue.received.begun ++ payload)) None))
     ∷ terminate_fault opcode payload
     ∷ []
@@ -106,10 +106,10 @@ unfolding send_end
 send-end s f last w queue msn offset payload at is =
     sym (kind-end s f last OPCODE_SEND w queue msn offset payload at is
     ∙ send-cases f (Untagged last OPCODE_SEND w queue msn offset payload) msn (is_begun s.receive_queue.received.begun || nat_lt 0 s.receive_queue.free)
-    (has_length (nat_lt send_max) (cond (true && last) (Some (begun_bytes s.receive_queue.received.begun ++ payload)) None))
+    (has_length (nat_lt s.message_max) (cond (true && last) (Some (begun_bytes s.receive_queue.received.begun ++ payload)) None))
     (has_length (λ n. nat_lt n 16) (cond (true && last) (Some (begun_bytes s.receive_queue.received.begun ++ payload)) None))
     ∙ (λ i. no_buffer_if msn (not (is_begun s.receive_queue.received.begun || nat_lt 0 s.receive_queue.free))
-    (bad_if (at i) REASON_LONG (length-is (nat_lt send_max) last (begun_bytes s.receive_queue.received.begun) payload i)
+    (bad_if (at i) REASON_LONG (length-is (nat_lt s.message_max) last (begun_bytes s.receive_queue.received.begun) payload i)
     (bad_if (at i) REASON_SHORT (length-is (λ n. nat_lt n 16) last (begun_bytes s.receive_queue.received.begun) payload i) None))))
 
 -- ---- A Read Request

@@ -73,28 +73,28 @@ notices-last_read (m ∷ messages) reads_done none some = absurd (omega (arith, 
 
 -- ---- Its buffers
 
-pub with_read_told : (free : List (List ℕ)) (begun : Option BegunSend) (messages : List ReceivedMessage) (lent receives room message_room : ℕ)
-    → AreReceives free begun messages lent receives room message_room
-    → AreReceives free begun (without_first_read messages) lent receives room message_room
-with_read_told free begun [] lent receives room message_room a = a
-with_read_told free begun (m ∷ messages) lent receives room message_room a = record {
+pub with_read_told : (n : ℕ) (free : List (List ℕ)) (begun : Option BegunSend) (messages : List ReceivedMessage) (lent receives room message_room : ℕ)
+    → AreReceives n free begun messages lent receives room message_room
+    → AreReceives n free begun (without_first_read messages) lent receives room message_room
+with_read_told n free begun [] lent receives room message_room a = a
+with_read_told n free begun (m ∷ messages) lent receives room message_room a = record {
   free_len = a.free_len;
   begun_len = a.begun_len;
-  messages_len = All-cons InBuffer (record { reads_done = m.reads_done - 1; number = m.number; buf = m.buf; len = m.len }) messages (All-head InBuffer m messages a.messages_len) (All-tail InBuffer m messages a.messages_len);
+  messages_len = All-cons (InBuffer n) (record { reads_done = m.reads_done - 1; number = m.number; buf = m.buf; len = m.len }) messages (All-head (InBuffer n) m messages a.messages_len) (All-tail (InBuffer n) m messages a.messages_len);
   total = a.total;
   fits = a.fits;
   messages_fit = a.messages_fit;
 }
 
 -- the receive of the first message is lent
-pub with_message_told : (free : List (List ℕ)) (begun : Option BegunSend) (m : ReceivedMessage) (messages left : List ReceivedMessage) (lent receives room message_room : ℕ)
-    → AreReceives free begun messages lent receives room message_room
+pub with_message_told : (n : ℕ) (free : List (List ℕ)) (begun : Option BegunSend) (m : ReceivedMessage) (messages left : List ReceivedMessage) (lent receives room message_room : ℕ)
+    → AreReceives n free begun messages lent receives room message_room
     → messages ≡ m ∷ left
-    → AreReceives free begun left (lent + 1) receives room message_room
-with_message_told free begun m messages left lent receives room message_room a is = record {
+    → AreReceives n free begun left (lent + 1) receives room message_room
+with_message_told n free begun m messages left lent receives room message_room a is = record {
   free_len = a.free_len;
   begun_len = a.begun_len;
-  messages_len = All-rest InBuffer m left messages is a.messages_len;
+  messages_len = All-rest (InBuffer n) m left messages is a.messages_len;
   total = omega (arith, a.total, ap (λ (list : List ReceivedMessage). length list) is);
   fits = a.fits;
   messages_fit = a.messages_fit;

@@ -3,8 +3,7 @@ use Rattle.std.proofs.Common.{◌≡◌, ℕ, ◌+◌, ◌-◌, ◌<◌, ◌≤�
 use Rattle.std.proofs.lemmas.List.{length-take, length-replicate, take_all, take_at, take-take, take-append-le, drop_all, append-nil}
 use Rattle.std.proofs.Math.Seq.{take-append-add}
 use Rattle.std.proofs.lemmas.Bool.{cases_lt}
-use Rattle.nr_link.specs.Limits.{send_max}
-use Rattle.nr_endpoint.specs.ReceiveQueue.{kept_bytes, kept_send}
+use Rattle.nr_link.specs.KeptSends.{kept_within, begun_within}
 use Rattle.nr_endpoint.specs.Receives.{IsReceive}
 use Rattle.nr_endpoint.specs.Views.{begun_send, begun}
 use Rattle.nr_endpoint.specs.declared.receive_queue.BegunSend.{BegunSend}
@@ -20,71 +19,75 @@ first_kept n m x d h =
 no_zeros : (a : List ℕ) (n : ℕ) → n ≡ 0 → a ++ replicate n 0 ≡ a
 no_zeros a n z = rw z (append-nil a)
 
-pub begun_send_len : (b : BegunSend) → length b.buf ≡ send_max → length (begun_send b) ≡ b.len
-begun_send_len b h =
-    omega (arith, length-append (take b.len b.buf) (replicate (b.len - send_max) 0), length-take b.len b.buf, length-replicate {A = ℕ} (b.len - send_max) 0)
+-- nothing came of a Send that is just begun
+pub nothing_begun : (n : ℕ) (buf : List ℕ) → begun_send n (record { buf = buf; len = 0 }) ≡ []
+nothing_begun n buf = no_zeros [] (0 - n) (omega arith)
+
+pub begun_send_len : (n : ℕ) (b : BegunSend) → length b.buf ≡ n → length (begun_send n b) ≡ b.len
+begun_send_len n b h =
+    omega (arith, length-append (take b.len b.buf) (replicate (b.len - n) 0), length-take b.len b.buf, length-replicate {A = ℕ} (b.len - n) 0)
 
 -- bytes that are written into a buffer: all of them where they fit it, or else its rest
-pub written_all : (buf bytes : List ℕ) (at : ℕ) → length buf ≡ send_max → at < send_max → length bytes ≤ send_max - at →
-    take at buf ++ (bytes ++ drop (at + length bytes) buf) ≡ take send_max (take at buf ++ (bytes ++ drop (at + length bytes) buf))
-written_all buf bytes at h lt fits =
-    sym (take_all send_max (take at buf ++ (bytes ++ drop (at + length bytes) buf))
+pub written_all : (n : ℕ) (buf bytes : List ℕ) (at : ℕ) → length buf ≡ n → at < n → length bytes ≤ n - at →
+    take at buf ++ (bytes ++ drop (at + length bytes) buf) ≡ take n (take at buf ++ (bytes ++ drop (at + length bytes) buf))
+written_all n buf bytes at h lt fits =
+    sym (take_all n (take at buf ++ (bytes ++ drop (at + length bytes) buf))
     (omega (arith, length-append (take at buf) (bytes ++ drop (at + length bytes) buf), length-append bytes (drop (at + length bytes) buf), length-take at buf, length-drop (at + length bytes) buf)))
 
-pub written_part : (buf bytes : List ℕ) (at : ℕ) → length buf ≡ send_max → at < send_max → send_max - at < length bytes →
-    take at buf ++ (take (send_max - at) bytes ++ drop (at + length (take (send_max - at) bytes)) buf) ≡ take send_max (take at buf ++ (bytes ++ drop (at + length bytes) buf))
-written_part buf bytes at h lt past =
-    let none : drop (at + length (take (send_max - at) bytes)) buf ≡ [] = drop_all (at + length (take (send_max - at) bytes)) buf (omega (arith, length-take (send_max - at) bytes)) in
-    let left : take at buf ++ (take (send_max - at) bytes ++ drop (at + length (take (send_max - at) bytes)) buf) ≡ take at buf ++ take (send_max - at) bytes =
-    rw (none, append-nil (take (send_max - at) bytes)) refl in
-    let count : length (take at buf) + (send_max - at) ≡ send_max = omega (arith, length-take at buf) in
-    let right : take send_max (take at buf ++ (bytes ++ drop (at + length bytes) buf)) ≡ take at buf ++ take (send_max - at) (bytes ++ drop (at + length bytes) buf) =
-    subst (λ (m : ℕ). take m (take at buf ++ (bytes ++ drop (at + length bytes) buf)) ≡ take at buf ++ take (send_max - at) (bytes ++ drop (at + length bytes) buf)) count
-    (take-append-add (take at buf) (bytes ++ drop (at + length bytes) buf) (send_max - at)) in
-    let first : take (send_max - at) (bytes ++ drop (at + length bytes) buf) ≡ take (send_max - at) bytes = take-append-le (send_max - at) bytes (drop (at + length bytes) buf) (omega arith) in
+pub written_part : (n : ℕ) (buf bytes : List ℕ) (at : ℕ) → length buf ≡ n → at < n → n - at < length bytes →
+    take at buf ++ (take (n - at) bytes ++ drop (at + length (take (n - at) bytes)) buf) ≡ take n (take at buf ++ (bytes ++ drop (at + length bytes) buf))
+written_part n buf bytes at h lt past =
+    let none : drop (at + length (take (n - at) bytes)) buf ≡ [] = drop_all (at + length (take (n - at) bytes)) buf (omega (arith, length-take (n - at) bytes)) in
+    let left : take at buf ++ (take (n - at) bytes ++ drop (at + length (take (n - at) bytes)) buf) ≡ take at buf ++ take (n - at) bytes =
+    rw (none, append-nil (take (n - at) bytes)) refl in
+    let count : length (take at buf) + (n - at) ≡ n = omega (arith, length-take at buf) in
+    let right : take n (take at buf ++ (bytes ++ drop (at + length bytes) buf)) ≡ take at buf ++ take (n - at) (bytes ++ drop (at + length bytes) buf) =
+    subst (λ (m : ℕ). take m (take at buf ++ (bytes ++ drop (at + length bytes) buf)) ≡ take at buf ++ take (n - at) (bytes ++ drop (at + length bytes) buf)) count
+    (take-append-add (take at buf) (bytes ++ drop (at + length bytes) buf) (n - at)) in
+    let first : take (n - at) (bytes ++ drop (at + length bytes) buf) ≡ take (n - at) bytes = take-append-le (n - at) bytes (drop (at + length bytes) buf) (omega arith) in
     left ∙ sym (right ∙ (λ i. take at buf ++ first i))
 
 -- a payload that begins within the buffer
-pub extended_within : (buf p : List ℕ) (len : ℕ) → length buf ≡ send_max → len < send_max →
-    begun_send (record { buf = take send_max (take len buf ++ (p ++ drop (len + length p) buf)); len = len + length p }) ≡ kept_bytes (begun_send (record { buf = buf; len = len }) ++ p)
-extended_within buf p len h lt =
-    let before : take len buf ++ replicate (len - send_max) 0 ≡ take len buf = no_zeros (take len buf) (len - send_max) (omega arith) in
+pub extended_within : (n : ℕ) (buf p : List ℕ) (len : ℕ) → length buf ≡ n → len < n →
+    begun_send n (record { buf = take n (take len buf ++ (p ++ drop (len + length p) buf)); len = len + length p }) ≡ kept_within n (begun_send n (record { buf = buf; len = len }) ++ p)
+extended_within n buf p len h lt =
+    let before : take len buf ++ replicate (len - n) 0 ≡ take len buf = no_zeros (take len buf) (len - n) (omega arith) in
     let count : length (take len buf ++ p) ≡ len + length p = omega (arith, length-append (take len buf) p, length-take len buf) in
-    let bytes : take (len + length p) (take send_max (take len buf ++ (p ++ drop (len + length p) buf))) ≡ take send_max (take len buf ++ p) =
-    rw (← append_assoc (take len buf) p (drop (len + length p) buf)) (first_kept send_max (len + length p) (take len buf ++ p) (drop (len + length p) buf) count) in
-    (λ i. bytes i ++ replicate (sym count i - send_max) 0) ∙ (λ i. kept_bytes (sym before i ++ p))
+    let bytes : take (len + length p) (take n (take len buf ++ (p ++ drop (len + length p) buf))) ≡ take n (take len buf ++ p) =
+    rw (← append_assoc (take len buf) p (drop (len + length p) buf)) (first_kept n (len + length p) (take len buf ++ p) (drop (len + length p) buf) count) in
+    (λ i. bytes i ++ replicate (sym count i - n) 0) ∙ (λ i. kept_within n (sym before i ++ p))
 
 -- a payload that begins beyond the buffer
-pub extended_past : (buf p : List ℕ) (len : ℕ) → length buf ≡ send_max → send_max ≤ len →
-    begun_send (record { buf = buf; len = len + length p }) ≡ kept_bytes (begun_send (record { buf = buf; len = len }) ++ p)
-extended_past buf p len h le =
+pub extended_past : (n : ℕ) (buf p : List ℕ) (len : ℕ) → length buf ≡ n → n ≤ len →
+    begun_send n (record { buf = buf; len = len + length p }) ≡ kept_within n (begun_send n (record { buf = buf; len = len }) ++ p)
+extended_past n buf p len h le =
     let all : take len buf ≡ buf = take_all len buf (omega arith) in
     let more : take (len + length p) buf ≡ buf = take_all (len + length p) buf (omega arith) in
-    let begun_len : length (take len buf ++ replicate (len - send_max) 0) ≡ len = begun_send_len (record { buf = buf; len = len }) h in
-    let count : length ((take len buf ++ replicate (len - send_max) 0) ++ p) ≡ len + length p =
-    omega (arith, length-append (take len buf ++ replicate (len - send_max) 0) p) in
-    let bytes : take send_max ((take len buf ++ replicate (len - send_max) 0) ++ p) ≡ buf =
-    rw (all, append_assoc buf (replicate (len - send_max) 0) p) (take_at buf (replicate (len - send_max) 0 ++ p) send_max h) in
-    λ i. (more ∙ sym bytes) i ++ replicate (sym count i - send_max) 0
+    let begun_len : length (take len buf ++ replicate (len - n) 0) ≡ len = begun_send_len n (record { buf = buf; len = len }) h in
+    let count : length ((take len buf ++ replicate (len - n) 0) ++ p) ≡ len + length p =
+    omega (arith, length-append (take len buf ++ replicate (len - n) 0) p) in
+    let bytes : take n ((take len buf ++ replicate (len - n) 0) ++ p) ≡ buf =
+    rw (all, append_assoc buf (replicate (len - n) 0) p) (take_at buf (replicate (len - n) 0 ++ p) n h) in
+    λ i. (more ∙ sym bytes) i ++ replicate (sym count i - n) 0
 
-pub kept_short : (x : List ℕ) → length x ≤ send_max → kept_bytes x ≡ x
-kept_short x le = (λ i. take_all send_max x le i ++ replicate (length x - send_max) 0) ∙ no_zeros x (length x - send_max) (omega arith)
+pub kept_short : (n : ℕ) (x : List ℕ) → length x ≤ n → kept_within n x ≡ x
+kept_short n x le = (λ i. take_all n x le i ++ replicate (length x - n) 0) ∙ no_zeros x (length x - n) (omega arith)
 
 -- a message that fits its buffer is the first bytes of it
-pub message_bytes : (b : BegunSend) (x : List ℕ) → begun_send b ≡ kept_bytes x → b.len ≡ length x → length x ≤ send_max → take b.len b.buf ≡ x
-message_bytes b x e count le = sym (no_zeros (take b.len b.buf) (b.len - send_max) (omega arith)) ∙ (e ∙ kept_short x le)
+pub message_bytes : (n : ℕ) (b : BegunSend) (x : List ℕ) → begun_send n b ≡ kept_within n x → b.len ≡ length x → length x ≤ n → take b.len b.buf ≡ x
+message_bytes n b x e count le = sym (no_zeros (take b.len b.buf) (b.len - n) (omega arith)) ∙ (e ∙ kept_short n x le)
 
 -- what is kept of a begun Send is kept by later segments
-pub kept_same : (b : BegunSend) → length b.buf ≡ send_max → kept_bytes (begun_send b) ≡ begun_send b
-kept_same b h =
-    elim (cases_lt b.len send_max) [
-      | inl lt ↦ kept_short (begun_send b) (omega (arith, begun_send_len b h))
+pub kept_same : (n : ℕ) (b : BegunSend) → length b.buf ≡ n → kept_within n (begun_send n b) ≡ begun_send n b
+kept_same n b h =
+    elim (cases_lt b.len n) [
+      | inl lt ↦ kept_short n (begun_send n b) (omega (arith, begun_send_len n b h))
       | inr le ↦ (let all : take b.len b.buf ≡ b.buf = take_all b.len b.buf (omega arith) in
-          let bytes : take send_max (take b.len b.buf ++ replicate (b.len - send_max) 0) ≡ take b.len b.buf =
-          rw all (take_at b.buf (replicate (b.len - send_max) 0) send_max h) in
-          λ i. bytes i ++ replicate (begun_send_len b h i - send_max) 0)
+          let bytes : take n (take b.len b.buf ++ replicate (b.len - n) 0) ≡ take b.len b.buf =
+          rw all (take_at b.buf (replicate (b.len - n) 0) n h) in
+          λ i. bytes i ++ replicate (begun_send_len n b h i - n) 0)
     ]
 
-pub kept_begun : (b : Option BegunSend) → IfSome b (λ b. IsReceive b.buf) → kept_send (begun b) ≡ begun b
-kept_begun None h = refl
-kept_begun (Some b) h = ap Some (kept_same b h)
+pub kept_begun : (n : ℕ) (b : Option BegunSend) → IfSome b (λ b. IsReceive n b.buf) → begun_within n (begun n b) ≡ begun n b
+kept_begun n None h = refl
+kept_begun n (Some b) h = ap Some (kept_same n b h)

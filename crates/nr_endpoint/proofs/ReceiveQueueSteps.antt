@@ -3,29 +3,30 @@ use Rattle.std.proofs.Common.{◌≡◌, ℕ, ◌+◌, ◌-◌, Bool, true, not,
 use Rattle.std.proofs.lemmas.List.{append-nil}
 use Rattle.nr_wire.specs.Segment.Segment.{Untagged}
 use Rattle.nr_wire.specs.Constants.{OPCODE_SEND, OPCODE_READ_REQUEST}
+use Rattle.nr_link.specs.KeptSends.{begun_within}
 use Rattle.nr_link.specs.ReceiveState.{begun_bytes}
 use Rattle.nr_link.specs.SegmentFaults.{is_begun}
-use Rattle.nr_endpoint.specs.ReceiveQueue.{Notice, ReceiveQueue, kept_send, with_segment, with_read_done, told, lent_for}
+use Rattle.nr_endpoint.specs.ReceiveQueue.{Notice, ReceiveQueue, with_segment, with_read_done, told, lent_for}
 use Rattle.nr_endpoint.specs.ReceiveQueue.Notice.{MessageReceived, ReadDone}
 
-pub with_request : (last : Bool) (w queue msn offset : ℕ) (payload : List ℕ) (q : ReceiveQueue) → kept_send q.received.begun ≡ q.received.begun →
-    record { receives = q.receives; received = record { sends = q.received.sends; begun = q.received.begun; requests = q.received.requests + 1 }; free = q.free; lent = q.lent; notices = q.notices }
+pub with_request : (last : Bool) (w queue msn offset : ℕ) (payload : List ℕ) (q : ReceiveQueue) → begun_within q.receive_length q.received.begun ≡ q.received.begun →
+    record { receives = q.receives; receive_length = q.receive_length; received = record { sends = q.received.sends; begun = q.received.begun; requests = q.received.requests + 1 }; free = q.free; lent = q.lent; notices = q.notices }
     ≡ with_segment (Untagged last OPCODE_READ_REQUEST w queue msn offset payload) q
 unfolding with_segment
 with_request last w queue msn offset payload q e =
-    λ i. record { receives = q.receives; received = record { sends = q.received.sends; begun = sym e i; requests = q.received.requests + 1 }; free = q.free; lent = q.lent; notices = sym (append-nil q.notices) i }
+    λ i. record { receives = q.receives; receive_length = q.receive_length; received = record { sends = q.received.sends; begun = sym e i; requests = q.received.requests + 1 }; free = q.free; lent = q.lent; notices = sym (append-nil q.notices) i }
 
 pub with_last : (q : ReceiveQueue) (payload message : List ℕ) (free : ℕ) → message ≡ begun_bytes q.received.begun ++ payload
     → free ≡ (if not (is_begun q.received.begun) then q.free - 1 else q.free)
-    → record { receives = q.receives; received = record { sends = q.received.sends + 1; begun = None; requests = q.received.requests }; free = free; lent = q.lent; notices = q.notices ++ MessageReceived (q.received.sends + 1) None message ∷ [] }
+    → record { receives = q.receives; receive_length = q.receive_length; received = record { sends = q.received.sends + 1; begun = None; requests = q.received.requests }; free = free; lent = q.lent; notices = q.notices ++ MessageReceived (q.received.sends + 1) None message ∷ [] }
     ≡ with_segment (Untagged true OPCODE_SEND 0 0 0 0 payload) q
 unfolding with_segment
 with_last q payload message free m f =
-    λ i. record { receives = q.receives; received = record { sends = q.received.sends + 1; begun = None; requests = q.received.requests }; free = f i; lent = q.lent; notices = q.notices ++ MessageReceived (q.received.sends + 1) None (m i) ∷ [] }
+    λ i. record { receives = q.receives; receive_length = q.receive_length; received = record { sends = q.received.sends + 1; begun = None; requests = q.received.requests }; free = f i; lent = q.lent; notices = q.notices ++ MessageReceived (q.received.sends + 1) None (m i) ∷ [] }
 
 -- with these notices
 abbrev notices_as : List Notice → ReceiveQueue → ReceiveQueue
-notices_as list q = record { receives = q.receives; received = q.received; free = q.free; lent = q.lent; notices = list }
+notices_as list q = record { receives = q.receives; receive_length = q.receive_length; received = q.received; free = q.free; lent = q.lent; notices = list }
 
 pub read_counted : (q : ReceiveQueue) (more : List Notice) → more ≡ q.notices ++ ReadDone ∷ [] → notices_as more q ≡ with_read_done q
 read_counted q more is = λ i. notices_as (is i) q
@@ -35,4 +36,4 @@ read_told q left is =
     let none : lent_for q.notices ≡ 0 = ap lent_for is in
     let lent : q.lent ≡ q.lent + lent_for q.notices = omega (arith, none) in
     let rest : left ≡ drop 1 q.notices = ap (drop 1) (sym is) in
-    λ i. record { receives = q.receives; received = q.received; free = q.free; lent = lent i; notices = rest i }
+    λ i. record { receives = q.receives; receive_length = q.receive_length; received = q.received; free = q.free; lent = lent i; notices = rest i }

@@ -106,8 +106,9 @@ received_code =
 
 abbrev pub receive_queue_code : Coded ReceiveQueue
 receive_queue_code =
-    code_by (ℕ × (ReceiveState × (ℕ × (ℕ × List Notice)))) (coded× coded_ℕ (coded× received_code (coded× coded_ℕ (coded× coded_ℕ (coded_list notice_code))))) (λ q. (q.receives, (q.received, (q.free, (q.lent, q.notices)))))
-    (λ p. record { receives = p.0; received = p.1.0; free = p.1.1.0; lent = p.1.1.1.0; notices = p.1.1.1.1 }) (λ _. refl)
+    code_by (ℕ × (ReceiveState × (ℕ × (ℕ × (List Notice × ℕ))))) (coded× coded_ℕ (coded× received_code (coded× coded_ℕ (coded× coded_ℕ (coded× (coded_list notice_code) coded_ℕ)))))
+    (λ q. (q.receives, (q.received, (q.free, (q.lent, (q.notices, q.receive_length))))))
+    (λ p. record { receives = p.0; received = p.1.0; free = p.1.1.0; lent = p.1.1.1.0; notices = p.1.1.1.1.0; receive_length = p.1.1.1.1.1 }) (λ _. refl)
 
 abbrev pub send_queue_code : Coded SendQueue
 send_queue_code =
@@ -120,10 +121,10 @@ read_code = code_by (ℕ × (ℕ × ℕ)) (coded× coded_ℕ (coded× coded_ℕ 
 
 abbrev pub state_code : Coded LinkState
 state_code =
-    code_by (Side × (Bool × (ℕ × (ℕ × (Option End × (ReceiveQueue × (List ExpectedResponse × (RegisteredMemory × SendQueue))))))))
-    (coded× side_code (coded× coded_bool (coded× coded_ℕ (coded× coded_ℕ (coded× (coded_option end_code) (coded× receive_queue_code (coded× (coded_list read_code) (coded× memory_code send_queue_code))))))))
-    (λ s. (s.side, (s.has_hello, (s.last, (s.place, (s.ended, (s.receive_queue, (s.reads, (s.memory, s.send_queue)))))))))
-    (λ p. record { side = p.0; has_hello = p.1.0; last = p.1.1.0; place = p.1.1.1.0; ended = p.1.1.1.1.0; receive_queue = p.1.1.1.1.1.0; reads = p.1.1.1.1.1.1.0; memory = p.1.1.1.1.1.1.1.0; send_queue = p.1.1.1.1.1.1.1.1 }) (λ _. refl)
+    code_by (Side × (Bool × (ℕ × (ℕ × (Option End × (ReceiveQueue × (List ExpectedResponse × (RegisteredMemory × (SendQueue × ℕ)))))))))
+    (coded× side_code (coded× coded_bool (coded× coded_ℕ (coded× coded_ℕ (coded× (coded_option end_code) (coded× receive_queue_code (coded× (coded_list read_code) (coded× memory_code (coded× send_queue_code coded_ℕ)))))))))
+    (λ s. (s.side, (s.has_hello, (s.last, (s.place, (s.ended, (s.receive_queue, (s.reads, (s.memory, (s.send_queue, s.message_max))))))))))
+    (λ p. record { side = p.0; has_hello = p.1.0; last = p.1.1.0; place = p.1.1.1.0; ended = p.1.1.1.1.0; receive_queue = p.1.1.1.1.1.0; reads = p.1.1.1.1.1.1.0; memory = p.1.1.1.1.1.1.1.0; send_queue = p.1.1.1.1.1.1.1.1.0; message_max = p.1.1.1.1.1.1.1.1.1 }) (λ _. refl)
 
 abbrev pub link_code : Coded Link
 link_code =

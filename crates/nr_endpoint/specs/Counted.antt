@@ -1,10 +1,13 @@
 -- The counts of untagged messages are no greater than the number of bytes that they came in, and no more waits to be told than bytes
--- came. Once the peer's hello was accepted, some bytes came.
+-- came. Once the peer's hello was accepted, some bytes came. Each receive has send_max bytes, and a message of the peer fits it.
 use Rattle.std.specs.Prelude.{◌≡◌, ℕ, ◌+◌, ◌<◌, ◌≤◌, Bool, true, length}
+use Rattle.nr_link.specs.Limits.{send_max}
 use Rattle.nr_link.specs.ReceiveState.{begun_bytes}
 use Rattle.nr_endpoint.specs.ReceiveQueue.{ReceiveQueue}
 
-pub record IsCounted (has_hello : Bool) (q : ReceiveQueue) (place : ℕ) : Type 0 where
+pub record IsCounted (has_hello : Bool) (q : ReceiveQueue) (place message_max : ℕ) : Type 0 where
   pub bytes : q.received.sends + (q.received.requests + length (begun_bytes q.received.begun)) ≤ place
   pub waiting : length q.notices ≤ place
   pub greeted : has_hello ≡ true → 0 < place
+  pub receive : q.receive_length ≡ send_max
+  pub fits : message_max ≤ q.receive_length

@@ -4,7 +4,6 @@ use Rattle.std.specs.Prelude.{◌≡◌, ℕ, ◌+◌, ◌*◌, min, max, List, 
 use Rattle.nr_wire.specs.declared.stream.Awaited.{Awaited}
 use Rattle.nr_wire.specs.Stream.{frame_len}
 use Rattle.nr_regions.specs.RegisteredMemory.{bytes_held}
-use Rattle.nr_link.specs.Limits.{send_max}
 use Rattle.nr_endpoint.specs.ReceiveQueue.{receives_kept}
 use Rattle.nr_endpoint.specs.LinkState.{LinkState, Link}
 
@@ -34,7 +33,7 @@ pub record KeepsStaging (before after : EndpointState) (piece : List ℕ) : Type
 -- How many bytes the vectors of a side have: its receives that are not lent, its regions, its output; and with the staging buffer.
 abbrev pub bytes_of : LinkState → ℕ
 bytes_of s =
-    send_max * receives_kept s.receive_queue + bytes_held s.memory + (length s.send_queue.hello + length s.send_queue.fpdus)
+    s.receive_queue.receive_length * receives_kept s.receive_queue + bytes_held s.memory + (length s.send_queue.hello + length s.send_queue.fpdus)
 
 abbrev pub bytes_kept : EndpointState → ℕ
 bytes_kept e = length e.staging + bytes_of e.link.state

@@ -21,7 +21,7 @@ use Rattle.nr_link.specs.SegmentFaults.{ExpectedResponse, Readiness, segment_fau
 use Rattle.nr_link.specs.Ending.{access_of, end_of_fault}
 use Rattle.nr_endpoint.specs.SendQueue.{SendQueue, with_hello, with_response, with_end}
 use Rattle.nr_endpoint.specs.ReceiveQueue.{with_segment, with_read_done}
-use Rattle.nr_endpoint.specs.LinkState.{LinkState, message_max}
+use Rattle.nr_endpoint.specs.LinkState.{LinkState}
 
 -- ---- What ends the side
 
@@ -38,7 +38,7 @@ abbrev pub readiness : LinkState → Option Denied → Readiness Denied
 readiness s missing = record {
   received = s.receive_queue.received;
   has_receive = nat_lt 0 s.receive_queue.free;
-  message_max = message_max s;
+  message_max = s.message_max;
   missing = missing;
   expected = expected_response s.reads;
   responses = length s.send_queue.response_ends;

@@ -13,7 +13,8 @@ use Rattle.nr_endpoint.specs.ReceiveQueue.{ReceiveQueue, initial_receives}
 
 -- Which side it is. Whether the peer's hello was accepted. The place of the last whole frame of the peer's stream, and the place
 -- behind it, in bytes. Why the side ended, once it has. What came, and what has to be written. The Read Requests that are open,
--- the oldest first, each with the place in its own region where its response goes on, and how many bytes are left. The regions.
+-- the oldest first, each with the place in its own region where its response goes on, and how many bytes are left. The regions. The bytes
+-- that a message of the peer has at most.
 pub record LinkState : Type 0 where
   pub side : Side
   pub has_hello : Bool
@@ -24,20 +25,18 @@ pub record LinkState : Type 0 where
   pub reads : List ExpectedResponse
   pub memory : RegisteredMemory
   pub send_queue : SendQueue
+  pub message_max : ℕ
 
 abbrev pub has_ended : LinkState → Bool
 has_ended s = is_some s.ended
-
--- the length that a message of the peer has at most: what the sides agreed on at opening
-abbrev pub message_max : LinkState → ℕ
-message_max s = send_max
 
 -- the other side of the link
 abbrev pub peer : Side → Side
 peer Initiator = Responder
 peer Responder = Initiator
 
--- What a side was opened with: so many receives, and the STag that its first region gets.
+-- What a side was opened with: so many receives, and the STag that its first region gets. Each receive has the length that a message has at
+-- most.
 abbrev pub initial_state : Side → ℕ → ℕ → LinkState
 initial_state side receives first_stag = record {
   side = side;
@@ -45,10 +44,11 @@ initial_state side receives first_stag = record {
   last = 0;
   place = 0;
   ended = None;
-  receive_queue = initial_receives receives;
+  receive_queue = initial_receives receives send_max;
   reads = [];
   memory = initial_memory first_stag;
   send_queue = initial_queue side;
+  message_max = send_max;
 }
 
 -- a side between two pieces of the peer's stream: the kind of the frame that comes next, and the bytes of it so far

@@ -2,9 +2,8 @@
 use Rattle.std.specs.Prelude.{ℕ, ◌+◌, ◌-◌, Bool, not, false, ◌&&◌, if◌then◌else◌, List, [], ◌∷◌, ◌++◌, drop, Option, None, Some}
 use Rattle.nr_wire.specs.Segment.{Segment}
 use Rattle.nr_wire.specs.Segment.Segment.{Tagged, Untagged}
-use Rattle.nr_link.specs.Limits.{send_max}
 use Rattle.nr_link.specs.ReceiveState.{ReceiveState, nothing_received, is_send, received_after, message_completed}
-use Rattle.nr_link.specs.KeptSends.{kept_within, begun_within, received_within}
+use Rattle.nr_link.specs.KeptSends.{received_within}
 use Rattle.nr_link.specs.SegmentFaults.{is_begun}
 
 -- What the owner is told: the Send with a number, from 1 on, came whole, with the STag that it invalidates, if any (no Send that is
@@ -13,29 +12,26 @@ pub data Notice : Type 0 where
   MessageReceived : (number : ℕ) → (invalidated : Option ℕ) → (bytes : List ℕ) → Notice
   ReadDone : Notice
 
--- How many receives the side was opened with. The untagged messages so far. How many receives are free. How many messages were taken
--- whose receive wasn't posted again. What the owner wasn't told yet, in order.
+-- How many receives the side was opened with, and the length of each in bytes. The untagged messages so far. How many receives are free.
+-- How many messages were taken whose receive wasn't posted again. What the owner wasn't told yet, in order. Of a Send that is longer than its
+-- receive the bytes beyond it are counted and not kept.
 pub record ReceiveQueue : Type 0 where
   pub receives : ℕ
+  pub receive_length : ℕ
   pub received : ReceiveState
   pub free : ℕ
   pub lent : ℕ
   pub notices : List Notice
 
-abbrev pub initial_receives : ℕ → ReceiveQueue
-initial_receives receives = record { receives = receives; received = nothing_received; free = receives; lent = 0; notices = [] }
-
--- the length of each receive, fixed when the side is opened
-abbrev pub receive_length : ReceiveQueue → ℕ
-receive_length q = send_max
-
--- Of a Send that is longer than its receive the bytes beyond it are counted and not kept: they stand here as zeros. No reason sees the
--- difference.
-abbrev pub kept_bytes : List ℕ → List ℕ
-kept_bytes bytes = kept_within send_max bytes
-
-abbrev pub kept_send : Option (List ℕ) → Option (List ℕ)
-kept_send begun = begun_within send_max begun
+abbrev pub initial_receives : (receives receive_length : ℕ) → ReceiveQueue
+initial_receives receives receive_length = record {
+  receives = receives;
+  receive_length = receive_length;
+  received = nothing_received;
+  free = receives;
+  lent = 0;
+  notices = [];
+}
 
 -- the first segment of a Send takes a receive
 abbrev pub takes_receive : ReceiveState → Segment → Bool
@@ -50,7 +46,8 @@ message_notices number (Some message) = MessageReceived number None message ∷ 
 unfoldable pub with_segment : Segment → ReceiveQueue → ReceiveQueue
 with_segment segment q = record {
   receives = q.receives;
-  received = received_within (receive_length q) (received_after q.received segment);
+  receive_length = q.receive_length;
+  received = received_within q.receive_length (received_after q.received segment);
   free = if takes_receive q.received segment then q.free - 1 else q.free;
   lent = q.lent;
   notices = q.notices ++ message_notices (q.received.sends + 1) (message_completed q.received segment);

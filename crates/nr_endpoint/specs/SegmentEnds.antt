@@ -5,7 +5,7 @@ use Rattle.nr_regions.specs.declared.denied.Denied.{Denied}
 use Rattle.nr_regions.specs.RegisteredMemory.{denial, right_for}
 use Rattle.nr_link.specs.declared.end.End.{End}
 use Rattle.nr_link.specs.declared.end.End.TheVariants as ends
-use Rattle.nr_link.specs.Limits.{send_max, open_reads_max}
+use Rattle.nr_link.specs.Limits.{open_reads_max}
 use Rattle.nr_link.specs.Reasons.{REASON_MSN, REASON_OFFSET, REASON_FORM, REASON_RESPONSE, REASON_REQUESTS, REASON_SHORT, REASON_LONG}
 use Rattle.nr_link.specs.ReceiveState.{begun_bytes, read_request_in}
 use Rattle.nr_link.specs.SegmentFaults.{next_msn, next_offset, is_begun, is_malformed, is_expected}
@@ -47,7 +47,7 @@ send_len s payload = length (begun_bytes s.receive_queue.received.begun) + lengt
 unfoldable pub send_end : LinkState → Bool → ℕ → List ℕ → Option End
 send_end s last msn payload =
     no_buffer_if msn (not (is_begun s.receive_queue.received.begun || nat_lt 0 s.receive_queue.free))
-    (bad_if s.place REASON_LONG (last && nat_lt send_max (send_len s payload))
+    (bad_if s.place REASON_LONG (last && nat_lt s.message_max (send_len s payload))
     (bad_if s.place REASON_SHORT (last && nat_lt (send_len s payload) 16) None))
 
 unfoldable pub request_end : LinkState → Bool → List ℕ → Option End
@@ -69,5 +69,5 @@ pub record RequestIsFine (s : LinkState) (payload : List ℕ) : Type 0 where
 
 pub record SendIsFine (s : LinkState) (last : Bool) (payload : List ℕ) : Type 0 where
   pub receive : is_begun s.receive_queue.received.begun ≡ false → 0 < s.receive_queue.free
-  pub fits : last ≡ true → send_len s payload ≤ send_max
+  pub fits : last ≡ true → send_len s payload ≤ s.message_max
   pub enough : last ≡ true → 16 ≤ send_len s payload

@@ -1,6 +1,5 @@
 -- The values of the code as the definitions see them.
 use Rattle.std.specs.Prelude.{ℕ, ◌-◌, List, [], ◌∷◌, ◌++◌, take, replicate, Option, None, Some}
-use Rattle.nr_link.specs.Limits.{send_max}
 use Rattle.nr_link.specs.ReceiveState.{ReadRequest as PlainReadRequest}
 use Rattle.nr_endpoint.specs.declared.faults.ReadRequest.{ReadRequest}
 use Rattle.nr_link.specs.SegmentFaults.{ExpectedResponse}
@@ -34,13 +33,13 @@ without_first_read (m ∷ messages) = record { reads_done = m.reads_done - 1; nu
 abbrev pub expected : OpenRead → ExpectedResponse
 expected r = record { sink = r.sink; at = r.at; left = r.end - r.at }
 
--- the bytes of a begun Send so far: those beyond its receive are counted, and stand as zeros
-abbrev pub begun_send : BegunSend → List ℕ
-begun_send b = take b.len b.buf ++ replicate (b.len - send_max) 0
+-- the bytes so far of a begun Send whose receive has n bytes: those beyond it are counted, and stand as zeros
+abbrev pub begun_send : ℕ → BegunSend → List ℕ
+begun_send n b = take b.len b.buf ++ replicate (b.len - n) 0
 
-abbrev pub begun : Option BegunSend → Option (List ℕ)
-begun None = None
-begun (Some b) = Some (begun_send b)
+abbrev pub begun : ℕ → Option BegunSend → Option (List ℕ)
+begun n None = None
+begun n (Some b) = Some (begun_send n b)
 
 -- the fields of a Read Request
 abbrev pub read_request_view : ReadRequest → PlainReadRequest

@@ -34,7 +34,7 @@ impl Endpoint {
         ensures event { self.old.link.state.receive_queue.notices ≡ option_to_list (option_map notice result) ++ self.new.link.state.receive_queue.notices }
         ensures waits { is_some result ≡ nat_lt 0 (length self.old.link.state.receive_queue.notices) }
         ensures place { is_some result ≡ true → 0 < self.new.link.state.place }
-        ensures buffer { IfSome result HasBuffer }
+        ensures buffer { IfSome result (HasBuffer send_max) }
         ensures state { self.new.link ≡ (if is_some result then after_call self.old.link NextEvent else self.old.link) }
         ensures stands { is_some result ≡ true → StandsOn self.old.link NextEvent self.new.link }
         ensures room { self.new.room ≡ self.old.room }

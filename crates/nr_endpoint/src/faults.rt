@@ -12,7 +12,7 @@ ghost use Rattle.nr_link.specs.Ending.{kind_of};
 ghost use Rattle.nr_endpoint.specs.Judging.{segment_end};
 ghost use Rattle.nr_endpoint.specs.Views.{read_request_view};
 
-use crate::constants::{OPEN_READS_MAX, READ_REQUEST_LEN, SEND_MAX, SEND_MIN, TERMINATE_MIN};
+use crate::constants::{OPEN_READS_MAX, READ_REQUEST_LEN, SEND_MIN, TERMINATE_MIN};
 use crate::link::Link;
 use crate::reads::is_expected;
 use nr_link::End;
@@ -202,7 +202,7 @@ impl Link {
             return Some(End::NoBuffer { msn });
         }
         let len = self.receive_queue.begun_len() + payload.len() as u64;
-        if last && len > SEND_MAX as u64 {
+        if last && len > self.message_max {
             return self.bad(REASON_LONG);
         }
         if last && len < SEND_MIN {

@@ -11,6 +11,7 @@ ghost use Rattle.nr_endpoint.specs.LinkState.{initial_state};
 ghost use Rattle.nr_endpoint.specs.SendQueue.{output_len};
 ghost use Rattle.nr_endpoint.specs.Judging.{segment_end, with_end_of, with_segment_by, with_fpdu, with_peer_hello, with_frame, next_frame};
 
+use crate::constants::SEND_MAX;
 use crate::frames::{hello_refusal, segment_in_frame};
 use crate::reads::Reads;
 use crate::receive_queue::ReceiveQueue;
@@ -34,6 +35,7 @@ pub struct Link {
     pub(crate) reads: Reads,
     pub(crate) regions: Regions,
     pub(crate) send_queue: SendQueue,
+    pub(crate) message_max: u64,
 }
 
 impl Model for Link {
@@ -48,9 +50,9 @@ impl Model for Link {
     ghost use Rattle.nr_endpoint.specs.Views.{expected};
     ghost use Rattle.nr_endpoint.specs.Counted.{IsCounted};
 
-    ghost view = { λ l. record { state = record { side = l.side; has_hello = l.has_hello; last = l.last; place = l.place; ended = l.ended; receive_queue = l.receive_queue; reads = map expected l.reads.items; memory = l.regions.memory; send_queue = l.send_queue }; room = l.regions.room } };
+    ghost view = { λ l. record { state = record { side = l.side; has_hello = l.has_hello; last = l.last; place = l.place; ended = l.ended; receive_queue = l.receive_queue; reads = map expected l.reads.items; memory = l.regions.memory; send_queue = l.send_queue; message_max = l.message_max }; room = l.regions.room } };
 
-    ghost invariant = { λ l. IsCounted l.has_hello l.receive_queue l.place };
+    ghost invariant = { λ l. IsCounted l.has_hello l.receive_queue l.place l.message_max };
 }
 
 impl Link {
@@ -60,7 +62,7 @@ impl Link {
         ensures { IfOk result (λ l. l.state ≡ initial_state side receives first_stag) }
     {
         let send_queue = SendQueue::new(alloc, side)?;
-        let receive_queue = ReceiveQueue::new(alloc, receives)?;
+        let receive_queue = ReceiveQueue::new(alloc, receives, SEND_MAX)?;
         Ok(Link {
             side,
             has_hello: false,
@@ -71,6 +73,7 @@ impl Link {
             reads: Reads::new(),
             regions: Regions::new(alloc, first_stag),
             send_queue,
+            message_max: SEND_MAX as u64,
         })
     }
 

@@ -15,7 +15,7 @@ ghost use Rattle.nr_endpoint.specs.Calls.{unless_ended};
 ghost use Rattle.nr_endpoint.specs.Receives.{HasBuffer};
 ghost use Rattle.nr_endpoint.specs.Views.{notice};
 
-use crate::constants::{OPEN_READS_MAX, SEND_MAX};
+use crate::constants::OPEN_READS_MAX;
 use crate::event::Event;
 use crate::fault::ReadRefused;
 use crate::link::Link;
@@ -56,7 +56,7 @@ impl Link {
     pub fn next_event(&mut self) -> Option<Event>
         ensures event { self.old.state.receive_queue.notices ≡ option_to_list (option_map notice result) ++ self.new.state.receive_queue.notices }
         ensures waits { is_some result ≡ nat_lt 0 (length self.old.state.receive_queue.notices) }
-        ensures buffer { IfSome result HasBuffer }
+        ensures buffer { IfSome result (HasBuffer send_max) }
         ensures after { self.new.state ≡ (if is_some result then record self.old.state { receive_queue = told self.old.state.receive_queue } else self.old.state) }
         ensures room { self.new.room ≡ self.old.room }
     {
@@ -183,6 +183,16 @@ impl Link {
         self.regions.release(registration)
     }
 
+    /// How many bytes the receives have that are not lent.
+    fn receives_held(&self) -> u128
+        ensures is { result ≡ self.now.state.receive_queue.receive_length * receives_kept self.now.state.receive_queue }
+        ensures bound { result ≤ send_max * self.now.state.receive_queue.receives }
+        ensures most { result ≤ 2 ^ 126 }
+    {
+        let receive_length = self.receive_queue.receive_length() as u128;
+        receive_length * self.receive_queue.buffers() as u128
+    }
+
     /// How many bytes the vectors of a side have.
     pub fn held(&self) -> u128
         ensures is { result ≡ bytes_of self.now.state }
@@ -190,7 +200,6 @@ impl Link {
             + length self.now.state.send_queue.hello + length self.now.state.send_queue.fpdus }
         ensures most { result ≤ 2 ^ 127 }
     {
-        let receives = self.receive_queue.buffers() as u128 * SEND_MAX as u128;
-        receives + self.regions.bytes_held() + self.send_queue.len() as u128
+        self.receives_held() + self.regions.bytes_held() + self.send_queue.len() as u128
     }
 }

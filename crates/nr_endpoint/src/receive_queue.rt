@@ -4,14 +4,13 @@ ghost use Rattle.std.specs.Prelude.{◌≡◌, ℕ, ◌+◌, ◌-◌, ◌*◌, �
 ghost use Rattle.std.specs.VecDeque.{deque_len, deque_capacity};
 ghost use Rattle.nr_wire.specs.Segment.Segment.{Untagged};
 ghost use Rattle.nr_wire.specs.Constants.{OPCODE_SEND, OPCODE_READ_REQUEST};
-ghost use Rattle.nr_link.specs.Limits.{send_max};
+ghost use Rattle.nr_link.specs.KeptSends.{kept_within};
 ghost use Rattle.nr_link.specs.ReceiveState.{begun_bytes};
 ghost use Rattle.nr_link.specs.SegmentFaults.{is_begun};
-ghost use Rattle.nr_endpoint.specs.ReceiveQueue.{initial_receives, kept_bytes, with_segment, with_read_done, told, posted, receives_kept};
+ghost use Rattle.nr_endpoint.specs.ReceiveQueue.{initial_receives, with_segment, with_read_done, told, posted, receives_kept};
 ghost use Rattle.nr_endpoint.specs.Views.{notice, reads_first, without_first_read, begun_send, begun as begun_bytes_of};
 ghost use Rattle.nr_endpoint.specs.Receives.{IsReceive, HasBuffer};
 
-use crate::constants::SEND_MAX;
 use crate::event::Event;
 use nr_xdr::{Memory, Octets};
 use std::alloc::Global;
@@ -35,9 +34,9 @@ pub struct ReceivedMessage {
     pub len: usize,
 }
 
-/// The receives, and what came in untagged messages. Of the `receives`, `lent` are with the owner. What the owner wasn't told takes no
-/// memory: there is room for a message of each receive, and the Read Requests that are done are counted, `reads_done` of them behind the
-/// last message.
+/// The receives, each of `receive_length` bytes, and what came in untagged messages. Of the `receives`, `lent` are with the owner. What the
+/// owner wasn't told takes no memory: there is room for a message of each receive, and the Read Requests that are done are counted,
+/// `reads_done` of them behind the last message.
 #[derive(Drop)]
 pub struct ReceiveQueue {
     sends: u64,
@@ -46,6 +45,7 @@ pub struct ReceiveQueue {
     free: Vec<Octets>,
     lent: usize,
     receives: usize,
+    receive_length: usize,
     messages: VecDeque<ReceivedMessage>,
     reads_done: u64,
 }
@@ -63,77 +63,96 @@ impl Model for ReceiveQueue {
     ghost use Rattle.nr_endpoint.specs.Views.{begun as begun_bytes_of, notices};
     ghost use Rattle.nr_endpoint.specs.Receives.{AreReceives};
 
-    ghost view = { λ q. record { receives = q.receives; received = record { sends = q.sends; begun = begun_bytes_of q.begun; requests = q.requests }; free = length q.free.items; lent = q.lent; notices = notices q.messages.items q.reads_done } };
+    ghost view = { λ q. record { receives = q.receives; receive_length = q.receive_length; received = record { sends = q.sends; begun = begun_bytes_of q.receive_length q.begun; requests = q.requests }; free = length q.free.items; lent = q.lent; notices = notices q.messages.items q.reads_done } };
 
-    ghost invariant = { λ q. AreReceives q.free.items q.begun q.messages.items q.lent q.receives (vec_capacity q.free) (deque_capacity q.messages) };
+    ghost invariant = { λ q. AreReceives q.receive_length q.free.items q.begun q.messages.items q.lent q.receives (vec_capacity q.free) (deque_capacity q.messages) };
 }
 
-/// A receive buffer, of zeros.
-fn receive_buffer(alloc: Global) -> Result<Octets, Memory>
-    ensures { IfOk result (λ buf. length buf ≡ send_max) }
+/// A receive buffer of so many zeros.
+fn receive_buffer(alloc: Global, receive_length: usize) -> Result<Octets, Memory>
+    ensures { IfOk result (λ buf. length buf ≡ receive_length) }
 {
-    Ok(Octets::from_vec(vec![in alloc; 0u8; SEND_MAX]?))
+    Ok(Octets::from_vec(vec![in alloc; 0u8; receive_length]?))
 }
 
-/// Puts so many receive buffers into a vector with room for them.
-fn fill(free: &mut Vec<Octets>, alloc: Global, receives: usize) -> Result<(), Memory>
+/// Puts so many receive buffers of this length into a vector with room for them.
+fn fill(
+    free: &mut Vec<Octets>,
+    alloc: Global,
+    receives: usize,
+    receive_length: usize,
+) -> Result<(), Memory>
     requires room { vec_len free.old + receives ≤ vec_capacity free.old }
     ensures count { OnOk result (length free.new.items ≡ length free.old.items + receives) }
-    ensures each { All IsReceive free.old.items → All IsReceive free.new.items }
+    ensures each { All (IsReceive receive_length) free.old.items → All (IsReceive receive_length) free.new.items }
     ensures capacity { vec_capacity free.new ≡ vec_capacity free.old }
 {
     for _ in 0..receives {
-        free.push_reserved(receive_buffer(alloc)?);
+        free.push_reserved(receive_buffer(alloc, receive_length)?);
     }
     Ok(())
 }
 
-/// Takes the receive of the begun Send, or else a free one.
-fn take_receive(begun: &mut Option<BegunSend>, free: &mut Vec<Octets>) -> BegunSend
-    requires receive { is_begun (begun_bytes_of begun.old) ≡ false → 0 < length free.old.items }
-    requires begun_buf { IfSome begun.old (λ b. IsReceive b.buf) }
-    requires free_bufs { All IsReceive free.old.items }
-    ensures bytes { begun_send result ≡ begun_bytes (begun_bytes_of begun.old) }
-    ensures len { result.len ≡ length (begun_bytes (begun_bytes_of begun.old)) }
-    ensures buf { IsReceive result.buf }
+/// A Send that is begun in a free receive of this length.
+fn begin_send(buf: Octets, receive_length: usize) -> BegunSend
+    ensures bytes { begun_send receive_length result ≡ [] }
+    ensures buf { result.buf ≡ buf }
+    ensures len { result.len ≡ 0 }
+{
+    let _ = receive_length;
+    BegunSend { buf, len: 0 }
+}
+
+/// Takes the receive of the begun Send, or else a free one. Each has this length.
+fn take_receive(
+    begun: &mut Option<BegunSend>,
+    free: &mut Vec<Octets>,
+    receive_length: usize,
+) -> BegunSend
+    requires receive { is_begun (begun_bytes_of receive_length begun.old) ≡ false → 0 < length free.old.items }
+    requires begun_buf { IfSome begun.old (λ b. IsReceive receive_length b.buf) }
+    requires free_bufs { All (IsReceive receive_length) free.old.items }
+    ensures bytes { begun_send receive_length result ≡ begun_bytes (begun_bytes_of receive_length begun.old) }
+    ensures len { result.len ≡ length (begun_bytes (begun_bytes_of receive_length begun.old)) }
+    ensures buf { IsReceive receive_length result.buf }
     ensures taken { begun.new ≡ None }
-    ensures free { length free.new.items ≡ (if not (is_begun (begun_bytes_of begun.old)) then length free.old.items - 1 else length free.old.items) }
-    ensures bufs { All IsReceive free.new.items }
+    ensures free { length free.new.items ≡ (if not (is_begun (begun_bytes_of receive_length begun.old)) then length free.old.items - 1 else length free.old.items) }
+    ensures bufs { All (IsReceive receive_length) free.new.items }
     ensures capacity { vec_capacity free.new ≡ vec_capacity free.old }
 {
     match begun.take() {
         Some(begun) => begun,
         None => match free.pop() {
-            Some(buf) => BegunSend { buf, len: 0 },
+            Some(buf) => begin_send(buf, receive_length),
             None => unreachable!(),
         },
     }
 }
 
-/// Writes some bytes into a receive buffer from byte `at` on, as far as it goes.
-fn write_from(buf: &mut Octets, at: usize, bytes: &[u8])
-    requires buf { IsReceive buf.old }
-    requires within { at < send_max }
-    ensures buf { IsReceive buf.new }
-    ensures bytes { buf.new ≡ take send_max (take at buf.old ++ (bytes.now ++ drop (at + length bytes.now) buf.old)) }
+/// Writes some bytes into a receive buffer of this length from byte `at` on, as far as it goes.
+fn write_from(buf: &mut Octets, receive_length: usize, at: usize, bytes: &[u8])
+    requires buf { IsReceive receive_length buf.old }
+    requires within { at < receive_length }
+    ensures buf { IsReceive receive_length buf.new }
+    ensures bytes { buf.new ≡ take receive_length (take at buf.old ++ (bytes.now ++ drop (at + length bytes.now) buf.old)) }
 {
-    if bytes.len() <= SEND_MAX - at {
+    if bytes.len() <= receive_length - at {
         buf.overwrite(at, bytes);
     } else {
-        buf.overwrite(at, &bytes[..SEND_MAX - at]);
+        buf.overwrite(at, &bytes[..receive_length - at]);
     }
 }
 
 /// Writes a segment's payload behind what a begun Send has, as far as its buffer goes.
-fn extend(begun: &mut BegunSend, payload: &[u8])
-    requires buf { IsReceive begun.old.buf }
+fn extend(begun: &mut BegunSend, receive_length: usize, payload: &[u8])
+    requires buf { IsReceive receive_length begun.old.buf }
     requires count { begun.old.len + length payload.now < 2 ^ 63 }
-    ensures buf { IsReceive begun.new.buf }
-    ensures bytes { begun_send begun.new ≡ kept_bytes (begun_send begun.old ++ payload.now) }
+    ensures buf { IsReceive receive_length begun.new.buf }
+    ensures bytes { begun_send receive_length begun.new ≡ kept_within receive_length (begun_send receive_length begun.old ++ payload.now) }
     ensures len { begun.new.len ≡ begun.old.len + length payload.now }
 {
-    if begun.len < SEND_MAX as u64 {
-        write_from(&mut begun.buf, begun.len as usize, payload);
+    if begun.len < receive_length as u64 {
+        write_from(&mut begun.buf, receive_length, begun.len as usize, payload);
     }
     begun.len += payload.len() as u64;
 }
@@ -158,14 +177,14 @@ fn take_first_read(messages: &mut VecDeque<ReceivedMessage>) -> bool
 }
 
 impl ReceiveQueue {
-    /// So many receives, all free, and room for the message of each.
-    pub fn new(alloc: Global, receives: u32) -> Result<ReceiveQueue, Memory>
-        ensures { IfOk result (λ q. q ≡ initial_receives receives) }
+    /// So many receives of this length, all free, and room for the message of each.
+    pub fn new(alloc: Global, receives: u32, receive_length: usize) -> Result<ReceiveQueue, Memory>
+        ensures { IfOk result (λ q. q ≡ initial_receives receives receive_length) }
     {
         let receives = receives as usize;
         let messages = VecDeque::with_capacity(alloc, receives)?;
         let mut free = Vec::with_capacity(alloc, receives)?;
-        fill(&mut free, alloc, receives)?;
+        fill(&mut free, alloc, receives, receive_length)?;
         Ok(ReceiveQueue {
             sends: 0,
             requests: 0,
@@ -173,6 +192,7 @@ impl ReceiveQueue {
             free,
             lent: 0,
             receives,
+            receive_length,
             messages,
             reads_done: 0,
         })
@@ -225,7 +245,7 @@ impl ReceiveQueue {
     #[tactic(auto, unfolding(crate::specs::ReceiveQueue::with_segment))]
     pub fn receive(&mut self, last: bool, payload: &[u8])
         requires receive { is_begun self.old.received.begun ≡ false → 0 < self.old.free }
-        requires fits { last ≡ true → length (begun_bytes self.old.received.begun) + length payload.now ≤ send_max }
+        requires fits { last ≡ true → length (begun_bytes self.old.received.begun) + length payload.now ≤ self.old.receive_length }
         requires enough { last ≡ true → 16 ≤ length (begun_bytes self.old.received.begun) + length payload.now }
         requires count { self.old.received.sends < 2 ^ 63 }
         requires bytes { length (begun_bytes self.old.received.begun) + length payload.now < 2 ^ 63 }
@@ -241,13 +261,13 @@ impl ReceiveQueue {
     /// The last segment of a Send. Its message has room, since its receive is neither free nor lent.
     fn complete(&mut self, payload: &[u8])
         requires receive { is_begun self.old.received.begun ≡ false → 0 < self.old.free }
-        requires fits { length (begun_bytes self.old.received.begun) + length payload.now ≤ send_max }
+        requires fits { length (begun_bytes self.old.received.begun) + length payload.now ≤ self.old.receive_length }
         requires enough { 16 ≤ length (begun_bytes self.old.received.begun) + length payload.now }
         requires count { self.old.received.sends < 2 ^ 63 }
         ensures { self.new ≡ with_segment (Untagged true OPCODE_SEND 0 0 0 0 payload.now) self.old }
     {
-        let mut begun = take_receive(&mut self.begun, &mut self.free);
-        extend(&mut begun, payload);
+        let mut begun = take_receive(&mut self.begun, &mut self.free, self.receive_length);
+        extend(&mut begun, self.receive_length, payload);
         self.messages.push_back_reserved(ReceivedMessage {
             reads_done: self.reads_done,
             number: self.sends + 1,
@@ -265,8 +285,8 @@ impl ReceiveQueue {
         requires bytes { length (begun_bytes self.old.received.begun) + length payload.now < 2 ^ 63 }
         ensures { self.new ≡ with_segment (Untagged false OPCODE_SEND 0 0 0 0 payload.now) self.old }
     {
-        let mut begun = take_receive(&mut self.begun, &mut self.free);
-        extend(&mut begun, payload);
+        let mut begun = take_receive(&mut self.begun, &mut self.free, self.receive_length);
+        extend(&mut begun, self.receive_length, payload);
         self.begun = Some(begun);
     }
 
@@ -291,7 +311,7 @@ impl ReceiveQueue {
         ensures waits { is_some result ≡ nat_lt 0 (length self.old.notices) }
         ensures event { self.old.notices ≡ option_to_list (option_map notice result) ++ self.new.notices }
         ensures after { self.new ≡ (if is_some result then told self.old else self.old) }
-        ensures buffer { IfSome result HasBuffer }
+        ensures buffer { IfSome result (HasBuffer self.old.receive_length) }
     {
         if take_first_read(&mut self.messages) {
             return Some(Event::ReadDone);
@@ -315,7 +335,7 @@ impl ReceiveQueue {
     /// A buffer is a receive again. Takes no memory.
     pub fn post(&mut self, buf: Octets)
         requires lent { 0 < self.old.lent }
-        requires len { length buf ≡ send_max }
+        requires len { length buf ≡ self.old.receive_length }
         ensures { self.new ≡ posted self.old }
     {
         self.lent -= 1;
@@ -327,6 +347,13 @@ impl ReceiveQueue {
         ensures { receives_kept self.now + self.now.lent ≡ self.now.receives }
     {
         let _ = &self.lent;
+    }
+
+    /// The length of each receive.
+    pub fn receive_length(&self) -> usize
+        ensures { result ≡ self.now.receive_length }
+    {
+        self.receive_length
     }
 
     /// How many receive buffers are kept: all but those that are lent.

@@ -1,6 +1,7 @@
 -- The regions of an accepted call stand in the client's state from its Submit on.
-use Rattle.std.proofs.Common.{◌≡◌, ℕ, ◌+◌, Bool, true, ◌&&◌, List, [], ◌∷◌, ◌++◌, length, Result, refl, sym, ap, subst, ◌∙◌, append_assoc, eq-eqb}
+use Rattle.std.proofs.Common.{◌≡◌, ℕ, ◌+◌, Bool, true, ◌&&◌, List, [], ◌∷◌, ◌++◌, length, Result, Ok, refl, sym, ap, subst, ◌∙◌, append_assoc, eq-eqb}
 use Rattle.nr_wire.specs.declared.hello.Side.TheVariants.{Initiator}
+use Rattle.nr_reduce.proofs.OwnLimits.{client-limits-of, limited-plan}
 use Rattle.nr_reduce.specs.declared.call.Call.{Call}
 use Rattle.nr_reduce.specs.declared.call.Form.{Form}
 use Rattle.nr_reduce.specs.declared.call.Submission.TheVariants as submissions
@@ -69,6 +70,6 @@ accepted-regions opened link run earlier later call form xid typed asked is h =
     let backed = subst (λ (os : List OutstandingCall). AllBacked (client opened link run).state.regions os)
     (ap (λ (cs : List AcceptedCall). outstanding_from (start opened) opened.first_stag cs) calls ∙ from-split (start opened) opened.first_stag xs a (accepted_in s.rest)) all.backed in
     let own = backed-at (client opened link run).state.regions (outstanding_from (start opened) opened.first_stag xs) o (outstanding_from (start opened) (stag + regions_needed o.plan) (accepted_in s.rest)) backed in
-    let plan : o.plan ≡ h.plan = ap (λ (r : Result Plan TooLarge). plan_or (call_payload xid call) r) h.planned in
+    let plan : o.plan ≡ h.plan = ap (λ (r : Result Plan TooLarge). plan_or (call_payload xid call) r) (limited-plan (client opened link earlier).state xid call form (Ok h.plan) (client-limits-of opened link earlier) h.planned) in
     subst (λ (p : Plan). HasBuffers (client opened link run).state.regions (buffers (client opened link earlier).state.stag p)) plan
     (subst (λ (n : ℕ). HasBuffers (client opened link run).state.regions (buffers n o.plan)) (sym first.stag) own)

@@ -11,6 +11,7 @@ use Rattle.nr_link.specs.Frames.{Frame, is_hello}
 use Rattle.nr_link.specs.Output.{msn_word, segment_count}
 use Rattle.nr_link.specs.ReceiveState.{begun_bytes, ReadRequest}
 use Rattle.nr_link.specs.Ending.{frame_segment}
+use Rattle.nr_reduce.proofs.OwnLimits.{ClientLimits, limited-plan}
 use Rattle.nr_reduce.specs.declared.mark.LinkParameters.{LinkParameters}
 use Rattle.nr_reduce.specs.declared.outline.Plan.{Plan}
 use Rattle.nr_reduce.specs.Limits.{numbers_end}
@@ -64,17 +65,17 @@ new-live answered xid place [] = tt
 new-live answered xid place (b ∷ bs) = (inl refl, new-live answered xid place bs)
 
 pub accessed-submit : (opened : LinkParameters) (k : ClientState) (s : ServerState) (d all_up all_down : List FrameContent) (place : ℕ) (a : AcceptedCall) (plan : Plan) → AccessesAgree opened k s d all_up all_down place → plan_for k a.xid a.call a.form ≡ Ok plan → a.xid < numbers_end
-    → k.stag + regions_needed plan ≤ numbers_end → IsBytes (call_payload a.xid a.call) → IsTypedForm a.form
+    → k.stag + regions_needed plan ≤ numbers_end → IsBytes (call_payload a.xid a.call) → IsTypedForm a.form → ClientLimits k
     → AccessesAgree opened (client_state_after opened k (CallSubmitted place a)) s d (all_up ++ client_frames opened k (CallSubmitted place a)) all_down place
 unfolding client_state_after client_frames plan_for
-accessed-submit opened k s d all_up all_down place a plan h is small stags bytes typed =
+accessed-submit opened k s d all_up all_down place a plan h is small stags bytes typed limits =
     let t = client_state_after opened k (CallSubmitted place a) in
     let o = outstanding_of k a in
     let new : List Region = map (region_of a.xid place) (buffers k.stag o.plan) in
     let same : o.plan ≡ plan = planned (call_payload a.xid a.call) (plan_for k a.xid a.call a.form) plan is in
     let own : MessageOffered new (call_frame opened o) =
     subst (λ (p : Plan). MessageOffered (map (region_of a.xid place) (buffers k.stag p)) (SendFrame (call_message a.xid opened.wished k.stag p))) (sym same)
-    (planned-offered (call_payload a.xid a.call) a.form a.xid opened.wished place k.stag plan is bytes typed small stags) in
+    (planned-offered (call_payload a.xid a.call) a.form a.xid opened.wished place k.stag plan (limited-plan k a.xid a.call a.form (Ok plan) limits is) bytes typed small stags) in
     let one : CallAsked opened t.regions o = message-more new t.regions (offers-right k.regions new) (call_frame opened o) own in
     goes-on opened k t s d d all_up (client_frames opened k (CallSubmitted place a)) all_down place h (offers-left k.regions new)
     (each-append (IsEarly place) k.regions new h.early (new-early a.xid place (buffers k.stag o.plan)))

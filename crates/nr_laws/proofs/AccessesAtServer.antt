@@ -17,7 +17,7 @@ use Rattle.nr_reduce.specs.Holds.{Answer, answer_message, first_chunk, no_segmen
 use Rattle.nr_reduce.specs.Events.Event.{FrameReceived, CallExecuted, QueueWritten}
 use Rattle.nr_reduce.specs.OfferedRegions.{Region}
 use Rattle.nr_reduce.specs.ClientState.{ClientState}
-use Rattle.nr_reduce.specs.ServerState.{ServerState, PendingCall, PendingRead, ReadyCall, down_max, credit_word}
+use Rattle.nr_reduce.specs.ServerState.{ServerState, PendingCall, PendingRead, ReadyCall, credit_word}
 use Rattle.nr_reduce.specs.ServerReads.{is_read}
 use Rattle.nr_reduce.specs.ServerFrames.{FrameEffect, frame_effect}
 use Rattle.nr_reduce.specs.Server.{server_state_after, with_effect, newly_open_reads, offer_by, offer_of, answer_of_target, with_own_hello}
@@ -219,7 +219,7 @@ unfolding server_state_after server_frames
 accessed-execute opened k s d all_up all_down place e r rest h first own whole numbers none =
     let w : AreWhole s.reads s.calls (r ∷ rest) = subst (AreWhole s.reads s.calls) first whole in
     let numbered : e.xid + 1 ≡ opened.first_xid + r.number = omega (arith, own, any-numbered opened.first_xid r.number r.xid s.calls numbers w.0) in
-    let answer = answer_of_target (offer_of s e.xid) (down_max s) e.reply (target_of (call_of e.payload)) in
+    let answer = answer_of_target (offer_of s e.xid) s.down_max e.reply (target_of (call_of e.payload)) in
     says-more opened k s (server_state_after opened s (CallExecuted e)) d all_up all_down (answer_frames s e.xid (offer_of s e.xid) answer) place h
     (each-kept (CallOffered k.regions) (λ (c : PendingCall). not (eqb c.xid e.xid)) s.calls h.calls)
     (waiting-kept k.regions opened.first_xid r.number e.xid s.calls (drop open_reads_max s.reads) numbers numbered (unread s.reads r.number open_reads_max w.1) h.waiting)

@@ -7,6 +7,7 @@ use Rattle.nr_wire.specs.declared.stream.Awaited.TheVariants.{Hello as HelloFrom
 use Rattle.nr_wire.specs.Stream.{split}
 use Rattle.nr_link.specs.declared.end.End.{End}
 use Rattle.nr_link.specs.Frames.{Frame}
+use Rattle.nr_reduce.proofs.OwnLimits.{ClientLimits, ServerLimits, client-limits-of, server-limits-of}
 use Rattle.nr_reduce.specs.declared.call.Call.{Call}
 use Rattle.nr_reduce.specs.declared.call.Form.{Form}
 use Rattle.nr_reduce.specs.declared.call.Submission.TheVariants as submissions
@@ -160,18 +161,19 @@ goes-submit opened link run call form xid j h =
     let place = length (bytes_received link Initiator run) in
     let own : xid ≡ next_xid opened j.k = h.next ∙ ap (λ (r : EndState ClientState). next_xid opened r.state) j.client_is in
     let planned = ap (λ (r : EndState ClientState). plan_for r.state xid call form) (sym j.client_is) ∙ h.planned in
-    let m = submitted opened j.k j.s j.u j.d j.all_up j.all_down j.w place a h.plan j.linked own planned in
+    let limits : ClientLimits j.k = subst (λ (r : EndState ClientState). ClientLimits r.state) j.client_is (client-limits-of opened link run) in
+    let m = submitted opened j.k j.s j.u j.d j.all_up j.all_down j.w place a h.plan j.linked own planned limits in
     goes-client opened link run (marks.Submit link call form (submissions.Accepted xid)) j (CallSubmitted place a) m.said (up_more j.w m.said) (λ f e. absurd cc) m.linked m.output
     (own-events link (CallSubmitted place a ∷ [])) (other-events (eqb link link) (CallSubmitted (length (bytes_received link Responder run)) a ∷ [])) refl refl refl
     (append-nil (bytes_sent link Initiator run) ∙ j.sent_up) refl
     (λ o within g.
     let room : length j.k.outstanding < j.k.grant = room-of opened link run j (within refl) in
     subst (λ (ps : List FrameContent). Guards opened (client_state_after opened j.k (CallSubmitted place a)) j.s j.u j.d (j.all_up ++ ps) j.all_down (up_more j.w ps) (place_of j.u)) (sym m.said_is)
-    (guards-submit opened j.k j.s j.u j.d j.all_up j.all_down j.w (place_of j.u) place a h.plan j.linked g planned own h.xids room))
+    (guards-submit opened j.k j.s j.u j.d j.all_up j.all_down j.w (place_of j.u) place a h.plan j.linked g planned own h.xids limits room))
     (λ typed kept agree.
     let stags : j.k.stag + regions_needed h.plan ≤ numbers_end = subst (λ (r : EndState ClientState). r.state.stag + regions_needed h.plan ≤ numbers_end) j.client_is h.stags in
     subst (λ (ps : List FrameContent). AccessesAgree opened (client_state_after opened j.k (CallSubmitted place a)) j.s j.d (j.all_up ++ ps) j.all_down place) (sym m.said_is)
-    (accessed-submit opened j.k j.s j.d j.all_up j.all_down place a h.plan agree planned h.xids stags typed.0 typed.1))
+    (accessed-submit opened j.k j.s j.d j.all_up j.all_down place a h.plan agree planned h.xids stags typed.0 typed.1 limits))
 
 -- a Wrote of all that is due
 takes-all_up : (opened : LinkParameters) (link : ℕ) (run : List Mark) (bytes : List ℕ) (k : ClientState) → client opened link run ≡ live k → bytes_sent link Initiator run ++ bytes ≡ output_due opened link Initiator run → k.written + length bytes ≡ k.due
@@ -261,7 +263,7 @@ goes-execute opened link run xid moment payload place reply j h =
     let there = executed-there j.s xid h.call first.0 j.linked.waits first.1 h.own in
     let sends : 0 < total_of sends_in j.u = omega (arith, some-calls xid j.s.calls there, j.linked.counts.waiting, j.linked.sends_up) in
     let hellos = begun j.u (stream-left j.u (j.w.up ++ j.w.queued_up) (subst IsOutput (sym j.linked.parts_up) j.linked.stream_up)) sends in
-    let m = executed opened j.k j.s j.u j.d j.all_up j.all_down j.w e h.call first.0 j.linked first.1 h.own (omega (arith, hellos, j.linked.hellos_down)) in
+    let m = executed opened j.k j.s j.u j.d j.all_up j.all_down j.w e h.call first.0 j.linked first.1 h.own (omega (arith, hellos, j.linked.hellos_down)) (subst (λ (r : EndState ServerState). ServerLimits r.state) j.server_is (server-limits-of opened link run)) in
     goes-server opened link run (marks.Execute link xid moment payload place reply) j (CallExecuted e) m.said (record { queued_up = j.w.queued_up; up = j.w.up; queued_down = j.w.queued_down ++ m.said; down = j.w.down }) (λ f x. absurd cc) m.linked m.output
     (other-events (eqb link link) (CallExecuted e ∷ [])) (own-events link (CallExecuted e ∷ [])) refl refl refl
     (append-nil (bytes_sent link Responder run) ∙ j.sent_down) refl

@@ -1,6 +1,7 @@
 -- Each executed call that adds an entry is answered by its reply, whatever was offered.
 use Rattle.std.proofs.Common.{◌≡◌, ◌≢◌, List, [], ◌∷◌, ◌++◌, Option, None, Some, refl, sym, ◌∙◌, arith, append-nil, inl, inr, ◌⊎◌}
 use Rattle.nr_wire.specs.declared.hello.Side.TheVariants.{Responder}
+use Rattle.nr_reduce.proofs.OwnLimits.{server-limits-of}
 use Rattle.nr_reduce.specs.declared.call.Outcome.TheVariants as outcomes
 use Rattle.nr_reduce.specs.declared.mark.Entry.{Entry}
 use Rattle.nr_reduce.specs.declared.mark.Mark.{Mark}
@@ -8,7 +9,7 @@ use Rattle.nr_reduce.specs.declared.mark.Mark.TheVariants as marks
 use Rattle.nr_reduce.specs.Holds.{Answer}
 use Rattle.nr_reduce.specs.Matched.{IsPrefixOf}
 use Rattle.nr_reduce.specs.Events.{events}
-use Rattle.nr_reduce.specs.ServerState.{ServerState, down_max}
+use Rattle.nr_reduce.specs.ServerState.{ServerState}
 use Rattle.nr_reduce.specs.Server.{offer_of}
 use Rattle.nr_reduce.specs.Run.{server}
 use Rattle.nr_reduce.specs.Served.{ServedMark, IsExecuted}
@@ -40,7 +41,8 @@ changes_are_answered reply_to adds opened link run before xid moment payload pla
     let k : ServerState = (server opened link before).state in
     let holds = kept-at-server opened link before first kept es [] (sym (append-nil es)) in
     let replied = at-mark (PlainReplyMark (server_with reply_to adds) link) run before mark at.after at.is plainly refl in
-    let held = plain.change replied.0 moment payload reply (offer_of k xid) (down_max k) replied.1 more (found-fits xid k.calls holds.fit).within (omega arith) in
+    let down = (server-limits-of opened link before).down in
+    let held = plain.change replied.0 moment payload reply (offer_of k xid) k.down_max replied.1 more (found-fits xid k.calls holds.fit).within (omega (arith, down)) in
     let a = some-of (answer_held opened link before xid payload reply) held in
     record { answer = a.0; is_held = a.1; due = (execute-answered opened link before xid moment payload place reply x).0 a.0 a.1 }
 

@@ -29,8 +29,7 @@ use Rattle.nr_laws.proofs.Following.{far-before}
 use Rattle.nr_laws.proofs.Completed.{version-never}
 use Rattle.nr_laws.proofs.ExecutedPayloads.{planned-by}
 use Rattle.nr_laws.proofs.OwnPayloads.{payloads_are_own}
-use Rattle.nr_laws.proofs.PlannedOffers.{offers_are_planned}
-use Rattle.nr_laws.proofs.ChunkCauses.{ExecuteNotHeld, chunk-caused}
+use Rattle.nr_laws.proofs.ChunkCauses.{ExecuteNotHeld, chunk-caused, held-by-plan}
 use Rattle.nr_laws.proofs.LaterMarks.{mark-later}
 use Rattle.nr_laws.proofs.OwnPlans.{one-form}
 use Rattle.nr_laws.proofs.OwnMessages.{no_own_plan_is_refused}
@@ -71,11 +70,10 @@ auto_has_replies reply_to adds opened link run earlier before call xid outcome p
         let executed = mark-later run before mark chunk.after u.before execute chunk.is u.at in
         let own : call_payload xid call ≡ u.payload =
         some-is (call_payload xid call) u.payload (payloads_are_own opened link run u.before xid plan u.moment u.payload u.place u.reply typed far has executed) in
-        let offer = offers_are_planned opened link run u.before xid plan u.moment u.payload u.place u.reply typed far has executed in
         let replied = at-mark (PlainReplyMark (server_with reply_to adds) link) run u.before execute executed.after executed.is plainly refl in
         plain.auto replied.0 u.moment u.payload u.reply send_max send_max (client opened link earlier).state.stag plan (subst IsBytes own bytes) replied.1 (omega arith)
         (ap (λ (x : List ℕ). plan_of x forms.Auto send_max send_max) (sym own) ∙ planned)
-        (ap (λ (o : ChunkLists). answer_of_target o send_max u.reply (target_of (call_of u.payload))) (sym offer) ∙ u.none)
+        (sym (held-by-plan opened link run u.before xid plan u.moment u.payload u.place u.reply typed far has executed) ∙ u.none)
 
     no_cause : MarkAt run before (marks.Done link xid outcomes.Chunk) → HasRefusedMessage opened link before xid ⊎ ExecuteNotHeld opened link before xid → ⊥
     no_cause chunk (inl r) = not_refused chunk r

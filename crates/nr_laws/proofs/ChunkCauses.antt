@@ -3,6 +3,7 @@ use Rattle.std.proofs.Common.{◌≡◌, ◌≢◌, ℕ, List, ◌∷◌, ◌++�
 use Rattle.nr_wire.specs.declared.hello.Side.TheVariants.{Responder}
 use Rattle.nr_header.specs.declared.header.ChunkLists.{ChunkLists}
 use Rattle.nr_rpc.specs.Reading.{call_of, target_of}
+use Rattle.nr_reduce.proofs.OwnLimits.{server-limits-of}
 use Rattle.nr_reduce.specs.declared.call.Outcome.{Outcome}
 use Rattle.nr_reduce.specs.declared.call.Outcome.TheVariants as outcomes
 use Rattle.nr_outside.specs.declared.moment.Moment.{Moment}
@@ -14,7 +15,6 @@ use Rattle.nr_reduce.specs.History.{ExecutedCall}
 use Rattle.nr_reduce.specs.Limits.{send_max}
 use Rattle.nr_reduce.specs.Plans.{lists_of}
 use Rattle.nr_reduce.specs.Events.{Event, events}
-use Rattle.nr_reduce.specs.ServerState.{down_max}
 use Rattle.nr_reduce.specs.Server.{offer_of, answer_of_target}
 use Rattle.nr_reduce.specs.Run.{client, server}
 use Rattle.nr_reduce.specs.RunLaws.{server_by}
@@ -66,7 +66,7 @@ one-execute opened link run before others xid moment now payload asked place lat
 -- what an executed call is answered, by its mark
 pub held-at : (opened : LinkParameters) (link : ℕ) (before : List Mark) (es : List Event) (xid : ℕ) (e : ExecutedCall) → events link Responder before ≡ es → e.xid ≡ xid → answer_held opened link before xid e.payload e.reply ≡ answer_of_call (server_by opened es) e
 unfolding server
-held-at opened link before es xid e is own = λ i. answer_of_target (offer_of (server_by opened (is i)) (sym own i)) (down_max (server_by opened (is i))) e.reply (target_of (call_of e.payload))
+held-at opened link before es xid e is own = λ i. answer_of_target (offer_of (server_by opened (is i)) (sym own i)) (server_by opened (is i)).down_max e.reply (target_of (call_of e.payload))
 
 -- ---- What ERR_CHUNK tells
 
@@ -109,11 +109,13 @@ chunk-caused opened link run before after xid typed far is = by (outcome-cause o
 -- ---- The offer by the call's plan
 
 -- what the offer holds which the server keeps is what the plan's offer holds
-held-by-plan : (opened : LinkParameters) (link : ℕ) (run before : List Mark) (xid : ℕ) (plan : Plan) (moment : Moment) (payload : List ℕ) (place : ℕ) (reply : List ℕ) → IsTyped run → MatchedSoFar opened link run
+pub held-by-plan : (opened : LinkParameters) (link : ℕ) (run before : List Mark) (xid : ℕ) (plan : Plan) (moment : Moment) (payload : List ℕ) (place : ℕ) (reply : List ℕ) → IsTyped run → MatchedSoFar opened link run
     → (has : HasPlan opened link run xid plan) → MarkAt run before (marks.Execute link xid moment payload place reply)
     → answer_held opened link before xid payload reply ≡ answer_of_target (lists_of (client opened link has.before).state.stag plan) send_max reply (target_of (call_of payload))
 held-by-plan opened link run before xid plan moment payload place reply typed far has at =
-    ap (λ (o : ChunkLists). answer_of_target o send_max reply (target_of (call_of payload))) (offers_are_planned opened link run before xid plan moment payload place reply typed far has at)
+    let down = (server-limits-of opened link before).down in
+    let offer = offers_are_planned opened link run before xid plan moment payload place reply typed far has at in
+    (λ i. answer_of_target (offer i) (down i) reply (target_of (call_of payload)))
 
 planned-cause : (opened : LinkParameters) (link : ℕ) (run : List Mark) (xid : ℕ) → IsTyped run → MatchedSoFar opened link run → HasRefusedMessage opened link run xid ⊎ ExecuteNotHeld opened link run xid → HasChunkCause opened link run xid
 planned-cause opened link run xid typed far (inl m) = inl m

@@ -9,6 +9,7 @@ use Rattle.nr_link.specs.Frames.{Frame, is_hello}
 use Rattle.nr_link.specs.ReceiveState.{ReadRequest, read_request_of, message_completed}
 use Rattle.nr_link.specs.SegmentFaults.{segment_fault}
 use Rattle.nr_link.specs.Ending.{frame_segment, missing_access, is_hello_reason}
+use Rattle.nr_reduce.proofs.OwnLimits.{ClientLimits}
 use Rattle.nr_reduce.specs.declared.mark.LinkParameters.{LinkParameters}
 use Rattle.nr_reduce.specs.declared.outline.Plan.{Plan}
 use Rattle.nr_reduce.specs.History.{AcceptedCall}
@@ -173,30 +174,30 @@ hello-step opened es place k outs f first at goes p =
 
 -- ---- A call
 
-pub short-call : (opened : LinkParameters) (k : ClientState) (a : AcceptedCall) (plan : Plan) → plan_for k a.xid a.call a.form ≡ Ok plan → IsShort (message_of_call opened (outstanding_of k a))
+pub short-call : (opened : LinkParameters) (k : ClientState) (a : AcceptedCall) (plan : Plan) → plan_for k a.xid a.call a.form ≡ Ok plan → ClientLimits k → IsShort (message_of_call opened (outstanding_of k a))
 unfolding plan_for
-short-call opened k a plan planned =
+short-call opened k a plan planned l =
     let is_plan : (outstanding_of k a).plan ≡ plan = ap (λ (r : Result Plan TooLarge). plan_or (call_payload a.xid a.call) r) planned in
     subst (λ (q : Plan). IsShort (Rattle.nr_reduce.specs.Plans.call_message a.xid opened.wished k.stag q)) (sym is_plan)
-    (let m = (message_size (call_payload a.xid a.call) a.form send_max send_max a.xid opened.wished k.stag plan planned).1 in omega (arith, m))
+    (let m = (message_size (call_payload a.xid a.call) a.form k.up_max k.down_max a.xid opened.wished k.stag plan planned).1 in let up = l.up in omega (arith, m, up))
 
-call-step : (opened : LinkParameters) (es : List Event) (place p : ℕ) (k : ClientState) (outs : List Output) (a : AcceptedCall) (plan : Plan) → plan_for k a.xid a.call a.form ≡ Ok plan → ClientSays opened es place k None outs
+call-step : (opened : LinkParameters) (es : List Event) (place p : ℕ) (k : ClientState) (outs : List Output) (a : AcceptedCall) (plan : Plan) → plan_for k a.xid a.call a.form ≡ Ok plan → ClientLimits k → ClientSays opened es place k None outs
     → ClientSays opened (es ++ CallSubmitted p a ∷ []) place (client_state_after opened k (CallSubmitted p a)) None
     (outs ++ cond k.has_hello (ASegment (send_segment (k.calls_accepted + 1) (message_of_call opened (outstanding_of k a))) ∷ []) [])
 unfolding client_state_after plan_for
-call-step opened es place p k outs a plan planned h =
+call-step opened es place p k outs a plan planned l h =
     let own : OutstandingCall = outstanding_of k a in
     let before : List AcceptedCall = accepted_in es in
     let next : ℕ = stag_behind (start opened) opened.first_stag before in
     let more : accepted_in (es ++ CallSubmitted p a ∷ []) ≡ before ++ a ∷ [] = accepted-append es (CallSubmitted p a ∷ []) in
-    let same : own ≡ outstanding_of (record (start opened) { stag = next }) a = ap (λ (stag : ℕ). outstanding_of (record (start opened) { stag = stag }) a) h.stag in
+    let same : own ≡ outstanding_of (record (start opened) { stag = next }) a = (λ i. outstanding_of (record (start opened) { stag = h.stag i; up_max = l.up i; down_max = l.down i }) a) in
     let all : asked opened (es ++ CallSubmitted p a ∷ []) ≡ asked opened es ++ own ∷ [] =
     ap (λ (xs : List AcceptedCall). outstanding_from (start opened) opened.first_stag xs) more ∙ from-more (start opened) opened.first_stag before a
     ∙ ap (λ (o : OutstandingCall). asked opened es ++ o ∷ []) (sym same) in
-    let short : IsShort (message_of_call opened own) = short-call opened k a plan planned in
+    let short : IsShort (message_of_call opened own) = short-call opened k a plan planned l in
     record {
       short = each-append (CallShort opened) k.outstanding (own ∷ []) h.short (short, tt);
-      stag = ap (λ (n : ℕ). n + regions_needed (outstanding_of (record (start opened) { stag = n }) a).plan) h.stag
+      stag = (λ i. h.stag i + regions_needed (outstanding_of (record (start opened) { stag = h.stag i; up_max = l.up i; down_max = l.down i }) a).plan)
           ∙ sym (behind-append (start opened) opened.first_stag before a) ∙ ap (λ (xs : List AcceptedCall). stag_behind (start opened) opened.first_stag xs) (sym more);
       count = (let c = h.count in let l = ap (λ (xs : List AcceptedCall). length xs) more in let n = length-append before (a ∷ []) in omega (arith, c, l, n));
       greeted = h.greeted;
@@ -270,7 +271,7 @@ executed-says opened es place k outs x p =
 
 submitted-says : (opened : LinkParameters) (es : List Event) (place : ℕ) (k : ClientState) (outs : List Output) (q : ℕ) (a : AcceptedCall) → IsGoodCall opened (record { state = k; ended = None }) a → ClientSays opened es place k None outs → Next opened es place k None outs (CallSubmitted q a)
 unfolding client_says client_end
-submitted-says opened es place k outs q a good p = call-step opened es place q k outs a good.plan good.planned p
+submitted-says opened es place k outs q a good p = call-step opened es place q k outs a good.plan good.planned good.limits p
 
 ended-says : (opened : LinkParameters) (es : List Event) (place later : ℕ) (k : ClientState) (outs : List Output) (e : Event) (end : Stop) → accepted_in (e ∷ []) ≡ [] → ClientSays opened es place k (Some end) outs → ClientSays opened (es ++ e ∷ []) later k (Some end) (outs ++ [])
 ended-says opened es place later k outs e end none p = quiet-step opened es e place later k k (Some end) (Some end) outs [] none (stays-step opened later k end) quiet-none p

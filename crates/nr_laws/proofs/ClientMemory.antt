@@ -9,6 +9,7 @@ use Rattle.nr_link.specs.declared.end.End.{End as Stop}
 use Rattle.nr_link.specs.Frames.{Frame, is_hello}
 use Rattle.nr_link.specs.ReceiveState.{ReadRequest, message_completed, read_request_of}
 use Rattle.nr_link.specs.Ending.{frame_segment, tagged_access, missing_access}
+use Rattle.nr_reduce.proofs.OwnLimits.{ClientLimits}
 use Rattle.nr_reduce.specs.declared.mark.LinkParameters.{LinkParameters}
 use Rattle.nr_reduce.specs.History.{AcceptedCall}
 use Rattle.nr_reduce.specs.Events.{Event}
@@ -257,15 +258,15 @@ segment-keeps opened es place k f next behind stays (Ok s) is p =
     (λ h. subst (λ (rs : List Region). AllBacked rs (asked opened es)) (sym q.0) (g.backed (asked opened es) h))
     (q.2 ∙ g.stag) p
 
-call-keeps : (opened : LinkParameters) (es : List Event) (place q : ℕ) (k : ClientState) (a : AcceptedCall) → AreNumbered opened.first_stag k.regions → k.stag ≡ opened.first_stag + length k.regions → ClientKeeps opened es place k
+call-keeps : (opened : LinkParameters) (es : List Event) (place q : ℕ) (k : ClientState) (a : AcceptedCall) → AreNumbered opened.first_stag k.regions → k.stag ≡ opened.first_stag + length k.regions → ClientLimits k → ClientKeeps opened es place k
     → ClientKeeps opened (es ++ CallSubmitted q a ∷ []) place (client_state_after opened k (CallSubmitted q a))
 unfolding client_state_after plan_for
-call-keeps opened es place q k a numbers next p =
+call-keeps opened es place q k a numbers next l p =
     let own : OutstandingCall = outstanding_of k a in
     let before : List AcceptedCall = accepted_in es in
     let after : ℕ = stag_behind (start opened) opened.first_stag before in
     let more : accepted_in (es ++ CallSubmitted q a ∷ []) ≡ before ++ a ∷ [] = accepted-append es (CallSubmitted q a ∷ []) in
-    let same : own ≡ outstanding_of (record (start opened) { stag = after }) a = ap (λ (stag : ℕ). outstanding_of (record (start opened) { stag = stag }) a) p.stag in
+    let same : own ≡ outstanding_of (record (start opened) { stag = after }) a = (λ i. outstanding_of (record (start opened) { stag = p.stag i; up_max = l.up i; down_max = l.down i }) a) in
     let all : asked opened (es ++ CallSubmitted q a ∷ []) ≡ asked opened es ++ own ∷ [] =
     ap (λ (xs : List AcceptedCall). outstanding_from (start opened) opened.first_stag xs) more ∙ from-append (start opened) opened.first_stag before a
     ∙ ap (λ (o : OutstandingCall). asked opened es ++ o ∷ []) (sym same) in
@@ -278,7 +279,7 @@ call-keeps opened es place q k a numbers next p =
           (record { front = asked opened es; own = own; back = []; is = all; own_xid = refl; own_call = refl; own_plan = refl; own_stag = refl }, tt);
       backed = subst (λ (os : List OutstandingCall). AllBacked (k.regions ++ new) os) (sym all)
           (backed-append (k.regions ++ new) (asked opened es) (own ∷ []) (backed-left k.regions new (asked opened es) p.backed) (there, tt));
-      stag = ap (λ (n : ℕ). n + Rattle.nr_reduce.specs.Plans.regions_needed (outstanding_of (record (start opened) { stag = n }) a).plan) p.stag
+      stag = (λ i. p.stag i + Rattle.nr_reduce.specs.Plans.regions_needed (outstanding_of (record (start opened) { stag = p.stag i; up_max = l.up i; down_max = l.down i }) a).plan)
           ∙ sym (Rattle.nr_reduce.proofs.Waiting.behind-append (start opened) opened.first_stag before a) ∙ ap (λ (xs : List AcceptedCall). stag_behind (start opened) opened.first_stag xs) (sym more);
     }
 
@@ -305,7 +306,7 @@ pub keeps-step : (opened : LinkParameters) (es : List Event) (place : ℕ) (k : 
     → ClientKeeps opened (es ++ e ∷ []) (place_after place e) (next_end_state_in (client_rules opened) k e ended).state
 unfolding client_end client_state_after
 keeps-step opened es place k None (FrameReceived f) next good numbers after p = frame-keeps opened es place k f next p (client_end k (FrameReceived f)) refl
-keeps-step opened es place k None (CallSubmitted q a) next good numbers after p = call-keeps opened es place q k a numbers after p
+keeps-step opened es place k None (CallSubmitted q a) next good numbers after p = call-keeps opened es place q k a numbers after good.limits p
 keeps-step opened es place k None (MemoryRevoked q xid) next good numbers after p =
     quiet-keeps opened es (MemoryRevoked q xid) place place k (client_state_after opened k (MemoryRevoked q xid)) refl
     (revoked-settled place q k.regions k.accesses_received (λ r. eqb r.call xid) next p.settled) (λ h. asked-revoked opened es xid k.outstanding h) (λ h. backed-closed (λ r. eqb r.call xid) q k.regions (asked opened es) h) refl p

@@ -4,6 +4,7 @@ use Rattle.nr_wire.specs.declared.hello.Side.TheVariants.{Initiator, Responder}
 use Rattle.nr_link.specs.declared.end.End.{End as Stop}
 use Rattle.nr_link.specs.Frames.{Frame, frames_completed}
 use Rattle.nr_link.specs.Output.{own_hello}
+use Rattle.nr_reduce.proofs.OwnLimits.{client-limits-of, limited-plan}
 use Rattle.nr_reduce.specs.declared.call.Call.{Call}
 use Rattle.nr_reduce.specs.declared.call.Form.{Form}
 use Rattle.nr_reduce.specs.declared.call.Submission.TheVariants as submissions
@@ -51,7 +52,7 @@ first-good opened link before (marks.Submit l call form (submissions.Accepted xi
     by false is = tt
     by true is =
         let goes = h.0 (eqb-true l link is) in
-        record { stays = goes.stays; next = goes.next; plan = goes.plan; planned = goes.planned; xids = goes.xids; stags = goes.stags; writable = goes.writable; bytes = h.1.0; form = h.1.1 }
+        record { stays = goes.stays; next = goes.next; plan = goes.plan; planned = goes.planned; xids = goes.xids; stags = goes.stags; writable = goes.writable; bytes = h.1.0; form = h.1.1; limits = client-limits-of opened link before }
 first-good opened link before (marks.Submit l call form (submissions.Refused why)) h = tt
 first-good opened link before (marks.Submit l call form submissions.Dropped) h = tt
 first-good opened link before (marks.Fed l s bytes) h = by (eqb l link && same_side s Initiator) (frames_completed Responder (bytes_received link Initiator before) bytes)
@@ -99,7 +100,7 @@ record Tells (opened : LinkParameters) (es : List Event) (place : ℕ) (r : EndS
 short-event : (opened : LinkParameters) (k : ClientState) (ended : Option Stop) (e : Event) → CallsShort opened k.outstanding → ended ≡ None → ClientGood opened (record { state = k; ended = ended }) e → ClientShort opened k e
 unfolding ClientShort
 short-event opened k ended (FrameReceived f) h live good = h
-short-event opened k ended (CallSubmitted p a) h live good = short-call opened k a good.plan good.planned
+short-event opened k ended (CallSubmitted p a) h live good = short-call opened k a good.plan good.planned good.limits
 short-event opened k ended (MemoryRevoked p xid) h live good = tt
 short-event opened k ended (CallExecuted e) h live good = tt
 short-event opened k ended (QueueWritten taken) h live good = tt
@@ -259,7 +260,7 @@ submit-mark opened link before call form xid tells h each pre o post e =
     sym (from-append (start opened) opened.first_stag old a)
     ∙ ap (λ (xs : List AcceptedCall). outstanding_from (start opened) opened.first_stag xs) (sym all) ∙ e in
     let stag : k.stag ≡ next = tells.says.stag in
-    let same : own.plan ≡ h.plan = ap (λ (r : Result Plan TooLarge). plan_or (call_payload xid call) r) h.planned in
+    let same : own.plan ≡ h.plan = ap (λ (r : Result Plan TooLarge). plan_or (call_payload xid call) r) (limited-plan k xid call form (Ok h.plan) (client-limits-of opened link before) h.planned) in
     by_part (parted (asked_calls opened link before) own pre o post whole)
     (λ more is. submitted-later opened link before mark (length pre) o (each pre o more is))
     (λ is last. record {

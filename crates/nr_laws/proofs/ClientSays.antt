@@ -18,6 +18,7 @@ use Rattle.nr_link.specs.Reasons.{REASON_MSN, REASON_OFFSET, REASON_FORM, REASON
 use Rattle.nr_link.specs.SegmentFaults.{Readiness, SegmentFault, segment_fault, reason_if, next_msn, next_offset, no_buffer, is_malformed, missing_fault, is_too_many, has_length, terminate_fault}
 use Rattle.nr_link.specs.ReceiveState.{ReadRequest, read_request_in, read_request_of, message_completed, is_send}
 use Rattle.nr_link.specs.Ending.{frame_segment, frame_end, frame_end_by, end_of_fault, hello_end, missing_access}
+use Rattle.nr_reduce.proofs.OwnLimits.{ClientLimits}
 use Rattle.nr_reduce.specs.declared.mark.LinkParameters.{LinkParameters}
 use Rattle.nr_reduce.specs.declared.outline.Plan.{Plan}
 use Rattle.nr_reduce.specs.Limits.{numbers_end}
@@ -51,6 +52,7 @@ pub record IsGoodCall (opened : LinkParameters) (r : EndState ClientState) (a : 
   pub writable : CanWriteCred a.call.cred
   pub bytes : IsBytes (call_payload a.xid a.call)
   pub form : IsTypedForm a.form
+  pub limits : ClientLimits r.state
 
 abbrev pub ClientGood : LinkParameters → EndState ClientState → Event → Type 0
 ClientGood opened r (FrameReceived f) = Unit {0}

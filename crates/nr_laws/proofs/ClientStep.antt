@@ -23,6 +23,7 @@ use Rattle.nr_link.specs.Output.{msn_word}
 use Rattle.nr_link.specs.ReceiveState.{ReadRequest, read_request_in, begun_bytes}
 use Rattle.nr_link.specs.SegmentFaults.{SegmentFault, first_fault, missing_fault}
 use Rattle.nr_link.specs.Ending.{frame_segment, frame_end, frame_end_by, end_of_fault, denied_at, access_of, hello_end, missing_access}
+use Rattle.nr_reduce.proofs.OwnLimits.{ClientLimits, client-limits}
 use Rattle.nr_reduce.specs.declared.mark.LinkParameters.{LinkParameters}
 use Rattle.nr_reduce.specs.Opening.{IsOpened}
 use Rattle.nr_reduce.specs.declared.call.Outcome.TheVariants as outcomes
@@ -177,7 +178,7 @@ step-piece opened k s u d all_up all_down w place (SendFrame message) rest f o l
     (sym (ap (λ (r : EndState ClientState). r.state.first_xid) g.reached.1) ∙ first_xid-is opened g.reached.0)
     (omega (arith, l.counts.calls_up, l.counts.sends, l.counts.all_sends, left-waiting k.written k.send_ends)) g.answered in
     let ends : client_end k (FrameReceived f) ≡ end_of_verdict f (verdict k f.end whole) =
-    client-send opened k s w f message l.counts piece reply.least reply.most ∙ ap (λ (r : Result Segment ℕ). message_end k f (segment_message k r)) reads in
+    client-send opened k s w f message l.counts piece reply.least reply.most (subst (λ (r : EndState ClientState). ClientLimits r.state) g.reached.1 (client-limits opened g.reached.0)) ∙ ap (λ (r : Result Segment ℕ). message_end k f (segment_message k r)) reads in
     record {
       only = λ end e. inl (reply-end f (verdict k f.end whole) end (reason-verdict k f.end whole (subst IsRead (sym same) reply.read) answers.0 (ap (λ (xs : List ℕ). answered_call k (word_at 0 xs)) same ∙ answers.1)) (sym ends ∙ e));
       kept = λ stays. guards-send_down opened k s u d all_up all_down w place message rest f o l g first piece hello stays;

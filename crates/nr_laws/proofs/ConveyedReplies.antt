@@ -3,6 +3,7 @@ use Rattle.std.proofs.Common.{◌≡◌, ℕ, ◌<◌, true, false, cond, List, 
 use Rattle.nr_xdr.specs.Item.{IsBytes}
 use Rattle.nr_header.specs.declared.header.ChunkLists.{ChunkLists}
 use Rattle.nr_rpc.specs.Reading.{call_of, target_of}
+use Rattle.nr_reduce.proofs.OwnLimits.{server-limits}
 use Rattle.nr_reduce.specs.declared.call.Outcome.TheVariants as outcomes
 use Rattle.nr_reduce.specs.declared.call.Call.{Call}
 use Rattle.nr_reduce.specs.declared.mark.Mark.{Mark}
@@ -18,8 +19,8 @@ use Rattle.nr_reduce.specs.Undone.{after, answer_segments}
 use Rattle.nr_reduce.specs.ClientState.{ClientState, memory_at}
 use Rattle.nr_reduce.specs.Client.{client_rules, initial_client}
 use Rattle.nr_reduce.specs.Run.{client}
-use Rattle.nr_reduce.specs.ServerState.{ServerState, credit_word, down_max}
-use Rattle.nr_reduce.specs.Server.{offer_of}
+use Rattle.nr_reduce.specs.ServerState.{ServerState, credit_word}
+use Rattle.nr_reduce.specs.Server.{offer_of, answer_of_target}
 use Rattle.nr_reduce.specs.RunLaws.{server_by}
 use Rattle.nr_reduce.proofs.Answering.{conveyed}
 use Rattle.nr_reduce.proofs.OwnStags.{ClientNumbers, client-numbers}
@@ -143,7 +144,8 @@ both-conveyed opened link run before xid plan reply typed far has at r = by offe
     same_call inline lists h = ap (λ (c : Call). reply_conveyed c.prog c.vers c.proc inline lists (memory_at k place)) (sym call_is) ∙ h
 
     t : (prog : ℕ) × (vers : ℕ) × (proc : ℕ) × (answer_for (offer_of server e.xid) send_max prog vers proc e.reply ≡ Some a)
-    t = for_target (offer_of server e.xid) (down_max server) e.reply (target_of (call_of e.payload)) a r.answer.is_answer
+    t = for_target (offer_of server e.xid) send_max e.reply (target_of (call_of e.payload)) a
+        (ap (λ (n : ℕ). answer_of_target (offer_of server e.xid) n e.reply (target_of (call_of e.payload))) (sym (server-limits opened r.answer.earlier).down) ∙ r.answer.is_answer)
 
     answers : (offer : ChunkLists) → offer_of server e.xid ≡ offer → (prog vers proc : ℕ) → answer_for (offer_of server e.xid) send_max prog vers proc e.reply ≡ Some a → answer_for offer send_max prog vers proc e.reply ≡ Some a
     answers offer is prog vers proc h = ap (λ (o : ChunkLists). answer_for o send_max prog vers proc e.reply) (sym is) ∙ h

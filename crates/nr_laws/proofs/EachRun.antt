@@ -101,6 +101,7 @@ starts opened link = record {
       waits = record { numbers = tt; xids = tt; calls_below = tt; reads_below = tt; ready_apart = tt; ready_calls = tt; whole_calls = tt };
       sinks = tt;
       regions = record { stags = tt; calls = tt };
+      limits = record { up = refl; down = refl };
     };
     window = record { window = omega arith; grant = omega (arith, o.granted) };
     up_said = (tt, tt);

@@ -7,6 +7,7 @@ use Rattle.nr_wire.specs.Segment.{Segment}
 use Rattle.nr_wire.specs.Segment.Segment.{Tagged}
 use Rattle.nr_regions.specs.declared.denied.Denied.{Denied}
 use Rattle.nr_link.specs.declared.end.End.{End}
+use Rattle.nr_reduce.proofs.OwnLimits.{ClientLimits, ServerLimits}
 use Rattle.nr_reduce.specs.declared.mark.LinkParameters.{LinkParameters}
 use Rattle.nr_reduce.specs.Limits.{send_max}
 use Rattle.nr_link.specs.Limits.{open_reads_max}
@@ -36,11 +37,12 @@ server-by opened s f first_fault behind is = λ i. cond (behind i) (hello_end (h
 
 -- a Send: none of the link's reasons, and never for want of a receive
 pub server-send : (opened : LinkParameters) (k : ClientState) (s : ServerState) (w : Transit) (f : Frame) (message : List ℕ) (rest : List FrameContent) → TotalsAgree k s w → WithinWindow opened k → w.up ≡ SendFrame message ∷ rest
-    → Carries s.received.sends s.received.requests f (SendFrame message) → 16 ≤ length message → length message ≤ send_max → server_end opened s (FrameReceived f) ≡ refusal_end f (frame_effect s f).refusal
-server-send opened k s w f message rest c g head p long short =
+    → Carries s.received.sends s.received.requests f (SendFrame message) → 16 ≤ length message → length message ≤ send_max → ServerLimits s → server_end opened s (FrameReceived f) ≡ refusal_end f (frame_effect s f).refusal
+server-send opened k s w f message rest c g head p long short limits =
+    let up = limits.up in
     let some : 0 < total_of sends_in w.up = omega (arith, ap (total_of sends_in) head) in
     server-by opened s f None p.behind
-    (send-frame (readiness opened s) (region_grants f.end s.regions) s.received.sends s.received.requests f message p refl c.whole_up (lt-ltb (receives_in_use s) opened.granted (receives opened k s w c g some)) refl long short)
+    (send-frame (readiness opened s) (region_grants f.end s.regions) s.received.sends s.received.requests f message p refl c.whole_up (lt-ltb (receives_in_use s) opened.granted (receives opened k s w c g some)) refl long (omega (arith, short, up)))
 
 -- a segment of a Response: only what its access lacks
 lacks-none : (f : Frame) (segment : Segment) (lack : Option Denied) → lack ≡ None → end_of_fault f segment (first_fault (missing_fault lack ∷ [])) ≡ None
@@ -74,7 +76,8 @@ client-by k f found behind is = λ i. cond (behind i) (hello_end (hello_of Respo
 
 -- a message: its verdict alone
 pub client-send : (opened : LinkParameters) (k : ClientState) (s : ServerState) (w : Transit) (f : Frame) (message : List ℕ) → TotalsAgree k s w
-    → Carries k.received.sends k.received.requests f (SendFrame message) → 16 ≤ length message → length message ≤ send_max → client_end k (FrameReceived f) ≡ message_end k f (segment_message k (frame_segment f))
-client-send opened k s w f message c p long short =
+    → Carries k.received.sends k.received.requests f (SendFrame message) → 16 ≤ length message → length message ≤ send_max → ClientLimits k → client_end k (FrameReceived f) ≡ message_end k f (segment_message k (frame_segment f))
+client-send opened k s w f message c p long short limits =
+    let down = limits.down in
     client-by k f None p.behind
-    (send-frame (client_readiness k) (region_grants f.end k.regions) k.received.sends k.received.requests f message p refl c.whole_down refl refl long short)
+    (send-frame (client_readiness k) (region_grants f.end k.regions) k.received.sends k.received.requests f message p refl c.whole_down refl refl long (omega (arith, short, down)))

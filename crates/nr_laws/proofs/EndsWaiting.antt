@@ -14,7 +14,7 @@ use Rattle.nr_reduce.specs.Written.{ends_left, ends_waiting}
 use Rattle.nr_reduce.specs.ClientState.{ClientState, OutstandingCall}
 use Rattle.nr_reduce.specs.Client.{call_output, call_ends, response_output}
 use Rattle.nr_rpc.specs.Reading.{call_of, target_of}
-use Rattle.nr_reduce.specs.ServerState.{ServerState, credit_word, down_max}
+use Rattle.nr_reduce.specs.ServerState.{ServerState, credit_word}
 use Rattle.nr_reduce.specs.Server.{send_ends_from, offer_of, answer_of_target, answer_output, execution_output}
 
 abbrev pub AreAbove : ℕ → List ℕ → Type 0
@@ -79,7 +79,7 @@ output-some k place r = response-some _ _ _
 
 pub execution-some : (k : ServerState) (e : ExecutedCall) → 0 < length (execution_output k e)
 unfolding execution_output
-execution-some k e = by (offer_of k e.xid) (answer_of_target (offer_of k e.xid) (down_max k) e.reply (target_of (call_of e.payload)))
+execution-some k e = by (offer_of k e.xid) (answer_of_target (offer_of k e.xid) k.down_max e.reply (target_of (call_of e.payload)))
   where
     by : (offer : ChunkLists) (a : Option Answer) → 0 < length (answer_output k e.xid offer a)
     by offer None = send-some _ _

@@ -5,7 +5,7 @@ use Rattle.nr_reduce.specs.declared.mark.LinkParameters.{LinkParameters}
 use Rattle.nr_reduce.specs.History.{ExecutedCall}
 use Rattle.nr_reduce.specs.Events.Event.{CallExecuted, QueueWritten}
 use Rattle.nr_reduce.specs.ClientState.{ClientState}
-use Rattle.nr_reduce.specs.ServerState.{ServerState, ReadyCall, down_max}
+use Rattle.nr_reduce.specs.ServerState.{ServerState, ReadyCall}
 use Rattle.nr_reduce.specs.Server.{offer_of, answer_of_target, server_state_after}
 use Rattle.nr_laws.proofs.FrameContents.{server_frames}
 use Rattle.nr_laws.proofs.LinkInvariants.{Transit}
@@ -23,10 +23,11 @@ server-executes opened k s w place e r rest j first own =
     let t = server_state_after opened s (CallExecuted e) in
     record {
       counts = totals-executes opened k s w e j.counts j.waits.xids (executed-there s e.xid r rest j.waits first own);
-      reads = reads-says_down s t w (server_frames opened s (CallExecuted e)) j.reads refl refl (none-answered s e.xid (offer_of s e.xid) (answer_of_target (offer_of s e.xid) (down_max s) e.reply (target_of (call_of e.payload))));
+      reads = reads-says_down s t w (server_frames opened s (CallExecuted e)) j.reads refl refl (none-answered s e.xid (offer_of s e.xid) (answer_of_target (offer_of s e.xid) s.down_max e.reply (target_of (call_of e.payload))));
       waits = pending_agree-executes opened s e r rest j.waits first own;
       sinks = j.sinks;
       regions = record { stags = j.regions.stags; calls = j.regions.calls };
+      limits = record { up = j.limits.up; down = j.limits.down };
     }
 
 pub server-writes : (opened : LinkParameters) (k : ClientState) (s : ServerState) (w : Transit) (place taken : ℕ) → s.written + taken ≡ s.due → ServerEnds s → ServerAgrees opened k s w place
@@ -40,4 +41,5 @@ server-writes opened k s w place taken all ends j =
       waits = record { numbers = j.waits.numbers; xids = j.waits.xids; calls_below = j.waits.calls_below; reads_below = j.waits.reads_below; ready_apart = j.waits.ready_apart; ready_calls = j.waits.ready_calls; whole_calls = j.waits.whole_calls };
       sinks = j.sinks;
       regions = record { stags = j.regions.stags; calls = j.regions.calls };
+      limits = record { up = j.limits.up; down = j.limits.down };
     }

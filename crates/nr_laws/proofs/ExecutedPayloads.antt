@@ -1,5 +1,6 @@
 -- On a matched link a call that is executed was accepted, and goes out by a plan.
 use Rattle.std.proofs.Common.{◌≡◌, ℕ, List, Ok, subst}
+use Rattle.nr_reduce.proofs.OwnLimits.{client-limits-of, limited-plan}
 use Rattle.nr_reduce.specs.declared.call.Call.{Call}
 use Rattle.nr_reduce.specs.declared.call.Form.{Form}
 use Rattle.nr_reduce.specs.declared.mark.Mark.{Mark}
@@ -22,7 +23,7 @@ pub record IsOfPlan (stag : ℕ) (p : Plan) (c : PendingCall) : Type 0 where
 
 pub planned-by : (opened : LinkParameters) (link : ℕ) (before : List Mark) (xid : ℕ) (call : Call) (form : Form) (p : Plan) → plan_for (client opened link before).state xid call form ≡ Ok p → plan_of (call_payload xid call) form send_max send_max ≡ Ok p
 unfolding plan_for
-planned-by opened link before xid call form p e = e
+planned-by opened link before xid call form p e = limited-plan (client opened link before).state xid call form (Ok p) (client-limits-of opened link before) e
 
 pub executes_have_plans : ExecutesHavePlans
 executes_have_plans opened link run before xid moment payload place reply typed far h =

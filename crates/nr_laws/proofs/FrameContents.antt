@@ -21,7 +21,7 @@ use Rattle.nr_reduce.specs.Events.{Event}
 use Rattle.nr_reduce.specs.Events.Event.{FrameReceived, CallSubmitted, MemoryRevoked, CallExecuted, QueueWritten}
 use Rattle.nr_reduce.specs.ClientState.{ClientState, OutstandingCall, memory_at}
 use Rattle.nr_reduce.specs.Client.{outstanding_of, segment_request}
-use Rattle.nr_reduce.specs.ServerState.{ServerState, PendingRead, down_max, credit_word}
+use Rattle.nr_reduce.specs.ServerState.{ServerState, PendingRead, credit_word}
 use Rattle.nr_reduce.specs.ServerFrames.{FrameEffect, frame_effect}
 use Rattle.nr_reduce.specs.Server.{newly_open_reads, offer_of, answer_of_target}
 use Rattle.nr_rpc.specs.Reading.{call_of, target_of}
@@ -137,5 +137,5 @@ server_frames opened k (FrameReceived f) = if is_hello f then HelloFrame ∷ [] 
 server_frames opened k (CallSubmitted place a) = []
 server_frames opened k (MemoryRevoked place xid) = []
 server_frames opened k (CallExecuted e) =
-    answer_frames k e.xid (offer_of k e.xid) (answer_of_target (offer_of k e.xid) (down_max k) e.reply (target_of (call_of e.payload)))
+    answer_frames k e.xid (offer_of k e.xid) (answer_of_target (offer_of k e.xid) k.down_max e.reply (target_of (call_of e.payload)))
 server_frames opened k (QueueWritten taken) = []

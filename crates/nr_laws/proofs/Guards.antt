@@ -9,6 +9,7 @@ use Rattle.nr_header.specs.declared.header.ChunkLists.{ChunkLists}
 use Rattle.nr_rpc.specs.declared.head.CallTarget.{CallTarget}
 use Rattle.nr_rpc.specs.Reading.{call_of, target_of}
 use Rattle.nr_link.specs.Output.{segment_count}
+use Rattle.nr_reduce.proofs.OwnLimits.{ServerLimits}
 use Rattle.nr_reduce.specs.declared.mark.LinkParameters.{LinkParameters}
 use Rattle.nr_reduce.specs.Limits.{send_max}
 use Rattle.nr_reduce.specs.Holds.{Answer, answer_message, first_chunk, no_segments}
@@ -17,7 +18,7 @@ use Rattle.nr_reduce.specs.Events.{Event}
 use Rattle.nr_reduce.specs.EndRules.{live, end_state_after}
 use Rattle.nr_reduce.specs.ClientState.{ClientState, OutstandingCall}
 use Rattle.nr_reduce.specs.Client.{client_rules, initial_client}
-use Rattle.nr_reduce.specs.ServerState.{ServerState, PendingRead, down_max}
+use Rattle.nr_reduce.specs.ServerState.{ServerState, PendingRead}
 use Rattle.nr_reduce.specs.ServerFrames.{FrameEffect}
 use Rattle.nr_reduce.specs.Server.{newly_open_reads, offer_of, answer_of_target}
 use Rattle.nr_laws.proofs.FrameContents.{FrameContent, request_frame, effect_frames, write_frames, answer_frames, tagged_frames, call_frame}
@@ -97,11 +98,12 @@ fills-down credit (p ∷ chunk) bytes =
     by true = tt
     by false = cuts-down credit p.handle _ _ _ (range_with_len 0 (segment_count (take p.length bytes)))
 
-answer-down : (k : ServerState) (xid : ℕ) (offer : ChunkLists) (reply : List ℕ) (t : Option CallTarget) (o : Option Answer) → xid < 2 ^ 32 → k.credit < 2 ^ 32 → answer_of_target offer (down_max k) reply t ≡ o → OfferFits offer → AllByRecursion (ServerContent k.credit) (answer_frames k xid offer o)
-answer-down k xid offer reply t None word lt e fits = (chunk_error-reply xid k.credit word lt, tt)
-answer-down k xid offer reply t (Some a) word lt e fits =
-    let target = for_target offer (down_max k) reply t a e in
-    let one = answer-reply offer (down_max k) target.0 target.1 target.2 xid k.credit reply a (omega arith) word lt fits target.3 in
+answer-down : (k : ServerState) → ServerLimits k → (xid : ℕ) (offer : ChunkLists) (reply : List ℕ) (t : Option CallTarget) (o : Option Answer) → xid < 2 ^ 32 → k.credit < 2 ^ 32 → answer_of_target offer k.down_max reply t ≡ o → OfferFits offer → AllByRecursion (ServerContent k.credit) (answer_frames k xid offer o)
+answer-down k l xid offer reply t None word lt e fits = (chunk_error-reply xid k.credit word lt, tt)
+answer-down k l xid offer reply t (Some a) word lt e fits =
+    let down = l.down in
+    let target = for_target offer k.down_max reply t a e in
+    let one = answer-reply offer k.down_max target.0 target.1 target.2 xid k.credit reply a (omega (arith, down)) word lt fits target.3 in
     each-append (ServerContent k.credit) (write_frames (first_chunk offer.write) a.moved) (cond a.long (write_frames (no_segments offer.reply) a.stream) [] ++ (SendFrame (answer_message xid k.credit offer a) ∷ []))
     (fills-down k.credit (first_chunk offer.write) a.moved)
     (each-append (ServerContent k.credit) (cond a.long (write_frames (no_segments offer.reply) a.stream) []) (SendFrame (answer_message xid k.credit offer a) ∷ []) (by a.long) (one, tt))
@@ -110,5 +112,5 @@ answer-down k xid offer reply t (Some a) word lt e fits =
     by true = fills-down k.credit (no_segments offer.reply) a.stream
     by false = tt
 
-pub execution-down : (k : ServerState) (e : ExecutedCall) → e.xid < 2 ^ 32 → k.credit < 2 ^ 32 → CallsFit k.calls → AllByRecursion (ServerContent k.credit) (execution_frames k e)
-execution-down k e word lt h = answer-down k e.xid (offer_of k e.xid) e.reply (target_of (call_of e.payload)) _ word lt refl (found-fits e.xid k.calls h)
+pub execution-down : (k : ServerState) (e : ExecutedCall) → ServerLimits k → e.xid < 2 ^ 32 → k.credit < 2 ^ 32 → CallsFit k.calls → AllByRecursion (ServerContent k.credit) (execution_frames k e)
+execution-down k e l word lt h = answer-down k l e.xid (offer_of k e.xid) e.reply (target_of (call_of e.payload)) _ word lt refl (found-fits e.xid k.calls h)

@@ -189,6 +189,7 @@ guards-hello_down opened k s u d all_up all_down w place rest f l g first is sta
       waits = g.server.waits;
       sinks = g.server.sinks;
       regions = g.server.regions;
+      limits = g.server.limits;
     } in
     subst (λ (ps : List FrameContent). Guards opened t s u (d ++ HelloFrame ∷ []) (all_up ++ ps) all_down (down_one w ps rest) place) (sym says)
     (guards-down opened k t s u d all_up all_down w place HelloFrame rest said (FrameReceived f) g server (subst (WithinWindow opened) (sym after) (record { window = g.window.window; grant = g.window.grant })) (asks-up opened k.outstanding g.calls) (subst (λ (x : ClientState). AreSized opened x.outstanding) (sym after) g.calls) asked (ap (λ (x : ClientState). x.has_hello) after)
@@ -218,6 +219,7 @@ guards-send_down opened k s u d all_up all_down w place message rest f o l g fir
       waits = g.server.waits;
       sinks = g.server.sinks;
       regions = g.server.regions;
+      limits = g.server.limits;
     } in
     subst (λ (ps : List FrameContent). Guards opened t s u (d ++ SendFrame message ∷ []) (all_up ++ ps) all_down (down_one w ps rest) place) (sym says)
     (guards-down opened k t s u d all_up all_down w place (SendFrame message) rest [] (FrameReceived f) g server (subst (WithinWindow opened) (sym after) window) tt (sized-frame opened k t f (Ok segment) after g.calls) tt (behind-hello opened k t s u d all_up all_down w f (Ok segment) after hello)
@@ -279,6 +281,7 @@ guards-read_down opened k s u d all_up all_down w place sink at size stag to res
       waits = g.server.waits;
       sinks = g.server.sinks;
       regions = g.server.regions;
+      limits = g.server.limits;
     } in
     guards-down opened k t s u d all_up all_down w place (RequestFrame sink at size stag to) rest said (FrameReceived f) g server (subst (WithinWindow opened) (sym after) (record { window = g.window.window; grant = g.window.grant }))
     (tagged-up opened k f (Ok segment) piece.behind reads) (sized-frame opened k t f (Ok segment) after g.calls) (tagged-xids (opened.first_xid + total_of sends_in all_up) opened k f (Ok segment) piece.behind reads) (behind-hello opened k t s u d all_up all_down w f (Ok segment) after hello)
@@ -303,6 +306,7 @@ guards-tagged_down opened k s u d all_up all_down w place last opcode stag to pa
       waits = g.server.waits;
       sinks = g.server.sinks;
       regions = g.server.regions;
+      limits = g.server.limits;
     } in
     subst (λ (ps : List FrameContent). Guards opened t s u (d ++ TaggedFrame last opcode stag to payload ∷ []) (all_up ++ ps) all_down (down_one w ps rest) place) (sym says)
     (guards-down opened k t s u d all_up all_down w place (TaggedFrame last opcode stag to payload) rest [] (FrameReceived f) g server (subst (WithinWindow opened) (sym after) (record { window = g.window.window; grant = g.window.grant })) tt (sized-frame opened k t f (Ok segment) after g.calls) tt (behind-hello opened k t s u d all_up all_down w f (Ok segment) after hello)

@@ -5,6 +5,7 @@ use Rattle.nr_rpc.specs.Reading.{call_of, target_of}
 use Rattle.std.specs.List.{AllByRecursion}
 use Rattle.std.proofs.lemmas.List.{length-map}
 use Rattle.nr_link.specs.declared.end.End.{End}
+use Rattle.nr_reduce.proofs.OwnLimits.{ClientLimits}
 use Rattle.nr_reduce.specs.declared.mark.LinkParameters.{LinkParameters}
 use Rattle.nr_reduce.specs.declared.outline.Plan.{Plan}
 use Rattle.nr_reduce.specs.Opening.{IsOpened}
@@ -35,7 +36,6 @@ use Rattle.nr_laws.proofs.CallWords.{call-words}
 use Rattle.nr_laws.proofs.CallNumbers.{XidsFrom, xids-append, own_xids-push, own_xids-map, IsNumbered}
 use Rattle.nr_laws.proofs.ClientFrame.{calls_said}
 use Rattle.nr_reduce.specs.Server.{offer_of, answer_of_target}
-use Rattle.nr_reduce.specs.ServerState.{down_max}
 use Rattle.nr_laws.proofs.PendingExecuted.{executed-there}
 use Rattle.nr_laws.proofs.AnsweredCalls.{times, answer-xids, executed-less}
 use Rattle.nr_laws.proofs.AnsweredSteps.{Answered, answered-submit, answered-map, answered-server}
@@ -56,13 +56,14 @@ reached-more opened k event stays r = (
 
 -- ---- A call is submitted
 
-sized-call : (opened : LinkParameters) (k : ClientState) (a : AcceptedCall) (plan : Plan) → plan_for k a.xid a.call a.form ≡ Ok plan → a.xid < numbers_end → IsAsked opened (outstanding_of k a)
+sized-call : (opened : LinkParameters) (k : ClientState) (a : AcceptedCall) (plan : Plan) → plan_for k a.xid a.call a.form ≡ Ok plan → a.xid < numbers_end → ClientLimits k → IsAsked opened (outstanding_of k a)
 unfolding plan_for plan_size
-sized-call opened k a plan is lt =
-    let size = message_size (call_payload a.xid a.call) a.form send_max send_max a.xid opened.wished k.stag plan is in
+sized-call opened k a plan is lt limits =
+    let up = limits.up in
+    let size = message_size (call_payload a.xid a.call) a.form k.up_max k.down_max a.xid opened.wished k.stag plan is in
     let words = call-words a.xid opened.wished k.stag (outstanding_of k a).plan lt in
     let fits = subst (λ (p : Plan). (16 ≤ length (call_message a.xid opened.wished k.stag p)) × (length (call_message a.xid opened.wished k.stag p) ≤ send_max))
-    (sym (planned (call_payload a.xid a.call) (plan_for k a.xid a.call a.form) plan is)) (omega (arith, size.0), size.1) in
+    (sym (planned (call_payload a.xid a.call) (plan_for k a.xid a.call a.form) plan is)) (omega (arith, size.0), omega (arith, size.1, up)) in
     ((fits.0, fits.1, words.version, words.kind, one-chunk a.xid opened.wished k.stag (outstanding_of k a).plan), words.xid_is)
 
 none-says : (b : Bool) (message : List ℕ) → AnswersNone (cond b (SendFrame message ∷ []) [])
@@ -73,14 +74,14 @@ up-says : (b : Bool) (message : List ℕ) → ClientContent (SendFrame message) 
 up-says true message h = (h, tt)
 up-says false message h = tt
 
-pub guards-submit : (opened : LinkParameters) (k : ClientState) (s : ServerState) (u d all_up all_down : List FrameContent) (w : Transit) (up place : ℕ) (a : AcceptedCall) (plan : Plan) → EndsAgree opened k s u d all_up all_down w → Guards opened k s u d all_up all_down w up → plan_for k a.xid a.call a.form ≡ Ok plan → a.xid ≡ next_xid opened k → a.xid < numbers_end → length k.outstanding < k.grant
+pub guards-submit : (opened : LinkParameters) (k : ClientState) (s : ServerState) (u d all_up all_down : List FrameContent) (w : Transit) (up place : ℕ) (a : AcceptedCall) (plan : Plan) → EndsAgree opened k s u d all_up all_down w → Guards opened k s u d all_up all_down w up → plan_for k a.xid a.call a.form ≡ Ok plan → a.xid ≡ next_xid opened k → a.xid < numbers_end → ClientLimits k → length k.outstanding < k.grant
     → Guards opened (client_state_after opened k (CallSubmitted place a)) s u d (all_up ++ client_frames opened k (CallSubmitted place a)) all_down (up_more w (client_frames opened k (CallSubmitted place a))) up
 unfolding client_state_after client_frames client_end
-guards-submit opened k s u d all_up all_down w up place a plan l g is own lt room =
+guards-submit opened k s u d all_up all_down w up place a plan l g is own lt limits room =
     let t = client_state_after opened k (CallSubmitted place a) in
     let said = client_frames opened k (CallSubmitted place a) in
     let message = call_message a.xid opened.wished k.stag (outstanding_of k a).plan in
-    let one = sized-call opened k a plan is lt in
+    let one = sized-call opened k a plan is lt limits in
     record {
       server = record {
         counts = totals-accepts opened k s w place a g.server.counts;
@@ -88,6 +89,7 @@ guards-submit opened k s u d all_up all_down w up place a plan l g is own lt roo
         waits = g.server.waits;
         sinks = g.server.sinks;
         regions = g.server.regions;
+        limits = g.server.limits;
       };
       window = record { window = omega (arith, g.window.grant, room, length-append k.outstanding (outstanding_of k a ∷ [])); grant = g.window.grant };
       up_said = each-append ClientContent all_up said g.up_said (up-says k.has_hello message one.0);
@@ -113,7 +115,7 @@ guards-submit opened k s u d all_up all_down w up place a plan l g is own lt roo
     new-xid true e =
         let sends : total_of sends_in all_up ≡ k.calls_accepted = calls_said opened k s u d all_up all_down w l ∙ ap (λ (b : Bool). cond b k.calls_accepted 0) e in
         subst (λ (b : Bool). XidsFrom (opened.first_xid + total_of sends_in all_up) (cond b (call_frame opened (outstanding_of k a) ∷ []) [])) (sym e)
-        ((sized-call opened k a plan is lt).1 ∙ omega (arith, own, sends), tt)
+        ((sized-call opened k a plan is lt limits).1 ∙ omega (arith, own, sends), tt)
     new-xid false e = subst (λ (b : Bool). XidsFrom (opened.first_xid + total_of sends_in all_up) (cond b (call_frame opened (outstanding_of k a) ∷ []) [])) (sym e) tt
 
 -- ---- Memory is revoked, and a queue is written
@@ -130,7 +132,7 @@ pub guards-revoke : (opened : LinkParameters) (k : ClientState) (s : ServerState
     → Guards opened (client_state_after opened k (MemoryRevoked place xid)) s u d all_up all_down w up
 unfolding client_state_after client_end
 guards-revoke opened k s u d all_up all_down w up place xid g = record {
-  server = record { counts = totals-revoked opened k s w place xid g.server.counts; reads = g.server.reads; waits = g.server.waits; sinks = g.server.sinks; regions = g.server.regions };
+  server = record { counts = totals-revoked opened k s w place xid g.server.counts; reads = g.server.reads; waits = g.server.waits; sinks = g.server.sinks; regions = g.server.regions; limits = g.server.limits };
   window = record { window = omega (arith, g.window.window, length-map k.outstanding (revoked_call xid)); grant = g.window.grant };
   up_said = g.up_said;
   down_said = g.down_said;
@@ -149,7 +151,7 @@ pub guards-written_up : (opened : LinkParameters) (k : ClientState) (s : ServerS
     → Guards opened (client_state_after opened k (QueueWritten taken)) s u d all_up all_down (record { queued_up = []; up = w.up ++ w.queued_up; queued_down = w.queued_down; down = w.down }) up
 unfolding client_state_after client_end
 guards-written_up opened k s u d all_up all_down w up taken all ends g = record {
-  server = record { counts = totals-writes_up opened k s w taken all ends g.server.counts; reads = reads-writes_up s w g.server.reads; waits = g.server.waits; sinks = g.server.sinks; regions = g.server.regions };
+  server = record { counts = totals-writes_up opened k s w taken all ends g.server.counts; reads = reads-writes_up s w g.server.reads; waits = g.server.waits; sinks = g.server.sinks; regions = g.server.regions; limits = g.server.limits };
   window = record { window = g.window.window; grant = g.window.grant };
   up_said = g.up_said;
   down_said = g.down_said;
@@ -178,7 +180,7 @@ guards-execute opened k s u d all_up all_down w up e r rest o l g fits first own
       window = g.window;
       up_said = g.up_said;
       down_said = each-append (ServerContent opened.granted) all_down (server_frames opened s (CallExecuted e)) g.down_said
-          (subst (λ (n : ℕ). AllByRecursion (ServerContent n) (server_frames opened s (CallExecuted e))) g.credit (execution-down s e xid_word small fits));
+          (subst (λ (n : ℕ). AllByRecursion (ServerContent n) (server_frames opened s (CallExecuted e))) g.credit (execution-down s e g.server.limits xid_word small fits));
       credit = g.credit;
       calls = g.calls;
       within = g.within;
@@ -186,7 +188,7 @@ guards-execute opened k s u d all_up all_down w up e r rest o l g fits first own
       xids = g.xids;
       unsaid = g.unsaid;
       answered = answered-server opened.first_xid k s (server_state_after opened s (CallExecuted e)) u d all_down w (record { queued_up = w.queued_up; up = w.up; queued_down = w.queued_down ++ server_frames opened s (CallExecuted e); down = w.down }) (server_frames opened s (CallExecuted e)) refl
-          (λ x. omega (arith, executed-less x e.xid s.calls there, ap (λ (xs : List ℕ). times x xs) (answer-xids s e.xid (offer_of s e.xid) (answer_of_target (offer_of s e.xid) (down_max s) e.reply (target_of (call_of e.payload))) xid_word))) g.answered;
+          (λ x. omega (arith, executed-less x e.xid s.calls there, ap (λ (xs : List ℕ). times x xs) (answer-xids s e.xid (offer_of s e.xid) (answer_of_target (offer_of s e.xid) s.down_max e.reply (target_of (call_of e.payload))) xid_word))) g.answered;
       numbers = each-kept (IsNumbered opened.first_xid) (λ c. not (eqb c.xid e.xid)) s.calls g.numbers;
       reached = g.reached;
     }

@@ -226,6 +226,7 @@ hello-guards opened k s u d all_up all_down w place rest f g first is le =
       waits = waits-greeted s g.server.waits;
       sinks = later-sinks place f.end s.regions s.reads le g.server.sinks;
       regions = record { stags = g.server.regions.stags; calls = g.server.regions.calls };
+      limits = record { up = g.server.limits.up; down = g.server.limits.down };
     } in
     subst (λ (said : List FrameContent). Guards opened k (server_state_after opened s (FrameReceived f)) (u ++ HelloFrame ∷ []) d all_up (all_down ++ said) (taken_up w rest said) f.end) (sym says)
     (subst (λ (t : ServerState). Guards opened k t (u ++ HelloFrame ∷ []) d all_up (all_down ++ HelloFrame ∷ []) (taken_up w rest (HelloFrame ∷ [])) f.end) (sym after)

@@ -9,7 +9,8 @@ use Rattle.nr_header.specs.Reading.{header_of}
 use Rattle.nr_wire.specs.declared.hello.Side.TheVariants.{Responder}
 use Rattle.nr_rpc.specs.declared.head.CallHead.{CallHead}
 use Rattle.nr_rpc.specs.declared.head.CallHead.TheVariants as calls
-use Rattle.nr_rpc.specs.Reading.{reply_of, head_xid, xid_of_call, target_of}
+use Rattle.nr_rpc.specs.Reading.{reply_of, head_xid, xid_of_call, target_of, call_of}
+use Rattle.nr_reduce.proofs.OwnLimits.{server-limits}
 use Rattle.nr_reduce.specs.declared.call.Call.{Call}
 use Rattle.nr_outside.specs.declared.moment.Moment.{Moment}
 use Rattle.nr_reduce.specs.declared.mark.Entry.{Entry}
@@ -182,7 +183,8 @@ answer-judges opened link run reason opens typed far d j s = record {
 
     answer : answer_for (lists_of stag plan) send_max u.call.prog u.call.vers u.call.proc e.reply ≡ Some a
     answer = ap (λ (o : ChunkLists). answer_for o send_max u.call.prog u.call.vers u.call.proc e.reply) (sym offer)
-        ∙ ap (λ (r : Result CallHead ℕ). answer_of_target (offer_of server e.xid) send_max e.reply (target_of r)) (sym own.head) ∙ s.is_answer
+        ∙ ap (λ (r : Result CallHead ℕ). answer_of_target (offer_of server e.xid) send_max e.reply (target_of r)) (sym own.head)
+        ∙ ap (λ (n : ℕ). answer_of_target (offer_of server e.xid) n e.reply (target_of (call_of e.payload))) (sym (server-limits opened s.earlier).down) ∙ s.is_answer
 
     -- what is read of its message
     message : d.message ≡ answer_message e.xid (credit_word server) (lists_of stag plan) a

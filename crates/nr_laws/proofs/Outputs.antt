@@ -27,7 +27,7 @@ use Rattle.nr_reduce.specs.Undone.{answer_segments}
 use Rattle.nr_reduce.proofs.Answering.{answer_spells}
 use Rattle.nr_reduce.specs.ClientState.{ClientState, OutstandingCall, memory_at}
 use Rattle.nr_reduce.specs.Client.{client_output, calls_output, call_output, response_output, segment_request, outstanding_of}
-use Rattle.nr_reduce.specs.ServerState.{ServerState, PendingRead, down_max, credit_word}
+use Rattle.nr_reduce.specs.ServerState.{ServerState, PendingRead, credit_word}
 use Rattle.nr_reduce.specs.ServerFrames.{FrameEffect, frame_effect}
 use Rattle.nr_reduce.specs.Server.{server_output, sends_from, requests_from, newly_open_reads, effect_output, offer_of, answer_of_target, answer_output, execution_output}
 
@@ -226,7 +226,7 @@ answer_outputs k xid offer None = ASegment (send_segment (k.messages_queued + 1)
 answer_outputs k xid offer (Some a) = map ASegment (answer_segments offer a) ++ ASegment (send_segment (k.messages_queued + 1) (answer_message xid (credit_word k) offer a)) ∷ []
 
 abbrev pub answer_of_call : ServerState → ExecutedCall → Option Answer
-answer_of_call k e = answer_of_target (offer_of k e.xid) (down_max k) e.reply (target_of (call_of e.payload))
+answer_of_call k e = answer_of_target (offer_of k e.xid) k.down_max e.reply (target_of (call_of e.payload))
 
 unfoldable pub server_says : LinkParameters → ServerState → Event → List Output
 server_says opened k (FrameReceived f) = cond (is_hello f) (AHello (own_hello Responder) ∷ []) (effect_outputs k (frame_effect k f))

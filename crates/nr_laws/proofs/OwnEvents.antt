@@ -9,6 +9,7 @@ use Rattle.nr_wire.specs.Segment.Segment.{Untagged}
 use Rattle.nr_rpc.specs.Reading.{call_of, target_of}
 use Rattle.nr_link.specs.Output.{msn_word}
 use Rattle.nr_link.specs.ReceiveState.{ReceiveState}
+use Rattle.nr_reduce.proofs.OwnLimits.{ClientLimits, ServerLimits}
 use Rattle.nr_reduce.specs.declared.mark.LinkParameters.{LinkParameters}
 use Rattle.nr_reduce.specs.declared.outline.Plan.{Plan}
 use Rattle.nr_reduce.specs.Plans.{TooLarge, call_message}
@@ -16,7 +17,7 @@ use Rattle.nr_reduce.specs.History.{AcceptedCall, ExecutedCall}
 use Rattle.nr_reduce.specs.Events.Event.{CallSubmitted, MemoryRevoked, CallExecuted, QueueWritten}
 use Rattle.nr_reduce.specs.SubmitAnswer.{next_xid}
 use Rattle.nr_reduce.specs.ClientState.{ClientState, OutstandingCall, call_payload, plan_for}
-use Rattle.nr_reduce.specs.ServerState.{ServerState, PendingCall, ReadyCall, down_max}
+use Rattle.nr_reduce.specs.ServerState.{ServerState, PendingCall, ReadyCall}
 use Rattle.nr_reduce.specs.Client.{client_state_after, client_output, call_output, outstanding_of, plan_or, revoked_call}
 use Rattle.nr_reduce.specs.Server.{server_state_after, server_output, offer_of, answer_of_target}
 use Rattle.nr_reduce.proofs.Sizes.{message_size}
@@ -74,19 +75,20 @@ pub record Submitted (opened : LinkParameters) (k : ClientState) (s : ServerStat
   pub output : client_output opened k (CallSubmitted place a) ≡ output_bytes Initiator (total_of sends_in all_up) (total_of requests_in all_up) said
   pub linked : EndsAgree opened (client_state_after opened k (CallSubmitted place a)) s u d (all_up ++ said) all_down (up_more w said)
 
-short-call : (opened : LinkParameters) (k : ClientState) (a : AcceptedCall) (plan : Plan) → plan_for k a.xid a.call a.form ≡ Ok plan → IsShort (call_message a.xid opened.wished k.stag (outstanding_of k a).plan)
+short-call : (opened : LinkParameters) (k : ClientState) (a : AcceptedCall) (plan : Plan) → plan_for k a.xid a.call a.form ≡ Ok plan → ClientLimits k → IsShort (call_message a.xid opened.wished k.stag (outstanding_of k a).plan)
 unfolding plan_for
-short-call opened k a plan is =
-    let size = message_size (call_payload a.xid a.call) a.form send_max send_max a.xid opened.wished k.stag plan is in
-    subst (λ (p : Plan). IsShort (call_message a.xid opened.wished k.stag p)) (sym (planned (call_payload a.xid a.call) (plan_for k a.xid a.call a.form) plan is)) (omega (arith, size.1))
+short-call opened k a plan is limits =
+    let up = limits.up in
+    let size = message_size (call_payload a.xid a.call) a.form k.up_max k.down_max a.xid opened.wished k.stag plan is in
+    subst (λ (p : Plan). IsShort (call_message a.xid opened.wished k.stag p)) (sym (planned (call_payload a.xid a.call) (plan_for k a.xid a.call a.form) plan is)) (omega (arith, size.1, up))
 
 pub submitted : (opened : LinkParameters) (k : ClientState) (s : ServerState) (u d all_up all_down : List FrameContent) (w : Transit) (place : ℕ) (a : AcceptedCall) (plan : Plan) → EndsAgree opened k s u d all_up all_down w
-    → a.xid ≡ next_xid opened k → plan_for k a.xid a.call a.form ≡ Ok plan → Submitted opened k s u d all_up all_down w place a
+    → a.xid ≡ next_xid opened k → plan_for k a.xid a.call a.form ≡ Ok plan → ClientLimits k → Submitted opened k s u d all_up all_down w place a
 unfolding client_state_after client_frames client_output
-submitted opened k s u d all_up all_down w place a plan l own is = by k.has_hello refl
+submitted opened k s u d all_up all_down w place a plan l own is limits = by k.has_hello refl
   where
     short : IsShort (call_message a.xid opened.wished k.stag (outstanding_of k a).plan)
-    short = short-call opened k a plan is
+    short = short-call opened k a plan is limits
 
     p : FrameContent
     p = call_frame opened (outstanding_of k a)
@@ -206,19 +208,19 @@ some-calls xid [] e = absurd cc
 some-calls xid (c ∷ calls) e = omega arith
 
 pub executed : (opened : LinkParameters) (k : ClientState) (s : ServerState) (u d all_up all_down : List FrameContent) (w : Transit) (e : ExecutedCall) (r : ReadyCall) (rest : List ReadyCall) → EndsAgree opened k s u d all_up all_down w
-    → s.ready ≡ r ∷ rest → e.xid ≡ r.xid → 0 < total_of hellos_in all_down → Executed opened k s u d all_up all_down w e
+    → s.ready ≡ r ∷ rest → e.xid ≡ r.xid → 0 < total_of hellos_in all_down → ServerLimits s → Executed opened k s u d all_up all_down w e
 unfolding server_state_after server_frames server_output
-executed opened k s u d all_up all_down w e r rest l first own begun =
+executed opened k s u d all_up all_down w e r rest l first own begun limits =
     let said = execution_frames s e in
     let t = server_state_after opened s (CallExecuted e) in
-    let answer = answer_of_target (offer_of s e.xid) (down_max s) e.reply (target_of (call_of e.payload)) in
+    let answer = answer_of_target (offer_of s e.xid) s.down_max e.reply (target_of (call_of e.payload)) in
     let there = executed-there s e.xid r rest l.waits first own in
     let hellos : total_of hellos_in said ≡ 0 = answer-counts hellos_in 0 (λ last stag to payload. refl) (λ message. refl) s e.xid (offer_of s e.xid) answer in
     let reads : total_of requests_in said ≡ 0 = answer-counts requests_in 0 (λ last stag to payload. refl) (λ message. refl) s e.xid (offer_of s e.xid) answer in
     record {
       said = said;
       said_is = refl;
-      output = execution-said s s.requests_sent e l.fits ∙ (λ i. output_bytes Responder (messages_said opened k s u d all_up all_down w l i) (l.requests_sent i) said);
+      output = execution-said s s.requests_sent e limits l.fits ∙ (λ i. output_bytes Responder (messages_said opened k s u d all_up all_down w l i) (l.requests_sent i) said);
       linked = record {
         parts_up = l.parts_up;
         parts_down =
@@ -230,7 +232,7 @@ executed opened k s u d all_up all_down w e r rest l first own begun =
         short = l.short;
         stream_up = l.stream_up;
         begins_up = l.begins_up;
-        stream_down = stream-more all_down said l.stream_down begun (execution-proper s e l.fits);
+        stream_down = stream-more all_down said l.stream_down begun (execution-proper s e limits l.fits);
         hellos_down = omega (arith, l.hellos_down, hellos, total-append hellos_in all_down said);
         no_reads = l.no_reads;
         sends_up = l.sends_up;

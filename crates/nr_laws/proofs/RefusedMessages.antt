@@ -122,7 +122,7 @@ tested k message e = by (not (eqb (word_at 4 message) 1)) refl (eqb (word_at 12 
 pub long-enough : (opened : LinkParameters) (k : ClientState) (xid : ℕ) (call : Call) (form : Form) (plan : Plan) → plan_for k xid call form ≡ Ok plan → 16 ≤ length (call_message xid opened.wished k.stag plan)
 unfolding plan_for plan_size
 long-enough opened k xid call form plan is =
-    let size = (message_size (call_payload xid call) form send_max send_max xid opened.wished k.stag plan is).0 in
+    let size = (message_size (call_payload xid call) form k.up_max k.down_max xid opened.wished k.stag plan is).0 in
     omega (arith, size)
 
 -- ---- The message of a Send that is refused

@@ -26,7 +26,7 @@ use Rattle.nr_reduce.specs.Matched.{IsPrefixOf}
 use Rattle.nr_reduce.specs.Events.{Event, events, events_at, if_own}
 use Rattle.nr_reduce.specs.Events.Event.{CallExecuted}
 use Rattle.nr_reduce.specs.EndRules.{EndState, end_state_after}
-use Rattle.nr_reduce.specs.ServerState.{ServerState, ReadyCall, down_max, credit_word}
+use Rattle.nr_reduce.specs.ServerState.{ServerState, ReadyCall, credit_word}
 use Rattle.nr_reduce.specs.Server.{server_rules, server_end, initial_server, offer_of, answer_of_target}
 use Rattle.nr_reduce.specs.Served.{ServedMark, IsExecuted, first_ready, next_call}
 use Rattle.nr_reduce.specs.Run.{server}
@@ -191,7 +191,7 @@ answers_convey opened link run before xid moment payload place reply answer type
     let offer : ChunkLists = offer_of k xid in
     let x : IsExecuted opened link before xid payload = at-mark (ServedMark IsPrefixOf opened link) run before mark at.after at.is served refl in
     let bytes : IsBytes reply = at-mark TypedMark run before mark at.after at.is typed in
-    let m = made-by offer (down_max k) reply (target_of (call_of payload)) answer bytes held in
+    let m = made-by offer k.down_max reply (target_of (call_of payload)) answer bytes held in
     let old : List OutputItem = items_due opened link Responder before in
     let last : List OutputItem = SendItem (msn_word (k.messages_queued + 1)) (answer_message xid k.credit offer answer) ∷ [] in
     record {
@@ -200,5 +200,5 @@ answers_convey opened link run before xid moment payload place reply answer type
           ∙ ap (λ (o : Option Answer). old ++ answer_items k xid offer o) held
           ∙ ap (λ (items : List OutputItem). old ++ (items ++ last)) (answer-writes offer m.prog m.vers m.proc reply answer m.made_for);
       all = all-brought offer m.prog m.vers m.proc reply answer m.made_for;
-      conveys = conveys-by offer (down_max k) reply (target_of (call_of payload)) answer bytes held;
+      conveys = conveys-by offer k.down_max reply (target_of (call_of payload)) answer bytes held;
     }

@@ -12,6 +12,7 @@ use Rattle.nr_link.specs.Frames.{Frame, is_hello}
 use Rattle.nr_link.specs.Output.{own_hello, refusing_hello}
 use Rattle.nr_link.specs.ReceiveState.{ReceiveState, received_after, message_completed, begun_bytes, is_send, send_continued}
 use Rattle.nr_link.specs.Ending.{frame_segment}
+use Rattle.nr_reduce.proofs.OwnLimits.{ServerLimits, server-limits}
 use Rattle.nr_reduce.specs.declared.mark.LinkParameters.{LinkParameters}
 use Rattle.nr_reduce.specs.History.{ExecutedCall}
 use Rattle.nr_reduce.specs.Events.{Event}
@@ -187,12 +188,13 @@ executed-step : (opened : LinkParameters) (es : List Event) (place : ℕ) (k : S
     → ServerTells opened es place (record { state = k; ended = None }) outs → (o : Option Answer) → answer_of_call k e ≡ o → Grows opened es place (record { state = k; ended = None }) outs (CallExecuted e) (answer_outputs k e.xid (offer_of k e.xid) o)
 unfolding server_says server_output server_state_after server_end ServerShort
 executed-step opened es place k outs e good t o is =
-    let own = fine-answer k e t.fit o is in
-    let there = ready-shape place k outs good.call good.others good.is_next t.shape in
     let at : k ≡ server_by opened es = ap (λ (r : EndState ServerState). r.state) t.state in
+    let limits : ServerLimits k = subst (λ (x : ServerState). ServerLimits x) (sym at) (server-limits opened es) in
+    let own = fine-answer k e limits t.fit o is in
+    let there = ready-shape place k outs good.call good.others good.is_next t.shape in
     record {
       outputs = ap (λ (x : Option Answer). answer_outputs k e.xid (offer_of k e.xid) x) is;
-      said = server-said opened k (CallExecuted e) (answer-is-short k e t.fit (answer_of_call k e) refl) ∙ ap (λ (x : Option Answer). bytes_of_all (answer_outputs k e.xid (offer_of k e.xid) x)) is;
+      said = server-said opened k (CallExecuted e) (answer-is-short k e limits t.fit (answer_of_call k e) refl) ∙ ap (λ (x : Option Answer). bytes_of_all (answer_outputs k e.xid (offer_of k e.xid) x)) is;
       begun = t.begun;
       fit = each-kept CallFits (λ c. not (eqb c.xid e.xid)) k.calls t.fit;
       shape = inr (there.0, greeted-more outs (answer_outputs k e.xid (offer_of k e.xid) o) there.1 own.words);

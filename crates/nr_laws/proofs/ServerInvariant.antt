@@ -4,6 +4,7 @@ use Rattle.nr_wire.specs.Constants.{OPCODE_SEND, QUEUE_SEND}
 use Rattle.nr_wire.specs.Segment.{Segment}
 use Rattle.nr_wire.specs.Segment.Segment.{Tagged, Untagged}
 use Rattle.nr_header.specs.declared.header.ChunkLists.{ChunkLists}
+use Rattle.nr_reduce.proofs.OwnLimits.{ServerLimits, server-event}
 use Rattle.nr_reduce.specs.declared.mark.LinkParameters.{LinkParameters}
 use Rattle.nr_reduce.specs.Limits.{send_max}
 use Rattle.nr_link.specs.Output.{msn_word}
@@ -99,6 +100,7 @@ pub record ServerAgrees (opened : LinkParameters) (k : ClientState) (s : ServerS
   pub waits : PendingAgree s
   pub sinks : HaveSinks place s.regions s.reads
   pub regions : AreKnown s
+  pub limits : ServerLimits s
 
 -- A Send that is received ends the server only by the refusal of its effect; and if it doesn't, all is kept.
 pub server-takes_send : (opened : LinkParameters) (k : ClientState) (s : ServerState) (w : Transit) (place : ℕ) (f : Frame) (message : List ℕ) (rest : List FrameContent) → ServerAgrees opened k s w place → WithinWindow opened k → w.up ≡ SendFrame message ∷ rest
@@ -110,13 +112,14 @@ server-takes_send opened k s w place f message rest j g head p long short lt =
     let st = effect_in s f (Ok segment) in
     let new = subst (λ (e : FrameEffect). Below (s.received.sends + 1) e.regions) (step-is s f (Ok segment) is) (message-below s f message j.counts.whole_up (record { stags = j.regions.stags; calls = j.regions.calls }) is) in
     let below = closed-below (s.received.sends + 1) f.end (is_over st.calls st.reads) st.regions new in (
-      server-send opened k s w f message rest j.counts g head p long short,
+      server-send opened k s w f message rest j.counts g head p long short j.limits,
       (λ goes_on. record {
         counts = totals-send_up opened k s w f message rest j.counts head p goes_on;
         reads = reads-send_up opened s w f message rest j.reads head p goes_on;
         waits = pending_agree-send_up opened s f message j.waits p goes_on;
         sinks = sinks-send_up opened s f place message j.regions j.sinks (omega (arith, lt)) p;
         regions = subst (λ (t : ServerState). AreKnown t) (sym (after-is opened s f (Ok segment) p.behind is)) (record { stags = below.stags; calls = below.calls });
+        limits = server-event opened s (FrameReceived f) j.limits;
       }),
     )
 
@@ -137,5 +140,6 @@ server-takes_response opened k s w place f last opcode stag to payload rest j he
         waits = pending_agree-tagged_up opened s f last opcode stag to payload j.waits p goes_on;
         sinks = sinks-tagged_up opened s f place last opcode stag to payload j.sinks (omega (arith, lt)) p;
         regions = subst (λ (t : ServerState). AreKnown t) (sym (after-is opened s f (Ok segment) p.behind is)) (record { stags = below.stags; calls = below.calls });
+        limits = server-event opened s (FrameReceived f) j.limits;
       }),
     )

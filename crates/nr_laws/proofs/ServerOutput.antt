@@ -12,9 +12,10 @@ use Rattle.nr_rpc.specs.Reading.{call_of, target_of}
 use Rattle.nr_link.specs.Frames.{Frame}
 use Rattle.nr_link.specs.Output.{msn_word, send, write}
 use Rattle.nr_link.specs.Ending.{frame_segment}
+use Rattle.nr_reduce.proofs.OwnLimits.{ServerLimits}
 use Rattle.nr_reduce.specs.Holds.{Answer, answer_message, answer_writes, writes_into, chunk_error, first_chunk, no_segments}
 use Rattle.nr_reduce.specs.History.{ExecutedCall}
-use Rattle.nr_reduce.specs.ServerState.{PendingRead, ServerState, credit_word, down_max}
+use Rattle.nr_reduce.specs.ServerState.{PendingRead, ServerState, credit_word}
 use Rattle.nr_reduce.specs.ServerFrames.{FrameEffect, frame_effect}
 use Rattle.nr_reduce.specs.Server.{newly_open_reads, offer_of, answer_of_target, answer_output, execution_output}
 use Rattle.nr_laws.proofs.FrameContents.{FrameContent, output_bytes, total_of, sends_in, requests_in, request_frame, effect_frames, write_frames, answer_frames, tagged_frames}
@@ -67,11 +68,12 @@ fills-proper (s ∷ chunk) bytes h =
     by true = tt
     by false = tagged-proper OPCODE_WRITE s.handle s.offset (take s.length bytes) refl (lit< tt) h.0.0 h.0.1 (omega (arith, h.0.2, length-take s.length bytes))
 
-answer-proper : (k : ServerState) (xid : ℕ) (offer : ChunkLists) (reply : List ℕ) (t : Option CallTarget) (o : Option Answer) → answer_of_target offer (down_max k) reply t ≡ o → OfferFits offer → AreWritable (answer_frames k xid offer o)
-answer-proper k xid offer reply t None e fits = (chunk_error-short xid (credit_word k), tt)
-answer-proper k xid offer reply t (Some a) e fits =
-    let target = for_target offer (down_max k) reply t a e in
-    let short = answer-short offer (down_max k) target.0 target.1 target.2 xid (credit_word k) reply a (omega arith) fits target.3 in
+answer-proper : (k : ServerState) → ServerLimits k → (xid : ℕ) (offer : ChunkLists) (reply : List ℕ) (t : Option CallTarget) (o : Option Answer) → answer_of_target offer k.down_max reply t ≡ o → OfferFits offer → AreWritable (answer_frames k xid offer o)
+answer-proper k l xid offer reply t None e fits = (chunk_error-short xid (credit_word k), tt)
+answer-proper k l xid offer reply t (Some a) e fits =
+    let down = l.down in
+    let target = for_target offer k.down_max reply t a e in
+    let short = answer-short offer k.down_max target.0 target.1 target.2 xid (credit_word k) reply a (omega (arith, down)) fits target.3 in
     all_proper-append (write_frames (first_chunk offer.write) a.moved) (cond a.long (write_frames (no_segments offer.reply) a.stream) [] ++ (SendFrame (answer_message xid (credit_word k) offer a) ∷ []))
     (fills-proper (first_chunk offer.write) a.moved fits.writes)
     (all_proper-append (cond a.long (write_frames (no_segments offer.reply) a.stream) []) (SendFrame (answer_message xid (credit_word k) offer a) ∷ []) (by a.long) (short, tt))
@@ -81,7 +83,7 @@ answer-proper k xid offer reply t (Some a) e fits =
     by false = tt
 
 abbrev pub execution_frames : ServerState → ExecutedCall → List FrameContent
-execution_frames k e = answer_frames k e.xid (offer_of k e.xid) (answer_of_target (offer_of k e.xid) (down_max k) e.reply (target_of (call_of e.payload)))
+execution_frames k e = answer_frames k e.xid (offer_of k e.xid) (answer_of_target (offer_of k e.xid) k.down_max e.reply (target_of (call_of e.payload)))
 
 writes-said : (n r : ℕ) (chunk : List RdmaSegment) (bytes : List ℕ) → writes_into chunk bytes ≡ output_bytes Responder n r (write_frames chunk bytes)
 writes-said n r [] bytes = refl
@@ -103,13 +105,14 @@ long-said : (n r : ℕ) (b : Bool) (chunk : List RdmaSegment) (bytes : List ℕ)
 long-said n r true chunk bytes = writes-said n r chunk bytes
 long-said n r false chunk bytes = refl
 
-answer-said : (k : ServerState) (r xid : ℕ) (offer : ChunkLists) (reply : List ℕ) (t : Option CallTarget) (o : Option Answer) → answer_of_target offer (down_max k) reply t ≡ o → OfferFits offer
+answer-said : (k : ServerState) → ServerLimits k → (r xid : ℕ) (offer : ChunkLists) (reply : List ℕ) (t : Option CallTarget) (o : Option Answer) → answer_of_target offer k.down_max reply t ≡ o → OfferFits offer
     → answer_output k xid offer o ≡ output_bytes Responder k.messages_queued r (answer_frames k xid offer o)
 unfolding answer_writes
-answer-said k r xid offer reply t None e fits = message-said k.messages_queued r (chunk_error xid (credit_word k)) (chunk_error-short xid (credit_word k))
-answer-said k r xid offer reply t (Some a) e fits =
-    let target = for_target offer (down_max k) reply t a e in
-    let short = answer-short offer (down_max k) target.0 target.1 target.2 xid (credit_word k) reply a (omega arith) fits target.3 in
+answer-said k l r xid offer reply t None e fits = message-said k.messages_queued r (chunk_error xid (credit_word k)) (chunk_error-short xid (credit_word k))
+answer-said k l r xid offer reply t (Some a) e fits =
+    let down = l.down in
+    let target = for_target offer k.down_max reply t a e in
+    let short = answer-short offer k.down_max target.0 target.1 target.2 xid (credit_word k) reply a (omega (arith, down)) fits target.3 in
     let n = k.messages_queued in
     let message = answer_message xid (credit_word k) offer a in
     let moved = write_frames (first_chunk offer.write) a.moved in
@@ -130,9 +133,9 @@ answer-said k r xid offer reply t (Some a) e fits =
     ∙ (λ i. output_bytes Responder (sym moved_n i) (sym moved_r i) (long ++ (SendFrame message ∷ []))))
     ∙ sym (spelled-append Responder n r moved (long ++ (SendFrame message ∷ [])))
 
-pub execution-proper : (k : ServerState) (e : ExecutedCall) → CallsFit k.calls → AreWritable (execution_frames k e)
-execution-proper k e h = answer-proper k e.xid (offer_of k e.xid) e.reply (target_of (call_of e.payload)) _ refl (found-fits e.xid k.calls h)
+pub execution-proper : (k : ServerState) (e : ExecutedCall) → ServerLimits k → CallsFit k.calls → AreWritable (execution_frames k e)
+execution-proper k e l h = answer-proper k l e.xid (offer_of k e.xid) e.reply (target_of (call_of e.payload)) _ refl (found-fits e.xid k.calls h)
 
-pub execution-said : (k : ServerState) (r : ℕ) (e : ExecutedCall) → CallsFit k.calls → execution_output k e ≡ output_bytes Responder k.messages_queued r (execution_frames k e)
+pub execution-said : (k : ServerState) (r : ℕ) (e : ExecutedCall) → ServerLimits k → CallsFit k.calls → execution_output k e ≡ output_bytes Responder k.messages_queued r (execution_frames k e)
 unfolding execution_output
-execution-said k r e h = answer-said k r e.xid (offer_of k e.xid) e.reply (target_of (call_of e.payload)) _ refl (found-fits e.xid k.calls h)
+execution-said k r e l h = answer-said k l r e.xid (offer_of k e.xid) e.reply (target_of (call_of e.payload)) _ refl (found-fits e.xid k.calls h)

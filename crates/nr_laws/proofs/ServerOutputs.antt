@@ -13,10 +13,11 @@ use Rattle.nr_wire.specs.declared.stream.Awaited.TheVariants.{Fpdu}
 use Rattle.nr_link.specs.Frames.{Frame}
 use Rattle.nr_link.specs.ReceiveState.{message_completed}
 use Rattle.nr_link.specs.Ending.{frame_segment}
+use Rattle.nr_reduce.proofs.OwnLimits.{ServerLimits}
 use Rattle.nr_reduce.specs.History.{ExecutedCall}
 use Rattle.nr_reduce.specs.Holds.{Answer, answer_for, answer_size, answer_message, chunk_error, version_error, first_chunk, no_segments}
 use Rattle.nr_reduce.specs.Undone.{answer_segments, chunk_segments}
-use Rattle.nr_reduce.specs.ServerState.{ServerState, PendingCall, PendingRead, down_max, credit_word}
+use Rattle.nr_reduce.specs.ServerState.{ServerState, PendingCall, PendingRead, credit_word}
 use Rattle.nr_reduce.specs.ServerMessages.{CallVerdict, payload_of, by_payload}
 use Rattle.nr_reduce.specs.ServerMessages.CallVerdict.{Refuses, IsReady}
 use Rattle.nr_reduce.specs.ServerFrames.{FrameEffect, with_verdict, frame_effect}
@@ -190,25 +191,26 @@ found-fits xid (c ∷ calls) h = by (eqb c.xid xid) (found-fits xid calls h.1)
     by false k = k
 
 -- what a server sends of an executed call
-pub answer-is-short : (k : ServerState) (e : ExecutedCall) → CallsFit k.calls → (o : Option Answer) → answer_of_call k e ≡ o → AnswerShort k e.xid (offer_of k e.xid) o
-answer-is-short k e h None is = chunk_error-short e.xid (credit_word k)
-answer-is-short k e h (Some a) is =
-    let t = for_target (offer_of k e.xid) (down_max k) e.reply (target_of (call_of e.payload)) a is in
-    answer-short (offer_of k e.xid) (down_max k) t.0 t.1 t.2 e.xid (credit_word k) e.reply a (omega arith) (found-fits e.xid k.calls h) t.3
+pub answer-is-short : (k : ServerState) (e : ExecutedCall) → ServerLimits k → CallsFit k.calls → (o : Option Answer) → answer_of_call k e ≡ o → AnswerShort k e.xid (offer_of k e.xid) o
+answer-is-short k e l h None is = chunk_error-short e.xid (credit_word k)
+answer-is-short k e l h (Some a) is =
+    let down = l.down in
+    let t = for_target (offer_of k e.xid) k.down_max e.reply (target_of (call_of e.payload)) a is in
+    answer-short (offer_of k e.xid) k.down_max t.0 t.1 t.2 e.xid (credit_word k) e.reply a (omega (arith, down)) (found-fits e.xid k.calls h) t.3
 
 abbrev pub answer_messages : ServerState → ℕ → ChunkLists → Option Answer → List (List ℕ)
 answer_messages k xid offer None = chunk_error xid (credit_word k) ∷ []
 answer_messages k xid offer (Some a) = answer_message xid (credit_word k) offer a ∷ []
 
-pub fine-answer : (k : ServerState) (e : ExecutedCall) → CallsFit k.calls → (o : Option Answer) → answer_of_call k e ≡ o → AreFine (answer_outputs k e.xid (offer_of k e.xid) o) (answer_messages k e.xid (offer_of k e.xid) o)
-fine-answer k e h None is = record { words = (send-word (k.messages_queued + 1) (chunk_error e.xid (credit_word k)) (chunk_error-short e.xid (credit_word k)), tt); one = (refl, tt); messages_are = refl }
-fine-answer k e h (Some a) is =
+pub fine-answer : (k : ServerState) (e : ExecutedCall) → ServerLimits k → CallsFit k.calls → (o : Option Answer) → answer_of_call k e ≡ o → AreFine (answer_outputs k e.xid (offer_of k e.xid) o) (answer_messages k e.xid (offer_of k e.xid) o)
+fine-answer k e l h None is = record { words = (send-word (k.messages_queued + 1) (chunk_error e.xid (credit_word k)) (chunk_error-short e.xid (credit_word k)), tt); one = (refl, tt); messages_are = refl }
+fine-answer k e l h (Some a) is =
     let offer = offer_of k e.xid in
     let segments = map ASegment (answer_segments offer a) in
     let m = answer_message e.xid (credit_word k) offer a in
     let send : List Output = ASegment (send_segment (k.messages_queued + 1) m) ∷ [] in
     record {
-      words = from-append segments send (answer-words offer a (found-fits e.xid k.calls h)) (send-word (k.messages_queued + 1) m (answer-is-short k e h (Some a) is), tt);
+      words = from-append segments send (answer-words offer a (found-fits e.xid k.calls h)) (send-word (k.messages_queued + 1) m (answer-is-short k e l h (Some a) is), tt);
       one = one-append segments send (one-tagged (answer_segments offer a) (tagged-answer offer a)) (refl, tt);
       messages_are = messages-append segments send ∙ ap (λ (ms : List (List ℕ)). ms ++ m ∷ []) (messages-tagged (answer_segments offer a) (tagged-answer offer a));
     }

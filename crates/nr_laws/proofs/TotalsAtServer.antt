@@ -14,7 +14,7 @@ use Rattle.nr_link.specs.Frames.{Frame, is_hello}
 use Rattle.nr_link.specs.ReceiveState.{begun_bytes}
 use Rattle.nr_link.specs.Ending.{frame_segment}
 use Rattle.nr_reduce.specs.Events.Event.{FrameReceived, CallExecuted, QueueWritten}
-use Rattle.nr_reduce.specs.ServerState.{ServerState, PendingCall, PendingRead, down_max, credit_word}
+use Rattle.nr_reduce.specs.ServerState.{ServerState, PendingCall, PendingRead, credit_word}
 use Rattle.nr_reduce.specs.ServerFrames.{FrameEffect, frame_effect, effect_in, message_effect, no_effect, ready_if_whole, with_verdict, with_refused_call, read_effect, response_effect, call_of_number, is_stream_read, with_access}
 use Rattle.nr_reduce.specs.ServerMessages.{Verdict, CallVerdict, verdict, by_payload, payload_of, chunk_bytes}
 use Rattle.nr_reduce.specs.ServerReads.{open_reads, reads_of, regions_of, is_over}
@@ -192,6 +192,8 @@ with_by k f r st = record {
   message_ends = k.message_ends ++ send_ends_from k.due (k.messages_queued + 1) st.errors;
   ready = k.ready ++ st.ready;
   credit = k.credit;
+  up_max = k.up_max;
+  down_max = k.down_max;
 }
 
 pub after-is : (opened : LinkParameters) (s : ServerState) (f : Frame) (r : Result Segment ℕ) → is_hello f ≡ false → frame_segment f ≡ r → server_state_after opened s (FrameReceived f) ≡ with_by s f r (effect_in s f r)
@@ -346,7 +348,7 @@ pub totals-executes : (opened : LinkParameters) (k : ClientState) (s : ServerSta
 unfolding server_state_after server_frames
 totals-executes opened k s w e c apart there =
     let offer = offer_of s e.xid in
-    let answer = answer_of_target offer (down_max s) e.reply (target_of (call_of e.payload)) in
+    let answer = answer_of_target offer s.down_max e.reply (target_of (call_of e.payload)) in
     let said = answer_frames s e.xid offer answer in
     let fewer = length-fewer (λ (c : PendingCall). c.xid) e.xid s.calls apart there in
     record {

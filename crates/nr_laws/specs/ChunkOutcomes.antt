@@ -20,7 +20,6 @@ use Rattle.nr_reduce.specs.Limits.{send_max}
 use Rattle.nr_reduce.specs.Plans.{lists_of}
 use Rattle.nr_reduce.specs.Undone.{IsNotGiven}
 use Rattle.nr_reduce.specs.Holds.{Answer, answer_writes, answer_message}
-use Rattle.nr_reduce.specs.ServerState.{down_max}
 use Rattle.nr_reduce.specs.Server.{offer_of, answer_of_target}
 use Rattle.nr_reduce.specs.Run.{client, server, output_due}
 use Rattle.nr_reduce.specs.OutcomesDue.{outcomes_due}
@@ -103,7 +102,7 @@ AutoHasReplies = (reply_to : List Entry → Moment → List ℕ → Option (List
 -- the answer that the offer of a pending call holds, if it does, as its call is executed with this payload and this reply
 abbrev pub answer_held : LinkParameters → ℕ → List Mark → ℕ → List ℕ → List ℕ → Option Answer
 answer_held opened link before xid payload reply =
-    answer_of_target (offer_of (server opened link before).state xid) (down_max (server opened link before).state) reply (target_of (call_of payload))
+    answer_of_target (offer_of (server opened link before).state xid) (server opened link before).state.down_max reply (target_of (call_of payload))
 
 -- the reply to an executed call goes out: its offer holds an answer, and what is due for the call is the answer's RDMA Writes and its Send
 pub record IsAnswered (opened : LinkParameters) (link : ℕ) (before : List Mark) (xid : ℕ) (moment : Moment) (payload : List ℕ) (place : ℕ) (reply : List ℕ) : Type 0 where

@@ -31,7 +31,7 @@ use Rattle.nr_reduce.specs.Chunks.{is_read_chunk_of_item}
 use Rattle.nr_reduce.specs.Holds.{Answer, answer_writes, answer_message, chunk_error, version_error}
 use Rattle.nr_reduce.specs.ClientState.{ClientState, call_payload, plan_for}
 use Rattle.nr_reduce.specs.Client.{client_rules, client_end, client_output, client_state_after, with_segment, plan_or, outstanding_of, call_output, calls_output, response_output, segment_request, with_hello}
-use Rattle.nr_reduce.specs.ServerState.{ServerState, ReadyCall, PendingCall, PendingRead, down_max}
+use Rattle.nr_reduce.specs.ServerState.{ServerState, ReadyCall, PendingCall, PendingRead}
 use Rattle.nr_reduce.specs.ServerReads.{open_reads, is_read, regions_of, reads_of}
 use Rattle.nr_reduce.specs.ServerMessages.{Verdict, CallVerdict, verdict, by_payload, by_head, payload_of, call_xid, chunk_bytes}
 use Rattle.nr_reduce.specs.ServerMessages.Verdict.{EndsLink, OtherVersion, BadChunks, MakesPending}
@@ -120,12 +120,12 @@ execute-due opened link run xid moment payload place reply h =
     ∙ ap (λ (xs : List ℕ). output_due opened link Responder run ++ xs) (execute-output opened r.state r.ended e (not_ended r.state.ready r.ended h.call h.is_next))
 
 pub execute-answered : (opened : LinkParameters) (link : ℕ) (run : List Mark) (xid : ℕ) (moment : Moment) (payload : List ℕ) (place : ℕ) (reply : List ℕ) → IsExecuted opened link run xid payload →
-    ((a : Answer) → answer_of_target (offer_of (server opened link run).state xid) (down_max (server opened link run).state) reply (target_of (call_of payload)) ≡ Some a →
+    ((a : Answer) → answer_of_target (offer_of (server opened link run).state xid) (server opened link run).state.down_max reply (target_of (call_of payload)) ≡ Some a →
     output_due opened link Responder (run ++ marks.Execute link xid moment payload place reply ∷ [])
     ≡ output_due opened link Responder run
     ++ (answer_writes (offer_of (server opened link run).state xid) a
     ++ send ((server opened link run).state.messages_queued + 1) (answer_message xid (server opened link run).state.credit (offer_of (server opened link run).state xid) a)))
-    × (answer_of_target (offer_of (server opened link run).state xid) (down_max (server opened link run).state) reply (target_of (call_of payload)) ≡ None →
+    × (answer_of_target (offer_of (server opened link run).state xid) (server opened link run).state.down_max reply (target_of (call_of payload)) ≡ None →
     output_due opened link Responder (run ++ marks.Execute link xid moment payload place reply ∷ [])
     ≡ output_due opened link Responder run
     ++ send ((server opened link run).state.messages_queued + 1) (chunk_error xid (server opened link run).state.credit))

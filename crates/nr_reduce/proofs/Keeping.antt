@@ -16,7 +16,7 @@ use Rattle.nr_reduce.specs.declared.call.Submission.{Submission}
 use Rattle.nr_reduce.specs.declared.call.Submission.TheVariants as submissions
 use Rattle.nr_reduce.specs.declared.mark.LinkParameters.{LinkParameters}
 use Rattle.nr_reduce.specs.declared.outline.Plan.{Plan}
-use Rattle.nr_reduce.specs.Limits.{numbers_end, send_max}
+use Rattle.nr_reduce.specs.Limits.{numbers_end}
 use Rattle.nr_reduce.specs.Plans.{TooLarge, regions_needed, plan_of}
 use Rattle.nr_reduce.specs.OfferedRegions.{Region, region_grants, region_bytes, region_bytes_by}
 use Rattle.nr_reduce.specs.OfferedMemory.{region_at, HoldsRegions, held_if_open, registered_region}
@@ -45,6 +45,8 @@ keeps-begins opened = record {
   ended = refl;
   xid = omega arith;
   grant = refl;
+  up = refl;
+  down = refl;
   outstanding = refl;
   calls = λ lives. record { kept = tt; rising = tt; owned = λ stag r e is. absurd cc; opens = tt };
   memory = λ lives. record { next = next-begins opened.first_stag; offered = tt; holds = memory-begins opened.first_stag; below = λ stag r e. absurd cc };
@@ -119,18 +121,18 @@ unfolding answer-parts
 client-parts opened k (Ok plan) = refl
 client-parts opened k (Err large) = refl
 
-plan-same : (k : ClientState) (xid : ℕ) (call : Call) (form : Form) → plan_of (call_payload xid call) form send_max send_max ≡ plan_for k xid call form
+plan-same : (k : ClientState) (xid : ℕ) (call : Call) (form : Form) → plan_of (call_payload xid call) form k.up_max k.down_max ≡ plan_for k xid call form
 unfolding plan_for
 plan-same k xid call form = refl
 
 answer-live : (opened : LinkParameters) (kept : KeptClient) (k : ClientState) (count : ℕ) (call : Call) (form : Form) → ClientKeeps opened kept (live k) count →
-    kept_answer_by_plan kept (plan_of (call_payload kept.next_xid call) form send_max send_max) ≡ by_plan opened k (plan_for k (next_xid opened k) call form)
+    kept_answer_by_plan kept (plan_of (call_payload kept.next_xid call) form kept.up_max kept.down_max) ≡ by_plan opened k (plan_for k (next_xid opened k) call form)
 answer-live opened kept k count call form keeps =
     let memory : MemoryKeeps kept.memory k count = keeps.memory refl in
     let calls : CallsKeep kept.calls kept.next_xid k = keeps.calls refl in
-    own-parts kept (plan_of (call_payload kept.next_xid call) form send_max send_max)
-    ∙ (λ i. answer-parts (plan_of (call_payload (keeps.xid i) call) form send_max send_max) (keeps.grant i) (kept-count k kept.calls k.outstanding calls.kept i) (keeps.xid i) (memory.next i))
-    ∙ sym (client-parts opened k (plan_of (call_payload (next_xid opened k) call) form send_max send_max))
+    own-parts kept (plan_of (call_payload kept.next_xid call) form kept.up_max kept.down_max)
+    ∙ (λ i. answer-parts (plan_of (call_payload (keeps.xid i) call) form (keeps.up i) (keeps.down i)) (keeps.grant i) (kept-count k kept.calls k.outstanding calls.kept i) (keeps.xid i) (memory.next i))
+    ∙ sym (client-parts opened k (plan_of (call_payload (next_xid opened k) call) form k.up_max k.down_max))
     ∙ ap (by_plan opened k) (plan-same k (next_xid opened k) call form)
 
 answer-if : (opened : LinkParameters) (kept : KeptClient) (e : EndState ClientState) (count : ℕ) (call : Call) (form : Form) → ClientKeeps opened kept e count → (x : Option End) → e.ended ≡ x →

@@ -41,6 +41,7 @@ pub mod Refusals
 pub mod Touches
 pub mod Sizes
 pub mod OwnStags
+pub mod OwnLimits
 pub mod StagsLeft
 pub mod ReadChunks
 pub mod BadMessages

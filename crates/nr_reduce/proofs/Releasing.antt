@@ -245,6 +245,8 @@ kept-stays opened kept e count later keeps le = record {
   ended = keeps.ended;
   xid = keeps.xid;
   grant = keeps.grant;
+  up = keeps.up;
+  down = keeps.down;
   outstanding = keeps.outstanding;
   calls = keeps.calls;
   memory = λ lives.
@@ -291,12 +293,14 @@ waits-revoked xid os (c ∷ cs) h = (by (eqb c.xid xid), waits-revoked xid os cs
     by false = h.0
 
 -- of a client that hasn't ended the memory of its calls is that of its open regions
-pub keeps-live : (opened : LinkParameters) (kept : KeptClient) (k : ClientState) (count : ℕ) → kept.ended ≡ None → kept.next_xid ≡ Rattle.nr_reduce.specs.SubmitAnswer.next_xid opened k → kept.grant ≡ k.grant → kept.outstanding ≡ length k.outstanding →
+pub keeps-live : (opened : LinkParameters) (kept : KeptClient) (k : ClientState) (count : ℕ) → kept.ended ≡ None → kept.next_xid ≡ Rattle.nr_reduce.specs.SubmitAnswer.next_xid opened k → kept.grant ≡ k.grant → kept.up_max ≡ k.up_max → kept.down_max ≡ k.down_max → kept.outstanding ≡ length k.outstanding →
     AreReceived count k.accesses_received → MemoryKeeps kept.memory k count → CallsKeep kept.calls kept.next_xid k → ClientKeeps opened kept (live k) count
-keeps-live opened kept k count ended xid grant outstanding accesses memory calls = record {
+keeps-live opened kept k count ended xid grant up down outstanding accesses memory calls = record {
   ended = ended;
   xid = xid;
   grant = grant;
+  up = up;
+  down = down;
   outstanding = outstanding;
   calls = λ lives. calls;
   memory = λ lives. memory;
@@ -323,7 +327,7 @@ revokes : (opened : LinkParameters) (kept : KeptClient) (k : ClientState) (count
 unfolding client_end client_state_after kept_revoked
 revokes opened kept k count xid keeps =
     let calls : CallsKeep kept.calls kept.next_xid k = keeps.calls refl in
-    keeps-live opened (kept_revoked kept xid) (client_state_after opened k (MemoryRevoked count xid)) count keeps.ended keeps.xid keeps.grant (keeps.outstanding ∙ sym (length-map k.outstanding (revoked_call xid))) keeps.accesses
+    keeps-live opened (kept_revoked kept xid) (client_state_after opened k (MemoryRevoked count xid)) count keeps.ended keeps.xid keeps.grant keeps.up keeps.down (keeps.outstanding ∙ sym (length-map k.outstanding (revoked_call xid))) keeps.accesses
     (memory-closed xid count count kept.calls kept.next_xid k (client_state_after opened k (MemoryRevoked count xid)) kept.memory (omega arith) calls keeps.accesses (keeps.memory refl) refl refl refl)
     (calls-revoked opened kept.calls kept.next_xid xid count k calls)
 
@@ -333,6 +337,8 @@ revokes-ended opened kept k end count xid keeps = record {
   ended = keeps.ended;
   xid = keeps.xid;
   grant = keeps.grant;
+  up = keeps.up;
+  down = keeps.down;
   outstanding = keeps.outstanding;
   calls = λ e. absurd cc;
   memory = λ e. absurd cc;
@@ -360,6 +366,8 @@ kept-hands-back opened kept e end count xid ended keeps = record {
   ended = keeps.ended;
   xid = keeps.xid;
   grant = keeps.grant;
+  up = keeps.up;
+  down = keeps.down;
   outstanding = keeps.outstanding;
   calls = λ lives. absurd (let wrong : Some end ≡ None = sym ended ∙ lives in cc);
   memory = λ lives. absurd (let wrong : Some end ≡ None = sym ended ∙ lives in cc);
@@ -377,6 +385,6 @@ kept-completes opened kept k count place message keeps le =
     let after : ClientState = with_message k place (Some message) in
     let closed : CallsKeep (without (word_at 0 message) kept.calls) kept.next_xid after =
     calls-closed kept.calls kept.next_xid (word_at 0 message) place k after (record { first = refl; written = refl; ends = refl }) calls refl refl in
-    keeps-live opened (kept_completed kept message) after place keeps.ended keeps.xid refl (kept-count after (without (word_at 0 message) kept.calls) after.outstanding closed.kept) (received-later count place k.accesses_received le keeps.accesses)
+    keeps-live opened (kept_completed kept message) after place keeps.ended keeps.xid refl keeps.up keeps.down (kept-count after (without (word_at 0 message) kept.calls) after.outstanding closed.kept) (received-later count place k.accesses_received le keeps.accesses)
     (memory-closed (word_at 0 message) count place kept.calls kept.next_xid k after kept.memory le calls keeps.accesses (keeps.memory refl) refl refl refl)
     closed

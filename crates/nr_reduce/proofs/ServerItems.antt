@@ -16,7 +16,7 @@ use Rattle.nr_reduce.specs.History.{ExecutedCall}
 use Rattle.nr_reduce.specs.Holds.{Answer, answer_writes, answer_message, chunk_error, writes_into, first_chunk, no_segments}
 use Rattle.nr_reduce.specs.Events.{Event}
 use Rattle.nr_reduce.specs.Events.Event.{FrameReceived, CallSubmitted, MemoryRevoked, CallExecuted, QueueWritten}
-use Rattle.nr_reduce.specs.ServerState.{PendingRead, ServerState, down_max, credit_word}
+use Rattle.nr_reduce.specs.ServerState.{PendingRead, ServerState, credit_word}
 use Rattle.nr_reduce.specs.ServerFrames.{frame_effect}
 use Rattle.nr_reduce.specs.Server.{server_state_after, server_output, sends_from, send_ends_from, requests_from, newly_open_reads, effect_output, offer_of, answer_of_target, answer_output, execution_output, with_effect, with_own_hello}
 use Rattle.nr_reduce.specs.DueItems.{message_items, request_items, effect_items, write_items, answer_items, execution_items, server_items_at, server_hello_at}
@@ -73,7 +73,7 @@ answer-encoded k xid offer (Some a) =
 
 execution-encoded : (k : ServerState) (e : ExecutedCall) → execution_output k e ≡ items_encoding (execution_items k e)
 unfolding execution_output execution_items
-execution-encoded k e = answer-encoded k e.xid (offer_of k e.xid) (answer_of_target (offer_of k e.xid) (down_max k) e.reply (target_of (call_of e.payload)))
+execution-encoded k e = answer-encoded k e.xid (offer_of k e.xid) (answer_of_target (offer_of k e.xid) k.down_max e.reply (target_of (call_of e.payload)))
 
 effect-encoded : (k : ServerState) (f : Frame) → effect_output k (frame_effect k f) ≡ items_encoding (effect_items k (frame_effect k f))
 effect-encoded k f =
@@ -155,7 +155,7 @@ answer-ends k xid offer (Some a) due =
 
 execution-ends : (k : ServerState) (e : ExecutedCall) → (k.due + length (execution_output k e)) ∷ [] ≡ item_ends is_send_item k.due (execution_items k e)
 unfolding execution_output execution_items
-execution-ends k e = answer-ends k e.xid (offer_of k e.xid) (answer_of_target (offer_of k e.xid) (down_max k) e.reply (target_of (call_of e.payload))) k.due
+execution-ends k e = answer-ends k e.xid (offer_of k e.xid) (answer_of_target (offer_of k e.xid) k.down_max e.reply (target_of (call_of e.payload))) k.due
 
 effect-ends : (k : ServerState) (f : Frame) → send_ends_from k.due (k.messages_queued + 1) (frame_effect k f).errors ≡ item_ends is_send_item k.due (effect_items k (frame_effect k f))
 effect-ends k f =

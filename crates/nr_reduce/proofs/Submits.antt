@@ -86,7 +86,7 @@ unfolding kept_placed
 kept-places opened kept k count access keeps lt =
     let memory : MemoryKeeps kept.memory k count = keeps.memory refl in
     let after : ClientState = record k { accesses_received = k.accesses_received ++ access ∷ [] } in
-    keeps-live opened (kept_placed kept access) after access.end keeps.ended keeps.xid keeps.grant keeps.outstanding (received-one count k.accesses_received access (omega (arith, lt)) keeps.accesses)
+    keeps-live opened (kept_placed kept access) after access.end keeps.ended keeps.xid keeps.grant keeps.up keeps.down keeps.outstanding (received-one count k.accesses_received access (omega (arith, lt)) keeps.accesses)
     (record {
       next = event-next kept.memory access ∙ memory.next;
       offered = offered-later count access.end k.regions (omega (arith, lt)) memory.offered;
@@ -142,7 +142,7 @@ kept-writes opened kept k count taken keeps =
     let memory : MemoryKeeps kept.memory k count = keeps.memory refl in
     let after : ClientState = record k { written = k.written + taken } in
     let sent : ℕ = ends_left (k.written + taken) k.send_ends in
-    keeps-live opened (kept_sent k.first_xid sent kept) after count keeps.ended keeps.xid keeps.grant keeps.outstanding keeps.accesses
+    keeps-live opened (kept_sent k.first_xid sent kept) after count keeps.ended keeps.xid keeps.grant keeps.up keeps.down keeps.outstanding keeps.accesses
     (record { next = memory.next; offered = memory.offered; holds = memory.holds; below = memory.below })
     (record {
       kept = sent-all k after k.first_xid sent kept.calls k.outstanding refl refl calls.kept;
@@ -160,7 +160,7 @@ kept-greets opened kept k count keeps within =
     let later : AllByRecursion (λ end. k.written < end) (call_ends opened k.due 1 k.outstanding) = calls-later opened k.written k.due 1 k.outstanding within in
     let calls : CallsKeep kept.calls kept.next_xid k = keeps.calls refl in
     let memory : MemoryKeeps kept.memory k count = keeps.memory refl in
-    keeps-live opened kept (with_hello opened k) count keeps.ended keeps.xid keeps.grant keeps.outstanding keeps.accesses
+    keeps-live opened kept (with_hello opened k) count keeps.ended keeps.xid keeps.grant keeps.up keeps.down keeps.outstanding keeps.accesses
     (record { next = memory.next; offered = memory.offered; holds = memory.holds; below = memory.below })
     (record {
       kept = kept-stay k (with_hello opened k) kept.calls k.outstanding (record { first = refl; left = left-append k.written k.send_ends (call_ends opened k.due 1 k.outstanding) later }) calls.kept;
@@ -272,6 +272,6 @@ kept-submits opened kept k count a plan keeps next is within few =
       reply = λ i. (lists_of (memory.next i) (sym plan_is i)).reply;
       stags = λ i. map (λ (b : Buffer). b.stag) (buffers (memory.next i) (sym plan_is i));
     } in
-    keeps-live opened (kept_submitted kept a.call plan) after count keeps.ended (let e = keeps.xid in omega (arith, e)) keeps.grant (ap (λ (n : ℕ). n + 1) keeps.outstanding ∙ sym (length-append k.outstanding (o ∷ []))) keeps.accesses
+    keeps-live opened (kept_submitted kept a.call plan) after count keeps.ended (let e = keeps.xid in omega (arith, e)) keeps.grant keeps.up keeps.down (ap (λ (n : ℕ). n + 1) keeps.outstanding ∙ sym (length-append k.outstanding (o ∷ []))) keeps.accesses
     (record { next = all.next_is; offered = all.offered; holds = all.holds; below = all.below })
     (calls-submitted opened kept.calls kept.next_xid k count a (kept_of kept.next_xid a.call plan kept.memory.next) calls memory.below (record { first = refl; left = left }) next own)

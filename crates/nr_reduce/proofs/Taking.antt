@@ -25,7 +25,7 @@ same-keeps opened kept k count received due ends keeps =
     let calls : CallsKeep kept.calls kept.next_xid k = keeps.calls refl in
     let memory : MemoryKeeps kept.memory k count = keeps.memory refl in
     let after : ClientState = record k { received = received; due = due; response_ends = ends } in
-    keeps-live opened kept after count keeps.ended keeps.xid keeps.grant keeps.outstanding keeps.accesses
+    keeps-live opened kept after count keeps.ended keeps.xid keeps.grant keeps.up keeps.down keeps.outstanding keeps.accesses
     (record { next = memory.next; offered = memory.offered; holds = memory.holds; below = memory.below })
     (record {
       kept = kept-alike k after kept.calls k.outstanding (record { first = refl; written = refl; ends = refl }) calls.kept;
@@ -85,6 +85,8 @@ kept-ends opened kept k end count event keeps is =
       ended = refl;
       xid = keeps.xid;
       grant = keeps.grant;
+      up = keeps.up;
+      down = keeps.down;
       outstanding = keeps.outstanding;
       calls = λ lives. absurd (let wrong : Some end ≡ None = lives in cc);
       memory = λ lives. absurd (let wrong : Some end ≡ None = lives in cc);

@@ -27,6 +27,7 @@ use Rattle.nr_reduce.specs.Events.{Event, if_own, events_at, events}
 use Rattle.nr_reduce.specs.Events.Event.{FrameReceived, CallSubmitted, MemoryRevoked, CallExecuted, QueueWritten}
 use Rattle.nr_reduce.specs.EndRules.{EndState, next_end_state, next_end_state_by, next_end_state_in, end_state_after, output_for, output_for_by, output_for_in}
 use Rattle.nr_reduce.specs.OfferedRegions.{region_grants}
+use Rattle.nr_reduce.specs.Limits.{send_max}
 use Rattle.nr_reduce.specs.ClientState.{OutstandingCall, ClientState, is_sent, plan_for}
 use Rattle.nr_reduce.specs.Written.{ends_left}
 use Rattle.nr_reduce.specs.ClientMessages.{Verdict, verdict, by_header, by_call}
@@ -49,6 +50,8 @@ record Waiting (opened : LinkParameters) (accepted : List AcceptedCall) (k : Cli
   pub calls : map as_submitted k.outstanding ≡ outstanding_from (start opened) opened.first_stag accepted
   pub stag : k.stag ≡ stag_behind (start opened) opened.first_stag accepted
   pub ends : k.send_ends ≡ []
+  pub up : k.up_max ≡ send_max
+  pub down : k.down_max ≡ send_max
 
 abbrev Waits : LinkParameters → List AcceptedCall → ClientState → Type 0
 Waits opened accepted k = k.has_hello ≡ false → Waiting opened accepted k
@@ -114,22 +117,22 @@ or-message k f None e = e
 
 -- a frame that brings no message leaves the calls
 abbrev SameCalls : ClientState → ClientState → Type 0
-SameCalls k after = (after.outstanding ≡ k.outstanding) × (after.stag ≡ k.stag) × (after.has_hello ≡ k.has_hello) × (after.send_ends ≡ k.send_ends)
+SameCalls k after = (after.outstanding ≡ k.outstanding) × (after.stag ≡ k.stag) × (after.has_hello ≡ k.has_hello) × (after.send_ends ≡ k.send_ends) × (after.up_max ≡ k.up_max) × (after.down_max ≡ k.down_max)
 
 request-same : (k m : ClientState) (due : ℕ) (r : Option ReadRequest) → SameCalls k m → SameCalls k (with_request m due r)
 request-same k m due None h = h
 request-same k m due (Some r) h = h
 
 segment-same : (k : ClientState) (f : Frame) (r : Result Segment ℕ) → segment_message k r ≡ None → SameCalls k (with_segment k f r)
-segment-same k f (Err reason) e = (refl, refl, refl, refl)
+segment-same k f (Err reason) e = (refl, refl, refl, refl, refl, refl)
 segment-same k f (Ok segment) e =
     request-same k (with_message k f.end (message_completed k.received segment)) (due_with_response k f segment) (read_request_of segment)
-    (subst (λ (o : Option (List ℕ)). SameCalls k (with_message k f.end o)) (sym e) (refl, refl, refl, refl))
+    (subst (λ (o : Option (List ℕ)). SameCalls k (with_message k f.end o)) (sym e) (refl, refl, refl, refl, refl, refl))
 
 same-waits : (opened : LinkParameters) (accepted : List AcceptedCall) (k after : ClientState) → SameCalls k after → Waits opened accepted k → Waits opened accepted after
 same-waits opened accepted k after s w hello =
     let h = w (sym s.2 ∙ hello) in
-    record { calls = ap (λ (os : List OutstandingCall). map as_submitted os) s.0 ∙ h.calls; stag = s.1 ∙ h.stag; ends = s.3 ∙ h.ends }
+    record { calls = ap (λ (os : List OutstandingCall). map as_submitted os) s.0 ∙ h.calls; stag = s.1 ∙ h.stag; ends = s.3 ∙ h.ends; up = s.4 ∙ h.up; down = s.5 ∙ h.down }
 
 frame-waits : (opened : LinkParameters) (accepted : List AcceptedCall) (k : ClientState) (f : Frame) → client_end k (FrameReceived f) ≡ None → Waits opened accepted k → Waits opened accepted (client_state_after opened k (FrameReceived f))
 unfolding client_end client_state_after
@@ -164,15 +167,17 @@ unfolding client_state_after plan_for
 submit-waits opened accepted k place a w hello =
     let h = w hello in
     let next : ℕ = stag_behind (start opened) opened.first_stag accepted in
-    let same : outstanding_of k a ≡ outstanding_of (record (start opened) { stag = next }) a = ap (λ (stag : ℕ). outstanding_of (record (start opened) { stag = stag }) a) h.stag in
+    let same : outstanding_of k a ≡ outstanding_of (record (start opened) { stag = next }) a = (λ i. outstanding_of (record (start opened) { stag = h.stag i; up_max = h.up i; down_max = h.down i }) a) in
     record {
       calls = submitted-append k.outstanding (outstanding_of k a ∷ [])
           ∙ ap (λ (os : List OutstandingCall). os ++ outstanding_of k a ∷ []) h.calls
           ∙ ap (λ (o : OutstandingCall). outstanding_from (start opened) opened.first_stag accepted ++ o ∷ []) same
           ∙ sym (from-append (start opened) opened.first_stag accepted a);
-      stag = ap (λ (stag : ℕ). stag + regions_needed (outstanding_of (record (start opened) { stag = stag }) a).plan) h.stag
+      stag = (λ i. h.stag i + regions_needed (outstanding_of (record (start opened) { stag = h.stag i; up_max = h.up i; down_max = h.down i }) a).plan)
           ∙ sym (behind-append (start opened) opened.first_stag accepted a);
       ends = ap (λ (b : Bool). k.send_ends ++ cond b ((k.due + length (submitted_output opened k a)) ∷ []) []) hello ∙ append-nil k.send_ends ∙ h.ends;
+      up = h.up;
+      down = h.down;
     }
 
 -- the events that submit nothing
@@ -187,9 +192,9 @@ after-waits : (opened : LinkParameters) (accepted : List AcceptedCall) (k : Clie
 unfolding client_state_after
 after-waits opened accepted k (FrameReceived f) s stays w = frame-waits opened accepted k f stays w
 after-waits opened accepted k (CallSubmitted place a) s stays w = absurd s
-after-waits opened accepted k (MemoryRevoked place xid) s stays w = λ hello. (let h = w hello in record { calls = revoked-same xid k.outstanding ∙ h.calls; stag = h.stag; ends = h.ends })
+after-waits opened accepted k (MemoryRevoked place xid) s stays w = λ hello. (let h = w hello in record { calls = revoked-same xid k.outstanding ∙ h.calls; stag = h.stag; ends = h.ends; up = h.up; down = h.down })
 after-waits opened accepted k (CallExecuted call) s stays w = w
-after-waits opened accepted k (QueueWritten taken) s stays w = λ hello. (let h = w hello in record { calls = h.calls; stag = h.stag; ends = h.ends })
+after-waits opened accepted k (QueueWritten taken) s stays w = λ hello. (let h = w hello in record { calls = h.calls; stag = h.stag; ends = h.ends; up = h.up; down = h.down })
 
 next-waits : (opened : LinkParameters) (accepted : List AcceptedCall) (r : EndState ClientState) (event : Event) → SubmitsNothing event → Waits opened accepted r.state → Waits opened accepted (next_end_state (client_rules opened) r event).state
 next-waits opened accepted r event s w = by_end r.state r.ended w
@@ -285,7 +290,7 @@ waits-from opened link before (mark ∷ run) w h =
 
 begins-waiting : (opened : LinkParameters) (link : ℕ) → Waits opened (accepted_calls link []) (client opened link []).state
 unfolding client events accepted_calls
-begins-waiting opened link hello = record { calls = refl; stag = refl; ends = refl }
+begins-waiting opened link hello = record { calls = refl; stag = refl; ends = refl; up = refl; down = refl }
 
 -- ---- What the hello sends
 

@@ -21,7 +21,7 @@ use Rattle.nr_reduce.specs.OfferedRegions.{Region, region_grants, regions_closed
 use Rattle.nr_reduce.specs.Events.{Event}
 use Rattle.nr_reduce.specs.EndRules.{Rules, EndState}
 use Rattle.nr_reduce.specs.Events.Event.{FrameReceived, CallSubmitted, MemoryRevoked, CallExecuted, QueueWritten}
-use Rattle.nr_reduce.specs.ClientState.{OutstandingCall, ClientState, initial_state, responses_owed, down_max, call_payload, plan_for, memory_at}
+use Rattle.nr_reduce.specs.ClientState.{OutstandingCall, ClientState, initial_state, responses_owed, call_payload, plan_for, memory_at}
 use Rattle.nr_reduce.specs.ClientMessages.{Verdict, verdict}
 use Rattle.nr_reduce.specs.ClientMessages.Verdict.{EndsLink, GivesOutcome}
 use Rattle.nr_xdr.specs.Fields.{word_at}
@@ -33,7 +33,7 @@ abbrev pub readiness : ClientState → Option Denied → Readiness Denied
 readiness k missing = record {
   received = k.received;
   has_receive = true;
-  message_max = down_max k;
+  message_max = k.down_max;
   missing = missing;
   expected = None;
   responses = responses_owed k;

@@ -23,7 +23,7 @@ use Rattle.nr_reduce.specs.Events.Event.{FrameReceived, CallSubmitted, MemoryRev
 use Rattle.nr_reduce.specs.EndRules.{Rules, EndState, next_end_state}
 use Rattle.nr_reduce.specs.ClientState.{OutstandingCall, ClientState, memory_at}
 use Rattle.nr_reduce.specs.Client.{client_rules, initial_client, outstanding_of, segment_request}
-use Rattle.nr_reduce.specs.ServerState.{PendingRead, ServerState, down_max, credit_word}
+use Rattle.nr_reduce.specs.ServerState.{PendingRead, ServerState, credit_word}
 use Rattle.nr_reduce.specs.ServerFrames.{FrameEffect, frame_effect}
 use Rattle.nr_reduce.specs.Server.{server_rules, initial_server, newly_open_reads, offer_of, answer_of_target}
 
@@ -74,7 +74,7 @@ answer_items k xid offer (Some a) =
 unfoldable pub execution_items : ServerState → ExecutedCall → List OutputItem
 execution_items k e =
     answer_items k e.xid (offer_of k e.xid)
-    (answer_of_target (offer_of k e.xid) (down_max k) e.reply (target_of (call_of e.payload)))
+    (answer_of_target (offer_of k e.xid) k.down_max e.reply (target_of (call_of e.payload)))
 
 unfoldable pub server_items_at : LinkParameters → ServerState → Event → List OutputItem
 server_items_at opened k (FrameReceived f) = if is_hello f then [] else effect_items k (frame_effect k f)

@@ -15,6 +15,7 @@ use Rattle.nr_reduce.specs.declared.call.Call.{Call}
 use Rattle.nr_reduce.specs.declared.outline.Plan.{Plan}
 use Rattle.nr_reduce.specs.Plans.{Buffer, buffers, lists_of}
 use Rattle.nr_reduce.specs.declared.mark.LinkParameters.{LinkParameters}
+use Rattle.nr_reduce.specs.Limits.{send_max}
 use Rattle.nr_reduce.specs.OfferedRegions.{Region}
 use Rattle.nr_reduce.specs.OfferedMemory.{region_at, AreOffered, AreReceived, HoldsRegions}
 use Rattle.nr_reduce.specs.EndRules.{EndState}
@@ -25,7 +26,8 @@ use Rattle.nr_xdr.specs.Fields.{word_at}
 use Rattle.nr_reduce.specs.KeptCalls.{KeptCall, AreKept}
 
 -- Why the client ended, once it has; the xid that it gives next; the credits that are granted; how many calls are outstanding; the calls
--- among them that weren't handed back, in the order of their Submits; its registered memory.
+-- among them that weren't handed back, in the order of their Submits; its registered memory; the bytes that a Send has at most, towards
+-- the server and from it.
 pub record KeptClient : Type 0 where
   pub ended : Option End
   pub next_xid : ℕ
@@ -33,6 +35,8 @@ pub record KeptClient : Type 0 where
   pub outstanding : ℕ
   pub calls : List KeptCall
   pub memory : RegisteredMemory
+  pub up_max : ℕ
+  pub down_max : ℕ
 
 -- the bytes under an STag
 abbrev pub bytes_under : RegisteredMemory → ℕ → List ℕ
@@ -98,6 +102,8 @@ pub record ClientKeeps (opened : LinkParameters) (kept : KeptClient) (e : EndSta
   pub ended : kept.ended ≡ e.ended
   pub xid : kept.next_xid ≡ next_xid opened e.state
   pub grant : kept.grant ≡ e.state.grant
+  pub up : kept.up_max ≡ e.state.up_max
+  pub down : kept.down_max ≡ e.state.down_max
   pub outstanding : kept.outstanding ≡ length e.state.outstanding
   pub calls : e.ended ≡ None → CallsKeep kept.calls kept.next_xid e.state
   pub memory : e.ended ≡ None → MemoryKeeps kept.memory e.state count
@@ -109,7 +115,16 @@ pub record ClientKeeps (opened : LinkParameters) (kept : KeptClient) (e : EndSta
 
 -- a client as it is opened
 abbrev pub opened_client : LinkParameters → KeptClient
-opened_client opened = record { ended = None; next_xid = opened.first_xid; grant = 1; outstanding = 0; calls = []; memory = initial_memory opened.first_stag }
+opened_client opened = record {
+  ended = None;
+  next_xid = opened.first_xid;
+  grant = 1;
+  outstanding = 0;
+  calls = [];
+  memory = initial_memory opened.first_stag;
+  up_max = send_max;
+  down_max = send_max;
+}
 
 -- ---- What it keeps once regions are released
 

@@ -24,7 +24,7 @@ use Rattle.nr_reduce.specs.declared.mark.Mark.{Mark}
 use Rattle.nr_reduce.specs.declared.mark.Mark.TheVariants as marks
 use Rattle.nr_reduce.specs.declared.mark.LinkParameters.{LinkParameters}
 use Rattle.nr_reduce.specs.declared.outline.Plan.{Plan}
-use Rattle.nr_reduce.specs.Limits.{numbers_end, send_max}
+use Rattle.nr_reduce.specs.Limits.{numbers_end}
 use Rattle.nr_reduce.specs.Plans.{TooLarge, regions_needed, buffers, plan_of}
 use Rattle.nr_reduce.specs.History.{AcceptedCall, CompletedCall, bytes_sent, bytes_received, written_at, fed_at, other}
 use Rattle.nr_reduce.specs.Events.{Event, events_at}
@@ -166,7 +166,7 @@ kept_answer_by_plan kept (Ok plan) =
 
 abbrev pub kept_answer_if : KeptClient → Call → Form → Option End → Submission
 kept_answer_if kept call form (Some end) = submissions.Refused (refusals.Ended end)
-kept_answer_if kept call form None = kept_answer_by_plan kept (plan_of (call_payload kept.next_xid call) form send_max send_max)
+kept_answer_if kept call form None = kept_answer_by_plan kept (plan_of (call_payload kept.next_xid call) form kept.up_max kept.down_max)
 
 abbrev pub kept_answer : KeptClient → Call → Form → Submission
 kept_answer kept call form = kept_answer_if kept call form kept.ended

@@ -8,7 +8,7 @@ use Rattle.nr_endpoint.proofs.link.Link.take_request.Goals as goal
 
 pub invariant_of-self-2 : goal.invariant_of-self-2
 invariant_of-self-2 c =
-    rw c.count_request.ensures (counted_request c.self.inside.has_hello c.self.inside.receive_queue c.self.inside.place (length c.args.frame.now) c.self.invariant (omega (arith, c.requires.some)))
+    rw c.count_request.ensures (counted_request c.self.inside.has_hello c.self.inside.receive_queue c.self.inside.place c.self.inside.message_max (length c.args.frame.now) c.self.invariant (omega (arith, c.requires.some)))
 
 pub returns-clause-ok : goal.returns-clause-ok
 returns-clause-ok c =
@@ -22,6 +22,7 @@ returns-clause-ok c =
       reads = map expected c.self.inside.reads.items;
       memory = c.self.inside.regions.memory;
       send_queue = c.self.inside.send_queue;
+      message_max = c.self.inside.message_max;
     } in
     rw (← c.self.view_is) (took_request s c.count_request.new.self c.respond.new.self (read_request_view c.read_request-request.result) c.in-Ok.bytes.now c.args.payload.now c.args.frame.now
     c.count_request.ensures c.in_ok-respond-in-Ok.ensures.ok c.read_request-request.ensures

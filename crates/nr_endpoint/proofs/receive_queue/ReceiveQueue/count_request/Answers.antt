@@ -6,4 +6,4 @@ use Rattle.nr_endpoint.proofs.receive_queue.ReceiveQueue.count_request.Goals as 
 pub returns : goal.returns
 returns c =
     rw (← c.self.view_is)
-    (with_request true 0 0 0 0 [] _ (kept_begun c.self.inside.begun c.self.invariant.begun_len))
+    (with_request true 0 0 0 0 [] _ (kept_begun c.self.inside.receive_length c.self.inside.begun c.self.invariant.begun_len))

@@ -10,14 +10,14 @@ pub invariant_of-self : goal.invariant_of-self
 invariant_of-self c =
     let left : c.take_first_read.new.messages.items ≡ without_first_read c.self.inside.messages.items =
     c.take_first_read.ensures.left ∙ ap (λ (b : Bool). if b then without_first_read c.self.inside.messages.items else c.self.inside.messages.items) c.if-take_first_read.true in
-    rw (left, c.take_first_read.ensures.capacity) (with_read_told _ _ c.self.inside.messages.items _ _ _ _ c.self.invariant)
+    rw (left, c.take_first_read.ensures.capacity) (with_read_told _ _ _ c.self.inside.messages.items _ _ _ _ c.self.invariant)
 
 pub invariant_of-self-in-Some : goal.invariant_of-self-in-Some
 invariant_of-self-in-Some c =
     let items : c.self.inside.messages.items ≡ c.in-Some.message ∷ c.pop_front.new.self.items =
     sym (c.take_first_read.ensures.left ∙ ap (λ (b : Bool). if b then without_first_read c.self.inside.messages.items else c.self.inside.messages.items) c.if-take_first_read.false) ∙ c.in-Some.ensures.items in
     rw (c.pop_front.ensures.capacity, c.take_first_read.ensures.capacity)
-    (with_message_told _ _ c.in-Some.message c.self.inside.messages.items c.pop_front.new.self.items _ _ _ _ c.self.invariant items)
+    (with_message_told _ _ _ c.in-Some.message c.self.inside.messages.items c.pop_front.new.self.items _ _ _ _ c.self.invariant items)
 
 no-items : (xs ys : List ReceivedMessage) → xs ≡ ys → ys ≡ drop 1 xs → ys ≡ []
 no-items xs [] same rest = refl
