@@ -23,5 +23,5 @@ pub use feeder::Feeder;
 pub use jobs::Job;
 pub use log::{Log, counted, write};
 pub use open::open_feeder;
-pub use pieces::{Seen, read_in_pieces};
+pub use pieces::{Seen, next_of, read_in_pieces};
 pub use pumping::{pump, pump_twice};

@@ -44,3 +44,14 @@ fn take_all(reader: &mut Records, records: &mut Vec<Octets>) -> Result<(), Memor
     }
     Ok(())
 }
+
+/// The offset of the record that comes next, and how many bytes it has.
+pub fn next_of(reader: &mut Records) -> (u64, Option<usize>)
+    ensures { (kept reader.new).count ≡ (kept reader.old).count }
+{
+    let at = reader.at();
+    match reader.next_record() {
+        Some(record) => (at, Some(record.len())),
+        None => (at, None),
+    }
+}

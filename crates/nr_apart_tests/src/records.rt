@@ -3,9 +3,9 @@
 ghost use Rattle.std.specs.Prelude.{◌<◌};
 
 use crate::compare::same;
-use crate::pieces::{Seen, read_in_pieces};
+use crate::pieces::{Seen, next_of, read_in_pieces};
 use nr_record::constants::RECORD_MAX;
-use nr_record::{RecordFault, write_record};
+use nr_record::{RecordFault, Records, write_record};
 use std::alloc::Global;
 use std::process::Abort;
 
@@ -118,6 +118,40 @@ fn records_of_streams(rt: HostRuntime) {
             row_gives(&rt, rt.alloc(), number, row, step);
         }
     }
+}
+
+#[test]
+fn offsets_of_records_that_wait(rt: HostRuntime) {
+    let mut reader = Records::new(rt.alloc());
+    // records of one byte, of two and of none, and the beginning of a header
+    let stream: &[u8] = b"\x80\0\0\x01a\x80\0\0\x02bc\x80\0\0\0\x80\0";
+    same(&rt, 0, reader.feed(stream).err(), None);
+    same(&rt, 1, next_of(&mut reader), (0, Some(1)));
+    same(&rt, 2, next_of(&mut reader), (5, Some(2)));
+    same(&rt, 3, next_of(&mut reader), (11, Some(0)));
+    same(&rt, 4, next_of(&mut reader), (15, None));
+    let rest: &[u8] = b"\0\x01d";
+    same(&rt, 5, reader.feed(rest).err(), None);
+    same(&rt, 6, next_of(&mut reader), (15, Some(1)));
+    same(&rt, 7, next_of(&mut reader), (20, None));
+}
+
+#[test]
+fn a_fault_is_kept(rt: HostRuntime) {
+    let mut reader = Records::new(rt.alloc());
+    // a record of one byte, and the header of a fragment of 1056769 bytes
+    let stream: &[u8] = b"\x80\0\0\x01a\0\x10\x20\x01";
+    let more: &[u8] = b"\x80\0\0\0";
+    let bad = Some(RecordFault::Bad {
+        at: 5,
+        reason: ABOVE,
+    });
+    same(&rt, 0, reader.feed(stream).err(), bad);
+    same(&rt, 1, reader.feed(more).err(), bad);
+    same(&rt, 2, next_of(&mut reader), (0, Some(1)));
+    same(&rt, 3, reader.feed(more).err(), bad);
+    same(&rt, 4, reader.feed(b"").err(), bad);
+    same(&rt, 5, next_of(&mut reader), (5, None));
 }
 
 /// How many records a record of this many bytes gives once it is written, the length of the first, and the fault.

@@ -3,6 +3,7 @@
 ghost use Rattle.std.specs.Prelude.{◌≡◌, ◌+◌, ◌^◌, ◌≤◌, length, true};
 ghost use Rattle.nr_endpoint.specs.Calls.{IsStopReason};
 
+use crate::short_sink::ShortSink;
 use nr_endpoint::{DrainFault, Endpoint, Event, ReadRefused};
 use nr_link::End;
 use nr_outside::MemSink;
@@ -179,6 +180,11 @@ impl TestEndpoint {
 
     /// Hands the output to a sink.
     pub fn drain_into(&mut self, sink: &mut MemSink) -> Result<(), DrainFault> {
+        self.endpoint.drain_into(sink)
+    }
+
+    /// Hands the output to a sink that takes a few bytes a call.
+    pub fn drain_in_parts(&mut self, sink: &mut ShortSink) -> Result<(), DrainFault> {
         self.endpoint.drain_into(sink)
     }
 

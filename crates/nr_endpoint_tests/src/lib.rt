@@ -26,4 +26,6 @@ mod rights;
 #[cfg(test)]
 mod segments;
 #[cfg(test)]
+mod short_sink;
+#[cfg(test)]
 mod vectors;

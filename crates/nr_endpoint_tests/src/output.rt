@@ -6,6 +6,7 @@ use crate::given::{
     SIDES, bytes_of, feed_runs, feed_words, greeted, joined, outcome, own_hello, peer_hello,
     read_done, writes,
 };
+use crate::short_sink::ShortSink;
 use nr_endpoint::{DrainFault, ReadRefused};
 use nr_link::End;
 use nr_outside::MemSink;
@@ -360,6 +361,41 @@ fn failing_sink(rt: &impl Abort, alloc: Global, side: Side, at: usize) {
     fails_once(rt, alloc, at, &mut endpoint, all.as_slice());
     same(rt, at, endpoint.endpoint().sends_left(), 2);
     drop(endpoint);
+}
+
+/// A sink that takes five bytes a call and fails at the call `at`: it took `taken` bytes, all of them first bytes of the hello
+/// and two Sends, and the rest comes next.
+fn takes_part(rt: &impl Abort, alloc: Global, side: Side, at: usize, taken: usize) {
+    let all = joined(rt, alloc, own_hello(side), &TWO_SENDS);
+    let mut endpoint = two_sends(rt, alloc, side);
+    feed_words(rt, alloc, at, &mut endpoint, peer_hello(side), None);
+    let mut failing = Vec::new(alloc);
+    failing.push(at).expect(rt, "memory");
+    let mut sink = ShortSink {
+        sink: MemSink::new(alloc, failing),
+        more: 4,
+    };
+    same(
+        rt,
+        at,
+        endpoint.drain_in_parts(&mut sink),
+        Err(DrainFault::LinkWrite),
+    );
+    same(rt, at, Some(sink.sink.bytes()), all.get(..taken));
+    same(rt, at, endpoint.endpoint().sends_left(), 0);
+    same(rt, at, endpoint.drain_in_parts(&mut sink), Ok(()));
+    same(rt, at, sink.sink.bytes(), all.as_slice());
+    same(rt, at, endpoint.endpoint().sends_left(), 2);
+    drop(endpoint);
+}
+
+#[test]
+fn drained_in_parts(rt: HostRuntime) {
+    for side in &SIDES {
+        takes_part(&rt, rt.alloc(), *side, 0, 0);
+        takes_part(&rt, rt.alloc(), *side, 3, 15);
+        takes_part(&rt, rt.alloc(), *side, 6, 30);
+    }
 }
 
 #[test]

@@ -70,7 +70,7 @@ none_begun k whole partial sum (b ∷ begun) (g ∷ gs) m n y less is within p r
     let len : length b ≡ length g = ap length s.payload in
     none_begun k whole partial (sum + length b) begun gs m n y less (omega (arith, is, length-append b (concat begun))) within p.1 r.1 lt (omega (arith, above, len, length-append g (concat gs))) s.rest
 
-none_list : (cuts ds : List Cut) (rest : List ℕ) (gs : List (List ℕ)) (m : Bool) (n : ℕ) (y : List ℕ) → AllByRecursion IsWithin cuts → AllByRecursion Fits ds → AllByRecursion IsShort gs → n < 2 ^ 31 → RECORD_MAX < length (concat gs) + n
+pub none_list : (cuts ds : List Cut) (rest : List ℕ) (gs : List (List ℕ)) (m : Bool) (n : ℕ) (y : List ℕ) → AllByRecursion IsWithin cuts → AllByRecursion Fits ds → AllByRecursion IsShort gs → n < 2 ^ 31 → RECORD_MAX < length (concat gs) + n
     → IsBegun rest → ¬ (rest ≡ fragments gs ++ (header m n ++ y)) → ¬ (encodings cuts ++ rest ≡ (encodings ds ++ fragments gs) ++ (header m n ++ y))
 none_list [] [] rest gs m n y p q r lt above begun other e = other e
 none_list [] (d ∷ ds) rest gs m n y p q r lt above begun other e =

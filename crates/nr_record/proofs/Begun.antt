@@ -49,7 +49,7 @@ zeros_are zero head all = subst IsBytes (sym (append-nil head)) all
 zeros_are (suc n) head all = subst IsBytes (append_assoc head (0 ∷ []) (replicate n 0)) (zeros_are n (head ++ 0 ∷ []) (bytes-end head 0 all (omega arith)))
 
 -- a header that is begun goes on with zeros
-header_begun : (begun : List (List ℕ)) (head : List ℕ) → AllByRecursion IsShort begun → IsBytes head → length head < HEADER_LEN → IsBegun (fragments begun ++ head)
+pub header_begun : (begun : List (List ℕ)) (head : List ℕ) → AllByRecursion IsShort begun → IsBytes head → length head < HEADER_LEN → IsBegun (fragments begun ++ head)
 header_begun begun head all bytes short =
     begun_with last begun payload head (zeros ++ payload) all (omega (arith, length-replicate {A = ℕ} len 0)) (omega (arith, length-append zeros payload, length-replicate {A = ℕ} (4 - length head) 0)) whole where
       zeros : List ℕ

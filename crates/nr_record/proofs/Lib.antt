@@ -4,3 +4,4 @@ mod Waiting
 mod Unique
 mod Begun
 mod Above
+mod Again

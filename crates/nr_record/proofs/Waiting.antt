@@ -1,5 +1,5 @@
 -- Records that wait and are taken, a value without bytes, and the number of bytes that were read.
-use Rattle.std.proofs.Common.{◌≡◌, ℕ, zero, suc, ◌+◌, ◌-◌, ◌%◌, ◌^◌, ◌<◌, ◌≤◌, eqb, ◌&&◌, if◌then◌else◌, Bool, true, false, ltb, leb, List, [], ◌∷◌, ◌++◌, length, drop, take, get_or, slice_index_or, Option, None, Some, refl, sym, ap, ◌∙◌, subst, inl, append_assoc, length-append, arith}
+use Rattle.std.proofs.Common.{◌≡◌, ℕ, zero, suc, ◌+◌, ◌-◌, ◌%◌, ◌^◌, ◌<◌, ◌≤◌, eqb, ◌&&◌, if◌then◌else◌, Bool, true, false, ltb, leb, List, [], ◌∷◌, ◌++◌, length, drop, take, get_or, slice_index_or, Option, None, Some, refl, sym, ap, ◌∙◌, subst, inl, append_assoc, append-nil, length-append, arith}
 use Rattle.std.proofs.lemmas.List.{take-append-drop, length-drop, take_all}
 use mathlib.Core.Option.{some}
 use lib.ListN.{get_elem?}
@@ -10,7 +10,7 @@ use Rattle.nr_record.specs.declared.fault.RecordFault.TheVariants.{Bad, Memory}
 use Rattle.nr_record.specs.declared.records.WaitingRecord.{WaitingRecord}
 use Rattle.nr_record.specs.Constants.{RECORD_MAX, HEADER_LEN, REASON_RECORD}
 use Rattle.nr_record.specs.Records.{fragments, Cut, contents, encoding, encodings}
-use Rattle.nr_record.specs.Kept.{Kept, waiting_from, IsState, Stands, StandsFor}
+use Rattle.nr_record.specs.Kept.{Kept, KeepsWaiting, waiting_from, IsState, Stands, StandsFor}
 use Rattle.nr_record.specs.Step.{with_record, ended, with_header, with_byte, with_payload}
 use Rattle.nr_record.proofs.Lists.{waiting-length}
 
@@ -136,6 +136,44 @@ byte_count byte k = either_count (ltb (length (k.head ++ byte ∷ [])) HEADER_LE
 pub payload_count : (bytes : List ℕ) (k : Kept) → (with_payload bytes k).count ≡ k.count + length bytes
 unfolding with_payload
 payload_count bytes k = ended_count (record k { count = k.count + length bytes; payload = k.payload ++ bytes; left = k.left - length bytes })
+
+-- the records that wait
+pub keeps_same : (k l : Kept) → l.waiting ≡ k.waiting → KeepsWaiting k l
+keeps_same k l e = ([], e ∙ sym (append-nil k.waiting))
+
+pub keeps_on : (k l m : Kept) → KeepsWaiting k l → KeepsWaiting l m → KeepsWaiting k m
+keeps_on k l m a b = (a.0 ++ b.0, b.1 ∙ (ap (λ (w : List WaitingRecord). w ++ b.0) a.1 ∙ append_assoc k.waiting a.0 b.0))
+
+ended_keeps : (k : Kept) → KeepsWaiting k (ended k)
+unfolding ended
+ended_keeps k = either_keeps (eqb k.left 0 && k.last) where
+  either_keeps : (b : Bool) → KeepsWaiting k (if b then with_record k else k)
+  either_keeps true = (record { at = k.start; bytes = k.payload } ∷ [], refl)
+  either_keeps false = keeps_same k k refl
+
+header_keeps : (n : ℕ) (k : Kept) → KeepsWaiting k (with_header n k)
+unfolding with_header
+header_keeps n k = either_keeps (ltb RECORD_MAX (length k.payload + n % 2 ^ 31)) where
+  l : Kept
+  l = record k { last = leb (2 ^ 31) n; left = n % 2 ^ 31 }
+
+  either_keeps : (b : Bool) → KeepsWaiting k (if b then record k { fault = Some (Bad (k.count - HEADER_LEN) REASON_RECORD) } else ended l)
+  either_keeps true = keeps_same k (record k { fault = Some (Bad (k.count - HEADER_LEN) REASON_RECORD) }) refl
+  either_keeps false = ended_keeps l
+
+pub byte_keeps : (byte : ℕ) (k : Kept) → KeepsWaiting k (with_byte byte k)
+unfolding with_byte
+byte_keeps byte k = either_keeps (ltb (length (k.head ++ byte ∷ [])) HEADER_LEN) where
+  l : Kept
+  l = record k { count = k.count + 1; head = [] }
+
+  either_keeps : (b : Bool) → KeepsWaiting k (if b then record k { count = k.count + 1; head = k.head ++ byte ∷ [] } else with_header (word_at 0 (k.head ++ byte ∷ [])) l)
+  either_keeps true = keeps_same k (record k { count = k.count + 1; head = k.head ++ byte ∷ [] }) refl
+  either_keeps false = header_keeps (word_at 0 (k.head ++ byte ∷ [])) l
+
+pub payload_keeps : (bytes : List ℕ) (k : Kept) → KeepsWaiting k (with_payload bytes k)
+unfolding with_payload
+payload_keeps bytes k = ended_keeps (record k { count = k.count + length bytes; payload = k.payload ++ bytes; left = k.left - length bytes })
 
 pub by_itself : {A : Type 0} (xs : List A) → xs ≡ drop 1 xs → xs ≡ []
 by_itself [] e = refl

@@ -26,13 +26,24 @@ pub record Kept : Type 0 where
 abbrev pub kept : Records → Kept
 kept r = record { waiting = r.waiting.items; start = r.start; count = r.count; payload = r.payload; head = r.head.items; last = r.last; left = r.left; fault = r.fault }
 
+-- memory ran out
+abbrev pub IsOutOfMemory : Kept → Type 0
+IsOutOfMemory k = k.fault ≡ Some Memory
+
+-- no record that waits is lost or changed between these two moments: more may wait after them
+abbrev pub KeepsWaiting : Kept → Kept → Type 0
+KeepsWaiting k l = (more : List WaitingRecord) × (l.waiting ≡ k.waiting ++ more)
+
 -- x is at this place of the list
 abbrev pub IsAt : List (List ℕ) → ℕ → List ℕ → Type 0
 IsAt xs k x = get_elem? xs k ≡ some x
 
 -- the record is within the limit
+abbrev pub IsInLimit : List ℕ → Type 0
+IsInLimit bytes = length bytes ≤ RECORD_MAX
+
 abbrev pub IsWithin : Cut → Type 0
-IsWithin c = length (content c) ≤ RECORD_MAX
+IsWithin c = IsInLimit (content c)
 
 -- the records of these encodings, the first of them at this offset
 abbrev pub waiting_from : ℕ → List Cut → List WaitingRecord

@@ -10,13 +10,14 @@ use nr_xdr::{Octets, word_at};
 use std::mem;
 
 impl Records {
-    ghost use Rattle.nr_record.specs.Kept.{kept, StandsFor, IsFaultOf};
+    ghost use Rattle.nr_record.specs.Kept.{kept, StandsFor, IsFaultOf, KeepsWaiting};
     ghost use Rattle.nr_record.specs.Records.{IsAboveAt};
     ghost use Rattle.nr_record.specs.Step.{ended, with_header, with_byte, with_payload, with_fault};
 
     /// Takes in the next bytes of the stream. `Bad` exactly if the length of a fragment takes the sum of its record above 1056768;
     /// `at` is the offset of the header of the first such fragment. A fault is kept, and each later call answers it again. The
-    /// records that end before it are kept too.
+    /// records that end before it are kept too. No answer loses a record that waits, or takes back what was read. At most 2^62 bytes
+    /// may be fed in all.
     pub fn feed(&mut self, piece: &[u8]) -> Result<(), RecordFault>
         requires { (kept self.old).count + length piece.now ≤ 2 ^ 62 }
         ensures stands { (stream : List ℕ) (taken : ℕ) → StandsFor (kept self.old) stream taken → StandsFor (kept self.new) (stream ++ piece.now) taken }
@@ -25,6 +26,8 @@ impl Records {
         ensures fault { OnOk result ((kept self.new).fault ≡ None) × IfErr result (λ fault. (kept self.new).fault ≡ Some fault) }
         ensures stays { (fault : RecordFault) → (kept self.old).fault ≡ Some fault → kept self.new ≡ kept self.old }
         ensures count { (kept self.new).count ≤ (kept self.old).count + length piece.now }
+        ensures forward { (kept self.old).count ≤ (kept self.new).count }
+        ensures keeps { KeepsWaiting (kept self.old) (kept self.new) }
     {
         self.feed_inner(piece)
     }
@@ -36,6 +39,8 @@ impl Records {
         ensures err { IfErr result (λ fault. (kept self.new).fault ≡ Some fault) }
         ensures stays { (fault : RecordFault) → (kept self.old).fault ≡ Some fault → kept self.new ≡ kept self.old }
         ensures count { (kept self.new).count ≤ (kept self.old).count + length piece.now }
+        ensures forward { (kept self.old).count ≤ (kept self.new).count }
+        ensures keeps { KeepsWaiting (kept self.old) (kept self.new) }
     {
         if let Some(kept) = self.fault {
             return Err(kept);
@@ -61,6 +66,7 @@ impl Records {
         ensures some { self.new.fault ≡ None → 0 < result }
         ensures within { result ≤ length bytes.now }
         ensures count { self.new.count ≡ self.old.count + result }
+        ensures keeps { KeepsWaiting (kept self.old) (kept self.new) }
     {
         if self.waiting.try_reserve(1).is_err() {
             self.fault = Some(RecordFault::Memory);
@@ -79,6 +85,7 @@ impl Records {
         requires room { deque_len self.old.waiting < deque_capacity self.old.waiting }
         ensures stands { (stream : List ℕ) (taken : ℕ) → StandsFor (kept self.old) stream taken → StandsFor (kept self.new) (stream ++ byte ∷ []) taken }
         ensures count { self.new.count ≡ self.old.count + 1 }
+        ensures keeps { KeepsWaiting (kept self.old) (kept self.new) }
     {
         self.add_to_header(byte);
     }
@@ -92,6 +99,7 @@ impl Records {
         ensures some { self.new.fault ≡ None → 0 < result }
         ensures within { result ≤ length bytes.now }
         ensures count { self.new.count ≡ self.old.count + result }
+        ensures keeps { KeepsWaiting (kept self.old) (kept self.new) }
     {
         self.add_to_payload(bytes)
     }

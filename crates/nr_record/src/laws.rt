@@ -3,7 +3,7 @@
 ghost use Rattle.std.specs.Prelude.{◌≡◌, ℕ, List, [], None};
 ghost use Rattle.std.specs.List.{AllByRecursion};
 ghost use Rattle.nr_record.specs.Records.{IsShort, RecordsEncode, encodings, as_one, contents};
-ghost use Rattle.nr_record.specs.Kept.{Kept, StandsFor, read_in, rest_in};
+ghost use Rattle.nr_record.specs.Kept.{Kept, StandsFor, IsInLimit, IsOutOfMemory, read_in, rest_in};
 
 /// A stream encodes its records in exactly one way.
 pub fn one_reading()
@@ -11,9 +11,12 @@ pub fn one_reading()
         RecordsEncode bytes records rest → RecordsEncode bytes others left → (records ≡ others) × (rest ≡ left) }
 {}
 
-/// What is written is read back: records, each as one fragment, and nothing after them.
+/// What is written is read back: records, each as one fragment, and nothing after them. A value that is fed them, of at most
+/// 1056768 bytes each, has no fault and gives exactly them, unless memory runs out.
 pub fn written_again()
-    ensures { (records : List (List ℕ)) → AllByRecursion IsShort records → RecordsEncode (encodings (as_one records)) records [] }
+    ensures read { (k : Kept) (records : List (List ℕ)) (taken : ℕ) (s : StandsFor k (encodings (as_one records)) taken) →
+        AllByRecursion IsInLimit records → ¬ (IsOutOfMemory k) → (k.fault ≡ None) × (contents s.cuts ≡ records) × (rest_in s ≡ []) }
+    ensures encoded { (records : List (List ℕ)) → AllByRecursion IsShort records → RecordsEncode (encodings (as_one records)) records [] }
 {}
 
 /// The records that a value gives are those that the bytes that it read encode. Without a fault, all bytes were read.
@@ -22,8 +25,8 @@ pub fn records_of_the_stream()
     ensures all { (k : Kept) (stream : List ℕ) (taken : ℕ) (s : StandsFor k stream taken) → k.fault ≡ None → read_in s ≡ stream }
 {}
 
-/// However a stream is cut into pieces, its records are the same.
+/// However a stream is cut into pieces, its records are the same, and so is its fault, unless memory runs out.
 pub fn however_cut()
     ensures { (k l : Kept) (stream : List ℕ) (i j : ℕ) (s : StandsFor k stream i) (t : StandsFor l stream j) →
-        k.fault ≡ None → l.fault ≡ None → contents s.cuts ≡ contents t.cuts }
+        ¬ (IsOutOfMemory k) → ¬ (IsOutOfMemory l) → (contents s.cuts ≡ contents t.cuts) × (k.fault ≡ l.fault) }
 {}

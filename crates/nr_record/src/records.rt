@@ -25,7 +25,8 @@ impl WaitingRecord {
     }
 }
 
-/// Reads records out of a stream, which comes in pieces of any length. Each byte of a record is copied once.
+/// Reads records out of a stream, which comes in pieces of any length. Each byte of a record is copied once out of its piece, and
+/// again when the buffer of its record grows.
 #[derive(Drop)]
 pub struct Records {
     pub(crate) waiting: VecDeque<WaitingRecord>,
@@ -46,7 +47,7 @@ impl Records {
     ghost use Rattle.nr_record.specs.Records.{contents, encodings};
     ghost use Rattle.nr_record.specs.Kept.{kept, StandsFor};
 
-    /// Nothing was fed so far.
+    /// A reader at the beginning of a stream.
     pub fn new(alloc: Global) -> Records
         ensures stands { StandsFor (kept result) [] 0 }
         ensures count { (kept result).count ≡ 0 }

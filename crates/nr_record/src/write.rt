@@ -7,7 +7,7 @@ use crate::constants::{BIT_LAST, HEADER_LEN};
 use nr_xdr::{Memory, Octets};
 use std::alloc::Global;
 
-/// A record as one fragment (RFC 5531 section 11).
+/// A record as one fragment (RFC 5531 section 11). A record above 1056768 bytes is refused by [`crate::Records::feed`].
 #[tactic(auto, unfolding(nr_xdr::specs::Item::word))]
 pub fn write_record(alloc: Global, bytes: &[u8]) -> Result<Octets, Memory>
     requires { length bytes.now < 2 ^ 31 }

@@ -11,7 +11,7 @@ use Rattle.nr_script.specs.declared.script.Opening.{Opening}
 use Rattle.nr_script.specs.declared.script.Line.{Line}
 use Rattle.nr_script.specs.Limits.{most_clients, default_capacity}
 use Rattle.nr_script.specs.Script.{may_follow, is_client, FollowOn, HasWritableCred, IsTypedLine, IsScript}
-use Rattle.nr_script.specs.Generator.{next, drawn, below, file_args, read_args, written_bytes, file_sync, write_head, write_args, readdir_args, proc_drawn, args_drawn, after_args, move_lines, call_line, turn_lines, drawn_turn, after_drawn_turn, drawn_lines, drawn_credits, made_script}
+use Rattle.nr_script.specs.Generator.{next, drawn, below, file_args, read_args, written_bytes, file_sync, write_head, write_args, readdir_args, proc_drawn, args_drawn, after_args, move_lines, call_line, turn_lines, drawn_turn, after_drawn_turn, drawn_lines, drawn_credits, made_script, offsets_end, read_counts_end, write_counts_end, listing_count}
 use Rattle.nr_script.proofs.ByteLists.{no-bytes, bytes-more, bytes_both, hyper-bytes, items-bytes}
 
 each-append : {X : Type 0} (P : X → Type 0) (xs ys : List X) → AllByRecursion P xs → AllByRecursion P ys → AllByRecursion P (xs ++ ys)
@@ -60,9 +60,9 @@ unfolding args_drawn
 args-bytes kind state =
     bytes-if (eqb kind 0) _ _ no-bytes
     (bytes-if (eqb kind 1) _ _ (file-bytes 2)
-    (bytes-if (eqb kind 2) _ _ (read-bytes (below 8192 (next state)) (below 4096 (next (next state))))
-    (bytes-if (eqb kind 3) _ _ (write-bytes (below 8192 (next state)) (below 2048 (next (next state))))
-    (bytes-if (eqb kind 4) _ _ (readdir-bytes 4096) (file-bytes 3)))))
+    (bytes-if (eqb kind 2) _ _ (read-bytes (below offsets_end (next state)) (below read_counts_end (next (next state))))
+    (bytes-if (eqb kind 3) _ _ (write-bytes (below offsets_end (next state)) (below write_counts_end (next (next state))))
+    (bytes-if (eqb kind 4) _ _ (readdir-bytes listing_count) (file-bytes 3)))))
 
 -- ===== lines
 

@@ -56,13 +56,26 @@ unfoldable pub proc_drawn : ℕ → ℕ
 proc_drawn kind =
     if kind == 0 then 0 else (if kind == 1 then 1 else (if kind == 2 then 6 else (if kind == 3 then 7 else (if kind == 4 then 16 else 5))))
 
+-- what the numbers that are drawn stay below, and the count of a READDIR
+abbrev pub offsets_end : ℕ
+offsets_end = 8192
+
+abbrev pub read_counts_end : ℕ
+read_counts_end = 4096
+
+abbrev pub write_counts_end : ℕ
+write_counts_end = 2048
+
+abbrev pub listing_count : ℕ
+listing_count = 4096
+
 unfoldable pub args_drawn : ℕ → ℕ → List ℕ
 args_drawn kind state =
     if kind == 0 then []
     else (if kind == 1 then file_args 2
-    else (if kind == 2 then read_args (below 8192 (next state)) (below 4096 (next (next state)))
-    else (if kind == 3 then write_args (below 8192 (next state)) (below 2048 (next (next state)))
-    else (if kind == 4 then readdir_args 4096 else file_args 3))))
+    else (if kind == 2 then read_args (below offsets_end (next state)) (below read_counts_end (next (next state)))
+    else (if kind == 3 then write_args (below offsets_end (next state)) (below write_counts_end (next (next state)))
+    else (if kind == 4 then readdir_args listing_count else file_args 3))))
 
 -- the state after the draws of a READ or a WRITE: an offset and a count
 abbrev pub after_args : ℕ → ℕ → ℕ

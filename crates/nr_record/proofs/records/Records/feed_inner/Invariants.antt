@@ -1,5 +1,5 @@
 use Rattle.std.proofs.Common.{◌≡◌, ℕ, ◌+◌, List, ◌++◌, length, None}
-use Rattle.nr_record.specs.Kept.{kept, StandsFor}
+use Rattle.nr_record.specs.Kept.{kept, StandsFor, KeepsWaiting}
 use Rattle.nr_record.proofs.records.Records.feed_inner.Given as goal
 
 abbrev pub invariant-loop-rest : goal.invariant-loop-rest
@@ -9,6 +9,7 @@ invariant-loop-rest l =
     × (l.self.fault ≡ None)
     × (l.self.count + length l.rest ≡ l.initial.self.count + length l.piece)
     × ((stream : List ℕ) (taken : ℕ) → StandsFor (kept l.initial.self) stream taken → StandsFor (kept l.self) (stream ++ done) taken)
+    × KeepsWaiting (kept l.initial.self) (kept l.self)
 
 abbrev pub decreases-loop-rest : goal.decreases-loop-rest
 decreases-loop-rest l = length l.rest

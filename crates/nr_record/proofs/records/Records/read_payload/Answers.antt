@@ -1,9 +1,9 @@
 use Rattle.std.proofs.Common.{◌≡◌, ℕ, ◌+◌, ◌<◌, ◌≤◌, [], ◌++◌, length, take, sym, ap, subst, ◌∙◌, arith, ⊎_elim}
-use Rattle.nr_record.specs.Kept.{Kept, kept, StandsFor}
+use Rattle.nr_record.specs.Kept.{Kept, kept, StandsFor, KeepsWaiting}
 use Rattle.std.proofs.lemmas.Bool.{cases_lt}
 use Rattle.std.proofs.lemmas.List.{length-take-le}
 use Rattle.nr_record.proofs.Standing.{payload_stands, fault_stands}
-use Rattle.nr_record.proofs.Waiting.{payload_count}
+use Rattle.nr_record.proofs.Waiting.{payload_count, payload_keeps, keeps_same}
 use Rattle.nr_record.proofs.records.Records.read_payload.Goals as goal
 
 pub returns-clause-stands : goal.returns-clause-stands
@@ -21,4 +21,11 @@ returns-clause-count c = let k = kept c.args.self.now in let n = c.add_to_payloa
     ⊎_elim
     (λ (some : 0 < n). ap (λ (l : Kept). l.count) (c.add_to_payload.ensures.some some) ∙ (payload_count more k ∙ ap (λ (m : ℕ). k.count + m) len))
     (λ (none : n ≤ 0). let z : n ≡ 0 = omega (arith, none) in ap (λ (l : Kept). l.count) (c.add_to_payload.ensures.none z) ∙ (let y : k.count ≡ k.count + n = omega (arith, z) in y))
+    (cases_lt 0 n)
+
+pub returns-clause-keeps : goal.returns-clause-keeps
+returns-clause-keeps c = let k = kept c.args.self.now in let n = c.add_to_payload.result in let more = take n c.args.bytes.now in
+    ⊎_elim
+    (λ (some : 0 < n). subst (λ (l : Kept). KeepsWaiting k l) (sym (c.add_to_payload.ensures.some some)) (payload_keeps more k))
+    (λ (none : n ≤ 0). let z : n ≡ 0 = omega (arith, none) in keeps_same k (kept c.add_to_payload.new.self) (ap (λ (l : Kept). l.waiting) (c.add_to_payload.ensures.none z)))
     (cases_lt 0 n)
