@@ -24,11 +24,11 @@ use Rattle.nr_reduce.specs.Client.{client_rules, client_end, client_state_after,
 use Rattle.nr_reduce.specs.RunLaws.{outstanding_from, as_submitted}
 use Rattle.nr_reduce.proofs.Sizes.{message_size}
 use Rattle.nr_laws.proofs.Along.{IsNext, place_after, outputs_by, outputs_in}
-use Rattle.nr_laws.proofs.Outputs.{Output, IsShort, CallsShort, message_of_call, send_segment, call_sends, client_says, response_outputs, response_segments, final_outputs, terminate_segment, CallShort}
+use Rattle.nr_laws.proofs.Outputs.{Output, IsShort, CallsShort, message_of_call, message_outputs, call_sends, client_says, response_outputs, response_segments, final_outputs, terminate_segment, CallShort}
 use Rattle.nr_laws.proofs.Outputs.Output.{ASegment}
 use Rattle.nr_laws.proofs.Brought.{AreFrom}
-use Rattle.nr_laws.proofs.Words.{send-word, terminate-word, from-append, payload-bytes}
-use Rattle.nr_laws.proofs.Messages.{messages, AreOne, messages-append, one-append, messages-calls, one-calls, messages-tagged, one-tagged, tagged-response, messages-final, one-final}
+use Rattle.nr_laws.proofs.Words.{message-words, terminate-word, from-append, payload-bytes}
+use Rattle.nr_laws.proofs.Messages.{messages, AreOne, messages-message, one-message, messages-append, one-append, messages-calls, one-calls, messages-tagged, one-tagged, tagged-response, messages-final, one-final}
 use Rattle.nr_laws.proofs.ClientSays.{IsGoodCall, ClientGood, accepted_in, accepted-append, asked, HasHello, ClientSays, short-revoked, submitted-messages, map-more, client-unharmed, formed, response-words}
 use Rattle.nr_laws.proofs.Basics.{above-zero, each-append, each-kept}
 use Rattle.nr_reduce.proofs.Waiting.{start, stag_behind, from-append as from-more, behind-append, submitted-append, revoked-same}
@@ -48,7 +48,8 @@ final-words ends.Memory = tt
 
 calls-words : (opened : LinkParameters) (msn : ℕ) (os : List OutstandingCall) → CallsShort opened os → AreFrom Fpdu (call_sends opened msn os)
 calls-words opened msn [] h = tt
-calls-words opened msn (o ∷ os) h = (send-word msn (message_of_call opened o) h.0, calls-words opened (msn + 1) os h.1)
+calls-words opened msn (o ∷ os) h =
+    from-append (message_outputs msn (message_of_call opened o)) (call_sends opened (msn + 1) os) (message-words msn (message_of_call opened o) h.0) (calls-words opened (msn + 1) os h.1)
 
 -- some outputs that bring no message
 record IsQuiet (outs : List Output) : Type 0 where
@@ -164,12 +165,12 @@ hello-step opened es place k outs f first at goes p =
       waits = λ e. absurd cc;
       said = messages-append outs (call_sends opened 1 k.outstanding)
           ∙ ap (λ (ms : List (List ℕ)). ms ++ messages (call_sends opened 1 k.outstanding)) (p.said ∙ ap (λ (b : Bool). cond b (map (message_of_call opened) (asked opened es)) []) no_hello)
-          ∙ messages-calls opened 1 k.outstanding
+          ∙ messages-calls opened 1 k.outstanding p.short
           ∙ sym (submitted-messages opened k.outstanding)
           ∙ ap (λ (os : List OutstandingCall). map (message_of_call opened) os) (p.waits no_hello)
           ∙ ap (λ (xs : List AcceptedCall). map (message_of_call opened) (outstanding_from (start opened) opened.first_stag xs)) (sym same);
       words = from-append outs (call_sends opened 1 k.outstanding) p.words (calls-words opened 1 k.outstanding p.short);
-      one = one-append outs (call_sends opened 1 k.outstanding) p.one (one-calls opened 1 k.outstanding);
+      one = one-append outs (call_sends opened 1 k.outstanding) p.one (one-calls opened 1 k.outstanding p.short);
     }
 
 -- ---- A call
@@ -183,7 +184,7 @@ short-call opened k a plan planned l =
 
 call-step : (opened : LinkParameters) (es : List Event) (place p : ℕ) (k : ClientState) (outs : List Output) (a : AcceptedCall) (plan : Plan) → plan_for k a.xid a.call a.form ≡ Ok plan → ClientLimits k → ClientSays opened es place k None outs
     → ClientSays opened (es ++ CallSubmitted p a ∷ []) place (client_state_after opened k (CallSubmitted p a)) None
-    (outs ++ cond k.has_hello (ASegment (send_segment (k.calls_accepted + 1) (message_of_call opened (outstanding_of k a))) ∷ []) [])
+    (outs ++ cond k.has_hello (message_outputs (k.calls_accepted + 1) (message_of_call opened (outstanding_of k a))) [])
 unfolding client_state_after plan_for
 call-step opened es place p k outs a plan planned l h =
     let own : OutstandingCall = outstanding_of k a in
@@ -202,29 +203,30 @@ call-step opened es place p k outs a plan planned l h =
       count = (let c = h.count in let l = ap (λ (xs : List AcceptedCall). length xs) more in let n = length-append before (a ∷ []) in omega (arith, c, l, n));
       greeted = h.greeted;
       waits = λ no_hello. submitted-append k.outstanding (own ∷ []) ∙ ap (λ (os : List OutstandingCall). os ++ own ∷ []) (h.waits no_hello) ∙ sym all;
-      said = messages-append outs (says k.has_hello) ∙ by k.has_hello refl own all;
+      said = messages-append outs (says k.has_hello) ∙ by k.has_hello refl short own all;
       words = from-append outs (says k.has_hello) h.words (words_by k.has_hello short);
-      one = one-append outs (says k.has_hello) h.one (one_by k.has_hello);
+      one = one-append outs (says k.has_hello) h.one (one_by k.has_hello short);
     }
   where
     says : Bool → List Output
-    says b = cond b (ASegment (send_segment (k.calls_accepted + 1) (message_of_call opened (outstanding_of k a))) ∷ []) []
+    says b = cond b (message_outputs (k.calls_accepted + 1) (message_of_call opened (outstanding_of k a))) []
 
     words_by : (b : Bool) → IsShort (message_of_call opened (outstanding_of k a)) → AreFrom Fpdu (says b)
-    words_by true s = (send-word (k.calls_accepted + 1) (message_of_call opened (outstanding_of k a)) s, tt)
+    words_by true s = message-words (k.calls_accepted + 1) (message_of_call opened (outstanding_of k a)) s
     words_by false s = tt
 
-    one_by : (b : Bool) → AreOne (says b)
-    one_by true = (refl, tt)
-    one_by false = tt
+    one_by : (b : Bool) → IsShort (message_of_call opened (outstanding_of k a)) → AreOne (says b)
+    one_by true s = one-message (k.calls_accepted + 1) (message_of_call opened (outstanding_of k a)) s
+    one_by false s = tt
 
-    by : (b : Bool) → k.has_hello ≡ b → (own : OutstandingCall) → asked opened (es ++ CallSubmitted p a ∷ []) ≡ asked opened es ++ outstanding_of k a ∷ []
+    by : (b : Bool) → k.has_hello ≡ b → IsShort (message_of_call opened (outstanding_of k a)) → (own : OutstandingCall) → asked opened (es ++ CallSubmitted p a ∷ []) ≡ asked opened es ++ outstanding_of k a ∷ []
         → messages outs ++ messages (says b) ≡ cond b (map (message_of_call opened) (asked opened (es ++ CallSubmitted p a ∷ []))) []
-    by true is own all =
+    by true is s own all =
         ap (λ (ms : List (List ℕ)). ms ++ messages (says true)) (h.said ∙ ap (λ (b : Bool). cond b (map (message_of_call opened) (asked opened es)) []) is)
+        ∙ ap (λ (ms : List (List ℕ)). map (message_of_call opened) (asked opened es) ++ ms) (messages-message (k.calls_accepted + 1) (message_of_call opened (outstanding_of k a)) s)
         ∙ sym (map-more opened (asked opened es) (outstanding_of k a ∷ []))
         ∙ ap (λ (os : List OutstandingCall). map (message_of_call opened) os) (sym all)
-    by false is own all = append-nil (messages outs) ∙ h.said ∙ ap (λ (b : Bool). cond b (map (message_of_call opened) (asked opened es)) []) is
+    by false is s own all = append-nil (messages outs) ∙ h.said ∙ ap (λ (b : Bool). cond b (map (message_of_call opened) (asked opened es)) []) is
 
 -- ---- Each event
 

@@ -4,6 +4,7 @@ use Rattle.std.specs.List.{range_with_len}
 use Rattle.std.specs.Prelude.{option_and_then}
 use Rattle.nr_xdr.specs.Fields.{word_at}
 use Rattle.nr_link.specs.Output.{segment_count}
+use Rattle.nr_laws.specs.MessageSegments.{message_segment}
 use Rattle.nr_wire.specs.Constants.{OPCODE_READ_REQUEST}
 use Rattle.nr_wire.specs.Segment.{Segment}
 use Rattle.nr_wire.specs.Segment.Segment.{Tagged, Untagged}
@@ -32,7 +33,7 @@ use Rattle.nr_laws.proofs.Brought.{Brings}
 use Rattle.nr_laws.proofs.ClientMemory.{find-left, find-closed}
 use Rattle.nr_laws.proofs.ClientSays.{ClientGood}
 use Rattle.nr_laws.proofs.FetchedRegions.{IsFetched, is-fetched, fetched-bytes}
-use Rattle.nr_laws.proofs.Outputs.{Output, send_segment, message_of_call, terminate_segment, one_response, call_sends, client_says, final_outputs, response_outputs, response_segments}
+use Rattle.nr_laws.proofs.Outputs.{Output, message_outputs, message_of_call, terminate_segment, one_response, call_sends, client_says, final_outputs, response_outputs, response_segments}
 use Rattle.nr_laws.proofs.Outputs.Output.{AHello, ASegment}
 use Rattle.nr_laws.proofs.ReadsAlong.{request_in, requests_in}
 use Rattle.nr_laws.proofs.Revoked.{request-regions}
@@ -155,9 +156,18 @@ pub record ClientAnswers (opened : LinkParameters) (es : List Event) (k : Client
   pub requests : heard_in es ≡ requests_of answered ++ later
   pub live : ended ≡ None → later ≡ []
 
+tagged-pieces : (msn : ℕ) (message is : List ℕ) → tagged_in (map ASegment (map (message_segment msn message) is)) ≡ []
+tagged-pieces msn message [] = refl
+tagged-pieces msn message (i ∷ is) = tagged-pieces msn message is
+
+tagged-message : (msn : ℕ) (message : List ℕ) → tagged_in (message_outputs msn message) ≡ []
+tagged-message msn message = tagged-pieces msn message (range_with_len 0 (segment_count message))
+
 tagged-sends : (opened : LinkParameters) (msn : ℕ) (os : List OutstandingCall) → tagged_in (call_sends opened msn os) ≡ []
 tagged-sends opened msn [] = refl
-tagged-sends opened msn (o ∷ os) = tagged-sends opened (msn + 1) os
+tagged-sends opened msn (o ∷ os) =
+    tagged-append (message_outputs msn (message_of_call opened o)) (call_sends opened (msn + 1) os)
+    ∙ (λ i. tagged-message msn (message_of_call opened o) i ++ tagged-sends opened (msn + 1) os i)
 
 tagged-final : (end : Stop) → tagged_in (final_outputs end) ≡ []
 tagged-final (ends.Bad at reason) = by (is_hello_reason reason)
@@ -271,8 +281,8 @@ answers-event opened es k outs (CallSubmitted p a) own h None stays =
     quiet-answers opened es (CallSubmitted p a) k (client_state_after opened k (CallSubmitted p a)) None None outs (client_says opened k (CallSubmitted p a)) (by k.has_hello) (λ n. (refl, refl))
     (data-left k.regions (map (region_of a.xid p) (buffers k.stag (outstanding_of k a).plan))) h
   where
-    by : (b : Bool) → tagged_in (cond b (ASegment (send_segment (k.calls_accepted + 1) (message_of_call opened (outstanding_of k a))) ∷ []) []) ≡ []
-    by true = refl
+    by : (b : Bool) → tagged_in (cond b (message_outputs (k.calls_accepted + 1) (message_of_call opened (outstanding_of k a))) []) ≡ []
+    by true = tagged-message (k.calls_accepted + 1) (message_of_call opened (outstanding_of k a))
     by false = refl
 answers-event opened es k outs (MemoryRevoked p xid) own h None stays =
     quiet-answers opened es (MemoryRevoked p xid) k (client_state_after opened k (MemoryRevoked p xid)) None None outs [] refl (λ n. (refl, refl)) (data-closed (λ r. eqb r.call xid) p k.regions) h

@@ -29,9 +29,9 @@ use Rattle.nr_reduce.proofs.Standing.{AtEachMark-more}
 use Rattle.nr_laws.specs.Typed.{TypedMark, IsTyped}
 use Rattle.nr_laws.proofs.Messages.{messages}
 use Rattle.nr_laws.proofs.Along.{IsNext, Goes, goes-from, goes-nothing, FirstGood, along, outputs_by, outputs_in, outputs_for, outputs_all, place_after, places_after, whole_bytes}
-use Rattle.nr_laws.proofs.Outputs.{Output, bytes_of_all, bytes-append, message_of_call, client_says, client-said, ClientShort, final_outputs, final-said, CallsShort}
+use Rattle.nr_laws.proofs.Outputs.{Output, bytes_of_all, bytes-append, message_of_call, client_says, client-said, final_outputs, final-said}
 use Rattle.nr_laws.proofs.ClientSays.{ClientGood, accepted_in, accepted-append, asked, ClientSays, Says}
-use Rattle.nr_laws.proofs.ClientAlong.{client-step, short-call}
+use Rattle.nr_laws.proofs.ClientAlong.{client-step}
 use Rattle.nr_reduce.proofs.Waiting.{start, stag_behind, from-append}
 use Rattle.nr_laws.proofs.Basics.{first-is}
 
@@ -97,21 +97,12 @@ record Tells (opened : LinkParameters) (es : List Event) (place : ℕ) (r : EndS
   state : r ≡ end_state_after (client_rules opened) (initial_client opened) es
   bytes : output_for_all (client_rules opened) (initial_client opened) es ≡ bytes_of_all outs
 
-short-event : (opened : LinkParameters) (k : ClientState) (ended : Option Stop) (e : Event) → CallsShort opened k.outstanding → ended ≡ None → ClientGood opened (record { state = k; ended = ended }) e → ClientShort opened k e
-unfolding ClientShort
-short-event opened k ended (FrameReceived f) h live good = h
-short-event opened k ended (CallSubmitted p a) h live good = short-call opened k a good.plan good.planned good.limits
-short-event opened k ended (MemoryRevoked p xid) h live good = tt
-short-event opened k ended (CallExecuted e) h live good = tt
-short-event opened k ended (QueueWritten taken) h live good = tt
-
-bytes-by : (opened : LinkParameters) (k : ClientState) (ended : Option Stop) (e : Event) → CallsShort opened k.outstanding → ClientGood opened (record { state = k; ended = ended }) e
-    → output_for_in (client_rules opened) k e ended ≡ bytes_of_all (outputs_in (client_rules opened) (client_says opened) final_outputs k e ended)
-bytes-by opened k (Some end) e short good = refl
-bytes-by opened k None e short good = by (client_end k e)
+bytes-by : (opened : LinkParameters) (k : ClientState) (ended : Option Stop) (e : Event) → output_for_in (client_rules opened) k e ended ≡ bytes_of_all (outputs_in (client_rules opened) (client_says opened) final_outputs k e ended)
+bytes-by opened k (Some end) e = refl
+bytes-by opened k None e = by (client_end k e)
   where
     by : (o : Option Stop) → output_for_by (client_rules opened) k e o ≡ bytes_of_all (outputs_by (client_rules opened) (client_says opened) final_outputs k e o)
-    by None = client-said opened k e (short-event opened k None e short refl good)
+    by None = client-said opened k e
     by (Some end) = final-said end
 
 tells-step : (opened : LinkParameters) (es : List Event) (place : ℕ) (r : EndState ClientState) (outs : List Output) (e : Event) → IsNext place e → ClientGood opened r e → Tells opened es place r outs
@@ -123,7 +114,7 @@ tells-step opened es place r outs e next good t =
       state = ap (λ (x : EndState ClientState). next_end_state rules x e) t.state ∙ sym (end_state_after-append rules (initial_client opened) es (e ∷ []));
       bytes = output_for_all-append rules (initial_client opened) es (e ∷ [])
           ∙ (λ i. t.bytes i ++ (append-nil (output_for rules (sym t.state i) e) i))
-          ∙ ap (λ (xs : List ℕ). bytes_of_all outs ++ xs) (bytes-by opened r.state r.ended e t.says.short good)
+          ∙ ap (λ (xs : List ℕ). bytes_of_all outs ++ xs) (bytes-by opened r.state r.ended e)
           ∙ sym (bytes-append outs (outputs_for rules (client_says opened) final_outputs r e));
     }
 

@@ -1,5 +1,5 @@
 -- The messages among what a side writes.
-use Rattle.std.proofs.Common.{◌≡◌, ℕ, ◌+◌, Bool, true, false, cond, List, [], ◌∷◌, ◌++◌, length, map, refl, ap}
+use Rattle.std.proofs.Common.{◌≡◌, ℕ, ◌+◌, Bool, true, false, cond, List, [], ◌∷◌, ◌++◌, length, map, refl, ap, sym, subst, ◌∙◌}
 use Rattle.nr_wire.specs.Segment.{Segment}
 use Rattle.nr_wire.specs.Segment.Segment.{Tagged, Untagged}
 use Rattle.nr_link.specs.declared.end.End.{End as Stop}
@@ -14,7 +14,7 @@ use Rattle.nr_reduce.specs.declared.mark.LinkParameters.{LinkParameters}
 use Rattle.nr_reduce.specs.ClientState.{OutstandingCall}
 use Rattle.nr_reduce.specs.ServerState.{PendingRead}
 use Rattle.nr_reduce.specs.Undone.{one_write, write_segments, chunk_segments}
-use Rattle.nr_laws.proofs.Outputs.{Output, call_sends, message_sends, message_of_call, one_response, response_segments, request_outputs, final_outputs, server_final_outputs}
+use Rattle.nr_laws.proofs.Outputs.{Output, IsShort, CallsShort, AreShort, send_segment, message_outputs, one-sent, call_sends, message_sends, message_of_call, one_response, response_segments, request_outputs, final_outputs, server_final_outputs}
 use Rattle.nr_laws.proofs.Outputs.Output.{AHello, ASegment}
 
 abbrev pub message_in : Segment → List (List ℕ)
@@ -59,21 +59,33 @@ one-first [] ys h = tt
 one-first (AHello bytes ∷ xs) ys h = one-first xs ys h
 one-first (ASegment s ∷ xs) ys h = (h.0, one-first xs ys h.1)
 
-pub messages-calls : (opened : LinkParameters) (msn : ℕ) (os : List OutstandingCall) → messages (call_sends opened msn os) ≡ map (message_of_call opened) os
-messages-calls opened msn [] = refl
-messages-calls opened msn (o ∷ os) = ap (λ (ms : List (List ℕ)). message_of_call opened o ∷ ms) (messages-calls opened (msn + 1) os)
+-- a short message with its cut
+pub messages-message : (msn : ℕ) (message : List ℕ) → IsShort message → messages (message_outputs msn message) ≡ message ∷ []
+messages-message msn message short = ap messages (one-sent msn message short)
 
-pub one-calls : (opened : LinkParameters) (msn : ℕ) (os : List OutstandingCall) → AreOne (call_sends opened msn os)
-one-calls opened msn [] = tt
-one-calls opened msn (o ∷ os) = (refl, one-calls opened (msn + 1) os)
+pub one-message : (msn : ℕ) (message : List ℕ) → IsShort message → AreOne (message_outputs msn message)
+one-message msn message short = subst AreOne (sym (one-sent msn message short)) (refl, tt)
 
-pub messages-sends : (msn : ℕ) (ms : List (List ℕ)) → messages (message_sends msn ms) ≡ ms
-messages-sends msn [] = refl
-messages-sends msn (m ∷ ms) = ap (λ (xs : List (List ℕ)). m ∷ xs) (messages-sends (msn + 1) ms)
+pub messages-calls : (opened : LinkParameters) (msn : ℕ) (os : List OutstandingCall) → CallsShort opened os → messages (call_sends opened msn os) ≡ map (message_of_call opened) os
+messages-calls opened msn [] h = refl
+messages-calls opened msn (o ∷ os) h =
+    messages-append (message_outputs msn (message_of_call opened o)) (call_sends opened (msn + 1) os)
+    ∙ (λ i. messages-message msn (message_of_call opened o) h.0 i ++ messages-calls opened (msn + 1) os h.1 i)
 
-pub one-sends : (msn : ℕ) (ms : List (List ℕ)) → AreOne (message_sends msn ms)
-one-sends msn [] = tt
-one-sends msn (m ∷ ms) = (refl, one-sends (msn + 1) ms)
+pub one-calls : (opened : LinkParameters) (msn : ℕ) (os : List OutstandingCall) → CallsShort opened os → AreOne (call_sends opened msn os)
+one-calls opened msn [] h = tt
+one-calls opened msn (o ∷ os) h =
+    one-append (message_outputs msn (message_of_call opened o)) (call_sends opened (msn + 1) os) (one-message msn (message_of_call opened o) h.0) (one-calls opened (msn + 1) os h.1)
+
+pub messages-sends : (msn : ℕ) (ms : List (List ℕ)) → AreShort ms → messages (message_sends msn ms) ≡ ms
+messages-sends msn [] h = refl
+messages-sends msn (m ∷ ms) h =
+    messages-append (message_outputs msn m) (message_sends (msn + 1) ms)
+    ∙ (λ i. messages-message msn m h.0 i ++ messages-sends (msn + 1) ms h.1 i)
+
+pub one-sends : (msn : ℕ) (ms : List (List ℕ)) → AreShort ms → AreOne (message_sends msn ms)
+one-sends msn [] h = tt
+one-sends msn (m ∷ ms) h = one-append (message_outputs msn m) (message_sends (msn + 1) ms) (one-message msn m h.0) (one-sends (msn + 1) ms h.1)
 
 pub messages-requests : (msn : ℕ) (reads : List PendingRead) → messages (request_outputs msn reads) ≡ []
 messages-requests msn [] = refl

@@ -12,6 +12,7 @@ use Rattle.nr_link.specs.declared.end.End.TheVariants as ends
 use Rattle.nr_link.specs.Limits.{segment_max}
 use Rattle.nr_link.specs.Reasons.{denied_word, NO_BUFFER_WORD}
 use Rattle.nr_link.specs.Output.{segment_count, segment_payload, cut, msn_word, send, read_response, read_request, terminate_message, own_hello, refusing_hello}
+use Rattle.nr_laws.specs.MessageSegments.{message_segment, message_segments}
 use Rattle.nr_link.specs.Frames.{is_hello}
 use Rattle.nr_link.specs.ReceiveState.{ReadRequest}
 use Rattle.nr_link.specs.Ending.{frame_segment, final_output, last_output, is_hello_reason}
@@ -65,16 +66,37 @@ send-one msn message le =
     ∙ append-nil (encoding (Untagged true OPCODE_SEND 0 QUEUE_SEND (msn_word msn) 0 (segment_payload message 0)))
     ∙ ap (λ (xs : List ℕ). encoding (Untagged true OPCODE_SEND 0 QUEUE_SEND (msn_word msn) 0 xs)) (take_all segment_max message le)
 
+flat-map : (f : ℕ → Segment) (is : List ℕ) → flat_map (λ i. encoding (f i)) is ≡ flat_map encoding (map f is)
+flat-map f [] = refl
+flat-map f (i ∷ is) = ap (λ (xs : List ℕ). encoding (f i) ++ xs) (flat-map f is)
+
+-- a message with its cut: its segments, in order
+abbrev pub message_outputs : ℕ → List ℕ → List Output
+message_outputs msn message = map ASegment (message_segments msn message)
+
+pub send-said : (msn : ℕ) (message : List ℕ) → send msn message ≡ bytes_of_all (message_outputs msn message)
+unfolding send cut
+send-said msn message =
+    flat-map (message_segment msn message) (range_with_len 0 (segment_count message))
+    ∙ sym (bytes-segments (message_segments msn message))
+
+-- a short message is one segment
+pub one-sent : (msn : ℕ) (message : List ℕ) → IsShort message → message_outputs msn message ≡ ASegment (send_segment msn message) ∷ []
+one-sent msn message le =
+    let one : segment_count message ≡ 1 = omega (arith, le) in
+    (λ j. map ASegment (map (λ i. Untagged (eqb (i + 1) (one j)) OPCODE_SEND 0 QUEUE_SEND (msn_word msn) (segment_max * i) (segment_payload message i)) (range_with_len 0 (one j))))
+    ∙ ap (λ (xs : List ℕ). ASegment (Untagged true OPCODE_SEND 0 QUEUE_SEND (msn_word msn) 0 xs) ∷ []) (take_all segment_max message le)
+
 abbrev pub message_of_call : LinkParameters → OutstandingCall → List ℕ
 message_of_call opened o = call_message o.xid opened.wished o.stag o.plan
 
 abbrev pub call_sends : LinkParameters → ℕ → List OutstandingCall → List Output
 call_sends opened msn [] = []
-call_sends opened msn (o ∷ os) = ASegment (send_segment msn (message_of_call opened o)) ∷ call_sends opened (msn + 1) os
+call_sends opened msn (o ∷ os) = message_outputs msn (message_of_call opened o) ++ call_sends opened (msn + 1) os
 
 abbrev pub message_sends : ℕ → List (List ℕ) → List Output
 message_sends msn [] = []
-message_sends msn (m ∷ ms) = ASegment (send_segment msn m) ∷ message_sends (msn + 1) ms
+message_sends msn (m ∷ ms) = message_outputs msn m ++ message_sends (msn + 1) ms
 
 abbrev pub CallShort : LinkParameters → OutstandingCall → Type 0
 CallShort opened o = IsShort (message_of_call opened o)
@@ -86,13 +108,15 @@ abbrev pub AreShort : List (List ℕ) → Type 0
 AreShort [] = Unit {0}
 AreShort (m ∷ messages) = IsShort m × AreShort messages
 
-calls-said : (opened : LinkParameters) (msn : ℕ) (os : List OutstandingCall) → CallsShort opened os → calls_output opened msn os ≡ bytes_of_all (call_sends opened msn os)
-calls-said opened msn [] h = refl
-calls-said opened msn (o ∷ os) h = (λ i. send-one msn (message_of_call opened o) h.0 i ++ calls-said opened (msn + 1) os h.1 i)
+calls-said : (opened : LinkParameters) (msn : ℕ) (os : List OutstandingCall) → calls_output opened msn os ≡ bytes_of_all (call_sends opened msn os)
+calls-said opened msn [] = refl
+calls-said opened msn (o ∷ os) =
+    (λ i. send-said msn (message_of_call opened o) i ++ calls-said opened (msn + 1) os i)
+    ∙ sym (bytes-append (message_outputs msn (message_of_call opened o)) (call_sends opened (msn + 1) os))
 
-sends-said : (msn : ℕ) (ms : List (List ℕ)) → AreShort ms → sends_from msn ms ≡ bytes_of_all (message_sends msn ms)
-sends-said msn [] h = refl
-sends-said msn (m ∷ ms) h = (λ i. send-one msn m h.0 i ++ sends-said (msn + 1) ms h.1 i)
+sends-said : (msn : ℕ) (ms : List (List ℕ)) → sends_from msn ms ≡ bytes_of_all (message_sends msn ms)
+sends-said msn [] = refl
+sends-said msn (m ∷ ms) = (λ i. send-said msn m i ++ sends-said (msn + 1) ms i) ∙ sym (bytes-append (message_outputs msn m) (message_sends (msn + 1) ms))
 
 -- ---- Accesses
 
@@ -101,10 +125,6 @@ one_response stag to bytes i = Tagged (eqb (i + 1) (segment_count bytes)) OPCODE
 
 abbrev pub response_segments : ℕ → ℕ → List ℕ → List Segment
 response_segments stag to bytes = map (one_response stag to bytes) (range_with_len 0 (segment_count bytes))
-
-flat-map : (f : ℕ → Segment) (is : List ℕ) → flat_map (λ i. encoding (f i)) is ≡ flat_map encoding (map f is)
-flat-map f [] = refl
-flat-map f (i ∷ is) = ap (λ (xs : List ℕ). encoding (f i) ++ xs) (flat-map f is)
 
 response-said : (stag to : ℕ) (bytes : List ℕ) → read_response stag to bytes ≡ bytes_of_all (map ASegment (response_segments stag to bytes))
 unfolding read_response cut
@@ -185,45 +205,37 @@ response_outputs k place (Some r) = map ASegment (response_segments r.sink r.sin
 
 unfoldable pub client_says : LinkParameters → ClientState → Event → List Output
 client_says opened k (FrameReceived f) = cond (is_hello f) (call_sends opened 1 k.outstanding) (response_outputs k f.end (segment_request (frame_segment f)))
-client_says opened k (CallSubmitted place a) = cond k.has_hello (ASegment (send_segment (k.calls_accepted + 1) (message_of_call opened (outstanding_of k a))) ∷ []) []
+client_says opened k (CallSubmitted place a) = cond k.has_hello (message_outputs (k.calls_accepted + 1) (message_of_call opened (outstanding_of k a))) []
 client_says opened k (MemoryRevoked place xid) = []
 client_says opened k (CallExecuted call) = []
 client_says opened k (QueueWritten taken) = []
 
--- what is to be short for it
-unfoldable pub ClientShort : LinkParameters → ClientState → Event → Type 0
-ClientShort opened k (FrameReceived f) = CallsShort opened k.outstanding
-ClientShort opened k (CallSubmitted place a) = IsShort (message_of_call opened (outstanding_of k a))
-ClientShort opened k (MemoryRevoked place xid) = Unit {0}
-ClientShort opened k (CallExecuted call) = Unit {0}
-ClientShort opened k (QueueWritten taken) = Unit {0}
-
-pub client-said : (opened : LinkParameters) (k : ClientState) (event : Event) → ClientShort opened k event → client_output opened k event ≡ bytes_of_all (client_says opened k event)
-unfolding client_output client_says ClientShort
-client-said opened k (FrameReceived f) h = by (is_hello f) (segment_request (frame_segment f))
+pub client-said : (opened : LinkParameters) (k : ClientState) (event : Event) → client_output opened k event ≡ bytes_of_all (client_says opened k event)
+unfolding client_output client_says
+client-said opened k (FrameReceived f) = by (is_hello f) (segment_request (frame_segment f))
   where
     by_request : (o : Option ReadRequest) → response_output k f.end o ≡ bytes_of_all (response_outputs k f.end o)
     by_request None = refl
     by_request (Some r) = response-said r.sink r.sink_to (take r.size (drop r.to (memory_at k f.end r.stag)))
 
     by : (b : Bool) (o : Option ReadRequest) → cond b (calls_output opened 1 k.outstanding) (response_output k f.end o) ≡ bytes_of_all (cond b (call_sends opened 1 k.outstanding) (response_outputs k f.end o))
-    by true o = calls-said opened 1 k.outstanding h
+    by true o = calls-said opened 1 k.outstanding
     by false o = by_request o
-client-said opened k (CallSubmitted place a) h = by k.has_hello
+client-said opened k (CallSubmitted place a) = by k.has_hello
   where
-    by : (b : Bool) → cond b (call_output opened (k.calls_accepted + 1) (outstanding_of k a)) [] ≡ bytes_of_all (cond b (ASegment (send_segment (k.calls_accepted + 1) (message_of_call opened (outstanding_of k a))) ∷ []) [])
-    by true = send-one (k.calls_accepted + 1) (message_of_call opened (outstanding_of k a)) h ∙ one-output (send_segment (k.calls_accepted + 1) (message_of_call opened (outstanding_of k a)))
+    by : (b : Bool) → cond b (call_output opened (k.calls_accepted + 1) (outstanding_of k a)) [] ≡ bytes_of_all (cond b (message_outputs (k.calls_accepted + 1) (message_of_call opened (outstanding_of k a))) [])
+    by true = send-said (k.calls_accepted + 1) (message_of_call opened (outstanding_of k a))
     by false = refl
-client-said opened k (MemoryRevoked place xid) h = refl
-client-said opened k (CallExecuted call) h = refl
-client-said opened k (QueueWritten taken) h = refl
+client-said opened k (MemoryRevoked place xid) = refl
+client-said opened k (CallExecuted call) = refl
+client-said opened k (QueueWritten taken) = refl
 
 abbrev pub effect_outputs : ServerState → FrameEffect → List Output
 effect_outputs k s = message_sends (k.messages_queued + 1) s.errors ++ request_outputs (k.requests_sent + 1) (newly_open_reads s)
 
 abbrev pub answer_outputs : ServerState → ℕ → ChunkLists → Option Answer → List Output
-answer_outputs k xid offer None = ASegment (send_segment (k.messages_queued + 1) (chunk_error xid (credit_word k))) ∷ []
-answer_outputs k xid offer (Some a) = map ASegment (answer_segments offer a) ++ ASegment (send_segment (k.messages_queued + 1) (answer_message xid (credit_word k) offer a)) ∷ []
+answer_outputs k xid offer None = message_outputs (k.messages_queued + 1) (chunk_error xid (credit_word k))
+answer_outputs k xid offer (Some a) = map ASegment (answer_segments offer a) ++ message_outputs (k.messages_queued + 1) (answer_message xid (credit_word k) offer a)
 
 abbrev pub answer_of_call : ServerState → ExecutedCall → Option Answer
 answer_of_call k e = answer_of_target (offer_of k e.xid) k.down_max e.reply (target_of (call_of e.payload))
@@ -239,22 +251,15 @@ abbrev pub AnswerShort : ServerState → ℕ → ChunkLists → Option Answer �
 AnswerShort k xid offer None = IsShort (chunk_error xid (credit_word k))
 AnswerShort k xid offer (Some a) = IsShort (answer_message xid (credit_word k) offer a)
 
-unfoldable pub ServerShort : ServerState → Event → Type 0
-ServerShort k (FrameReceived f) = AreShort (frame_effect k f).errors
-ServerShort k (CallSubmitted place a) = Unit {0}
-ServerShort k (MemoryRevoked place xid) = Unit {0}
-ServerShort k (CallExecuted e) = AnswerShort k e.xid (offer_of k e.xid) (answer_of_call k e)
-ServerShort k (QueueWritten taken) = Unit {0}
+answer-said : (k : ServerState) (xid : ℕ) (offer : ChunkLists) (o : Option Answer) → answer_output k xid offer o ≡ bytes_of_all (answer_outputs k xid offer o)
+answer-said k xid offer None = send-said (k.messages_queued + 1) (chunk_error xid (credit_word k))
+answer-said k xid offer (Some a) =
+    (λ i. (answer_spells offer a ∙ sym (bytes-segments (answer_segments offer a))) i ++ send-said (k.messages_queued + 1) (answer_message xid (credit_word k) offer a) i)
+    ∙ sym (bytes-append (map ASegment (answer_segments offer a)) (message_outputs (k.messages_queued + 1) (answer_message xid (credit_word k) offer a)))
 
-answer-said : (k : ServerState) (xid : ℕ) (offer : ChunkLists) (o : Option Answer) → AnswerShort k xid offer o → answer_output k xid offer o ≡ bytes_of_all (answer_outputs k xid offer o)
-answer-said k xid offer None h = send-one (k.messages_queued + 1) _ h ∙ one-output _
-answer-said k xid offer (Some a) h =
-    (λ i. (answer_spells offer a ∙ sym (bytes-segments (answer_segments offer a))) i ++ (send-one (k.messages_queued + 1) _ h ∙ one-output _) i)
-    ∙ sym (bytes-append (map ASegment (answer_segments offer a)) _)
-
-pub server-said : (opened : LinkParameters) (k : ServerState) (event : Event) → ServerShort k event → server_output opened k event ≡ bytes_of_all (server_says opened k event)
-unfolding server_output server_says ServerShort execution_output
-server-said opened k (FrameReceived f) h = by (is_hello f)
+pub server-said : (opened : LinkParameters) (k : ServerState) (event : Event) → server_output opened k event ≡ bytes_of_all (server_says opened k event)
+unfolding server_output server_says execution_output
+server-said opened k (FrameReceived f) = by (is_hello f)
   where
     s : FrameEffect
     s = frame_effect k f
@@ -262,9 +267,9 @@ server-said opened k (FrameReceived f) h = by (is_hello f)
     by : (b : Bool) → cond b (own_hello Responder) (effect_output k s) ≡ bytes_of_all (cond b (AHello (own_hello Responder) ∷ []) (effect_outputs k s))
     by true = sym (append-nil (own_hello Responder))
     by false =
-        (λ i. sends-said (k.messages_queued + 1) s.errors h i ++ requests-said (k.requests_sent + 1) (newly_open_reads s) i)
+        (λ i. sends-said (k.messages_queued + 1) s.errors i ++ requests-said (k.requests_sent + 1) (newly_open_reads s) i)
         ∙ sym (bytes-append (message_sends (k.messages_queued + 1) s.errors) (request_outputs (k.requests_sent + 1) (newly_open_reads s)))
-server-said opened k (CallSubmitted place a) h = refl
-server-said opened k (MemoryRevoked place xid) h = refl
-server-said opened k (CallExecuted e) h = answer-said k e.xid (offer_of k e.xid) (answer_of_call k e) h
-server-said opened k (QueueWritten taken) h = refl
+server-said opened k (CallSubmitted place a) = refl
+server-said opened k (MemoryRevoked place xid) = refl
+server-said opened k (CallExecuted e) = answer-said k e.xid (offer_of k e.xid) (answer_of_call k e)
+server-said opened k (QueueWritten taken) = refl

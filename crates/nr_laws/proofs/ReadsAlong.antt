@@ -17,17 +17,20 @@ use Rattle.nr_reduce.specs.declared.mark.LinkParameters.{LinkParameters}
 use Rattle.nr_reduce.specs.OfferedRegions.{Region, region_grants, regions_closed}
 use Rattle.nr_reduce.specs.Events.{Event}
 use Rattle.nr_reduce.specs.Events.Event.{FrameReceived, CallSubmitted, MemoryRevoked, CallExecuted, QueueWritten}
-use Rattle.nr_reduce.specs.ServerState.{ServerState, PendingCall, PendingRead}
+use Rattle.nr_reduce.specs.ServerState.{ServerState, PendingCall, PendingRead, credit_word}
 use Rattle.nr_reduce.specs.ServerReads.{expected_response, reads_of, regions_of, is_over}
 use Rattle.nr_reduce.specs.ServerMessages.{Verdict, verdict}
 use Rattle.nr_reduce.specs.ServerMessages.Verdict.{EndsLink, OtherVersion, BadChunks, MakesPending}
 use Rattle.nr_reduce.specs.ServerFrames.{FrameEffect, no_effect, message_effect, response_effect, call_of_number, by_message, with_access, effect_in, frame_effect}
 use Rattle.nr_reduce.specs.Server.{server_end, server_state_after, with_effect, received_by, or_refusal, readiness, newly_open_reads, offer_of}
-use Rattle.nr_reduce.specs.Holds.{Answer}
+use Rattle.nr_reduce.specs.Holds.{Answer, answer_message, chunk_error}
+use Rattle.nr_link.specs.Output.{segment_count}
+use Rattle.nr_laws.specs.MessageSegments.{message_segment}
+use Rattle.std.specs.List.{range_with_len}
 use Rattle.nr_header.specs.declared.header.ChunkLists.{ChunkLists}
 use Rattle.nr_reduce.proofs.Once.{NumberIs, verdict-number, whole-with, rises-with}
 use Rattle.nr_reduce.proofs.OwnStags.{AreNumbered, closed-length}
-use Rattle.nr_laws.proofs.Outputs.{Output, effect_outputs, answer_outputs, answer_of_call, message_sends, request_outputs, request_payload, send_segment}
+use Rattle.nr_laws.proofs.Outputs.{Output, effect_outputs, answer_outputs, answer_of_call, message_sends, message_outputs, request_outputs, request_payload}
 use Rattle.nr_laws.proofs.Outputs.Output.{AHello, ASegment}
 use Rattle.nr_laws.proofs.Messages.{AreTagged}
 use Rattle.nr_laws.proofs.ClientSays.{no_reason}
@@ -55,9 +58,18 @@ requests-append [] ys = refl
 requests-append (AHello bytes ∷ xs) ys = requests-append xs ys
 requests-append (ASegment s ∷ xs) ys = ap (λ (ps : List (List ℕ)). request_in s ++ ps) (requests-append xs ys) ∙ sym (append_assoc (request_in s) (requests_in xs) (requests_in ys))
 
+requests-pieces : (msn : ℕ) (message is : List ℕ) → requests_in (map ASegment (map (message_segment msn message) is)) ≡ []
+requests-pieces msn message [] = refl
+requests-pieces msn message (i ∷ is) = requests-pieces msn message is
+
+requests-message : (msn : ℕ) (message : List ℕ) → requests_in (message_outputs msn message) ≡ []
+requests-message msn message = requests-pieces msn message (range_with_len 0 (segment_count message))
+
 requests-sends : (msn : ℕ) (ms : List (List ℕ)) → requests_in (message_sends msn ms) ≡ []
 requests-sends msn [] = refl
-requests-sends msn (m ∷ ms) = requests-sends (msn + 1) ms
+requests-sends msn (m ∷ ms) =
+    requests-append (message_outputs msn m) (message_sends (msn + 1) ms)
+    ∙ (λ i. requests-message msn m i ++ requests-sends (msn + 1) ms i)
 
 requests-reads : (msn : ℕ) (reads : List PendingRead) → requests_in (request_outputs msn reads) ≡ map request_payload reads
 requests-reads msn [] = refl
@@ -69,10 +81,11 @@ requests-tagged (Tagged last opcode stag to payload ∷ segments) h = requests-t
 requests-tagged (Untagged last opcode w queue msn offset payload ∷ segments) h = absurd h
 
 requests-answer : (k : ServerState) (xid : ℕ) (offer : ChunkLists) (o : Option Answer) → requests_in (answer_outputs k xid offer o) ≡ []
-requests-answer k xid offer None = refl
+requests-answer k xid offer None = requests-message (k.messages_queued + 1) (chunk_error xid (credit_word k))
 requests-answer k xid offer (Some a) =
-    requests-append (map ASegment (Rattle.nr_reduce.specs.Undone.answer_segments offer a)) (ASegment (send_segment (k.messages_queued + 1) (Rattle.nr_reduce.specs.Holds.answer_message xid (Rattle.nr_reduce.specs.ServerState.credit_word k) offer a)) ∷ [])
-    ∙ ap (λ (ps : List (List ℕ)). ps ++ []) (requests-tagged (Rattle.nr_reduce.specs.Undone.answer_segments offer a) (tagged-answer offer a))
+    requests-append (map ASegment (Rattle.nr_reduce.specs.Undone.answer_segments offer a)) (message_outputs (k.messages_queued + 1) (answer_message xid (credit_word k) offer a))
+    ∙ (λ i. requests-tagged (Rattle.nr_reduce.specs.Undone.answer_segments offer a) (tagged-answer offer a) i
+    ++ requests-message (k.messages_queued + 1) (answer_message xid (credit_word k) offer a) i)
 
 -- ---- Last segments of responses
 

@@ -25,14 +25,14 @@ use Rattle.nr_reduce.specs.ServerFrames.{FrameEffect, frame_effect}
 use Rattle.nr_reduce.specs.Server.{server_rules, server_end, server_output, server_state_after, with_effect, received_by, offer_of, initial_server, with_own_hello}
 use Rattle.nr_reduce.specs.RunLaws.{server_by}
 use Rattle.nr_laws.proofs.Along.{IsNext, place_after, outputs_by, outputs_for}
-use Rattle.nr_laws.proofs.Outputs.{Output, bytes_of_all, server_says, server-said, ServerShort, server_final_outputs, server-final-said, final_outputs, effect_outputs, answer_outputs, answer_of_call, send_segment}
+use Rattle.nr_laws.proofs.Outputs.{Output, bytes_of_all, server_says, server-said, one-sent, AnswerShort, message_outputs, server_final_outputs, server-final-said, final_outputs, effect_outputs, answer_outputs, answer_of_call, send_segment}
 use Rattle.nr_laws.proofs.Outputs.Output.{AHello, ASegment}
 use Rattle.nr_laws.proofs.Brought.{AreFrom}
 use Rattle.nr_laws.proofs.Words.{payload-bytes, payload_by}
-use Rattle.nr_laws.proofs.Messages.{message_in, messages, AreOne, messages-tagged, messages-final, one-final}
+use Rattle.nr_laws.proofs.Messages.{message_in, messages, AreOne, messages-message, messages-tagged, messages-final, one-final}
 use Rattle.nr_laws.proofs.ClientRun.{parted, by_part}
 use Rattle.nr_laws.proofs.ClientAlong.{final-words}
-use Rattle.nr_laws.proofs.ServerOutputs.{errors-short, CallsFit, IsFine, fine-frame, AreFine, fine-effect, fine-answer, answer-is-short, tagged-answer, CallFits}
+use Rattle.nr_laws.proofs.ServerOutputs.{CallsFit, IsFine, fine-frame, AreFine, fine-effect, fine-answer, answer-is-short, tagged-answer, CallFits}
 use Rattle.nr_laws.proofs.ServerEnds.{BigEnd, segment-ends, hello-goes}
 use Rattle.nr_laws.proofs.ServerAlong.{IsGoodExecution, ServerGood, Said, is_live, outs_of, at-most, nothing-at, messages-at, Greeted, greeted-more, Shape, ServerTells, Grows, grown}
 use Rattle.nr_laws.proofs.ServerAlong.Said.{IsRefusal, IsAnswer, IsNoAnswer}
@@ -126,7 +126,7 @@ later-shape place r outs some (inr h) = h.1
 segment-step : (opened : LinkParameters) (es : List Event) (place : ℕ) (k : ServerState) (outs : List Output) (f : Frame) (s : Segment) → IsNext place (FrameReceived f) → is_hello f ≡ false → frame_segment f ≡ Ok s
     → ServerTells opened es place (record { state = k; ended = None }) outs → (o : Option Stop) → server_end opened k (FrameReceived f) ≡ o
     → Grows opened es place (record { state = k; ended = None }) outs (FrameReceived f) (outputs_by (server_rules opened) (server_says opened) server_final_outputs k (FrameReceived f) o)
-unfolding server_says server_output server_state_after frame_segment ServerShort
+unfolding server_says server_output server_state_after frame_segment
 segment-step opened es place k outs f s next behind is t (Some end) stops =
     let rules = server_rules opened in
     let same : next_end_state rules (record { state = k; ended = None }) (FrameReceived f) ≡ record { state = k; ended = Some end } = ap (λ (o : Option Stop). next_end_state_by rules k (FrameReceived f) o) stops in
@@ -154,7 +154,7 @@ segment-step opened es place k outs f s next behind is t None stays =
     let says : cond (is_hello f) (AHello (own_hello Responder) ∷ []) (effect_outputs k effect) ≡ effect_outputs k effect = ap (λ (b : Bool). cond b (AHello (own_hello Responder) ∷ []) (effect_outputs k effect)) behind in
     record {
       outputs = ap (λ (o : Option Stop). outputs_by rules (server_says opened) server_final_outputs k (FrameReceived f) o) stays;
-      said = ap (λ (o : Option Stop). output_for_by rules k (FrameReceived f) o) stays ∙ server-said opened k (FrameReceived f) (errors-short effect.errors fine.errors);
+      said = ap (λ (o : Option Stop). output_for_by rules k (FrameReceived f) o) stays ∙ server-said opened k (FrameReceived f);
       begun = subst (λ (r : EndState ServerState). IsBytes (begun_bytes r.state.received.begun)) (sym same)
           (subst (λ (x : Result Segment ℕ). IsBytes (begun_bytes (received_by k.received x).begun)) (sym is) (received-bytes k.received s t.begun payload));
       fit = subst (λ (r : EndState ServerState). CallsFit r.state.calls) (sym same) fine.fit;
@@ -186,7 +186,7 @@ ready-shape place k outs call others is (inr h) = h
 
 executed-step : (opened : LinkParameters) (es : List Event) (place : ℕ) (k : ServerState) (outs : List Output) (e : ExecutedCall) → IsGoodExecution (record { state = k; ended = None }) e
     → ServerTells opened es place (record { state = k; ended = None }) outs → (o : Option Answer) → answer_of_call k e ≡ o → Grows opened es place (record { state = k; ended = None }) outs (CallExecuted e) (answer_outputs k e.xid (offer_of k e.xid) o)
-unfolding server_says server_output server_state_after server_end ServerShort
+unfolding server_says server_output server_state_after server_end
 executed-step opened es place k outs e good t o is =
     let at : k ≡ server_by opened es = ap (λ (r : EndState ServerState). r.state) t.state in
     let limits : ServerLimits k = subst (λ (x : ServerState). ServerLimits x) (sym at) (server-limits opened es) in
@@ -194,12 +194,12 @@ executed-step opened es place k outs e good t o is =
     let there = ready-shape place k outs good.call good.others good.is_next t.shape in
     record {
       outputs = ap (λ (x : Option Answer). answer_outputs k e.xid (offer_of k e.xid) x) is;
-      said = server-said opened k (CallExecuted e) (answer-is-short k e limits t.fit (answer_of_call k e) refl) ∙ ap (λ (x : Option Answer). bytes_of_all (answer_outputs k e.xid (offer_of k e.xid) x)) is;
+      said = server-said opened k (CallExecuted e) ∙ ap (λ (x : Option Answer). bytes_of_all (answer_outputs k e.xid (offer_of k e.xid) x)) is;
       begun = t.begun;
       fit = each-kept CallFits (λ c. not (eqb c.xid e.xid)) k.calls t.fit;
       shape = inr (there.0, greeted-more outs (answer_outputs k e.xid (offer_of k e.xid) o) there.1 own.words);
       one = own.one;
-      cause = λ pre s post m same one. by o is pre s post m same one (ap (λ (q : ServerState). answer_of_call q e) (sym at)) at (sym (ap (λ (r : EndState ServerState). r.ended) t.state)) t.outs_are;
+      cause = λ pre s post m same one. by o is (answer-is-short k e limits t.fit o is) pre s post m same one (ap (λ (q : ServerState). answer_of_call q e) (sym at)) at (sym (ap (λ (r : EndState ServerState). r.ended) t.state)) t.outs_are;
     }
   where
     first-is : (m : List ℕ) (x : List ℕ) (a b : List (List ℕ)) → x ∷ [] ≡ a ++ m ∷ b → m ≡ x
@@ -209,24 +209,24 @@ executed-step opened es place k outs e good t o is =
     head-segment : (a b : Segment) (xs ys : List Output) → ASegment a ∷ xs ≡ ASegment b ∷ ys → a ≡ b
     head-segment a b xs ys e = cc
 
-    by : (o : Option Answer) → answer_of_call k e ≡ o → (pre : List Output) (s : Segment) (post : List Output) (m : List ℕ) → answer_outputs k e.xid (offer_of k e.xid) o ≡ pre ++ ASegment s ∷ post → message_in s ≡ m ∷ []
+    by : (o : Option Answer) → answer_of_call k e ≡ o → AnswerShort k e.xid (offer_of k e.xid) o → (pre : List Output) (s : Segment) (post : List Output) (m : List ℕ) → answer_outputs k e.xid (offer_of k e.xid) o ≡ pre ++ ASegment s ∷ post → message_in s ≡ m ∷ []
         → answer_of_call (server_by opened es) e ≡ answer_of_call k e → k ≡ server_by opened es → is_live opened es → outs ≡ outs_of opened es → Said opened (es ++ CallExecuted e ∷ []) (outs ++ pre) m
-    by None is pre s post m same one there at live outs_are = IsNoAnswer (record {
+    by None is short pre s post m same one there at live outs_are = IsNoAnswer (record {
       earlier = es;
       call = e;
       later = [];
       is = refl;
       live = live;
       none = there ∙ is;
-      message = first-is m (chunk_error e.xid (credit_word k)) (messages pre) (messages post) (ap messages same ∙ messages-at pre s post m one) ∙ ap (λ (q : ServerState). chunk_error e.xid (credit_word q)) at;
+      message = first-is m (chunk_error e.xid (credit_word k)) (messages pre) (messages post) (sym (messages-message (k.messages_queued + 1) (chunk_error e.xid (credit_word k)) short) ∙ ap messages same ∙ messages-at pre s post m one) ∙ ap (λ (q : ServerState). chunk_error e.xid (credit_word q)) at;
     })
-    by (Some a) is pre s post m same one there at live outs_are =
+    by (Some a) is short pre s post m same one there at live outs_are =
         let offer = offer_of k e.xid in
         let segments = map ASegment (answer_segments offer a) in
         let message = answer_message e.xid (credit_word k) offer a in
         let last : Output = ASegment (send_segment (k.messages_queued + 1) message) in
         let none : messages segments ≡ [] = messages-tagged (answer_segments offer a) (tagged-answer offer a) in
-        by_part (parted segments last pre (ASegment s) post same)
+        by_part (parted segments last pre (ASegment s) post (ap (λ (os : List Output). segments ++ os) (sym (one-sent (k.messages_queued + 1) message short)) ∙ same))
         (λ more within. no-cause segments pre s more m none within one)
         (λ is_pre is_last.
         let own : s ≡ send_segment (k.messages_queued + 1) message = head-segment s (send_segment (k.messages_queued + 1) message) [] [] (ap (λ (o : Output). o ∷ []) is_last) in

@@ -24,11 +24,11 @@ use Rattle.nr_reduce.specs.ServerFrames.{FrameEffect, with_verdict, frame_effect
 use Rattle.nr_reduce.specs.Server.{offer_by, offer_of, answer_of_target, newly_open_reads}
 use Rattle.nr_reduce.proofs.AnswerMessages.{answer_length}
 use Rattle.nr_laws.proofs.WritableOffers.{OfferFits, verdict_fits}
-use Rattle.nr_laws.proofs.Outputs.{Output, IsShort, AreShort, message_sends, request_outputs, effect_outputs, answer_outputs, answer_of_call, AnswerShort, send_segment}
+use Rattle.nr_laws.proofs.Outputs.{Output, IsShort, AreShort, message_sends, request_outputs, effect_outputs, answer_outputs, answer_of_call, AnswerShort, message_outputs}
 use Rattle.nr_laws.proofs.Outputs.Output.{ASegment}
 use Rattle.nr_laws.proofs.Brought.{AreFrom}
-use Rattle.nr_laws.proofs.Words.{send-word, request-word, chunk-words, from-append}
-use Rattle.nr_laws.proofs.Messages.{messages, AreOne, messages-append, one-append, messages-sends, one-sends, messages-requests, one-requests, AreTagged, tagged-append, tagged-chunk, messages-tagged, one-tagged}
+use Rattle.nr_laws.proofs.Words.{message-words, request-word, chunk-words, from-append}
+use Rattle.nr_laws.proofs.Messages.{messages, AreOne, messages-message, one-message, messages-append, one-append, messages-sends, one-sends, messages-requests, one-requests, AreTagged, tagged-append, tagged-chunk, messages-tagged, one-tagged}
 use Rattle.std.proofs.lemmas.List.{map-append}
 use Rattle.nr_laws.proofs.EachEffect.{MessageRule, ResponseRule, each-effect}
 use Rattle.nr_reduce.proofs.Sizes.{word_len}
@@ -114,7 +114,7 @@ fine-frame k f bytes h = each-effect k IsBytes IsFine (fine-messages k h) (fine-
 
 sends-words : (msn : ℕ) (ms : List (List ℕ)) → AreShort ms → AreFrom Fpdu (message_sends msn ms)
 sends-words msn [] h = tt
-sends-words msn (m ∷ ms) h = (send-word msn m h.0, sends-words (msn + 1) ms h.1)
+sends-words msn (m ∷ ms) h = from-append (message_outputs msn m) (message_sends (msn + 1) ms) (message-words msn m h.0) (sends-words (msn + 1) ms h.1)
 
 requests-words : (msn : ℕ) (reads : List PendingRead) → AreFrom Fpdu (request_outputs msn reads)
 requests-words msn [] = tt
@@ -129,10 +129,11 @@ pub fine-effect : (k : ServerState) (s : FrameEffect) → IsFine s → AreFine (
 fine-effect k s h =
     let sends = message_sends (k.messages_queued + 1) s.errors in
     let reads = request_outputs (k.requests_sent + 1) (newly_open_reads s) in
+    let short = errors-short s.errors h.errors in
     record {
-      words = from-append sends reads (sends-words (k.messages_queued + 1) s.errors (errors-short s.errors h.errors)) (requests-words (k.requests_sent + 1) (newly_open_reads s));
-      one = one-append sends reads (one-sends (k.messages_queued + 1) s.errors) (one-requests (k.requests_sent + 1) (newly_open_reads s));
-      messages_are = messages-append sends reads ∙ (λ i. messages-sends (k.messages_queued + 1) s.errors i ++ messages-requests (k.requests_sent + 1) (newly_open_reads s) i) ∙ append-nil s.errors;
+      words = from-append sends reads (sends-words (k.messages_queued + 1) s.errors short) (requests-words (k.requests_sent + 1) (newly_open_reads s));
+      one = one-append sends reads (one-sends (k.messages_queued + 1) s.errors short) (one-requests (k.requests_sent + 1) (newly_open_reads s));
+      messages_are = messages-append sends reads ∙ (λ i. messages-sends (k.messages_queued + 1) s.errors short i ++ messages-requests (k.requests_sent + 1) (newly_open_reads s) i) ∙ append-nil s.errors;
     }
 
 pub tagged-answer : (offer : ChunkLists) (a : Answer) → AreTagged (answer_segments offer a)
@@ -203,14 +204,18 @@ answer_messages k xid offer None = chunk_error xid (credit_word k) ∷ []
 answer_messages k xid offer (Some a) = answer_message xid (credit_word k) offer a ∷ []
 
 pub fine-answer : (k : ServerState) (e : ExecutedCall) → ServerLimits k → CallsFit k.calls → (o : Option Answer) → answer_of_call k e ≡ o → AreFine (answer_outputs k e.xid (offer_of k e.xid) o) (answer_messages k e.xid (offer_of k e.xid) o)
-fine-answer k e l h None is = record { words = (send-word (k.messages_queued + 1) (chunk_error e.xid (credit_word k)) (chunk_error-short e.xid (credit_word k)), tt); one = (refl, tt); messages_are = refl }
+fine-answer k e l h None is =
+    let m = chunk_error e.xid (credit_word k) in
+    let short = chunk_error-short e.xid (credit_word k) in
+    record { words = message-words (k.messages_queued + 1) m short; one = one-message (k.messages_queued + 1) m short; messages_are = messages-message (k.messages_queued + 1) m short }
 fine-answer k e l h (Some a) is =
     let offer = offer_of k e.xid in
     let segments = map ASegment (answer_segments offer a) in
     let m = answer_message e.xid (credit_word k) offer a in
-    let send : List Output = ASegment (send_segment (k.messages_queued + 1) m) ∷ [] in
+    let send : List Output = message_outputs (k.messages_queued + 1) m in
+    let short = answer-is-short k e l h (Some a) is in
     record {
-      words = from-append segments send (answer-words offer a (found-fits e.xid k.calls h)) (send-word (k.messages_queued + 1) m (answer-is-short k e l h (Some a) is), tt);
-      one = one-append segments send (one-tagged (answer_segments offer a) (tagged-answer offer a)) (refl, tt);
-      messages_are = messages-append segments send ∙ ap (λ (ms : List (List ℕ)). ms ++ m ∷ []) (messages-tagged (answer_segments offer a) (tagged-answer offer a));
+      words = from-append segments send (answer-words offer a (found-fits e.xid k.calls h)) (message-words (k.messages_queued + 1) m short);
+      one = one-append segments send (one-tagged (answer_segments offer a) (tagged-answer offer a)) (one-message (k.messages_queued + 1) m short);
+      messages_are = messages-append segments send ∙ (λ i. messages-tagged (answer_segments offer a) (tagged-answer offer a) i ++ messages-message (k.messages_queued + 1) m short i);
     }

@@ -16,7 +16,7 @@ use Rattle.nr_link.specs.Limits.{segment_max}
 use Rattle.nr_link.specs.Output.{segment_count, segment_payload}
 use Rattle.nr_reduce.specs.ServerState.{PendingRead}
 use Rattle.nr_reduce.specs.Undone.{one_write, write_segments, chunk_segments}
-use Rattle.nr_laws.proofs.Outputs.{Output, IsShort, send_segment, request_segment, terminate_segment, one_response, response_segments}
+use Rattle.nr_laws.proofs.Outputs.{Output, IsShort, send_segment, message_outputs, one-sent, request_segment, terminate_segment, one_response, response_segments}
 use Rattle.nr_laws.proofs.Outputs.Output.{AHello, ASegment}
 use Rattle.nr_laws.proofs.Brought.{IsWord, AreFrom}
 use Rattle.nr_laws.proofs.WritableOffers.{SegmentsFit}
@@ -25,6 +25,10 @@ use Rattle.nr_laws.proofs.WritableOffers.{SegmentsFit}
 
 pub send-word : (msn : ℕ) (message : List ℕ) → IsShort message → IsWord (send_segment msn message)
 send-word msn message short = record { supported = (refl, refl); fits = (omega arith, omega arith, omega arith, omega arith, omega arith); size = omega (arith, short) }
+
+-- a short message with its cut
+pub message-words : (msn : ℕ) (message : List ℕ) → IsShort message → AreFrom Fpdu (message_outputs msn message)
+message-words msn message short = subst (λ (os : List Output). AreFrom Fpdu os) (sym (one-sent msn message short)) (send-word msn message short, tt)
 
 pub request-word : (msn : ℕ) (r : PendingRead) → IsWord (request_segment msn r)
 request-word msn r =
