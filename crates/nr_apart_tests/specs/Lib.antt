@@ -1,3 +1,4 @@
 pub mod Counters
 pub mod Calls
 pub mod Feeds
+pub mod Asks

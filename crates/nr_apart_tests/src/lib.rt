@@ -1,8 +1,9 @@
-//! Tests of nr_turnstile and nr_record. For a turnstile there are two values that stand for a history, a counter and a list, and a
-//! value with a pass of another turnstile.
+//! Tests of nr_turnstile and nr_record. For a turnstile there are three values that stand for a history, a counter, a list
+//! and a desk of questions and answers, and a value with a pass of another turnstile.
 #![tactic(auto)]
 
 mod additions;
+mod asks;
 #[cfg(test)]
 mod compare;
 mod counter;
@@ -18,6 +19,7 @@ mod records;
 mod turns;
 
 pub use additions::{append, sees};
+pub use asks::Desk;
 pub use counter::Counter;
 pub use feeder::Feeder;
 pub use jobs::Job;

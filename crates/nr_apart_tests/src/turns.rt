@@ -1,6 +1,7 @@
 //! Turns of one thread and of two.
 
 use crate::additions::{append, sees};
+use crate::asks::Desk;
 use crate::compare::same;
 use crate::counter::{Counter, Nothing};
 use crate::jobs::Job;
@@ -72,5 +73,18 @@ fn two_threads(rt: HostRuntime) -> Result<(), Fail> {
 fn a_pass_in_a_value(rt: HostRuntime) -> Result<(), Fail> {
     let counter = pump_twice(&rt, rt.alloc(), 40, 2)?;
     same(&rt, 0, (counter.count, counter.sum), (2, 42));
+    Ok(())
+}
+
+#[test]
+fn a_question_and_its_answer(rt: HostRuntime) -> Result<(), Fail> {
+    let (desk, mut first) = Turnstile::new::<Nothing>(rt.alloc(), Desk::new())?;
+    let mut second = desk.split(&mut first);
+    let Some(place) = Desk::ask(&rt, &desk, &mut first) else {
+        panic!(rt; "full")
+    };
+    let other = Desk::ask(&rt, &desk, &mut second);
+    same(&rt, 0, (place, other), (0, Some(1)));
+    same(&rt, 1, Desk::answer(&rt, &desk, &mut first, place), true);
     Ok(())
 }
