@@ -54,11 +54,11 @@ frame-message opened link run typed asked matched es f rest s message all behind
     let counted = hears (server_rules opened) (λ (k : ServerState). k.received) (server-receives opened) (initial_server opened) es at.earlier at.brings live in
     let segment : at.own ≡ ASegment s = own-segment at.own f s at.brought behind is in
     let one : completed_by (begun_from None at.earlier) s ≡ message ∷ [] = completed-message (server_by opened es).received (begun_from None at.earlier) s message counted.begun whole in
-    let all_outs : client_outs opened link run ≡ at.earlier ++ ASegment s ∷ (at.later ++ r.left) =
+    let all_outs : AHello (own_hello Initiator) ∷ client_outs opened link run ≡ at.earlier ++ ASegment s ∷ (at.later ++ r.left) =
     sym r.parts ∙ ap (λ (xs : List Output). xs ++ r.left) (at.parts ∙ ap (λ (o : Output). at.earlier ++ o ∷ at.later) segment)
     ∙ append_assoc at.earlier (ASegment s ∷ at.later) r.left in
     let split : completed_from None (client_outs opened link run) ≡ completed_from None at.earlier ++ message ∷ completed_from None (at.later ++ r.left) =
-    ap (completed_from None) all_outs ∙ completed-at at.earlier s (at.later ++ r.left) message one in
+    ap (λ (xs : List Output). completed_from None xs) all_outs ∙ completed-at at.earlier s (at.later ++ r.left) message one in
     let equal : length (completed_from None at.earlier) ≡ (server_by opened es).received.sends = (let c = counted.sends in omega (arith, c)) in
     subst (λ (n : ℕ). WasSubmitted opened link run n message) equal
     (message-submitted opened link run typed asked (completed_from None at.earlier) message (completed_from None (at.later ++ r.left)) split)

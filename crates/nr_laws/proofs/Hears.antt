@@ -79,7 +79,7 @@ begun-first : (b : Option (List ℕ)) (o : Output) (outs : List Output) → begu
 begun-first b (AHello bytes) outs = refl
 begun-first b (ASegment s) outs = refl
 
-one-step : {S : Type 0} (rules : Rules S) (received : S → ReceiveState) → Receiving rules received → (r : EndState S) (e : Event) → (next_end_state rules r e).ended ≡ None → received (next_end_state rules r e).state ≡ received_event (received r.state) e
+pub one-step : {S : Type 0} (rules : Rules S) (received : S → ReceiveState) → Receiving rules received → (r : EndState S) (e : Event) → (next_end_state rules r e).ended ≡ None → received (next_end_state rules r e).state ≡ received_event (received r.state) e
 one-step {S} rules received goes r e live = by_end r.state r.ended live
   where
     by_why : (s : S) (o : Option Stop) → (next_end_state_by rules s e o).ended ≡ None → received (next_end_state_by rules s e o).state ≡ received_event (received s) e

@@ -9,7 +9,7 @@ use Rattle.nr_wire.specs.Segment.{Segment, encoding}
 use Rattle.nr_wire.specs.Segment.Segment.{Tagged, Untagged}
 use Rattle.nr_link.specs.declared.end.End.{End as Stop}
 use Rattle.nr_link.specs.declared.end.End.TheVariants as ends
-use Rattle.nr_link.specs.Limits.{segment_max}
+use Rattle.nr_link.specs.Limits.{segment_max, send_max}
 use Rattle.nr_link.specs.Reasons.{denied_word, NO_BUFFER_WORD}
 use Rattle.nr_link.specs.Output.{segment_count, segment_payload, cut, msn_word, send, read_response, read_request, terminate_message, own_hello, refusing_hello}
 use Rattle.nr_laws.specs.MessageSegments.{message_segment, message_segments}
@@ -55,8 +55,9 @@ bytes-segments (s ∷ segments) = ap (λ (xs : List ℕ). encoding s ++ xs) (byt
 abbrev pub send_segment : ℕ → List ℕ → Segment
 send_segment msn message = Untagged true OPCODE_SEND 0 QUEUE_SEND (msn_word msn) 0 message
 
+-- no longer than a Send may be
 abbrev pub IsShort : List ℕ → Type 0
-IsShort message = length message ≤ segment_max
+IsShort message = length message ≤ send_max
 
 pub send-one : (msn : ℕ) (message : List ℕ) → IsShort message → send msn message ≡ encoding (send_segment msn message)
 unfolding send cut

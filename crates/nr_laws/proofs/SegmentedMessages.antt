@@ -38,7 +38,7 @@ offset-word n i lt le = omega (arith, lt, le)
 payload-size : (bytes : List ℕ) (i : ℕ) → length (segment_payload bytes i) ≤ segment_max
 payload-size bytes i = (let l = length-take segment_max (drop (segment_max * i) bytes) in omega (arith, l))
 
-segment-word : (msn : ℕ) (message : List ℕ) (i : ℕ) → i < segment_count message → length message ≤ 2 ^ 32 → IsWord (message_segment msn message i)
+pub segment-word : (msn : ℕ) (message : List ℕ) (i : ℕ) → i < segment_count message → length message ≤ 2 ^ 32 → IsWord (message_segment msn message i)
 segment-word msn message i lt short =
     let size = payload-size message i in
     record { supported = (refl, refl); fits = (omega arith, omega arith, omega arith, omega arith, offset-word (length message) i lt short); size = omega (arith, size) }
