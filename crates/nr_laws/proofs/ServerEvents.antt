@@ -29,7 +29,7 @@ use Rattle.nr_laws.proofs.Outputs.{Output, bytes_of_all, server_says, server-sai
 use Rattle.nr_laws.proofs.Outputs.Output.{AHello, ASegment}
 use Rattle.nr_laws.proofs.Brought.{AreFrom}
 use Rattle.nr_laws.proofs.Words.{payload-bytes, payload_by}
-use Rattle.nr_laws.specs.MessageSegments.{message_segment, message_segments}
+use Rattle.nr_laws.specs.MessageSegments.{message_segment}
 use Rattle.nr_laws.proofs.Completions.{completed_by, completed_from, begun_from, begun-append, completed-at, Completes, completes-none, completes-message, completes-tagged, completes-final}
 use Rattle.nr_laws.proofs.Memory.{Part, parts_out, out-append}
 use Rattle.nr_laws.proofs.ClientAlong.{final-words}
