@@ -1,8 +1,6 @@
 -- A call in form Auto that completes has a reply, where a plain server replies.
 use Rattle.std.proofs.Common.{◌≡◌, ℕ, List, Ok, refl, sym, ap, subst, ◌∙◌, arith, inl, inr, ◌⊎◌}
 use Rattle.nr_xdr.specs.Item.{IsBytes}
-use Rattle.nr_rpc.specs.Reading.{call_of, target_of}
-use Rattle.nr_header.specs.declared.header.ChunkLists.{ChunkLists}
 use Rattle.nr_reduce.specs.declared.call.Form.TheVariants as forms
 use Rattle.nr_reduce.specs.declared.call.Outcome.{Outcome}
 use Rattle.nr_reduce.specs.declared.call.Outcome.TheVariants as outcomes
@@ -14,7 +12,6 @@ use Rattle.nr_reduce.specs.Limits.{send_max}
 use Rattle.nr_reduce.specs.Plans.{plan_of}
 use Rattle.nr_reduce.specs.Undone.{IsNotGiven}
 use Rattle.nr_reduce.specs.Matched.{IsPrefixOf}
-use Rattle.nr_reduce.specs.Server.{answer_of_target}
 use Rattle.nr_reduce.specs.ClientState.{call_payload}
 use Rattle.nr_reduce.specs.Run.{client}
 use Rattle.nr_reduce.specs.Asked.{AskedMark, IsAccepted}

@@ -1,7 +1,6 @@
 -- A call completes with Chunk exactly where its message is refused, or its offer doesn't hold the reply.
 use Rattle.std.proofs.Common.{◌≡◌, ◌≢◌, ℕ, List, ◌∷◌, ◌++◌, None, Some, refl, sym, ap, subst, ◌∙◌, inl, inr, ◌⊎◌}
 use Rattle.nr_wire.specs.declared.hello.Side.TheVariants.{Responder}
-use Rattle.nr_header.specs.declared.header.ChunkLists.{ChunkLists}
 use Rattle.nr_rpc.specs.Reading.{call_of, target_of}
 use Rattle.nr_reduce.proofs.OwnLimits.{server-limits-of}
 use Rattle.nr_reduce.specs.declared.call.Outcome.{Outcome}

@@ -13,7 +13,6 @@ use Rattle.nr_reduce.proofs.OwnLimits.{ClientLimits}
 use Rattle.nr_reduce.specs.declared.mark.LinkParameters.{LinkParameters}
 use Rattle.nr_reduce.specs.declared.outline.Plan.{Plan}
 use Rattle.nr_reduce.specs.History.{AcceptedCall}
-use Rattle.nr_reduce.specs.Limits.{send_max}
 use Rattle.nr_reduce.specs.Events.{Event}
 use Rattle.nr_reduce.specs.Events.Event.{FrameReceived, CallSubmitted, MemoryRevoked, CallExecuted, QueueWritten}
 use Rattle.nr_reduce.specs.EndRules.{next_end_state_by, next_end_state_in}
@@ -28,7 +27,8 @@ use Rattle.nr_laws.proofs.Outputs.{Output, IsShort, CallsShort, message_of_call,
 use Rattle.nr_laws.proofs.Outputs.Output.{ASegment}
 use Rattle.nr_laws.proofs.Brought.{AreFrom}
 use Rattle.nr_laws.proofs.Words.{message-words, terminate-word, from-append, payload-bytes}
-use Rattle.nr_laws.proofs.Messages.{messages, AreOne, messages-message, one-message, messages-append, one-append, messages-calls, one-calls, messages-tagged, one-tagged, tagged-response, messages-final, one-final}
+use Rattle.nr_laws.proofs.Messages.{messages, messages-message, messages-append, messages-calls, messages-tagged, tagged-response, messages-final}
+use Rattle.nr_laws.proofs.Completions.{Completes, completes-none, completes-append, completes-message, completes-calls, completes-tagged, completes-final}
 use Rattle.nr_laws.proofs.ClientSays.{IsGoodCall, ClientGood, accepted_in, accepted-append, asked, HasHello, ClientSays, short-revoked, submitted-messages, map-more, client-unharmed, formed, response-words}
 use Rattle.nr_laws.proofs.Basics.{above-zero, each-append, each-kept}
 use Rattle.nr_reduce.proofs.Waiting.{start, stag_behind, from-append as from-more, behind-append, submitted-append, revoked-same}
@@ -55,20 +55,20 @@ calls-words opened msn (o ∷ os) h =
 record IsQuiet (outs : List Output) : Type 0 where
   messages_are : messages outs ≡ []
   words : AreFrom Fpdu outs
-  one : AreOne outs
+  completes : Completes outs []
 
 quiet-none : IsQuiet []
-quiet-none = record { messages_are = refl; words = tt; one = tt }
+quiet-none = record { messages_are = refl; words = tt; completes = completes-none }
 
 quiet-final : (end : Stop) → IsQuiet (final_outputs end)
-quiet-final end = record { messages_are = messages-final end; words = final-words end; one = one-final end }
+quiet-final end = record { messages_are = messages-final end; words = final-words end; completes = completes-final end }
 
 quiet-response : (k : ClientState) (place : ℕ) (o : Option ReadRequest) → ((q : ReadRequest) → o ≡ Some q → AreFrom Fpdu (response_outputs k place (Some q))) → IsQuiet (response_outputs k place o)
 quiet-response k place None h = quiet-none
 quiet-response k place (Some q) h =
     let held : List ℕ = take q.size (drop q.to (memory_at k place q.stag)) in
     let tagged = tagged-response q.sink q.sink_to held in
-    record { messages_are = messages-tagged (response_segments q.sink q.sink_to held) tagged; words = h q refl; one = one-tagged (response_segments q.sink q.sink_to held) tagged }
+    record { messages_are = messages-tagged (response_segments q.sink q.sink_to held) tagged; words = h q refl; completes = completes-tagged (response_segments q.sink q.sink_to held) tagged }
 
 segment-quiet : (k : ClientState) (f : Frame) → IsBytes f.bytes → is_hello f ≡ false → client_end k (FrameReceived f) ≡ None → IsQuiet (response_outputs k f.end (segment_request (frame_segment f)))
 unfolding frame_segment
@@ -110,7 +110,10 @@ quiet-step opened es e place later k after ended now outs more none s q p =
       said = messages-append outs more ∙ ap (λ (ms : List (List ℕ)). messages outs ++ ms) q.messages_are ∙ append-nil (messages outs)
           ∙ p.said ∙ (λ i. cond (sym s.hello i) (map (message_of_call opened) (outstanding_from (start opened) opened.first_stag (sym same i))) []);
       words = from-append outs more p.words q.words;
-      one = one-append outs more p.one q.one;
+      completes = subst (λ (ms : List (List ℕ)). Completes (outs ++ more) ms)
+          (append-nil (cond k.has_hello (map (message_of_call opened) (asked opened es)) [])
+          ∙ (λ i. cond (sym s.hello i) (map (message_of_call opened) (outstanding_from (start opened) opened.first_stag (sym same i))) []))
+          (completes-append outs more (cond k.has_hello (map (message_of_call opened) (asked opened es)) []) [] p.completes q.completes);
     }
 
 stays-step : (opened : LinkParameters) (place : ℕ) (k : ClientState) (end : Stop) → Step opened place k k (Some end)
@@ -170,7 +173,12 @@ hello-step opened es place k outs f first at goes p =
           ∙ ap (λ (os : List OutstandingCall). map (message_of_call opened) os) (p.waits no_hello)
           ∙ ap (λ (xs : List AcceptedCall). map (message_of_call opened) (outstanding_from (start opened) opened.first_stag xs)) (sym same);
       words = from-append outs (call_sends opened 1 k.outstanding) p.words (calls-words opened 1 k.outstanding p.short);
-      one = one-append outs (call_sends opened 1 k.outstanding) p.one (one-calls opened 1 k.outstanding p.short);
+      completes = subst (λ (ms : List (List ℕ)). Completes (outs ++ call_sends opened 1 k.outstanding) ms)
+          (sym (submitted-messages opened k.outstanding)
+          ∙ ap (λ (os : List OutstandingCall). map (message_of_call opened) os) (p.waits no_hello)
+          ∙ ap (λ (xs : List AcceptedCall). map (message_of_call opened) (outstanding_from (start opened) opened.first_stag xs)) (sym same))
+          (completes-append outs (call_sends opened 1 k.outstanding) [] (map (message_of_call opened) k.outstanding)
+          (subst (λ (b : Bool). Completes outs (cond b (map (message_of_call opened) (asked opened es)) [])) no_hello p.completes) (completes-calls opened 1 k.outstanding));
     }
 
 -- ---- A call
@@ -205,7 +213,7 @@ call-step opened es place p k outs a plan planned l h =
       waits = λ no_hello. submitted-append k.outstanding (own ∷ []) ∙ ap (λ (os : List OutstandingCall). os ++ own ∷ []) (h.waits no_hello) ∙ sym all;
       said = messages-append outs (says k.has_hello) ∙ by k.has_hello refl short own all;
       words = from-append outs (says k.has_hello) h.words (words_by k.has_hello short);
-      one = one-append outs (says k.has_hello) h.one (one_by k.has_hello short);
+      completes = completes_by k.has_hello refl all;
     }
   where
     says : Bool → List Output
@@ -215,9 +223,15 @@ call-step opened es place p k outs a plan planned l h =
     words_by true s = message-words (k.calls_accepted + 1) (message_of_call opened (outstanding_of k a)) s
     words_by false s = tt
 
-    one_by : (b : Bool) → IsShort (message_of_call opened (outstanding_of k a)) → AreOne (says b)
-    one_by true s = one-message (k.calls_accepted + 1) (message_of_call opened (outstanding_of k a)) s
-    one_by false s = tt
+    completes_by : (b : Bool) → k.has_hello ≡ b → asked opened (es ++ CallSubmitted p a ∷ []) ≡ asked opened es ++ outstanding_of k a ∷ []
+        → Completes (outs ++ says b) (cond b (map (message_of_call opened) (asked opened (es ++ CallSubmitted p a ∷ []))) [])
+    completes_by true is all =
+        subst (λ (ms : List (List ℕ)). Completes (outs ++ says true) ms)
+        (sym (map-more opened (asked opened es) (outstanding_of k a ∷ [])) ∙ ap (λ (os : List OutstandingCall). map (message_of_call opened) os) (sym all))
+        (completes-append outs (says true) (map (message_of_call opened) (asked opened es)) (message_of_call opened (outstanding_of k a) ∷ [])
+        (subst (λ (c : Bool). Completes outs (cond c (map (message_of_call opened) (asked opened es)) [])) is h.completes) (completes-message (k.calls_accepted + 1) (message_of_call opened (outstanding_of k a))))
+    completes_by false is all =
+        completes-append outs [] [] [] (subst (λ (c : Bool). Completes outs (cond c (map (message_of_call opened) (asked opened es)) [])) is h.completes) completes-none
 
     by : (b : Bool) → k.has_hello ≡ b → IsShort (message_of_call opened (outstanding_of k a)) → (own : OutstandingCall) → asked opened (es ++ CallSubmitted p a ∷ []) ≡ asked opened es ++ outstanding_of k a ∷ []
         → messages outs ++ messages (says b) ≡ cond b (map (message_of_call opened) (asked opened (es ++ CallSubmitted p a ∷ []))) []

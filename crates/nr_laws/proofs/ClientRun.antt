@@ -27,7 +27,7 @@ use Rattle.nr_reduce.specs.Asked.{AskedMark, AskedSoFar, IsAccepted}
 use Rattle.nr_reduce.proofs.Steps.{events-one, output_for_all-append, end_state_after-append}
 use Rattle.nr_reduce.proofs.Standing.{AtEachMark-more}
 use Rattle.nr_laws.specs.Typed.{TypedMark, IsTyped}
-use Rattle.nr_laws.proofs.Messages.{messages}
+use Rattle.nr_laws.proofs.Completions.{completed_from, completes-none}
 use Rattle.nr_laws.proofs.Along.{IsNext, Goes, goes-from, goes-nothing, FirstGood, along, outputs_by, outputs_in, outputs_for, outputs_all, place_after, places_after, whole_bytes}
 use Rattle.nr_laws.proofs.Outputs.{Output, bytes_of_all, bytes-append, message_of_call, client_says, client-said, final_outputs, final-said}
 use Rattle.nr_laws.proofs.ClientSays.{ClientGood, accepted_in, accepted-append, asked, ClientSays, Says}
@@ -120,7 +120,7 @@ tells-step opened es place r outs e next good t =
 
 tells-nothing : (opened : LinkParameters) → Tells opened [] 0 (initial_client opened) []
 tells-nothing opened = record {
-  says = record { short = tt; stag = refl; count = refl; greeted = λ e. inl (refl, refl); waits = λ e. refl; said = refl; words = tt; one = tt };
+  says = record { short = tt; stag = refl; count = refl; greeted = λ e. inl (refl, refl); waits = λ e. refl; said = refl; words = tt; completes = completes-none };
   state = refl;
   bytes = refl;
 }
@@ -332,11 +332,11 @@ mapped-at opened (o ∷ os) (p ∷ pre) m post e =
     record { front = o ∷ r.front; own = r.own; back = r.back; is = ap (λ (xs : List OutstandingCall). o ∷ xs) r.is; as_long = ap (λ (n : ℕ). suc n) r.as_long; message = r.message }
 
 -- each message that a client wrote is that of a call that it accepted, counted from 0
-pub message-submitted : (opened : LinkParameters) (link : ℕ) (run : List Mark) → IsTyped run → AskedSoFar opened link run → (pre : List (List ℕ)) (m : List ℕ) (post : List (List ℕ)) → messages (client_outs opened link run) ≡ pre ++ m ∷ post
+pub message-submitted : (opened : LinkParameters) (link : ℕ) (run : List Mark) → IsTyped run → AskedSoFar opened link run → (pre : List (List ℕ)) (m : List ℕ) (post : List (List ℕ)) → completed_from None (client_outs opened link run) ≡ pre ++ m ∷ post
     → WasSubmitted opened link run (length pre) m
 message-submitted opened link run typed asked pre m post e =
     let t = client-tells opened link run typed asked in
-    let at = mapped-at opened (asked_calls opened link run) pre m post (if-messages (client opened link run).state.has_hello (map (message_of_call opened) (asked_calls opened link run)) pre m post (sym t.says.said ∙ e)) in
+    let at = mapped-at opened (asked_calls opened link run) pre m post (if-messages (client opened link run).state.has_hello (map (message_of_call opened) (asked_calls opened link run)) pre m post (sym t.says.completes.completed ∙ e)) in
     let w = each-submitted opened link run typed asked at.front at.own at.back at.is in
     record {
       earlier = w.earlier;

@@ -36,7 +36,8 @@ use Rattle.nr_laws.specs.Typed.{IsTypedForm}
 use Rattle.nr_laws.proofs.Outputs.{Output, IsShort, CallsShort, message_of_call, response_outputs}
 use Rattle.nr_laws.proofs.Brought.{AreFrom}
 use Rattle.nr_laws.proofs.Words.{responses-words, RangeEnds, word-below, hyper-below, payload_by}
-use Rattle.nr_laws.proofs.Messages.{messages, AreOne}
+use Rattle.nr_laws.proofs.Messages.{messages}
+use Rattle.nr_laws.proofs.Completions.{Completes}
 use Rattle.nr_reduce.proofs.Waiting.{start, stag_behind}
 use Rattle.nr_reduce.proofs.Touches.{AreNone, all_none, no_flaw}
 
@@ -99,7 +100,7 @@ pub record ClientSays (opened : LinkParameters) (es : List Event) (place : ℕ) 
   pub waits : k.has_hello ≡ false → map as_submitted k.outstanding ≡ asked opened es
   pub said : messages outs ≡ cond k.has_hello (map (message_of_call opened) (asked opened es)) []
   pub words : AreFrom Fpdu outs
-  pub one : AreOne outs
+  pub completes : Completes outs (cond k.has_hello (map (message_of_call opened) (asked opened es)) [])
 
 abbrev pub Says : LinkParameters → List Event → ℕ → EndState ClientState → List Output → Type 0
 Says opened es place r outs = ClientSays opened es place r.state r.ended outs

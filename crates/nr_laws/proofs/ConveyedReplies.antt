@@ -37,7 +37,7 @@ use Rattle.nr_laws.proofs.ServerOutputs.{for_target}
 use Rattle.nr_laws.proofs.ExecuteMarks.{execute_mark}
 use Rattle.nr_laws.proofs.OnceByXid.{at-mark}
 use Rattle.nr_laws.proofs.ClientMemory.{HasBuffers, client-gathers}
-use Rattle.nr_laws.proofs.Memory.{Part, parts_of, parts_out, out-append, gathers, Settled, settled-later}
+use Rattle.nr_laws.proofs.Memory.{Part, parts_of, parts_out, gathers, Settled, settled-later}
 use Rattle.nr_laws.proofs.Outcomes.{client_by, OutcomeSaid}
 use Rattle.nr_laws.proofs.DoneCalls.{GivesBy, gives-by}
 use Rattle.nr_laws.proofs.Replied.{RepliedBy}
@@ -136,7 +136,7 @@ both-conveyed opened link run before xid plan reply typed far has at r = by offe
     parts : (offer : ChunkLists) → offer_of server e.xid ≡ offer → parts_of k.accesses_received ≡ front ++ parts_out (map ASegment (answer_segments offer a))
     parts offer is =
         gathers (client_rules opened) (λ (x : ClientState). x.accesses_received) (client-gathers opened) (initial_client opened) d.given.earlier d.before d.brings d.given.live
-        ∙ ap parts_out r.answer.before ∙ out-append (outs_of opened r.answer.earlier) (map ASegment (answer_segments (offer_of server e.xid) a))
+        ∙ r.answer.before
         ∙ ap (λ (o : ChunkLists). front ++ parts_out (map ASegment (answer_segments o a))) is
 
     same_call : (inline : Option (List ℕ)) (lists : ChunkLists) → reply_conveyed g.call.call.prog g.call.call.vers g.call.call.proc inline lists (memory_at k place) ≡ Some reply

@@ -30,7 +30,7 @@ payloads-append [] ys = refl
 payloads-append (Tagged last opcode stag to payload ∷ xs) ys = ap (λ (p : List ℕ). payload ++ p) (payloads-append xs ys) ∙ sym (append_assoc payload (payloads_of xs) (payloads_of ys))
 payloads-append (Untagged last opcode w queue msn offset payload ∷ xs) ys = payloads-append xs ys
 
-all-pieces : (n : ℕ) → n ≤ segment_max * max 1 ((n + 4095) / segment_max)
+all-pieces : (n : ℕ) → n ≤ segment_max * max 1 ((n + (segment_max - 1)) / segment_max)
 all-pieces n = omega arith
 
 pub short-drop : (n : ℕ) (xs : List ℕ) → length xs ≤ n → drop n xs ≡ []

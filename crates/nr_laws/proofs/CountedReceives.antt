@@ -1,5 +1,5 @@
 -- The receives in use of a server: one for each Send that is begun or complete, until its answer is wholly written.
-use Rattle.std.proofs.Common.{◌≡◌, ℕ, suc, ◌+◌, ◌≤◌, Bool, true, false, not, cond, ◌&&◌, ◌||◌, eqb, List, [], ◌∷◌, ◌++◌, length, Option, None, Some, Result, Ok, Err, refl, sym, ap, subst, ◌∙◌, arith, append_assoc, append-nil, length-append, eqb-true}
+use Rattle.std.proofs.Common.{◌≡◌, ℕ, suc, ◌+◌, Bool, true, false, not, cond, ◌&&◌, ◌||◌, eqb, List, [], ◌∷◌, ◌++◌, length, Option, None, Some, Result, Ok, Err, refl, sym, ap, subst, ◌∙◌, arith, append_assoc, append-nil, length-append, eqb-true}
 use Rattle.std.specs.List.{filter, find, list_any}
 use Rattle.std.proofs.lemmas.Bool.{ne_eqb}
 use Rattle.nr_wire.specs.declared.hello.Side.TheVariants.{Responder}
@@ -10,17 +10,13 @@ use Rattle.nr_link.specs.declared.end.End.{End as Stop}
 use Rattle.nr_link.specs.Frames.{Frame, is_hello}
 use Rattle.nr_link.specs.ReceiveState.{ReceiveState, is_send, begun_bytes, send_continued, received_after, message_completed}
 use Rattle.nr_link.specs.Ending.{frame_segment}
-use Rattle.nr_link.specs.SegmentFaults.{is_begun}
-use Rattle.nr_link.specs.OutputItem.{is_send_item, items_written, items_left}
 use Rattle.nr_reduce.specs.declared.mark.Mark.{Mark}
 use Rattle.nr_reduce.specs.declared.mark.LinkParameters.{LinkParameters}
-use Rattle.nr_reduce.specs.History.{AcceptedCall, ExecutedCall, bytes_sent}
-use Rattle.nr_reduce.specs.Plans.{one_if}
-use Rattle.nr_reduce.specs.Written.{ends_left, ends_waiting}
+use Rattle.nr_reduce.specs.History.{ExecutedCall}
 use Rattle.nr_reduce.specs.Events.{Event, events}
 use Rattle.nr_reduce.specs.Events.Event.{FrameReceived, CallSubmitted, MemoryRevoked, CallExecuted, QueueWritten}
 use Rattle.nr_reduce.specs.EndRules.{EndState, next_end_state, next_end_state_by, next_end_state_in, end_state_after}
-use Rattle.nr_reduce.specs.ServerState.{ServerState, PendingCall, PendingRead, receives_in_use}
+use Rattle.nr_reduce.specs.ServerState.{ServerState, PendingCall, receives_in_use}
 use Rattle.nr_reduce.specs.ServerMessages.{Verdict, verdict}
 use Rattle.nr_reduce.specs.ServerMessages.Verdict.{EndsLink, OtherVersion, BadChunks, MakesPending}
 use Rattle.nr_reduce.specs.ServerReads.{reads_of, regions_of}
@@ -29,7 +25,6 @@ use Rattle.nr_reduce.specs.Server.{server_rules, server_end, server_state_after,
 use Rattle.nr_reduce.specs.RunLaws.{server_by}
 use Rattle.nr_reduce.specs.Served.{ServedSoFar}
 use Rattle.nr_reduce.specs.Run.{server}
-use Rattle.nr_reduce.specs.DueItems.{items_due, hello_due}
 use Rattle.nr_reduce.proofs.Steps.{end_state_after-append}
 use Rattle.nr_laws.specs.Typed.{IsTyped}
 use Rattle.nr_laws.specs.ServerItems.{ReceivesFollowSends}
@@ -38,7 +33,7 @@ use Rattle.nr_laws.proofs.BoundedSides.{uses, whole-same, found-number, wrong-fr
 use Rattle.nr_laws.proofs.EachEffect.{EffectCase, effect-case, read_over}
 use Rattle.nr_laws.proofs.EachEffect.EffectCase.{Unchanged, OfMessage, OfRead, OfRefusal, OfCall}
 use Rattle.nr_laws.proofs.EndsWaiting.{left-waiting, sends-length}
-use Rattle.nr_laws.proofs.ItemsOfServer.{server_counts-items, server_written-items}
+use Rattle.nr_laws.proofs.ItemsOfServer.{server_written-items}
 use Rattle.nr_laws.proofs.KeptAtServer.{kept-at-server}
 use Rattle.nr_laws.proofs.LinkInvariants.{IsUnused, AreDistinct, PendingAgree}
 use Rattle.nr_laws.proofs.PendingRuns.{executes-pending}

@@ -26,8 +26,8 @@ use Rattle.nr_laws.proofs.Flows.{flows_up}
 use Rattle.nr_laws.proofs.Outputs.{Output}
 use Rattle.nr_laws.proofs.Outputs.Output.{AHello, ASegment}
 use Rattle.nr_laws.proofs.Brought.{Brings, Receives, receives}
-use Rattle.nr_laws.proofs.Messages.{message_in, messages, messages-append, AreOne, one-first}
-use Rattle.nr_laws.proofs.Hears.{hears, server-receives, brings-at, own-segment, whole-message, live-first}
+use Rattle.nr_laws.proofs.Completions.{completed_by, completed_from, begun_from, completed-at}
+use Rattle.nr_laws.proofs.Hears.{hears, server-receives, brings-at, own-segment, completed-message, live-first}
 use Rattle.nr_laws.proofs.ClientRun.{client-tells, client_outs, WasSubmitted, message-submitted}
 use Rattle.nr_laws.proofs.HeaderXid.{header-xid, call-xid}
 
@@ -51,20 +51,17 @@ frame-message opened link run typed asked matched es f rest s message all behind
     let r = server-receives-of opened link run typed asked matched in
     let t = client-tells opened link run typed asked in
     let at = brings-at es f rest r.came (subst (λ (xs : List Event). Brings xs r.came) all r.brings) in
-    let ones : AreOne r.came = one-first r.came r.left (subst AreOne (sym r.parts) t.says.one) in
-    let early : AreOne at.earlier = one-first at.earlier (at.own ∷ at.later) (subst AreOne at.parts ones) in
-    let counted = hears (server_rules opened) (λ (k : ServerState). k.received) (server-receives opened) (initial_server opened) es at.earlier at.brings early refl live in
+    let counted = hears (server_rules opened) (λ (k : ServerState). k.received) (server-receives opened) (initial_server opened) es at.earlier at.brings live in
     let segment : at.own ≡ ASegment s = own-segment at.own f s at.brought behind is in
-    let one : message_in s ≡ message ∷ [] = whole-message (server_by opened es).received s message counted.begun whole in
-    let split : messages (client_outs opened link run) ≡ messages at.earlier ++ message ∷ (messages at.later ++ messages r.left) =
-    ap messages (sym r.parts) ∙ messages-append r.came r.left
-    ∙ ap (λ (xs : List Output). messages xs ++ messages r.left) (at.parts ∙ ap (λ (o : Output). at.earlier ++ o ∷ at.later) segment)
-    ∙ ap (λ (ms : List (List ℕ)). ms ++ messages r.left) (messages-append at.earlier (ASegment s ∷ at.later))
-    ∙ ap (λ (ms : List (List ℕ)). (messages at.earlier ++ (ms ++ messages at.later)) ++ messages r.left) one
-    ∙ append_assoc (messages at.earlier) (message ∷ messages at.later) (messages r.left) in
-    let equal : length (messages at.earlier) ≡ (server_by opened es).received.sends = (let c = counted.sends in omega (arith, c)) in
+    let one : completed_by (begun_from None at.earlier) s ≡ message ∷ [] = completed-message (server_by opened es).received (begun_from None at.earlier) s message counted.begun whole in
+    let all_outs : AHello (own_hello Initiator) ∷ client_outs opened link run ≡ at.earlier ++ ASegment s ∷ (at.later ++ r.left) =
+    sym r.parts ∙ ap (λ (xs : List Output). xs ++ r.left) (at.parts ∙ ap (λ (o : Output). at.earlier ++ o ∷ at.later) segment)
+    ∙ append_assoc at.earlier (ASegment s ∷ at.later) r.left in
+    let split : completed_from None (client_outs opened link run) ≡ completed_from None at.earlier ++ message ∷ completed_from None (at.later ++ r.left) =
+    ap (λ (xs : List Output). completed_from None xs) all_outs ∙ completed-at at.earlier s (at.later ++ r.left) message one in
+    let equal : length (completed_from None at.earlier) ≡ (server_by opened es).received.sends = (let c = counted.sends in omega (arith, c)) in
     subst (λ (n : ℕ). WasSubmitted opened link run n message) equal
-    (message-submitted opened link run typed asked (messages at.earlier) message (messages at.later ++ messages r.left) split)
+    (message-submitted opened link run typed asked (completed_from None at.earlier) message (completed_from None (at.later ++ r.left)) split)
 
 -- so is that of a call that the server received
 pub received-message : (opened : LinkParameters) (link : ℕ) (run : List Mark) → IsTyped run → AskedSoFar opened link run → Matched link run

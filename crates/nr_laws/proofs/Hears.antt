@@ -1,11 +1,10 @@
 -- What a side has of the messages that its frames brought: each is one segment, and they are counted.
-use Rattle.std.proofs.Common.{◌≡◌, ℕ, ◌+◌, Bool, true, false, cond, ◌&&◌, eqb, List, [], ◌∷◌, ◌++◌, length, length-append, Option, None, Some, Result, Ok, Err, refl, sym, ap, subst, ◌∙◌, arith}
-use Rattle.nr_wire.specs.Constants.{OPCODE_READ_REQUEST}
+use Rattle.std.proofs.Common.{◌≡◌, ℕ, ◌+◌, Bool, true, false, cond, List, [], ◌∷◌, ◌++◌, length, length-append, Option, None, Some, Result, Ok, Err, refl, sym, ap, subst, ◌∙◌, arith}
+use Rattle.std.specs.Prelude.{option_to_list}
 use Rattle.nr_wire.specs.Segment.{Segment}
-use Rattle.nr_wire.specs.Segment.Segment.{Tagged, Untagged}
 use Rattle.nr_link.specs.declared.end.End.{End as Stop}
 use Rattle.nr_link.specs.Frames.{Frame, is_hello}
-use Rattle.nr_link.specs.ReceiveState.{ReceiveState, received_after, message_completed, is_send, send_continued, begun_bytes}
+use Rattle.nr_link.specs.ReceiveState.{ReceiveState, received_after, message_completed}
 use Rattle.nr_link.specs.Ending.{frame_segment}
 use Rattle.nr_reduce.specs.declared.mark.LinkParameters.{LinkParameters}
 use Rattle.nr_reduce.specs.Events.{Event}
@@ -19,7 +18,7 @@ use Rattle.nr_reduce.proofs.Steps.{ended-stays, end_state_after-append}
 use Rattle.nr_laws.proofs.Outputs.{Output}
 use Rattle.nr_laws.proofs.Outputs.Output.{AHello, ASegment}
 use Rattle.nr_laws.proofs.Brought.{Brought, Brings}
-use Rattle.nr_laws.proofs.Messages.{message_in, messages, IsOne, AreOne}
+use Rattle.nr_laws.proofs.Completions.{completed_by, begun_by, completed_from, begun_from, begun-is, completed-is, sends-is}
 
 -- ---- An end that hasn't ended hadn't before
 
@@ -46,52 +45,40 @@ received_event h (QueueWritten taken) = h
 abbrev pub Receiving : {S : Type 0} → Rules S → (S → ReceiveState) → Type 0
 Receiving rules received = (s : _) (e : Event) → received (rules.state_after s e) ≡ received_event (received s) e
 
-pub record Count (before after : ReceiveState) (n : ℕ) : Type 0 where
+-- so many Sends were completed, and these bytes of one have begun
+pub record Count (before after : ReceiveState) (n : ℕ) (bytes : Option (List ℕ)) : Type 0 where
   pub sends : after.sends ≡ before.sends + n
-  pub begun : after.begun ≡ None
+  pub begun : after.begun ≡ bytes
 
-count-segment : (h : ReceiveState) (s : Segment) → IsOne s → h.begun ≡ None → Count h (received_after h s) (length (message_in s))
-count-segment h (Tagged last opcode stag to payload) one none = record { sends = omega arith; begun = none }
-count-segment h (Untagged last opcode w queue msn offset payload) one none = by (is_send opcode)
-  where
-    by_last : (b : Bool) → b ≡ true → Count h (send_continued h b payload) 1
-    by_last true e = record { sends = refl; begun = refl }
-    by_last false e = absurd cc
+count-segment : (h : ReceiveState) (s : Segment) → Count h (received_after h s) (length (completed_by h.begun s)) (begun_by h.begun s)
+count-segment h s = record { sends = sends-is h s; begun = begun-is h s }
 
-    by_read : (b : Bool) → Count h (cond b (record { sends = h.sends; begun = h.begun; requests = h.requests + 1 }) h) 0
-    by_read true = record { sends = omega arith; begun = none }
-    by_read false = record { sends = omega arith; begun = none }
+count-none : (h t : ReceiveState) → t ≡ h → Count h t 0 h.begun
+count-none h t e = record { sends = (let s = ap (λ (x : ReceiveState). x.sends) e in omega (arith, s)); begun = ap (λ (x : ReceiveState). x.begun) e }
 
-    by : (b : Bool) → Count h (cond b (send_continued h last payload) (cond (eqb opcode OPCODE_READ_REQUEST) (record { sends = h.sends; begun = h.begun; requests = h.requests + 1 }) h)) (length (cond b (payload ∷ []) []))
-    by true = by_last last one
-    by false = by_read (eqb opcode OPCODE_READ_REQUEST)
+abbrev completed_of : Option (List ℕ) → Output → List (List ℕ)
+completed_of b (AHello bytes) = []
+completed_of b (ASegment s) = completed_by b s
 
-count-none : (h t : ReceiveState) → t ≡ h → h.begun ≡ None → Count h t 0
-count-none h t e none = record { sends = (let s = ap (λ (x : ReceiveState). x.sends) e in omega (arith, s)); begun = ap (λ (x : ReceiveState). x.begun) e ∙ none }
+abbrev begun_of : Option (List ℕ) → Output → Option (List ℕ)
+begun_of b (AHello bytes) = b
+begun_of b (ASegment s) = begun_by b s
 
-abbrev messages_of : Output → List (List ℕ)
-messages_of (AHello bytes) = []
-messages_of (ASegment s) = message_in s
-
-abbrev IsOneOutput : Output → Type 0
-IsOneOutput (AHello bytes) = Unit {0}
-IsOneOutput (ASegment s) = IsOne s
-
-count-frame : (h : ReceiveState) (o : Output) (f : Frame) → Brought o f → IsOneOutput o → h.begun ≡ None → Count h (received_event h (FrameReceived f)) (length (messages_of o))
-count-frame h (AHello bytes) f b one none = count-none h (received_event h (FrameReceived f)) (ap (λ (x : Bool). cond x h (received_by h (frame_segment f))) b.0) none
-count-frame h (ASegment s) f b one none =
+count-frame : (h : ReceiveState) (o : Output) (f : Frame) → Brought o f → Count h (received_event h (FrameReceived f)) (length (completed_of h.begun o)) (begun_of h.begun o)
+count-frame h (AHello bytes) f b = count-none h (received_event h (FrameReceived f)) (ap (λ (x : Bool). cond x h (received_by h (frame_segment f))) b.0)
+count-frame h (ASegment s) f b =
     let is : received_event h (FrameReceived f) ≡ received_after h s = (λ i. cond (b.0 i) h (received_by h (b.1 i))) in
-    subst (λ (t : ReceiveState). Count h t (length (message_in s))) (sym is) (count-segment h s one none)
+    subst (λ (t : ReceiveState). Count h t (length (completed_by h.begun s)) (begun_by h.begun s)) (sym is) (count-segment h s)
 
-one-first-output : (o : Output) (outs : List Output) → AreOne (o ∷ outs) → IsOneOutput o × AreOne outs
-one-first-output (AHello bytes) outs h = (tt, h)
-one-first-output (ASegment s) outs h = (h.0, h.1)
+completed-first : (b : Option (List ℕ)) (o : Output) (outs : List Output) → completed_from b (o ∷ outs) ≡ completed_of b o ++ completed_from (begun_of b o) outs
+completed-first b (AHello bytes) outs = refl
+completed-first b (ASegment s) outs = refl
 
-messages-first : (o : Output) (outs : List Output) → messages (o ∷ outs) ≡ messages_of o ++ messages outs
-messages-first (AHello bytes) outs = refl
-messages-first (ASegment s) outs = refl
+begun-first : (b : Option (List ℕ)) (o : Output) (outs : List Output) → begun_from b (o ∷ outs) ≡ begun_from (begun_of b o) outs
+begun-first b (AHello bytes) outs = refl
+begun-first b (ASegment s) outs = refl
 
-one-step : {S : Type 0} (rules : Rules S) (received : S → ReceiveState) → Receiving rules received → (r : EndState S) (e : Event) → (next_end_state rules r e).ended ≡ None → received (next_end_state rules r e).state ≡ received_event (received r.state) e
+pub one-step : {S : Type 0} (rules : Rules S) (received : S → ReceiveState) → Receiving rules received → (r : EndState S) (e : Event) → (next_end_state rules r e).ended ≡ None → received (next_end_state rules r e).state ≡ received_event (received r.state) e
 one-step {S} rules received goes r e live = by_end r.state r.ended live
   where
     by_why : (s : S) (o : Option Stop) → (next_end_state_by rules s e o).ended ≡ None → received (next_end_state_by rules s e o).state ≡ received_event (received s) e
@@ -102,44 +89,46 @@ one-step {S} rules received goes r e live = by_end r.state r.ended live
     by_end s None h = by_why s (rules.end_at s e) h
     by_end s (Some end) h = absurd cc
 
-count-both : (a b c : ReceiveState) (m n : ℕ) → Count a b m → Count b c n → Count a c (m + n)
-count-both a b c m n p q = record { sends = (let x = p.sends in let y = q.sends in omega (arith, x, y)); begun = q.begun }
+count-both : (a b c : ReceiveState) (m n : ℕ) (x y : Option (List ℕ)) → Count a b m x → Count b c n y → Count a c (m + n) y
+count-both a b c m n x y p q = record { sends = (let d = p.sends in let e = q.sends in omega (arith, d, e)); begun = q.begun }
 
-pub hears : {S : Type 0} (rules : Rules S) (received : S → ReceiveState) → Receiving rules received → (r : EndState S) (es : List Event) (outs : List Output) → Brings es outs → AreOne outs → (received r.state).begun ≡ None
-    → (end_state_after rules r es).ended ≡ None → Count (received r.state) (received (end_state_after rules r es).state) (length (messages outs))
-hears rules received goes r [] outs b one none live =
-    subst (λ (xs : List Output). Count (received r.state) (received r.state) (length (messages xs))) (sym b) (count-none (received r.state) (received r.state) refl none)
-hears rules received goes r (FrameReceived f ∷ es) [] b one none live = absurd b
-hears rules received goes r (FrameReceived f ∷ es) (o ∷ outs) b one none live =
+pub hears : {S : Type 0} (rules : Rules S) (received : S → ReceiveState) → Receiving rules received → (r : EndState S) (es : List Event) (outs : List Output) → Brings es outs → (end_state_after rules r es).ended ≡ None
+    → Count (received r.state) (received (end_state_after rules r es).state) (length (completed_from (received r.state).begun outs)) (begun_from (received r.state).begun outs)
+hears rules received goes r [] outs b live =
+    subst (λ (xs : List Output). Count (received r.state) (received r.state) (length (completed_from (received r.state).begun xs)) (begun_from (received r.state).begun xs)) (sym b) (count-none (received r.state) (received r.state) refl)
+hears rules received goes r (FrameReceived f ∷ es) [] b live = absurd b
+hears rules received goes r (FrameReceived f ∷ es) (o ∷ outs) b live =
     let t = next_end_state rules r (FrameReceived f) in
-    let both = one-first-output o outs one in
+    let bytes : Option (List ℕ) = (received r.state).begun in
     let same = one-step rules received goes r (FrameReceived f) (was-live rules t es live) in
-    let first : Count (received r.state) (received t.state) (length (messages_of o)) =
-    subst (λ (h : ReceiveState). Count (received r.state) h (length (messages_of o))) (sym same) (count-frame (received r.state) o f b.0 both.0 none) in
-    let rest = hears rules received goes t es outs b.1 both.1 first.begun live in
-    subst (λ (n : ℕ). Count (received r.state) (received (end_state_after rules t es).state) n)
-    (sym (length-append (messages_of o) (messages outs)) ∙ ap (λ (ms : List (List ℕ)). length ms) (sym (messages-first o outs)))
-    (count-both (received r.state) (received t.state) (received (end_state_after rules t es).state) (length (messages_of o)) (length (messages outs)) first rest)
-hears rules received goes r (CallSubmitted p a ∷ es) outs b one none live =
+    let first : Count (received r.state) (received t.state) (length (completed_of bytes o)) (begun_of bytes o) =
+    subst (λ (h : ReceiveState). Count (received r.state) h (length (completed_of bytes o)) (begun_of bytes o)) (sym same) (count-frame (received r.state) o f b.0) in
+    let rest : Count (received t.state) (received (end_state_after rules t es).state) (length (completed_from (begun_of bytes o) outs)) (begun_from (begun_of bytes o) outs) =
+    subst (λ (x : Option (List ℕ)). Count (received t.state) (received (end_state_after rules t es).state) (length (completed_from x outs)) (begun_from x outs)) first.begun (hears rules received goes t es outs b.1 live) in
+    let number : length (completed_of bytes o) + length (completed_from (begun_of bytes o) outs) ≡ length (completed_from bytes (o ∷ outs)) =
+    sym (length-append (completed_of bytes o) (completed_from (begun_of bytes o) outs)) ∙ ap (λ (ms : List (List ℕ)). length ms) (sym (completed-first bytes o outs)) in
+    let both = count-both (received r.state) (received t.state) (received (end_state_after rules t es).state) (length (completed_of bytes o)) (length (completed_from (begun_of bytes o) outs)) (begun_of bytes o) (begun_from (begun_of bytes o) outs) first rest in
+    record { sends = both.sends ∙ ap (λ (n : ℕ). (received r.state).sends + n) number; begun = both.begun ∙ sym (begun-first bytes o outs) }
+hears rules received goes r (CallSubmitted p a ∷ es) outs b live =
     let t = next_end_state rules r (CallSubmitted p a) in
     let same = one-step rules received goes r (CallSubmitted p a) (was-live rules t es live) in
-    subst (λ (h : ReceiveState). Count h (received (end_state_after rules t es).state) (length (messages outs))) same
-    (hears rules received goes t es outs b one (ap (λ (h : ReceiveState). h.begun) same ∙ none) live)
-hears rules received goes r (MemoryRevoked p xid ∷ es) outs b one none live =
+    subst (λ (h : ReceiveState). Count h (received (end_state_after rules t es).state) (length (completed_from h.begun outs)) (begun_from h.begun outs)) same
+    (hears rules received goes t es outs b live)
+hears rules received goes r (MemoryRevoked p xid ∷ es) outs b live =
     let t = next_end_state rules r (MemoryRevoked p xid) in
     let same = one-step rules received goes r (MemoryRevoked p xid) (was-live rules t es live) in
-    subst (λ (h : ReceiveState). Count h (received (end_state_after rules t es).state) (length (messages outs))) same
-    (hears rules received goes t es outs b one (ap (λ (h : ReceiveState). h.begun) same ∙ none) live)
-hears rules received goes r (CallExecuted e ∷ es) outs b one none live =
+    subst (λ (h : ReceiveState). Count h (received (end_state_after rules t es).state) (length (completed_from h.begun outs)) (begun_from h.begun outs)) same
+    (hears rules received goes t es outs b live)
+hears rules received goes r (CallExecuted e ∷ es) outs b live =
     let t = next_end_state rules r (CallExecuted e) in
     let same = one-step rules received goes r (CallExecuted e) (was-live rules t es live) in
-    subst (λ (h : ReceiveState). Count h (received (end_state_after rules t es).state) (length (messages outs))) same
-    (hears rules received goes t es outs b one (ap (λ (h : ReceiveState). h.begun) same ∙ none) live)
-hears rules received goes r (QueueWritten taken ∷ es) outs b one none live =
+    subst (λ (h : ReceiveState). Count h (received (end_state_after rules t es).state) (length (completed_from h.begun outs)) (begun_from h.begun outs)) same
+    (hears rules received goes t es outs b live)
+hears rules received goes r (QueueWritten taken ∷ es) outs b live =
     let t = next_end_state rules r (QueueWritten taken) in
     let same = one-step rules received goes r (QueueWritten taken) (was-live rules t es live) in
-    subst (λ (h : ReceiveState). Count h (received (end_state_after rules t es).state) (length (messages outs))) same
-    (hears rules received goes t es outs b one (ap (λ (h : ReceiveState). h.begun) same ∙ none) live)
+    subst (λ (h : ReceiveState). Count h (received (end_state_after rules t es).state) (length (completed_from h.begun outs)) (begun_from h.begun outs)) same
+    (hears rules received goes t es outs b live)
 
 -- ---- The two machines receive so
 
@@ -199,15 +188,6 @@ own-segment (ASegment t) f s b behind is = (let e : Ok t ≡ Ok s = sym b.1 ∙ 
     same : (t s : Segment) → ◌≡◌ {A = Result Segment ℕ} (Ok t) (Ok s) → t ≡ s
     same t s e = cc
 
--- the message that a segment makes whole is its payload
-pub whole-message : (h : ReceiveState) (s : Segment) (message : List ℕ) → h.begun ≡ None → message_completed h s ≡ Some message → message_in s ≡ message ∷ []
-whole-message h (Tagged last opcode stag to payload) message none e = absurd cc
-whole-message h (Untagged last opcode w queue msn offset payload) message none e = by (is_send opcode) last e
-  where
-    same : Some (begun_bytes h.begun ++ payload) ≡ Some message → payload ≡ message
-    same e = (let t : begun_bytes h.begun ++ payload ≡ message = cc in ap (λ (b : Option (List ℕ)). begun_bytes b ++ payload) (sym none) ∙ t)
-
-    by : (b c : Bool) → cond (b && c) (Some (begun_bytes h.begun ++ payload)) None ≡ Some message → cond b (payload ∷ []) [] ≡ message ∷ []
-    by true true e = ap (λ (m : List ℕ). m ∷ []) (same e)
-    by true false e = absurd cc
-    by false c e = absurd cc
+-- the message that a segment completes is that of its outputs
+pub completed-message : (h : ReceiveState) (b : Option (List ℕ)) (s : Segment) (message : List ℕ) → h.begun ≡ b → message_completed h s ≡ Some message → completed_by b s ≡ message ∷ []
+completed-message h b s message is e = ap (λ (x : Option (List ℕ)). completed_by x s) (sym is) ∙ sym (completed-is h s) ∙ ap (λ (o : Option (List ℕ)). option_to_list o) e

@@ -53,7 +53,7 @@ use Rattle.nr_laws.proofs.HeaderXid.{header-xid, answer-xid}
 use Rattle.nr_laws.proofs.ClientSays.{ClientGood}
 use Rattle.nr_laws.proofs.ClientRun.{SubmittedCall, client-goes}
 use Rattle.nr_laws.proofs.ClientMemory.{HasBuffers, client-gathers}
-use Rattle.nr_laws.proofs.Memory.{Part, parts_of, parts_out, out-append, gathers, Settled, settled-later}
+use Rattle.nr_laws.proofs.Memory.{Part, parts_of, parts_out, gathers, Settled, settled-later}
 use Rattle.nr_laws.proofs.Outcomes.{client_by}
 use Rattle.nr_laws.proofs.DoneCalls.{AnsweredBy, answered-by}
 use Rattle.nr_laws.proofs.Following.{far-before}
@@ -225,7 +225,7 @@ answer-judges opened link run reason opens typed far d j s = record {
 
     parts : parts_of k.accesses_received ≡ front ++ parts_out (map ASegment (answer_segments (lists_of stag plan) a))
     parts = gathers (client_rules opened) (λ (x : ClientState). x.accesses_received) (client-gathers opened) (initial_client opened) d.earlier d.before d.brings d.live
-        ∙ ap parts_out s.before ∙ out-append (outs_of opened s.earlier) (map ASegment (answer_segments (offer_of server e.xid) a))
+        ∙ s.before
         ∙ ap (λ (o : ChunkLists). front ++ parts_out (map ASegment (answer_segments o a))) offer
 
     conveys : reply_conveyed u.call.prog u.call.vers u.call.proc (cond a.long None (Some a.stream)) (answer_lists (lists_of stag plan) a) (memory_at k place) ≡ Some e.reply

@@ -31,8 +31,8 @@ use Rattle.nr_laws.specs.Typed.{IsTyped}
 use Rattle.nr_laws.proofs.Outputs.{Output}
 use Rattle.nr_laws.proofs.Outputs.Output.{AHello, ASegment}
 use Rattle.nr_laws.proofs.Brought.{Brings, Brought, AreFrom, hello-is}
-use Rattle.nr_laws.proofs.Messages.{message_in, AreOne, one-first}
-use Rattle.nr_laws.proofs.Hears.{hears, client-receives, brings-at, whole-message}
+use Rattle.nr_laws.proofs.Completions.{completed_by, begun_from}
+use Rattle.nr_laws.proofs.Hears.{hears, client-receives, brings-at, completed-message}
 use Rattle.nr_laws.proofs.ServerAlong.{outs_of, Said}
 use Rattle.nr_laws.proofs.ServerSide.{server-tells, client-receives-of}
 use Rattle.nr_laws.proofs.Outcomes.{client_by}
@@ -160,16 +160,14 @@ ends-for opened link run at reason typed far bad e = by a.event a.is a.ends
         let r = client-receives-of opened link run typed far.asked far.served far.matched in
         let t = server-tells opened link run typed far.asked far.served far.matched in
         let b = brings-at a.earlier f a.later r.came (subst (λ (xs : List Event). Brings xs r.came) is r.brings) in
-        let ones : AreOne r.came = one-first r.came r.left (subst AreOne (sym r.parts) t.one) in
-        let early : AreOne b.earlier = one-first b.earlier (b.own ∷ b.later) (subst AreOne b.parts ones) in
-        let counted = hears (client_rules opened) (λ (x : ClientState). x.received) (client-receives opened) (initial_client opened) a.earlier b.earlier b.brings early refl a.live in
+        let counted = hears (client_rules opened) (λ (x : ClientState). x.received) (client-receives opened) (initial_client opened) a.earlier b.earlier b.brings a.live in
         let from : AreFrom (HelloFrom Responder) (b.earlier ++ b.own ∷ b.later) = subst (λ (xs : List Output). AreFrom (HelloFrom Responder) xs) b.parts r.from in
         let parts : outs_of opened (events link Responder run) ≡ b.earlier ++ b.own ∷ (b.later ++ r.left) =
         sym r.parts ∙ ap (λ (xs : List Output). xs ++ r.left) b.parts ∙ append_assoc b.earlier (b.own ∷ b.later) r.left in
         own b.own b.brought (λ first. absurd (none-some (ends.Bad at reason) (hello-stays k f first (first-hello b.earlier b.later b.own f from b.brought first)) why))
         (λ s behind reads same.
         let j = segment-judges k f s at reason bad behind reads why in
-        let one : message_in s ≡ j.message ∷ [] = whole-message k.received s j.message counted.begun j.whole in
+        let one : completed_by (begun_from None b.earlier) s ≡ j.message ∷ [] = completed-message k.received (begun_from None b.earlier) s j.message counted.begun j.whole in
         record {
           earlier = a.earlier;
           frame = f;

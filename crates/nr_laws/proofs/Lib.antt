@@ -47,6 +47,7 @@ pub mod ConveyingAnswers
 pub mod ReturnedWrites
 pub mod BoundedSides
 pub mod SegmentedMessages
+pub mod Completions
 pub mod Replied
 pub mod Otherwise
 pub mod Completed

@@ -1,5 +1,5 @@
 -- The messages among what a side writes.
-use Rattle.std.proofs.Common.{◌≡◌, ℕ, ◌+◌, Bool, true, false, cond, List, [], ◌∷◌, ◌++◌, length, map, refl, ap, sym, subst, ◌∙◌}
+use Rattle.std.proofs.Common.{◌≡◌, ℕ, ◌+◌, Bool, true, false, cond, List, [], ◌∷◌, ◌++◌, length, map, refl, ap, ◌∙◌}
 use Rattle.nr_wire.specs.Segment.{Segment}
 use Rattle.nr_wire.specs.Segment.Segment.{Tagged, Untagged}
 use Rattle.nr_link.specs.declared.end.End.{End as Stop}
@@ -12,7 +12,6 @@ use Rattle.nr_link.specs.Output.{segment_count}
 use Rattle.std.proofs.Common.{min, eqb, take, drop}
 use Rattle.nr_reduce.specs.declared.mark.LinkParameters.{LinkParameters}
 use Rattle.nr_reduce.specs.ClientState.{OutstandingCall}
-use Rattle.nr_reduce.specs.ServerState.{PendingRead}
 use Rattle.nr_reduce.specs.Undone.{one_write, write_segments, chunk_segments}
 use Rattle.nr_laws.proofs.Outputs.{Output, IsShort, CallsShort, AreShort, send_segment, message_outputs, one-sent, call_sends, message_sends, message_of_call, one_response, response_segments, request_outputs, final_outputs, server_final_outputs}
 use Rattle.nr_laws.proofs.Outputs.Output.{AHello, ASegment}
@@ -25,16 +24,6 @@ abbrev pub messages : List Output → List (List ℕ)
 messages [] = []
 messages (AHello bytes ∷ outs) = messages outs
 messages (ASegment s ∷ outs) = message_in s ++ messages outs
-
--- each message is one segment
-abbrev pub IsOne : Segment → Type 0
-IsOne (Tagged last opcode stag to payload) = Unit {0}
-IsOne (Untagged last opcode w queue msn offset payload) = last ≡ true
-
-abbrev pub AreOne : List Output → Type 0
-AreOne [] = Unit {0}
-AreOne (AHello bytes ∷ outs) = AreOne outs
-AreOne (ASegment s ∷ outs) = IsOne s × AreOne outs
 
 pub messages-append : (xs ys : List Output) → messages (xs ++ ys) ≡ messages xs ++ messages ys
 messages-append [] ys = refl
@@ -49,51 +38,15 @@ messages-append (ASegment s ∷ xs) ys = by s (messages-append xs ys)
     by (Tagged last opcode stag to payload) e = e
     by (Untagged last opcode w queue msn offset payload) e = one (is_send opcode) payload (messages (xs ++ ys)) e
 
-pub one-append : (xs ys : List Output) → AreOne xs → AreOne ys → AreOne (xs ++ ys)
-one-append [] ys h g = g
-one-append (AHello bytes ∷ xs) ys h g = one-append xs ys h g
-one-append (ASegment s ∷ xs) ys h g = (h.0, one-append xs ys h.1 g)
-
-pub one-first : (xs ys : List Output) → AreOne (xs ++ ys) → AreOne xs
-one-first [] ys h = tt
-one-first (AHello bytes ∷ xs) ys h = one-first xs ys h
-one-first (ASegment s ∷ xs) ys h = (h.0, one-first xs ys h.1)
-
 -- a short message with its cut
 pub messages-message : (msn : ℕ) (message : List ℕ) → IsShort message → messages (message_outputs msn message) ≡ message ∷ []
 messages-message msn message short = ap messages (one-sent msn message short)
-
-pub one-message : (msn : ℕ) (message : List ℕ) → IsShort message → AreOne (message_outputs msn message)
-one-message msn message short = subst AreOne (sym (one-sent msn message short)) (refl, tt)
 
 pub messages-calls : (opened : LinkParameters) (msn : ℕ) (os : List OutstandingCall) → CallsShort opened os → messages (call_sends opened msn os) ≡ map (message_of_call opened) os
 messages-calls opened msn [] h = refl
 messages-calls opened msn (o ∷ os) h =
     messages-append (message_outputs msn (message_of_call opened o)) (call_sends opened (msn + 1) os)
     ∙ (λ i. messages-message msn (message_of_call opened o) h.0 i ++ messages-calls opened (msn + 1) os h.1 i)
-
-pub one-calls : (opened : LinkParameters) (msn : ℕ) (os : List OutstandingCall) → CallsShort opened os → AreOne (call_sends opened msn os)
-one-calls opened msn [] h = tt
-one-calls opened msn (o ∷ os) h =
-    one-append (message_outputs msn (message_of_call opened o)) (call_sends opened (msn + 1) os) (one-message msn (message_of_call opened o) h.0) (one-calls opened (msn + 1) os h.1)
-
-pub messages-sends : (msn : ℕ) (ms : List (List ℕ)) → AreShort ms → messages (message_sends msn ms) ≡ ms
-messages-sends msn [] h = refl
-messages-sends msn (m ∷ ms) h =
-    messages-append (message_outputs msn m) (message_sends (msn + 1) ms)
-    ∙ (λ i. messages-message msn m h.0 i ++ messages-sends (msn + 1) ms h.1 i)
-
-pub one-sends : (msn : ℕ) (ms : List (List ℕ)) → AreShort ms → AreOne (message_sends msn ms)
-one-sends msn [] h = tt
-one-sends msn (m ∷ ms) h = one-append (message_outputs msn m) (message_sends (msn + 1) ms) (one-message msn m h.0) (one-sends (msn + 1) ms h.1)
-
-pub messages-requests : (msn : ℕ) (reads : List PendingRead) → messages (request_outputs msn reads) ≡ []
-messages-requests msn [] = refl
-messages-requests msn (r ∷ reads) = messages-requests (msn + 1) reads
-
-pub one-requests : (msn : ℕ) (reads : List PendingRead) → AreOne (request_outputs msn reads)
-one-requests msn [] = tt
-one-requests msn (r ∷ reads) = (refl, one-requests (msn + 1) reads)
 
 -- tagged segments bring no message
 abbrev pub AreTagged : List Segment → Type 0
@@ -105,11 +58,6 @@ pub messages-tagged : (segments : List Segment) → AreTagged segments → messa
 messages-tagged [] h = refl
 messages-tagged (Tagged last opcode stag to payload ∷ segments) h = messages-tagged segments h
 messages-tagged (Untagged last opcode w queue msn offset payload ∷ segments) h = absurd h
-
-pub one-tagged : (segments : List Segment) → AreTagged segments → AreOne (map ASegment segments)
-one-tagged [] h = tt
-one-tagged (Tagged last opcode stag to payload ∷ segments) h = (tt, one-tagged segments h)
-one-tagged (Untagged last opcode w queue msn offset payload ∷ segments) h = absurd h
 
 pub tagged-append : (xs ys : List Segment) → AreTagged xs → AreTagged ys → AreTagged (xs ++ ys)
 tagged-append [] ys h g = g
@@ -151,14 +99,3 @@ messages-final (ends.Denied stag offset why) = refl
 messages-final (ends.NoBuffer msn) = refl
 messages-final (ends.Terminated reason) = refl
 messages-final ends.Memory = refl
-
-pub one-final : (end : Stop) → AreOne (final_outputs end)
-one-final (ends.Bad at reason) = by (is_hello_reason reason)
-  where
-    by : (b : Bool) → AreOne (cond b [] (ASegment (Rattle.nr_laws.proofs.Outputs.terminate_segment reason) ∷ []))
-    by true = tt
-    by false = (refl, tt)
-one-final (ends.Denied stag offset why) = (refl, tt)
-one-final (ends.NoBuffer msn) = (refl, tt)
-one-final (ends.Terminated reason) = tt
-one-final ends.Memory = tt

@@ -28,8 +28,8 @@ use Rattle.nr_laws.specs.Typed.{IsTyped}
 use Rattle.nr_laws.proofs.Outputs.{Output}
 use Rattle.nr_laws.proofs.Outputs.Output.{ASegment}
 use Rattle.nr_laws.proofs.Brought.{Brings}
-use Rattle.nr_laws.proofs.Messages.{message_in, AreOne, one-first}
-use Rattle.nr_laws.proofs.Hears.{hears, client-receives, brings-at, own-segment, whole-message}
+use Rattle.nr_laws.proofs.Completions.{completed_by, begun_from}
+use Rattle.nr_laws.proofs.Hears.{hears, client-receives, brings-at, own-segment, completed-message}
 use Rattle.nr_laws.proofs.ServerAlong.{outs_of, Said}
 use Rattle.nr_laws.proofs.ServerSide.{server-tells, client-receives-of}
 use Rattle.nr_laws.proofs.Basics.{each-append, each-all}
@@ -149,8 +149,6 @@ pub record OutcomeSaid (opened : LinkParameters) (link : ℕ) (run : List Mark) 
   pub behind : List Output
   pub parts : outs_of opened (events link Responder run) ≡ before ++ ASegment given.segment ∷ behind
   pub brings : Brings given.earlier before
-  pub begun : (client_by opened given.earlier).state.received.begun ≡ None
-  pub one : message_in given.segment ≡ given.message ∷ []
   pub said : Said opened (events link Responder run) before given.message
 
 pub outcome-said : (opened : LinkParameters) (link : ℕ) (run : List Mark) → IsTyped run → AskedSoFar opened link run → ServedSoFar opened link run → Matched link run → (c : CompletedCall) → Contains (client opened link run).state.outcomes c
@@ -160,11 +158,9 @@ outcome-said opened link run typed asked served matched c there =
     let r = client-receives-of opened link run typed asked served matched in
     let t = server-tells opened link run typed asked served matched in
     let at = brings-at w.earlier w.frame w.later r.came (subst (λ (xs : List Event). Brings xs r.came) w.is r.brings) in
-    let ones : AreOne r.came = one-first r.came r.left (subst AreOne (sym r.parts) t.one) in
-    let early : AreOne at.earlier = one-first at.earlier (at.own ∷ at.later) (subst AreOne at.parts ones) in
-    let counted = hears (client_rules opened) (λ (k : ClientState). k.received) (client-receives opened) (initial_client opened) w.earlier at.earlier at.brings early refl w.live in
+    let counted = hears (client_rules opened) (λ (k : ClientState). k.received) (client-receives opened) (initial_client opened) w.earlier at.earlier at.brings w.live in
     let segment : at.own ≡ ASegment w.segment = own-segment at.own w.frame w.segment at.brought w.behind w.is_segment in
-    let one : message_in w.segment ≡ w.message ∷ [] = whole-message (client_by opened w.earlier).state.received w.segment w.message counted.begun w.whole in
+    let one : completed_by (begun_from None at.earlier) w.segment ≡ w.message ∷ [] = completed-message (client_by opened w.earlier).state.received (begun_from None at.earlier) w.segment w.message counted.begun w.whole in
     let parts : outs_of opened (events link Responder run) ≡ at.earlier ++ ASegment w.segment ∷ (at.later ++ r.left) =
     sym r.parts ∙ ap (λ (xs : List Output). xs ++ r.left) (at.parts ∙ ap (λ (o : Output). at.earlier ++ o ∷ at.later) segment) ∙ append_assoc at.earlier (ASegment w.segment ∷ at.later) r.left in
     record {
@@ -173,7 +169,5 @@ outcome-said opened link run typed asked served matched c there =
       behind = at.later ++ r.left;
       parts = parts;
       brings = at.brings;
-      begun = counted.begun;
-      one = one;
       said = t.said at.earlier w.segment (at.later ++ r.left) w.message parts one;
     }

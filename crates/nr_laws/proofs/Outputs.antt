@@ -9,7 +9,7 @@ use Rattle.nr_wire.specs.Segment.{Segment, encoding}
 use Rattle.nr_wire.specs.Segment.Segment.{Tagged, Untagged}
 use Rattle.nr_link.specs.declared.end.End.{End as Stop}
 use Rattle.nr_link.specs.declared.end.End.TheVariants as ends
-use Rattle.nr_link.specs.Limits.{segment_max}
+use Rattle.nr_link.specs.Limits.{segment_max, send_max}
 use Rattle.nr_link.specs.Reasons.{denied_word, NO_BUFFER_WORD}
 use Rattle.nr_link.specs.Output.{segment_count, segment_payload, cut, msn_word, send, read_response, read_request, terminate_message, own_hello, refusing_hello}
 use Rattle.nr_laws.specs.MessageSegments.{message_segment, message_segments}
@@ -55,16 +55,22 @@ bytes-segments (s ∷ segments) = ap (λ (xs : List ℕ). encoding s ++ xs) (byt
 abbrev pub send_segment : ℕ → List ℕ → Segment
 send_segment msn message = Untagged true OPCODE_SEND 0 QUEUE_SEND (msn_word msn) 0 message
 
+-- no longer than a Send may be
 abbrev pub IsShort : List ℕ → Type 0
-IsShort message = length message ≤ segment_max
+IsShort message = length message ≤ send_max
+
+-- so it fits one segment
+fits-segment : (message : List ℕ) → IsShort message → length message ≤ segment_max
+fits-segment message short = omega (arith, short)
 
 pub send-one : (msn : ℕ) (message : List ℕ) → IsShort message → send msn message ≡ encoding (send_segment msn message)
 unfolding send cut
 send-one msn message le =
-    let one : segment_count message ≡ 1 = omega (arith, le) in
+    let fits = fits-segment message le in
+    let one : segment_count message ≡ 1 = omega (arith, fits) in
     (λ j. flat_map (λ i. encoding (Untagged (eqb (i + 1) (one j)) OPCODE_SEND 0 QUEUE_SEND (msn_word msn) (segment_max * i) (segment_payload message i))) (range_with_len 0 (one j)))
     ∙ append-nil (encoding (Untagged true OPCODE_SEND 0 QUEUE_SEND (msn_word msn) 0 (segment_payload message 0)))
-    ∙ ap (λ (xs : List ℕ). encoding (Untagged true OPCODE_SEND 0 QUEUE_SEND (msn_word msn) 0 xs)) (take_all segment_max message le)
+    ∙ ap (λ (xs : List ℕ). encoding (Untagged true OPCODE_SEND 0 QUEUE_SEND (msn_word msn) 0 xs)) (take_all segment_max message (fits-segment message le))
 
 flat-map : (f : ℕ → Segment) (is : List ℕ) → flat_map (λ i. encoding (f i)) is ≡ flat_map encoding (map f is)
 flat-map f [] = refl
@@ -83,9 +89,10 @@ send-said msn message =
 -- a short message is one segment
 pub one-sent : (msn : ℕ) (message : List ℕ) → IsShort message → message_outputs msn message ≡ ASegment (send_segment msn message) ∷ []
 one-sent msn message le =
-    let one : segment_count message ≡ 1 = omega (arith, le) in
+    let fits = fits-segment message le in
+    let one : segment_count message ≡ 1 = omega (arith, fits) in
     (λ j. map ASegment (map (λ i. Untagged (eqb (i + 1) (one j)) OPCODE_SEND 0 QUEUE_SEND (msn_word msn) (segment_max * i) (segment_payload message i)) (range_with_len 0 (one j))))
-    ∙ ap (λ (xs : List ℕ). ASegment (Untagged true OPCODE_SEND 0 QUEUE_SEND (msn_word msn) 0 xs) ∷ []) (take_all segment_max message le)
+    ∙ ap (λ (xs : List ℕ). ASegment (Untagged true OPCODE_SEND 0 QUEUE_SEND (msn_word msn) 0 xs) ∷ []) (take_all segment_max message (fits-segment message le))
 
 abbrev pub message_of_call : LinkParameters → OutstandingCall → List ℕ
 message_of_call opened o = call_message o.xid opened.wished o.stag o.plan

@@ -37,7 +37,6 @@ use Rattle.nr_laws.proofs.ClientSays.{short-revoked}
 use Rattle.nr_reduce.proofs.WholeWrotes.{ClientEnds, ServerEnds}
 use Rattle.nr_laws.proofs.Basics.{each-kept, each-append}
 use Rattle.nr_laws.proofs.ServerOutputs.{CallFits}
-use Rattle.nr_link.specs.Limits.{send_max}
 
 -- ---- Of a client
 

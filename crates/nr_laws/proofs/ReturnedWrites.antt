@@ -20,13 +20,13 @@ use Rattle.nr_reduce.specs.declared.mark.Mark.TheVariants as marks
 use Rattle.nr_outside.specs.declared.moment.Moment.{Moment}
 use Rattle.nr_reduce.specs.History.{ExecutedCall}
 use Rattle.nr_reduce.specs.Chunks.{chunk_total, filled_chunk}
-use Rattle.nr_reduce.specs.Holds.{Answer, Parts, parts_in, answer_for, answer_message, answer_lists, written_chunks, first_chunk, no_segments}
+use Rattle.nr_reduce.specs.Holds.{Answer, parts_in, answer_for, answer_message, written_chunks, first_chunk, no_segments}
 use Rattle.nr_reduce.specs.Undone.{chunk_segments, answer_segments}
 use Rattle.nr_reduce.specs.Matched.{IsPrefixOf}
 use Rattle.nr_reduce.specs.Events.{Event, events, events_at, if_own}
 use Rattle.nr_reduce.specs.Events.Event.{CallExecuted}
 use Rattle.nr_reduce.specs.EndRules.{EndState, end_state_after}
-use Rattle.nr_reduce.specs.ServerState.{ServerState, ReadyCall, credit_word}
+use Rattle.nr_reduce.specs.ServerState.{ServerState, ReadyCall}
 use Rattle.nr_reduce.specs.Server.{server_rules, server_end, initial_server, offer_of, answer_of_target}
 use Rattle.nr_reduce.specs.Served.{ServedMark, IsExecuted, first_ready, next_call}
 use Rattle.nr_reduce.specs.Run.{server}
@@ -38,7 +38,7 @@ use Rattle.nr_reduce.proofs.WroteItems.{due-append}
 use Rattle.nr_laws.specs.Typed.{TypedMark}
 use Rattle.nr_laws.specs.AnswersConvey.{payloads_of, moved_returned, stream_returned, returned_segments, segment_writes, AnswersConvey}
 use Rattle.nr_laws.proofs.ConveyedForms.{no-bytes}
-use Rattle.nr_laws.proofs.ConveyingAnswers.{IsMade, IsMadeFor, made, made-answer, payloads-append, short-drop, chunk-payloads, filled-total, first-filled, conveys-by}
+use Rattle.nr_laws.proofs.ConveyingAnswers.{IsMadeFor, made, made-answer, payloads-append, short-drop, chunk-payloads, filled-total, first-filled, conveys-by}
 use Rattle.nr_laws.proofs.OnceByXid.{at-mark}
 
 -- ---- The Writes of a chunk are those of its returned segments

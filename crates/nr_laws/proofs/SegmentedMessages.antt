@@ -1,5 +1,5 @@
 -- A message that is sent in segments is received complete, and none of its segments breaks a rule of the link.
-use Rattle.std.proofs.Common.{◌≡◌, ℕ, zero, suc, ◌+◌, ◌*◌, ◌/◌, ◌^◌, ◌≤◌, ◌<◌, max, Bool, true, false, not, cond, ◌||◌, eqb, ltb, List, [], ◌∷◌, ◌++◌, length, take, drop, map, Option, None, Some, refl, sym, ap, subst, ◌∙◌, arith, append_assoc, eq-eqb, ne_eqb, le-ltb, length-take-le}
+use Rattle.std.proofs.Common.{◌≡◌, ℕ, zero, suc, ◌+◌, ◌*◌, ◌-◌, ◌/◌, ◌^◌, ◌≤◌, ◌<◌, max, Bool, true, false, not, cond, ◌||◌, eqb, ltb, List, [], ◌∷◌, ◌++◌, length, take, drop, map, Option, None, Some, refl, sym, ap, subst, ◌∙◌, arith, append_assoc, eq-eqb, ne_eqb, le-ltb, length-take-le}
 use Rattle.std.specs.Prelude.{option_to_list}
 use Rattle.std.specs.List.{flat_map, range_with_len}
 use Rattle.std.proofs.Math.Seq.{take-add}
@@ -26,19 +26,19 @@ unfolding send cut
 send_is_its_segments msn message = sym (flat-over encoding (message_segment msn message) (range_with_len 0 (segment_count message)))
 
 -- at which offset a segment stands in its message
-piece-starts : (n i : ℕ) → i < max 1 ((n + 4095) / segment_max) → segment_max * i ≤ n
+piece-starts : (n i : ℕ) → i < max 1 ((n + (segment_max - 1)) / segment_max) → segment_max * i ≤ n
 piece-starts n i lt = omega (arith, lt)
 
-pieces-end : (n : ℕ) → n ≤ segment_max * max 1 ((n + 4095) / segment_max)
+pieces-end : (n : ℕ) → n ≤ segment_max * max 1 ((n + (segment_max - 1)) / segment_max)
 pieces-end n = omega arith
 
-offset-word : (n i : ℕ) → i < max 1 ((n + 4095) / segment_max) → n ≤ 2 ^ 32 → segment_max * i < 2 ^ 32
+offset-word : (n i : ℕ) → i < max 1 ((n + (segment_max - 1)) / segment_max) → n ≤ 2 ^ 32 → segment_max * i < 2 ^ 32
 offset-word n i lt le = omega (arith, lt, le)
 
 payload-size : (bytes : List ℕ) (i : ℕ) → length (segment_payload bytes i) ≤ segment_max
 payload-size bytes i = (let l = length-take segment_max (drop (segment_max * i) bytes) in omega (arith, l))
 
-segment-word : (msn : ℕ) (message : List ℕ) (i : ℕ) → i < segment_count message → length message ≤ 2 ^ 32 → IsWord (message_segment msn message i)
+pub segment-word : (msn : ℕ) (message : List ℕ) (i : ℕ) → i < segment_count message → length message ≤ 2 ^ 32 → IsWord (message_segment msn message i)
 segment-word msn message i lt short =
     let size = payload-size message i in
     record { supported = (refl, refl); fits = (omega arith, omega arith, omega arith, omega arith, offset-word (length message) i lt short); size = omega (arith, size) }

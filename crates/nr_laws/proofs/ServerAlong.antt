@@ -1,5 +1,5 @@
 -- A server says what it has to, from event to event, and each of its messages has its cause.
-use Rattle.std.proofs.Common.{◌≡◌, ℕ, ◌<◌, true, false, List, [], ◌∷◌, ◌++◌, length, map, None, Some, Ok, refl, sym, ap, subst, ◌∙◌, arith, append_assoc, append-nil, length-append, inl, inr, ◌⊎◌}
+use Rattle.std.proofs.Common.{◌≡◌, ℕ, ◌<◌, true, false, List, [], ◌∷◌, ◌++◌, length, map, Option, None, Some, Ok, refl, sym, ap, subst, ◌∙◌, arith, append_assoc, append-nil, length-append, inl, inr, ◌⊎◌}
 use Rattle.nr_xdr.specs.Item.{IsBytes}
 use Rattle.nr_wire.specs.declared.hello.Side.TheVariants.{Initiator, Responder}
 use Rattle.nr_wire.specs.declared.stream.Awaited.TheVariants.{Hello as HelloFrom, Fpdu}
@@ -25,7 +25,8 @@ use Rattle.nr_laws.proofs.Outputs.{Output, bytes_of_all, bytes-append, server_sa
 use Rattle.nr_laws.proofs.Outputs.Output.{AHello, ASegment}
 use Rattle.nr_laws.proofs.Brought.{AreFrom, Brings}
 use Rattle.nr_laws.proofs.Words.{from-append}
-use Rattle.nr_laws.proofs.Messages.{message_in, messages, AreOne, messages-append, one-append}
+use Rattle.nr_laws.proofs.Completions.{completed_by, begun_from, begun-append}
+use Rattle.nr_laws.proofs.Memory.{parts_out}
 use Rattle.nr_laws.proofs.ServerOutputs.{IsError, AtMostOne, CallsFit}
 use Rattle.nr_laws.proofs.ServerOutputs.AtMostOne.{NoError, OneError}
 use Rattle.nr_laws.proofs.Basics.{first-is, PartedTwo, parted-two}
@@ -113,7 +114,8 @@ pub record SaidAnswer (opened : LinkParameters) (es : List Event) (xs : List Out
   pub answer : Answer
   pub is_answer : answer_of_call (server_by opened earlier) call ≡ Some answer
   pub message : m ≡ answer_message call.xid (credit_word (server_by opened earlier)) (offer_of (server_by opened earlier) call.xid) answer
-  pub before : xs ≡ outs_of opened earlier ++ map ASegment (answer_segments (offer_of (server_by opened earlier) call.xid) answer)
+  -- what came before the last segment of its message: the Writes of the answer, after those of earlier outputs
+  pub before : parts_out xs ≡ parts_out (outs_of opened earlier) ++ parts_out (map ASegment (answer_segments (offer_of (server_by opened earlier) call.xid) answer))
 
 -- or it says that its offer doesn't hold the reply
 pub record SaidNoAnswer (opened : LinkParameters) (es : List Event) (m : List ℕ) : Type 0 where
@@ -166,20 +168,17 @@ said-later opened es e xs m (IsNoAnswer s) = IsNoAnswer (record {
 })
 
 abbrev pub EachSaid : LinkParameters → List Event → List Output → Type 0
-EachSaid opened es outs = (xs : List Output) (s : Segment) (ys : List Output) (m : List ℕ) → outs ≡ xs ++ ASegment s ∷ ys → message_in s ≡ m ∷ [] → Said opened es xs m
+EachSaid opened es outs = (xs : List Output) (s : Segment) (ys : List Output) (m : List ℕ) → outs ≡ xs ++ ASegment s ∷ ys → completed_by (begun_from None xs) s ≡ m ∷ [] → Said opened es xs m
 
-each-more : (opened : LinkParameters) (es : List Event) (e : Event) (outs more : List Output) → EachSaid opened es outs
-    → ((pre : List Output) (s : Segment) (post : List Output) (m : List ℕ) → more ≡ pre ++ ASegment s ∷ post → message_in s ≡ m ∷ [] → Said opened (es ++ e ∷ []) (outs ++ pre) m)
+each-more : (opened : LinkParameters) (es : List Event) (e : Event) (outs more : List Output) → begun_from None outs ≡ None → EachSaid opened es outs
+    → ((pre : List Output) (s : Segment) (post : List Output) (m : List ℕ) → more ≡ pre ++ ASegment s ∷ post → completed_by (begun_from None pre) s ≡ m ∷ [] → Said opened (es ++ e ∷ []) (outs ++ pre) m)
     → EachSaid opened (es ++ e ∷ []) (outs ++ more)
-each-more opened es e outs more old new xs s ys m is one = by (parted-two outs more xs (ASegment s) ys is)
+each-more opened es e outs more none old new xs s ys m is one = by (parted-two outs more xs (ASegment s) ys is)
   where
     by : PartedTwo outs more xs (ASegment s) ys → Said opened (es ++ e ∷ []) xs m
     by (InFirst rest same) = said-later opened es e xs m (old xs s rest m same one)
-    by (InSecond rest same then) = subst (λ (zs : List Output). Said opened (es ++ e ∷ []) zs m) (sym same) (new rest s ys m then one)
-
--- the messages of outputs, at one of them
-pub messages-at : (pre : List Output) (s : Segment) (post : List Output) (m : List ℕ) → message_in s ≡ m ∷ [] → messages (pre ++ ASegment s ∷ post) ≡ messages pre ++ m ∷ messages post
-messages-at pre s post m one = messages-append pre (ASegment s ∷ post) ∙ ap (λ (ms : List (List ℕ)). messages pre ++ (ms ++ messages post)) one
+    by (InSecond rest same then) = subst (λ (zs : List Output). Said opened (es ++ e ∷ []) zs m) (sym same)
+        (new rest s ys m then (ap (λ (b : Option (List ℕ)). completed_by b s) (sym (ap (λ (zs : List Output). begun_from None zs) same ∙ begun-append None outs rest ∙ ap (λ (b : Option (List ℕ)). begun_from b rest) none)) ∙ one))
 
 pub nothing-at : (ms a : List (List ℕ)) (m : List ℕ) (b : List (List ℕ)) → ms ≡ [] → ms ≡ a ++ m ∷ b → ⊥
 nothing-at ms a m b none e = by a (sym none ∙ e)
@@ -211,7 +210,7 @@ pub record ServerTells (opened : LinkParameters) (es : List Event) (place : ℕ)
   pub begun : IsBytes (begun_bytes r.state.received.begun)
   pub fit : CallsFit r.state.calls
   pub shape : Shape place r outs
-  pub one : AreOne outs
+  pub none_begun : begun_from None outs ≡ None
   pub said : EachSaid opened es outs
 
 pub greeted-more : (outs more : List Output) → Greeted outs → AreFrom Fpdu more → Greeted (outs ++ more)
@@ -233,8 +232,8 @@ pub record Grows (opened : LinkParameters) (es : List Event) (place : ℕ) (r : 
   pub begun : IsBytes (begun_bytes (next_end_state (server_rules opened) r e).state.received.begun)
   pub fit : CallsFit (next_end_state (server_rules opened) r e).state.calls
   pub shape : Shape (place_after place e) (next_end_state (server_rules opened) r e) (outs ++ more)
-  pub one : AreOne more
-  pub cause : (pre : List Output) (s : Segment) (post : List Output) (m : List ℕ) → more ≡ pre ++ ASegment s ∷ post → message_in s ≡ m ∷ [] → Said opened (es ++ e ∷ []) (outs ++ pre) m
+  pub none_begun : begun_from None more ≡ None
+  pub cause : (pre : List Output) (s : Segment) (post : List Output) (m : List ℕ) → more ≡ pre ++ ASegment s ∷ post → completed_by (begun_from None pre) s ≡ m ∷ [] → Said opened (es ++ e ∷ []) (outs ++ pre) m
 
 pub grown : (opened : LinkParameters) (es : List Event) (place : ℕ) (r : EndState ServerState) (outs : List Output) (e : Event) (more : List Output) → ServerTells opened es place r outs → Grows opened es place r outs e more
     → ServerTells opened (es ++ e ∷ []) (place_after place e) (next_end_state (server_rules opened) r e) (outs ++ outputs_for (server_rules opened) (server_says opened) server_final_outputs r e)
@@ -251,6 +250,6 @@ grown opened es place r outs e more t g =
       begun = g.begun;
       fit = g.fit;
       shape = g.shape;
-      one = one-append outs more t.one g.one;
-      said = each-more opened es e outs more t.said g.cause;
+      none_begun = begun-append None outs more ∙ ap (λ (b : Option (List ℕ)). begun_from b more) t.none_begun ∙ g.none_begun;
+      said = each-more opened es e outs more t.none_begun t.said g.cause;
     })

@@ -25,18 +25,22 @@ use Rattle.nr_reduce.specs.ServerFrames.{FrameEffect, frame_effect}
 use Rattle.nr_reduce.specs.Server.{server_rules, server_end, server_output, server_state_after, with_effect, received_by, offer_of, initial_server, with_own_hello}
 use Rattle.nr_reduce.specs.RunLaws.{server_by}
 use Rattle.nr_laws.proofs.Along.{IsNext, place_after, outputs_by, outputs_for}
-use Rattle.nr_laws.proofs.Outputs.{Output, bytes_of_all, server_says, server-said, one-sent, AnswerShort, message_outputs, server_final_outputs, server-final-said, final_outputs, effect_outputs, answer_outputs, answer_of_call, send_segment}
+use Rattle.nr_laws.proofs.Outputs.{Output, bytes_of_all, server_says, server-said, message_outputs, server_final_outputs, server-final-said, final_outputs, effect_outputs, answer_outputs, answer_of_call}
 use Rattle.nr_laws.proofs.Outputs.Output.{AHello, ASegment}
 use Rattle.nr_laws.proofs.Brought.{AreFrom}
 use Rattle.nr_laws.proofs.Words.{payload-bytes, payload_by}
-use Rattle.nr_laws.proofs.Messages.{message_in, messages, AreOne, messages-message, messages-tagged, messages-final, one-final}
-use Rattle.nr_laws.proofs.ClientRun.{parted, by_part}
+use Rattle.nr_laws.specs.MessageSegments.{message_segment}
+use Rattle.nr_laws.proofs.Completions.{completed_by, completed_from, begun_from, begun-append, completed-at, Completes, completes-none, completes-message, completes-tagged, completes-final}
+use Rattle.nr_laws.proofs.Memory.{Part, parts_out, out-append}
 use Rattle.nr_laws.proofs.ClientAlong.{final-words}
-use Rattle.nr_laws.proofs.ServerOutputs.{CallsFit, IsFine, fine-frame, AreFine, fine-effect, fine-answer, answer-is-short, tagged-answer, CallFits}
+use Rattle.nr_laws.proofs.ServerOutputs.{CallsFit, IsFine, fine-frame, AreFine, fine-effect, fine-answer, tagged-answer, CallFits}
 use Rattle.nr_laws.proofs.ServerEnds.{BigEnd, segment-ends, hello-goes}
-use Rattle.nr_laws.proofs.ServerAlong.{IsGoodExecution, ServerGood, Said, is_live, outs_of, at-most, nothing-at, messages-at, Greeted, greeted-more, Shape, ServerTells, Grows, grown}
+use Rattle.nr_laws.proofs.ServerAlong.{IsGoodExecution, ServerGood, Said, is_live, outs_of, at-most, nothing-at, Greeted, greeted-more, Shape, ServerTells, Grows, grown}
 use Rattle.nr_laws.proofs.ServerAlong.Said.{IsRefusal, IsAnswer, IsNoAnswer}
-use Rattle.nr_laws.proofs.Basics.{above-zero, each-kept}
+use Rattle.nr_laws.proofs.Basics.{above-zero, each-kept, PartedTwo, parted-two}
+use Rattle.nr_laws.proofs.Basics.PartedTwo.{InFirst, InSecond}
+use Rattle.std.specs.List.{range_with_len}
+use Rattle.nr_link.specs.Output.{segment_count}
 use Rattle.nr_laws.proofs.Bytes.{bytes_both}
 
 -- ---- The bytes that are received
@@ -78,20 +82,20 @@ server-final-words (ends.NoBuffer msn) h = final-words (ends.NoBuffer msn)
 server-final-words (ends.Terminated reason) h = tt
 server-final-words ends.Memory h = tt
 
-server-final-none : (end : Stop) → (messages (server_final_outputs end) ≡ []) × AreOne (server_final_outputs end)
+server-final-none : (end : Stop) → Completes (server_final_outputs end) []
 server-final-none (ends.Bad at reason) = by (eqb reason 2)
   where
-    by : (b : Bool) → (messages (cond b (AHello refusing_hello ∷ []) (final_outputs (ends.Bad at reason))) ≡ []) × AreOne (cond b (AHello refusing_hello ∷ []) (final_outputs (ends.Bad at reason)))
-    by true = (refl, tt)
-    by false = (messages-final (ends.Bad at reason), one-final (ends.Bad at reason))
-server-final-none (ends.Denied stag offset why) = (messages-final (ends.Denied stag offset why), one-final (ends.Denied stag offset why))
-server-final-none (ends.NoBuffer msn) = (messages-final (ends.NoBuffer msn), one-final (ends.NoBuffer msn))
-server-final-none (ends.Terminated reason) = (refl, tt)
-server-final-none ends.Memory = (refl, tt)
+    by : (b : Bool) → Completes (cond b (AHello refusing_hello ∷ []) (final_outputs (ends.Bad at reason))) []
+    by true = record { completed = refl; begun = refl }
+    by false = completes-final (ends.Bad at reason)
+server-final-none (ends.Denied stag offset why) = completes-final (ends.Denied stag offset why)
+server-final-none (ends.NoBuffer msn) = completes-final (ends.NoBuffer msn)
+server-final-none (ends.Terminated reason) = completes-none
+server-final-none ends.Memory = completes-none
 
 -- outputs without a message have no cause to give
-no-cause : {W : Type 0} (more pre : List Output) (s : Segment) (post : List Output) (m : List ℕ) → messages more ≡ [] → more ≡ pre ++ ASegment s ∷ post → message_in s ≡ m ∷ [] → W
-no-cause more pre s post m none is one = absurd (nothing-at (messages more) (messages pre) m (messages post) none (ap messages is ∙ messages-at pre s post m one))
+no-cause : {W : Type 0} (more pre : List Output) (s : Segment) (post : List Output) (m : List ℕ) → completed_from None more ≡ [] → more ≡ pre ++ ASegment s ∷ post → completed_by (begun_from None pre) s ≡ m ∷ [] → W
+no-cause more pre s post m none is one = absurd (nothing-at (completed_from None more) (completed_from None pre) m (completed_from None post) none (ap (λ (xs : List Output). completed_from None xs) is ∙ completed-at pre s post m one))
 
 -- ---- Frames
 
@@ -111,7 +115,7 @@ hello-step opened es place k outs f next first bytes t =
       begun = subst (λ (r : EndState ServerState). IsBytes (begun_bytes r.state.received.begun)) (sym same) t.begun;
       fit = subst (λ (r : EndState ServerState). CallsFit r.state.calls) (sym same) t.fit;
       shape = inr ((let g = next.1 in omega (arith, g)), ([], ap (λ (xs : List Output). xs ++ AHello (own_hello Responder) ∷ []) none, tt));
-      one = tt;
+      none_begun = refl;
       cause = λ pre s post m is one. no-cause (AHello (own_hello Responder) ∷ []) pre s post m refl is one;
     }
   where
@@ -139,8 +143,8 @@ segment-step opened es place k outs f s next behind is t (Some end) stops =
       begun = subst (λ (r : EndState ServerState). IsBytes (begun_bytes r.state.received.begun)) (sym same) t.begun;
       fit = subst (λ (r : EndState ServerState). CallsFit r.state.calls) (sym same) t.fit;
       shape = inr ((let g = next.1 in omega (arith, g)), greeted-more outs (server_final_outputs end) greeted words);
-      one = none.1;
-      cause = λ pre x post m e one. no-cause (server_final_outputs end) pre x post m none.0 e one;
+      none_begun = none.begun;
+      cause = λ pre x post m e one. no-cause (server_final_outputs end) pre x post m none.completed e one;
     }
 segment-step opened es place k outs f s next behind is t None stays =
     let rules = server_rules opened in
@@ -159,9 +163,10 @@ segment-step opened es place k outs f s next behind is t None stays =
           (subst (λ (x : Result Segment ℕ). IsBytes (begun_bytes (received_by k.received x).begun)) (sym is) (received-bytes k.received s t.begun payload));
       fit = subst (λ (r : EndState ServerState). CallsFit r.state.calls) (sym same) fine.fit;
       shape = inr ((let g = next.1 in omega (arith, g)), subst (λ (xs : List Output). Greeted (outs ++ xs)) (sym says) (greeted-more outs (effect_outputs k effect) greeted own.words));
-      one = subst AreOne (sym says) own.one;
+      none_begun = subst (λ (xs : List Output). begun_from None xs ≡ None) (sym says) own.completes.begun;
       cause = λ pre x post m e one. IsRefusal
-          (let all = at-most effect.errors fine.errors (messages pre) m (messages post) (sym own.messages_are ∙ ap messages (sym says) ∙ ap messages e ∙ messages-at pre x post m one) in
+          (let all = at-most effect.errors fine.errors (completed_from None pre) m (completed_from None post)
+          (sym own.completes.completed ∙ ap (λ (xs : List Output). completed_from None xs) (sym says ∙ e) ∙ completed-at pre x post m one) in
           let at : k ≡ server_by opened es = ap (λ (r : EndState ServerState). r.state) t.state in
           record {
             earlier = es;
@@ -198,38 +203,42 @@ executed-step opened es place k outs e good t o is =
       begun = t.begun;
       fit = each-kept CallFits (λ c. not (eqb c.xid e.xid)) k.calls t.fit;
       shape = inr (there.0, greeted-more outs (answer_outputs k e.xid (offer_of k e.xid) o) there.1 own.words);
-      one = own.one;
-      cause = λ pre s post m same one. by o is (answer-is-short k e limits t.fit o is) pre s post m same one (ap (λ (q : ServerState). answer_of_call q e) (sym at)) at (sym (ap (λ (r : EndState ServerState). r.ended) t.state)) t.outs_are;
+      none_begun = own.completes.begun;
+      cause = λ pre s post m same one. by o is pre s post m same one (ap (λ (q : ServerState). answer_of_call q e) (sym at)) at (sym (ap (λ (r : EndState ServerState). r.ended) t.state)) t.outs_are;
     }
   where
     first-is : (m : List ℕ) (x : List ℕ) (a b : List (List ℕ)) → x ∷ [] ≡ a ++ m ∷ b → m ≡ x
     first-is m x [] b e = (let s : x ≡ m = cc in sym s)
     first-is m x (y ∷ a) b e = absurd (let l = ap (λ (zs : List (List ℕ)). length zs) e in let n = length-append a (m ∷ b) in omega (arith, l, n))
 
-    head-segment : (a b : Segment) (xs ys : List Output) → ASegment a ∷ xs ≡ ASegment b ∷ ys → a ≡ b
-    head-segment a b xs ys e = cc
+    -- no segment of a message writes
+    no-writes : (msn : ℕ) (message : List ℕ) (is : List ℕ) → parts_out (map ASegment (map (message_segment msn message) is)) ≡ []
+    no-writes msn message [] = refl
+    no-writes msn message (i ∷ is) = no-writes msn message is
 
-    by : (o : Option Answer) → answer_of_call k e ≡ o → AnswerShort k e.xid (offer_of k e.xid) o → (pre : List Output) (s : Segment) (post : List Output) (m : List ℕ) → answer_outputs k e.xid (offer_of k e.xid) o ≡ pre ++ ASegment s ∷ post → message_in s ≡ m ∷ []
-        → answer_of_call (server_by opened es) e ≡ answer_of_call k e → k ≡ server_by opened es → is_live opened es → outs ≡ outs_of opened es → Said opened (es ++ CallExecuted e ∷ []) (outs ++ pre) m
-    by None is short pre s post m same one there at live outs_are = IsNoAnswer (record {
-      earlier = es;
-      call = e;
-      later = [];
-      is = refl;
-      live = live;
-      none = there ∙ is;
-      message = first-is m (chunk_error e.xid (credit_word k)) (messages pre) (messages post) (sym (messages-message (k.messages_queued + 1) (chunk_error e.xid (credit_word k)) short) ∙ ap messages same ∙ messages-at pre s post m one) ∙ ap (λ (q : ServerState). chunk_error e.xid (credit_word q)) at;
-    })
-    by (Some a) is short pre s post m same one there at live outs_are =
+    left-none : (xs ys : List Part) → xs ++ ys ≡ [] → xs ≡ []
+    left-none [] ys h = refl
+    left-none (x ∷ xs) ys h = absurd cc
+
+    front-writes : (msn : ℕ) (message : List ℕ) (front : List Output) (s : Segment) (post : List Output) → message_outputs msn message ≡ front ++ ASegment s ∷ post → parts_out front ≡ []
+    front-writes msn message front s post h =
+        left-none (parts_out front) (parts_out (ASegment s ∷ post))
+        (sym (out-append front (ASegment s ∷ post)) ∙ ap parts_out (sym h) ∙ no-writes msn message (range_with_len 0 (segment_count message)))
+
+    answered : (a : Answer) → answer_of_call k e ≡ Some a → (pre : List Output) (s : Segment) (post : List Output) (m : List ℕ) → completed_by (begun_from None pre) s ≡ m ∷ []
+        → answer_of_call (server_by opened es) e ≡ answer_of_call k e → k ≡ server_by opened es → is_live opened es → outs ≡ outs_of opened es
+        → PartedTwo (map ASegment (answer_segments (offer_of k e.xid) a)) (message_outputs (k.messages_queued + 1) (answer_message e.xid (credit_word k) (offer_of k e.xid) a)) pre (ASegment s) post
+        → Said opened (es ++ CallExecuted e ∷ []) (outs ++ pre) m
+    answered a is pre s post m one there at live outs_are (InFirst more within) =
+        no-cause (map ASegment (answer_segments (offer_of k e.xid) a)) pre s more m (completes-tagged (answer_segments (offer_of k e.xid) a) (tagged-answer (offer_of k e.xid) a)).completed within one
+    answered a is pre s post m one there at live outs_are (InSecond front is_pre then) =
         let offer = offer_of k e.xid in
-        let segments = map ASegment (answer_segments offer a) in
+        let segments : List Output = map ASegment (answer_segments offer a) in
         let message = answer_message e.xid (credit_word k) offer a in
-        let last : Output = ASegment (send_segment (k.messages_queued + 1) message) in
-        let none : messages segments ≡ [] = messages-tagged (answer_segments offer a) (tagged-answer offer a) in
-        by_part (parted segments last pre (ASegment s) post (ap (λ (os : List Output). segments ++ os) (sym (one-sent (k.messages_queued + 1) message short)) ∙ same))
-        (λ more within. no-cause segments pre s more m none within one)
-        (λ is_pre is_last.
-        let own : s ≡ send_segment (k.messages_queued + 1) message = head-segment s (send_segment (k.messages_queued + 1) message) [] [] (ap (λ (o : Output). o ∷ []) is_last) in
+        let quiet = completes-tagged (answer_segments offer a) (tagged-answer offer a) in
+        let begun : begun_from None pre ≡ begun_from None front = ap (λ (xs : List Output). begun_from None xs) is_pre ∙ begun-append None segments front ∙ ap (λ (b : Option (List ℕ)). begun_from b front) quiet.begun in
+        let own : completed_by (begun_from None front) s ≡ m ∷ [] = ap (λ (b : Option (List ℕ)). completed_by b s) (sym begun) ∙ one in
+        let none : parts_out front ≡ [] = front-writes (k.messages_queued + 1) message front s post then in
         IsAnswer (record {
           earlier = es;
           call = e;
@@ -238,9 +247,30 @@ executed-step opened es place k outs e good t o is =
           live = live;
           answer = a;
           is_answer = there ∙ is;
-          message = (let two : m ∷ [] ≡ message ∷ [] = sym one ∙ ap message_in own in let t : m ≡ message = cc in t) ∙ ap (λ (q : ServerState). answer_message e.xid (credit_word q) (offer_of q e.xid) a) at;
-          before = (λ i. outs_are i ++ sym is_pre i) ∙ ap (λ (q : ServerState). outs_of opened es ++ map ASegment (answer_segments (offer_of q e.xid) a)) at;
-        }))
+          message = first-is m message (completed_from None front) (completed_from None post)
+              (sym (completes-message (k.messages_queued + 1) message).completed ∙ ap (λ (xs : List Output). completed_from None xs) then ∙ completed-at front s post m own)
+              ∙ ap (λ (q : ServerState). answer_message e.xid (credit_word q) (offer_of q e.xid) a) at;
+          before = (λ i. parts_out (outs_are i ++ is_pre i)) ∙ out-append (outs_of opened es) (segments ++ front)
+              ∙ ap (λ (ps : List Part). parts_out (outs_of opened es) ++ ps) (out-append segments front ∙ ap (λ (ps : List Part). parts_out segments ++ ps) none ∙ append-nil (parts_out segments))
+              ∙ ap (λ (q : ServerState). parts_out (outs_of opened es) ++ parts_out (map ASegment (answer_segments (offer_of q e.xid) a))) at;
+        })
+
+    by : (o : Option Answer) → answer_of_call k e ≡ o → (pre : List Output) (s : Segment) (post : List Output) (m : List ℕ) → answer_outputs k e.xid (offer_of k e.xid) o ≡ pre ++ ASegment s ∷ post → completed_by (begun_from None pre) s ≡ m ∷ []
+        → answer_of_call (server_by opened es) e ≡ answer_of_call k e → k ≡ server_by opened es → is_live opened es → outs ≡ outs_of opened es → Said opened (es ++ CallExecuted e ∷ []) (outs ++ pre) m
+    by None is pre s post m same one there at live outs_are = IsNoAnswer (record {
+      earlier = es;
+      call = e;
+      later = [];
+      is = refl;
+      live = live;
+      none = there ∙ is;
+      message = first-is m (chunk_error e.xid (credit_word k)) (completed_from None pre) (completed_from None post)
+          (sym (completes-message (k.messages_queued + 1) (chunk_error e.xid (credit_word k))).completed ∙ ap (λ (xs : List Output). completed_from None xs) same ∙ completed-at pre s post m one)
+          ∙ ap (λ (q : ServerState). chunk_error e.xid (credit_word q)) at;
+    })
+    by (Some a) is pre s post m same one there at live outs_are =
+        answered a is pre s post m one there at live outs_are
+        (parted-two (map ASegment (answer_segments (offer_of k e.xid) a)) (message_outputs (k.messages_queued + 1) (answer_message e.xid (credit_word k) (offer_of k e.xid) a)) pre (ASegment s) post same)
 
 -- ---- Each event
 
@@ -261,19 +291,19 @@ server-step opened es place k None outs (FrameReceived f) next (inr h) t =
     grown opened es place (record { state = k; ended = None }) outs (FrameReceived f) (outputs_by (server_rules opened) (server_says opened) server_final_outputs k (FrameReceived f) (server_end opened k (FrameReceived f))) t
     (segment-step opened es place k outs f h.0 next h.1 h.2 t (server_end opened k (FrameReceived f)) refl)
 server-step opened es place k None outs (CallSubmitted p a) next good t = grown opened es place (record { state = k; ended = None }) outs (CallSubmitted p a) [] t
-    (record { outputs = refl; said = refl; begun = t.begun; fit = t.fit; shape = same-shape place (record { state = k; ended = None }) (record { state = k; ended = None }) outs refl refl t.shape; one = tt; cause = λ pre s post m is one. no-cause [] pre s post m refl is one })
+    (record { outputs = refl; said = refl; begun = t.begun; fit = t.fit; shape = same-shape place (record { state = k; ended = None }) (record { state = k; ended = None }) outs refl refl t.shape; none_begun = refl; cause = λ pre s post m is one. no-cause [] pre s post m refl is one })
 server-step opened es place k None outs (MemoryRevoked p xid) next good t = grown opened es place (record { state = k; ended = None }) outs (MemoryRevoked p xid) [] t
-    (record { outputs = refl; said = refl; begun = t.begun; fit = t.fit; shape = same-shape place (record { state = k; ended = None }) (record { state = k; ended = None }) outs refl refl t.shape; one = tt; cause = λ pre s post m is one. no-cause [] pre s post m refl is one })
+    (record { outputs = refl; said = refl; begun = t.begun; fit = t.fit; shape = same-shape place (record { state = k; ended = None }) (record { state = k; ended = None }) outs refl refl t.shape; none_begun = refl; cause = λ pre s post m is one. no-cause [] pre s post m refl is one })
 server-step opened es place k None outs (CallExecuted e) next good t =
     grown opened es place (record { state = k; ended = None }) outs (CallExecuted e) (answer_outputs k e.xid (offer_of k e.xid) (answer_of_call k e)) t (executed-step opened es place k outs e good t (answer_of_call k e) refl)
 server-step opened es place k None outs (QueueWritten taken) next good t = grown opened es place (record { state = k; ended = None }) outs (QueueWritten taken) [] t
-    (record { outputs = refl; said = refl; begun = t.begun; fit = t.fit; shape = same-shape place (record { state = k; ended = None }) (record { state = server_state_after opened k (QueueWritten taken); ended = None }) outs refl refl t.shape; one = tt; cause = λ pre s post m is one. no-cause [] pre s post m refl is one })
+    (record { outputs = refl; said = refl; begun = t.begun; fit = t.fit; shape = same-shape place (record { state = k; ended = None }) (record { state = server_state_after opened k (QueueWritten taken); ended = None }) outs refl refl t.shape; none_begun = refl; cause = λ pre s post m is one. no-cause [] pre s post m refl is one })
 server-step opened es place k (Some end) outs (FrameReceived f) next good t = grown opened es place (record { state = k; ended = Some end }) outs (FrameReceived f) [] t
-    (record { outputs = refl; said = refl; begun = t.begun; fit = t.fit; shape = ended-shape place f.end k end outs (let l = next.1 in omega (arith, l)) t.shape; one = tt; cause = λ pre s post m is one. no-cause [] pre s post m refl is one })
+    (record { outputs = refl; said = refl; begun = t.begun; fit = t.fit; shape = ended-shape place f.end k end outs (let l = next.1 in omega (arith, l)) t.shape; none_begun = refl; cause = λ pre s post m is one. no-cause [] pre s post m refl is one })
 server-step opened es place k (Some end) outs (CallSubmitted p a) next good t = grown opened es place (record { state = k; ended = Some end }) outs (CallSubmitted p a) [] t
-    (record { outputs = refl; said = refl; begun = t.begun; fit = t.fit; shape = ended-shape place place k end outs (omega arith) t.shape; one = tt; cause = λ pre s post m is one. no-cause [] pre s post m refl is one })
+    (record { outputs = refl; said = refl; begun = t.begun; fit = t.fit; shape = ended-shape place place k end outs (omega arith) t.shape; none_begun = refl; cause = λ pre s post m is one. no-cause [] pre s post m refl is one })
 server-step opened es place k (Some end) outs (MemoryRevoked p xid) next good t = grown opened es place (record { state = k; ended = Some end }) outs (MemoryRevoked p xid) [] t
-    (record { outputs = refl; said = refl; begun = t.begun; fit = t.fit; shape = ended-shape place place k end outs (omega arith) t.shape; one = tt; cause = λ pre s post m is one. no-cause [] pre s post m refl is one })
+    (record { outputs = refl; said = refl; begun = t.begun; fit = t.fit; shape = ended-shape place place k end outs (omega arith) t.shape; none_begun = refl; cause = λ pre s post m is one. no-cause [] pre s post m refl is one })
 server-step opened es place k (Some end) outs (CallExecuted e) next good t = absurd (let s = good.stays in cc)
 server-step opened es place k (Some end) outs (QueueWritten taken) next good t = grown opened es place (record { state = k; ended = Some end }) outs (QueueWritten taken) [] t
-    (record { outputs = refl; said = refl; begun = t.begun; fit = t.fit; shape = ended-shape place place k end outs (omega arith) t.shape; one = tt; cause = λ pre s post m is one. no-cause [] pre s post m refl is one })
+    (record { outputs = refl; said = refl; begun = t.begun; fit = t.fit; shape = ended-shape place place k end outs (omega arith) t.shape; none_begun = refl; cause = λ pre s post m is one. no-cause [] pre s post m refl is one })

@@ -1,5 +1,5 @@
 -- What the server of a link says along its events: each of its messages answers an executed call, or refuses a Send.
-use Rattle.std.proofs.Common.{◌≡◌, ℕ, ◌+◌, ◌*◌, ◌≤◌, Bool, true, false, cond, not, eqb, List, [], ◌∷◌, ◌++◌, length, map, Option, None, Some, Ok, refl, sym, ap, subst, ◌∙◌, arith, append-nil}
+use Rattle.std.proofs.Common.{◌≡◌, ℕ, ◌+◌, ◌*◌, ◌≤◌, Bool, true, false, cond, not, eqb, List, [], ◌∷◌, ◌++◌, length, map, Option, None, Some, Ok, refl, sym, subst, arith, append-nil}
 use Rattle.std.specs.List.{find, AllByRecursion}
 use Rattle.std.proofs.lemmas.List.Elements.{All-nil}
 use Rattle.nr_header.specs.WithinLimits.{ListsWithin}
@@ -28,7 +28,8 @@ use Rattle.nr_laws.proofs.Outputs.{Output, IsShort, AreShort, message_sends, req
 use Rattle.nr_laws.proofs.Outputs.Output.{ASegment}
 use Rattle.nr_laws.proofs.Brought.{AreFrom}
 use Rattle.nr_laws.proofs.Words.{message-words, request-word, chunk-words, from-append}
-use Rattle.nr_laws.proofs.Messages.{messages, AreOne, messages-message, one-message, messages-append, one-append, messages-sends, one-sends, messages-requests, one-requests, AreTagged, tagged-append, tagged-chunk, messages-tagged, one-tagged}
+use Rattle.nr_laws.proofs.Messages.{AreTagged, tagged-append, tagged-chunk}
+use Rattle.nr_laws.proofs.Completions.{Completes, completes-append, completes-message, completes-sends, completes-requests, completes-tagged}
 use Rattle.std.proofs.lemmas.List.{map-append}
 use Rattle.nr_laws.proofs.EachEffect.{MessageRule, ResponseRule, each-effect}
 use Rattle.nr_reduce.proofs.Sizes.{word_len}
@@ -122,8 +123,7 @@ requests-words msn (r ∷ reads) = (request-word msn r, requests-words (msn + 1)
 
 pub record AreFine (outs : List Output) (ms : List (List ℕ)) : Type 0 where
   pub words : AreFrom Fpdu outs
-  pub one : AreOne outs
-  pub messages_are : messages outs ≡ ms
+  pub completes : Completes outs ms
 
 pub fine-effect : (k : ServerState) (s : FrameEffect) → IsFine s → AreFine (effect_outputs k s) s.errors
 fine-effect k s h =
@@ -132,8 +132,8 @@ fine-effect k s h =
     let short = errors-short s.errors h.errors in
     record {
       words = from-append sends reads (sends-words (k.messages_queued + 1) s.errors short) (requests-words (k.requests_sent + 1) (newly_open_reads s));
-      one = one-append sends reads (one-sends (k.messages_queued + 1) s.errors short) (one-requests (k.requests_sent + 1) (newly_open_reads s));
-      messages_are = messages-append sends reads ∙ (λ i. messages-sends (k.messages_queued + 1) s.errors short i ++ messages-requests (k.requests_sent + 1) (newly_open_reads s) i) ∙ append-nil s.errors;
+      completes = subst (λ (ms : List (List ℕ)). Completes (sends ++ reads) ms) (append-nil s.errors)
+          (completes-append sends reads s.errors [] (completes-sends (k.messages_queued + 1) s.errors) (completes-requests (k.requests_sent + 1) (newly_open_reads s)));
     }
 
 pub tagged-answer : (offer : ChunkLists) (a : Answer) → AreTagged (answer_segments offer a)
@@ -207,7 +207,7 @@ pub fine-answer : (k : ServerState) (e : ExecutedCall) → ServerLimits k → Ca
 fine-answer k e l h None is =
     let m = chunk_error e.xid (credit_word k) in
     let short = chunk_error-short e.xid (credit_word k) in
-    record { words = message-words (k.messages_queued + 1) m short; one = one-message (k.messages_queued + 1) m short; messages_are = messages-message (k.messages_queued + 1) m short }
+    record { words = message-words (k.messages_queued + 1) m short; completes = completes-message (k.messages_queued + 1) m }
 fine-answer k e l h (Some a) is =
     let offer = offer_of k e.xid in
     let segments = map ASegment (answer_segments offer a) in
@@ -216,6 +216,5 @@ fine-answer k e l h (Some a) is =
     let short = answer-is-short k e l h (Some a) is in
     record {
       words = from-append segments send (answer-words offer a (found-fits e.xid k.calls h)) (message-words (k.messages_queued + 1) m short);
-      one = one-append segments send (one-tagged (answer_segments offer a) (tagged-answer offer a)) (one-message (k.messages_queued + 1) m short);
-      messages_are = messages-append segments send ∙ (λ i. messages-tagged (answer_segments offer a) (tagged-answer offer a) i ++ messages-message (k.messages_queued + 1) m short i);
+      completes = completes-append segments send [] (m ∷ []) (completes-tagged (answer_segments offer a) (tagged-answer offer a)) (completes-message (k.messages_queued + 1) m);
     }

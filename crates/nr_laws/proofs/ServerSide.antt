@@ -94,7 +94,7 @@ tells-nothing opened = record {
   begun = λ i. omega arith;
   fit = tt;
   shape = inl (refl, refl, refl, refl);
-  one = tt;
+  none_begun = refl;
   said = λ xs s ys m e one. absurd (none-at xs s ys e);
 }
   where

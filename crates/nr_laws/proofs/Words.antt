@@ -16,19 +16,14 @@ use Rattle.nr_link.specs.Limits.{segment_max}
 use Rattle.nr_link.specs.Output.{segment_count, segment_payload}
 use Rattle.nr_reduce.specs.ServerState.{PendingRead}
 use Rattle.nr_reduce.specs.Undone.{one_write, write_segments, chunk_segments}
-use Rattle.nr_laws.proofs.Outputs.{Output, IsShort, send_segment, message_outputs, one-sent, request_segment, terminate_segment, one_response, response_segments}
+use Rattle.nr_laws.specs.MessageSegments.{message_segment}
+use Rattle.nr_laws.proofs.SegmentedMessages.{segment-word}
+use Rattle.nr_laws.proofs.Outputs.{Output, IsShort, message_outputs, request_segment, terminate_segment, one_response, response_segments}
 use Rattle.nr_laws.proofs.Outputs.Output.{AHello, ASegment}
 use Rattle.nr_laws.proofs.Brought.{IsWord, AreFrom}
 use Rattle.nr_laws.proofs.WritableOffers.{SegmentsFit}
 
 -- ---- One segment
-
-pub send-word : (msn : ℕ) (message : List ℕ) → IsShort message → IsWord (send_segment msn message)
-send-word msn message short = record { supported = (refl, refl); fits = (omega arith, omega arith, omega arith, omega arith, omega arith); size = omega (arith, short) }
-
--- a short message with its cut
-pub message-words : (msn : ℕ) (message : List ℕ) → IsShort message → AreFrom Fpdu (message_outputs msn message)
-message-words msn message short = subst (λ (os : List Output). AreFrom Fpdu os) (sym (one-sent msn message short)) (send-word msn message short, tt)
 
 pub request-word : (msn : ℕ) (r : PendingRead) → IsWord (request_segment msn r)
 request-word msn r =
@@ -54,6 +49,10 @@ payload-small bytes i = (let l = length-take segment_max (drop (segment_max * i)
 range-words : (f : ℕ → Segment) (a n : ℕ) → ((i : ℕ) → a ≤ i → i < a + n → IsWord (f i)) → AreFrom Fpdu (map ASegment (map f (range_with_len a n)))
 range-words f a zero h = tt
 range-words f a (suc n) h = (h a (omega arith) (omega arith), range-words f (a + 1) n (λ i le lt. h i (omega (arith, le)) (omega (arith, lt))))
+
+-- a message with its cut
+pub message-words : (msn : ℕ) (message : List ℕ) → IsShort message → AreFrom Fpdu (message_outputs msn message)
+message-words msn message short = range-words (message_segment msn message) 0 (segment_count message) (λ i le lt. segment-word msn message i (omega (arith, lt)) (omega (arith, short)))
 
 -- a range of bytes ends at 2 ^ 64 or before
 abbrev pub RangeEnds : ℕ → ℕ → Type 0

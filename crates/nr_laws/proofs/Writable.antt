@@ -6,7 +6,7 @@ use Rattle.nr_xdr.proofs.WordBytes.{length-word, length-hyper}
 use Rattle.nr_wire.specs.declared.hello.Side.{Side}
 use Rattle.nr_wire.specs.declared.stream.Awaited.TheVariants.{Hello as HelloFrom, Fpdu}
 use Rattle.nr_wire.specs.Segment.{is_tagged_opcode}
-use Rattle.nr_link.specs.Limits.{segment_max}
+use Rattle.nr_link.specs.Limits.{segment_max, send_max}
 use Rattle.nr_link.specs.Output.{msn_word, segment_count}
 use Rattle.nr_laws.proofs.FrameContents.{FrameContent, numbered_segment, sends_in, requests_in, hellos_in, total_of, tagged_frame, tagged_frames}
 use Rattle.nr_laws.proofs.FrameContents.FrameContent.{HelloFrame, SendFrame, RequestFrame, TaggedFrame}
@@ -14,7 +14,7 @@ use Rattle.nr_laws.proofs.StreamFrames.{IsWritableAs, AreWritableFrom}
 
 abbrev pub IsWritable : FrameContent → Type 0
 IsWritable HelloFrame = ⊥
-IsWritable (SendFrame message) = length message ≤ segment_max
+IsWritable (SendFrame message) = length message ≤ send_max
 IsWritable (RequestFrame sink at size stag to) = Unit {0}
 IsWritable (TaggedFrame last opcode stag to payload) = (is_tagged_opcode opcode ≡ true) × (opcode < 16) × (stag < 2 ^ 32) × (to < 2 ^ 64) × (length payload ≤ segment_max)
 
