@@ -144,7 +144,7 @@ client-outputs opened link run typed asked =
       bytes = ap (λ (xs : List ℕ). own_hello Initiator ++ xs) t.bytes;
     }
 
--- as the limits are, each call is one Send in one segment
+-- each call is one segment, as the limits are
 pub record SaysSends (opened : LinkParameters) (link : ℕ) (run : List Mark) : Type 0 where
   pub count : (client opened link run).state.calls_accepted ≡ length (accepted_in (events link Initiator run))
   pub greeted : (client opened link run).ended ≡ None → HasHello (whole_bytes link Initiator run) (client opened link run).state.has_hello

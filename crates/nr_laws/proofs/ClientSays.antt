@@ -98,7 +98,7 @@ pub record ClientSays (opened : LinkParameters) (es : List Event) (place : ℕ) 
   pub count : k.calls_accepted ≡ length (accepted_in es)
   pub greeted : ended ≡ None → HasHello place k.has_hello
   pub waits : k.has_hello ≡ false → map as_submitted k.outstanding ≡ asked opened es
-  -- if each is one segment, the count of which nr_drill takes
+  -- if each of its messages fits one segment, its Send segments carry them
   pub said : FitsSegment → messages outs ≡ cond k.has_hello (map (message_of_call opened) (asked opened es)) []
   pub words : AreFrom Fpdu outs
   pub completes : Completes outs (cond k.has_hello (map (message_of_call opened) (asked opened es)) [])
