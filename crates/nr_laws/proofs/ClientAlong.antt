@@ -23,7 +23,7 @@ use Rattle.nr_reduce.specs.Client.{client_rules, client_end, client_state_after,
 use Rattle.nr_reduce.specs.RunLaws.{outstanding_from, as_submitted}
 use Rattle.nr_reduce.proofs.Sizes.{message_size}
 use Rattle.nr_laws.proofs.Along.{IsNext, place_after, outputs_by, outputs_in}
-use Rattle.nr_laws.proofs.Outputs.{Output, IsShort, CallsShort, message_of_call, message_outputs, call_sends, client_says, response_outputs, response_segments, final_outputs, terminate_segment, CallShort}
+use Rattle.nr_laws.proofs.Outputs.{Output, IsShort, FitsSegment, CallsShort, message_of_call, message_outputs, call_sends, client_says, response_outputs, response_segments, final_outputs, terminate_segment, CallShort}
 use Rattle.nr_laws.proofs.Outputs.Output.{ASegment}
 use Rattle.nr_laws.proofs.Brought.{AreFrom}
 use Rattle.nr_laws.proofs.Words.{message-words, terminate-word, from-append, payload-bytes}
@@ -107,8 +107,8 @@ quiet-step opened es e place later k after ended now outs more none s q p =
       greeted = s.greeted;
       waits = λ no_hello. (let was : k.has_hello ≡ false = sym s.hello ∙ no_hello in
           s.waits was ∙ p.waits was ∙ ap (λ (xs : List AcceptedCall). outstanding_from (start opened) opened.first_stag xs) (sym same));
-      said = messages-append outs more ∙ ap (λ (ms : List (List ℕ)). messages outs ++ ms) q.messages_are ∙ append-nil (messages outs)
-          ∙ p.said ∙ (λ i. cond (sym s.hello i) (map (message_of_call opened) (outstanding_from (start opened) opened.first_stag (sym same i))) []);
+      said = λ fits. messages-append outs more ∙ ap (λ (ms : List (List ℕ)). messages outs ++ ms) q.messages_are ∙ append-nil (messages outs)
+          ∙ p.said fits ∙ (λ i. cond (sym s.hello i) (map (message_of_call opened) (outstanding_from (start opened) opened.first_stag (sym same i))) []);
       words = from-append outs more p.words q.words;
       completes = subst (λ (ms : List (List ℕ)). Completes (outs ++ more) ms)
           (append-nil (cond k.has_hello (map (message_of_call opened) (asked opened es)) [])
@@ -166,9 +166,9 @@ hello-step opened es place k outs f first at goes p =
       count = p.count ∙ ap (λ (xs : List AcceptedCall). length xs) (sym same);
       greeted = λ e. inr (omega (arith, goes), refl);
       waits = λ e. absurd cc;
-      said = messages-append outs (call_sends opened 1 k.outstanding)
-          ∙ ap (λ (ms : List (List ℕ)). ms ++ messages (call_sends opened 1 k.outstanding)) (p.said ∙ ap (λ (b : Bool). cond b (map (message_of_call opened) (asked opened es)) []) no_hello)
-          ∙ messages-calls opened 1 k.outstanding p.short
+      said = λ fits. messages-append outs (call_sends opened 1 k.outstanding)
+          ∙ ap (λ (ms : List (List ℕ)). ms ++ messages (call_sends opened 1 k.outstanding)) (p.said fits ∙ ap (λ (b : Bool). cond b (map (message_of_call opened) (asked opened es)) []) no_hello)
+          ∙ messages-calls fits opened 1 k.outstanding p.short
           ∙ sym (submitted-messages opened k.outstanding)
           ∙ ap (λ (os : List OutstandingCall). map (message_of_call opened) os) (p.waits no_hello)
           ∙ ap (λ (xs : List AcceptedCall). map (message_of_call opened) (outstanding_from (start opened) opened.first_stag xs)) (sym same);
@@ -211,7 +211,7 @@ call-step opened es place p k outs a plan planned l h =
       count = (let c = h.count in let l = ap (λ (xs : List AcceptedCall). length xs) more in let n = length-append before (a ∷ []) in omega (arith, c, l, n));
       greeted = h.greeted;
       waits = λ no_hello. submitted-append k.outstanding (own ∷ []) ∙ ap (λ (os : List OutstandingCall). os ++ own ∷ []) (h.waits no_hello) ∙ sym all;
-      said = messages-append outs (says k.has_hello) ∙ by k.has_hello refl short own all;
+      said = λ fits. messages-append outs (says k.has_hello) ∙ by k.has_hello refl fits short own all;
       words = from-append outs (says k.has_hello) h.words (words_by k.has_hello short);
       completes = completes_by k.has_hello refl all;
     }
@@ -233,14 +233,14 @@ call-step opened es place p k outs a plan planned l h =
     completes_by false is all =
         completes-append outs [] [] [] (subst (λ (c : Bool). Completes outs (cond c (map (message_of_call opened) (asked opened es)) [])) is h.completes) completes-none
 
-    by : (b : Bool) → k.has_hello ≡ b → IsShort (message_of_call opened (outstanding_of k a)) → (own : OutstandingCall) → asked opened (es ++ CallSubmitted p a ∷ []) ≡ asked opened es ++ outstanding_of k a ∷ []
+    by : (b : Bool) → k.has_hello ≡ b → FitsSegment → IsShort (message_of_call opened (outstanding_of k a)) → (own : OutstandingCall) → asked opened (es ++ CallSubmitted p a ∷ []) ≡ asked opened es ++ outstanding_of k a ∷ []
         → messages outs ++ messages (says b) ≡ cond b (map (message_of_call opened) (asked opened (es ++ CallSubmitted p a ∷ []))) []
-    by true is s own all =
-        ap (λ (ms : List (List ℕ)). ms ++ messages (says true)) (h.said ∙ ap (λ (b : Bool). cond b (map (message_of_call opened) (asked opened es)) []) is)
-        ∙ ap (λ (ms : List (List ℕ)). map (message_of_call opened) (asked opened es) ++ ms) (messages-message (k.calls_accepted + 1) (message_of_call opened (outstanding_of k a)) s)
+    by true is fits s own all =
+        ap (λ (ms : List (List ℕ)). ms ++ messages (says true)) (h.said fits ∙ ap (λ (b : Bool). cond b (map (message_of_call opened) (asked opened es)) []) is)
+        ∙ ap (λ (ms : List (List ℕ)). map (message_of_call opened) (asked opened es) ++ ms) (messages-message (k.calls_accepted + 1) (message_of_call opened (outstanding_of k a)) (fits (message_of_call opened (outstanding_of k a)) s))
         ∙ sym (map-more opened (asked opened es) (outstanding_of k a ∷ []))
         ∙ ap (λ (os : List OutstandingCall). map (message_of_call opened) os) (sym all)
-    by false is s own all = append-nil (messages outs) ∙ h.said ∙ ap (λ (b : Bool). cond b (map (message_of_call opened) (asked opened es)) []) is
+    by false is fits s own all = append-nil (messages outs) ∙ h.said fits ∙ ap (λ (b : Bool). cond b (map (message_of_call opened) (asked opened es)) []) is
 
 -- ---- Each event
 

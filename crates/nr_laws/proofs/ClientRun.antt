@@ -27,10 +27,13 @@ use Rattle.nr_reduce.specs.Asked.{AskedMark, AskedSoFar, IsAccepted}
 use Rattle.nr_reduce.proofs.Steps.{events-one, output_for_all-append, end_state_after-append}
 use Rattle.nr_reduce.proofs.Standing.{AtEachMark-more}
 use Rattle.nr_laws.specs.Typed.{TypedMark, IsTyped}
+use Rattle.nr_wire.specs.declared.stream.Awaited.TheVariants.{Fpdu}
+use Rattle.nr_laws.proofs.Brought.{AreFrom}
+use Rattle.nr_laws.proofs.Messages.{messages}
 use Rattle.nr_laws.proofs.Completions.{completed_from, completes-none}
 use Rattle.nr_laws.proofs.Along.{IsNext, Goes, goes-from, goes-nothing, FirstGood, along, outputs_by, outputs_in, outputs_for, outputs_all, place_after, places_after, whole_bytes}
-use Rattle.nr_laws.proofs.Outputs.{Output, bytes_of_all, bytes-append, message_of_call, client_says, client-said, final_outputs, final-said}
-use Rattle.nr_laws.proofs.ClientSays.{ClientGood, accepted_in, accepted-append, asked, ClientSays, Says}
+use Rattle.nr_laws.proofs.Outputs.{Output, fits-segment, bytes_of_all, bytes-append, message_of_call, client_says, client-said, final_outputs, final-said}
+use Rattle.nr_laws.proofs.ClientSays.{ClientGood, accepted_in, accepted-append, asked, HasHello, ClientSays, Says}
 use Rattle.nr_laws.proofs.ClientAlong.{client-step}
 use Rattle.nr_reduce.proofs.Waiting.{start, stag_behind, from-append}
 use Rattle.nr_laws.proofs.Basics.{first-is}
@@ -120,7 +123,7 @@ tells-step opened es place r outs e next good t =
 
 tells-nothing : (opened : LinkParameters) → Tells opened [] 0 (initial_client opened) []
 tells-nothing opened = record {
-  says = record { short = tt; stag = refl; count = refl; greeted = λ e. inl (refl, refl); waits = λ e. refl; said = refl; words = tt; completes = completes-none };
+  says = record { short = tt; stag = refl; count = refl; greeted = λ e. inl (refl, refl); waits = λ e. refl; said = λ fits. refl; words = tt; completes = completes-none };
   state = refl;
   bytes = refl;
 }
@@ -129,9 +132,9 @@ pub record ClientTells (opened : LinkParameters) (link : ℕ) (run : List Mark) 
   pub says : ClientSays opened (events link Initiator run) (whole_bytes link Initiator run) (client opened link run).state (client opened link run).ended (client_outs opened link run)
   pub bytes : output_due opened link Initiator run ≡ own_hello Initiator ++ bytes_of_all (client_outs opened link run)
 
-pub client-tells : (opened : LinkParameters) (link : ℕ) (run : List Mark) → IsTyped run → AskedSoFar opened link run → ClientTells opened link run
+pub client-outputs : (opened : LinkParameters) (link : ℕ) (run : List Mark) → IsTyped run → AskedSoFar opened link run → ClientTells opened link run
 unfolding client output_due client_outs
-client-tells opened link run typed asked =
+client-outputs opened link run typed asked =
     let g = client-goes opened link run typed asked in
     let es = events link Initiator run in
     let t : Tells opened es (places_after 0 es) (end_state_after (client_rules opened) (initial_client opened) es) (client_outs opened link run) =
@@ -139,6 +142,25 @@ client-tells opened link run typed asked =
     record {
       says = subst (λ (p : ℕ). ClientSays opened es p (client opened link run).state (client opened link run).ended (client_outs opened link run)) g.place t.says;
       bytes = ap (λ (xs : List ℕ). own_hello Initiator ++ xs) t.bytes;
+    }
+
+-- each call is one segment, as the limits are
+pub record SaysSends (opened : LinkParameters) (link : ℕ) (run : List Mark) : Type 0 where
+  pub count : (client opened link run).state.calls_accepted ≡ length (accepted_in (events link Initiator run))
+  pub greeted : (client opened link run).ended ≡ None → HasHello (whole_bytes link Initiator run) (client opened link run).state.has_hello
+  pub said : messages (client_outs opened link run) ≡ cond (client opened link run).state.has_hello (map (message_of_call opened) (asked opened (events link Initiator run))) []
+  pub words : AreFrom Fpdu (client_outs opened link run)
+
+pub record TellsSends (opened : LinkParameters) (link : ℕ) (run : List Mark) : Type 0 where
+  pub says : SaysSends opened link run
+  pub bytes : output_due opened link Initiator run ≡ own_hello Initiator ++ bytes_of_all (client_outs opened link run)
+
+pub client-tells : (opened : LinkParameters) (link : ℕ) (run : List Mark) → IsTyped run → AskedSoFar opened link run → TellsSends opened link run
+client-tells opened link run typed asked =
+    let t = client-outputs opened link run typed asked in
+    record {
+      says = record { count = t.says.count; greeted = t.says.greeted; said = t.says.said fits-segment; words = t.says.words };
+      bytes = t.bytes;
     }
 
 -- ---- Each of its messages is that of an accepted call
@@ -298,7 +320,7 @@ each-from opened link before [] typed asked all each = subst (λ (b : List Mark)
 each-from opened link before (mark ∷ run) typed asked all each =
     subst (λ (b : List Mark). EachSubmitted opened link b) (append_assoc before (mark ∷ []) run)
     (each-from opened link (before ++ mark ∷ []) run (AtEachMark-more TypedMark [] before mark typed all.0.1) (AtEachMark-more (AskedMark IsPrefixOf opened link) [] before mark asked all.0.0) all.1
-    (each-mark opened link before mark (client-tells opened link before typed asked) all.0.0 each))
+    (each-mark opened link before mark (client-outputs opened link before typed asked) all.0.0 each))
 
 none-before : {X : Type 0} (pre : List X) (m : X) (post : List X) → [] ≡ pre ++ m ∷ post → ⊥
 none-before [] m post e = absurd cc
@@ -335,7 +357,7 @@ mapped-at opened (o ∷ os) (p ∷ pre) m post e =
 pub message-submitted : (opened : LinkParameters) (link : ℕ) (run : List Mark) → IsTyped run → AskedSoFar opened link run → (pre : List (List ℕ)) (m : List ℕ) (post : List (List ℕ)) → completed_from None (client_outs opened link run) ≡ pre ++ m ∷ post
     → WasSubmitted opened link run (length pre) m
 message-submitted opened link run typed asked pre m post e =
-    let t = client-tells opened link run typed asked in
+    let t = client-outputs opened link run typed asked in
     let at = mapped-at opened (asked_calls opened link run) pre m post (if-messages (client opened link run).state.has_hello (map (message_of_call opened) (asked_calls opened link run)) pre m post (sym t.says.completes.completed ∙ e)) in
     let w = each-submitted opened link run typed asked at.front at.own at.back at.is in
     record {

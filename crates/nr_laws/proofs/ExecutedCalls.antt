@@ -28,7 +28,7 @@ use Rattle.nr_laws.proofs.Outputs.Output.{AHello, ASegment}
 use Rattle.nr_laws.proofs.Brought.{Brings, Receives, receives}
 use Rattle.nr_laws.proofs.Completions.{completed_by, completed_from, begun_from, completed-at}
 use Rattle.nr_laws.proofs.Hears.{hears, server-receives, brings-at, own-segment, completed-message, live-first}
-use Rattle.nr_laws.proofs.ClientRun.{client-tells, client_outs, WasSubmitted, message-submitted}
+use Rattle.nr_laws.proofs.ClientRun.{client-outputs, client_outs, WasSubmitted, message-submitted}
 use Rattle.nr_laws.proofs.HeaderXid.{header-xid, call-xid}
 
 -- ---- What the server has of the client's output
@@ -36,7 +36,7 @@ use Rattle.nr_laws.proofs.HeaderXid.{header-xid, call-xid}
 pub server-receives-of : (opened : LinkParameters) (link : ℕ) (run : List Mark) → IsTyped run → AskedSoFar opened link run → Matched link run
     → Receives link Responder run (AHello (own_hello Initiator) ∷ client_outs opened link run)
 server-receives-of opened link run typed asked matched =
-    let t = client-tells opened link run typed asked in
+    let t = client-outputs opened link run typed asked in
     receives link Responder run (AHello (own_hello Initiator) ∷ client_outs opened link run) (refl, t.says.words)
     (subst (λ (xs : List ℕ). IsPrefixOf (bytes_received link Responder run) xs) t.bytes (flows_up opened link run matched asked))
 
@@ -49,7 +49,7 @@ pub frame-message : (opened : LinkParameters) (link : ℕ) (run : List Mark) →
     → WasSubmitted opened link run (server_by opened es).received.sends message
 frame-message opened link run typed asked matched es f rest s message all behind is whole live =
     let r = server-receives-of opened link run typed asked matched in
-    let t = client-tells opened link run typed asked in
+    let t = client-outputs opened link run typed asked in
     let at = brings-at es f rest r.came (subst (λ (xs : List Event). Brings xs r.came) all r.brings) in
     let counted = hears (server_rules opened) (λ (k : ServerState). k.received) (server-receives opened) (initial_server opened) es at.earlier at.brings live in
     let segment : at.own ≡ ASegment s = own-segment at.own f s at.brought behind is in

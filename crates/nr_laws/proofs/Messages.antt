@@ -1,5 +1,5 @@
 -- The messages among what a side writes.
-use Rattle.std.proofs.Common.{◌≡◌, ℕ, ◌+◌, Bool, true, false, cond, List, [], ◌∷◌, ◌++◌, length, map, refl, ap, ◌∙◌}
+use Rattle.std.proofs.Common.{◌≡◌, ℕ, ◌≤◌, ◌+◌, Bool, true, false, cond, List, [], ◌∷◌, ◌++◌, length, map, refl, ap, ◌∙◌}
 use Rattle.nr_wire.specs.Segment.{Segment}
 use Rattle.nr_wire.specs.Segment.Segment.{Tagged, Untagged}
 use Rattle.nr_link.specs.declared.end.End.{End as Stop}
@@ -13,7 +13,8 @@ use Rattle.std.proofs.Common.{min, eqb, take, drop}
 use Rattle.nr_reduce.specs.declared.mark.LinkParameters.{LinkParameters}
 use Rattle.nr_reduce.specs.ClientState.{OutstandingCall}
 use Rattle.nr_reduce.specs.Undone.{one_write, write_segments, chunk_segments}
-use Rattle.nr_laws.proofs.Outputs.{Output, IsShort, CallsShort, AreShort, send_segment, message_outputs, one-sent, call_sends, message_sends, message_of_call, one_response, response_segments, request_outputs, final_outputs, server_final_outputs}
+use Rattle.nr_link.specs.Limits.{segment_max}
+use Rattle.nr_laws.proofs.Outputs.{Output, CallsShort, FitsSegment, AreShort, send_segment, message_outputs, one-sent, call_sends, message_sends, message_of_call, one_response, response_segments, request_outputs, final_outputs, server_final_outputs}
 use Rattle.nr_laws.proofs.Outputs.Output.{AHello, ASegment}
 
 abbrev pub message_in : Segment → List (List ℕ)
@@ -38,15 +39,15 @@ messages-append (ASegment s ∷ xs) ys = by s (messages-append xs ys)
     by (Tagged last opcode stag to payload) e = e
     by (Untagged last opcode w queue msn offset payload) e = one (is_send opcode) payload (messages (xs ++ ys)) e
 
--- a short message with its cut
-pub messages-message : (msn : ℕ) (message : List ℕ) → IsShort message → messages (message_outputs msn message) ≡ message ∷ []
+-- a message that fits one segment
+pub messages-message : (msn : ℕ) (message : List ℕ) → length message ≤ segment_max → messages (message_outputs msn message) ≡ message ∷ []
 messages-message msn message short = ap messages (one-sent msn message short)
 
-pub messages-calls : (opened : LinkParameters) (msn : ℕ) (os : List OutstandingCall) → CallsShort opened os → messages (call_sends opened msn os) ≡ map (message_of_call opened) os
-messages-calls opened msn [] h = refl
-messages-calls opened msn (o ∷ os) h =
+pub messages-calls : FitsSegment → (opened : LinkParameters) (msn : ℕ) (os : List OutstandingCall) → CallsShort opened os → messages (call_sends opened msn os) ≡ map (message_of_call opened) os
+messages-calls fits opened msn [] h = refl
+messages-calls fits opened msn (o ∷ os) h =
     messages-append (message_outputs msn (message_of_call opened o)) (call_sends opened (msn + 1) os)
-    ∙ (λ i. messages-message msn (message_of_call opened o) h.0 i ++ messages-calls opened (msn + 1) os h.1 i)
+    ∙ (λ i. messages-message msn (message_of_call opened o) (fits (message_of_call opened o) h.0) i ++ messages-calls fits opened (msn + 1) os h.1 i)
 
 -- tagged segments bring no message
 abbrev pub AreTagged : List Segment → Type 0

@@ -59,8 +59,11 @@ send_segment msn message = Untagged true OPCODE_SEND 0 QUEUE_SEND (msn_word msn)
 abbrev pub IsShort : List ℕ → Type 0
 IsShort message = length message ≤ send_max
 
--- so it fits one segment
-fits-segment : (message : List ℕ) → IsShort message → length message ≤ segment_max
+-- as the limits are, it fits one segment
+abbrev pub FitsSegment : Type 0
+FitsSegment = (message : List ℕ) → IsShort message → length message ≤ segment_max
+
+pub fits-segment : FitsSegment
 fits-segment message short = omega (arith, short)
 
 pub send-one : (msn : ℕ) (message : List ℕ) → IsShort message → send msn message ≡ encoding (send_segment msn message)
@@ -86,13 +89,12 @@ send-said msn message =
     flat-map (message_segment msn message) (range_with_len 0 (segment_count message))
     ∙ sym (bytes-segments (message_segments msn message))
 
--- a short message is one segment
-pub one-sent : (msn : ℕ) (message : List ℕ) → IsShort message → message_outputs msn message ≡ ASegment (send_segment msn message) ∷ []
+-- a message that fits one segment is one
+pub one-sent : (msn : ℕ) (message : List ℕ) → length message ≤ segment_max → message_outputs msn message ≡ ASegment (send_segment msn message) ∷ []
 one-sent msn message le =
-    let fits = fits-segment message le in
-    let one : segment_count message ≡ 1 = omega (arith, fits) in
+    let one : segment_count message ≡ 1 = omega (arith, le) in
     (λ j. map ASegment (map (λ i. Untagged (eqb (i + 1) (one j)) OPCODE_SEND 0 QUEUE_SEND (msn_word msn) (segment_max * i) (segment_payload message i)) (range_with_len 0 (one j))))
-    ∙ ap (λ (xs : List ℕ). ASegment (Untagged true OPCODE_SEND 0 QUEUE_SEND (msn_word msn) 0 xs) ∷ []) (take_all segment_max message (fits-segment message le))
+    ∙ ap (λ (xs : List ℕ). ASegment (Untagged true OPCODE_SEND 0 QUEUE_SEND (msn_word msn) 0 xs) ∷ []) (take_all segment_max message le)
 
 abbrev pub message_of_call : LinkParameters → OutstandingCall → List ℕ
 message_of_call opened o = call_message o.xid opened.wished o.stag o.plan
