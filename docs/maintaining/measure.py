@@ -1,6 +1,6 @@
 """Measures the processor time of proofs, edits and tests, crate by crate, and adds rows to measured.csv beside it.
 
-    python3 docs/maintaining/measure.py [--what proof edits tests] [--note TEXT] [CRATE ..]
+    python3 docs/maintaining/measure.py [--what proof|edits|tests ..] [--note TEXT] [CRATE ..]
 
 Each row has the commit, the date (UTC), the processors, the load when it began, the crate, what was measured, the seconds of
 processor time of the command and its children, and whether it passed. Proofs are taken from nothing (`rt verdict`), edits by
@@ -60,13 +60,13 @@ def add(rows: list[list[str]]) -> None:
 def main(argv: list[str]) -> int:
     p = argparse.ArgumentParser(description='Measures proofs, edits and tests, and adds rows to measured.csv.')
     p.add_argument('crates', nargs='*', metavar='CRATE', help='the crates, by default all')
-    p.add_argument('--what', nargs='+', choices=('proof', 'edits', 'tests'), default=['proof', 'edits', 'tests'])
+    p.add_argument('--what', action='append', choices=('proof', 'edits', 'tests'), help='may be given several times; default: all')
     p.add_argument('--note', default='', help='what else was at work on the machine')
     a = p.parse_args(argv)
     commit = subprocess.run(['git', 'rev-parse', '--short', 'HEAD'], cwd=ROOT, stdout=subprocess.PIPE, text=True, check=True).stdout.strip()
     all_passed = True
     for crate in a.crates or crates():
-        for what in a.what:
+        for what in a.what or ('proof', 'edits', 'tests'):
             if not applies(what, crate):
                 continue
             date, load = datetime.datetime.now(datetime.timezone.utc).strftime('%Y-%m-%dT%H:%MZ'), os.getloadavg()[0]
