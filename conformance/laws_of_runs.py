@@ -26,14 +26,14 @@ PLAIN = os.path.join(HERE, 'plain.json.gz')
 Finding = tuple[str, bool, tuple[str, ...], str, int]
 
 USES = [
-    'use Rattle.nr_reduce.specs.ClientState.{call_payload, plan_for, memory_at, responses_owed}',
+    'use Rattle.nr_reduce.specs.ClientState.{call_payload, plan_for, client_memory_at, responses_owed}',
     'use Rattle.nr_reduce.specs.Written.{ends_left, ends_waiting}',
     'use Rattle.nr_reduce.specs.DueItems.{items_due, hello_due}',
     'use Rattle.nr_link.specs.OutputItem.{items_encoding, is_send_item, is_response_item, items_written, items_left}',
     'use Rattle.nr_reduce.specs.Plans.{lists_of, call_message, buffers}',
     'use Rattle.nr_header.specs.Reading.{header_of}',
     'use Rattle.nr_reduce.specs.RunLaws.{known_stream}',
-    'use Rattle.nr_reduce.specs.Undone.{lists_by, inline_by}',
+    'use Rattle.nr_reduce.specs.ChunkBytes.{lists_by, inline_by}',
     'use Rattle.nr_plain.specs.Added.{entries_of_call}',
     'use Rattle.nr_reduce.specs.Chunks.{is_read_chunk_of_item, call_conveyed, read_bytes, whole, some_bytes}',
     'use Rattle.nr_laws.specs.AnswersConvey.{replied_by, stream_brought, moved_brought}',
@@ -91,7 +91,7 @@ ROLES: dict[str, str] = {
     'output': 'λ opened state event. output_for (client_rules opened) state event',
     'request': 'λ segment. read_request_of segment',
     'response': 'λ sink to bytes. read_response sink to bytes',
-    'memory': 'λ state place stag. memory_at state place stag',
+    'memory': 'λ state place stag. client_memory_at state place stag',
     'tagged': 'λ frame segment. tagged_access frame segment',
     'chunks': 'λ state call. buffers state.stag (outstanding_of state call).plan',
     'waits': 'λ state ended. first_ready state.ready ended',

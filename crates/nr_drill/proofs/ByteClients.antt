@@ -4,7 +4,7 @@ use Rattle.std.specs.List.{AllByRecursion}
 use Rattle.std.proofs.Common.{◌≡◌, ℕ, ◌+◌, Bool, true, false, cond, eqb, ltb, leb, List, [], ◌∷◌, ◌++◌, length, map, take, drop, replicate, Option, None, Some, Result, Ok, Err, refl, ◌&&◌}
 use Rattle.nr_xdr.specs.Item.{IsBytes}
 use Rattle.nr_xdr.specs.Fields.{word_at}
-use Rattle.nr_xdr.proofs.WordBytes.{IsBytes-take, IsBytes-drop}
+use Rattle.nr_xdr.proofs.WordBytes.{IsBytes_take, IsBytes_drop}
 use Rattle.nr_wire.specs.declared.hello.Side.TheVariants.{Initiator}
 use Rattle.nr_wire.specs.Segment.{Segment}
 use Rattle.nr_wire.specs.Segment.Segment.{Tagged, Untagged}
@@ -22,116 +22,116 @@ use Rattle.nr_reduce.specs.declared.mark.Mark.{Mark}
 use Rattle.nr_reduce.specs.declared.mark.LinkParameters.{LinkParameters}
 use Rattle.nr_reduce.specs.declared.outline.Plan.{Plan}
 use Rattle.nr_reduce.specs.History.{AcceptedCall}
-use Rattle.nr_reduce.specs.Events.{Event, events}
-use Rattle.nr_reduce.specs.Events.Event.{FrameReceived, CallSubmitted, MemoryRevoked, CallExecuted, QueueWritten}
+use Rattle.nr_reduce.specs.Events.{RunEvent, events}
+use Rattle.nr_reduce.specs.Events.RunEvent.{FrameReceived, CallSubmitted, MemoryRevoked, CallExecuted, QueueWritten}
 use Rattle.nr_reduce.specs.EndRules.{output_for_all}
 use Rattle.nr_reduce.specs.Items.{reducible_item}
 use Rattle.nr_reduce.specs.OfferedRegions.{region_grants}
 use Rattle.nr_reduce.specs.Plans.{TooLarge, Buffer, plan_of, plan_in_form, inline_plan, given_within, given_total, within, plan_size, reduced_plan, reduced_plan_by, long_plan, offering, auto_offer, auto_plan, write_offer, given_read, buffer_if, buffers, has_segment, total, read_stag, write_stag, reply_stag}
-use Rattle.nr_reduce.specs.ClientState.{ClientState, OutstandingCall, call_payload, plan_for, memory_at}
+use Rattle.nr_reduce.specs.ClientState.{ClientState, OutstandingCall, call_payload, plan_for, client_memory_at}
 use Rattle.nr_reduce.specs.Client.{due_with_response, with_hello, client_rules, client_output, client_state_after, call_output, calls_output, response_output, segment_request, plan_or, outstanding_of, region_of, with_message, with_request, with_segment, revoked_call, initial_client}
 use Rattle.nr_reduce.specs.Run.{output_due}
 use Rattle.nr_laws.specs.Typed.{IsTyped}
-use Rattle.nr_laws.proofs.Along.{IsNext}
-use Rattle.nr_laws.proofs.Basics.{each-append, each-kept}
+use Rattle.nr_laws.proofs.EventOutputs.{IsNext}
+use Rattle.nr_laws.proofs.Basics.{each_append, each_kept}
 use Rattle.nr_laws.proofs.Bytes.{bytes_both}
-use Rattle.nr_laws.proofs.CallTargets.{bytes-zeros, bytes-region}
-use Rattle.nr_laws.proofs.Words.{payload-bytes, payload_by}
-use Rattle.nr_laws.proofs.WrittenBytes.{message-bytes}
-use Rattle.nr_script.proofs.ByteLists.{no-bytes}
-use Rattle.nr_drill.proofs.ByteStreams.{send-bytes, response-bytes, hello-bytes, final-bytes}
-use Rattle.nr_drill.proofs.ByteRuns.{RegionOfBytes, AccessOfBytes, memory-bytes, regions-closed, CarriesBytes, run-bytes}
+use Rattle.nr_laws.proofs.CallTargets.{bytes_zeros, bytes_region}
+use Rattle.nr_laws.proofs.Words.{payload_bytes_lem, payload_by}
+use Rattle.nr_laws.proofs.WrittenBytes.{message_bytes_lem}
+use Rattle.nr_script.proofs.ByteLists.{no_bytes_lem}
+use Rattle.nr_drill.proofs.ByteStreams.{send_bytes, response_bytes_lem, hello_bytes_lem, final_bytes}
+use Rattle.nr_drill.proofs.ByteRuns.{RegionOfBytes, AccessOfBytes, memory_bytes, regions_closed_lem, CarriesBytes, run_bytes}
 
 -- ===== plans
 
 abbrev pub PlanOfBytes : Plan → Type 0
 PlanOfBytes p = IsBytes p.inline × IsBytes p.region
 
-reduced-by : (payload : List ℕ) (p : Plan) (o : Option Item) → IsBytes payload → PlanOfBytes p → PlanOfBytes (reduced_plan_by payload p o)
-reduced-by payload p None h g = g
-reduced-by payload p (Some i) h g = (IsBytes-take i.pos payload h, IsBytes-take i.len (drop i.pos payload) (IsBytes-drop i.pos payload h))
+reduced_by : (payload : List ℕ) (p : Plan) (o : Option Item) → IsBytes payload → PlanOfBytes p → PlanOfBytes (reduced_plan_by payload p o)
+reduced_by payload p None h g = g
+reduced_by payload p (Some i) h g = (IsBytes_take i.pos payload h, IsBytes_take i.len (drop i.pos payload) (IsBytes_drop i.pos payload h))
 
-reduced-bytes : (payload : List ℕ) (p : Plan) → IsBytes payload → PlanOfBytes p → PlanOfBytes (reduced_plan payload p)
+reduced_bytes : (payload : List ℕ) (p : Plan) → IsBytes payload → PlanOfBytes p → PlanOfBytes (reduced_plan payload p)
 unfolding reduced_plan
-reduced-bytes payload p h g = reduced-by payload p (reducible_item Call payload) h g
+reduced_bytes payload p h g = reduced_by payload p (reducible_item Call payload) h g
 
-plan-if : (b : Bool) (p q : Plan) → PlanOfBytes p → PlanOfBytes q → PlanOfBytes (cond b p q)
-plan-if true p q h g = h
-plan-if false p q h g = g
+plan_if : (b : Bool) (p q : Plan) → PlanOfBytes p → PlanOfBytes q → PlanOfBytes (cond b p q)
+plan_if true p q h g = h
+plan_if false p q h g = g
 
-offering-bytes : (payload : List ℕ) (o : Option ℕ) (p : Plan) → PlanOfBytes p → PlanOfBytes (offering payload o p)
-offering-bytes payload None p h = h
-offering-bytes payload (Some n) p h = h
+offering_bytes : (payload : List ℕ) (o : Option ℕ) (p : Plan) → PlanOfBytes p → PlanOfBytes (offering payload o p)
+offering_bytes payload None p h = h
+offering_bytes payload (Some n) p h = h
 
-auto-bytes : (payload : List ℕ) (up : ℕ) (p : Plan) → IsBytes payload → PlanOfBytes p → PlanOfBytes (auto_plan payload up p)
-auto-bytes payload up p h g =
+auto_bytes : (payload : List ℕ) (up : ℕ) (p : Plan) → IsBytes payload → PlanOfBytes p → PlanOfBytes (auto_plan payload up p)
+auto_bytes payload up p h g =
     let reduced = reduced_plan payload p in
     let long = long_plan payload p in
-    plan-if (leb (plan_size p) up) p (cond (not (eqb (length reduced.read) 0) && leb (plan_size reduced) up) reduced long) g
-    (plan-if (not (eqb (length reduced.read) 0) && leb (plan_size reduced) up) reduced long (reduced-bytes payload p h g) (no-bytes, h))
+    plan_if (leb (plan_size p) up) p (cond (not (eqb (length reduced.read) 0) && leb (plan_size reduced) up) reduced long) g
+    (plan_if (not (eqb (length reduced.read) 0) && leb (plan_size reduced) up) reduced long (reduced_bytes payload p h g) (no_bytes_lem, h))
 
-given-bytes : (payload : List ℕ) (at : ℕ) (o : Option (List ℕ)) (p : Plan) → IsBytes payload → PlanOfBytes p → PlanOfBytes (given_read payload at o p)
-given-bytes payload at None p h g = g
-given-bytes payload at (Some lengths) p h g = (IsBytes-take at payload h, bytes-region payload at (sum lengths) h)
+given_bytes : (payload : List ℕ) (at : ℕ) (o : Option (List ℕ)) (p : Plan) → IsBytes payload → PlanOfBytes p → PlanOfBytes (given_read payload at o p)
+given_bytes payload at None p h g = g
+given_bytes payload at (Some lengths) p h g = (IsBytes_take at payload h, bytes_region payload at (sum lengths) h)
 
-form-bytes : (payload : List ℕ) (form : Form) (up down : ℕ) → IsBytes payload → PlanOfBytes (plan_in_form payload form up down)
-form-bytes payload forms.Auto up down h =
+form_bytes : (payload : List ℕ) (form : Form) (up down : ℕ) → IsBytes payload → PlanOfBytes (plan_in_form payload form up down)
+form_bytes payload forms.Auto up down h =
     let p = inline_plan payload in
-    auto-bytes payload up (auto_offer payload down p) h (plan-if (leb _ down) p (offering payload (write_offer payload) p) (h, no-bytes) (offering-bytes payload (write_offer payload) p (h, no-bytes)))
-form-bytes payload forms.Inline up down h = (h, no-bytes)
-form-bytes payload forms.Chunk up down h = reduced-bytes payload _ h (h, no-bytes)
-form-bytes payload forms.Long up down h = (no-bytes, h)
-form-bytes payload (forms.Given offer) up down h = given-bytes payload offer.read_at offer.read _ h (h, no-bytes)
+    auto_bytes payload up (auto_offer payload down p) h (plan_if (leb _ down) p (offering payload (write_offer payload) p) (h, no_bytes_lem) (offering_bytes payload (write_offer payload) p (h, no_bytes_lem)))
+form_bytes payload forms.Inline up down h = (h, no_bytes_lem)
+form_bytes payload forms.Chunk up down h = reduced_bytes payload _ h (h, no_bytes_lem)
+form_bytes payload forms.Long up down h = (no_bytes_lem, h)
+form_bytes payload (forms.Given offer) up down h = given_bytes payload offer.read_at offer.read _ h (h, no_bytes_lem)
 
 abbrev PlansBytes : Result Plan TooLarge → Type 0
 PlansBytes (Ok p) = PlanOfBytes p
 PlansBytes (Err large) = Unit {0}
 
-within-bytes : (need room : ℕ) (answer : Result Plan TooLarge) → PlansBytes answer → PlansBytes (within need room answer)
-within-bytes need room answer h = by (ltb room need)
+within_bytes : (need room : ℕ) (answer : Result Plan TooLarge) → PlansBytes answer → PlansBytes (within need room answer)
+within_bytes need room answer h = by (ltb room need)
   where
     by : (b : Bool) → PlansBytes (cond b (Err (record { need = need; room = room })) answer)
     by true = tt
     by false = h
 
-given-within : (form : Form) (answer : Result Plan TooLarge) → PlansBytes answer → PlansBytes (given_within form answer)
-given-within forms.Auto answer h = h
-given-within forms.Inline answer h = h
-given-within forms.Chunk answer h = h
-given-within forms.Long answer h = h
-given-within (forms.Given offer) answer h = within-bytes (given_total offer) _ answer h
+given_within_lem : (form : Form) (answer : Result Plan TooLarge) → PlansBytes answer → PlansBytes (given_within form answer)
+given_within_lem forms.Auto answer h = h
+given_within_lem forms.Inline answer h = h
+given_within_lem forms.Chunk answer h = h
+given_within_lem forms.Long answer h = h
+given_within_lem (forms.Given offer) answer h = within_bytes (given_total offer) _ answer h
 
-plan-bytes : (payload : List ℕ) (form : Form) (up down : ℕ) → IsBytes payload → PlansBytes (plan_of payload form up down)
+plan_bytes : (payload : List ℕ) (form : Form) (up down : ℕ) → IsBytes payload → PlansBytes (plan_of payload form up down)
 unfolding plan_of
-plan-bytes payload form up down h =
-    within-bytes (length payload) _ _ (given-within form _ (within-bytes (plan_size (plan_in_form payload form up down)) up (Ok (plan_in_form payload form up down)) (form-bytes payload form up down h)))
+plan_bytes payload form up down h =
+    within_bytes (length payload) _ _ (given_within_lem form _ (within_bytes (plan_size (plan_in_form payload form up down)) up (Ok (plan_in_form payload form up down)) (form_bytes payload form up down h)))
 
-or-bytes : (payload : List ℕ) (r : Result Plan TooLarge) → IsBytes payload → PlansBytes r → PlanOfBytes (plan_or payload r)
-or-bytes payload (Ok p) h g = g
-or-bytes payload (Err large) h g = (h, no-bytes)
+or_bytes : (payload : List ℕ) (r : Result Plan TooLarge) → IsBytes payload → PlansBytes r → PlanOfBytes (plan_or payload r)
+or_bytes payload (Ok p) h g = g
+or_bytes payload (Err large) h g = (h, no_bytes_lem)
 
-submitted-bytes : (k : ClientState) (a : AcceptedCall) → IsBytes (call_payload a.xid a.call) → PlanOfBytes (outstanding_of k a).plan
+submitted_bytes : (k : ClientState) (a : AcceptedCall) → IsBytes (call_payload a.xid a.call) → PlanOfBytes (outstanding_of k a).plan
 unfolding plan_for
-submitted-bytes k a h = or-bytes (call_payload a.xid a.call) (plan_for k a.xid a.call a.form) h (plan-bytes (call_payload a.xid a.call) a.form _ _ h)
+submitted_bytes k a h = or_bytes (call_payload a.xid a.call) (plan_for k a.xid a.call a.form) h (plan_bytes (call_payload a.xid a.call) a.form _ _ h)
 
-buffer-regions : (xid place : ℕ) (b : Bool) (stag : ℕ) (right : Right) (bytes : List ℕ) → IsBytes bytes → AllByRecursion RegionOfBytes (map (region_of xid place) (buffer_if b stag right bytes))
-buffer-regions xid place true stag right bytes h = (h, tt)
-buffer-regions xid place false stag right bytes h = tt
+buffer_regions : (xid place : ℕ) (b : Bool) (stag : ℕ) (right : Right) (bytes : List ℕ) → IsBytes bytes → AllByRecursion RegionOfBytes (map (region_of xid place) (buffer_if b stag right bytes))
+buffer_regions xid place true stag right bytes h = (h, tt)
+buffer_regions xid place false stag right bytes h = tt
 
-mapped-both : (xid place : ℕ) (xs ys : List Buffer) → AllByRecursion RegionOfBytes (map (region_of xid place) xs) → AllByRecursion RegionOfBytes (map (region_of xid place) ys) →
+mapped_both : (xid place : ℕ) (xs ys : List Buffer) → AllByRecursion RegionOfBytes (map (region_of xid place) xs) → AllByRecursion RegionOfBytes (map (region_of xid place) ys) →
     AllByRecursion RegionOfBytes (map (region_of xid place) (xs ++ ys))
-mapped-both xid place [] ys h g = g
-mapped-both xid place (x ∷ xs) ys h g = (h.0, mapped-both xid place xs ys h.1 g)
+mapped_both xid place [] ys h g = g
+mapped_both xid place (x ∷ xs) ys h g = (h.0, mapped_both xid place xs ys h.1 g)
 
-plan-regions : (xid place stag : ℕ) (p : Plan) → PlanOfBytes p → AllByRecursion RegionOfBytes (map (region_of xid place) (buffers stag p))
+plan_regions : (xid place stag : ℕ) (p : Plan) → PlanOfBytes p → AllByRecursion RegionOfBytes (map (region_of xid place) (buffers stag p))
 unfolding buffers
-plan-regions xid place stag p h =
+plan_regions xid place stag p h =
     let read = buffer_if (has_segment (Some p.read)) (read_stag stag p) Fetch p.region in
     let write = buffer_if (has_segment p.write) (write_stag stag p) Fill (replicate (total p.write) 0) in
     let reply = buffer_if (has_segment p.reply) (reply_stag stag p) Fill (replicate (total p.reply) 0) in
-    mapped-both xid place read (write ++ reply) (buffer-regions xid place (has_segment (Some p.read)) (read_stag stag p) Fetch p.region h.1)
-    (mapped-both xid place write reply (buffer-regions xid place (has_segment p.write) (write_stag stag p) Fill (replicate (total p.write) 0) (bytes-zeros (total p.write)))
-    (buffer-regions xid place (has_segment p.reply) (reply_stag stag p) Fill (replicate (total p.reply) 0) (bytes-zeros (total p.reply))))
+    mapped_both xid place read (write ++ reply) (buffer_regions xid place (has_segment (Some p.read)) (read_stag stag p) Fetch p.region h.1)
+    (mapped_both xid place write reply (buffer_regions xid place (has_segment p.write) (write_stag stag p) Fill (replicate (total p.write) 0) (bytes_zeros (total p.write)))
+    (buffer_regions xid place (has_segment p.reply) (reply_stag stag p) Fill (replicate (total p.reply) 0) (bytes_zeros (total p.reply))))
 
 -- ===== a client
 
@@ -143,106 +143,106 @@ record ClientOfBytes (k : ClientState) : Type 0 where
   regions : AllByRecursion RegionOfBytes k.regions
   accesses : AllByRecursion AccessOfBytes k.accesses_received
 
-call-bytes : (o : LinkParameters) (msn : ℕ) (c : OutstandingCall) → CallOfBytes c → IsBytes (call_output o msn c)
-call-bytes o msn c h = send-bytes msn _ (message-bytes c.xid o.wished c.stag c.plan h)
+call_bytes : (o : LinkParameters) (msn : ℕ) (c : OutstandingCall) → CallOfBytes c → IsBytes (call_output o msn c)
+call_bytes o msn c h = send_bytes msn _ (message_bytes_lem c.xid o.wished c.stag c.plan h)
 
-calls-bytes : (o : LinkParameters) (msn : ℕ) (cs : List OutstandingCall) → AllByRecursion CallOfBytes cs → IsBytes (calls_output o msn cs)
-calls-bytes o msn [] h = no-bytes
-calls-bytes o msn (c ∷ cs) h = bytes_both (call_output o msn c) (calls_output o (msn + 1) cs) (call-bytes o msn c h.0) (calls-bytes o (msn + 1) cs h.1)
+calls_bytes : (o : LinkParameters) (msn : ℕ) (cs : List OutstandingCall) → AllByRecursion CallOfBytes cs → IsBytes (calls_output o msn cs)
+calls_bytes o msn [] h = no_bytes_lem
+calls_bytes o msn (c ∷ cs) h = bytes_both (call_output o msn c) (calls_output o (msn + 1) cs) (call_bytes o msn c h.0) (calls_bytes o (msn + 1) cs h.1)
 
-read-bytes : (k : ClientState) (place : ℕ) (q : Option ReadRequest) → ClientOfBytes k → IsBytes (response_output k place q)
-read-bytes k place None h = no-bytes
-read-bytes k place (Some r) h =
-    let memory = memory_at k place r.stag in
-    response-bytes r.sink r.sink_to (take r.size (drop r.to memory))
-    (IsBytes-take r.size (drop r.to memory) (IsBytes-drop r.to memory (memory-bytes (region_grants place k.regions) k.regions k.accesses_received r.stag h.regions h.accesses)))
+read_bytes_lem : (k : ClientState) (place : ℕ) (q : Option ReadRequest) → ClientOfBytes k → IsBytes (response_output k place q)
+read_bytes_lem k place None h = no_bytes_lem
+read_bytes_lem k place (Some r) h =
+    let memory = client_memory_at k place r.stag in
+    response_bytes_lem r.sink r.sink_to (take r.size (drop r.to memory))
+    (IsBytes_take r.size (drop r.to memory) (IsBytes_drop r.to memory (memory_bytes (region_grants place k.regions) k.regions k.accesses_received r.stag h.regions h.accesses)))
 
-client-written : (o : LinkParameters) (k : ClientState) (e : Event) → CarriesBytes (record { state = k; ended = None }) e → ClientOfBytes k → IsBytes (client_output o k e)
+client_written_lem : (o : LinkParameters) (k : ClientState) (e : RunEvent) → CarriesBytes (record { state = k; ended = None }) e → ClientOfBytes k → IsBytes (client_output o k e)
 unfolding client_output
-client-written o k (FrameReceived f) c h = by (is_hello f)
+client_written_lem o k (FrameReceived f) c h = by (is_hello f)
   where
     by : (b : Bool) → IsBytes (cond b (calls_output o 1 k.outstanding) (response_output k f.end (segment_request (frame_segment f))))
-    by true = calls-bytes o 1 k.outstanding h.calls
-    by false = read-bytes k f.end (segment_request (frame_segment f)) h
-client-written o k (CallSubmitted place a) c h = by k.has_hello
+    by true = calls_bytes o 1 k.outstanding h.calls
+    by false = read_bytes_lem k f.end (segment_request (frame_segment f)) h
+client_written_lem o k (CallSubmitted place a) c h = by k.has_hello
   where
     by : (b : Bool) → IsBytes (cond b (call_output o (k.calls_accepted + 1) (outstanding_of k a)) [])
-    by true = call-bytes o (k.calls_accepted + 1) (outstanding_of k a) (submitted-bytes k a c).0
-    by false = no-bytes
-client-written o k (MemoryRevoked place xid) c h = no-bytes
-client-written o k (CallExecuted call) c h = no-bytes
-client-written o k (QueueWritten taken) c h = no-bytes
+    by true = call_bytes o (k.calls_accepted + 1) (outstanding_of k a) (submitted_bytes k a c).0
+    by false = no_bytes_lem
+client_written_lem o k (MemoryRevoked place xid) c h = no_bytes_lem
+client_written_lem o k (CallExecuted call) c h = no_bytes_lem
+client_written_lem o k (QueueWritten taken) c h = no_bytes_lem
 
-message-after : (k : ClientState) (place : ℕ) (m : Option (List ℕ)) → ClientOfBytes k → ClientOfBytes (with_message k place m)
-message-after k place None h = h
-message-after k place (Some m) h = record {
-  calls = each-kept CallOfBytes (λ o. not (eqb o.xid (word_at 0 m))) k.outstanding h.calls;
-  regions = regions-closed (λ r. eqb r.call (word_at 0 m)) place k.regions h.regions;
+message_after : (k : ClientState) (place : ℕ) (m : Option (List ℕ)) → ClientOfBytes k → ClientOfBytes (with_message k place m)
+message_after k place None h = h
+message_after k place (Some m) h = record {
+  calls = each_kept CallOfBytes (λ o. not (eqb o.xid (word_at 0 m))) k.outstanding h.calls;
+  regions = regions_closed_lem (λ r. eqb r.call (word_at 0 m)) place k.regions h.regions;
   accesses = h.accesses;
 }
 
-request-after : (k : ClientState) (due : ℕ) (q : Option ReadRequest) → ClientOfBytes k → ClientOfBytes (with_request k due q)
-request-after k due None h = h
-request-after k due (Some q) h = record { calls = h.calls; regions = h.regions; accesses = h.accesses }
+request_after : (k : ClientState) (due : ℕ) (q : Option ReadRequest) → ClientOfBytes k → ClientOfBytes (with_request k due q)
+request_after k due None h = h
+request_after k due (Some q) h = record { calls = h.calls; regions = h.regions; accesses = h.accesses }
 
-pub access-bytes : (f : Frame) (s : Segment) → IsBytes (payload_by s) → AllByRecursion AccessOfBytes (tagged_access f s)
-access-bytes f (Tagged last opcode stag to payload) h = (h, tt)
-access-bytes f (Untagged last opcode w queue msn offset payload) h = tt
+pub access_bytes : (f : Frame) (s : Segment) → IsBytes (payload_by s) → AllByRecursion AccessOfBytes (tagged_access f s)
+access_bytes f (Tagged last opcode stag to payload) h = (h, tt)
+access_bytes f (Untagged last opcode w queue msn offset payload) h = tt
 
-same-accesses : (k : ClientState) (place : ℕ) (m : Option (List ℕ)) (due : ℕ) (q : Option ReadRequest) → ClientOfBytes k → ClientOfBytes (with_request (with_message k place m) due q)
-same-accesses k place m due q h = request-after (with_message k place m) due q (message-after k place m h)
+same_accesses : (k : ClientState) (place : ℕ) (m : Option (List ℕ)) (due : ℕ) (q : Option ReadRequest) → ClientOfBytes k → ClientOfBytes (with_request (with_message k place m) due q)
+same_accesses k place m due q h = request_after (with_message k place m) due q (message_after k place m h)
 
-segment-after : (k : ClientState) (f : Frame) (r : Result Segment ℕ) → frame_segment f ≡ r → IsBytes f.bytes → ClientOfBytes k → ClientOfBytes (with_segment k f r)
+segment_after : (k : ClientState) (f : Frame) (r : Result Segment ℕ) → frame_segment f ≡ r → IsBytes f.bytes → ClientOfBytes k → ClientOfBytes (with_segment k f r)
 unfolding frame_segment
-segment-after k f (Err reason) is b h = h
-segment-after k f (Ok segment) is b h =
-    let m = same-accesses k f.end (message_completed k.received segment) (due_with_response k f segment) (read_request_of segment) h in
+segment_after k f (Err reason) is b h = h
+segment_after k f (Ok segment) is b h =
+    let m = same_accesses k f.end (message_completed k.received segment) (due_with_response k f segment) (read_request_of segment) h in
     record {
       calls = m.calls;
       regions = m.regions;
-      accesses = each-append AccessOfBytes k.accesses_received (tagged_access f segment) h.accesses (access-bytes f segment (payload-bytes f.bytes segment b is));
+      accesses = each_append AccessOfBytes k.accesses_received (tagged_access f segment) h.accesses (access_bytes f segment (payload_bytes_lem f.bytes segment b is));
     }
 
-mapped-calls : (g : OutstandingCall → OutstandingCall) (cs : List OutstandingCall) → ((c : OutstandingCall) → CallOfBytes c → CallOfBytes (g c)) → AllByRecursion CallOfBytes cs → AllByRecursion CallOfBytes (map g cs)
-mapped-calls g [] each h = tt
-mapped-calls g (c ∷ cs) each h = (each c h.0, mapped-calls g cs each h.1)
+mapped_calls : (g : OutstandingCall → OutstandingCall) (cs : List OutstandingCall) → ((c : OutstandingCall) → CallOfBytes c → CallOfBytes (g c)) → AllByRecursion CallOfBytes cs → AllByRecursion CallOfBytes (map g cs)
+mapped_calls g [] each h = tt
+mapped_calls g (c ∷ cs) each h = (each c h.0, mapped_calls g cs each h.1)
 
-revoked-bytes : (xid : ℕ) (c : OutstandingCall) → CallOfBytes c → CallOfBytes (revoked_call xid c)
-revoked-bytes xid c h = by (eqb c.xid xid)
+revoked_bytes_lem : (xid : ℕ) (c : OutstandingCall) → CallOfBytes c → CallOfBytes (revoked_call xid c)
+revoked_bytes_lem xid c h = by (eqb c.xid xid)
   where
     by : (b : Bool) → CallOfBytes (cond b (record c { is_revoked = true }) c)
     by true = h
     by false = h
 
-client-after : (o : LinkParameters) (place : ℕ) (k : ClientState) (e : Event) → IsNext place e → CarriesBytes (record { state = k; ended = None }) e → ClientOfBytes k → ClientOfBytes (client_state_after o k e)
+client_after : (o : LinkParameters) (place : ℕ) (k : ClientState) (e : RunEvent) → IsNext place e → CarriesBytes (record { state = k; ended = None }) e → ClientOfBytes k → ClientOfBytes (client_state_after o k e)
 unfolding client_state_after
-client-after o place k (FrameReceived f) next c h = by (is_hello f)
+client_after o place k (FrameReceived f) next c h = by (is_hello f)
   where
     by : (b : Bool) → ClientOfBytes (cond b (with_hello o k) (with_segment k f (frame_segment f)))
     by true = record { calls = h.calls; regions = h.regions; accesses = h.accesses }
-    by false = segment-after k f (frame_segment f) refl next.2 h
-client-after o place k (CallSubmitted p a) next c h =
-    let plan = submitted-bytes k a c in
+    by false = segment_after k f (frame_segment f) refl next.2 h
+client_after o place k (CallSubmitted p a) next c h =
+    let plan = submitted_bytes k a c in
     record {
-      calls = each-append CallOfBytes k.outstanding (outstanding_of k a ∷ []) h.calls (plan.0, tt);
-      regions = each-append RegionOfBytes k.regions (map (region_of a.xid p) (buffers k.stag (outstanding_of k a).plan)) h.regions (plan-regions a.xid p k.stag (outstanding_of k a).plan plan);
+      calls = each_append CallOfBytes k.outstanding (outstanding_of k a ∷ []) h.calls (plan.0, tt);
+      regions = each_append RegionOfBytes k.regions (map (region_of a.xid p) (buffers k.stag (outstanding_of k a).plan)) h.regions (plan_regions a.xid p k.stag (outstanding_of k a).plan plan);
       accesses = h.accesses;
     }
-client-after o place k (MemoryRevoked p xid) next c h = record {
-  calls = mapped-calls (revoked_call xid) k.outstanding (revoked-bytes xid) h.calls;
-  regions = regions-closed (λ r. eqb r.call xid) p k.regions h.regions;
+client_after o place k (MemoryRevoked p xid) next c h = record {
+  calls = mapped_calls (revoked_call xid) k.outstanding (revoked_bytes_lem xid) h.calls;
+  regions = regions_closed_lem (λ r. eqb r.call xid) p k.regions h.regions;
   accesses = h.accesses;
 }
-client-after o place k (CallExecuted call) next c h = h
-client-after o place k (QueueWritten taken) next c h = record { calls = h.calls; regions = h.regions; accesses = h.accesses }
+client_after o place k (CallExecuted call) next c h = h
+client_after o place k (QueueWritten taken) next c h = record { calls = h.calls; regions = h.regions; accesses = h.accesses }
 
 -- On every link of a run that is of its types, what its client has to write are bytes.
-pub client-due : (o : LinkParameters) (link : ℕ) (run : List Mark) → IsTyped run → IsBytes (output_due o link Initiator run)
+pub client_due : (o : LinkParameters) (link : ℕ) (run : List Mark) → IsTyped run → IsBytes (output_due o link Initiator run)
 unfolding output_due
-client-due o link run typed =
-    let all = run-bytes (client_rules o) ClientOfBytes (record {
-      written = λ place k e next c h. client-written o k e c h;
-      after = λ place k e next c h. client-after o place k e next c h;
-      last = final-bytes;
+client_due o link run typed =
+    let all = run_bytes (client_rules o) ClientOfBytes (record {
+      written = λ place k e next c h. client_written_lem o k e c h;
+      after = λ place k e next c h. client_after o place k e next c h;
+      last = final_bytes;
     }) (initial_client o) link Initiator run typed (record { calls = tt; regions = tt; accesses = tt }) in
-    bytes_both (own_hello Initiator) (output_for_all (client_rules o) (initial_client o) (events link Initiator run)) (hello-bytes Initiator) all.0
+    bytes_both (own_hello Initiator) (output_for_all (client_rules o) (initial_client o) (events link Initiator run)) (hello_bytes_lem Initiator) all.0

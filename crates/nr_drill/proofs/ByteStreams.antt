@@ -3,7 +3,7 @@ use Rattle.std.specs.Prelude.{ℕ, ◌+◌, ◌*◌, ◌<◌, ◌==◌, Bool, tr
 use Rattle.std.specs.List.{range_with_len}
 use Rattle.std.proofs.Common.{refl, ltb, cond, arith}
 use Rattle.nr_xdr.specs.Item.{Item, IsBytes, bit, word, hyper}
-use Rattle.nr_xdr.proofs.WordBytes.{IsBytes-take, IsBytes-drop}
+use Rattle.nr_xdr.proofs.WordBytes.{IsBytes_take, IsBytes_drop}
 use Rattle.nr_wire.specs.declared.hello.Side.{Side}
 use Rattle.nr_wire.specs.declared.hello.Side.TheVariants.{Initiator, Responder}
 use Rattle.nr_wire.specs.Constants.{OPCODE_WRITE, OPCODE_READ_REQUEST, OPCODE_READ_RESPONSE, OPCODE_SEND, OPCODE_TERMINATE, QUEUE_SEND, QUEUE_READ_REQUEST, QUEUE_TERMINATE}
@@ -24,142 +24,142 @@ use Rattle.nr_header.specs.declared.header.Body.TheVariants.{Msg, Nomsg, ErrVers
 use Rattle.nr_header.specs.declared.header.Header.{Header}
 use Rattle.nr_header.specs.Header.{read_items, segments_items, write_items, reply_items, lists_items, body_items, header_encoding}
 use Rattle.nr_laws.proofs.Bytes.{bytes_both}
-use Rattle.nr_laws.proofs.CallTargets.{bytes-zeros}
-use Rattle.nr_laws.proofs.WrittenBytes.{word-bytes}
-use Rattle.nr_script.proofs.ByteLists.{no-bytes, bytes-more, hyper-bytes, half-bytes, decided, flat-bytes, AreOfBytes, items-bytes}
+use Rattle.nr_laws.proofs.CallTargets.{bytes_zeros}
+use Rattle.nr_laws.proofs.WrittenBytes.{word_bytes}
+use Rattle.nr_script.proofs.ByteLists.{no_bytes_lem, bytes_more, hyper_bytes, half_bytes, decided, flat_bytes, AreOfBytes, items_bytes}
 
 -- ===== items
 
-read-of : (rs : List ReadSegment) (more : List Item) → AreOfBytes more → AreOfBytes (read_items rs more)
-read-of [] more h = (tt, h)
-read-of (r ∷ rs) more h = (tt, (tt, (tt, (tt, (tt, read-of rs more h)))))
+read_of_lem : (rs : List ReadSegment) (more : List Item) → AreOfBytes more → AreOfBytes (read_items rs more)
+read_of_lem [] more h = (tt, h)
+read_of_lem (r ∷ rs) more h = (tt, (tt, (tt, (tt, (tt, read_of_lem rs more h)))))
 
-segments-of : (ss : List RdmaSegment) (more : List Item) → AreOfBytes more → AreOfBytes (segments_items ss more)
-segments-of [] more h = h
-segments-of (s ∷ ss) more h = (tt, (tt, (tt, segments-of ss more h)))
+segments_of : (ss : List RdmaSegment) (more : List Item) → AreOfBytes more → AreOfBytes (segments_items ss more)
+segments_of [] more h = h
+segments_of (s ∷ ss) more h = (tt, (tt, (tt, segments_of ss more h)))
 
-write-of : (chunks : List (List RdmaSegment)) (more : List Item) → AreOfBytes more → AreOfBytes (write_items chunks more)
-write-of [] more h = (tt, h)
-write-of (chunk ∷ chunks) more h = (tt, (tt, segments-of chunk (write_items chunks more) (write-of chunks more h)))
+write_of_lem : (chunks : List (List RdmaSegment)) (more : List Item) → AreOfBytes more → AreOfBytes (write_items chunks more)
+write_of_lem [] more h = (tt, h)
+write_of_lem (chunk ∷ chunks) more h = (tt, (tt, segments_of chunk (write_items chunks more) (write_of_lem chunks more h)))
 
-reply-of : (reply : Option (List RdmaSegment)) (more : List Item) → AreOfBytes more → AreOfBytes (reply_items reply more)
-reply-of None more h = (tt, h)
-reply-of (Some chunk) more h = (tt, (tt, segments-of chunk more h))
+reply_of_lem : (reply : Option (List RdmaSegment)) (more : List Item) → AreOfBytes more → AreOfBytes (reply_items reply more)
+reply_of_lem None more h = (tt, h)
+reply_of_lem (Some chunk) more h = (tt, (tt, segments_of chunk more h))
 
-lists-of : (ls : ChunkLists) → AreOfBytes (lists_items ls)
-lists-of ls = read-of ls.read (write_items ls.write (reply_items ls.reply [])) (write-of ls.write (reply_items ls.reply []) (reply-of ls.reply [] tt))
+lists_of_lem : (ls : ChunkLists) → AreOfBytes (lists_items ls)
+lists_of_lem ls = read_of_lem ls.read (write_items ls.write (reply_items ls.reply [])) (write_of_lem ls.write (reply_items ls.reply []) (reply_of_lem ls.reply [] tt))
 
-body-of : (xid credit : ℕ) (b : Body) → AreOfBytes (body_items xid credit b)
-body-of xid credit (Msg lists at) = (tt, (tt, (tt, (tt, lists-of lists))))
-body-of xid credit (Nomsg lists) = (tt, (tt, (tt, (tt, lists-of lists))))
-body-of xid credit (ErrVers version low high) = (tt, (tt, (tt, (tt, (tt, (tt, (tt, tt)))))))
-body-of xid credit (ErrChunk version) = (tt, (tt, (tt, (tt, (tt, tt)))))
+body_of_lem : (xid credit : ℕ) (b : Body) → AreOfBytes (body_items xid credit b)
+body_of_lem xid credit (Msg lists at) = (tt, (tt, (tt, (tt, lists_of_lem lists))))
+body_of_lem xid credit (Nomsg lists) = (tt, (tt, (tt, (tt, lists_of_lem lists))))
+body_of_lem xid credit (ErrVers version low high) = (tt, (tt, (tt, (tt, (tt, (tt, (tt, tt)))))))
+body_of_lem xid credit (ErrChunk version) = (tt, (tt, (tt, (tt, (tt, tt)))))
 
-pub header-bytes : (h : Header) → IsBytes (header_encoding h)
-header-bytes h = items-bytes (body_items h.xid h.credit h.body) (body-of h.xid h.credit h.body)
+pub header_bytes : (h : Header) → IsBytes (header_encoding h)
+header_bytes h = items_bytes (body_items h.xid h.credit h.body) (body_of_lem h.xid h.credit h.body)
 
 -- ===== segments
 
-bit-below : (b : Bool) → bit b < 2
-bit-below true = omega arith
-bit-below false = omega arith
+bit_below : (b : Bool) → bit b < 2
+bit_below true = omega arith
+bit_below false = omega arith
 
-control-bytes : (tagged last : Bool) (opcode : ℕ) → opcode < 16 → IsBytes (control 0 0 tagged last opcode)
-control-bytes tagged last opcode lt =
-    let a = bit-below tagged in
-    let b = bit-below last in
-    bytes-more (128 * bit tagged + 64 * bit last + 4 * 0 + 1) ((64 * 1 + 16 * 0 + opcode) ∷ []) (omega (arith, a, b)) (bytes-more (64 * 1 + 16 * 0 + opcode) [] (omega (arith, lt)) no-bytes)
+control_bytes : (tagged last : Bool) (opcode : ℕ) → opcode < 16 → IsBytes (control 0 0 tagged last opcode)
+control_bytes tagged last opcode lt =
+    let a = bit_below tagged in
+    let b = bit_below last in
+    bytes_more (128 * bit tagged + 64 * bit last + 4 * 0 + 1) ((64 * 1 + 16 * 0 + opcode) ∷ []) (omega (arith, a, b)) (bytes_more (64 * 1 + 16 * 0 + opcode) [] (omega (arith, lt)) no_bytes_lem)
 
-header-of-bytes : (s : Segment) → opcode_in s < 16 → IsBytes (header 0 0 s)
+header_of_bytes : (s : Segment) → opcode_in s < 16 → IsBytes (header 0 0 s)
 unfolding header
-header-of-bytes (Tagged last opcode stag to payload) lt =
-    bytes_both (control 0 0 true last opcode) (word stag ++ hyper to) (control-bytes true last opcode lt) (bytes_both (word stag) (hyper to) (word-bytes stag) (hyper-bytes to))
-header-of-bytes (Untagged last opcode w queue msn offset payload) lt =
+header_of_bytes (Tagged last opcode stag to payload) lt =
+    bytes_both (control 0 0 true last opcode) (word stag ++ hyper to) (control_bytes true last opcode lt) (bytes_both (word stag) (hyper to) (word_bytes stag) (hyper_bytes to))
+header_of_bytes (Untagged last opcode w queue msn offset payload) lt =
     let first = control 0 0 false last opcode in
-    let one = bytes_both first (word w) (control-bytes false last opcode lt) (word-bytes w) in
-    let two = bytes_both (first ++ word w) (word queue) one (word-bytes queue) in
-    let three = bytes_both ((first ++ word w) ++ word queue) (word msn) two (word-bytes msn) in
-    bytes_both (((first ++ word w) ++ word queue) ++ word msn) (word offset) three (word-bytes offset)
+    let one = bytes_both first (word w) (control_bytes false last opcode lt) (word_bytes w) in
+    let two = bytes_both (first ++ word w) (word queue) one (word_bytes queue) in
+    let three = bytes_both ((first ++ word w) ++ word queue) (word msn) two (word_bytes msn) in
+    bytes_both (((first ++ word w) ++ word queue) ++ word msn) (word offset) three (word_bytes offset)
 
-pub segment-bytes : (s : Segment) → opcode_in s < 16 → IsBytes (payload_in s) → IsBytes (frame_of s)
+pub segment_bytes_lem : (s : Segment) → opcode_in s < 16 → IsBytes (payload_in s) → IsBytes (frame_of s)
 unfolding frame_of
-segment-bytes s lt h =
+segment_bytes_lem s lt h =
     let tail = replicate (tail_len (ulpdu_size s)) 0 in
-    let one = bytes_both (half_word (ulpdu_size s)) (header 0 0 s) (half-bytes (ulpdu_size s)) (header-of-bytes s lt) in
+    let one = bytes_both (half_word (ulpdu_size s)) (header 0 0 s) (half_bytes (ulpdu_size s)) (header_of_bytes s lt) in
     let two = bytes_both (half_word (ulpdu_size s) ++ header 0 0 s) (payload_in s) one h in
-    bytes_both ((half_word (ulpdu_size s) ++ header 0 0 s) ++ payload_in s) tail two (bytes-zeros (tail_len (ulpdu_size s)))
+    bytes_both ((half_word (ulpdu_size s) ++ header 0 0 s) ++ payload_in s) tail two (bytes_zeros (tail_len (ulpdu_size s)))
 
-cut-bytes : (segment : Bool → ℕ → List ℕ → Segment) (bytes : List ℕ) → ((last : Bool) (offset : ℕ) (payload : List ℕ) → IsBytes payload → IsBytes (frame_of (segment last offset payload))) → IsBytes bytes →
+cut_bytes : (segment : Bool → ℕ → List ℕ → Segment) (bytes : List ℕ) → ((last : Bool) (offset : ℕ) (payload : List ℕ) → IsBytes payload → IsBytes (frame_of (segment last offset payload))) → IsBytes bytes →
     IsBytes (cut segment bytes)
 unfolding cut
-cut-bytes segment bytes each h =
-    flat-bytes (λ i. frame_of (segment (i + 1 == segment_count bytes) (segment_max * i) (segment_payload bytes i))) (range_with_len 0 (segment_count bytes))
-    (λ i. each (i + 1 == segment_count bytes) (segment_max * i) (segment_payload bytes i) (IsBytes-take segment_max (drop (segment_max * i) bytes) (IsBytes-drop (segment_max * i) bytes h)))
+cut_bytes segment bytes each h =
+    flat_bytes (λ i. frame_of (segment (i + 1 == segment_count bytes) (segment_max * i) (segment_payload bytes i))) (range_with_len 0 (segment_count bytes))
+    (λ i. each (i + 1 == segment_count bytes) (segment_max * i) (segment_payload bytes i) (IsBytes_take segment_max (drop (segment_max * i) bytes) (IsBytes_drop (segment_max * i) bytes h)))
 
-send-small : OPCODE_SEND < 16
-send-small = omega arith
+send_small : OPCODE_SEND < 16
+send_small = omega arith
 
-write-small : OPCODE_WRITE < 16
-write-small = omega arith
+write_small_lem : OPCODE_WRITE < 16
+write_small_lem = omega arith
 
-response-small : OPCODE_READ_RESPONSE < 16
-response-small = omega arith
+response_small : OPCODE_READ_RESPONSE < 16
+response_small = omega arith
 
-request-small : OPCODE_READ_REQUEST < 16
-request-small = omega arith
+request_small : OPCODE_READ_REQUEST < 16
+request_small = omega arith
 
-terminate-small : OPCODE_TERMINATE < 16
-terminate-small = omega arith
+terminate_small : OPCODE_TERMINATE < 16
+terminate_small = omega arith
 
-pub send-bytes : (msn : ℕ) (message : List ℕ) → IsBytes message → IsBytes (send msn message)
+pub send_bytes : (msn : ℕ) (message : List ℕ) → IsBytes message → IsBytes (send msn message)
 unfolding send
-send-bytes msn message h =
+send_bytes msn message h =
     let one : Bool → ℕ → List ℕ → Segment = (λ last offset payload. Untagged last OPCODE_SEND 0 QUEUE_SEND (msn_word msn) offset payload) in
-    cut-bytes one message (λ last offset payload p. segment-bytes (one last offset payload) send-small p) h
+    cut_bytes one message (λ last offset payload p. segment_bytes_lem (one last offset payload) send_small p) h
 
-pub write-bytes : (stag to : ℕ) (bytes : List ℕ) → IsBytes bytes → IsBytes (write stag to bytes)
+pub write_bytes : (stag to : ℕ) (bytes : List ℕ) → IsBytes bytes → IsBytes (write stag to bytes)
 unfolding write
-write-bytes stag to bytes h =
+write_bytes stag to bytes h =
     let one : Bool → ℕ → List ℕ → Segment = (λ last offset payload. Tagged last OPCODE_WRITE stag (to + offset) payload) in
-    cut-bytes one bytes (λ last offset payload p. segment-bytes (one last offset payload) write-small p) h
+    cut_bytes one bytes (λ last offset payload p. segment_bytes_lem (one last offset payload) write_small_lem p) h
 
-pub response-bytes : (stag to : ℕ) (bytes : List ℕ) → IsBytes bytes → IsBytes (read_response stag to bytes)
+pub response_bytes_lem : (stag to : ℕ) (bytes : List ℕ) → IsBytes bytes → IsBytes (read_response stag to bytes)
 unfolding read_response
-response-bytes stag to bytes h =
+response_bytes_lem stag to bytes h =
     let one : Bool → ℕ → List ℕ → Segment = (λ last offset payload. Tagged last OPCODE_READ_RESPONSE stag (to + offset) payload) in
-    cut-bytes one bytes (λ last offset payload p. segment-bytes (one last offset payload) response-small p) h
+    cut_bytes one bytes (λ last offset payload p. segment_bytes_lem (one last offset payload) response_small p) h
 
-pub request-bytes : (msn sink sink_to size stag to : ℕ) → IsBytes (read_request msn sink sink_to size stag to)
+pub request_bytes : (msn sink sink_to size stag to : ℕ) → IsBytes (read_request msn sink sink_to size stag to)
 unfolding read_request
-request-bytes msn sink sink_to size stag to =
-    let four = bytes_both (word stag) (hyper to) (word-bytes stag) (hyper-bytes to) in
-    let three = bytes_both (word size) (word stag ++ hyper to) (word-bytes size) four in
-    let two = bytes_both (hyper sink_to) (word size ++ (word stag ++ hyper to)) (hyper-bytes sink_to) three in
+request_bytes msn sink sink_to size stag to =
+    let four = bytes_both (word stag) (hyper to) (word_bytes stag) (hyper_bytes to) in
+    let three = bytes_both (word size) (word stag ++ hyper to) (word_bytes size) four in
+    let two = bytes_both (hyper sink_to) (word size ++ (word stag ++ hyper to)) (hyper_bytes sink_to) three in
     let fields = word sink ++ (hyper sink_to ++ (word size ++ (word stag ++ hyper to))) in
-    segment-bytes (Untagged true OPCODE_READ_REQUEST 0 QUEUE_READ_REQUEST (msn_word msn) 0 fields) request-small
-    (bytes_both (word sink) (hyper sink_to ++ (word size ++ (word stag ++ hyper to))) (word-bytes sink) two)
+    segment_bytes_lem (Untagged true OPCODE_READ_REQUEST 0 QUEUE_READ_REQUEST (msn_word msn) 0 fields) request_small
+    (bytes_both (word sink) (hyper sink_to ++ (word size ++ (word stag ++ hyper to))) (word_bytes sink) two)
 
-terminate-bytes : (n : ℕ) → IsBytes (terminate_message n)
+terminate_bytes : (n : ℕ) → IsBytes (terminate_message n)
 unfolding terminate_message
-terminate-bytes n = segment-bytes (Untagged true OPCODE_TERMINATE 0 QUEUE_TERMINATE 1 0 (word n)) terminate-small (word-bytes n)
+terminate_bytes n = segment_bytes_lem (Untagged true OPCODE_TERMINATE 0 QUEUE_TERMINATE 1 0 (word n)) terminate_small (word_bytes n)
 
-pub hello-bytes : (side : Side) → IsBytes (own_hello side)
+pub hello_bytes_lem : (side : Side) → IsBytes (own_hello side)
 unfolding own_hello hello_encoding key half_word
-hello-bytes Initiator = decided (own_hello Initiator) refl
-hello-bytes Responder = decided (own_hello Responder) refl
+hello_bytes_lem Initiator = decided (own_hello Initiator) refl
+hello_bytes_lem Responder = decided (own_hello Responder) refl
 
-pub refusing-bytes : IsBytes refusing_hello
+pub refusing_bytes : IsBytes refusing_hello
 unfolding refusing_hello hello_encoding key half_word
-refusing-bytes = decided refusing_hello refl
+refusing_bytes = decided refusing_hello refl
 
-bytes-if : (b : Bool) (xs ys : List ℕ) → IsBytes xs → IsBytes ys → IsBytes (cond b xs ys)
-bytes-if true xs ys h g = h
-bytes-if false xs ys h g = g
+bytes_if : (b : Bool) (xs ys : List ℕ) → IsBytes xs → IsBytes ys → IsBytes (cond b xs ys)
+bytes_if true xs ys h g = h
+bytes_if false xs ys h g = g
 
-pub final-bytes : (end : End) → IsBytes (final_output end)
+pub final_bytes : (end : End) → IsBytes (final_output end)
 unfolding final_output
-final-bytes (ends.Bad at reason) = bytes-if (ltb reason 5) [] (terminate_message reason) no-bytes (terminate-bytes reason)
-final-bytes (ends.Denied stag offset why) = terminate-bytes _
-final-bytes (ends.NoBuffer msn) = terminate-bytes _
-final-bytes (ends.Terminated reason) = no-bytes
-final-bytes ends.Memory = no-bytes
+final_bytes (ends.Bad at reason) = bytes_if (ltb reason 5) [] (terminate_message reason) no_bytes_lem (terminate_bytes reason)
+final_bytes (ends.Denied stag offset why) = terminate_bytes _
+final_bytes (ends.NoBuffer msn) = terminate_bytes _
+final_bytes (ends.Terminated reason) = no_bytes_lem
+final_bytes ends.Memory = no_bytes_lem

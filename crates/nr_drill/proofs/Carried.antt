@@ -24,11 +24,11 @@ use Rattle.nr_reduce.specs.ClientState.{ClientState}
 use Rattle.nr_reduce.specs.ServerState.{ReadyCall}
 use Rattle.nr_reduce.specs.EndRules.{output_for_all}
 use Rattle.nr_reduce.specs.Events.{if_own}
-use Rattle.nr_reduce.specs.Events.Event.{MemoryRevoked}
+use Rattle.nr_reduce.specs.Events.RunEvent.{MemoryRevoked}
 use Rattle.nr_reduce.specs.History.{same_side, CompletedCall, bytes_sent, bytes_received, written_at, fed_at, is_drop_of, is_dropped}
 use Rattle.nr_reduce.specs.Matched.{Matched, MatchedMark}
-use Rattle.nr_reduce.proofs.Standing.{AtEachMark-more, itself, sent-one, received-one}
-use Rattle.nr_laws.proofs.Keys.{any-append}
+use Rattle.nr_reduce.proofs.Standing.{AtEachMark_more, itself, sent_one, received_one}
+use Rattle.nr_laws.proofs.DistinctKeys.{any_append}
 use Rattle.nr_drill.specs.Drill.{Setting, Drill, Pipes, empty_pipes, plain_of, now, unwritten, appended, after_output, after_all_output, settled, pipes_of, with_mark, with_pipes, after_feeding, after_feeding_up, after_feeding_down, after_up, after_down, after_handing, after_done, after_dones, after_outcomes, after_submit, if_standing, waiting_call, after_answer, after_execution, after_work, after_calls, after_all_up, after_all_work, after_all_down, after_moves, answer_of_line, open_xid, after_giving_up, after_forget, after_taking_back, after_revoke, after_drop, after_raw, after_round, after_opening, after_openings, SerialServer, start, links_of, cred_of, with_cred}
 use Rattle.nr_script.specs.declared.script.Opening.{Opening}
 use Rattle.nr_script.specs.Script.{ScriptLines, HasWritableCred, IsScript, FollowOn, may_follow, is_client, is_call_line}
@@ -36,11 +36,11 @@ use Rattle.nr_drill.specs.Follows.{after_line, Drains, Makes, MakeAll, Follows, 
 use Rattle.nr_drill.specs.Headline.{is_raw_of, HasNoRaw, IsLink, KeepsLaws}
 use Rattle.nr_laws.proofs.Granted.{submits_within}
 use Rattle.nr_reduce.specs.Opening.{IsOpened}
-use Rattle.nr_drill.proofs.Lawful.{IsLawful, IsWritten, Keeps, own_written, up_written, down_written, more_due, lawful-settled, lawful-handing, lawful-after_up, lawful-after_down, lawful-submit, lawful-work, lawful-calls, lawful-revoke, lawful-moves}
+use Rattle.nr_drill.proofs.Lawful.{IsLawful, IsWritten, Keeps, own_written, up_written, down_written, more_due, lawful_settled, lawful_handing, lawful_after_up, lawful_after_down, lawful_submit, lawful_work, lawful_calls, lawful_revoke, lawful_moves}
 use Rattle.nr_script.specs.declared.script.Line.{Line}
 use Rattle.nr_script.specs.declared.script.Line.TheVariants as lines
 use Rattle.nr_drill.proofs.Handed.{follows_hands}
-use Rattle.nr_drill.proofs.Followed.{quiet-mark, link_of, apart, not_written, Extends, Acts, Holds, AreWritable, Among, elsewhere, holds_by, line-holds, cred_at, submit-adds, up-adds, down-adds, work-adds, forget-adds, revoke-adds, drop-adds, raw-adds, moves-adds, opening-adds, keeps-forget, keeps-drop, opening-keeps, among_range, start-lawful, start-creds, opened_by_script, follows_keeps_laws}
+use Rattle.nr_drill.proofs.Followed.{quiet_mark, link_of, apart, not_written, Extends, Acts, Holds, AreWritable, Among, elsewhere, holds_by, line_holds, cred_at, submit_adds, up_adds, down_adds, work_adds, forget_adds, revoke_adds, drop_adds, raw_adds, moves_adds, opening_adds, keeps_forget, keeps_drop, opening_keeps, among_range, start_lawful, start_creds, opened_by_script, follows_keeps_laws}
 
 -- what each side sent is what the other received and what waits
 pub record IsCarried (link : ℕ) (d : Drill) : Type 0 where
@@ -60,20 +60,20 @@ or_false false = refl
 
 same_dropped : (link : ℕ) (run : List Mark) (mark : Mark) → is_drop_of link mark ≡ false → is_dropped link (run ++ mark ∷ []) ≡ is_dropped link run
 same_dropped link run mark none =
-    any-append (is_drop_of link) run (mark ∷ []) ∙ ap (λ (b : Bool). is_dropped link run || (b || false)) none ∙ or_false (is_dropped link run)
+    any_append (is_drop_of link) run (mark ∷ []) ∙ ap (λ (b : Bool). is_dropped link run || (b || false)) none ∙ or_false (is_dropped link run)
 
 same_sent : (link : ℕ) (side : Side) (run : List Mark) (mark : Mark) → written_at link side mark ≡ [] → bytes_sent link side (run ++ mark ∷ []) ≡ bytes_sent link side run
-same_sent link side run mark none = sent-one link side run mark ∙ ap (λ (xs : List ℕ). bytes_sent link side run ++ xs) none ∙ append-nil (bytes_sent link side run)
+same_sent link side run mark none = sent_one link side run mark ∙ ap (λ (xs : List ℕ). bytes_sent link side run ++ xs) none ∙ append-nil (bytes_sent link side run)
 
 same_received : (link : ℕ) (side : Side) (run : List Mark) (mark : Mark) → fed_at link side mark ≡ [] → bytes_received link side (run ++ mark ∷ []) ≡ bytes_received link side run
-same_received link side run mark none = received-one link side run mark ∙ ap (λ (xs : List ℕ). bytes_received link side run ++ xs) none ∙ append-nil (bytes_received link side run)
+same_received link side run mark none = received_one link side run mark ∙ ap (λ (xs : List ℕ). bytes_received link side run ++ xs) none ∙ append-nil (bytes_received link side run)
 
 -- ===== a mark of no bytes
 
-pub carry-mark : (link : ℕ) (mark : Mark) (d : Drill) → written_at link Initiator mark ≡ [] → written_at link Responder mark ≡ [] → fed_at link Initiator mark ≡ [] → fed_at link Responder mark ≡ [] →
+pub carry_mark : (link : ℕ) (mark : Mark) (d : Drill) → written_at link Initiator mark ≡ [] → written_at link Responder mark ≡ [] → fed_at link Initiator mark ≡ [] → fed_at link Responder mark ≡ [] →
     is_drop_of link mark ≡ false → MatchedMark link d.marks mark → Carries link d → Carries link (with_mark mark d)
-carry-mark link mark d wi wr fi fr standing m c = record {
-  matched = AtEachMark-more (MatchedMark link) [] d.marks mark c.matched m;
+carry_mark link mark d wi wr fi fr standing m c = record {
+  matched = AtEachMark_more (MatchedMark link) [] d.marks mark c.matched m;
   room = c.room;
   carried = λ e. (let h = c.carried (sym (same_dropped link d.marks mark standing) ∙ e) in record {
     up = ap (λ (xs : List ℕ). xs ++ (pipes_of link d).up) (same_received link Responder d.marks mark fr) ∙ h.up ∙ sym (same_sent link Initiator d.marks mark wi);
@@ -90,9 +90,9 @@ own_pipes link pipes d room = get_or-set_same d.pipes (link - 1) pipes empty_pip
 still_room : (link : ℕ) (pipes : Pipes) (d : Drill) → link - 1 < length d.pipes → link - 1 < length (with_pipes link pipes d).pipes
 still_room link pipes d room = subst (λ (n : ℕ). link - 1 < n) (sym (length-set d.pipes (link - 1) pipes)) room
 
-carry-output : (link : ℕ) (side : Side) (bytes : List ℕ) (d : Drill) → is_dropped link d.marks ≡ false → Carries link d → Carries link (after_output link side bytes d)
-carry-output link side [] d standing c = c
-carry-output link Initiator (b ∷ bytes) d standing c =
+carry_output : (link : ℕ) (side : Side) (bytes : List ℕ) (d : Drill) → is_dropped link d.marks ≡ false → Carries link d → Carries link (after_output link side bytes d)
+carry_output link side [] d standing c = c
+carry_output link Initiator (b ∷ bytes) d standing c =
     let mark = marks.Wrote link Initiator (b ∷ bytes) in
     let pipes = pipes_of link d in
     let mid = with_mark mark d in
@@ -100,12 +100,12 @@ carry-output link Initiator (b ∷ bytes) d standing c =
     let h = c.carried standing in
     let kept : is_dropped link (d.marks ++ mark ∷ []) ≡ false = same_dropped link d.marks mark refl ∙ standing in
     record {
-      matched = AtEachMark-more (MatchedMark link) [] d.marks mark c.matched tt;
+      matched = AtEachMark_more (MatchedMark link) [] d.marks mark c.matched tt;
       room = still_room link (appended Initiator (b ∷ bytes) pipes) mid c.room;
       carried = λ e. record {
         up =
             (λ i. same_received link Responder d.marks mark refl i ++ (own i).up) ∙ sym (append_assoc (bytes_received link Responder d.marks) pipes.up (b ∷ bytes))
-            ∙ ap (λ (xs : List ℕ). xs ++ (b ∷ bytes)) h.up ∙ sym (sent-one link Initiator d.marks mark ∙ ap (λ (xs : List ℕ). bytes_sent link Initiator d.marks ++ xs) (own_written link Initiator (b ∷ bytes)));
+            ∙ ap (λ (xs : List ℕ). xs ++ (b ∷ bytes)) h.up ∙ sym (sent_one link Initiator d.marks mark ∙ ap (λ (xs : List ℕ). bytes_sent link Initiator d.marks ++ xs) (own_written link Initiator (b ∷ bytes)));
         down = (λ i. same_received link Initiator d.marks mark refl i ++ (own i).down) ∙ h.down ∙ sym (same_sent link Responder d.marks mark (up_written link (b ∷ bytes)));
       };
       gone = λ e. absurd (true_false (sym e ∙ kept));
@@ -113,7 +113,7 @@ carry-output link Initiator (b ∷ bytes) d standing c =
   where
     true_false : true ≡ false → ⊥
     true_false e = absurd cc
-carry-output link Responder (b ∷ bytes) d standing c =
+carry_output link Responder (b ∷ bytes) d standing c =
     let mark = marks.Wrote link Responder (b ∷ bytes) in
     let pipes = pipes_of link d in
     let mid = with_mark mark d in
@@ -121,13 +121,13 @@ carry-output link Responder (b ∷ bytes) d standing c =
     let h = c.carried standing in
     let kept : is_dropped link (d.marks ++ mark ∷ []) ≡ false = same_dropped link d.marks mark refl ∙ standing in
     record {
-      matched = AtEachMark-more (MatchedMark link) [] d.marks mark c.matched tt;
+      matched = AtEachMark_more (MatchedMark link) [] d.marks mark c.matched tt;
       room = still_room link (appended Responder (b ∷ bytes) pipes) mid c.room;
       carried = λ e. record {
         up = (λ i. same_received link Responder d.marks mark refl i ++ (own i).up) ∙ h.up ∙ sym (same_sent link Initiator d.marks mark (down_written link (b ∷ bytes)));
         down =
             (λ i. same_received link Initiator d.marks mark refl i ++ (own i).down) ∙ sym (append_assoc (bytes_received link Initiator d.marks) pipes.down (b ∷ bytes))
-            ∙ ap (λ (xs : List ℕ). xs ++ (b ∷ bytes)) h.down ∙ sym (sent-one link Responder d.marks mark ∙ ap (λ (xs : List ℕ). bytes_sent link Responder d.marks ++ xs) (own_written link Responder (b ∷ bytes)));
+            ∙ ap (λ (xs : List ℕ). xs ++ (b ∷ bytes)) h.down ∙ sym (sent_one link Responder d.marks mark ∙ ap (λ (xs : List ℕ). bytes_sent link Responder d.marks ++ xs) (own_written link Responder (b ∷ bytes)));
       };
       gone = λ e. absurd (true_false (sym e ∙ kept));
     }
@@ -135,22 +135,22 @@ carry-output link Responder (b ∷ bytes) d standing c =
     true_false : true ≡ false → ⊥
     true_false e = absurd cc
 
-output-dropped : (link : ℕ) (side : Side) (bytes : List ℕ) (d : Drill) → is_dropped link (after_output link side bytes d).marks ≡ is_dropped link d.marks
-output-dropped link side [] d = refl
-output-dropped link side (b ∷ bytes) d = same_dropped link d.marks (marks.Wrote link side (b ∷ bytes)) refl
+output_dropped : (link : ℕ) (side : Side) (bytes : List ℕ) (d : Drill) → is_dropped link (after_output link side bytes d).marks ≡ is_dropped link d.marks
+output_dropped link side [] d = refl
+output_dropped link side (b ∷ bytes) d = same_dropped link d.marks (marks.Wrote link side (b ∷ bytes)) refl
 
 -- on a link that stands
-pub carry-settled : (s : Setting) (link : ℕ) (d : Drill) → is_dropped link d.marks ≡ false → Carries link d → Carries link (settled s link d)
+pub carry_settled : (s : Setting) (link : ℕ) (d : Drill) → is_dropped link d.marks ≡ false → Carries link d → Carries link (settled s link d)
 unfolding settled
-carry-settled s link d standing c =
+carry_settled s link d standing c =
     let up = unwritten (s.opened link) link Initiator d.marks in
     let mid = after_all_output s link Initiator d in
-    carry-output link Responder (unwritten (s.opened link) link Responder mid.marks) mid (output-dropped link Initiator up d ∙ standing) (carry-output link Initiator up d standing c)
+    carry_output link Responder (unwritten (s.opened link) link Responder mid.marks) mid (output_dropped link Initiator up d ∙ standing) (carry_output link Initiator up d standing c)
 
 -- if nothing is left to write, nothing changes
-pub settled-same : (s : Setting) (link : ℕ) (d : Drill) → IsWritten (s.opened link) link d.marks → settled s link d ≡ d
+pub settled_same : (s : Setting) (link : ℕ) (d : Drill) → IsWritten (s.opened link) link d.marks → settled s link d ≡ d
 unfolding settled
-settled-same s link d w =
+settled_same s link d w =
     let o = s.opened link in
     ap (λ (m : Drill). after_output link Responder (unwritten o link Responder m.marks) m) (ap (λ (xs : List ℕ). after_output link Initiator xs d) w.client)
     ∙ ap (λ (xs : List ℕ). after_output link Responder xs d) w.server
@@ -167,10 +167,10 @@ up_fed link bytes = ap (λ (b : Bool). if b && false then bytes else []) (itself
 down_fed : (link : ℕ) (bytes : List ℕ) → fed_at link Responder (marks.Fed link Initiator bytes) ≡ []
 down_fed link bytes = ap (λ (b : Bool). if b && false then bytes else []) (itself link)
 
-carry-up : (link : ℕ) (piece rest : List ℕ) (d : Drill) → piece ++ rest ≡ (pipes_of link d).up → is_dropped link d.marks ≡ false → Carries link d →
+carry_up : (link : ℕ) (piece rest : List ℕ) (d : Drill) → piece ++ rest ≡ (pipes_of link d).up → is_dropped link d.marks ≡ false → Carries link d →
     Carries link (after_feeding link Responder piece (record (pipes_of link d) { up = rest }) d)
-carry-up link [] rest d is standing c = c
-carry-up link (b ∷ piece) rest d is standing c =
+carry_up link [] rest d is standing c = c
+carry_up link (b ∷ piece) rest d is standing c =
     let mark = marks.Fed link Responder (b ∷ piece) in
     let pipes : Pipes = record (pipes_of link d) { up = rest } in
     let mid = with_mark mark d in
@@ -180,11 +180,11 @@ carry-up link (b ∷ piece) rest d is standing c =
     let all : (got ++ (b ∷ piece)) ++ rest ≡ bytes_sent link Initiator d.marks = append_assoc got (b ∷ piece) rest ∙ ap (λ (xs : List ℕ). got ++ xs) is ∙ h.up in
     let kept : is_dropped link (d.marks ++ mark ∷ []) ≡ false = same_dropped link d.marks mark refl ∙ standing in
     record {
-      matched = AtEachMark-more (MatchedMark link) [] d.marks mark c.matched (λ same. (rest, all));
+      matched = AtEachMark_more (MatchedMark link) [] d.marks mark c.matched (λ same. (rest, all));
       room = still_room link pipes mid c.room;
       carried = λ e. record {
         up =
-            (λ i. (received-one link Responder d.marks mark ∙ ap (λ (xs : List ℕ). got ++ xs) (own_fed link Responder (b ∷ piece))) i ++ (own i).up)
+            (λ i. (received_one link Responder d.marks mark ∙ ap (λ (xs : List ℕ). got ++ xs) (own_fed link Responder (b ∷ piece))) i ++ (own i).up)
             ∙ all ∙ sym (same_sent link Initiator d.marks mark refl);
         down = (λ i. same_received link Initiator d.marks mark (up_fed link (b ∷ piece)) i ++ (own i).down) ∙ h.down ∙ sym (same_sent link Responder d.marks mark refl);
       };
@@ -194,10 +194,10 @@ carry-up link (b ∷ piece) rest d is standing c =
     true_false : true ≡ false → ⊥
     true_false e = absurd cc
 
-carry-down : (link : ℕ) (piece rest : List ℕ) (d : Drill) → piece ++ rest ≡ (pipes_of link d).down → is_dropped link d.marks ≡ false → Carries link d →
+carry_down : (link : ℕ) (piece rest : List ℕ) (d : Drill) → piece ++ rest ≡ (pipes_of link d).down → is_dropped link d.marks ≡ false → Carries link d →
     Carries link (after_feeding link Initiator piece (record (pipes_of link d) { down = rest }) d)
-carry-down link [] rest d is standing c = c
-carry-down link (b ∷ piece) rest d is standing c =
+carry_down link [] rest d is standing c = c
+carry_down link (b ∷ piece) rest d is standing c =
     let mark = marks.Fed link Initiator (b ∷ piece) in
     let pipes : Pipes = record (pipes_of link d) { down = rest } in
     let mid = with_mark mark d in
@@ -207,12 +207,12 @@ carry-down link (b ∷ piece) rest d is standing c =
     let all : (got ++ (b ∷ piece)) ++ rest ≡ bytes_sent link Responder d.marks = append_assoc got (b ∷ piece) rest ∙ ap (λ (xs : List ℕ). got ++ xs) is ∙ h.down in
     let kept : is_dropped link (d.marks ++ mark ∷ []) ≡ false = same_dropped link d.marks mark refl ∙ standing in
     record {
-      matched = AtEachMark-more (MatchedMark link) [] d.marks mark c.matched (λ same. (rest, all));
+      matched = AtEachMark_more (MatchedMark link) [] d.marks mark c.matched (λ same. (rest, all));
       room = still_room link pipes mid c.room;
       carried = λ e. record {
         up = (λ i. same_received link Responder d.marks mark (down_fed link (b ∷ piece)) i ++ (own i).up) ∙ h.up ∙ sym (same_sent link Initiator d.marks mark refl);
         down =
-            (λ i. (received-one link Initiator d.marks mark ∙ ap (λ (xs : List ℕ). got ++ xs) (own_fed link Initiator (b ∷ piece))) i ++ (own i).down)
+            (λ i. (received_one link Initiator d.marks mark ∙ ap (λ (xs : List ℕ). got ++ xs) (own_fed link Initiator (b ∷ piece))) i ++ (own i).down)
             ∙ all ∙ sym (same_sent link Responder d.marks mark refl);
       };
       gone = λ e. absurd (true_false (sym e ∙ kept));
@@ -223,17 +223,17 @@ carry-down link (b ∷ piece) rest d is standing c =
 
 -- ===== each function, on its own link
 
-feed-dropped : (link : ℕ) (side : Side) (piece : List ℕ) (rest : Pipes) (d : Drill) → is_dropped link (after_feeding link side piece rest d).marks ≡ is_dropped link d.marks
-feed-dropped link side [] rest d = refl
-feed-dropped link side (b ∷ piece) rest d = same_dropped link d.marks (marks.Fed link side (b ∷ piece)) refl
+feed_dropped : (link : ℕ) (side : Side) (piece : List ℕ) (rest : Pipes) (d : Drill) → is_dropped link (after_feeding link side piece rest d).marks ≡ is_dropped link d.marks
+feed_dropped link side [] rest d = refl
+feed_dropped link side (b ∷ piece) rest d = same_dropped link d.marks (marks.Fed link side (b ∷ piece)) refl
 
 take_none : (n : ℕ) → take {A = ℕ} n [] ≡ []
 take_none zero = refl
 take_none (suc n) = refl
 
-pub carries-up : (s : Setting) (link n : ℕ) (d : Drill) → Keeps s link d → Carries link d → Carries link (after_up s link n d)
+pub carries_up : (s : Setting) (link n : ℕ) (d : Drill) → Keeps s link d → Carries link d → Carries link (after_up s link n d)
 unfolding after_up
-carries-up s link n d h c = by (is_dropped link d.marks) refl
+carries_up s link n d h c = by (is_dropped link d.marks) refl
   where
     fed : Drill
     fed = after_feeding_up link n d
@@ -245,44 +245,44 @@ carries-up s link n d h c = by (is_dropped link d.marks) refl
     by true e =
         let none : take n (pipes_of link d).up ≡ [] = ap (λ (p : Pipes). take n p.up) (c.gone e) ∙ take_none n in
         let same : fed ≡ d = ap (λ (xs : List ℕ). after_feeding link Responder xs rest d) none in
-        subst (λ (x : Drill). Carries link (settled s link x)) (sym same) (subst (Carries link) (sym (settled-same s link d h.1)) c)
+        subst (λ (x : Drill). Carries link (settled s link x)) (sym same) (subst (Carries link) (sym (settled_same s link d h.1)) c)
     by false e =
-        carry-settled s link fed (feed-dropped link Responder (take n (pipes_of link d).up) rest d ∙ e)
-        (carry-up link (take n (pipes_of link d).up) (drop n (pipes_of link d).up) d (take-append-drop n (pipes_of link d).up) e c)
+        carry_settled s link fed (feed_dropped link Responder (take n (pipes_of link d).up) rest d ∙ e)
+        (carry_up link (take n (pipes_of link d).up) (drop n (pipes_of link d).up) d (take-append-drop n (pipes_of link d).up) e c)
 
-carry-handing : (link : ℕ) (c : Option CompletedCall) (d : Drill) → Carries link d → Carries link (after_handing link c d)
-carry-handing link None d h = h
-carry-handing link (Some c) d h = carry-mark link (marks.Done link c.xid c.outcome) d refl refl refl refl refl tt h
+carry_handing : (link : ℕ) (c : Option CompletedCall) (d : Drill) → Carries link d → Carries link (after_handing link c d)
+carry_handing link None d h = h
+carry_handing link (Some c) d h = carry_mark link (marks.Done link c.xid c.outcome) d refl refl refl refl refl tt h
 
-handing-dropped : (link : ℕ) (c : Option CompletedCall) (d : Drill) → is_dropped link (after_handing link c d).marks ≡ is_dropped link d.marks
-handing-dropped link None d = refl
-handing-dropped link (Some c) d = same_dropped link d.marks (marks.Done link c.xid c.outcome) refl
+handing_dropped : (link : ℕ) (c : Option CompletedCall) (d : Drill) → is_dropped link (after_handing link c d).marks ≡ is_dropped link d.marks
+handing_dropped link None d = refl
+handing_dropped link (Some c) d = same_dropped link d.marks (marks.Done link c.xid c.outcome) refl
 
-carry-dones : (s : Setting) (link n : ℕ) (d : Drill) → Carries link d → Carries link (after_dones s link n d)
+carry_dones : (s : Setting) (link n : ℕ) (d : Drill) → Carries link d → Carries link (after_dones s link n d)
 unfolding after_done
-carry-dones s link zero d h = h
-carry-dones s link (suc n) d h = carry-dones s link n (after_done s link d) (carry-handing link (slice_get (outcomes_due (s.opened link) link d.marks) 0) d h)
+carry_dones s link zero d h = h
+carry_dones s link (suc n) d h = carry_dones s link n (after_done s link d) (carry_handing link (slice_get (outcomes_due (s.opened link) link d.marks) 0) d h)
 
-dones-dropped : (s : Setting) (link n : ℕ) (d : Drill) → is_dropped link (after_dones s link n d).marks ≡ is_dropped link d.marks
+dones_dropped : (s : Setting) (link n : ℕ) (d : Drill) → is_dropped link (after_dones s link n d).marks ≡ is_dropped link d.marks
 unfolding after_done
-dones-dropped s link zero d = refl
-dones-dropped s link (suc n) d = dones-dropped s link n (after_done s link d) ∙ handing-dropped link (slice_get (outcomes_due (s.opened link) link d.marks) 0) d
+dones_dropped s link zero d = refl
+dones_dropped s link (suc n) d = dones_dropped s link n (after_done s link d) ∙ handing_dropped link (slice_get (outcomes_due (s.opened link) link d.marks) 0) d
 
-handing-keeps : (s : Setting) (link : ℕ) (c : Option CompletedCall) (d : Drill) → slice_get (outcomes_due (s.opened link) link d.marks) 0 ≡ c → Keeps s link d → Keeps s link (after_handing link c d)
-handing-keeps s link None d e h = h
-handing-keeps s link (Some c) d e h = (
-  lawful-handing (s.opened link) link (Some c) d e h.0,
-  quiet-mark (s.opened link) link d.marks (marks.Done link c.xid c.outcome) h.0 h.1 refl refl refl refl,
+handing_keeps : (s : Setting) (link : ℕ) (c : Option CompletedCall) (d : Drill) → slice_get (outcomes_due (s.opened link) link d.marks) 0 ≡ c → Keeps s link d → Keeps s link (after_handing link c d)
+handing_keeps s link None d e h = h
+handing_keeps s link (Some c) d e h = (
+  lawful_handing (s.opened link) link (Some c) d e h.0,
+  quiet_mark (s.opened link) link d.marks (marks.Done link c.xid c.outcome) h.0 h.1 refl refl refl refl,
 )
 
-pub dones-keep : (s : Setting) (link n : ℕ) (d : Drill) → Keeps s link d → Keeps s link (after_dones s link n d)
+pub dones_keep : (s : Setting) (link n : ℕ) (d : Drill) → Keeps s link d → Keeps s link (after_dones s link n d)
 unfolding after_done
-dones-keep s link zero d h = h
-dones-keep s link (suc n) d h = dones-keep s link n (after_done s link d) (handing-keeps s link (slice_get (outcomes_due (s.opened link) link d.marks) 0) d refl h)
+dones_keep s link zero d h = h
+dones_keep s link (suc n) d h = dones_keep s link n (after_done s link d) (handing_keeps s link (slice_get (outcomes_due (s.opened link) link d.marks) 0) d refl h)
 
-pub carries-down : (s : Setting) (link n : ℕ) (d : Drill) → Keeps s link d → Carries link d → Carries link (after_down s link n d)
+pub carries_down : (s : Setting) (link n : ℕ) (d : Drill) → Keeps s link d → Carries link d → Carries link (after_down s link n d)
 unfolding after_down after_outcomes
-carries-down s link n d h c = by (is_dropped link d.marks) refl
+carries_down s link n d h c = by (is_dropped link d.marks) refl
   where
     fed : Drill
     fed = after_feeding_down link n d
@@ -299,49 +299,49 @@ carries-down s link n d h c = by (is_dropped link d.marks) refl
         let same : fed ≡ d = ap (λ (xs : List ℕ). after_feeding link Initiator xs rest d) none in
         let k = length (outcomes_due (s.opened link) link d.marks) in
         subst (λ (x : Drill). Carries link (settled s link (after_dones s link (length (outcomes_due (s.opened link) link x.marks)) x))) (sym same)
-        (subst (Carries link) (sym (settled-same s link (after_dones s link k d) (dones-keep s link k d h).1)) (carry-dones s link k d c))
+        (subst (Carries link) (sym (settled_same s link (after_dones s link k d) (dones_keep s link k d h).1)) (carry_dones s link k d c))
     by false e =
         let k = length (outcomes_due (s.opened link) link fed.marks) in
-        carry-settled s link (after_dones s link k fed) (dones-dropped s link k fed ∙ feed-dropped link Initiator (take n (pipes_of link d).down) rest d ∙ e)
-        (carry-dones s link k fed (carry-down link (take n (pipes_of link d).down) (drop n (pipes_of link d).down) d (take-append-drop n (pipes_of link d).down) e c))
+        carry_settled s link (after_dones s link k fed) (dones_dropped s link k fed ∙ feed_dropped link Initiator (take n (pipes_of link d).down) rest d ∙ e)
+        (carry_dones s link k fed (carry_down link (take n (pipes_of link d).down) (drop n (pipes_of link d).down) d (take-append-drop n (pipes_of link d).down) e c))
 
-carry-answer : (s : Setting) (link : ℕ) (call : ReadyCall) (reply : Option (List ℕ)) (d : Drill) → is_dropped link d.marks ≡ false → Carries link d → Carries link (after_answer s link call reply d)
-carry-answer s link call None d standing c = c
-carry-answer s link call (Some reply) d standing c =
+carry_answer : (s : Setting) (link : ℕ) (call : ReadyCall) (reply : Option (List ℕ)) (d : Drill) → is_dropped link d.marks ≡ false → Carries link d → Carries link (after_answer s link call reply d)
+carry_answer s link call None d standing c = c
+carry_answer s link call (Some reply) d standing c =
     let mark = marks.Execute link call.xid (now d) call.payload (length (journal (plain_of s.server) d.marks)) reply in
-    carry-settled s link (with_mark mark d) (same_dropped link d.marks mark refl ∙ standing) (carry-mark link mark d refl refl refl refl refl tt c)
+    carry_settled s link (with_mark mark d) (same_dropped link d.marks mark refl ∙ standing) (carry_mark link mark d refl refl refl refl refl tt c)
 
-carry-execution : (s : Setting) (link : ℕ) (call : Option ReadyCall) (d : Drill) → is_dropped link d.marks ≡ false → Carries link d → Carries link (after_execution s link call d)
-carry-execution s link None d standing c = c
-carry-execution s link (Some call) d standing c = carry-answer s link call (s.server.reply_to (journal (plain_of s.server) d.marks) (now d) call.payload) d standing c
+carry_execution : (s : Setting) (link : ℕ) (call : Option ReadyCall) (d : Drill) → is_dropped link d.marks ≡ false → Carries link d → Carries link (after_execution s link call d)
+carry_execution s link None d standing c = c
+carry_execution s link (Some call) d standing c = carry_answer s link call (s.server.reply_to (journal (plain_of s.server) d.marks) (now d) call.payload) d standing c
 
-pub carries-work : (s : Setting) (link : ℕ) (d : Drill) → Carries link d → Carries link (after_work s link d)
+pub carries_work : (s : Setting) (link : ℕ) (d : Drill) → Carries link d → Carries link (after_work s link d)
 unfolding after_work waiting_call
-carries-work s link d c = by (is_dropped link d.marks) refl
+carries_work s link d c = by (is_dropped link d.marks) refl
   where
     next : Option ReadyCall
     next = next_call (s.opened link) link d.marks
 
     by : (b : Bool) → is_dropped link d.marks ≡ b → Carries link (after_execution s link (if_standing (is_dropped link d.marks) next) d)
     by true e = subst (λ (x : Option ReadyCall). Carries link (after_execution s link x d)) (sym (ap (λ (b : Bool). if_standing b next) e)) c
-    by false e = carry-execution s link (if_standing (is_dropped link d.marks) next) d e c
+    by false e = carry_execution s link (if_standing (is_dropped link d.marks) next) d e c
 
-carries-calls : (s : Setting) (link n : ℕ) (d : Drill) → Carries link d → Carries link (after_calls s link n d)
-carries-calls s link zero d c = c
-carries-calls s link (suc n) d c = carries-calls s link n (after_work s link d) (carries-work s link d c)
+carries_calls : (s : Setting) (link n : ℕ) (d : Drill) → Carries link d → Carries link (after_calls s link n d)
+carries_calls s link zero d c = c
+carries_calls s link (suc n) d c = carries_calls s link n (after_work s link d) (carries_work s link d c)
 
-carries-moves : (s : Setting) (link : ℕ) (d : Drill) → Keeps s link d → Carries link d → Carries link (after_moves s link d)
+carries_moves : (s : Setting) (link : ℕ) (d : Drill) → Keeps s link d → Carries link d → Carries link (after_moves s link d)
 unfolding after_moves after_all_work
-carries-moves s link d h c =
+carries_moves s link d h c =
     let one = after_all_up s link d in
     let two = after_all_work s link one in
     let k = length (server (s.opened link) link one.marks).state.ready in
-    let up = lawful-after_up s link (length (pipes_of link d).up) d h in
-    carries-down s link (length (pipes_of link two).down) two (lawful-calls s link k one up) (carries-calls s link k one (carries-up s link (length (pipes_of link d).up) d h c))
+    let up = lawful_after_up s link (length (pipes_of link d).up) d h in
+    carries_down s link (length (pipes_of link two).down) two (lawful_calls s link k one up) (carries_calls s link k one (carries_up s link (length (pipes_of link d).up) d h c))
 
-carries-submit : (s : Setting) (link : ℕ) (call : Call) (form : Form) (d : Drill) → Keeps s link d → Carries link d → Carries link (after_submit s link call form d)
+carries_submit : (s : Setting) (link : ℕ) (call : Call) (form : Form) (d : Drill) → Keeps s link d → Carries link d → Carries link (after_submit s link call form d)
 unfolding after_submit submit_answer_after
-carries-submit s link call form d h c = by (is_dropped link d.marks) refl
+carries_submit s link call form d h c = by (is_dropped link d.marks) refl
   where
     o : LinkParameters
     o = s.opened link
@@ -352,39 +352,39 @@ carries-submit s link call form d h c = by (is_dropped link d.marks) refl
     by : (b : Bool) → is_dropped link d.marks ≡ b → Carries link (settled s link (with_mark (answered (is_dropped link d.marks)) d))
     by true e =
         let mark = answered (is_dropped link d.marks) in
-        subst (Carries link) (sym (settled-same s link (with_mark mark d) (quiet-mark o link d.marks mark h.0 h.1 refl refl
+        subst (Carries link) (sym (settled_same s link (with_mark mark d) (quiet_mark o link d.marks mark h.0 h.1 refl refl
         (ap (λ (b : Bool). more_due o link Initiator d.marks (answered b)) e) (ap (λ (b : Bool). more_due o link Responder d.marks (answered b)) e))))
-        (carry-mark link mark d refl refl refl refl refl tt c)
+        (carry_mark link mark d refl refl refl refl refl tt c)
     by false e =
         let mark = answered (is_dropped link d.marks) in
-        carry-settled s link (with_mark mark d) (same_dropped link d.marks mark refl ∙ e) (carry-mark link mark d refl refl refl refl refl tt c)
+        carry_settled s link (with_mark mark d) (same_dropped link d.marks mark refl ∙ e) (carry_mark link mark d refl refl refl refl refl tt c)
 
-carry-giving_up : (link : ℕ) (xid : Option ℕ) (d : Drill) → Carries link d → Carries link (after_giving_up link xid d)
-carry-giving_up link None d c = c
-carry-giving_up link (Some xid) d c = carry-mark link (marks.Forget link xid) d refl refl refl refl refl tt c
+carry_giving_up : (link : ℕ) (xid : Option ℕ) (d : Drill) → Carries link d → Carries link (after_giving_up link xid d)
+carry_giving_up link None d c = c
+carry_giving_up link (Some xid) d c = carry_mark link (marks.Forget link xid) d refl refl refl refl refl tt c
 
-carries-forget : (s : Setting) (link number : ℕ) (d : Drill) → Carries link d → Carries link (after_forget s link number d)
+carries_forget : (s : Setting) (link number : ℕ) (d : Drill) → Carries link d → Carries link (after_forget s link number d)
 unfolding after_forget
-carries-forget s link number d c = carry-giving_up link (open_xid s link d.marks (answer_of_line link number d.marks)) d c
+carries_forget s link number d c = carry_giving_up link (open_xid s link d.marks (answer_of_line link number d.marks)) d c
 
 -- taking memory back makes nothing due
-revoke-client : (o : LinkParameters) (k : ClientState) (ended : Option End) (place xid : ℕ) → output_for_all (client_rules o) (record { state = k; ended = ended }) (MemoryRevoked place xid ∷ []) ≡ []
+revoke_client : (o : LinkParameters) (k : ClientState) (ended : Option End) (place xid : ℕ) → output_for_all (client_rules o) (record { state = k; ended = ended }) (MemoryRevoked place xid ∷ []) ≡ []
 unfolding client_end client_output
-revoke-client o k None place xid = refl
-revoke-client o k (Some end) place xid = refl
+revoke_client o k None place xid = refl
+revoke_client o k (Some end) place xid = refl
 
-quiet-revoke : (o : LinkParameters) (link xid : ℕ) (side : Side) (run : List Mark) (bytes : List ℕ) → more_due o link side run (marks.Revoke link xid bytes) ≡ []
-quiet-revoke o link xid Initiator run bytes =
+quiet_revoke : (o : LinkParameters) (link xid : ℕ) (side : Side) (run : List Mark) (bytes : List ℕ) → more_due o link side run (marks.Revoke link xid bytes) ≡ []
+quiet_revoke o link xid Initiator run bytes =
     let place = length (bytes_received link Initiator run) in
     ap (λ (b : Bool). output_for_all (client_rules o) (client o link run) (if_own (b && true) (MemoryRevoked place xid ∷ []))) (itself link)
-    ∙ revoke-client o (client o link run).state (client o link run).ended place xid
-quiet-revoke o link xid Responder run bytes =
+    ∙ revoke_client o (client o link run).state (client o link run).ended place xid
+quiet_revoke o link xid Responder run bytes =
     let place = length (bytes_received link Responder run) in
     ap (λ (b : Bool). output_for_all (server_rules o) (server o link run) (if_own (b && false) (MemoryRevoked place xid ∷ []))) (itself link)
 
-carry-taking_back : (s : Setting) (link : ℕ) (xid : Option ℕ) (d : Drill) → Keeps s link d → Carries link d → Carries link (after_taking_back s link xid d)
-carry-taking_back s link None d h c = c
-carry-taking_back s link (Some xid) d h c = by (is_dropped link d.marks) refl
+carry_taking_back : (s : Setting) (link : ℕ) (xid : Option ℕ) (d : Drill) → Keeps s link d → Carries link d → Carries link (after_taking_back s link xid d)
+carry_taking_back s link None d h c = c
+carry_taking_back s link (Some xid) d h c = by (is_dropped link d.marks) refl
   where
     o : LinkParameters
     o = s.opened link
@@ -394,23 +394,23 @@ carry-taking_back s link (Some xid) d h c = by (is_dropped link d.marks) refl
 
     by : (b : Bool) → is_dropped link d.marks ≡ b → Carries link (settled s link (with_mark mark d))
     by true e =
-        subst (Carries link) (sym (settled-same s link (with_mark mark d) (quiet-mark o link d.marks mark h.0 h.1 refl refl
-        (quiet-revoke o link xid Initiator d.marks (revoked_bytes o link d.marks xid)) (quiet-revoke o link xid Responder d.marks (revoked_bytes o link d.marks xid)))))
-        (carry-mark link mark d refl refl refl refl refl tt c)
-    by false e = carry-settled s link (with_mark mark d) (same_dropped link d.marks mark refl ∙ e) (carry-mark link mark d refl refl refl refl refl tt c)
+        subst (Carries link) (sym (settled_same s link (with_mark mark d) (quiet_mark o link d.marks mark h.0 h.1 refl refl
+        (quiet_revoke o link xid Initiator d.marks (revoked_bytes o link d.marks xid)) (quiet_revoke o link xid Responder d.marks (revoked_bytes o link d.marks xid)))))
+        (carry_mark link mark d refl refl refl refl refl tt c)
+    by false e = carry_settled s link (with_mark mark d) (same_dropped link d.marks mark refl ∙ e) (carry_mark link mark d refl refl refl refl refl tt c)
 
-carries-revoke : (s : Setting) (link number : ℕ) (d : Drill) → Keeps s link d → Carries link d → Carries link (after_revoke s link number d)
+carries_revoke : (s : Setting) (link number : ℕ) (d : Drill) → Keeps s link d → Carries link d → Carries link (after_revoke s link number d)
 unfolding after_revoke
-carries-revoke s link number d h c = carry-taking_back s link (open_xid s link d.marks (answer_of_line link number d.marks)) d h c
+carries_revoke s link number d h c = carry_taking_back s link (open_xid s link d.marks (answer_of_line link number d.marks)) d h c
 
-carries-drop : (link : ℕ) (d : Drill) → Carries link d → Carries link (after_drop link d)
-carries-drop link d c =
+carries_drop : (link : ℕ) (d : Drill) → Carries link d → Carries link (after_drop link d)
+carries_drop link d c =
     let mark = marks.Drop link in
     let mid = with_mark mark d in
     let dropped : is_dropped link (d.marks ++ mark ∷ []) ≡ true =
-    any-append (is_drop_of link) d.marks (mark ∷ []) ∙ ap (λ (b : Bool). is_dropped link d.marks || (b || false)) (itself link) ∙ or_true (is_dropped link d.marks) in
+    any_append (is_drop_of link) d.marks (mark ∷ []) ∙ ap (λ (b : Bool). is_dropped link d.marks || (b || false)) (itself link) ∙ or_true (is_dropped link d.marks) in
     record {
-      matched = AtEachMark-more (MatchedMark link) [] d.marks mark c.matched tt;
+      matched = AtEachMark_more (MatchedMark link) [] d.marks mark c.matched tt;
       room = still_room link empty_pipes mid c.room;
       carried = λ e. absurd (true_false (sym dropped ∙ e));
       gone = λ e. own_pipes link empty_pipes mid c.room;
@@ -475,11 +475,11 @@ same_here link other old (mark ∷ added) ne own =
       sent = λ side. rest.sent side ∙ same_sent link side old mark (not_written link side mark from);
       received = λ side. rest.received side ∙ same_received link side old mark (not_fed link side mark from);
       dropped = rest.dropped ∙ same_dropped link old mark (not_drop link mark from);
-      matched = λ m. rest.matched (AtEachMark-more (MatchedMark link) [] old mark m (matched_elsewhere link old mark from));
+      matched = λ m. rest.matched (AtEachMark_more (MatchedMark link) [] old mark m (matched_elsewhere link old mark from));
     })
 
-pub carries-elsewhere : (link other : ℕ) (old new : Drill) → other ≢ link → link - 1 ≢ other - 1 → Extends other old new → Carries link old → Carries link new
-carries-elsewhere link other old new ne apart_pipes x c =
+pub carries_elsewhere : (link other : ℕ) (old new : Drill) → other ≢ link → link - 1 ≢ other - 1 → Extends other old new → Carries link old → Carries link new
+carries_elsewhere link other old new ne apart_pipes x c =
     let same : IsSameHere link old.marks new.marks = subst (IsSameHere link old.marks) (sym x.marks.is) (same_here link other old.marks x.marks.added ne x.marks.own) in
     let pipes = x.pipes link apart_pipes in
     record {
@@ -515,7 +515,7 @@ stands_by s acted link old new some one p h = record { holds = holds_by s acted 
         subst (λ (l : ℕ). Carries l new) same (p.carries (subst (λ (l : ℕ). Keeps s l old) (sym same) h.holds.keeps) (subst (λ (l : ℕ). Carries l old) (sym same) h.carries))
     by false is =
         let ne : acted ≢ link = (λ same. differs (sym is ∙ eq-eqb acted link same)) in
-        carries-elsewhere link acted old new ne (λ same. ne (let a = some in let b = one in let c = same in omega (arith, a, b, c))) p.acts.extends h.carries
+        carries_elsewhere link acted old new ne (λ same. ne (let a = some in let b = one in let c = same in omega (arith, a, b, c))) p.acts.extends h.carries
 
 -- a line names a client from 1 on, and puts no bytes into the pipes of this link
 abbrev pub NamesClient : Line → Type 0
@@ -549,156 +549,156 @@ same_marks link old new m p c = record {
   gone = λ e. ap (λ (ps : List Pipes). slice_index_or ps (link - 1) empty_pipes) p ∙ c.gone (ap (λ (run : List Mark). is_dropped link run) (sym m) ∙ e);
 }
 
-line-stands : (s : Setting) (link : ℕ) (line : Line) (d : Drill) → 1 ≤ link → ((l : ℕ) → IsOpened (s.opened l)) → HasWritableCred line → NamesClient line → is_raw_of link line ≡ false →
+line_stands : (s : Setting) (link : ℕ) (line : Line) (d : Drill) → 1 ≤ link → ((l : ℕ) → IsOpened (s.opened l)) → HasWritableCred line → NamesClient line → is_raw_of link line ≡ false →
     Stands s link d → Stands s link (after_line s line d)
-line-stands s link (lines.Cred client cred) d one opened w some raw h =
-    record { holds = line-holds s link (lines.Cred client cred) d opened w h.holds; carries = same_marks link d (with_cred client cred d) refl refl h.carries }
-line-stands s link (lines.Call client form prog vers proc args) d one opened w some raw h =
+line_stands s link (lines.Cred client cred) d one opened w some raw h =
+    record { holds = line_holds s link (lines.Cred client cred) d opened w h.holds; carries = same_marks link d (with_cred client cred d) refl refl h.carries }
+line_stands s link (lines.Call client form prog vers proc args) d one opened w some raw h =
     let call : Call = record { prog = prog; vers = vers; proc = proc; cred = cred_of client d; args = args } in
     stands_by s client link d (after_submit s client call form d) some one (record {
-      acts = record { own = λ k. lawful-submit s client call form d (opened client) (cred_at d.creds (client - 1) h.holds.creds) k; extends = submit-adds s client call form d };
-      carries = λ k c. carries-submit s client call form d k c;
+      acts = record { own = λ k. lawful_submit s client call form d (opened client) (cred_at d.creds (client - 1) h.holds.creds) k; extends = submit_adds s client call form d };
+      carries = λ k c. carries_submit s client call form d k c;
     }) h
-line-stands s link (lines.Up client most) d one opened w some raw h =
+line_stands s link (lines.Up client most) d one opened w some raw h =
     stands_by s client link d (after_up s client most d) some one (record {
-      acts = record { own = λ k. lawful-after_up s client most d k; extends = up-adds s client most d };
-      carries = λ k c. carries-up s client most d k c;
+      acts = record { own = λ k. lawful_after_up s client most d k; extends = up_adds s client most d };
+      carries = λ k c. carries_up s client most d k c;
     }) h
-line-stands s link (lines.Down client most) d one opened w some raw h =
+line_stands s link (lines.Down client most) d one opened w some raw h =
     stands_by s client link d (after_down s client most d) some one (record {
-      acts = record { own = λ k. lawful-after_down s client most d k; extends = down-adds s client most d };
-      carries = λ k c. carries-down s client most d k c;
+      acts = record { own = λ k. lawful_after_down s client most d k; extends = down_adds s client most d };
+      carries = λ k c. carries_down s client most d k c;
     }) h
-line-stands s link (lines.Work client) d one opened w some raw h =
+line_stands s link (lines.Work client) d one opened w some raw h =
     stands_by s client link d (after_work s client d) some one (record {
-      acts = record { own = λ k. lawful-work s client d k; extends = work-adds s client d };
-      carries = λ k c. carries-work s client d c;
+      acts = record { own = λ k. lawful_work s client d k; extends = work_adds s client d };
+      carries = λ k c. carries_work s client d c;
     }) h
-line-stands s link (lines.Tick seconds) d one opened w some raw h =
-    record { holds = line-holds s link (lines.Tick seconds) d opened w h.holds; carries = same_marks link d (record d { seconds = d.seconds + seconds }) refl refl h.carries }
-line-stands s link (lines.Forget client number) d one opened w some raw h =
+line_stands s link (lines.Tick seconds) d one opened w some raw h =
+    record { holds = line_holds s link (lines.Tick seconds) d opened w h.holds; carries = same_marks link d (record d { seconds = d.seconds + seconds }) refl refl h.carries }
+line_stands s link (lines.Forget client number) d one opened w some raw h =
     stands_by s client link d (after_forget s client number d) some one (record {
-      acts = record { own = λ k. keeps-forget s client number d k; extends = forget-adds s client number d };
-      carries = λ k c. carries-forget s client number d c;
+      acts = record { own = λ k. keeps_forget s client number d k; extends = forget_adds s client number d };
+      carries = λ k c. carries_forget s client number d c;
     }) h
-line-stands s link (lines.Revoke client number) d one opened w some raw h =
+line_stands s link (lines.Revoke client number) d one opened w some raw h =
     stands_by s client link d (after_revoke s client number d) some one (record {
-      acts = record { own = λ k. lawful-revoke s client number d k; extends = revoke-adds s client number d };
-      carries = λ k c. carries-revoke s client number d k c;
+      acts = record { own = λ k. lawful_revoke s client number d k; extends = revoke_adds s client number d };
+      carries = λ k c. carries_revoke s client number d k c;
     }) h
-line-stands s link (lines.Drop client) d one opened w some raw h =
+line_stands s link (lines.Drop client) d one opened w some raw h =
     stands_by s client link d (after_drop client d) some one (record {
-      acts = record { own = λ k. keeps-drop s client d k; extends = drop-adds client d };
-      carries = λ k c. carries-drop client d c;
+      acts = record { own = λ k. keeps_drop s client d k; extends = drop_adds client d };
+      carries = λ k c. carries_drop client d c;
     }) h
-line-stands s link (lines.Raw client side bytes) d one opened w some raw h =
+line_stands s link (lines.Raw client side bytes) d one opened w some raw h =
     let ne : client ≢ link = other_than client link raw in
     record {
-      holds = line-holds s link (lines.Raw client side bytes) d opened w h.holds;
-      carries = carries-elsewhere link client d (after_raw client side bytes (is_dropped client d.marks) d) ne
-          (λ same. ne (let a = some in let b = one in let c = same in omega (arith, a, b, c))) (raw-adds client side bytes (is_dropped client d.marks) d) h.carries;
+      holds = line_holds s link (lines.Raw client side bytes) d opened w h.holds;
+      carries = carries_elsewhere link client d (after_raw client side bytes (is_dropped client d.marks) d) ne
+          (λ same. ne (let a = some in let b = one in let c = same in omega (arith, a, b, c))) (raw_adds client side bytes (is_dropped client d.marks) d) h.carries;
     }
-line-stands s link lines.Drain d one opened w some raw h = h
+line_stands s link lines.Drain d one opened w some raw h = h
 
 abbrev AreLinks : List ℕ → Type 0
 AreLinks links = AllByRecursion (λ (l : ℕ). 1 ≤ l) links
 
-round-stands : (s : Setting) (link : ℕ) (links : List ℕ) (d : Drill) → 1 ≤ link → AreLinks links → Stands s link d → Stands s link (after_round s links d)
-round-stands s link [] d one some h = h
-round-stands s link (l ∷ links) d one some h =
-    round-stands s link links (after_moves s l d) one some.1
+round_stands : (s : Setting) (link : ℕ) (links : List ℕ) (d : Drill) → 1 ≤ link → AreLinks links → Stands s link d → Stands s link (after_round s links d)
+round_stands s link [] d one some h = h
+round_stands s link (l ∷ links) d one some h =
+    round_stands s link links (after_moves s l d) one some.1
     (stands_by s l link d (after_moves s l d) some.0 one (record {
-      acts = record { own = λ k. lawful-moves s l d k; extends = moves-adds s l d };
-      carries = λ k c. carries-moves s l d k c;
+      acts = record { own = λ k. lawful_moves s l d k; extends = moves_adds s l d };
+      carries = λ k c. carries_moves s l d k c;
     }) h)
 
-pub drain-stands : (s : Setting) (link : ℕ) (links : List ℕ) (rounds : ℕ) (old new : Drill) → 1 ≤ link → AreLinks links → Drains s links rounds old new → Stands s link old → Stands s link new
-drain-stands s link links zero old new one some drains h = subst (Stands s link) (sym drains.1) h
-drain-stands s link links (suc rounds) old new one some drains h =
-    drain-stands s link links rounds (after_round s links old) new one some drains.1 (round-stands s link links old one some h)
+pub drain_stands : (s : Setting) (link : ℕ) (links : List ℕ) (rounds : ℕ) (old new : Drill) → 1 ≤ link → AreLinks links → Drains s links rounds old new → Stands s link old → Stands s link new
+drain_stands s link links zero old new one some drains h = subst (Stands s link) (sym drains.1) h
+drain_stands s link links (suc rounds) old new one some drains h =
+    drain_stands s link links rounds (after_round s links old) new one some drains.1 (round_stands s link links old one some h)
 
 pub are_links : (from n : ℕ) → 1 ≤ from → AreLinks (range_with_len from n)
 are_links from zero some = tt
 are_links from (suc n) some = (some, are_links (from + 1) n (let a = some in omega (arith, a)))
 
-line-passed : (s : Setting) (clients link : ℕ) (line : Line) (old new : Drill) → 1 ≤ link → ((l : ℕ) → IsOpened (s.opened l)) → HasWritableCred line → NamesClient line → is_raw_of link line ≡ false →
+line_passed : (s : Setting) (clients link : ℕ) (line : Line) (old new : Drill) → 1 ≤ link → ((l : ℕ) → IsOpened (s.opened l)) → HasWritableCred line → NamesClient line → is_raw_of link line ≡ false →
     Makes s clients line old new → Stands s link old → Stands s link new
-line-passed s clients link (lines.Cred client cred) old new one opened w n r e h = subst (Stands s link) (sym e) (line-stands s link (lines.Cred client cred) old one opened w n r h)
-line-passed s clients link (lines.Call client form prog vers proc args) old new one opened w n r e h =
-    subst (Stands s link) (sym e) (line-stands s link (lines.Call client form prog vers proc args) old one opened w n r h)
-line-passed s clients link (lines.Up client most) old new one opened w n r e h = subst (Stands s link) (sym e) (line-stands s link (lines.Up client most) old one opened w n r h)
-line-passed s clients link (lines.Down client most) old new one opened w n r e h = subst (Stands s link) (sym e) (line-stands s link (lines.Down client most) old one opened w n r h)
-line-passed s clients link (lines.Work client) old new one opened w n r e h = subst (Stands s link) (sym e) (line-stands s link (lines.Work client) old one opened w n r h)
-line-passed s clients link (lines.Tick seconds) old new one opened w n r e h = subst (Stands s link) (sym e) (line-stands s link (lines.Tick seconds) old one opened w n r h)
-line-passed s clients link (lines.Forget client number) old new one opened w n r e h = subst (Stands s link) (sym e) (line-stands s link (lines.Forget client number) old one opened w n r h)
-line-passed s clients link (lines.Revoke client number) old new one opened w n r e h = subst (Stands s link) (sym e) (line-stands s link (lines.Revoke client number) old one opened w n r h)
-line-passed s clients link (lines.Drop client) old new one opened w n r e h = subst (Stands s link) (sym e) (line-stands s link (lines.Drop client) old one opened w n r h)
-line-passed s clients link (lines.Raw client side bytes) old new one opened w n r e h = subst (Stands s link) (sym e) (line-stands s link (lines.Raw client side bytes) old one opened w n r h)
-line-passed s clients link lines.Drain old new one opened w n r e h = drain-stands s link (links_of clients) e.0 old new one (are_links 1 clients (omega arith)) e.1 h
+line_passed s clients link (lines.Cred client cred) old new one opened w n r e h = subst (Stands s link) (sym e) (line_stands s link (lines.Cred client cred) old one opened w n r h)
+line_passed s clients link (lines.Call client form prog vers proc args) old new one opened w n r e h =
+    subst (Stands s link) (sym e) (line_stands s link (lines.Call client form prog vers proc args) old one opened w n r h)
+line_passed s clients link (lines.Up client most) old new one opened w n r e h = subst (Stands s link) (sym e) (line_stands s link (lines.Up client most) old one opened w n r h)
+line_passed s clients link (lines.Down client most) old new one opened w n r e h = subst (Stands s link) (sym e) (line_stands s link (lines.Down client most) old one opened w n r h)
+line_passed s clients link (lines.Work client) old new one opened w n r e h = subst (Stands s link) (sym e) (line_stands s link (lines.Work client) old one opened w n r h)
+line_passed s clients link (lines.Tick seconds) old new one opened w n r e h = subst (Stands s link) (sym e) (line_stands s link (lines.Tick seconds) old one opened w n r h)
+line_passed s clients link (lines.Forget client number) old new one opened w n r e h = subst (Stands s link) (sym e) (line_stands s link (lines.Forget client number) old one opened w n r h)
+line_passed s clients link (lines.Revoke client number) old new one opened w n r e h = subst (Stands s link) (sym e) (line_stands s link (lines.Revoke client number) old one opened w n r h)
+line_passed s clients link (lines.Drop client) old new one opened w n r e h = subst (Stands s link) (sym e) (line_stands s link (lines.Drop client) old one opened w n r h)
+line_passed s clients link (lines.Raw client side bytes) old new one opened w n r e h = subst (Stands s link) (sym e) (line_stands s link (lines.Raw client side bytes) old one opened w n r h)
+line_passed s clients link lines.Drain old new one opened w n r e h = drain_stands s link (links_of clients) e.0 old new one (are_links 1 clients (omega arith)) e.1 h
 
 pub neither_raw : (a b : Bool) → (a || b) ≡ false → (a ≡ false) × (b ≡ false)
 neither_raw true b e = absurd cc
 neither_raw false b e = (refl, e)
 
-pub lines-passed : (s : Setting) (clients link : ℕ) (all : List Line) (old new : Drill) → 1 ≤ link → ((l : ℕ) → IsOpened (s.opened l)) → AllByRecursion HasWritableCred all → AllByRecursion NamesClient all →
+pub lines_passed : (s : Setting) (clients link : ℕ) (all : List Line) (old new : Drill) → 1 ≤ link → ((l : ℕ) → IsOpened (s.opened l)) → AllByRecursion HasWritableCred all → AllByRecursion NamesClient all →
     list_any (is_raw_of link) all ≡ false → MakeAll s clients all old new → Stands s link old → Stands s link new
-lines-passed s clients link [] old new one opened w n r e h = subst (Stands s link) (sym e) h
-lines-passed s clients link (line ∷ others) old new one opened w n r e h =
+lines_passed s clients link [] old new one opened w n r e h = subst (Stands s link) (sym e) h
+lines_passed s clients link (line ∷ others) old new one opened w n r e h =
     let raw = neither_raw (is_raw_of link line) (list_any (is_raw_of link) others) r in
-    lines-passed s clients link others e.0 new one opened w.1 n.1 raw.1 e.2 (line-passed s clients link line old e.0 one opened w.0 n.0 raw.0 e.1 h)
+    lines_passed s clients link others e.0 new one opened w.1 n.1 raw.1 e.2 (line_passed s clients link line old e.0 one opened w.0 n.0 raw.0 e.1 h)
 
 -- ===== links open
 
-opening-carries : (s : Setting) (link : ℕ) (d : Drill) → IsLawful (s.opened link) link d.marks → is_dropped link d.marks ≡ false → Carries link d → Carries link (after_opening s link d)
+opening_carries : (s : Setting) (link : ℕ) (d : Drill) → IsLawful (s.opened link) link d.marks → is_dropped link d.marks ≡ false → Carries link d → Carries link (after_opening s link d)
 unfolding after_opening
-opening-carries s link d h standing c =
+opening_carries s link d h standing c =
     let one = settled s link d in
-    let kept = lawful-settled s link d h in
+    let kept = lawful_settled s link d h in
     let two = after_all_up s link one in
-    carries-down s link (length (pipes_of link two).down) two (lawful-after_up s link (length (pipes_of link one).up) one kept)
-    (carries-up s link (length (pipes_of link one).up) one kept (carry-settled s link d standing c))
+    carries_down s link (length (pipes_of link two).down) two (lawful_after_up s link (length (pipes_of link one).up) one kept)
+    (carries_up s link (length (pipes_of link one).up) one kept (carry_settled s link d standing c))
 
 -- a link that is open already
-opened-carries : (s : Setting) (link : ℕ) (d : Drill) → Keeps s link d → Carries link d → Carries link (after_opening s link d)
+opened_carries : (s : Setting) (link : ℕ) (d : Drill) → Keeps s link d → Carries link d → Carries link (after_opening s link d)
 unfolding after_opening
-opened-carries s link d h c = by (is_dropped link d.marks) refl
+opened_carries s link d h c = by (is_dropped link d.marks) refl
   where
     rest : Carries link (settled s link d) → Carries link (after_all_down s link (after_all_up s link (settled s link d)))
     rest c =
         let one = settled s link d in
-        let kept = lawful-settled s link d h.0 in
+        let kept = lawful_settled s link d h.0 in
         let two = after_all_up s link one in
-        carries-down s link (length (pipes_of link two).down) two (lawful-after_up s link (length (pipes_of link one).up) one kept) (carries-up s link (length (pipes_of link one).up) one kept c)
+        carries_down s link (length (pipes_of link two).down) two (lawful_after_up s link (length (pipes_of link one).up) one kept) (carries_up s link (length (pipes_of link one).up) one kept c)
 
     by : (b : Bool) → is_dropped link d.marks ≡ b → Carries link (after_all_down s link (after_all_up s link (settled s link d)))
-    by true e = rest (subst (Carries link) (sym (settled-same s link d h.1)) c)
-    by false e = rest (carry-settled s link d e c)
+    by true e = rest (subst (Carries link) (sym (settled_same s link d h.1)) c)
+    by false e = rest (carry_settled s link d e c)
 
-openings-stand : (s : Setting) (link : ℕ) (links : List ℕ) (d : Drill) → 1 ≤ link → AreLinks links → Stands s link d → Stands s link (after_openings s links d)
-openings-stand s link [] d one some h = h
-openings-stand s link (l ∷ links) d one some h =
-    openings-stand s link links (after_opening s l d) one some.1
+openings_stand : (s : Setting) (link : ℕ) (links : List ℕ) (d : Drill) → 1 ≤ link → AreLinks links → Stands s link d → Stands s link (after_openings s links d)
+openings_stand s link [] d one some h = h
+openings_stand s link (l ∷ links) d one some h =
+    openings_stand s link links (after_opening s l d) one some.1
     (stands_by s l link d (after_opening s l d) some.0 one (record {
-      acts = record { own = λ k. opening-keeps s l d k.0; extends = opening-adds s l d };
-      carries = λ k c. opened-carries s l d k c;
+      acts = record { own = λ k. opening_keeps s l d k.0; extends = opening_adds s l d };
+      carries = λ k c. opened_carries s l d k c;
     }) h)
 
-openings-begin : (s : Setting) (link : ℕ) (links : List ℕ) (d : Drill) → 1 ≤ link → AreLinks links → Among link links → IsLawful (s.opened link) link d.marks → AreWritable d.creds →
+openings_begin : (s : Setting) (link : ℕ) (links : List ℕ) (d : Drill) → 1 ≤ link → AreLinks links → Among link links → IsLawful (s.opened link) link d.marks → AreWritable d.creds →
     is_dropped link d.marks ≡ false → Carries link d → Stands s link (after_openings s links d)
-openings-begin s link [] d one some among h w standing c = absurd among
-openings-begin s link (l ∷ links) d one some among h w standing c =
-    by (eqb l link) refl among (openings-begin s link links (after_opening s l d) one some.1)
+openings_begin s link [] d one some among h w standing c = absurd among
+openings_begin s link (l ∷ links) d one some among h w standing c =
+    by (eqb l link) refl among (openings_begin s link links (after_opening s l d) one some.1)
   where
     creds : AreWritable (after_opening s l d).creds
-    creds = subst AreWritable (sym (opening-adds s l d).creds) w
+    creds = subst AreWritable (sym (opening_adds s l d).creds) w
 
     opened_here : l ≡ link → Stands s link (after_openings s links (after_opening s l d))
-    opened_here same = openings-stand s link links (after_opening s l d) one some.1 (record {
+    opened_here same = openings_stand s link links (after_opening s l d) one some.1 (record {
       holds = record {
-        keeps = subst (λ (k : ℕ). Keeps s k (after_opening s l d)) same (opening-keeps s l d (subst (λ (k : ℕ). IsLawful (s.opened k) k d.marks) (sym same) h));
+        keeps = subst (λ (k : ℕ). Keeps s k (after_opening s l d)) same (opening_keeps s l d (subst (λ (k : ℕ). IsLawful (s.opened k) k d.marks) (sym same) h));
         creds = creds;
       };
-      carries = subst (λ (k : ℕ). Carries k (after_opening s l d)) same (opening-carries s l d (subst (λ (k : ℕ). IsLawful (s.opened k) k d.marks) (sym same) h)
+      carries = subst (λ (k : ℕ). Carries k (after_opening s l d)) same (opening_carries s l d (subst (λ (k : ℕ). IsLawful (s.opened k) k d.marks) (sym same) h)
           (subst (λ (k : ℕ). is_dropped k d.marks ≡ false) (sym same) standing) (subst (λ (k : ℕ). Carries k d) (sym same) c));
     })
 
@@ -706,10 +706,10 @@ openings-begin s link (l ∷ links) d one some among h w standing c =
         is_dropped link (after_opening s l d).marks ≡ false → Carries link (after_opening s l d) → Stands s link (after_openings s links (after_opening s l d))) →
         Stands s link (after_openings s links (after_opening s l d))
     later_on ne later more =
-        let x = opening-adds s l d in
+        let x = opening_adds s l d in
         let same : IsSameHere link d.marks (after_opening s l d).marks = subst (IsSameHere link d.marks) (sym x.marks.is) (same_here link l d.marks x.marks.added ne x.marks.own) in
         more later ((elsewhere (s.opened link) link l d.marks (after_opening s l d).marks ne x.marks).lawful h) creds (same.dropped ∙ standing)
-        (carries-elsewhere link l d (after_opening s l d) ne (λ same. ne (let a = some.0 in let b = one in let c = same in omega (arith, a, b, c))) x c)
+        (carries_elsewhere link l d (after_opening s l d) ne (λ same. ne (let a = some.0 in let b = one in let c = same in omega (arith, a, b, c))) x c)
 
     by : (b : Bool) → eqb l link ≡ b → (l ≡ link) ⊎ Among link links → (Among link links → IsLawful (s.opened link) link (after_opening s l d).marks → AreWritable (after_opening s l d).creds →
         is_dropped link (after_opening s l d).marks ≡ false → Carries link (after_opening s l d) → Stands s link (after_openings s links (after_opening s l d))) →
@@ -718,9 +718,9 @@ openings-begin s link (l ∷ links) d one some among h w standing c =
     by false is (inl same) more = opened_here same
     by false is (inr later) more = later_on (other_than l link is) later more
 
-pub start-carries : (clients link : ℕ) → 1 ≤ link → link ≤ clients → Carries link (start clients)
+pub start_carries : (clients link : ℕ) → 1 ≤ link → link ≤ clients → Carries link (start clients)
 unfolding bytes_sent bytes_received
-start-carries clients link low high =
+start_carries clients link low high =
     let room : link - 1 < clients = (let a = low in let b = high in omega (arith, a, b)) in
     let none : pipes_of link (start clients) ≡ empty_pipes = get_or-replicate clients (link - 1) empty_pipes empty_pipes room in
     record {
@@ -763,8 +763,8 @@ opened_stands server script is link within =
     let opening = script.opening in
     let s = setting_of server opening in
     let clients = opening.clients in
-    openings-begin s link (links_of clients) (start clients) within.0 (are_links 1 clients (omega arith)) (among_range link 1 clients within.0 (let b = within.1 in omega (arith, b)))
-    (start-lawful (parameters_of opening link) link) (start-creds clients) refl (start-carries clients link within.0 within.1)
+    openings_begin s link (links_of clients) (start clients) within.0 (are_links 1 clients (omega arith)) (among_range link 1 clients within.0 (let b = within.1 in omega (arith, b)))
+    (start_lawful (parameters_of opening link) link) (start_creds clients) refl (start_carries clients link within.0 within.1)
 
 -- On a link whose pipes no line puts bytes into, each side receives what the other sent. In the end what was sent and isn't received waits.
 pub follows_matches : (server : SerialServer) (script : ScriptLines) (run : List Mark) → IsScript script → (follows : Follows server script run) → (link : ℕ) → 1 ≤ link → link ≤ script.opening.clients →
@@ -774,9 +774,9 @@ follows_matches server script run is follows link low high raw =
     let opening = script.opening in
     let s = setting_of server opening in
     let clients = opening.clients in
-    let first = openings-begin s link (links_of clients) (start clients) low (are_links 1 clients (omega arith)) (among_range link 1 clients low (let b = high in omega (arith, b)))
-    (start-lawful (parameters_of opening link) link) (start-creds clients) refl (start-carries clients link low high) in
-    let last = lines-passed s clients link script.lines (opened_drill server opening) follows.last low (opened_by_script script is) is.creds (all_name opening [] script.lines is.follow_on) raw follows.makes first in
+    let first = openings_begin s link (links_of clients) (start clients) low (are_links 1 clients (omega arith)) (among_range link 1 clients low (let b = high in omega (arith, b)))
+    (start_lawful (parameters_of opening link) link) (start_creds clients) refl (start_carries clients link low high) in
+    let last = lines_passed s clients link script.lines (opened_drill server opening) follows.last low (opened_by_script script is) is.creds (all_name opening [] script.lines is.follow_on) raw follows.makes first in
     (last.carries, subst (Matched link) (sym follows.marks_are) last.carries.matched)
 
 -- ===== what a drill promises of each link

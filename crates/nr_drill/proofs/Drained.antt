@@ -8,21 +8,21 @@ use Rattle.nr_reduce.specs.declared.mark.LinkParameters.{LinkParameters}
 use Rattle.nr_reduce.specs.History.{bytes_received, is_dropped}
 use Rattle.nr_reduce.specs.ServerState.{ReadyCall, ServerState}
 use Rattle.nr_reduce.specs.Served.{next_call, first_ready}
-use Rattle.nr_laws.specs.Completion.{NothingWaits}
-use Rattle.nr_reduce.specs.Events.{Event}
+use Rattle.nr_laws.specs.Completion.{NothingInTransit}
+use Rattle.nr_reduce.specs.Events.{RunEvent}
 use Rattle.nr_reduce.specs.EndRules.{EndState, end_state_after}
 use Rattle.nr_reduce.specs.Server.{server_rules}
 use Rattle.nr_reduce.specs.Run.{server}
-use Rattle.nr_reduce.proofs.Steps.{server-one}
+use Rattle.nr_reduce.proofs.Steps.{server_one}
 use Rattle.nr_script.specs.declared.script.Line.{Line}
 use Rattle.nr_script.specs.declared.script.Line.TheVariants as lines
-use Rattle.nr_laws.proofs.Keys.{any-append}
+use Rattle.nr_laws.proofs.DistinctKeys.{any_append}
 use Rattle.nr_script.specs.Script.{ScriptLines, HasWritableCred, IsScript}
 use Rattle.nr_drill.specs.Headline.{acts_on, is_raw_of, HasNoRaw, IsLink, EndsWithDrain}
 use Rattle.nr_drill.specs.Drill.{SerialServer, Setting, Drill, links_of, pipes_of, cred_of, if_standing, waiting_call, after_round, after_submit, after_up, after_down, after_work, after_forget, after_revoke, after_drop, after_raw}
 use Rattle.nr_drill.specs.Follows.{is_empty, is_still, Drains, Makes, MakeAll, after_line, Follows, parameters_of, setting_of, opened_drill}
-use Rattle.nr_drill.proofs.Followed.{Among, among_range, opened_by_script, Extends, link_of, no_event, submit-adds, up-adds, down-adds, work-adds, forget-adds, revoke-adds, drop-adds, raw-adds}
-use Rattle.nr_drill.proofs.Carried.{NamesClient, opened_stands, lines-passed, drain-stands, are_links, all_name, Carries, both_true, neither_raw, true_not, other_than, IsSameHere, same_here}
+use Rattle.nr_drill.proofs.Followed.{Among, among_range, opened_by_script, Extends, link_of, no_event, submit_adds, up_adds, down_adds, work_adds, forget_adds, revoke_adds, drop_adds, raw_adds}
+use Rattle.nr_drill.proofs.Carried.{NamesClient, opened_stands, lines_passed, drain_stands, are_links, all_name, Carries, both_true, neither_raw, true_not, other_than, IsSameHere, same_here}
 
 none_left : (xs : List ℕ) → is_empty xs ≡ true → xs ≡ []
 none_left [] e = refl
@@ -42,7 +42,7 @@ drained_still s link links zero old new among drains = subst (λ (d : Drill). is
 drained_still s link links (suc rounds) old new among drains = drained_still s link links rounds (after_round s links old) new among drains.1
 
 -- On a link that stands and on which nothing moves, nothing waits.
-pub nothing_waits : (s : Setting) (link : ℕ) (d : Drill) → Carries link d → is_dropped link d.marks ≡ false → is_still s d link ≡ true → NothingWaits (s.opened link) link d.marks
+pub nothing_waits : (s : Setting) (link : ℕ) (d : Drill) → Carries link d → is_dropped link d.marks ≡ false → is_still s d link ≡ true → NothingInTransit (s.opened link) link d.marks
 unfolding is_still waiting_call
 nothing_waits s link d c standing still =
     let pipes = pipes_of link d in
@@ -65,7 +65,7 @@ next_by o link old new same = ap (λ (r : EndState ServerState). first_ready r.s
 next_one : (o : LinkParameters) (link : ℕ) (run : List Mark) (mark : Mark) → link_of mark ≢ link → next_call o link (run ++ mark ∷ []) ≡ next_call o link run
 next_one o link run mark from =
     next_by o link run (run ++ mark ∷ [])
-    (server-one o link run mark ∙ ap (λ (es : List Event). end_state_after (server_rules o) (server o link run) es) (no_event link Responder run mark from))
+    (server_one o link run mark ∙ ap (λ (es : List RunEvent). end_state_after (server_rules o) (server o link run) es) (no_event link Responder run mark from))
 
 -- the next call stays with marks of another link
 same_next : (o : LinkParameters) (link other : ℕ) (old added : List Mark) → other ≢ link → AllByRecursion (λ (mark : Mark). link_of mark ≡ other) added → next_call o link (old ++ added) ≡ next_call o link old
@@ -76,7 +76,7 @@ same_next o link other old (mark ∷ added) ne own =
 
 -- a link is left as it is
 pub record IsLeft (o : LinkParameters) (link : ℕ) (old new : Drill) : Type 0 where
-  pub waits : NothingWaits o link old.marks → NothingWaits o link new.marks
+  pub waits : NothingInTransit o link old.marks → NothingInTransit o link new.marks
   pub dropped : is_dropped link new.marks ≡ is_dropped link old.marks
 
 left_elsewhere : (o : LinkParameters) (link other : ℕ) (old new : Drill) → other ≢ link → Extends other old new → IsLeft o link old new
@@ -92,38 +92,38 @@ left_elsewhere o link other old new ne x =
     }
 
 -- by a line that doesn't act on it
-line-leaves : (s : Setting) (o : LinkParameters) (link : ℕ) (line : Line) (d : Drill) → acts_on link line ≡ false → IsLeft o link d (after_line s line d)
-line-leaves s o link (lines.Cred client cred) d e = record { waits = λ w. w; dropped = refl }
-line-leaves s o link (lines.Call client form prog vers proc args) d e = left_elsewhere o link client d (after_submit s client (record { prog = prog; vers = vers; proc = proc; cred = cred_of client d; args = args }) form d) (other_than client link e) (submit-adds s client (record { prog = prog; vers = vers; proc = proc; cred = cred_of client d; args = args }) form d)
-line-leaves s o link (lines.Up client most) d e = left_elsewhere o link client d (after_up s client most d) (other_than client link e) (up-adds s client most d)
-line-leaves s o link (lines.Down client most) d e = left_elsewhere o link client d (after_down s client most d) (other_than client link e) (down-adds s client most d)
-line-leaves s o link (lines.Work client) d e = left_elsewhere o link client d (after_work s client d) (other_than client link e) (work-adds s client d)
-line-leaves s o link (lines.Tick seconds) d e = record { waits = λ w. w; dropped = refl }
-line-leaves s o link (lines.Forget client number) d e = left_elsewhere o link client d (after_forget s client number d) (other_than client link e) (forget-adds s client number d)
-line-leaves s o link (lines.Revoke client number) d e = left_elsewhere o link client d (after_revoke s client number d) (other_than client link e) (revoke-adds s client number d)
-line-leaves s o link (lines.Drop client) d e = left_elsewhere o link client d (after_drop client d) (other_than client link e) (drop-adds client d)
-line-leaves s o link (lines.Raw client side bytes) d e = left_elsewhere o link client d (after_raw client side bytes (is_dropped client d.marks) d) (other_than client link e) (raw-adds client side bytes (is_dropped client d.marks) d)
-line-leaves s o link lines.Drain d e = absurd (true_not e)
+line_leaves : (s : Setting) (o : LinkParameters) (link : ℕ) (line : Line) (d : Drill) → acts_on link line ≡ false → IsLeft o link d (after_line s line d)
+line_leaves s o link (lines.Cred client cred) d e = record { waits = λ w. w; dropped = refl }
+line_leaves s o link (lines.Call client form prog vers proc args) d e = left_elsewhere o link client d (after_submit s client (record { prog = prog; vers = vers; proc = proc; cred = cred_of client d; args = args }) form d) (other_than client link e) (submit_adds s client (record { prog = prog; vers = vers; proc = proc; cred = cred_of client d; args = args }) form d)
+line_leaves s o link (lines.Up client most) d e = left_elsewhere o link client d (after_up s client most d) (other_than client link e) (up_adds s client most d)
+line_leaves s o link (lines.Down client most) d e = left_elsewhere o link client d (after_down s client most d) (other_than client link e) (down_adds s client most d)
+line_leaves s o link (lines.Work client) d e = left_elsewhere o link client d (after_work s client d) (other_than client link e) (work_adds s client d)
+line_leaves s o link (lines.Tick seconds) d e = record { waits = λ w. w; dropped = refl }
+line_leaves s o link (lines.Forget client number) d e = left_elsewhere o link client d (after_forget s client number d) (other_than client link e) (forget_adds s client number d)
+line_leaves s o link (lines.Revoke client number) d e = left_elsewhere o link client d (after_revoke s client number d) (other_than client link e) (revoke_adds s client number d)
+line_leaves s o link (lines.Drop client) d e = left_elsewhere o link client d (after_drop client d) (other_than client link e) (drop_adds client d)
+line_leaves s o link (lines.Raw client side bytes) d e = left_elsewhere o link client d (after_raw client side bytes (is_dropped client d.marks) d) (other_than client link e) (raw_adds client side bytes (is_dropped client d.marks) d)
+line_leaves s o link lines.Drain d e = absurd (true_not e)
 
-made-leaves : (s : Setting) (o : LinkParameters) (clients link : ℕ) (line : Line) (old new : Drill) → acts_on link line ≡ false → Makes s clients line old new → IsLeft o link old new
-made-leaves s o clients link (lines.Cred client cred) old new n e = subst (IsLeft o link old) (sym e) (line-leaves s o link (lines.Cred client cred) old n)
-made-leaves s o clients link (lines.Call client form prog vers proc args) old new n e = subst (IsLeft o link old) (sym e) (line-leaves s o link (lines.Call client form prog vers proc args) old n)
-made-leaves s o clients link (lines.Up client most) old new n e = subst (IsLeft o link old) (sym e) (line-leaves s o link (lines.Up client most) old n)
-made-leaves s o clients link (lines.Down client most) old new n e = subst (IsLeft o link old) (sym e) (line-leaves s o link (lines.Down client most) old n)
-made-leaves s o clients link (lines.Work client) old new n e = subst (IsLeft o link old) (sym e) (line-leaves s o link (lines.Work client) old n)
-made-leaves s o clients link (lines.Tick seconds) old new n e = subst (IsLeft o link old) (sym e) (line-leaves s o link (lines.Tick seconds) old n)
-made-leaves s o clients link (lines.Forget client number) old new n e = subst (IsLeft o link old) (sym e) (line-leaves s o link (lines.Forget client number) old n)
-made-leaves s o clients link (lines.Revoke client number) old new n e = subst (IsLeft o link old) (sym e) (line-leaves s o link (lines.Revoke client number) old n)
-made-leaves s o clients link (lines.Drop client) old new n e = subst (IsLeft o link old) (sym e) (line-leaves s o link (lines.Drop client) old n)
-made-leaves s o clients link (lines.Raw client side bytes) old new n e = subst (IsLeft o link old) (sym e) (line-leaves s o link (lines.Raw client side bytes) old n)
-made-leaves s o clients link lines.Drain old new n e = absurd (true_not n)
+made_leaves : (s : Setting) (o : LinkParameters) (clients link : ℕ) (line : Line) (old new : Drill) → acts_on link line ≡ false → Makes s clients line old new → IsLeft o link old new
+made_leaves s o clients link (lines.Cred client cred) old new n e = subst (IsLeft o link old) (sym e) (line_leaves s o link (lines.Cred client cred) old n)
+made_leaves s o clients link (lines.Call client form prog vers proc args) old new n e = subst (IsLeft o link old) (sym e) (line_leaves s o link (lines.Call client form prog vers proc args) old n)
+made_leaves s o clients link (lines.Up client most) old new n e = subst (IsLeft o link old) (sym e) (line_leaves s o link (lines.Up client most) old n)
+made_leaves s o clients link (lines.Down client most) old new n e = subst (IsLeft o link old) (sym e) (line_leaves s o link (lines.Down client most) old n)
+made_leaves s o clients link (lines.Work client) old new n e = subst (IsLeft o link old) (sym e) (line_leaves s o link (lines.Work client) old n)
+made_leaves s o clients link (lines.Tick seconds) old new n e = subst (IsLeft o link old) (sym e) (line_leaves s o link (lines.Tick seconds) old n)
+made_leaves s o clients link (lines.Forget client number) old new n e = subst (IsLeft o link old) (sym e) (line_leaves s o link (lines.Forget client number) old n)
+made_leaves s o clients link (lines.Revoke client number) old new n e = subst (IsLeft o link old) (sym e) (line_leaves s o link (lines.Revoke client number) old n)
+made_leaves s o clients link (lines.Drop client) old new n e = subst (IsLeft o link old) (sym e) (line_leaves s o link (lines.Drop client) old n)
+made_leaves s o clients link (lines.Raw client side bytes) old new n e = subst (IsLeft o link old) (sym e) (line_leaves s o link (lines.Raw client side bytes) old n)
+made_leaves s o clients link lines.Drain old new n e = absurd (true_not n)
 
-lines-leave : (s : Setting) (o : LinkParameters) (clients link : ℕ) (all : List Line) (old new : Drill) → list_any (acts_on link) all ≡ false → MakeAll s clients all old new → IsLeft o link old new
-lines-leave s o clients link [] old new n e = subst (IsLeft o link old) (sym e) (record { waits = λ w. w; dropped = refl })
-lines-leave s o clients link (line ∷ others) old new n e =
+lines_leave : (s : Setting) (o : LinkParameters) (clients link : ℕ) (all : List Line) (old new : Drill) → list_any (acts_on link) all ≡ false → MakeAll s clients all old new → IsLeft o link old new
+lines_leave s o clients link [] old new n e = subst (IsLeft o link old) (sym e) (record { waits = λ w. w; dropped = refl })
+lines_leave s o clients link (line ∷ others) old new n e =
     let parts = neither_raw (acts_on link line) (list_any (acts_on link) others) n in
-    let first = made-leaves s o clients link line old e.0 parts.0 e.1 in
-    let rest = lines-leave s o clients link others e.0 new parts.1 e.2 in
+    let first = made_leaves s o clients link line old e.0 parts.0 e.1 in
+    let rest = lines_leave s o clients link others e.0 new parts.1 e.2 in
     record { waits = λ w. rest.waits (first.waits w); dropped = rest.dropped ∙ first.dropped }
 
 -- ===== a script that ends with a drain, for a link
@@ -143,7 +143,7 @@ cut_at s clients (line ∷ before) after old new e =
     record { first = r.first; drained = r.drained; rounds = r.rounds; made = (e.0, e.1, r.made); drains = r.drains; later = r.later }
 
 any_front : {X : Type 0} (p : X → Bool) (xs ys : List X) → list_any p (xs ++ ys) ≡ false → list_any p xs ≡ false
-any_front p xs ys e = (neither_raw (list_any p xs) (list_any p ys) (sym (any-append p xs ys) ∙ e)).0
+any_front p xs ys e = (neither_raw (list_any p xs) (list_any p ys) (sym (any_append p xs ys) ∙ e)).0
 
 all_front : {X : Type 0} (P : X → Type 0) (xs ys : List X) → AllByRecursion P (xs ++ ys) → AllByRecursion P xs
 all_front P [] ys h = tt
@@ -151,7 +151,7 @@ all_front P (x ∷ xs) ys h = (h.0, all_front P xs ys h.1)
 
 -- After a drain that no later line of a link follows nothing waits on it, if it wasn't dropped and no line put bytes into its pipes.
 pub follows_waits : (server : SerialServer) (script : ScriptLines) (run : List Mark) → IsScript script → Follows server script run → (link : ℕ) → IsLink script link → HasNoRaw script link →
-    is_dropped link run ≡ false → EndsWithDrain script link → NothingWaits (parameters_of script.opening link) link run
+    is_dropped link run ≡ false → EndsWithDrain script link → NothingInTransit (parameters_of script.opening link) link run
 unfolding opened_drill
 follows_waits server script run is follows link within raw standing ends =
     let opening = script.opening in
@@ -161,12 +161,12 @@ follows_waits server script run is follows link within raw standing ends =
     let rest = lines.Drain ∷ ends.after in
     let parts = cut_at s clients ends.before ends.after (opened_drill server opening) follows.last (subst (λ (all : List Line). MakeAll s clients all (opened_drill server opening) follows.last) ends.is_cut follows.makes) in
     let first = opened_stands server script is link within in
-    let at = lines-passed s clients link ends.before (opened_drill server opening) parts.first within.0 (opened_by_script script is)
+    let at = lines_passed s clients link ends.before (opened_drill server opening) parts.first within.0 (opened_by_script script is)
     (all_front HasWritableCred ends.before rest (subst (AllByRecursion HasWritableCred) ends.is_cut is.creds))
     (all_front NamesClient ends.before rest (subst (AllByRecursion NamesClient) ends.is_cut (all_name opening [] script.lines is.follow_on)))
     (any_front (is_raw_of link) ends.before rest (ap (λ (all : List Line). list_any (is_raw_of link) all) (sym ends.is_cut) ∙ raw)) parts.made first in
-    let drained = drain-stands s link (links_of clients) parts.rounds parts.first parts.drained within.0 (are_links 1 clients (omega arith)) parts.drains at in
-    let left = lines-leave s o clients link ends.after parts.drained follows.last ends.none_after parts.later in
+    let drained = drain_stands s link (links_of clients) parts.rounds parts.first parts.drained within.0 (are_links 1 clients (omega arith)) parts.drains at in
+    let left = lines_leave s o clients link ends.after parts.drained follows.last ends.none_after parts.later in
     let still = drained_still s link (links_of clients) parts.rounds parts.first parts.drained (among_range link 1 clients within.0 (let b = within.1 in omega (arith, b))) parts.drains in
     let here : is_dropped link parts.drained.marks ≡ false = sym left.dropped ∙ ap (λ (r : List Mark). is_dropped link r) (sym follows.marks_are) ∙ standing in
-    subst (NothingWaits o link) (sym follows.marks_are) (left.waits (nothing_waits s link parts.drained drained.carries here still))
+    subst (NothingInTransit o link) (sym follows.marks_are) (left.waits (nothing_waits s link parts.drained drained.carries here still))

@@ -14,8 +14,8 @@ use Rattle.nr_link.specs.Frames.{frames_completed}
 use Rattle.std.proofs.lemmas.Bool.{eq-eqb}
 use Rattle.std.proofs.lemmas.List.{get_or-set_other, length-set}
 use Rattle.nr_reduce.specs.History.{CompletedCall, bytes_sent, bytes_received, written_at, same_side, other, is_dropped}
-use Rattle.nr_reduce.specs.Events.{Event, events_at, if_own}
-use Rattle.nr_reduce.specs.Events.Event.{FrameReceived, CallSubmitted, MemoryRevoked, CallExecuted, QueueWritten}
+use Rattle.nr_reduce.specs.Events.{RunEvent, events_at, if_own}
+use Rattle.nr_reduce.specs.Events.RunEvent.{FrameReceived, CallSubmitted, MemoryRevoked, CallExecuted, QueueWritten}
 use Rattle.nr_reduce.specs.EndRules.{output_for_all}
 use Rattle.nr_reduce.specs.Client.{client_rules}
 use Rattle.nr_reduce.specs.Server.{server_rules}
@@ -29,8 +29,8 @@ use Rattle.nr_reduce.specs.Asked.{Asked, AskedMark, IsAll, revoked_bytes}
 use Rattle.nr_reduce.specs.OutcomesDue.{outcomes_due}
 use Rattle.nr_reduce.specs.PlainJournal.{journal}
 use Rattle.nr_reduce.specs.AtEachMark.{AtEachMark}
-use Rattle.nr_reduce.specs.Journal.{Journaled, Plainly, PlacedMark, PlainMark}
-use Rattle.nr_reduce.proofs.Standing.{AtEachMark-more}
+use Rattle.nr_reduce.specs.Journal.{Journaled, AnsweredByPlainServer, PlacedMark, PlainMark}
+use Rattle.nr_reduce.proofs.Standing.{AtEachMark_more}
 use Rattle.nr_reduce.specs.SubmitAnswer.{submit_answer_after}
 use Rattle.nr_reduce.specs.Served.{Served, ServedMark}
 use Rattle.nr_laws.specs.Grant.{AcceptedMark, AcceptsByRule}
@@ -39,7 +39,7 @@ use Rattle.nr_script.specs.declared.script.Line.TheVariants as lines
 use Rattle.nr_script.specs.Script.{ScriptLines, HasWritableCred, IsScript}
 use Rattle.nr_drill.specs.Follows.{after_line, Drains, Makes, MakeAll, Follows, parameters_of, setting_of, opened_drill}
 use Rattle.nr_drill.specs.Drill.{Setting, Drill, Pipes, plain_of, now, unwritten, after_output, after_all_output, settled, pipes_of, with_mark, after_submit, after_feeding, after_feeding_up, after_up, waiting_call, after_answer, after_execution, after_work, after_calls, after_drop, after_raw, after_feeding_down, after_handing, after_done, after_dones, after_outcomes, after_down, answer_of_line, open_xid, after_giving_up, after_forget, after_taking_back, after_revoke, after_all_up, after_all_work, after_all_down, after_moves, after_round, after_opening, after_openings, SerialServer, with_pipes, appended, empty_pipes, start, links_of, cred_of}
-use Rattle.nr_drill.proofs.Lawful.{IsLawful, IsWritten, IsDueOf, Keeps, lawful-mark, left_is, due-more, more_due, due_of, lawful-settled, lawful-drop, lawful-forget, lawful-submit, lawful-after_up, lawful-after_down, lawful-work, lawful-revoke, lawful-moves}
+use Rattle.nr_drill.proofs.Lawful.{IsLawful, IsWritten, IsDueOf, Keeps, lawful_mark, left_is, due_more, more_due, due_of, lawful_settled, lawful_drop, lawful_forget, lawful_submit, lawful_after_up, lawful_after_down, lawful_work, lawful_revoke, lawful_moves}
 
 -- ===== marks of other links
 
@@ -131,12 +131,12 @@ accepted_elsewhere o link run (marks.Drop l) ne = tt
 
 -- nothing more is due, and what was left to write is left
 pub no_more : (o : LinkParameters) (link : ℕ) (side : Side) (run : List Mark) (mark : Mark) → link_of mark ≢ link → more_due o link side run mark ≡ []
-no_more o link Initiator run mark ne = ap (λ (es : List Event). output_for_all (client_rules o) (client o link run) es) (no_event link Initiator run mark ne)
-no_more o link Responder run mark ne = ap (λ (es : List Event). output_for_all (server_rules o) (server o link run) es) (no_event link Responder run mark ne)
+no_more o link Initiator run mark ne = ap (λ (es : List RunEvent). output_for_all (client_rules o) (client o link run) es) (no_event link Initiator run mark ne)
+no_more o link Responder run mark ne = ap (λ (es : List RunEvent). output_for_all (server_rules o) (server o link run) es) (no_event link Responder run mark ne)
 
 pub same_left : (o : LinkParameters) (link : ℕ) (side : Side) (run : List Mark) (mark : Mark) → link_of mark ≢ link → IsDueOf o link side run → unwritten o link side (run ++ mark ∷ []) ≡ unwritten o link side run
 same_left o link side run mark ne is =
-    left_is o link side (run ++ mark ∷ []) (unwritten o link side run ++ more_due o link side run mark) (due-more o link side run mark (not_written link side mark ne) is)
+    left_is o link side (run ++ mark ∷ []) (unwritten o link side run ++ more_due o link side run mark) (due_more o link side run mark (not_written link side mark ne) is)
     ∙ ap (λ (xs : List ℕ). unwritten o link side run ++ xs) (no_more o link side run mark ne) ∙ append-nil (unwritten o link side run)
 
 -- the marks between are those of one link
@@ -157,7 +157,7 @@ same_by o link other old (mark ∷ added) ne own =
     let apart_from : link_of mark ≢ link = (λ same. ne (sym own.0 ∙ same)) in
     let run = old ++ mark ∷ [] in
     let one : IsLawful o link old → IsLawful o link run =
-    (λ h. lawful-mark o link old mark h (not_written link Initiator mark apart_from) (not_written link Responder mark apart_from)
+    (λ h. lawful_mark o link old mark h (not_written link Initiator mark apart_from) (not_written link Responder mark apart_from)
     (asked_elsewhere o link old mark apart_from) (served_elsewhere o link old mark apart_from) (accepted_elsewhere o link old mark apart_from)) in
     let rest = same_by o link other run added ne own.1 in
     subst (IsSame o link old) (append_assoc old (mark ∷ []) added) (record {
@@ -211,104 +211,104 @@ set_pipes link pipes old new x = record {
   room = length-set new.pipes (link - 1) pipes ∙ x.room;
 }
 
-pub output-adds : (link : ℕ) (side : Side) (bytes : List ℕ) (d : Drill) → Extends link d (after_output link side bytes d)
-output-adds link side [] d = nothing link d
-output-adds link side (b ∷ bytes) d = set_pipes link (appended side (b ∷ bytes) (pipes_of link d)) d (with_mark (marks.Wrote link side (b ∷ bytes)) d) (one_mark link (marks.Wrote link side (b ∷ bytes)) d refl)
+pub output_adds : (link : ℕ) (side : Side) (bytes : List ℕ) (d : Drill) → Extends link d (after_output link side bytes d)
+output_adds link side [] d = nothing link d
+output_adds link side (b ∷ bytes) d = set_pipes link (appended side (b ∷ bytes) (pipes_of link d)) d (with_mark (marks.Wrote link side (b ∷ bytes)) d) (one_mark link (marks.Wrote link side (b ∷ bytes)) d refl)
 
-pub settled-adds : (s : Setting) (link : ℕ) (d : Drill) → Extends link d (settled s link d)
+pub settled_adds : (s : Setting) (link : ℕ) (d : Drill) → Extends link d (settled s link d)
 unfolding settled
-settled-adds s link d =
+settled_adds s link d =
     let up = unwritten (s.opened link) link Initiator d.marks in
     let mid = after_all_output s link Initiator d in
     let down = unwritten (s.opened link) link Responder mid.marks in
-    both_add link d mid (after_output link Responder down mid) (output-adds link Initiator up d) (output-adds link Responder down mid)
+    both_add link d mid (after_output link Responder down mid) (output_adds link Initiator up d) (output_adds link Responder down mid)
 
-pub mark-adds : (s : Setting) (link : ℕ) (mark : Mark) (d : Drill) → link_of mark ≡ link → Extends link d (settled s link (with_mark mark d))
-mark-adds s link mark d own = both_add link d (with_mark mark d) (settled s link (with_mark mark d)) (one_mark link mark d own) (settled-adds s link (with_mark mark d))
+pub mark_adds : (s : Setting) (link : ℕ) (mark : Mark) (d : Drill) → link_of mark ≡ link → Extends link d (settled s link (with_mark mark d))
+mark_adds s link mark d own = both_add link d (with_mark mark d) (settled s link (with_mark mark d)) (one_mark link mark d own) (settled_adds s link (with_mark mark d))
 
-pub feeding-adds : (link : ℕ) (side : Side) (bytes : List ℕ) (rest : Pipes) (d : Drill) → Extends link d (after_feeding link side bytes rest d)
-feeding-adds link side [] rest d = nothing link d
-feeding-adds link side (b ∷ bytes) rest d = set_pipes link rest d (with_mark (marks.Fed link side (b ∷ bytes)) d) (one_mark link (marks.Fed link side (b ∷ bytes)) d refl)
+pub feeding_adds : (link : ℕ) (side : Side) (bytes : List ℕ) (rest : Pipes) (d : Drill) → Extends link d (after_feeding link side bytes rest d)
+feeding_adds link side [] rest d = nothing link d
+feeding_adds link side (b ∷ bytes) rest d = set_pipes link rest d (with_mark (marks.Fed link side (b ∷ bytes)) d) (one_mark link (marks.Fed link side (b ∷ bytes)) d refl)
 
-pub up-adds : (s : Setting) (link n : ℕ) (d : Drill) → Extends link d (after_up s link n d)
+pub up_adds : (s : Setting) (link n : ℕ) (d : Drill) → Extends link d (after_up s link n d)
 unfolding after_up
-up-adds s link n d =
+up_adds s link n d =
     let fed = after_feeding_up link n d in
-    both_add link d fed (settled s link fed) (feeding-adds link Responder (take n (pipes_of link d).up) (record (pipes_of link d) { up = drop n (pipes_of link d).up }) d) (settled-adds s link fed)
+    both_add link d fed (settled s link fed) (feeding_adds link Responder (take n (pipes_of link d).up) (record (pipes_of link d) { up = drop n (pipes_of link d).up }) d) (settled_adds s link fed)
 
-pub handing-adds : (link : ℕ) (c : Option CompletedCall) (d : Drill) → Extends link d (after_handing link c d)
-handing-adds link None d = nothing link d
-handing-adds link (Some c) d = one_mark link (marks.Done link c.xid c.outcome) d refl
+pub handing_adds : (link : ℕ) (c : Option CompletedCall) (d : Drill) → Extends link d (after_handing link c d)
+handing_adds link None d = nothing link d
+handing_adds link (Some c) d = one_mark link (marks.Done link c.xid c.outcome) d refl
 
-pub dones-adds : (s : Setting) (link n : ℕ) (d : Drill) → Extends link d (after_dones s link n d)
+pub dones_adds : (s : Setting) (link n : ℕ) (d : Drill) → Extends link d (after_dones s link n d)
 unfolding after_done
-dones-adds s link zero d = nothing link d
-dones-adds s link (suc n) d =
+dones_adds s link zero d = nothing link d
+dones_adds s link (suc n) d =
     let next = after_done s link d in
-    both_add link d next (after_dones s link n next) (handing-adds link (slice_get (outcomes_due (s.opened link) link d.marks) 0) d) (dones-adds s link n next)
+    both_add link d next (after_dones s link n next) (handing_adds link (slice_get (outcomes_due (s.opened link) link d.marks) 0) d) (dones_adds s link n next)
 
-pub down-adds : (s : Setting) (link n : ℕ) (d : Drill) → Extends link d (after_down s link n d)
+pub down_adds : (s : Setting) (link n : ℕ) (d : Drill) → Extends link d (after_down s link n d)
 unfolding after_down after_outcomes
-down-adds s link n d =
+down_adds s link n d =
     let fed = after_feeding_down link n d in
     let all = after_outcomes s link fed in
     both_add link d all (settled s link all)
-    (both_add link d fed all (feeding-adds link Initiator (take n (pipes_of link d).down) (record (pipes_of link d) { down = drop n (pipes_of link d).down }) d)
-    (dones-adds s link (length (outcomes_due (s.opened link) link fed.marks)) fed))
-    (settled-adds s link all)
+    (both_add link d fed all (feeding_adds link Initiator (take n (pipes_of link d).down) (record (pipes_of link d) { down = drop n (pipes_of link d).down }) d)
+    (dones_adds s link (length (outcomes_due (s.opened link) link fed.marks)) fed))
+    (settled_adds s link all)
 
-pub answer-adds : (s : Setting) (link : ℕ) (call : ReadyCall) (reply : Option (List ℕ)) (d : Drill) → Extends link d (after_answer s link call reply d)
-answer-adds s link call None d = nothing link d
-answer-adds s link call (Some reply) d =
-    mark-adds s link (marks.Execute link call.xid (now d) call.payload (length (journal (plain_of s.server) d.marks)) reply) d refl
+pub answer_adds : (s : Setting) (link : ℕ) (call : ReadyCall) (reply : Option (List ℕ)) (d : Drill) → Extends link d (after_answer s link call reply d)
+answer_adds s link call None d = nothing link d
+answer_adds s link call (Some reply) d =
+    mark_adds s link (marks.Execute link call.xid (now d) call.payload (length (journal (plain_of s.server) d.marks)) reply) d refl
 
-pub execution-adds : (s : Setting) (link : ℕ) (call : Option ReadyCall) (d : Drill) → Extends link d (after_execution s link call d)
-execution-adds s link None d = nothing link d
-execution-adds s link (Some call) d = answer-adds s link call (s.server.reply_to (journal (plain_of s.server) d.marks) (now d) call.payload) d
+pub execution_adds : (s : Setting) (link : ℕ) (call : Option ReadyCall) (d : Drill) → Extends link d (after_execution s link call d)
+execution_adds s link None d = nothing link d
+execution_adds s link (Some call) d = answer_adds s link call (s.server.reply_to (journal (plain_of s.server) d.marks) (now d) call.payload) d
 
-pub work-adds : (s : Setting) (link : ℕ) (d : Drill) → Extends link d (after_work s link d)
+pub work_adds : (s : Setting) (link : ℕ) (d : Drill) → Extends link d (after_work s link d)
 unfolding after_work
-work-adds s link d = execution-adds s link (waiting_call s link d.marks) d
+work_adds s link d = execution_adds s link (waiting_call s link d.marks) d
 
-pub calls-adds : (s : Setting) (link n : ℕ) (d : Drill) → Extends link d (after_calls s link n d)
-calls-adds s link zero d = nothing link d
-calls-adds s link (suc n) d = (let next = after_work s link d in both_add link d next (after_calls s link n next) (work-adds s link d) (calls-adds s link n next))
+pub calls_adds : (s : Setting) (link n : ℕ) (d : Drill) → Extends link d (after_calls s link n d)
+calls_adds s link zero d = nothing link d
+calls_adds s link (suc n) d = (let next = after_work s link d in both_add link d next (after_calls s link n next) (work_adds s link d) (calls_adds s link n next))
 
-pub moves-adds : (s : Setting) (link : ℕ) (d : Drill) → Extends link d (after_moves s link d)
+pub moves_adds : (s : Setting) (link : ℕ) (d : Drill) → Extends link d (after_moves s link d)
 unfolding after_moves after_all_work
-moves-adds s link d =
+moves_adds s link d =
     let one = after_all_up s link d in
     let two = after_all_work s link one in
     both_add link d two (after_all_down s link two)
-    (both_add link d one two (up-adds s link (length (pipes_of link d).up) d) (calls-adds s link (length (server (s.opened link) link one.marks).state.ready) one))
-    (down-adds s link (length (pipes_of link two).down) two)
+    (both_add link d one two (up_adds s link (length (pipes_of link d).up) d) (calls_adds s link (length (server (s.opened link) link one.marks).state.ready) one))
+    (down_adds s link (length (pipes_of link two).down) two)
 
-pub submit-adds : (s : Setting) (link : ℕ) (call : Call) (form : Form) (d : Drill) → Extends link d (after_submit s link call form d)
+pub submit_adds : (s : Setting) (link : ℕ) (call : Call) (form : Form) (d : Drill) → Extends link d (after_submit s link call form d)
 unfolding after_submit
-submit-adds s link call form d = mark-adds s link (marks.Submit link call form (submit_answer_after (s.opened link) link d.marks call form)) d refl
+submit_adds s link call form d = mark_adds s link (marks.Submit link call form (submit_answer_after (s.opened link) link d.marks call form)) d refl
 
-pub giving_up-adds : (link : ℕ) (xid : Option ℕ) (d : Drill) → Extends link d (after_giving_up link xid d)
-giving_up-adds link None d = nothing link d
-giving_up-adds link (Some xid) d = one_mark link (marks.Forget link xid) d refl
+pub giving_up_adds : (link : ℕ) (xid : Option ℕ) (d : Drill) → Extends link d (after_giving_up link xid d)
+giving_up_adds link None d = nothing link d
+giving_up_adds link (Some xid) d = one_mark link (marks.Forget link xid) d refl
 
-pub forget-adds : (s : Setting) (link number : ℕ) (d : Drill) → Extends link d (after_forget s link number d)
+pub forget_adds : (s : Setting) (link number : ℕ) (d : Drill) → Extends link d (after_forget s link number d)
 unfolding after_forget
-forget-adds s link number d = giving_up-adds link (open_xid s link d.marks (answer_of_line link number d.marks)) d
+forget_adds s link number d = giving_up_adds link (open_xid s link d.marks (answer_of_line link number d.marks)) d
 
-pub taking_back-adds : (s : Setting) (link : ℕ) (xid : Option ℕ) (d : Drill) → Extends link d (after_taking_back s link xid d)
-taking_back-adds s link None d = nothing link d
-taking_back-adds s link (Some xid) d = mark-adds s link (marks.Revoke link xid (revoked_bytes (s.opened link) link d.marks xid)) d refl
+pub taking_back_adds : (s : Setting) (link : ℕ) (xid : Option ℕ) (d : Drill) → Extends link d (after_taking_back s link xid d)
+taking_back_adds s link None d = nothing link d
+taking_back_adds s link (Some xid) d = mark_adds s link (marks.Revoke link xid (revoked_bytes (s.opened link) link d.marks xid)) d refl
 
-pub revoke-adds : (s : Setting) (link number : ℕ) (d : Drill) → Extends link d (after_revoke s link number d)
+pub revoke_adds : (s : Setting) (link number : ℕ) (d : Drill) → Extends link d (after_revoke s link number d)
 unfolding after_revoke
-revoke-adds s link number d = taking_back-adds s link (open_xid s link d.marks (answer_of_line link number d.marks)) d
+revoke_adds s link number d = taking_back_adds s link (open_xid s link d.marks (answer_of_line link number d.marks)) d
 
-pub drop-adds : (link : ℕ) (d : Drill) → Extends link d (after_drop link d)
-drop-adds link d = set_pipes link empty_pipes d (with_mark (marks.Drop link) d) (one_mark link (marks.Drop link) d refl)
+pub drop_adds : (link : ℕ) (d : Drill) → Extends link d (after_drop link d)
+drop_adds link d = set_pipes link empty_pipes d (with_mark (marks.Drop link) d) (one_mark link (marks.Drop link) d refl)
 
-pub raw-adds : (link : ℕ) (side : Side) (bytes : List ℕ) (dropped : Bool) (d : Drill) → Extends link d (after_raw link side bytes dropped d)
-raw-adds link side bytes true d = nothing link d
-raw-adds link side bytes false d = set_pipes link (appended side bytes (pipes_of link d)) d d (nothing link d)
+pub raw_adds : (link : ℕ) (side : Side) (bytes : List ℕ) (dropped : Bool) (d : Drill) → Extends link d (after_raw link side bytes dropped d)
+raw_adds link side bytes true d = nothing link d
+raw_adds link side bytes false d = set_pipes link (appended side bytes (pipes_of link d)) d d (nothing link d)
 
 -- ===== a step keeps the laws of every link
 
@@ -330,29 +330,29 @@ keeps_by s acted link old new a h = by (eqb acted link) refl
         differs e = absurd cc
 
 -- a mark for which nothing is due
-pub quiet-mark : (o : LinkParameters) (link : ℕ) (run : List Mark) (mark : Mark) → IsLawful o link run → IsWritten o link run → written_at link Initiator mark ≡ [] → written_at link Responder mark ≡ [] →
+pub quiet_mark : (o : LinkParameters) (link : ℕ) (run : List Mark) (mark : Mark) → IsLawful o link run → IsWritten o link run → written_at link Initiator mark ≡ [] → written_at link Responder mark ≡ [] →
     more_due o link Initiator run mark ≡ [] → more_due o link Responder run mark ≡ [] → IsWritten o link (run ++ mark ∷ [])
-quiet-mark o link run mark h w up down none_up none_down = record {
-  client = left_is o link Initiator (run ++ mark ∷ []) (unwritten o link Initiator run ++ more_due o link Initiator run mark) (due-more o link Initiator run mark up h.client)
+quiet_mark o link run mark h w up down none_up none_down = record {
+  client = left_is o link Initiator (run ++ mark ∷ []) (unwritten o link Initiator run ++ more_due o link Initiator run mark) (due_more o link Initiator run mark up h.client)
       ∙ ap (λ (xs : List ℕ). xs ++ more_due o link Initiator run mark) w.client ∙ none_up;
-  server = left_is o link Responder (run ++ mark ∷ []) (unwritten o link Responder run ++ more_due o link Responder run mark) (due-more o link Responder run mark down h.server)
+  server = left_is o link Responder (run ++ mark ∷ []) (unwritten o link Responder run ++ more_due o link Responder run mark) (due_more o link Responder run mark down h.server)
       ∙ ap (λ (xs : List ℕ). xs ++ more_due o link Responder run mark) w.server ∙ none_down;
 }
 
-pub keeps-drop : (s : Setting) (link : ℕ) (d : Drill) → Keeps s link d → Keeps s link (after_drop link d)
-keeps-drop s link d h = (lawful-drop s link d h.0, quiet-mark (s.opened link) link d.marks (marks.Drop link) h.0 h.1 refl refl refl refl)
+pub keeps_drop : (s : Setting) (link : ℕ) (d : Drill) → Keeps s link d → Keeps s link (after_drop link d)
+keeps_drop s link d h = (lawful_drop s link d h.0, quiet_mark (s.opened link) link d.marks (marks.Drop link) h.0 h.1 refl refl refl refl)
 
-pub keeps-giving_up : (s : Setting) (link : ℕ) (xid : Option ℕ) (d : Drill) → Keeps s link d → IsWritten (s.opened link) link (after_giving_up link xid d).marks
-keeps-giving_up s link None d h = h.1
-keeps-giving_up s link (Some xid) d h = quiet-mark (s.opened link) link d.marks (marks.Forget link xid) h.0 h.1 refl refl refl refl
+pub keeps_giving_up : (s : Setting) (link : ℕ) (xid : Option ℕ) (d : Drill) → Keeps s link d → IsWritten (s.opened link) link (after_giving_up link xid d).marks
+keeps_giving_up s link None d h = h.1
+keeps_giving_up s link (Some xid) d h = quiet_mark (s.opened link) link d.marks (marks.Forget link xid) h.0 h.1 refl refl refl refl
 
-pub keeps-forget : (s : Setting) (link number : ℕ) (d : Drill) → Keeps s link d → Keeps s link (after_forget s link number d)
+pub keeps_forget : (s : Setting) (link number : ℕ) (d : Drill) → Keeps s link d → Keeps s link (after_forget s link number d)
 unfolding after_forget
-keeps-forget s link number d h = (lawful-forget s link number d h.0, keeps-giving_up s link (open_xid s link d.marks (answer_of_line link number d.marks)) d h)
+keeps_forget s link number d h = (lawful_forget s link number d h.0, keeps_giving_up s link (open_xid s link d.marks (answer_of_line link number d.marks)) d h)
 
-pub keeps-raw : (s : Setting) (link : ℕ) (side : Side) (bytes : List ℕ) (dropped : Bool) (d : Drill) → Keeps s link d → Keeps s link (after_raw link side bytes dropped d)
-keeps-raw s link side bytes true d h = h
-keeps-raw s link side bytes false d h = h
+pub keeps_raw : (s : Setting) (link : ℕ) (side : Side) (bytes : List ℕ) (dropped : Bool) (d : Drill) → Keeps s link d → Keeps s link (after_raw link side bytes dropped d)
+keeps_raw s link side bytes true d h = h
+keeps_raw s link side bytes false d h = h
 
 -- ===== lines
 
@@ -380,61 +380,61 @@ AreOpened s = (link : ℕ) → IsOpened (s.opened link)
 pub holds_by : (s : Setting) (acted link : ℕ) (old new : Drill) → Acts s acted old new → Holds s link old → Holds s link new
 holds_by s acted link old new a h = record { keeps = keeps_by s acted link old new a h.keeps; creds = subst AreWritable (sym a.extends.creds) h.creds }
 
-pub line-holds : (s : Setting) (link : ℕ) (line : Line) (d : Drill) → AreOpened s → HasWritableCred line → Holds s link d → Holds s link (after_line s line d)
-line-holds s link (lines.Cred client cred) d opened w h = record { keeps = h.keeps; creds = with_cred_at d.creds (client - 1) cred h.creds w }
-line-holds s link (lines.Call client form prog vers proc args) d opened w h =
+pub line_holds : (s : Setting) (link : ℕ) (line : Line) (d : Drill) → AreOpened s → HasWritableCred line → Holds s link d → Holds s link (after_line s line d)
+line_holds s link (lines.Cred client cred) d opened w h = record { keeps = h.keeps; creds = with_cred_at d.creds (client - 1) cred h.creds w }
+line_holds s link (lines.Call client form prog vers proc args) d opened w h =
     let call : Call = record { prog = prog; vers = vers; proc = proc; cred = cred_of client d; args = args } in
     holds_by s client link d (after_submit s client call form d) (record {
-      own = λ k. lawful-submit s client call form d (opened client) (cred_at d.creds (client - 1) h.creds) k;
-      extends = submit-adds s client call form d;
+      own = λ k. lawful_submit s client call form d (opened client) (cred_at d.creds (client - 1) h.creds) k;
+      extends = submit_adds s client call form d;
     }) h
-line-holds s link (lines.Up client most) d opened w h =
-    holds_by s client link d (after_up s client most d) (record { own = λ k. lawful-after_up s client most d k; extends = up-adds s client most d }) h
-line-holds s link (lines.Down client most) d opened w h =
-    holds_by s client link d (after_down s client most d) (record { own = λ k. lawful-after_down s client most d k; extends = down-adds s client most d }) h
-line-holds s link (lines.Work client) d opened w h =
-    holds_by s client link d (after_work s client d) (record { own = λ k. lawful-work s client d k; extends = work-adds s client d }) h
-line-holds s link (lines.Tick seconds) d opened w h = record { keeps = h.keeps; creds = h.creds }
-line-holds s link (lines.Forget client number) d opened w h =
-    holds_by s client link d (after_forget s client number d) (record { own = λ k. keeps-forget s client number d k; extends = forget-adds s client number d }) h
-line-holds s link (lines.Revoke client number) d opened w h =
-    holds_by s client link d (after_revoke s client number d) (record { own = λ k. lawful-revoke s client number d k; extends = revoke-adds s client number d }) h
-line-holds s link (lines.Drop client) d opened w h =
-    holds_by s client link d (after_drop client d) (record { own = λ k. keeps-drop s client d k; extends = drop-adds client d }) h
-line-holds s link (lines.Raw client side bytes) d opened w h =
+line_holds s link (lines.Up client most) d opened w h =
+    holds_by s client link d (after_up s client most d) (record { own = λ k. lawful_after_up s client most d k; extends = up_adds s client most d }) h
+line_holds s link (lines.Down client most) d opened w h =
+    holds_by s client link d (after_down s client most d) (record { own = λ k. lawful_after_down s client most d k; extends = down_adds s client most d }) h
+line_holds s link (lines.Work client) d opened w h =
+    holds_by s client link d (after_work s client d) (record { own = λ k. lawful_work s client d k; extends = work_adds s client d }) h
+line_holds s link (lines.Tick seconds) d opened w h = record { keeps = h.keeps; creds = h.creds }
+line_holds s link (lines.Forget client number) d opened w h =
+    holds_by s client link d (after_forget s client number d) (record { own = λ k. keeps_forget s client number d k; extends = forget_adds s client number d }) h
+line_holds s link (lines.Revoke client number) d opened w h =
+    holds_by s client link d (after_revoke s client number d) (record { own = λ k. lawful_revoke s client number d k; extends = revoke_adds s client number d }) h
+line_holds s link (lines.Drop client) d opened w h =
+    holds_by s client link d (after_drop client d) (record { own = λ k. keeps_drop s client d k; extends = drop_adds client d }) h
+line_holds s link (lines.Raw client side bytes) d opened w h =
     holds_by s client link d (after_raw client side bytes (is_dropped client d.marks) d)
-    (record { own = λ k. keeps-raw s client side bytes (is_dropped client d.marks) d k; extends = raw-adds client side bytes (is_dropped client d.marks) d }) h
-line-holds s link lines.Drain d opened w h = h
+    (record { own = λ k. keeps_raw s client side bytes (is_dropped client d.marks) d k; extends = raw_adds client side bytes (is_dropped client d.marks) d }) h
+line_holds s link lines.Drain d opened w h = h
 
 -- ===== drains
 
-pub round-holds : (s : Setting) (link : ℕ) (links : List ℕ) (d : Drill) → Holds s link d → Holds s link (after_round s links d)
-round-holds s link [] d h = h
-round-holds s link (l ∷ links) d h =
-    round-holds s link links (after_moves s l d)
-    (holds_by s l link d (after_moves s l d) (record { own = λ k. lawful-moves s l d k; extends = moves-adds s l d }) h)
+pub round_holds : (s : Setting) (link : ℕ) (links : List ℕ) (d : Drill) → Holds s link d → Holds s link (after_round s links d)
+round_holds s link [] d h = h
+round_holds s link (l ∷ links) d h =
+    round_holds s link links (after_moves s l d)
+    (holds_by s l link d (after_moves s l d) (record { own = λ k. lawful_moves s l d k; extends = moves_adds s l d }) h)
 
-pub drain-holds : (s : Setting) (link : ℕ) (links : List ℕ) (rounds : ℕ) (old new : Drill) → Drains s links rounds old new → Holds s link old → Holds s link new
-drain-holds s link links zero old new drains h = subst (Holds s link) (sym drains.1) h
-drain-holds s link links (suc rounds) old new drains h = drain-holds s link links rounds (after_round s links old) new drains.1 (round-holds s link links old h)
+pub drain_holds : (s : Setting) (link : ℕ) (links : List ℕ) (rounds : ℕ) (old new : Drill) → Drains s links rounds old new → Holds s link old → Holds s link new
+drain_holds s link links zero old new drains h = subst (Holds s link) (sym drains.1) h
+drain_holds s link links (suc rounds) old new drains h = drain_holds s link links rounds (after_round s links old) new drains.1 (round_holds s link links old h)
 
-pub line-made : (s : Setting) (clients link : ℕ) (line : Line) (old new : Drill) → AreOpened s → HasWritableCred line → Makes s clients line old new → Holds s link old → Holds s link new
-line-made s clients link (lines.Cred client cred) old new opened w e h = subst (Holds s link) (sym e) (line-holds s link (lines.Cred client cred) old opened w h)
-line-made s clients link (lines.Call client form prog vers proc args) old new opened w e h = subst (Holds s link) (sym e) (line-holds s link (lines.Call client form prog vers proc args) old opened w h)
-line-made s clients link (lines.Up client most) old new opened w e h = subst (Holds s link) (sym e) (line-holds s link (lines.Up client most) old opened w h)
-line-made s clients link (lines.Down client most) old new opened w e h = subst (Holds s link) (sym e) (line-holds s link (lines.Down client most) old opened w h)
-line-made s clients link (lines.Work client) old new opened w e h = subst (Holds s link) (sym e) (line-holds s link (lines.Work client) old opened w h)
-line-made s clients link (lines.Tick seconds) old new opened w e h = subst (Holds s link) (sym e) (line-holds s link (lines.Tick seconds) old opened w h)
-line-made s clients link (lines.Forget client number) old new opened w e h = subst (Holds s link) (sym e) (line-holds s link (lines.Forget client number) old opened w h)
-line-made s clients link (lines.Revoke client number) old new opened w e h = subst (Holds s link) (sym e) (line-holds s link (lines.Revoke client number) old opened w h)
-line-made s clients link (lines.Drop client) old new opened w e h = subst (Holds s link) (sym e) (line-holds s link (lines.Drop client) old opened w h)
-line-made s clients link (lines.Raw client side bytes) old new opened w e h = subst (Holds s link) (sym e) (line-holds s link (lines.Raw client side bytes) old opened w h)
-line-made s clients link lines.Drain old new opened w e h = drain-holds s link (links_of clients) e.0 old new e.1 h
+pub line_made : (s : Setting) (clients link : ℕ) (line : Line) (old new : Drill) → AreOpened s → HasWritableCred line → Makes s clients line old new → Holds s link old → Holds s link new
+line_made s clients link (lines.Cred client cred) old new opened w e h = subst (Holds s link) (sym e) (line_holds s link (lines.Cred client cred) old opened w h)
+line_made s clients link (lines.Call client form prog vers proc args) old new opened w e h = subst (Holds s link) (sym e) (line_holds s link (lines.Call client form prog vers proc args) old opened w h)
+line_made s clients link (lines.Up client most) old new opened w e h = subst (Holds s link) (sym e) (line_holds s link (lines.Up client most) old opened w h)
+line_made s clients link (lines.Down client most) old new opened w e h = subst (Holds s link) (sym e) (line_holds s link (lines.Down client most) old opened w h)
+line_made s clients link (lines.Work client) old new opened w e h = subst (Holds s link) (sym e) (line_holds s link (lines.Work client) old opened w h)
+line_made s clients link (lines.Tick seconds) old new opened w e h = subst (Holds s link) (sym e) (line_holds s link (lines.Tick seconds) old opened w h)
+line_made s clients link (lines.Forget client number) old new opened w e h = subst (Holds s link) (sym e) (line_holds s link (lines.Forget client number) old opened w h)
+line_made s clients link (lines.Revoke client number) old new opened w e h = subst (Holds s link) (sym e) (line_holds s link (lines.Revoke client number) old opened w h)
+line_made s clients link (lines.Drop client) old new opened w e h = subst (Holds s link) (sym e) (line_holds s link (lines.Drop client) old opened w h)
+line_made s clients link (lines.Raw client side bytes) old new opened w e h = subst (Holds s link) (sym e) (line_holds s link (lines.Raw client side bytes) old opened w h)
+line_made s clients link lines.Drain old new opened w e h = drain_holds s link (links_of clients) e.0 old new e.1 h
 
-pub lines-made : (s : Setting) (clients link : ℕ) (all : List Line) (old new : Drill) → AreOpened s → AllByRecursion HasWritableCred all → MakeAll s clients all old new → Holds s link old → Holds s link new
-lines-made s clients link [] old new opened w e h = subst (Holds s link) (sym e) h
-lines-made s clients link (line ∷ others) old new opened w e h =
-    lines-made s clients link others e.0 new opened w.1 e.2 (line-made s clients link line old e.0 opened w.0 e.1 h)
+pub lines_made : (s : Setting) (clients link : ℕ) (all : List Line) (old new : Drill) → AreOpened s → AllByRecursion HasWritableCred all → MakeAll s clients all old new → Holds s link old → Holds s link new
+lines_made s clients link [] old new opened w e h = subst (Holds s link) (sym e) h
+lines_made s clients link (line ∷ others) old new opened w e h =
+    lines_made s clients link others e.0 new opened w.1 e.2 (line_made s clients link line old e.0 opened w.0 e.1 h)
 
 -- ===== links open
 
@@ -453,39 +453,39 @@ among_range link from (suc n) low high = by (eqb from link) refl (λ differs. am
         differs : false ≡ true → ⊥
         differs e = absurd cc
 
-pub opening-adds : (s : Setting) (link : ℕ) (d : Drill) → Extends link d (after_opening s link d)
+pub opening_adds : (s : Setting) (link : ℕ) (d : Drill) → Extends link d (after_opening s link d)
 unfolding after_opening
-opening-adds s link d =
+opening_adds s link d =
     let one = settled s link d in
     let two = after_all_up s link one in
     both_add link d two (after_all_down s link two)
-    (both_add link d one two (settled-adds s link d) (up-adds s link (length (pipes_of link one).up) one))
-    (down-adds s link (length (pipes_of link two).down) two)
+    (both_add link d one two (settled_adds s link d) (up_adds s link (length (pipes_of link one).up) one))
+    (down_adds s link (length (pipes_of link two).down) two)
 
 -- a link that opens keeps its laws
-pub opening-keeps : (s : Setting) (link : ℕ) (d : Drill) → IsLawful (s.opened link) link d.marks → Keeps s link (after_opening s link d)
+pub opening_keeps : (s : Setting) (link : ℕ) (d : Drill) → IsLawful (s.opened link) link d.marks → Keeps s link (after_opening s link d)
 unfolding after_opening
-opening-keeps s link d h =
+opening_keeps s link d h =
     let one = settled s link d in
     let two = after_all_up s link one in
-    lawful-after_down s link (length (pipes_of link two).down) two (lawful-after_up s link (length (pipes_of link one).up) one (lawful-settled s link d h))
+    lawful_after_down s link (length (pipes_of link two).down) two (lawful_after_up s link (length (pipes_of link one).up) one (lawful_settled s link d h))
 
-pub openings-keep : (s : Setting) (link : ℕ) (links : List ℕ) (d : Drill) → Holds s link d → Holds s link (after_openings s links d)
-openings-keep s link [] d h = h
-openings-keep s link (l ∷ links) d h =
-    openings-keep s link links (after_opening s l d)
-    (holds_by s l link d (after_opening s l d) (record { own = λ k. opening-keeps s l d k.0; extends = opening-adds s l d }) h)
+pub openings_keep : (s : Setting) (link : ℕ) (links : List ℕ) (d : Drill) → Holds s link d → Holds s link (after_openings s links d)
+openings_keep s link [] d h = h
+openings_keep s link (l ∷ links) d h =
+    openings_keep s link links (after_opening s l d)
+    (holds_by s l link d (after_opening s l d) (record { own = λ k. opening_keeps s l d k.0; extends = opening_adds s l d }) h)
 
-pub openings-hold : (s : Setting) (link : ℕ) (links : List ℕ) (d : Drill) → Among link links → IsLawful (s.opened link) link d.marks → AreWritable d.creds → Holds s link (after_openings s links d)
-openings-hold s link [] d among h w = absurd among
-openings-hold s link (l ∷ links) d among h w = by (eqb l link) refl among (openings-hold s link links (after_opening s l d))
+pub openings_hold : (s : Setting) (link : ℕ) (links : List ℕ) (d : Drill) → Among link links → IsLawful (s.opened link) link d.marks → AreWritable d.creds → Holds s link (after_openings s links d)
+openings_hold s link [] d among h w = absurd among
+openings_hold s link (l ∷ links) d among h w = by (eqb l link) refl among (openings_hold s link links (after_opening s l d))
   where
     creds : AreWritable (after_opening s l d).creds
-    creds = subst AreWritable (sym (opening-adds s l d).creds) w
+    creds = subst AreWritable (sym (opening_adds s l d).creds) w
 
     opened_here : l ≡ link → Holds s link (after_openings s links (after_opening s l d))
-    opened_here same = openings-keep s link links (after_opening s l d) (record {
-      keeps = subst (λ (k : ℕ). Keeps s k (after_opening s l d)) same (opening-keeps s l d (subst (λ (k : ℕ). IsLawful (s.opened k) k d.marks) (sym same) h));
+    opened_here same = openings_keep s link links (after_opening s l d) (record {
+      keeps = subst (λ (k : ℕ). Keeps s k (after_opening s l d)) same (opening_keeps s l d (subst (λ (k : ℕ). IsLawful (s.opened k) k d.marks) (sym same) h));
       creds = creds;
     })
 
@@ -498,13 +498,13 @@ openings-hold s link (l ∷ links) d among h w = by (eqb l link) refl among (ope
     by true is among more = opened_here (eqb-true l link is)
     by false is (inl same) more = opened_here same
     by false is (inr later) more =
-        more later ((elsewhere (s.opened link) link l d.marks (after_opening s l d).marks (λ same. differs (sym is ∙ eq-eqb l link same)) (opening-adds s l d).marks).lawful h) creds
+        more later ((elsewhere (s.opened link) link l d.marks (after_opening s l d).marks (λ same. differs (sym is ∙ eq-eqb l link same)) (opening_adds s l d).marks).lawful h) creds
 
 -- ===== before anything happened
 
-pub start-lawful : (o : LinkParameters) (link : ℕ) → IsLawful o link []
+pub start_lawful : (o : LinkParameters) (link : ℕ) → IsLawful o link []
 unfolding bytes_sent
-start-lawful o link = record {
+start_lawful o link = record {
   asked = tt;
   served = tt;
   accepts = tt;
@@ -512,9 +512,9 @@ start-lawful o link = record {
   server = due_of o link Responder [] (output_due o link Responder []) refl;
 }
 
-pub start-creds : (clients : ℕ) → AreWritable (replicate clients creds.None)
-start-creds zero = tt
-start-creds (suc n) = (tt, start-creds n)
+pub start_creds : (clients : ℕ) → AreWritable (replicate clients creds.None)
+start_creds zero = tt
+start_creds (suc n) = (tt, start_creds n)
 
 -- ===== the laws
 
@@ -555,9 +555,9 @@ unfolding opened_drill
 follows_keeps_laws server script run is follows link low high =
     let s = setting_of server script.opening in
     let opening = script.opening in
-    let first = openings-hold s link (links_of opening.clients) (start opening.clients) (among_range link 1 opening.clients low (omega (arith, high)))
-    (start-lawful (parameters_of opening link) link) (start-creds opening.clients) in
-    let last = lines-made s opening.clients link script.lines (opened_drill server opening) follows.last (opened_by_script script is) is.creds follows.makes first in
+    let first = openings_hold s link (links_of opening.clients) (start opening.clients) (among_range link 1 opening.clients low (omega (arith, high)))
+    (start_lawful (parameters_of opening link) link) (start_creds opening.clients) in
+    let last = lines_made s opening.clients link script.lines (opened_drill server opening) follows.last (opened_by_script script is) is.creds follows.makes first in
     subst (KeepsAll (parameters_of opening link) link) (sym follows.marks_are) (laws_of (parameters_of opening link) link follows.last.marks last.keeps.0 last.keeps.1)
 
 -- ===== the one journal
@@ -567,151 +567,151 @@ pub record IsPlainRun (server : SerialServer) (run : List Mark) : Type 0 where
   pub placed : AtEachMark (PlacedMark (plain_of server)) [] run
   pub plainly : AtEachMark (PlainMark (plain_of server)) [] run
 
-pub plain-mark : (server : SerialServer) (run : List Mark) (mark : Mark) → PlacedMark (plain_of server) run mark → PlainMark (plain_of server) run mark → IsPlainRun server run → IsPlainRun server (run ++ mark ∷ [])
-plain-mark server run mark p r h = record {
-  placed = AtEachMark-more (PlacedMark (plain_of server)) [] run mark h.placed p;
-  plainly = AtEachMark-more (PlainMark (plain_of server)) [] run mark h.plainly r;
+pub plain_mark : (server : SerialServer) (run : List Mark) (mark : Mark) → PlacedMark (plain_of server) run mark → PlainMark (plain_of server) run mark → IsPlainRun server run → IsPlainRun server (run ++ mark ∷ [])
+plain_mark server run mark p r h = record {
+  placed = AtEachMark_more (PlacedMark (plain_of server)) [] run mark h.placed p;
+  plainly = AtEachMark_more (PlainMark (plain_of server)) [] run mark h.plainly r;
 }
 
-pub output-plain : (server : SerialServer) (link : ℕ) (side : Side) (bytes : List ℕ) (d : Drill) → IsPlainRun server d.marks → IsPlainRun server (after_output link side bytes d).marks
-output-plain server link side [] d h = h
-output-plain server link side (b ∷ bytes) d h = plain-mark server d.marks (marks.Wrote link side (b ∷ bytes)) tt tt h
+pub output_plain : (server : SerialServer) (link : ℕ) (side : Side) (bytes : List ℕ) (d : Drill) → IsPlainRun server d.marks → IsPlainRun server (after_output link side bytes d).marks
+output_plain server link side [] d h = h
+output_plain server link side (b ∷ bytes) d h = plain_mark server d.marks (marks.Wrote link side (b ∷ bytes)) tt tt h
 
-pub settled-plain : (server : SerialServer) (s : Setting) (link : ℕ) (d : Drill) → IsPlainRun server d.marks → IsPlainRun server (settled s link d).marks
+pub settled_plain : (server : SerialServer) (s : Setting) (link : ℕ) (d : Drill) → IsPlainRun server d.marks → IsPlainRun server (settled s link d).marks
 unfolding settled
-settled-plain server s link d h =
+settled_plain server s link d h =
     let mid = after_all_output s link Initiator d in
-    output-plain server link Responder (unwritten (s.opened link) link Responder mid.marks) mid (output-plain server link Initiator (unwritten (s.opened link) link Initiator d.marks) d h)
+    output_plain server link Responder (unwritten (s.opened link) link Responder mid.marks) mid (output_plain server link Initiator (unwritten (s.opened link) link Initiator d.marks) d h)
 
-pub feeding-plain : (server : SerialServer) (link : ℕ) (side : Side) (bytes : List ℕ) (rest : Pipes) (d : Drill) → IsPlainRun server d.marks → IsPlainRun server (after_feeding link side bytes rest d).marks
-feeding-plain server link side [] rest d h = h
-feeding-plain server link side (b ∷ bytes) rest d h = plain-mark server d.marks (marks.Fed link side (b ∷ bytes)) tt tt h
+pub feeding_plain : (server : SerialServer) (link : ℕ) (side : Side) (bytes : List ℕ) (rest : Pipes) (d : Drill) → IsPlainRun server d.marks → IsPlainRun server (after_feeding link side bytes rest d).marks
+feeding_plain server link side [] rest d h = h
+feeding_plain server link side (b ∷ bytes) rest d h = plain_mark server d.marks (marks.Fed link side (b ∷ bytes)) tt tt h
 
-pub up-plain : (server : SerialServer) (s : Setting) (link n : ℕ) (d : Drill) → IsPlainRun server d.marks → IsPlainRun server (after_up s link n d).marks
+pub up_plain : (server : SerialServer) (s : Setting) (link n : ℕ) (d : Drill) → IsPlainRun server d.marks → IsPlainRun server (after_up s link n d).marks
 unfolding after_up
-up-plain server s link n d h =
-    settled-plain server s link (after_feeding_up link n d)
-    (feeding-plain server link Responder (take n (pipes_of link d).up) (record (pipes_of link d) { up = drop n (pipes_of link d).up }) d h)
+up_plain server s link n d h =
+    settled_plain server s link (after_feeding_up link n d)
+    (feeding_plain server link Responder (take n (pipes_of link d).up) (record (pipes_of link d) { up = drop n (pipes_of link d).up }) d h)
 
-pub handing-plain : (server : SerialServer) (link : ℕ) (c : Option CompletedCall) (d : Drill) → IsPlainRun server d.marks → IsPlainRun server (after_handing link c d).marks
-handing-plain server link None d h = h
-handing-plain server link (Some c) d h = plain-mark server d.marks (marks.Done link c.xid c.outcome) tt tt h
+pub handing_plain : (server : SerialServer) (link : ℕ) (c : Option CompletedCall) (d : Drill) → IsPlainRun server d.marks → IsPlainRun server (after_handing link c d).marks
+handing_plain server link None d h = h
+handing_plain server link (Some c) d h = plain_mark server d.marks (marks.Done link c.xid c.outcome) tt tt h
 
-pub dones-plain : (server : SerialServer) (s : Setting) (link n : ℕ) (d : Drill) → IsPlainRun server d.marks → IsPlainRun server (after_dones s link n d).marks
+pub dones_plain : (server : SerialServer) (s : Setting) (link n : ℕ) (d : Drill) → IsPlainRun server d.marks → IsPlainRun server (after_dones s link n d).marks
 unfolding after_done
-dones-plain server s link zero d h = h
-dones-plain server s link (suc n) d h =
-    dones-plain server s link n (after_done s link d) (handing-plain server link (slice_get (outcomes_due (s.opened link) link d.marks) 0) d h)
+dones_plain server s link zero d h = h
+dones_plain server s link (suc n) d h =
+    dones_plain server s link n (after_done s link d) (handing_plain server link (slice_get (outcomes_due (s.opened link) link d.marks) 0) d h)
 
-pub down-plain : (server : SerialServer) (s : Setting) (link n : ℕ) (d : Drill) → IsPlainRun server d.marks → IsPlainRun server (after_down s link n d).marks
+pub down_plain : (server : SerialServer) (s : Setting) (link n : ℕ) (d : Drill) → IsPlainRun server d.marks → IsPlainRun server (after_down s link n d).marks
 unfolding after_down after_outcomes
-down-plain server s link n d h =
+down_plain server s link n d h =
     let fed = after_feeding_down link n d in
-    settled-plain server s link (after_outcomes s link fed) (dones-plain server s link (length (outcomes_due (s.opened link) link fed.marks)) fed
-    (feeding-plain server link Initiator (take n (pipes_of link d).down) (record (pipes_of link d) { down = drop n (pipes_of link d).down }) d h))
+    settled_plain server s link (after_outcomes s link fed) (dones_plain server s link (length (outcomes_due (s.opened link) link fed.marks)) fed
+    (feeding_plain server link Initiator (take n (pipes_of link d).down) (record (pipes_of link d) { down = drop n (pipes_of link d).down }) d h))
 
-pub answer-plain : (s : Setting) (link : ℕ) (call : ReadyCall) (reply : Option (List ℕ)) (d : Drill) → s.server.reply_to (journal (plain_of s.server) d.marks) (now d) call.payload ≡ reply → IsPlainRun s.server d.marks →
+pub answer_plain : (s : Setting) (link : ℕ) (call : ReadyCall) (reply : Option (List ℕ)) (d : Drill) → s.server.reply_to (journal (plain_of s.server) d.marks) (now d) call.payload ≡ reply → IsPlainRun s.server d.marks →
     IsPlainRun s.server (after_answer s link call reply d).marks
-answer-plain s link call None d e h = h
-answer-plain s link call (Some reply) d e h =
+answer_plain s link call None d e h = h
+answer_plain s link call (Some reply) d e h =
     let mark = marks.Execute link call.xid (now d) call.payload (length (journal (plain_of s.server) d.marks)) reply in
-    settled-plain s.server s link (with_mark mark d) (plain-mark s.server d.marks mark refl e h)
+    settled_plain s.server s link (with_mark mark d) (plain_mark s.server d.marks mark refl e h)
 
-pub execution-plain : (s : Setting) (link : ℕ) (call : Option ReadyCall) (d : Drill) → IsPlainRun s.server d.marks → IsPlainRun s.server (after_execution s link call d).marks
-execution-plain s link None d h = h
-execution-plain s link (Some call) d h = answer-plain s link call (s.server.reply_to (journal (plain_of s.server) d.marks) (now d) call.payload) d refl h
+pub execution_plain : (s : Setting) (link : ℕ) (call : Option ReadyCall) (d : Drill) → IsPlainRun s.server d.marks → IsPlainRun s.server (after_execution s link call d).marks
+execution_plain s link None d h = h
+execution_plain s link (Some call) d h = answer_plain s link call (s.server.reply_to (journal (plain_of s.server) d.marks) (now d) call.payload) d refl h
 
-pub work-plain : (s : Setting) (link : ℕ) (d : Drill) → IsPlainRun s.server d.marks → IsPlainRun s.server (after_work s link d).marks
+pub work_plain : (s : Setting) (link : ℕ) (d : Drill) → IsPlainRun s.server d.marks → IsPlainRun s.server (after_work s link d).marks
 unfolding after_work
-work-plain s link d h = execution-plain s link (waiting_call s link d.marks) d h
+work_plain s link d h = execution_plain s link (waiting_call s link d.marks) d h
 
-pub calls-plain : (s : Setting) (link n : ℕ) (d : Drill) → IsPlainRun s.server d.marks → IsPlainRun s.server (after_calls s link n d).marks
-calls-plain s link zero d h = h
-calls-plain s link (suc n) d h = calls-plain s link n (after_work s link d) (work-plain s link d h)
+pub calls_plain : (s : Setting) (link n : ℕ) (d : Drill) → IsPlainRun s.server d.marks → IsPlainRun s.server (after_calls s link n d).marks
+calls_plain s link zero d h = h
+calls_plain s link (suc n) d h = calls_plain s link n (after_work s link d) (work_plain s link d h)
 
-pub moves-plain : (s : Setting) (link : ℕ) (d : Drill) → IsPlainRun s.server d.marks → IsPlainRun s.server (after_moves s link d).marks
+pub moves_plain : (s : Setting) (link : ℕ) (d : Drill) → IsPlainRun s.server d.marks → IsPlainRun s.server (after_moves s link d).marks
 unfolding after_moves after_all_work
-moves-plain s link d h =
+moves_plain s link d h =
     let one = after_all_up s link d in
     let two = after_all_work s link one in
-    down-plain s.server s link (length (pipes_of link two).down) two
-    (calls-plain s link (length (server (s.opened link) link one.marks).state.ready) one (up-plain s.server s link (length (pipes_of link d).up) d h))
+    down_plain s.server s link (length (pipes_of link two).down) two
+    (calls_plain s link (length (server (s.opened link) link one.marks).state.ready) one (up_plain s.server s link (length (pipes_of link d).up) d h))
 
-pub giving_up-plain : (s : Setting) (link : ℕ) (xid : Option ℕ) (d : Drill) → IsPlainRun s.server d.marks → IsPlainRun s.server (after_giving_up link xid d).marks
-giving_up-plain s link None d h = h
-giving_up-plain s link (Some xid) d h = plain-mark s.server d.marks (marks.Forget link xid) tt tt h
+pub giving_up_plain : (s : Setting) (link : ℕ) (xid : Option ℕ) (d : Drill) → IsPlainRun s.server d.marks → IsPlainRun s.server (after_giving_up link xid d).marks
+giving_up_plain s link None d h = h
+giving_up_plain s link (Some xid) d h = plain_mark s.server d.marks (marks.Forget link xid) tt tt h
 
-pub taking_back-plain : (s : Setting) (link : ℕ) (xid : Option ℕ) (d : Drill) → IsPlainRun s.server d.marks → IsPlainRun s.server (after_taking_back s link xid d).marks
-taking_back-plain s link None d h = h
-taking_back-plain s link (Some xid) d h =
+pub taking_back_plain : (s : Setting) (link : ℕ) (xid : Option ℕ) (d : Drill) → IsPlainRun s.server d.marks → IsPlainRun s.server (after_taking_back s link xid d).marks
+taking_back_plain s link None d h = h
+taking_back_plain s link (Some xid) d h =
     let mark = marks.Revoke link xid (revoked_bytes (s.opened link) link d.marks xid) in
-    settled-plain s.server s link (with_mark mark d) (plain-mark s.server d.marks mark tt tt h)
+    settled_plain s.server s link (with_mark mark d) (plain_mark s.server d.marks mark tt tt h)
 
-pub raw-plain : (s : Setting) (link : ℕ) (side : Side) (bytes : List ℕ) (dropped : Bool) (d : Drill) → IsPlainRun s.server d.marks → IsPlainRun s.server (after_raw link side bytes dropped d).marks
-raw-plain s link side bytes true d h = h
-raw-plain s link side bytes false d h = h
+pub raw_plain : (s : Setting) (link : ℕ) (side : Side) (bytes : List ℕ) (dropped : Bool) (d : Drill) → IsPlainRun s.server d.marks → IsPlainRun s.server (after_raw link side bytes dropped d).marks
+raw_plain s link side bytes true d h = h
+raw_plain s link side bytes false d h = h
 
-pub line-plain : (s : Setting) (line : Line) (d : Drill) → IsPlainRun s.server d.marks → IsPlainRun s.server (after_line s line d).marks
+pub line_plain : (s : Setting) (line : Line) (d : Drill) → IsPlainRun s.server d.marks → IsPlainRun s.server (after_line s line d).marks
 unfolding after_submit after_forget after_revoke
-line-plain s (lines.Cred client cred) d h = h
-line-plain s (lines.Call client form prog vers proc args) d h =
+line_plain s (lines.Cred client cred) d h = h
+line_plain s (lines.Call client form prog vers proc args) d h =
     let call : Call = record { prog = prog; vers = vers; proc = proc; cred = cred_of client d; args = args } in
     let mark = marks.Submit client call form (submit_answer_after (s.opened client) client d.marks call form) in
-    settled-plain s.server s client (with_mark mark d) (plain-mark s.server d.marks mark tt tt h)
-line-plain s (lines.Up client most) d h = up-plain s.server s client most d h
-line-plain s (lines.Down client most) d h = down-plain s.server s client most d h
-line-plain s (lines.Work client) d h = work-plain s client d h
-line-plain s (lines.Tick seconds) d h = h
-line-plain s (lines.Forget client number) d h = giving_up-plain s client (open_xid s client d.marks (answer_of_line client number d.marks)) d h
-line-plain s (lines.Revoke client number) d h = taking_back-plain s client (open_xid s client d.marks (answer_of_line client number d.marks)) d h
-line-plain s (lines.Drop client) d h = plain-mark s.server d.marks (marks.Drop client) tt tt h
-line-plain s (lines.Raw client side bytes) d h = raw-plain s client side bytes (is_dropped client d.marks) d h
-line-plain s lines.Drain d h = h
+    settled_plain s.server s client (with_mark mark d) (plain_mark s.server d.marks mark tt tt h)
+line_plain s (lines.Up client most) d h = up_plain s.server s client most d h
+line_plain s (lines.Down client most) d h = down_plain s.server s client most d h
+line_plain s (lines.Work client) d h = work_plain s client d h
+line_plain s (lines.Tick seconds) d h = h
+line_plain s (lines.Forget client number) d h = giving_up_plain s client (open_xid s client d.marks (answer_of_line client number d.marks)) d h
+line_plain s (lines.Revoke client number) d h = taking_back_plain s client (open_xid s client d.marks (answer_of_line client number d.marks)) d h
+line_plain s (lines.Drop client) d h = plain_mark s.server d.marks (marks.Drop client) tt tt h
+line_plain s (lines.Raw client side bytes) d h = raw_plain s client side bytes (is_dropped client d.marks) d h
+line_plain s lines.Drain d h = h
 
-pub round-plain : (s : Setting) (links : List ℕ) (d : Drill) → IsPlainRun s.server d.marks → IsPlainRun s.server (after_round s links d).marks
-round-plain s [] d h = h
-round-plain s (l ∷ links) d h = round-plain s links (after_moves s l d) (moves-plain s l d h)
+pub round_plain : (s : Setting) (links : List ℕ) (d : Drill) → IsPlainRun s.server d.marks → IsPlainRun s.server (after_round s links d).marks
+round_plain s [] d h = h
+round_plain s (l ∷ links) d h = round_plain s links (after_moves s l d) (moves_plain s l d h)
 
-pub drain-plain : (s : Setting) (links : List ℕ) (rounds : ℕ) (old new : Drill) → Drains s links rounds old new → IsPlainRun s.server old.marks → IsPlainRun s.server new.marks
-drain-plain s links zero old new drains h = subst (λ (d : Drill). IsPlainRun s.server d.marks) (sym drains.1) h
-drain-plain s links (suc rounds) old new drains h = drain-plain s links rounds (after_round s links old) new drains.1 (round-plain s links old h)
+pub drain_plain : (s : Setting) (links : List ℕ) (rounds : ℕ) (old new : Drill) → Drains s links rounds old new → IsPlainRun s.server old.marks → IsPlainRun s.server new.marks
+drain_plain s links zero old new drains h = subst (λ (d : Drill). IsPlainRun s.server d.marks) (sym drains.1) h
+drain_plain s links (suc rounds) old new drains h = drain_plain s links rounds (after_round s links old) new drains.1 (round_plain s links old h)
 
-pub made-plain : (s : Setting) (clients : ℕ) (line : Line) (old new : Drill) → Makes s clients line old new → IsPlainRun s.server old.marks → IsPlainRun s.server new.marks
-made-plain s clients (lines.Cred client cred) old new e h = subst (λ (d : Drill). IsPlainRun s.server d.marks) (sym e) (line-plain s (lines.Cred client cred) old h)
-made-plain s clients (lines.Call client form prog vers proc args) old new e h = subst (λ (d : Drill). IsPlainRun s.server d.marks) (sym e) (line-plain s (lines.Call client form prog vers proc args) old h)
-made-plain s clients (lines.Up client most) old new e h = subst (λ (d : Drill). IsPlainRun s.server d.marks) (sym e) (line-plain s (lines.Up client most) old h)
-made-plain s clients (lines.Down client most) old new e h = subst (λ (d : Drill). IsPlainRun s.server d.marks) (sym e) (line-plain s (lines.Down client most) old h)
-made-plain s clients (lines.Work client) old new e h = subst (λ (d : Drill). IsPlainRun s.server d.marks) (sym e) (line-plain s (lines.Work client) old h)
-made-plain s clients (lines.Tick seconds) old new e h = subst (λ (d : Drill). IsPlainRun s.server d.marks) (sym e) (line-plain s (lines.Tick seconds) old h)
-made-plain s clients (lines.Forget client number) old new e h = subst (λ (d : Drill). IsPlainRun s.server d.marks) (sym e) (line-plain s (lines.Forget client number) old h)
-made-plain s clients (lines.Revoke client number) old new e h = subst (λ (d : Drill). IsPlainRun s.server d.marks) (sym e) (line-plain s (lines.Revoke client number) old h)
-made-plain s clients (lines.Drop client) old new e h = subst (λ (d : Drill). IsPlainRun s.server d.marks) (sym e) (line-plain s (lines.Drop client) old h)
-made-plain s clients (lines.Raw client side bytes) old new e h = subst (λ (d : Drill). IsPlainRun s.server d.marks) (sym e) (line-plain s (lines.Raw client side bytes) old h)
-made-plain s clients lines.Drain old new e h = drain-plain s (links_of clients) e.0 old new e.1 h
+pub made_plain : (s : Setting) (clients : ℕ) (line : Line) (old new : Drill) → Makes s clients line old new → IsPlainRun s.server old.marks → IsPlainRun s.server new.marks
+made_plain s clients (lines.Cred client cred) old new e h = subst (λ (d : Drill). IsPlainRun s.server d.marks) (sym e) (line_plain s (lines.Cred client cred) old h)
+made_plain s clients (lines.Call client form prog vers proc args) old new e h = subst (λ (d : Drill). IsPlainRun s.server d.marks) (sym e) (line_plain s (lines.Call client form prog vers proc args) old h)
+made_plain s clients (lines.Up client most) old new e h = subst (λ (d : Drill). IsPlainRun s.server d.marks) (sym e) (line_plain s (lines.Up client most) old h)
+made_plain s clients (lines.Down client most) old new e h = subst (λ (d : Drill). IsPlainRun s.server d.marks) (sym e) (line_plain s (lines.Down client most) old h)
+made_plain s clients (lines.Work client) old new e h = subst (λ (d : Drill). IsPlainRun s.server d.marks) (sym e) (line_plain s (lines.Work client) old h)
+made_plain s clients (lines.Tick seconds) old new e h = subst (λ (d : Drill). IsPlainRun s.server d.marks) (sym e) (line_plain s (lines.Tick seconds) old h)
+made_plain s clients (lines.Forget client number) old new e h = subst (λ (d : Drill). IsPlainRun s.server d.marks) (sym e) (line_plain s (lines.Forget client number) old h)
+made_plain s clients (lines.Revoke client number) old new e h = subst (λ (d : Drill). IsPlainRun s.server d.marks) (sym e) (line_plain s (lines.Revoke client number) old h)
+made_plain s clients (lines.Drop client) old new e h = subst (λ (d : Drill). IsPlainRun s.server d.marks) (sym e) (line_plain s (lines.Drop client) old h)
+made_plain s clients (lines.Raw client side bytes) old new e h = subst (λ (d : Drill). IsPlainRun s.server d.marks) (sym e) (line_plain s (lines.Raw client side bytes) old h)
+made_plain s clients lines.Drain old new e h = drain_plain s (links_of clients) e.0 old new e.1 h
 
-pub all-plain : (s : Setting) (clients : ℕ) (all : List Line) (old new : Drill) → MakeAll s clients all old new → IsPlainRun s.server old.marks → IsPlainRun s.server new.marks
-all-plain s clients [] old new e h = subst (λ (d : Drill). IsPlainRun s.server d.marks) (sym e) h
-all-plain s clients (line ∷ others) old new e h = all-plain s clients others e.0 new e.2 (made-plain s clients line old e.0 e.1 h)
+pub all_plain : (s : Setting) (clients : ℕ) (all : List Line) (old new : Drill) → MakeAll s clients all old new → IsPlainRun s.server old.marks → IsPlainRun s.server new.marks
+all_plain s clients [] old new e h = subst (λ (d : Drill). IsPlainRun s.server d.marks) (sym e) h
+all_plain s clients (line ∷ others) old new e h = all_plain s clients others e.0 new e.2 (made_plain s clients line old e.0 e.1 h)
 
-pub opening-plain : (s : Setting) (link : ℕ) (d : Drill) → IsPlainRun s.server d.marks → IsPlainRun s.server (after_opening s link d).marks
+pub opening_plain : (s : Setting) (link : ℕ) (d : Drill) → IsPlainRun s.server d.marks → IsPlainRun s.server (after_opening s link d).marks
 unfolding after_opening
-opening-plain s link d h =
+opening_plain s link d h =
     let one = settled s link d in
     let two = after_all_up s link one in
-    down-plain s.server s link (length (pipes_of link two).down) two (up-plain s.server s link (length (pipes_of link one).up) one (settled-plain s.server s link d h))
+    down_plain s.server s link (length (pipes_of link two).down) two (up_plain s.server s link (length (pipes_of link one).up) one (settled_plain s.server s link d h))
 
-pub openings-plain : (s : Setting) (links : List ℕ) (d : Drill) → IsPlainRun s.server d.marks → IsPlainRun s.server (after_openings s links d).marks
-openings-plain s [] d h = h
-openings-plain s (l ∷ links) d h = openings-plain s links (after_opening s l d) (opening-plain s l d h)
+pub openings_plain : (s : Setting) (links : List ℕ) (d : Drill) → IsPlainRun s.server d.marks → IsPlainRun s.server (after_openings s links d).marks
+openings_plain s [] d h = h
+openings_plain s (l ∷ links) d h = openings_plain s links (after_opening s l d) (opening_plain s l d h)
 
 -- the one journal is what the executed calls add, each at its place, and each is answered as the plain server answers there
 pub follows_is_plain : (server : SerialServer) (script : ScriptLines) (run : List Mark) → Follows server script run →
-    Journaled (plain_of server) (journal (plain_of server) run) run × Plainly (plain_of server) run
+    Journaled (plain_of server) (journal (plain_of server) run) run × AnsweredByPlainServer (plain_of server) run
 unfolding opened_drill
 follows_is_plain server script run follows =
     let s = setting_of server script.opening in
     let clients = script.opening.clients in
-    let first = openings-plain s (links_of clients) (start clients) (record { placed = tt; plainly = tt }) in
-    let last = all-plain s clients script.lines (opened_drill server script.opening) follows.last follows.makes first in
+    let first = openings_plain s (links_of clients) (start clients) (record { placed = tt; plainly = tt }) in
+    let last = all_plain s clients script.lines (opened_drill server script.opening) follows.last follows.makes first in
     let run_is : IsPlainRun server run = subst (IsPlainRun server) (sym follows.marks_are) last in
     (record { is = refl; places = run_is.placed }, run_is.plainly)

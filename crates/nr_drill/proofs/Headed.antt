@@ -1,11 +1,11 @@
 -- A run that follows a script is the run of a drill: the headline.
 use Rattle.std.specs.Prelude.{List, []}
 use Rattle.nr_reduce.specs.declared.mark.Mark.{Mark}
-use Rattle.nr_reduce.specs.IsPlain.{IsPlain}
+use Rattle.nr_reduce.specs.KeepsReplyLimits.{KeepsReplyLimits}
 use Rattle.nr_reduce.specs.Asked.{IsAll}
 use Rattle.nr_reduce.specs.Matched.{IsPrefixOf}
 use Rattle.nr_reduce.specs.Served.{ServedMark}
-use Rattle.nr_reduce.proofs.SoFarLaws.{AtEachMark-each, served-mark}
+use Rattle.nr_reduce.proofs.SoFarLaws.{AtEachMark_each, served_mark}
 use Rattle.nr_laws.proofs.AnsweredChanges.{changes_are_answered}
 use Rattle.nr_laws.specs.Typed.{IsTyped}
 use Rattle.nr_script.specs.Script.{ScriptLines, IsScript}
@@ -21,12 +21,12 @@ use Rattle.nr_drill.proofs.TypedDrills.{follows_is_typed, follows_replied}
 use Rattle.nr_drill.proofs.Followed.{follows_is_plain}
 use Rattle.nr_drill.proofs.Carried.{follows_keeps}
 use Rattle.nr_drill.proofs.Promised.{follows_promises, replied_on}
-use Rattle.nr_drill.proofs.Remembered.{keeps-memory}
+use Rattle.nr_drill.proofs.Remembered.{keeps_memory}
 use Rattle.nr_drill.proofs.Drained.{follows_waits}
 use Rattle.nr_drill.proofs.Handed.{follows_hands}
 
 -- if the server is a plain one, and each reply is bytes
-pub follows_is_drill : (server : SerialServer) (script : ScriptLines) (run : List Mark) → IsScript script → IsPlain (plain_of server) → RepliedInBytes run → Follows server script run → IsDrillRun server script run
+pub follows_is_drill : (server : SerialServer) (script : ScriptLines) (run : List Mark) → IsScript script → KeepsReplyLimits (plain_of server) → RepliedInBytes run → Follows server script run → IsDrillRun server script run
 follows_is_drill server script run is plain replied follows =
     let typed : IsTyped run = follows_is_typed server script run is replied follows in
     let told = follows_is_plain server script run follows in
@@ -37,11 +37,11 @@ follows_is_drill server script run is plain replied follows =
       journaled = told.0;
       plainly = told.1;
       laws = λ link within. follows_keeps server script run is follows link within;
-      memory = λ link within. keeps-memory (parameters_of script.opening link) link run typed (follows_keeps server script run is follows link within).asked;
+      memory = λ link within. keeps_memory (parameters_of script.opening link) link run typed (follows_keeps server script run is follows link within).asked;
       outcomes = λ link within raw. promise.completes link within raw;
       changes = λ link within before xid moment payload place reply at some.
           changes_are_answered server.reply_to server.adds (parameters_of script.opening link) link run before xid moment payload place reply plain (replied_on server link run told.1) typed
-          (AtEachMark-each (ServedMark IsAll (parameters_of script.opening link) link) (ServedMark IsPrefixOf (parameters_of script.opening link) link) [] run (served-mark (parameters_of script.opening link) link)
+          (AtEachMark_each (ServedMark IsAll (parameters_of script.opening link) link) (ServedMark IsPrefixOf (parameters_of script.opening link) link) [] run (served_mark (parameters_of script.opening link) link)
           (follows_keeps server script run is follows link within).served.each) at some;
       places = λ link other_link within other_within raw other_raw. promise.places link other_link within other_within raw other_raw;
       staying = λ link within raw standing kept_memory conveyed. record {
@@ -54,7 +54,7 @@ follows_is_drill server script run is plain replied follows =
     }
 
 -- or its server replies in bytes to what is of bytes
-pub served_is_drill : (server : SerialServer) (script : ScriptLines) (run : List Mark) → IsScript script → IsPlain (plain_of server) → RepliesInBytes server → Follows server script run → IsDrillRun server script run
+pub served_is_drill : (server : SerialServer) (script : ScriptLines) (run : List Mark) → IsScript script → KeepsReplyLimits (plain_of server) → RepliesInBytes server → Follows server script run → IsDrillRun server script run
 served_is_drill server script run is plain replies follows = follows_is_drill server script run is plain (follows_replied server script run is replies follows) follows
 
 -- So it is of a drill's own server: what is left to a driver is to follow its script, and that its replies are bytes by their type.

@@ -2,27 +2,27 @@
 use Rattle.std.specs.Prelude.{slice_get, take, drop}
 use Rattle.std.proofs.Common.{◌≡◌, ℕ, zero, suc, Bool, true, false, List, [], ◌∷◌, ◌++◌, length, Option, None, Some, refl, sym, ap, subst}
 use Rattle.nr_xdr.specs.Item.{IsBytes}
-use Rattle.nr_xdr.proofs.WordBytes.{IsBytes-take}
-use Rattle.nr_xdr.proofs.Chains.{IsBytes-right}
+use Rattle.nr_xdr.proofs.WordBytes.{IsBytes_take}
+use Rattle.nr_xdr.proofs.Chains.{IsBytes_right}
 use Rattle.nr_wire.specs.declared.hello.Side.{Side}
 use Rattle.nr_wire.specs.declared.hello.Side.TheVariants.{Initiator, Responder}
 use Rattle.nr_reduce.specs.declared.mark.Mark.{Mark}
 use Rattle.nr_reduce.specs.declared.mark.Mark.TheVariants as marks
 use Rattle.nr_reduce.specs.History.{CompletedCall, bytes_sent, is_dropped}
-use Rattle.nr_reduce.proofs.Standing.{AtEachMark-more}
+use Rattle.nr_reduce.proofs.Standing.{AtEachMark_more}
 use Rattle.nr_reduce.specs.ServerState.{ReadyCall}
 use Rattle.nr_reduce.specs.OutcomesDue.{outcomes_due}
 use Rattle.nr_reduce.specs.PlainJournal.{journal}
 use Rattle.nr_laws.specs.Typed.{TypedMark, IsTyped}
-use Rattle.nr_script.proofs.ByteLists.{no-bytes}
+use Rattle.nr_script.proofs.ByteLists.{no_bytes_lem}
 use Rattle.nr_drill.specs.Drill.{Setting, Drill, Pipes, pipes_of, plain_of, now, with_mark, unwritten, after_output, after_all_output, settled, after_feeding, after_feeding_up, after_feeding_down, after_up, after_down, after_handing, after_done, after_dones, after_outcomes, waiting_call, after_answer, after_execution, after_work}
 use Rattle.nr_drill.specs.WorkLeft.DrainStep.{AllUp, Work, AllDown}
 use Rattle.nr_drill.specs.Drains.{StepsKeepTypes, AnswersInBytes}
-use Rattle.nr_drill.proofs.ByteClients.{client-due}
-use Rattle.nr_drill.proofs.ByteServers.{server-due}
+use Rattle.nr_drill.proofs.ByteClients.{client_due}
+use Rattle.nr_drill.proofs.ByteServers.{server_due}
 
 more : (mark : Mark) (d : Drill) → TypedMark d.marks mark → IsTyped d.marks → IsTyped (with_mark mark d).marks
-more mark d t h = AtEachMark-more TypedMark [] d.marks mark h t
+more mark d t h = AtEachMark_more TypedMark [] d.marks mark h t
 
 output : (link : ℕ) (side : Side) (bytes : List ℕ) (d : Drill) → IsTyped d.marks → IsTyped (after_output link side bytes d).marks
 output link side [] d h = h
@@ -48,9 +48,9 @@ dones s link zero d h = h
 dones s link (suc n) d h = dones s link n (after_done s link d) (hands link (slice_get (outcomes_due (s.opened link) link d.marks) 0) d h)
 
 -- what waits in the pipes of a link that runs are bytes
-pipe-bytes : (got pipe sent : List ℕ) (dropped : Bool) → (dropped ≡ false → got ++ pipe ≡ sent) → (dropped ≡ true → pipe ≡ []) → IsBytes sent → IsBytes pipe
-pipe-bytes got pipe sent true carried gone b = subst IsBytes (sym (gone refl)) no-bytes
-pipe-bytes got pipe sent false carried gone b = IsBytes-right got pipe (subst IsBytes (sym (carried refl)) b)
+pipe_bytes : (got pipe sent : List ℕ) (dropped : Bool) → (dropped ≡ false → got ++ pipe ≡ sent) → (dropped ≡ true → pipe ≡ []) → IsBytes sent → IsBytes pipe
+pipe_bytes got pipe sent true carried gone b = subst IsBytes (sym (gone refl)) no_bytes_lem
+pipe_bytes got pipe sent false carried gone b = IsBytes_right got pipe (subst IsBytes (sym (carried refl)) b)
 
 answers : (s : Setting) (link : ℕ) (call : ReadyCall) (reply : Option (List ℕ)) (d : Drill) → ((r : List ℕ) → reply ≡ Some r → IsBytes r) → IsTyped d.marks → IsTyped (after_answer s link call reply d).marks
 answers s link call None d b h = h
@@ -67,16 +67,16 @@ pub steps_keep_types : (s : Setting) → AnswersInBytes s → StepsKeepTypes s
 unfolding after_up after_down after_outcomes after_work
 steps_keep_types s replies link AllUp d running typed =
     let pipes = pipes_of link d in
-    let bytes = pipe-bytes _ pipes.up (bytes_sent link Initiator d.marks) (is_dropped link d.marks) running.up (λ gone. ap (λ (p : Pipes). p.up) (running.gone gone))
-    (subst IsBytes (sym running.asked.written) (client-due (s.opened link) link d.marks typed)) in
+    let bytes = pipe_bytes _ pipes.up (bytes_sent link Initiator d.marks) (is_dropped link d.marks) running.up (λ gone. ap (λ (p : Pipes). p.up) (running.gone gone))
+    (subst IsBytes (sym running.asked.written) (client_due (s.opened link) link d.marks typed)) in
     settles s link (after_feeding_up link (length pipes.up) d)
-    (feeds link Responder (take (length pipes.up) pipes.up) (record pipes { up = drop (length pipes.up) pipes.up }) d (IsBytes-take (length pipes.up) pipes.up bytes) typed)
+    (feeds link Responder (take (length pipes.up) pipes.up) (record pipes { up = drop (length pipes.up) pipes.up }) d (IsBytes_take (length pipes.up) pipes.up bytes) typed)
 steps_keep_types s replies link Work d running typed = executes s link (waiting_call s link d.marks) d replies refl typed
 steps_keep_types s replies link AllDown d running typed =
     let pipes = pipes_of link d in
-    let bytes = pipe-bytes _ pipes.down (bytes_sent link Responder d.marks) (is_dropped link d.marks) running.down (λ gone. ap (λ (p : Pipes). p.down) (running.gone gone))
-    (subst IsBytes (sym running.served.written) (server-due (s.opened link) link d.marks typed)) in
+    let bytes = pipe_bytes _ pipes.down (bytes_sent link Responder d.marks) (is_dropped link d.marks) running.down (λ gone. ap (λ (p : Pipes). p.down) (running.gone gone))
+    (subst IsBytes (sym running.served.written) (server_due (s.opened link) link d.marks typed)) in
     let fed = after_feeding_down link (length pipes.down) d in
     settles s link (after_outcomes s link fed)
     (dones s link (length (outcomes_due (s.opened link) link fed.marks)) fed
-    (feeds link Initiator (take (length pipes.down) pipes.down) (record pipes { down = drop (length pipes.down) pipes.down }) d (IsBytes-take (length pipes.down) pipes.down bytes) typed))
+    (feeds link Initiator (take (length pipes.down) pipes.down) (record pipes { down = drop (length pipes.down) pipes.down }) d (IsBytes_take (length pipes.down) pipes.down bytes) typed))

@@ -24,7 +24,7 @@ use Rattle.nr_reduce.specs.Matched.{IsPrefixOf}
 use Rattle.nr_reduce.specs.History.{AcceptedCall, CompletedCall, accepted_as, accepted_at, bytes_sent, written_at, accepted_calls, completed_calls, is_abandoned, is_dropped}
 use Rattle.nr_reduce.specs.OutcomesDue.{is_completed, outcomes_of_call, outcomes_due}
 use Rattle.nr_reduce.specs.Events.{events_at, if_own}
-use Rattle.nr_reduce.specs.Events.Event.{QueueWritten}
+use Rattle.nr_reduce.specs.Events.RunEvent.{QueueWritten}
 use Rattle.nr_reduce.specs.EndRules.{output_for_all}
 use Rattle.nr_reduce.specs.ClientState.{ClientState}
 use Rattle.nr_reduce.specs.ServerState.{ServerState, ReadyCall}
@@ -33,11 +33,11 @@ use Rattle.nr_reduce.specs.Server.{server_rules, server_end, server_output}
 use Rattle.nr_reduce.specs.Run.{client, server, output_due}
 use Rattle.nr_reduce.specs.Asked.{AskedMark, AskedSoFar, IsAll, IsCompleted, IsAwaited, revoked_bytes}
 use Rattle.nr_reduce.specs.Served.{ServedMark, next_call}
-use Rattle.nr_reduce.proofs.Steps.{output_due_up-one, output_due_down-one}
-use Rattle.nr_reduce.proofs.SoFarLaws.{AtEachMark-each, asked-mark}
+use Rattle.nr_reduce.proofs.Steps.{output_due_up_one, output_due_down_one}
+use Rattle.nr_reduce.proofs.SoFarLaws.{AtEachMark_each, asked_mark}
 use Rattle.nr_reduce.proofs.Submitting.{accepted_keeps}
-use Rattle.nr_reduce.proofs.Standing.{AtEachMark-more, itself, sent-one}
-use Rattle.nr_laws.proofs.LiveRegions.{passes-any}
+use Rattle.nr_reduce.proofs.Standing.{AtEachMark_more, itself, sent_one}
+use Rattle.nr_laws.proofs.LiveRegions.{passes_any}
 use Rattle.nr_laws.specs.Grant.{AcceptedMark, AcceptsByRule}
 use Rattle.nr_drill.specs.Drill.{Setting, Drill, Pipes, plain_of, now, unwritten, after_output, after_all_output, settled, pipes_of, with_mark, after_submit, after_feeding, after_feeding_up, after_up, if_standing, waiting_call, after_answer, after_execution, after_work, after_calls, after_drop, after_feeding_down, after_handing, after_done, after_dones, after_outcomes, after_down, answer_at, answer_of_line, is_open, open_xid, after_giving_up, after_forget, after_taking_back, after_revoke, after_all_up, after_all_work, after_moves}
 
@@ -75,67 +75,67 @@ abbrev pub more_due : LinkParameters → ℕ → Side → List Mark → Mark →
 more_due o link Initiator run mark = output_for_all (client_rules o) (client o link run) (events_at link Initiator run mark)
 more_due o link Responder run mark = output_for_all (server_rules o) (server o link run) (events_at link Responder run mark)
 
-due-one : (o : LinkParameters) (link : ℕ) (side : Side) (run : List Mark) (mark : Mark) →
+due_one_lem : (o : LinkParameters) (link : ℕ) (side : Side) (run : List Mark) (mark : Mark) →
     output_due o link side (run ++ mark ∷ []) ≡ output_due o link side run ++ more_due o link side run mark
-due-one o link Initiator run mark = output_due_up-one o link run mark
-due-one o link Responder run mark = output_due_down-one o link run mark
+due_one_lem o link Initiator run mark = output_due_up_one o link run mark
+due_one_lem o link Responder run mark = output_due_down_one o link run mark
 
 -- with a mark that is no Wrote of the side, more may be due
-pub due-more : (o : LinkParameters) (link : ℕ) (side : Side) (run : List Mark) (mark : Mark) → written_at link side mark ≡ [] → IsDueOf o link side run →
+pub due_more : (o : LinkParameters) (link : ℕ) (side : Side) (run : List Mark) (mark : Mark) → written_at link side mark ≡ [] → IsDueOf o link side run →
     bytes_sent link side (run ++ mark ∷ []) ++ (unwritten o link side run ++ more_due o link side run mark) ≡ output_due o link side (run ++ mark ∷ [])
-due-more o link side run mark none is =
+due_more o link side run mark none is =
     let sent = bytes_sent link side run in
     let left = unwritten o link side run in
     let more = more_due o link side run mark in
-    ap (λ (xs : List ℕ). xs ++ (left ++ more)) (sent-one link side run mark ∙ ap (λ (xs : List ℕ). sent ++ xs) none ∙ append-nil sent)
-    ∙ sym (append_assoc sent left more) ∙ ap (λ (xs : List ℕ). xs ++ more) is ∙ sym (due-one o link side run mark)
+    ap (λ (xs : List ℕ). xs ++ (left ++ more)) (sent_one link side run mark ∙ ap (λ (xs : List ℕ). sent ++ xs) none ∙ append-nil sent)
+    ∙ sym (append_assoc sent left more) ∙ ap (λ (xs : List ℕ). xs ++ more) is ∙ sym (due_one_lem o link side run mark)
 
 -- with a Wrote of all that was due
-due-wrote : (o : LinkParameters) (link : ℕ) (side : Side) (run : List Mark) (mark : Mark) → written_at link side mark ≡ unwritten o link side run → IsDueOf o link side run →
+due_wrote : (o : LinkParameters) (link : ℕ) (side : Side) (run : List Mark) (mark : Mark) → written_at link side mark ≡ unwritten o link side run → IsDueOf o link side run →
     bytes_sent link side (run ++ mark ∷ []) ++ more_due o link side run mark ≡ output_due o link side (run ++ mark ∷ [])
-due-wrote o link side run mark all is =
+due_wrote o link side run mark all is =
     let more = more_due o link side run mark in
-    ap (λ (xs : List ℕ). xs ++ more) (sent-one link side run mark ∙ ap (λ (xs : List ℕ). bytes_sent link side run ++ xs) all ∙ is)
-    ∙ sym (due-one o link side run mark)
+    ap (λ (xs : List ℕ). xs ++ more) (sent_one link side run mark ∙ ap (λ (xs : List ℕ). bytes_sent link side run ++ xs) all ∙ is)
+    ∙ sym (due_one_lem o link side run mark)
 
 -- ===== one mark more
 
 -- a mark that is no Wrote of the link, and by which its laws hold
-pub lawful-mark : (o : LinkParameters) (link : ℕ) (run : List Mark) (mark : Mark) → IsLawful o link run →
+pub lawful_mark : (o : LinkParameters) (link : ℕ) (run : List Mark) (mark : Mark) → IsLawful o link run →
     written_at link Initiator mark ≡ [] → written_at link Responder mark ≡ [] →
     AskedMark IsAll o link run mark → ServedMark IsAll o link run mark → AcceptedMark o link run mark → IsLawful o link (run ++ mark ∷ [])
-lawful-mark o link run mark h up down a s g = record {
-  asked = AtEachMark-more (AskedMark IsAll o link) [] run mark h.asked a;
-  served = AtEachMark-more (ServedMark IsAll o link) [] run mark h.served s;
-  accepts = AtEachMark-more (AcceptedMark o link) [] run mark h.accepts g;
-  client = due_of o link Initiator (run ++ mark ∷ []) (unwritten o link Initiator run ++ more_due o link Initiator run mark) (due-more o link Initiator run mark up h.client);
-  server = due_of o link Responder (run ++ mark ∷ []) (unwritten o link Responder run ++ more_due o link Responder run mark) (due-more o link Responder run mark down h.server);
+lawful_mark o link run mark h up down a s g = record {
+  asked = AtEachMark_more (AskedMark IsAll o link) [] run mark h.asked a;
+  served = AtEachMark_more (ServedMark IsAll o link) [] run mark h.served s;
+  accepts = AtEachMark_more (AcceptedMark o link) [] run mark h.accepts g;
+  client = due_of o link Initiator (run ++ mark ∷ []) (unwritten o link Initiator run ++ more_due o link Initiator run mark) (due_more o link Initiator run mark up h.client);
+  server = due_of o link Responder (run ++ mark ∷ []) (unwritten o link Responder run ++ more_due o link Responder run mark) (due_more o link Responder run mark down h.server);
 }
 
 -- ===== what is written
 
-quiet-client : (o : LinkParameters) (k : ClientState) (ended : Option End) (taken : ℕ) → output_for_all (client_rules o) (record { state = k; ended = ended }) (QueueWritten taken ∷ []) ≡ []
+quiet_client : (o : LinkParameters) (k : ClientState) (ended : Option End) (taken : ℕ) → output_for_all (client_rules o) (record { state = k; ended = ended }) (QueueWritten taken ∷ []) ≡ []
 unfolding client_end client_output
-quiet-client o k None taken = refl
-quiet-client o k (Some end) taken = refl
+quiet_client o k None taken = refl
+quiet_client o k (Some end) taken = refl
 
-quiet-server : (o : LinkParameters) (k : ServerState) (ended : Option End) (taken : ℕ) → output_for_all (server_rules o) (record { state = k; ended = ended }) (QueueWritten taken ∷ []) ≡ []
+quiet_server : (o : LinkParameters) (k : ServerState) (ended : Option End) (taken : ℕ) → output_for_all (server_rules o) (record { state = k; ended = ended }) (QueueWritten taken ∷ []) ≡ []
 unfolding server_end server_output
-quiet-server o k None taken = refl
-quiet-server o k (Some end) taken = refl
+quiet_server o k None taken = refl
+quiet_server o k (Some end) taken = refl
 
 -- a Wrote makes nothing due, at either side
 quiet : (o : LinkParameters) (link : ℕ) (side writer : Side) (run : List Mark) (bytes : List ℕ) → more_due o link side run (marks.Wrote link writer bytes) ≡ []
 quiet o link Initiator Initiator run bytes =
     ap (λ (b : Bool). output_for_all (client_rules o) (client o link run) (if_own (b && true) (QueueWritten (length bytes) ∷ []))) (itself link)
-    ∙ quiet-client o (client o link run).state (client o link run).ended (length bytes)
+    ∙ quiet_client o (client o link run).state (client o link run).ended (length bytes)
 quiet o link Initiator Responder run bytes =
     ap (λ (b : Bool). output_for_all (client_rules o) (client o link run) (if_own (b && false) (QueueWritten (length bytes) ∷ []))) (itself link)
 quiet o link Responder Initiator run bytes =
     ap (λ (b : Bool). output_for_all (server_rules o) (server o link run) (if_own (b && false) (QueueWritten (length bytes) ∷ []))) (itself link)
 quiet o link Responder Responder run bytes =
     ap (λ (b : Bool). output_for_all (server_rules o) (server o link run) (if_own (b && true) (QueueWritten (length bytes) ∷ []))) (itself link)
-    ∙ quiet-server o (server o link run).state (server o link run).ended (length bytes)
+    ∙ quiet_server o (server o link run).state (server o link run).ended (length bytes)
 
 pub own_written : (link : ℕ) (side : Side) (bytes : List ℕ) → written_at link side (marks.Wrote link side bytes) ≡ bytes
 own_written link Initiator bytes = ap (λ (b : Bool). if b && true then bytes else []) (itself link)
@@ -152,75 +152,75 @@ wrote_all : (o : LinkParameters) (link : ℕ) (side : Side) (run : List Mark) (b
     bytes_sent link side (run ++ marks.Wrote link side bytes ∷ []) ++ [] ≡ output_due o link side (run ++ marks.Wrote link side bytes ∷ [])
 wrote_all o link side run bytes all is =
     ap (λ (xs : List ℕ). bytes_sent link side (run ++ marks.Wrote link side bytes ∷ []) ++ xs) (sym (quiet o link side side run bytes))
-    ∙ due-wrote o link side run (marks.Wrote link side bytes) (own_written link side bytes ∙ all) is
+    ∙ due_wrote o link side run (marks.Wrote link side bytes) (own_written link side bytes ∙ all) is
 
 left_alone : (o : LinkParameters) (link : ℕ) (side writer : Side) (run : List Mark) (bytes : List ℕ) → written_at link side (marks.Wrote link writer bytes) ≡ [] → IsDueOf o link side run →
     bytes_sent link side (run ++ marks.Wrote link writer bytes ∷ []) ++ unwritten o link side run ≡ output_due o link side (run ++ marks.Wrote link writer bytes ∷ [])
 left_alone o link side writer run bytes none is =
     ap (λ (xs : List ℕ). bytes_sent link side (run ++ marks.Wrote link writer bytes ∷ []) ++ xs)
     (sym (append-nil (unwritten o link side run)) ∙ ap (λ (xs : List ℕ). unwritten o link side run ++ xs) (sym (quiet o link side writer run bytes)))
-    ∙ due-more o link side run (marks.Wrote link writer bytes) none is
+    ∙ due_more o link side run (marks.Wrote link writer bytes) none is
 
 -- after a Wrote of the client, or of the server, of all that it has to write
-pub lawful-up : (o : LinkParameters) (link : ℕ) (run : List Mark) (bytes : List ℕ) → bytes ≡ unwritten o link Initiator run → IsLawful o link run →
+pub lawful_up : (o : LinkParameters) (link : ℕ) (run : List Mark) (bytes : List ℕ) → bytes ≡ unwritten o link Initiator run → IsLawful o link run →
     IsLawful o link (run ++ marks.Wrote link Initiator bytes ∷ [])
-lawful-up o link run bytes all h =
+lawful_up o link run bytes all h =
     let mark = marks.Wrote link Initiator bytes in
     record {
-      asked = AtEachMark-more (AskedMark IsAll o link) [] run mark h.asked (λ same. ap (λ (xs : List ℕ). bytes_sent link Initiator run ++ xs) all ∙ h.client);
-      served = AtEachMark-more (ServedMark IsAll o link) [] run mark h.served tt;
-      accepts = AtEachMark-more (AcceptedMark o link) [] run mark h.accepts tt;
+      asked = AtEachMark_more (AskedMark IsAll o link) [] run mark h.asked (λ same. ap (λ (xs : List ℕ). bytes_sent link Initiator run ++ xs) all ∙ h.client);
+      served = AtEachMark_more (ServedMark IsAll o link) [] run mark h.served tt;
+      accepts = AtEachMark_more (AcceptedMark o link) [] run mark h.accepts tt;
       client = due_of o link Initiator (run ++ mark ∷ []) [] (wrote_all o link Initiator run bytes all h.client);
       server = due_of o link Responder (run ++ mark ∷ []) (unwritten o link Responder run) (left_alone o link Responder Initiator run bytes (up_written link bytes) h.server);
     }
 
-pub lawful-down : (o : LinkParameters) (link : ℕ) (run : List Mark) (bytes : List ℕ) → bytes ≡ unwritten o link Responder run → IsLawful o link run →
+pub lawful_down : (o : LinkParameters) (link : ℕ) (run : List Mark) (bytes : List ℕ) → bytes ≡ unwritten o link Responder run → IsLawful o link run →
     IsLawful o link (run ++ marks.Wrote link Responder bytes ∷ [])
-lawful-down o link run bytes all h =
+lawful_down o link run bytes all h =
     let mark = marks.Wrote link Responder bytes in
     record {
-      asked = AtEachMark-more (AskedMark IsAll o link) [] run mark h.asked tt;
-      served = AtEachMark-more (ServedMark IsAll o link) [] run mark h.served (λ same. ap (λ (xs : List ℕ). bytes_sent link Responder run ++ xs) all ∙ h.server);
-      accepts = AtEachMark-more (AcceptedMark o link) [] run mark h.accepts tt;
+      asked = AtEachMark_more (AskedMark IsAll o link) [] run mark h.asked tt;
+      served = AtEachMark_more (ServedMark IsAll o link) [] run mark h.served (λ same. ap (λ (xs : List ℕ). bytes_sent link Responder run ++ xs) all ∙ h.server);
+      accepts = AtEachMark_more (AcceptedMark o link) [] run mark h.accepts tt;
       client = due_of o link Initiator (run ++ mark ∷ []) (unwritten o link Initiator run) (left_alone o link Initiator Responder run bytes (down_written link bytes) h.client);
       server = due_of o link Responder (run ++ mark ∷ []) [] (wrote_all o link Responder run bytes all h.server);
     }
 
 -- the client writes what it has to write
-client-writes : (o : LinkParameters) (link : ℕ) (bytes : List ℕ) (d : Drill) → bytes ≡ unwritten o link Initiator d.marks → IsLawful o link d.marks →
+client_writes : (o : LinkParameters) (link : ℕ) (bytes : List ℕ) (d : Drill) → bytes ≡ unwritten o link Initiator d.marks → IsLawful o link d.marks →
     IsLawful o link (after_output link Initiator bytes d).marks × (unwritten o link Initiator (after_output link Initiator bytes d).marks ≡ [])
-client-writes o link [] d all h = (h, sym all)
-client-writes o link (b ∷ bytes) d all h = (
-  lawful-up o link d.marks (b ∷ bytes) all h,
+client_writes o link [] d all h = (h, sym all)
+client_writes o link (b ∷ bytes) d all h = (
+  lawful_up o link d.marks (b ∷ bytes) all h,
   left_is o link Initiator (d.marks ++ marks.Wrote link Initiator (b ∷ bytes) ∷ []) [] (wrote_all o link Initiator d.marks (b ∷ bytes) all h.client),
 )
 
 -- then the server, and the client still has nothing to write
-server-writes : (o : LinkParameters) (link : ℕ) (bytes : List ℕ) (d : Drill) → bytes ≡ unwritten o link Responder d.marks → IsLawful o link d.marks → unwritten o link Initiator d.marks ≡ [] →
+server_writes : (o : LinkParameters) (link : ℕ) (bytes : List ℕ) (d : Drill) → bytes ≡ unwritten o link Responder d.marks → IsLawful o link d.marks → unwritten o link Initiator d.marks ≡ [] →
     IsLawful o link (after_output link Responder bytes d).marks × IsWritten o link (after_output link Responder bytes d).marks
-server-writes o link [] d all h none = (h, record { client = none; server = sym all })
-server-writes o link (b ∷ bytes) d all h none =
+server_writes o link [] d all h none = (h, record { client = none; server = sym all })
+server_writes o link (b ∷ bytes) d all h none =
     let run = d.marks ++ marks.Wrote link Responder (b ∷ bytes) ∷ [] in (
-      lawful-down o link d.marks (b ∷ bytes) all h,
+      lawful_down o link d.marks (b ∷ bytes) all h,
       record {
         client = left_is o link Initiator run (unwritten o link Initiator d.marks) (left_alone o link Initiator Responder d.marks (b ∷ bytes) (down_written link (b ∷ bytes)) h.client) ∙ none;
         server = left_is o link Responder run [] (wrote_all o link Responder d.marks (b ∷ bytes) all h.server);
       },
     )
 
-pub lawful-settled : (s : Setting) (link : ℕ) (d : Drill) → IsLawful (s.opened link) link d.marks →
+pub lawful_settled : (s : Setting) (link : ℕ) (d : Drill) → IsLawful (s.opened link) link d.marks →
     IsLawful (s.opened link) link (settled s link d).marks × IsWritten (s.opened link) link (settled s link d).marks
 unfolding settled
-lawful-settled s link d h =
+lawful_settled s link d h =
     let o = s.opened link in
-    let up = client-writes o link (unwritten o link Initiator d.marks) d refl h in
+    let up = client_writes o link (unwritten o link Initiator d.marks) d refl h in
     let mid = after_all_output s link Initiator d in
-    server-writes o link (unwritten o link Responder mid.marks) mid refl up.0 up.1
+    server_writes o link (unwritten o link Responder mid.marks) mid refl up.0 up.1
 
 -- ===== calls are submitted, bytes are fed, calls are executed
 
 asked_so_far : (o : LinkParameters) (link : ℕ) (run : List Mark) → IsLawful o link run → AskedSoFar o link run
-asked_so_far o link run h = AtEachMark-each (AskedMark IsAll o link) (AskedMark IsPrefixOf o link) [] run (asked-mark o link) h.asked
+asked_so_far o link run h = AtEachMark_each (AskedMark IsAll o link) (AskedMark IsPrefixOf o link) [] run (asked_mark o link) h.asked
 
 not_dropped : (dropped : Bool) (answer : Submission) (xid : ℕ) → unless_dropped dropped answer ≡ submissions.Accepted xid → answer ≡ submissions.Accepted xid
 not_dropped true answer xid e = absurd cc
@@ -245,56 +245,56 @@ answer_accepted o link run call form submissions.Dropped e = tt
 abbrev pub Keeps : Setting → ℕ → Drill → Type 0
 Keeps s link d = IsLawful (s.opened link) link d.marks × IsWritten (s.opened link) link d.marks
 
-pub lawful-submit : (s : Setting) (link : ℕ) (call : Call) (form : Form) (d : Drill) → IsOpened (s.opened link) → CanWriteCred call.cred → Keeps s link d → Keeps s link (after_submit s link call form d)
+pub lawful_submit : (s : Setting) (link : ℕ) (call : Call) (form : Form) (d : Drill) → IsOpened (s.opened link) → CanWriteCred call.cred → Keeps s link d → Keeps s link (after_submit s link call form d)
 unfolding after_submit
-lawful-submit s link call form d numbers writable h =
+lawful_submit s link call form d numbers writable h =
     let o = s.opened link in
     let answer = submit_answer_after o link d.marks call form in
     let mark = marks.Submit link call form answer in
-    lawful-settled s link (with_mark mark d) (lawful-mark o link d.marks mark h.0 refl refl
+    lawful_settled s link (with_mark mark d) (lawful_mark o link d.marks mark h.0 refl refl
     (answer_asked o link d.marks call form answer numbers writable h.0 refl) tt (answer_accepted o link d.marks call form answer refl))
 
-lawful-fed : (s : Setting) (link : ℕ) (side : Side) (bytes : List ℕ) (rest : Pipes) (d : Drill) → IsLawful (s.opened link) link d.marks →
+lawful_fed : (s : Setting) (link : ℕ) (side : Side) (bytes : List ℕ) (rest : Pipes) (d : Drill) → IsLawful (s.opened link) link d.marks →
     IsLawful (s.opened link) link (after_feeding link side bytes rest d).marks
-lawful-fed s link side [] rest d h = h
-lawful-fed s link side (b ∷ bytes) rest d h = lawful-mark (s.opened link) link d.marks (marks.Fed link side (b ∷ bytes)) h refl refl tt tt tt
+lawful_fed s link side [] rest d h = h
+lawful_fed s link side (b ∷ bytes) rest d h = lawful_mark (s.opened link) link d.marks (marks.Fed link side (b ∷ bytes)) h refl refl tt tt tt
 
-pub lawful-after_up : (s : Setting) (link n : ℕ) (d : Drill) → Keeps s link d → Keeps s link (after_up s link n d)
+pub lawful_after_up : (s : Setting) (link n : ℕ) (d : Drill) → Keeps s link d → Keeps s link (after_up s link n d)
 unfolding after_up
-lawful-after_up s link n d h =
+lawful_after_up s link n d h =
     let pipes = pipes_of link d in
-    lawful-settled s link (after_feeding_up link n d) (lawful-fed s link Responder (take n pipes.up) (record pipes { up = drop n pipes.up }) d h.0)
+    lawful_settled s link (after_feeding_up link n d) (lawful_fed s link Responder (take n pipes.up) (record pipes { up = drop n pipes.up }) d h.0)
 
 -- a call that waits is the next one of a server
 is_next : (dropped : Bool) (call : ReadyCall) (next : Option ReadyCall) → if_standing dropped next ≡ Some call → next ≡ Some call
 is_next true call next e = absurd cc
 is_next false call next e = e
 
-lawful-execution : (s : Setting) (link : ℕ) (call : ReadyCall) (reply : Option (List ℕ)) (d : Drill) → next_call (s.opened link) link d.marks ≡ Some call → Keeps s link d →
+lawful_execution : (s : Setting) (link : ℕ) (call : ReadyCall) (reply : Option (List ℕ)) (d : Drill) → next_call (s.opened link) link d.marks ≡ Some call → Keeps s link d →
     Keeps s link (after_answer s link call reply d)
-lawful-execution s link call None d next h = h
-lawful-execution s link call (Some reply) d next h =
+lawful_execution s link call None d next h = h
+lawful_execution s link call (Some reply) d next h =
     let o = s.opened link in
     let mark = marks.Execute link call.xid (now d) call.payload (length (journal (plain_of s.server) d.marks)) reply in
-    lawful-settled s link (with_mark mark d) (lawful-mark o link d.marks mark h.0 refl refl tt (λ same. record { call = call; is_next = next; own = refl; conveyed = refl }) tt)
+    lawful_settled s link (with_mark mark d) (lawful_mark o link d.marks mark h.0 refl refl tt (λ same. record { call = call; is_next = next; own = refl; conveyed = refl }) tt)
 
-lawful-waiting : (s : Setting) (link : ℕ) (call : Option ReadyCall) (d : Drill) → if_standing (is_dropped link d.marks) (next_call (s.opened link) link d.marks) ≡ call → Keeps s link d →
+lawful_waiting : (s : Setting) (link : ℕ) (call : Option ReadyCall) (d : Drill) → if_standing (is_dropped link d.marks) (next_call (s.opened link) link d.marks) ≡ call → Keeps s link d →
     Keeps s link (after_execution s link call d)
-lawful-waiting s link None d e h = h
-lawful-waiting s link (Some call) d e h =
-    lawful-execution s link call (s.server.reply_to (journal (plain_of s.server) d.marks) (now d) call.payload) d
+lawful_waiting s link None d e h = h
+lawful_waiting s link (Some call) d e h =
+    lawful_execution s link call (s.server.reply_to (journal (plain_of s.server) d.marks) (now d) call.payload) d
     (is_next (is_dropped link d.marks) call (next_call (s.opened link) link d.marks) e) h
 
-pub lawful-work : (s : Setting) (link : ℕ) (d : Drill) → Keeps s link d → Keeps s link (after_work s link d)
+pub lawful_work : (s : Setting) (link : ℕ) (d : Drill) → Keeps s link d → Keeps s link (after_work s link d)
 unfolding after_work waiting_call
-lawful-work s link d h = lawful-waiting s link (waiting_call s link d.marks) d refl h
+lawful_work s link d h = lawful_waiting s link (waiting_call s link d.marks) d refl h
 
-pub lawful-calls : (s : Setting) (link n : ℕ) (d : Drill) → Keeps s link d → Keeps s link (after_calls s link n d)
-lawful-calls s link zero d h = h
-lawful-calls s link (suc n) d h = lawful-calls s link n (after_work s link d) (lawful-work s link d h)
+pub lawful_calls : (s : Setting) (link n : ℕ) (d : Drill) → Keeps s link d → Keeps s link (after_calls s link n d)
+lawful_calls s link zero d h = h
+lawful_calls s link (suc n) d h = lawful_calls s link n (after_work s link d) (lawful_work s link d h)
 
-pub lawful-drop : (s : Setting) (link : ℕ) (d : Drill) → IsLawful (s.opened link) link d.marks → IsLawful (s.opened link) link (after_drop link d).marks
-lawful-drop s link d h = lawful-mark (s.opened link) link d.marks (marks.Drop link) h refl refl tt tt tt
+pub lawful_drop : (s : Setting) (link : ℕ) (d : Drill) → IsLawful (s.opened link) link d.marks → IsLawful (s.opened link) link (after_drop link d).marks
+lawful_drop s link d h = lawful_mark (s.opened link) link d.marks (marks.Drop link) h refl refl tt tt tt
 
 -- ===== lists
 
@@ -356,7 +356,7 @@ neither false true e = absurd cc
 neither false false e = (refl, refl)
 
 none_completed : (link xid : ℕ) (run : List Mark) → is_completed link xid run ≡ false → (c : CompletedCall) → Contains (completed_calls link run) c → c.xid ≢ xid
-none_completed link xid run none c h same = absurd (true-not (sym (passes-any (λ (x : CompletedCall). eqb x.xid xid) (completed_calls link run) c h (eq-eqb c.xid xid same)) ∙ none))
+none_completed link xid run none c h same = absurd (true-not (sym (passes_any (λ (x : CompletedCall). eqb x.xid xid) (completed_calls link run) c h (eq-eqb c.xid xid same)) ∙ none))
   where
     true-not : true ≡ false → ⊥
     true-not e = absurd cc
@@ -382,26 +382,26 @@ handed o link run c e =
       is_received = own.0;
     }
 
-pub lawful-handing : (o : LinkParameters) (link : ℕ) (c : Option CompletedCall) (d : Drill) → slice_get (outcomes_due o link d.marks) 0 ≡ c → IsLawful o link d.marks →
+pub lawful_handing : (o : LinkParameters) (link : ℕ) (c : Option CompletedCall) (d : Drill) → slice_get (outcomes_due o link d.marks) 0 ≡ c → IsLawful o link d.marks →
     IsLawful o link (after_handing link c d).marks
-lawful-handing o link None d e h = h
-lawful-handing o link (Some c) d e h =
-    lawful-mark o link d.marks (marks.Done link c.xid c.outcome) h refl refl (λ same. handed o link d.marks c e) tt tt
+lawful_handing o link None d e h = h
+lawful_handing o link (Some c) d e h =
+    lawful_mark o link d.marks (marks.Done link c.xid c.outcome) h refl refl (λ same. handed o link d.marks c e) tt tt
 
-lawful-dones : (s : Setting) (link n : ℕ) (d : Drill) → IsLawful (s.opened link) link d.marks → IsLawful (s.opened link) link (after_dones s link n d).marks
+lawful_dones : (s : Setting) (link n : ℕ) (d : Drill) → IsLawful (s.opened link) link d.marks → IsLawful (s.opened link) link (after_dones s link n d).marks
 unfolding after_done
-lawful-dones s link zero d h = h
-lawful-dones s link (suc n) d h =
-    lawful-dones s link n (after_done s link d) (lawful-handing (s.opened link) link (slice_get (outcomes_due (s.opened link) link d.marks) 0) d refl h)
+lawful_dones s link zero d h = h
+lawful_dones s link (suc n) d h =
+    lawful_dones s link n (after_done s link d) (lawful_handing (s.opened link) link (slice_get (outcomes_due (s.opened link) link d.marks) 0) d refl h)
 
-pub lawful-after_down : (s : Setting) (link n : ℕ) (d : Drill) → Keeps s link d → Keeps s link (after_down s link n d)
+pub lawful_after_down : (s : Setting) (link n : ℕ) (d : Drill) → Keeps s link d → Keeps s link (after_down s link n d)
 unfolding after_down after_outcomes
-lawful-after_down s link n d h =
+lawful_after_down s link n d h =
     let o = s.opened link in
     let pipes = pipes_of link d in
     let fed = after_feeding_down link n d in
-    let h = lawful-fed s link Initiator (take n pipes.down) (record pipes { down = drop n pipes.down }) d h.0 in
-    lawful-settled s link (after_outcomes s link fed) (lawful-dones s link (length (outcomes_due o link fed.marks)) fed h)
+    let h = lawful_fed s link Initiator (take n pipes.down) (record pipes { down = drop n pipes.down }) d h.0 in
+    lawful_settled s link (after_outcomes s link fed) (lawful_dones s link (length (outcomes_due o link fed.marks)) fed h)
 
 -- ===== calls are given up
 
@@ -474,37 +474,37 @@ opens_awaited s link number xid run (Some (submissions.Refused why)) is e = absu
 opens_awaited s link number xid run (Some submissions.Dropped) is e = absurd cc
 opens_awaited s link number xid run None is e = absurd cc
 
-lawful-giving_up : (s : Setting) (link number : ℕ) (xid : Option ℕ) (d : Drill) → open_xid s link d.marks (answer_of_line link number d.marks) ≡ xid → IsLawful (s.opened link) link d.marks →
+lawful_giving_up : (s : Setting) (link number : ℕ) (xid : Option ℕ) (d : Drill) → open_xid s link d.marks (answer_of_line link number d.marks) ≡ xid → IsLawful (s.opened link) link d.marks →
     IsLawful (s.opened link) link (after_giving_up link xid d).marks
-lawful-giving_up s link number None d e h = h
-lawful-giving_up s link number (Some xid) d e h =
-    lawful-mark (s.opened link) link d.marks (marks.Forget link xid) h refl refl
+lawful_giving_up s link number None d e h = h
+lawful_giving_up s link number (Some xid) d e h =
+    lawful_mark (s.opened link) link d.marks (marks.Forget link xid) h refl refl
     (λ same. opens_awaited s link number xid d.marks (answer_of_line link number d.marks) refl e) tt tt
 
-pub lawful-forget : (s : Setting) (link number : ℕ) (d : Drill) → IsLawful (s.opened link) link d.marks → IsLawful (s.opened link) link (after_forget s link number d).marks
+pub lawful_forget : (s : Setting) (link number : ℕ) (d : Drill) → IsLawful (s.opened link) link d.marks → IsLawful (s.opened link) link (after_forget s link number d).marks
 unfolding after_forget
-lawful-forget s link number d h = lawful-giving_up s link number (open_xid s link d.marks (answer_of_line link number d.marks)) d refl h
+lawful_forget s link number d h = lawful_giving_up s link number (open_xid s link d.marks (answer_of_line link number d.marks)) d refl h
 
-lawful-taking_back : (s : Setting) (link number : ℕ) (xid : Option ℕ) (d : Drill) → open_xid s link d.marks (answer_of_line link number d.marks) ≡ xid → Keeps s link d →
+lawful_taking_back : (s : Setting) (link number : ℕ) (xid : Option ℕ) (d : Drill) → open_xid s link d.marks (answer_of_line link number d.marks) ≡ xid → Keeps s link d →
     Keeps s link (after_taking_back s link xid d)
-lawful-taking_back s link number None d e h = h
-lawful-taking_back s link number (Some xid) d e h =
+lawful_taking_back s link number None d e h = h
+lawful_taking_back s link number (Some xid) d e h =
     let o = s.opened link in
     let mark = marks.Revoke link xid (revoked_bytes o link d.marks xid) in
-    lawful-settled s link (with_mark mark d) (lawful-mark o link d.marks mark h.0 refl refl
+    lawful_settled s link (with_mark mark d) (lawful_mark o link d.marks mark h.0 refl refl
     (λ same. record { awaited = opens_awaited s link number xid d.marks (answer_of_line link number d.marks) refl e; bytes_are = refl }) tt tt)
 
-pub lawful-revoke : (s : Setting) (link number : ℕ) (d : Drill) → Keeps s link d → Keeps s link (after_revoke s link number d)
+pub lawful_revoke : (s : Setting) (link number : ℕ) (d : Drill) → Keeps s link d → Keeps s link (after_revoke s link number d)
 unfolding after_revoke
-lawful-revoke s link number d h = lawful-taking_back s link number (open_xid s link d.marks (answer_of_line link number d.marks)) d refl h
+lawful_revoke s link number d h = lawful_taking_back s link number (open_xid s link d.marks (answer_of_line link number d.marks)) d refl h
 
 -- ===== a round on a link
 
-pub lawful-moves : (s : Setting) (link : ℕ) (d : Drill) → Keeps s link d → Keeps s link (after_moves s link d)
+pub lawful_moves : (s : Setting) (link : ℕ) (d : Drill) → Keeps s link d → Keeps s link (after_moves s link d)
 unfolding after_moves after_all_work
-lawful-moves s link d h =
+lawful_moves s link d h =
     let one = after_all_up s link d in
     let two = after_all_work s link one in
-    lawful-after_down s link (length (pipes_of link two).down) two
-    (lawful-calls s link (length (server (s.opened link) link one.marks).state.ready) one
-    (lawful-after_up s link (length (pipes_of link d).up) d h))
+    lawful_after_down s link (length (pipes_of link two).down) two
+    (lawful_calls s link (length (server (s.opened link) link one.marks).state.ready) one
+    (lawful_after_up s link (length (pipes_of link d).up) d h))

@@ -15,87 +15,87 @@ use Rattle.nr_reduce.specs.declared.mark.Mark.TheVariants as marks
 use Rattle.nr_reduce.specs.declared.mark.LinkParameters.{LinkParameters}
 use Rattle.nr_reduce.specs.History.{CompletedCall, bytes_sent, bytes_received, is_dropped}
 use Rattle.nr_reduce.specs.OutcomesDue.{outcomes_due}
-use Rattle.nr_reduce.specs.Events.{Event}
-use Rattle.nr_reduce.specs.Events.Event.{FrameReceived}
+use Rattle.nr_reduce.specs.Events.{RunEvent}
+use Rattle.nr_reduce.specs.Events.RunEvent.{FrameReceived}
 use Rattle.nr_reduce.specs.EndRules.{EndState, next_end_state_by, next_end_state_in, next_end_state, end_state_after, output_for_all}
 use Rattle.nr_reduce.specs.ClientState.{ClientState}
 use Rattle.nr_reduce.specs.ServerState.{ServerState, PendingRead, ReadyCall}
 use Rattle.nr_reduce.specs.Client.{client_rules, client_end, client_state_after, due_with_response, with_hello, with_message, with_request, with_segment}
 use Rattle.nr_reduce.specs.Run.{client, server, output_due, end_of_side}
-use Rattle.nr_reduce.proofs.Steps.{AtEachMark-first, ended-stays}
-use Rattle.nr_reduce.proofs.Standing.{itself, received-one}
+use Rattle.nr_reduce.proofs.Steps.{AtEachMark_first, ended_stays}
+use Rattle.nr_reduce.proofs.Standing.{itself, received_one}
 use Rattle.nr_laws.specs.Typed.{TypedMark, IsTyped}
 use Rattle.nr_reduce.specs.Matched.{IsPrefixOf}
 use Rattle.nr_reduce.specs.Asked.{AskedMark, AskedSoFar, IsAll}
-use Rattle.nr_reduce.proofs.SoFarLaws.{AtEachMark-each, asked-mark}
+use Rattle.nr_reduce.proofs.SoFarLaws.{AtEachMark_each, asked_mark}
 use Rattle.nr_drill.specs.Drill.{Setting, Drill, Pipes, unwritten, settled, pipes_of, with_mark, with_pipes, after_feeding, after_feeding_down, after_handing, after_done, after_dones, after_outcomes, after_down, after_all_down}
 use Rattle.nr_drill.specs.WorkLeft.{frame_len, is_send, send_bytes_left, work_left, stays, IsLess}
-use Rattle.nr_drill.proofs.Lawful.{IsLawful, Keeps, lawful-after_down}
-use Rattle.nr_drill.proofs.Followed.{down-adds}
-use Rattle.nr_drill.proofs.Carried.{Carries, carries-down}
-use Rattle.nr_drill.proofs.LessWork.{Leaves, leaves-all, leaves-through, settled-leaves, done-leaves, own, not_own, not-fed, no-drop, same-client, same-server, due-more_up, same-due_down}
-use Rattle.nr_drill.proofs.LessFrames.{completed-two, still-heard, sends-waiting}
+use Rattle.nr_drill.proofs.Lawful.{IsLawful, Keeps, lawful_after_down}
+use Rattle.nr_drill.proofs.Followed.{down_adds}
+use Rattle.nr_drill.proofs.Carried.{Carries, carries_down}
+use Rattle.nr_drill.proofs.LessWork.{Leaves, leaves_all, leaves_through, settled_leaves, done_leaves, own, not_own, not_fed_lem, no_drop, same_client, same_server, due_more_up, same_due_down}
+use Rattle.nr_drill.proofs.LessFrames.{completed_two, still_heard, sends_waiting}
 
 -- ===== outcomes that are handed over
 
-handing-leaves : (o : LinkParameters) (link : ℕ) (c : Option CompletedCall) (d : Drill) → Leaves o link d.marks (after_handing link c d).marks
-handing-leaves o link None d = leaves-all o link d.marks
-handing-leaves o link (Some c) d = done-leaves o link c.xid c.outcome d.marks
+handing_leaves : (o : LinkParameters) (link : ℕ) (c : Option CompletedCall) (d : Drill) → Leaves o link d.marks (after_handing link c d).marks
+handing_leaves o link None d = leaves_all o link d.marks
+handing_leaves o link (Some c) d = done_leaves o link c.xid c.outcome d.marks
 
-dones-leave : (s : Setting) (o : LinkParameters) (link n : ℕ) (d : Drill) → Leaves o link d.marks (after_dones s link n d).marks
+dones_leave : (s : Setting) (o : LinkParameters) (link n : ℕ) (d : Drill) → Leaves o link d.marks (after_dones s link n d).marks
 unfolding after_done
-dones-leave s o link zero d = leaves-all o link d.marks
-dones-leave s o link (suc n) d =
-    leaves-through o link d.marks (after_done s link d).marks (after_dones s link (suc n) d).marks
-    (handing-leaves o link (slice_get (outcomes_due (s.opened link) link d.marks) 0) d) (dones-leave s o link n (after_done s link d))
+dones_leave s o link zero d = leaves_all o link d.marks
+dones_leave s o link (suc n) d =
+    leaves_through o link d.marks (after_done s link d).marks (after_dones s link (suc n) d).marks
+    (handing_leaves o link (slice_get (outcomes_due (s.opened link) link d.marks) 0) d) (dones_leave s o link n (after_done s link d))
 
-pub outcomes-leave : (s : Setting) (o : LinkParameters) (link : ℕ) (d : Drill) → Leaves o link d.marks (after_outcomes s link d).marks
+pub outcomes_leave : (s : Setting) (o : LinkParameters) (link : ℕ) (d : Drill) → Leaves o link d.marks (after_outcomes s link d).marks
 unfolding after_outcomes
-outcomes-leave s o link d = dones-leave s o link (length (outcomes_due (s.opened link) link d.marks)) d
+outcomes_leave s o link d = dones_leave s o link (length (outcomes_due (s.opened link) link d.marks)) d
 
 -- ===== frames make a client accept no call
 
-request-accepts : (k : ClientState) (due : ℕ) (r : Option ReadRequest) → (with_request k due r).calls_accepted ≡ k.calls_accepted
-request-accepts k due None = refl
-request-accepts k due (Some r) = refl
+request_accepts : (k : ClientState) (due : ℕ) (r : Option ReadRequest) → (with_request k due r).calls_accepted ≡ k.calls_accepted
+request_accepts k due None = refl
+request_accepts k due (Some r) = refl
 
-message-accepts : (k : ClientState) (place : ℕ) (m : Option (List ℕ)) → (with_message k place m).calls_accepted ≡ k.calls_accepted
-message-accepts k place None = refl
-message-accepts k place (Some m) = refl
+message_accepts : (k : ClientState) (place : ℕ) (m : Option (List ℕ)) → (with_message k place m).calls_accepted ≡ k.calls_accepted
+message_accepts k place None = refl
+message_accepts k place (Some m) = refl
 
-segment-accepts : (k : ClientState) (f : Frame) (r : Result Segment ℕ) → (with_segment k f r).calls_accepted ≡ k.calls_accepted
-segment-accepts k f (Err reason) = refl
-segment-accepts k f (Ok segment) =
-    request-accepts (with_message k f.end (message_completed k.received segment)) (due_with_response k f segment) (read_request_of segment) ∙ message-accepts k f.end (message_completed k.received segment)
+segment_accepts : (k : ClientState) (f : Frame) (r : Result Segment ℕ) → (with_segment k f r).calls_accepted ≡ k.calls_accepted
+segment_accepts k f (Err reason) = refl
+segment_accepts k f (Ok segment) =
+    request_accepts (with_message k f.end (message_completed k.received segment)) (due_with_response k f segment) (read_request_of segment) ∙ message_accepts k f.end (message_completed k.received segment)
 
-frame-accepts : (o : LinkParameters) (k : ClientState) (f : Frame) → (client_state_after o k (FrameReceived f)).calls_accepted ≡ k.calls_accepted
+frame_accepts : (o : LinkParameters) (k : ClientState) (f : Frame) → (client_state_after o k (FrameReceived f)).calls_accepted ≡ k.calls_accepted
 unfolding client_state_after
-frame-accepts o k f = by (is_hello f)
+frame_accepts o k f = by (is_hello f)
   where
     by : (b : Bool) → (cond b (with_hello o k) (with_segment k f (frame_segment f))).calls_accepted ≡ k.calls_accepted
     by true = refl
-    by false = segment-accepts k f (frame_segment f)
+    by false = segment_accepts k f (frame_segment f)
 
-next-accepts : (o : LinkParameters) (k : ClientState) (ended : Option End) (f : Frame) → (next_end_state_in (client_rules o) k (FrameReceived f) ended).state.calls_accepted ≡ k.calls_accepted
-next-accepts o k (Some end) f = refl
-next-accepts o k None f = by (client_end k (FrameReceived f))
+next_accepts : (o : LinkParameters) (k : ClientState) (ended : Option End) (f : Frame) → (next_end_state_in (client_rules o) k (FrameReceived f) ended).state.calls_accepted ≡ k.calls_accepted
+next_accepts o k (Some end) f = refl
+next_accepts o k None f = by (client_end k (FrameReceived f))
   where
     by : (end : Option End) → (next_end_state_by (client_rules o) k (FrameReceived f) end).state.calls_accepted ≡ k.calls_accepted
-    by None = frame-accepts o k f
+    by None = frame_accepts o k f
     by (Some end) = refl
 
-frames-accept : (o : LinkParameters) (r : EndState ClientState) (fs : List Frame) → (end_state_after (client_rules o) r (map FrameReceived fs)).state.calls_accepted ≡ r.state.calls_accepted
-frames-accept o r [] = refl
-frames-accept o r (f ∷ fs) = frames-accept o (next_end_state (client_rules o) r (FrameReceived f)) fs ∙ next-accepts o r.state r.ended f
+frames_accept : (o : LinkParameters) (r : EndState ClientState) (fs : List Frame) → (end_state_after (client_rules o) r (map FrameReceived fs)).state.calls_accepted ≡ r.state.calls_accepted
+frames_accept o r [] = refl
+frames_accept o r (f ∷ fs) = frames_accept o (next_end_state (client_rules o) r (FrameReceived f)) fs ∙ next_accepts o r.state r.ended f
 
 -- ===== all down
 
-asked-so-far : (o : LinkParameters) (link : ℕ) (run : List Mark) → IsLawful o link run → AskedSoFar o link run
-asked-so-far o link run h = AtEachMark-each (AskedMark IsAll o link) (AskedMark IsPrefixOf o link) [] run (asked-mark o link) h.asked
+asked_so_far_lem : (o : LinkParameters) (link : ℕ) (run : List Mark) → IsLawful o link run → AskedSoFar o link run
+asked_so_far_lem o link run h = AtEachMark_each (AskedMark IsAll o link) (AskedMark IsPrefixOf o link) [] run (asked_mark o link) h.asked
 
-pub all-written : (s : Setting) (link : ℕ) (d : Drill) → Keeps s link d →
+pub all_written_lem : (s : Setting) (link : ℕ) (d : Drill) → Keeps s link d →
     (bytes_sent link Initiator d.marks ≡ output_due (s.opened link) link Initiator d.marks) × (bytes_sent link Responder d.marks ≡ output_due (s.opened link) link Responder d.marks)
-all-written s link d h =
+all_written_lem s link d h =
     let up = bytes_sent link Initiator d.marks in
     let down = bytes_sent link Responder d.marks in (
       sym (append-nil up) ∙ ap (λ (xs : List ℕ). up ++ xs) (sym h.1.client) ∙ h.0.client,
@@ -103,8 +103,8 @@ all-written s link d h =
     )
 
 -- the Sends of two lists of which the first has as many as both
-none-later : (A B : List Frame) → length (filter is_send (A ++ B)) ≡ length (filter is_send A) → sum_by frame_len (filter is_send (A ++ B)) ≡ sum_by frame_len (filter is_send A)
-none-later A B e =
+none_later_lem : (A B : List Frame) → length (filter is_send (A ++ B)) ≡ length (filter is_send A) → sum_by frame_len (filter is_send (A ++ B)) ≡ sum_by frame_len (filter is_send A)
+none_later_lem A B e =
     let both = filter-append is_send A B in
     let none : filter is_send B ≡ [] = nil_from_length (filter is_send B) (omega (arith, e, ap (λ (fs : List Frame). length fs) both, length-append (filter is_send A) (filter is_send B))) in
     ap (λ (fs : List Frame). sum_by frame_len fs) (both ∙ ap (λ (fs : List Frame). filter is_send A ++ fs) none ∙ append-nil (filter is_send A))
@@ -115,11 +115,11 @@ fed_down link bytes d = with_pipes link (record (pipes_of link d) { down = [] })
 abbrev after_fed : Setting → ℕ → Drill → Drill
 after_fed s link d = settled s link (after_outcomes s link d)
 
-fed-less : (s : Setting) (link : ℕ) (bytes : List ℕ) (d : Drill) → Keeps s link d → Carries link d → frames_of Responder (bytes_received link Initiator d.marks) ≢ [] →
+fed_less : (s : Setting) (link : ℕ) (bytes : List ℕ) (d : Drill) → Keeps s link d → Carries link d → frames_of Responder (bytes_received link Initiator d.marks) ≢ [] →
     (pipes_of link d).down ≡ bytes → 0 < length bytes → IsTyped d.marks → IsTyped (after_fed s link (fed_down link bytes d)).marks → Keeps s link (after_fed s link (fed_down link bytes d)) → Carries link (after_fed s link (fed_down link bytes d)) →
     IsLess (work_left s (after_fed s link (fed_down link bytes d)) link) (work_left s d link)
 unfolding work_left send_bytes_left end_of_side
-fed-less s link bytes d h c heard_down waits some typed typed_new h_new c_new = by_client before.ended refl
+fed_less s link bytes d h c heard_down waits some typed typed_new h_new c_new = by_client before.ended refl
   where
     o : LinkParameters
     o = s.opened link
@@ -145,10 +145,10 @@ fed-less s link bytes d h c heard_down waits some typed typed_new h_new c_new = 
     got_down : List ℕ
     got_down = bytes_received link Initiator run
 
-    es : List Event
+    es : List RunEvent
     es = map FrameReceived (frames_completed Responder got_down bytes)
 
-    up_events : List Event
+    up_events : List RunEvent
     up_events = map FrameReceived (frames_completed Initiator got bytes)
 
     after : EndState ClientState
@@ -158,10 +158,10 @@ fed-less s link bytes d h c heard_down waits some typed typed_new h_new c_new = 
     X = output_for_all (client_rules o) before es
 
     leaves : Leaves o link fed.marks new.marks
-    leaves = leaves-through o link fed.marks (after_outcomes s link fed).marks new.marks (outcomes-leave s o link fed) (settled-leaves s o link (after_outcomes s link fed))
+    leaves = leaves_through o link fed.marks (after_outcomes s link fed).marks new.marks (outcomes_leave s o link fed) (settled_leaves s o link (after_outcomes s link fed))
 
     server_is : server o link fed.marks ≡ server o link run
-    server_is = same-server o link run mark [] (not_own link up_events)
+    server_is = same_server o link run mark [] (not_own link up_events)
 
     server_end : (server o link new.marks).ended ≡ (server o link run).ended
     server_end = leaves.server_end ∙ ap (λ (r : EndState ServerState). r.ended) server_is
@@ -173,25 +173,25 @@ fed-less s link bytes d h c heard_down waits some typed typed_new h_new c_new = 
     ready = leaves.ready ∙ ap (λ (r : EndState ServerState). r.state.ready) server_is
 
     got_is : bytes_received link Responder new.marks ≡ got
-    got_is = leaves.got ∙ not-fed link run mark (ap (λ (b : Bool). if b && false then bytes else []) (itself link))
+    got_is = leaves.got ∙ not_fed_lem link run mark (ap (λ (b : Bool). if b && false then bytes else []) (itself link))
 
     got_down_is : bytes_received link Initiator new.marks ≡ got_down ++ bytes
-    got_down_is = leaves.heard ∙ received-one link Initiator run mark ∙ ap (λ (xs : List ℕ). got_down ++ xs) (ap (λ (b : Bool). if b && true then bytes else []) (itself link))
+    got_down_is = leaves.heard ∙ received_one link Initiator run mark ∙ ap (λ (xs : List ℕ). got_down ++ xs) (ap (λ (b : Bool). if b && true then bytes else []) (itself link))
 
     client_is : client o link fed.marks ≡ after
-    client_is = same-client o link run mark es (own link es)
+    client_is = same_client o link run mark es (own link es)
 
     client_end_is : (client o link new.marks).ended ≡ after.ended
     client_end_is = leaves.client_end ∙ ap (λ (r : EndState ClientState). r.ended) client_is
 
     accepted : (client o link new.marks).state.calls_accepted ≡ before.state.calls_accepted
-    accepted = leaves.accepted ∙ ap (λ (r : EndState ClientState). r.state.calls_accepted) client_is ∙ frames-accept o before (frames_completed Responder got_down bytes)
+    accepted = leaves.accepted ∙ ap (λ (r : EndState ClientState). r.state.calls_accepted) client_is ∙ frames_accept o before (frames_completed Responder got_down bytes)
 
     due_up : output_due o link Initiator new.marks ≡ output_due o link Initiator run ++ X
-    due_up = leaves.due ∙ due-more_up o link run mark es X (own link es) refl
+    due_up = leaves.due ∙ due_more_up o link run mark es X (own link es) refl
 
     due_down : output_due o link Responder new.marks ≡ output_due o link Responder run
-    due_down = leaves.due_down ∙ same-due_down o link run mark [] (not_own link up_events) refl
+    due_down = leaves.due_down ∙ same_due_down o link run mark [] (not_own link up_events) refl
 
     standing : is_dropped link run ≡ false
     standing = by (is_dropped link run) refl
@@ -201,19 +201,19 @@ fed-less s link bytes d h c heard_down waits some typed typed_new h_new c_new = 
         by true e = absurd (omega (arith, some, ap (λ (xs : List ℕ). length xs) (sym waits ∙ ap (λ (p : Pipes). p.down) (c.gone e))))
 
     standing_new : is_dropped link new.marks ≡ false
-    standing_new = leaves.dropped ∙ no-drop link run mark refl ∙ standing
+    standing_new = leaves.dropped ∙ no_drop link run mark refl ∙ standing
 
     up : (pipes_of link new).up ≡ (pipes_of link d).up ++ X
     up =
         append_cancel_left got (pipes_of link new).up ((pipes_of link d).up ++ X)
-        (ap (λ (xs : List ℕ). xs ++ (pipes_of link new).up) (sym got_is) ∙ (c_new.carried standing_new).up ∙ (all-written s link new h_new).0 ∙ due_up
-        ∙ ap (λ (xs : List ℕ). xs ++ X) (sym (all-written s link d h).0 ∙ sym (c.carried standing).up) ∙ append_assoc got (pipes_of link d).up X)
+        (ap (λ (xs : List ℕ). xs ++ (pipes_of link new).up) (sym got_is) ∙ (c_new.carried standing_new).up ∙ (all_written_lem s link new h_new).0 ∙ due_up
+        ∙ ap (λ (xs : List ℕ). xs ++ X) (sym (all_written_lem s link d h).0 ∙ sym (c.carried standing).up) ∙ append_assoc got (pipes_of link d).up X)
 
     down : (pipes_of link new).down ≡ []
     down =
         append_cancel_left (got_down ++ bytes) (pipes_of link new).down []
-        (ap (λ (xs : List ℕ). xs ++ (pipes_of link new).down) (sym got_down_is) ∙ (c_new.carried standing_new).down ∙ (all-written s link new h_new).1 ∙ due_down
-        ∙ sym (all-written s link d h).1 ∙ sym (c.carried standing).down ∙ ap (λ (xs : List ℕ). got_down ++ xs) waits ∙ sym (append-nil (got_down ++ bytes)))
+        (ap (λ (xs : List ℕ). xs ++ (pipes_of link new).down) (sym got_down_is) ∙ (c_new.carried standing_new).down ∙ (all_written_lem s link new h_new).1 ∙ due_down
+        ∙ sym (all_written_lem s link d h).1 ∙ sym (c.carried standing).down ∙ ap (λ (xs : List ℕ). got_down ++ xs) waits ∙ sym (append-nil (got_down ++ bytes)))
 
     down_less : length (pipes_of link new).down < length (pipes_of link d).down
     down_less = omega (arith, some, ap (λ (xs : List ℕ). length xs) down, ap (λ (xs : List ℕ). length xs) waits)
@@ -235,21 +235,21 @@ fed-less s link bytes d h c heard_down waits some typed typed_new h_new c_new = 
     )
 
     heard_down_new : frames_of Responder (bytes_received link Initiator new.marks) ≢ []
-    heard_down_new = subst (λ (xs : List ℕ). frames_of Responder xs ≢ []) (sym got_down_is) (still-heard Responder got_down bytes heard_down)
+    heard_down_new = subst (λ (xs : List ℕ). frames_of Responder xs ≢ []) (sym got_down_is) (still_heard Responder got_down bytes heard_down)
 
     by_count : before.ended ≡ None → after.ended ≡ None → sends_in (bytes_received link Responder new.marks) sent_new ≡ sends_in got sent_old
     by_count lives still =
-        let n_old = sends-waiting o link run (pipes_of link d).up typed (asked-so-far o link run h.0) lives heard_down ((c.carried standing).up ∙ (all-written s link d h).0) in
-        let n_new = sends-waiting o link new.marks (pipes_of link new).up typed_new (asked-so-far o link new.marks h_new.0) (client_end_is ∙ still) heard_down_new ((c_new.carried standing_new).up ∙ (all-written s link new h_new).0) in
+        let n_old = sends_waiting o link run (pipes_of link d).up typed (asked_so_far_lem o link run h.0) lives heard_down ((c.carried standing).up ∙ (all_written_lem s link d h).0) in
+        let n_new = sends_waiting o link new.marks (pipes_of link new).up typed_new (asked_so_far_lem o link new.marks h_new.0) (client_end_is ∙ still) heard_down_new ((c_new.carried standing_new).up ∙ (all_written_lem s link new h_new).0) in
         let A = frames_completed Initiator got (pipes_of link d).up in
         let B = frames_completed Initiator (got ++ (pipes_of link d).up) X in
         let frames : frames_completed Initiator (bytes_received link Responder new.marks) (pipes_of link new).up ≡ A ++ B =
-        (λ i. frames_completed Initiator (got_is i) (up i)) ∙ completed-two Initiator got (pipes_of link d).up X in
+        (λ i. frames_completed Initiator (got_is i) (up i)) ∙ completed_two Initiator got (pipes_of link d).up X in
         let as_many : length (filter is_send (A ++ B)) ≡ length (filter is_send A) =
         omega (arith, n_old, n_new, accepted, ap (λ (fs : List Frame). length (filter is_send fs)) frames, ap (λ (xs : List ℕ). length (filter is_send (frames_of Initiator xs))) got_is) in
         ap (λ (xs : List ℕ). sends_in (bytes_received link Responder new.marks) xs) ((λ i. (pipes_of link new).up ++ h_new.1.client i) ∙ append-nil (pipes_of link new).up)
         ∙ ap (λ (fs : List Frame). sum_by frame_len (filter is_send fs)) frames
-        ∙ none-later A B as_many
+        ∙ none_later_lem A B as_many
         ∙ ap (λ (xs : List ℕ). sends_in got xs) (sym (append-nil (pipes_of link d).up) ∙ sym (λ i. (pipes_of link d).up ++ h.1.client i))
 
     by_after : before.ended ≡ None → (end : Option End) → after.ended ≡ end → IsLess (work_left s new link) (work_left s d link)
@@ -264,7 +264,7 @@ fed-less s link bytes d h c heard_down waits some typed typed_new h_new c_new = 
     by_client None is = by_after is after.ended refl
     by_client (Some end) is =
         let was : before ≡ record { state = before.state; ended = Some end } = (λ i. record { state = before.state; ended = is i }) in
-        let stands = ended-stays (client_rules o) before.state end es in
+        let stands = ended_stays (client_rules o) before.state end es in
         let same : after ≡ before = ap (λ (r : EndState ClientState). end_state_after (client_rules o) r es) was ∙ stands.0 ∙ sym was in
         let nothing : X ≡ [] = ap (λ (r : EndState ClientState). output_for_all (client_rules o) r es) was ∙ stands.1 in
         let same_up : (pipes_of link new).up ≡ (pipes_of link d).up = up ∙ ap (λ (xs : List ℕ). (pipes_of link d).up ++ xs) nothing ∙ append-nil (pipes_of link d).up in
@@ -280,17 +280,17 @@ feeding_down link (b ∷ bytes) rest d some = refl
 
 -- If the client has the server's hello, what each side received and what waits is what the other sent, and bytes wait for the client, feeding it
 -- all of them leaves less work.
-pub down-less : (s : Setting) (link : ℕ) (d : Drill) → Keeps s link d → Carries link d → frames_of Responder (bytes_received link Initiator d.marks) ≢ [] →
+pub down_less_lem : (s : Setting) (link : ℕ) (d : Drill) → Keeps s link d → Carries link d → frames_of Responder (bytes_received link Initiator d.marks) ≢ [] →
     (pipes_of link d).down ≢ [] → IsTyped (after_all_down s link d).marks → IsLess (work_left s (after_all_down s link d) link) (work_left s d link)
 unfolding after_down
-down-less s link d h c heard_down some typed =
+down_less_lem s link d h c heard_down some typed =
     let pipes = pipes_of link d in
     let n = length pipes.down in
     let all : take n pipes.down ≡ pipes.down = take_all n pipes.down (omega arith) in
     let is : after_feeding_down link n d ≡ fed_down link pipes.down d =
     (λ i. after_feeding link Initiator (all i) (record pipes { down = drop-length pipes.down i }) d) ∙ feeding_down link pipes.down (record pipes { down = [] }) d some in
-    let extends = down-adds s link n d in
-    let before : IsTyped d.marks = AtEachMark-first TypedMark [] d.marks extends.marks.added (subst IsTyped extends.marks.is typed) in
+    let extends = down_adds s link n d in
+    let before : IsTyped d.marks = AtEachMark_first TypedMark [] d.marks extends.marks.added (subst IsTyped extends.marks.is typed) in
     subst (λ (x : Drill). IsTyped (after_fed s link x).marks → Keeps s link (after_fed s link x) → Carries link (after_fed s link x) → IsLess (work_left s (after_fed s link x) link) (work_left s d link)) (sym is)
-    (λ t k g. fed-less s link pipes.down d h c heard_down refl (has_bytes n pipes.down refl some) before t k g)
-    typed (lawful-after_down s link n d h) (carries-down s link n d h c)
+    (λ t k g. fed_less s link pipes.down d h c heard_down refl (has_bytes n pipes.down refl some) before t k g)
+    typed (lawful_after_down s link n d h) (carries_down s link n d h c)

@@ -14,10 +14,10 @@ use Rattle.nr_wire.specs.Segment.{Segment, segment_of, encoding}
 use Rattle.nr_wire.specs.Segment.Segment.{Tagged, Untagged}
 use Rattle.nr_wire.proofs.Frames.{fields_some}
 use Rattle.nr_wire.specs.Stream.{Split, split, AreFrames, awaited_after}
-use Rattle.nr_wire.proofs.Splits.{split-append, split-frames, split-Splits}
+use Rattle.nr_wire.proofs.Splits.{split_append, split_frames, split_Splits}
 use Rattle.nr_link.specs.Frames.{Frame, frames_from, frames_of, frames_completed, is_hello}
 use Rattle.nr_link.specs.Ending.{frame_segment}
-use Rattle.nr_link.proofs.Streams.{frames_from-append, frames_completed-split}
+use Rattle.nr_link.proofs.Streams.{frames_from_append, frames_completed_split}
 use Rattle.nr_link.specs.Output.{own_hello}
 use Rattle.nr_reduce.specs.declared.mark.Mark.{Mark}
 use Rattle.nr_reduce.specs.declared.mark.LinkParameters.{LinkParameters}
@@ -34,41 +34,41 @@ use Rattle.nr_laws.specs.Typed.{IsTyped}
 use Rattle.nr_laws.proofs.Outputs.{Output, bytes_of, bytes_of_all, message_of_call}
 use Rattle.nr_laws.proofs.Outputs.Output.{AHello, ASegment}
 use Rattle.nr_laws.proofs.Messages.{message_in, messages}
-use Rattle.nr_laws.proofs.Brought.{AreFrom, encoding-is, hello-is}
-use Rattle.nr_laws.proofs.Along.{whole_bytes}
+use Rattle.nr_laws.proofs.Brought.{AreFrom, encoding_is, hello_is}
+use Rattle.nr_laws.proofs.EventOutputs.{whole_bytes}
 use Rattle.nr_laws.proofs.ClientSays.{HasHello, accepted_in, asked}
-use Rattle.nr_laws.proofs.ClientRun.{client_outs, client-tells}
+use Rattle.nr_laws.proofs.ClientRun.{client_outs, client_tells}
 use Rattle.nr_reduce.proofs.Waiting.{start}
 use Rattle.nr_drill.specs.WorkLeft.{is_send, is_send_segment}
-use Rattle.nr_drill.proofs.LessUp.{some-bytes}
+use Rattle.nr_drill.proofs.LessUp.{some_bytes_lem}
 
 -- ===== the frames of some bytes and of more
 
-pub frames-one : (side : Side) (old more : List ℕ) → frames_of side (old ++ more) ≡ frames_of side old ++ frames_completed side old more
+pub frames_one : (side : Side) (old more : List ℕ) → frames_of side (old ++ more) ≡ frames_of side old ++ frames_completed side old more
 unfolding frames_of
-frames-one side old more =
+frames_one side old more =
     let s = split (HelloFrom side) old in
     let later = (split (awaited_after (HelloFrom side) s.frames) (s.rest ++ more)).frames in
-    ap (λ (x : Split). frames_from 0 x.frames) (split-append (HelloFrom side) old more)
-    ∙ frames_from-append 0 s.frames later
-    ∙ ap (λ (fs : List Frame). frames_from 0 s.frames ++ fs) (ap (λ (n : ℕ). frames_from n later) (omega arith) ∙ sym (frames_completed-split side old more))
+    ap (λ (x : Split). frames_from 0 x.frames) (split_append (HelloFrom side) old more)
+    ∙ frames_from_append 0 s.frames later
+    ∙ ap (λ (fs : List Frame). frames_from 0 s.frames ++ fs) (ap (λ (n : ℕ). frames_from n later) (omega arith) ∙ sym (frames_completed_split side old more))
 
-pub completed-is : (side : Side) (old more : List ℕ) → frames_completed side old more ≡ drop (length (frames_of side old)) (frames_of side (old ++ more))
+pub completed_is : (side : Side) (old more : List ℕ) → frames_completed side old more ≡ drop (length (frames_of side old)) (frames_of side (old ++ more))
 unfolding frames_completed
-completed-is side old more = refl
+completed_is side old more = refl
 
-pub completed-two : (side : Side) (old x y : List ℕ) → frames_completed side old (x ++ y) ≡ frames_completed side old x ++ frames_completed side (old ++ x) y
-completed-two side old x y =
+pub completed_two : (side : Side) (old x y : List ℕ) → frames_completed side old (x ++ y) ≡ frames_completed side old x ++ frames_completed side (old ++ x) y
+completed_two side old x y =
     let first = frames_completed side old x in
     let second = frames_completed side (old ++ x) y in
-    completed-is side old (x ++ y)
+    completed_is side old (x ++ y)
     ∙ ap (λ (fs : List Frame). drop (length (frames_of side old)) fs)
-    (ap (λ (xs : List ℕ). frames_of side xs) (sym (append_assoc old x y)) ∙ frames-one side (old ++ x) y ∙ ap (λ (fs : List Frame). fs ++ second) (frames-one side old x) ∙ append_assoc (frames_of side old) first second)
+    (ap (λ (xs : List ℕ). frames_of side xs) (sym (append_assoc old x y)) ∙ frames_one side (old ++ x) y ∙ ap (λ (fs : List Frame). fs ++ second) (frames_one side old x) ∙ append_assoc (frames_of side old) first second)
     ∙ drop-append_seam (frames_of side old) (first ++ second)
 
 -- if a frame was received, one was received later too
-pub still-heard : (side : Side) (old more : List ℕ) → frames_of side old ≢ [] → frames_of side (old ++ more) ≢ []
-still-heard side old more heard = λ none. by (frames_of side old) (frames_completed side old more) heard (sym (frames-one side old more) ∙ none)
+pub still_heard : (side : Side) (old more : List ℕ) → frames_of side old ≢ [] → frames_of side (old ++ more) ≢ []
+still_heard side old more heard = λ none. by (frames_of side old) (frames_completed side old more) heard (sym (frames_one side old more) ∙ none)
   where
     by : (xs ys : List Frame) → xs ≢ [] → xs ++ ys ≡ [] → ⊥
     by [] ys some e = some refl
@@ -76,37 +76,37 @@ still-heard side old more heard = λ none. by (frames_of side old) (frames_compl
 
 -- ===== the frames of what a client writes
 
-concat-bytes : (outs : List Output) → concat (map bytes_of outs) ≡ bytes_of_all outs
-concat-bytes [] = refl
-concat-bytes (o ∷ outs) = ap (λ (xs : List ℕ). bytes_of o ++ xs) (concat-bytes outs)
+concat_bytes : (outs : List Output) → concat (map bytes_of outs) ≡ bytes_of_all outs
+concat_bytes [] = refl
+concat_bytes (o ∷ outs) = ap (λ (xs : List ℕ). bytes_of o ++ xs) (concat_bytes outs)
 
-are-frames : (outs : List Output) → AreFrom Fpdu outs → AreFrames Fpdu (map bytes_of outs)
-are-frames [] h = tt
-are-frames (AHello bytes ∷ outs) h = absurd h
-are-frames (ASegment s ∷ outs) h = ((encoding-is s h.0).is_frame, are-frames outs h.1)
+are_frames : (outs : List Output) → AreFrom Fpdu outs → AreFrames Fpdu (map bytes_of outs)
+are_frames [] h = tt
+are_frames (AHello bytes ∷ outs) h = absurd h
+are_frames (ASegment s ∷ outs) h = ((encoding_is s h.0).is_frame, are_frames outs h.1)
 
-split-none : (a : Awaited) → (split a []).frames ≡ []
+split_none : (a : Awaited) → (split a []).frames ≡ []
 unfolding split
-split-none a = refl
+split_none a = refl
 
 -- its hello and the segments after it
-stream-frames : (outs : List Output) → AreFrom Fpdu outs → frames_of Initiator (own_hello Initiator ++ bytes_of_all outs) ≡ frames_from 0 (own_hello Initiator ∷ map bytes_of outs)
+stream_frames : (outs : List Output) → AreFrom Fpdu outs → frames_of Initiator (own_hello Initiator ++ bytes_of_all outs) ≡ frames_from 0 (own_hello Initiator ∷ map bytes_of outs)
 unfolding frames_of
-stream-frames outs h =
+stream_frames outs h =
     let a = HelloFrom Initiator in
     let fs = own_hello Initiator ∷ map bytes_of outs in
-    ap (λ (xs : List ℕ). frames_from 0 (split a xs).frames) (ap (λ (xs : List ℕ). own_hello Initiator ++ xs) (sym (concat-bytes outs)) ∙ sym (append-nil (concat fs)))
-    ∙ ap (λ (s : Split). frames_from 0 s.frames) (split-frames a fs [] ((hello-is Initiator).is_frame, are-frames outs h))
-    ∙ ap (λ (xs : List (List ℕ)). frames_from 0 (fs ++ xs)) (split-none (awaited_after a fs)) ∙ ap (λ (xs : List (List ℕ)). frames_from 0 xs) (append-nil fs)
+    ap (λ (xs : List ℕ). frames_from 0 (split a xs).frames) (ap (λ (xs : List ℕ). own_hello Initiator ++ xs) (sym (concat_bytes outs)) ∙ sym (append-nil (concat fs)))
+    ∙ ap (λ (s : Split). frames_from 0 s.frames) (split_frames a fs [] ((hello_is Initiator).is_frame, are_frames outs h))
+    ∙ ap (λ (xs : List (List ℕ)). frames_from 0 (fs ++ xs)) (split_none (awaited_after a fs)) ∙ ap (λ (xs : List (List ℕ)). frames_from 0 xs) (append-nil fs)
 
 -- ===== how many of them are Sends
 
 abbrev sends_among : List Frame → ℕ
 sends_among fs = length (filter is_send fs)
 
-one-more : (f : Frame) (fs : List Frame) (b : Bool) → is_send f ≡ b → sends_among (f ∷ fs) ≡ cond b (suc (sends_among fs)) (sends_among fs)
-one-more f fs true is = ap (λ (b : Bool). length (cond b (f ∷ filter is_send fs) (filter is_send fs))) is
-one-more f fs false is = ap (λ (b : Bool). length (cond b (f ∷ filter is_send fs) (filter is_send fs))) is
+one_more_lem : (f : Frame) (fs : List Frame) (b : Bool) → is_send f ≡ b → sends_among (f ∷ fs) ≡ cond b (suc (sends_among fs)) (sends_among fs)
+one_more_lem f fs true is = ap (λ (b : Bool). length (cond b (f ∷ filter is_send fs) (filter is_send fs))) is
+one_more_lem f fs false is = ap (λ (b : Bool). length (cond b (f ∷ filter is_send fs) (filter is_send fs))) is
 
 counted : (segment : Segment) (ms : List (List ℕ)) (n : ℕ) → n ≡ length ms → cond (is_send_segment (Ok segment)) (suc n) n ≡ length (message_in segment ++ ms)
 counted (Tagged last opcode stag to payload) ms n is = is
@@ -117,55 +117,55 @@ counted (Untagged last opcode w queue msn offset payload) ms n is = by (eqb opco
     by false = is
 
 -- as many as there are messages
-segments-sends : (place : ℕ) (outs : List Output) → 0 < place → AreFrom Fpdu outs → sends_among (frames_from place (map bytes_of outs)) ≡ length (messages outs)
+segments_sends : (place : ℕ) (outs : List Output) → 0 < place → AreFrom Fpdu outs → sends_among (frames_from place (map bytes_of outs)) ≡ length (messages outs)
 unfolding frame_segment
-segments-sends place [] some h = refl
-segments-sends place (AHello bytes ∷ outs) some h = absurd h
-segments-sends place (ASegment s ∷ outs) some h =
+segments_sends place [] some h = refl
+segments_sends place (AHello bytes ∷ outs) some h = absurd h
+segments_sends place (ASegment s ∷ outs) some h =
     let f : Frame = record { at = place; end = place + length (encoding s); bytes = encoding s } in
     let later = frames_from (place + length (encoding s)) (map bytes_of outs) in
     let appended : is_hello f ≡ false = ne_eqb place 0 (λ e. omega (arith, e, some)) in
-    let read : is_send f ≡ is_send_segment (Ok s) = (λ i. cond (appended i) false (is_send_segment (segment_of (encoding s)))) ∙ ap is_send_segment (encoding-is s h.0).says in
-    one-more f later (is_send_segment (Ok s)) read ∙ counted s (messages outs) (sends_among later) (segments-sends (place + length (encoding s)) outs (omega (arith, some)) h.1)
+    let read : is_send f ≡ is_send_segment (Ok s) = (λ i. cond (appended i) false (is_send_segment (segment_of (encoding s)))) ∙ ap is_send_segment (encoding_is s h.0).says in
+    one_more_lem f later (is_send_segment (Ok s)) read ∙ counted s (messages outs) (sends_among later) (segments_sends (place + length (encoding s)) outs (omega (arith, some)) h.1)
 
-stream-sends : (outs : List Output) → AreFrom Fpdu outs → sends_among (frames_of Initiator (own_hello Initiator ++ bytes_of_all outs)) ≡ length (messages outs)
-stream-sends outs h =
+stream_sends : (outs : List Output) → AreFrom Fpdu outs → sends_among (frames_of Initiator (own_hello Initiator ++ bytes_of_all outs)) ≡ length (messages outs)
+stream_sends outs h =
     let n = length (own_hello Initiator) in
-    let some : 0 < 0 + n = (let a = (hello-is Initiator).is_frame.fields in let b = fields_some (HelloFrom Initiator) in omega (arith, a, b)) in
-    ap sends_among (stream-frames outs h) ∙ segments-sends (0 + n) outs some h
+    let some : 0 < 0 + n = (let a = (hello_is Initiator).is_frame.fields in let b = fields_some (HelloFrom Initiator) in omega (arith, a, b)) in
+    ap sends_among (stream_frames outs h) ∙ segments_sends (0 + n) outs some h
 
 -- ===== on a link whose client hasn't ended
 
-as-many-calls : (k : ClientState) (stag : ℕ) (xs : List AcceptedCall) → length (outstanding_from k stag xs) ≡ length xs
-as-many-calls k stag [] = refl
-as-many-calls k stag (a ∷ xs) = ap suc (as-many-calls k (stag + regions_needed (outstanding_of (record k { stag = stag }) a).plan) xs)
+as_many_calls : (k : ClientState) (stag : ℕ) (xs : List AcceptedCall) → length (outstanding_from k stag xs) ≡ length xs
+as_many_calls k stag [] = refl
+as_many_calls k stag (a ∷ xs) = ap suc (as_many_calls k (stag + regions_needed (outstanding_of (record k { stag = stag }) a).plan) xs)
 
-has-hello : (place : ℕ) (b : Bool) → 0 < place → HasHello place b → b ≡ true
-has-hello place b some (inl none) = absurd (let e = none.0 in omega (arith, e, some))
-has-hello place b some (inr is) = is.1
+has_hello_lem : (place : ℕ) (b : Bool) → 0 < place → HasHello place b → b ≡ true
+has_hello_lem place b some (inl none) = absurd (let e = none.0 in omega (arith, e, some))
+has_hello_lem place b some (inr is) = is.1
 
-whole-some : (link : ℕ) (run : List Mark) → frames_of Responder (bytes_received link Initiator run) ≢ [] → 0 < whole_bytes link Initiator run
+whole_some : (link : ℕ) (run : List Mark) → frames_of Responder (bytes_received link Initiator run) ≢ [] → 0 < whole_bytes link Initiator run
 unfolding frames_of
-whole-some link run heard =
+whole_some link run heard =
     let got = bytes_received link Initiator run in
-    some-bytes Responder (split (HelloFrom Responder) got).frames (λ none. heard (ap (λ (fs : List (List ℕ)). frames_from 0 fs) none)) (split-Splits (HelloFrom Responder) got).each
+    some_bytes_lem Responder (split (HelloFrom Responder) got).frames (λ none. heard (ap (λ (fs : List (List ℕ)). frames_from 0 fs) none)) (split_Splits (HelloFrom Responder) got).each
 
 -- if it has the server's hello, there is a Send of each call that it accepted among the frames that the server has, and those to come
-pub sends-waiting : (o : LinkParameters) (link : ℕ) (run : List Mark) (way : List ℕ) → IsTyped run → AskedSoFar o link run → (client o link run).ended ≡ None → frames_of Responder (bytes_received link Initiator run) ≢ [] →
+pub sends_waiting : (o : LinkParameters) (link : ℕ) (run : List Mark) (way : List ℕ) → IsTyped run → AskedSoFar o link run → (client o link run).ended ≡ None → frames_of Responder (bytes_received link Initiator run) ≢ [] →
     bytes_received link Responder run ++ way ≡ output_due o link Initiator run →
     length (filter is_send (frames_of Initiator (bytes_received link Responder run))) + length (filter is_send (frames_completed Initiator (bytes_received link Responder run) way)) ≡ (client o link run).state.calls_accepted
-sends-waiting o link run way typed asked_so lives heard carried =
+sends_waiting o link run way typed asked_so lives heard carried =
     let got = bytes_received link Responder run in
-    let t = client-tells o link run typed asked_so in
+    let t = client_tells o link run typed asked_so in
     let k = (client o link run).state in
     let calls = asked o (events link Initiator run) in
-    let knows : k.has_hello ≡ true = has-hello (whole_bytes link Initiator run) k.has_hello (whole-some link run heard) (t.says.greeted lives) in
+    let knows : k.has_hello ≡ true = has_hello_lem (whole_bytes link Initiator run) k.has_hello (whole_some link run heard) (t.says.greeted lives) in
     let all : sends_among (frames_of Initiator (got ++ way)) ≡ length (messages (client_outs o link run)) =
-    ap (λ (xs : List ℕ). sends_among (frames_of Initiator xs)) (carried ∙ t.bytes) ∙ stream-sends (client_outs o link run) t.says.words in
+    ap (λ (xs : List ℕ). sends_among (frames_of Initiator xs)) (carried ∙ t.bytes) ∙ stream_sends (client_outs o link run) t.says.words in
     let said : length (messages (client_outs o link run)) ≡ length calls =
     ap (λ (ms : List (List ℕ)). length ms) (t.says.said ∙ (λ i. cond (knows i) (map (message_of_call o) calls) [])) ∙ length-map calls (message_of_call o) in
-    let accepted : length calls ≡ k.calls_accepted = as-many-calls (start o) o.first_stag (accepted_in (events link Initiator run)) ∙ sym t.says.count in
+    let accepted : length calls ≡ k.calls_accepted = as_many_calls (start o) o.first_stag (accepted_in (events link Initiator run)) ∙ sym t.says.count in
     let both : sends_among (frames_of Initiator (got ++ way)) ≡ sends_among (frames_of Initiator got) + sends_among (frames_completed Initiator got way) =
-    ap sends_among (frames-one Initiator got way) ∙ ap (λ (fs : List Frame). length fs) (filter-append is_send (frames_of Initiator got) (frames_completed Initiator got way))
+    ap sends_among (frames_one Initiator got way) ∙ ap (λ (fs : List Frame). length fs) (filter-append is_send (frames_of Initiator got) (frames_completed Initiator got way))
     ∙ length-append (filter is_send (frames_of Initiator got)) (filter is_send (frames_completed Initiator got way)) in
     sym both ∙ all ∙ said ∙ accepted

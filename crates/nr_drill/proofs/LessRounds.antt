@@ -10,14 +10,14 @@ use Rattle.nr_link.specs.Frames.{frames_completed}
 use Rattle.std.proofs.lemmas.List.{take_all}
 use Rattle.nr_reduce.specs.OutcomesDue.{outcomes_due}
 use Rattle.nr_reduce.specs.History.{CompletedCall, bytes_sent, bytes_received, is_dropped}
-use Rattle.nr_reduce.specs.Events.{Event}
+use Rattle.nr_reduce.specs.Events.{RunEvent}
 use Rattle.nr_reduce.specs.EndRules.{end_state_after}
 use Rattle.nr_reduce.specs.ServerState.{ReadyCall}
 use Rattle.nr_reduce.specs.Client.{client_rules}
 use Rattle.nr_reduce.specs.Server.{server_rules}
 use Rattle.nr_reduce.specs.Run.{client, server, output_due, end_of_side}
 use Rattle.nr_reduce.specs.Served.{next_call, first_ready}
-use Rattle.nr_reduce.proofs.Steps.{client-one, server-one}
+use Rattle.nr_reduce.proofs.Steps.{client_one, server_one}
 use Rattle.nr_laws.specs.Typed.{IsTyped}
 use Rattle.nr_drill.specs.Drill.{Setting, Drill, Pipes, empty_pipes, unwritten, pipes_of, settled, if_standing, waiting_call, after_feeding, after_up, after_down, after_outcomes, after_done, after_dones, after_handing, after_answer, after_execution, after_work, after_calls, after_all_up, after_all_work, after_all_down, after_moves, after_round}
 use Rattle.nr_drill.specs.Follows.{is_empty, is_still, Drains}
@@ -27,53 +27,53 @@ use Rattle.nr_drill.specs.Drains.{IsRunning, Moves, StepsKeepTypes, AnswersCalls
 use Rattle.nr_drill.specs.Drill.{links_of}
 use Rattle.nr_drill.specs.Follows.{setting_of}
 use Rattle.nr_drill.proofs.KeptTypes.{steps_keep_types}
-use Rattle.nr_drill.proofs.Followed.{Extends, link_of, no_event, moves-adds}
-use Rattle.nr_drill.proofs.Carried.{same_here, settled-same, dones-keep}
+use Rattle.nr_drill.proofs.Followed.{Extends, link_of, no_event, moves_adds}
+use Rattle.nr_drill.proofs.Carried.{same_here, settled_same, dones_keep}
 use Rattle.nr_drill.proofs.Lawful.{Keeps}
-use Rattle.nr_drill.proofs.LessWork.{same-due, executed-less}
-use Rattle.nr_drill.proofs.LessSteps.{running-keeps, running-carries}
-use Rattle.nr_drill.proofs.LessUp.{up-less}
-use Rattle.nr_drill.proofs.LessDown.{down-less, outcomes-leave}
-use Rattle.nr_drill.proofs.LessScripts.{step-runs, other-runs, script-runs}
+use Rattle.nr_drill.proofs.LessWork.{same_due, executed_less}
+use Rattle.nr_drill.proofs.LessSteps.{running_keeps, running_carries}
+use Rattle.nr_drill.proofs.LessUp.{up_less_lem}
+use Rattle.nr_drill.proofs.LessDown.{down_less_lem, outcomes_leave}
+use Rattle.nr_drill.proofs.LessScripts.{step_runs, other_runs, script_runs}
 
 -- ===== the order
 
-less-through : (a b c : List ℕ) → IsLess a b → IsLess b c → IsLess a c
-less-through [] b c h g = absurd h
-less-through (x ∷ a) [] c h g = absurd h
-less-through (x ∷ a) (y ∷ b) [] h g = absurd g
-less-through (x ∷ a) (y ∷ b) (z ∷ c) (inl lt) (inl also) = inl (omega (arith, lt, also))
-less-through (x ∷ a) (y ∷ b) (z ∷ c) (inl lt) (inr (e, r)) = inl (omega (arith, lt, e))
-less-through (x ∷ a) (y ∷ b) (z ∷ c) (inr (e, r)) (inl lt) = inl (omega (arith, lt, e))
-less-through (x ∷ a) (y ∷ b) (z ∷ c) (inr (e, r)) (inr (f, q)) = inr (e ∙ f, less-through a b c r q)
+less_through : (a b c : List ℕ) → IsLess a b → IsLess b c → IsLess a c
+less_through [] b c h g = absurd h
+less_through (x ∷ a) [] c h g = absurd h
+less_through (x ∷ a) (y ∷ b) [] h g = absurd g
+less_through (x ∷ a) (y ∷ b) (z ∷ c) (inl lt) (inl also) = inl (omega (arith, lt, also))
+less_through (x ∷ a) (y ∷ b) (z ∷ c) (inl lt) (inr (e, r)) = inl (omega (arith, lt, e))
+less_through (x ∷ a) (y ∷ b) (z ∷ c) (inr (e, r)) (inl lt) = inl (omega (arith, lt, e))
+less_through (x ∷ a) (y ∷ b) (z ∷ c) (inr (e, r)) (inr (f, q)) = inr (e ∙ f, less_through a b c r q)
 
 -- no more than
 abbrev NotMore : List ℕ → List ℕ → Type 0
 NotMore new old = (new ≡ old) ⊎ IsLess new old
 
-not-more : (a b c : List ℕ) → NotMore a b → NotMore b c → NotMore a c
-not-more a b c (inl e) (inl f) = inl (e ∙ f)
-not-more a b c (inl e) (inr g) = inr (subst (λ (x : List ℕ). IsLess x c) (sym e) g)
-not-more a b c (inr h) (inl f) = inr (subst (λ (x : List ℕ). IsLess a x) f h)
-not-more a b c (inr h) (inr g) = inr (less-through a b c h g)
+not_more_lem : (a b c : List ℕ) → NotMore a b → NotMore b c → NotMore a c
+not_more_lem a b c (inl e) (inl f) = inl (e ∙ f)
+not_more_lem a b c (inl e) (inr g) = inr (subst (λ (x : List ℕ). IsLess x c) (sym e) g)
+not_more_lem a b c (inr h) (inl f) = inr (subst (λ (x : List ℕ). IsLess a x) f h)
+not_more_lem a b c (inr h) (inr g) = inr (less_through a b c h g)
 
-then-less : (a b c : List ℕ) → NotMore a b → IsLess b c → IsLess a c
-then-less a b c (inl e) g = subst (λ (x : List ℕ). IsLess x c) (sym e) g
-then-less a b c (inr h) g = less-through a b c h g
+then_less : (a b c : List ℕ) → NotMore a b → IsLess b c → IsLess a c
+then_less a b c (inl e) g = subst (λ (x : List ℕ). IsLess x c) (sym e) g
+then_less a b c (inr h) g = less_through a b c h g
 
-less-then : (a b c : List ℕ) → IsLess a b → NotMore b c → IsLess a c
-less-then a b c h (inl f) = subst (λ (x : List ℕ). IsLess a x) f h
-less-then a b c h (inr g) = less-through a b c h g
+less_then : (a b c : List ℕ) → IsLess a b → NotMore b c → IsLess a c
+less_then a b c h (inl f) = subst (λ (x : List ℕ). IsLess a x) f h
+less_then a b c h (inr g) = less_through a b c h g
 
-less-front : (a b x y : List ℕ) → IsLess a b → IsLess (a ++ x) (b ++ y)
-less-front [] b x y h = absurd h
-less-front (n ∷ a) [] x y h = absurd h
-less-front (n ∷ a) (m ∷ b) x y (inl lt) = inl lt
-less-front (n ∷ a) (m ∷ b) x y (inr (e, r)) = inr (e, less-front a b x y r)
+less_front : (a b x y : List ℕ) → IsLess a b → IsLess (a ++ x) (b ++ y)
+less_front [] b x y h = absurd h
+less_front (n ∷ a) [] x y h = absurd h
+less_front (n ∷ a) (m ∷ b) x y (inl lt) = inl lt
+less_front (n ∷ a) (m ∷ b) x y (inr (e, r)) = inr (e, less_front a b x y r)
 
-less-behind : (a x y : List ℕ) → IsLess x y → IsLess (a ++ x) (a ++ y)
-less-behind [] x y h = h
-less-behind (n ∷ a) x y h = inr (refl, less-behind a x y h)
+less_behind : (a x y : List ℕ) → IsLess x y → IsLess (a ++ x) (a ++ y)
+less_behind [] x y h = h
+less_behind (n ∷ a) x y h = inr (refl, less_behind a x y h)
 
 -- ===== lists of as many numbers, by this order
 
@@ -102,17 +102,17 @@ by_less (suc n) P step (a ∷ x) e = heads n P step (by_less n) (suc a) a (omega
 
 -- ===== what is done on another link leaves the work of a link
 
-ends-elsewhere : (o : LinkParameters) (link other : ℕ) (run added : List Mark) → other ≢ link → AllByRecursion (λ (mark : Mark). link_of mark ≡ other) added →
+ends_elsewhere : (o : LinkParameters) (link other : ℕ) (run added : List Mark) → other ≢ link → AllByRecursion (λ (mark : Mark). link_of mark ≡ other) added →
     (client o link (run ++ added) ≡ client o link run) × (server o link (run ++ added) ≡ server o link run) × (output_due o link Initiator (run ++ added) ≡ output_due o link Initiator run)
-ends-elsewhere o link other run [] ne own =
+ends_elsewhere o link other run [] ne own =
     (ap (λ (r : List Mark). client o link r) (append-nil run), ap (λ (r : List Mark). server o link r) (append-nil run), ap (λ (r : List Mark). output_due o link Initiator r) (append-nil run))
-ends-elsewhere o link other run (mark ∷ added) ne own =
+ends_elsewhere o link other run (mark ∷ added) ne own =
     let from : link_of mark ≢ link = (λ same. ne (sym own.0 ∙ same)) in
-    let rest = ends-elsewhere o link other (run ++ mark ∷ []) added ne own.1 in
+    let rest = ends_elsewhere o link other (run ++ mark ∷ []) added ne own.1 in
     let shift = sym (append_assoc run (mark ∷ []) added) in (
-      ap (λ (r : List Mark). client o link r) shift ∙ rest.0 ∙ client-one o link run mark ∙ ap (λ (es : List Event). end_state_after (client_rules o) (client o link run) es) (no_event link Initiator run mark from),
-      ap (λ (r : List Mark). server o link r) shift ∙ rest.1 ∙ server-one o link run mark ∙ ap (λ (es : List Event). end_state_after (server_rules o) (server o link run) es) (no_event link Responder run mark from),
-      ap (λ (r : List Mark). output_due o link Initiator r) shift ∙ rest.2 ∙ same-due o link run mark [] (no_event link Initiator run mark from) refl,
+      ap (λ (r : List Mark). client o link r) shift ∙ rest.0 ∙ client_one o link run mark ∙ ap (λ (es : List RunEvent). end_state_after (client_rules o) (client o link run) es) (no_event link Initiator run mark from),
+      ap (λ (r : List Mark). server o link r) shift ∙ rest.1 ∙ server_one o link run mark ∙ ap (λ (es : List RunEvent). end_state_after (server_rules o) (server o link run) es) (no_event link Responder run mark from),
+      ap (λ (r : List Mark). output_due o link Initiator r) shift ∙ rest.2 ∙ same_due o link run mark [] (no_event link Initiator run mark from) refl,
     )
 
 record LeftAlone (s : Setting) (link : ℕ) (old new : Drill) : Type 0 where
@@ -124,10 +124,10 @@ record LeftAlone (s : Setting) (link : ℕ) (old new : Drill) : Type 0 where
   pipes : pipes_of link new ≡ pipes_of link old
   dropped : is_dropped link new.marks ≡ is_dropped link old.marks
 
-left-alone : (s : Setting) (link other : ℕ) (old new : Drill) → other ≢ link → link - 1 ≢ other - 1 → Extends other old new → LeftAlone s link old new
-left-alone s link other old new ne apart x =
+left_alone_lem : (s : Setting) (link other : ℕ) (old new : Drill) → other ≢ link → link - 1 ≢ other - 1 → Extends other old new → LeftAlone s link old new
+left_alone_lem s link other old new ne apart x =
     let o = s.opened link in
-    let ends = ends-elsewhere o link other old.marks x.marks.added ne x.marks.own in
+    let ends = ends_elsewhere o link other old.marks x.marks.added ne x.marks.own in
     let same = same_here link other old.marks x.marks.added ne x.marks.own in
     let is = x.marks.is in
     record {
@@ -140,9 +140,9 @@ left-alone s link other old new ne apart x =
       dropped = ap (λ (r : List Mark). is_dropped link r) is ∙ same.dropped;
     }
 
-same-left : (s : Setting) (link : ℕ) (old new : Drill) → LeftAlone s link old new → work_left s new link ≡ work_left s old link
+same_left_lem : (s : Setting) (link : ℕ) (old new : Drill) → LeftAlone s link old new → work_left s new link ≡ work_left s old link
 unfolding work_left send_bytes_left end_of_side unwritten
-same-left s link old new a = λ i.
+same_left_lem s link old new a = λ i.
     (stays (a.client_is i).ended + stays (a.server_is i).ended)
     ∷ sum_by frame_len (filter is_send (frames_completed Initiator (a.got i) ((a.pipes i).up ++ drop (length (a.sent i)) (a.due i))))
     ∷ length (a.server_is i).state.reads
@@ -151,9 +151,9 @@ same-left s link old new a = λ i.
     ∷ length (a.pipes i).up
     ∷ []
 
-same-still : (s : Setting) (link : ℕ) (old new : Drill) → LeftAlone s link old new → is_still s new link ≡ is_still s old link
+same_still : (s : Setting) (link : ℕ) (old new : Drill) → LeftAlone s link old new → is_still s new link ≡ is_still s old link
 unfolding is_still waiting_call next_call
-same-still s link old new a = λ i.
+same_still s link old new a = λ i.
     is_empty (a.pipes i).up && (is_empty (a.pipes i).down && is_none (if_standing (a.dropped i) (first_ready (a.server_is i).state.ready (a.server_is i).ended)))
 
 -- ===== the steps of a link
@@ -162,47 +162,47 @@ same-still s link old new a = λ i.
 abbrev Good : Setting → ℕ → Drill → Type 0
 Good s link d = IsRunning s link d × IsTyped d.marks
 
-good-step : (s : Setting) → StepsKeepTypes s → (link : ℕ) (step : DrainStep) (d : Drill) → Good s link d → Good s link (after_step s link step d)
-good-step s types link step d g = (step-runs s link step d g.0, types link step d g.0 g.1)
+good_step : (s : Setting) → StepsKeepTypes s → (link : ℕ) (step : DrainStep) (d : Drill) → Good s link d → Good s link (after_step s link step d)
+good_step s types link step d g = (step_runs s link step d g.0, types link step d g.0 g.1)
 
-idle-up : (s : Setting) (link : ℕ) (d : Drill) → IsRunning s link d → (pipes_of link d).up ≡ [] → after_all_up s link d ≡ d
+idle_up : (s : Setting) (link : ℕ) (d : Drill) → IsRunning s link d → (pipes_of link d).up ≡ [] → after_all_up s link d ≡ d
 unfolding after_up
-idle-up s link d r none =
+idle_up s link d r none =
     let up = (pipes_of link d).up in
     let n = length up in
     let rest : Pipes = record (pipes_of link d) { up = drop n up } in
     let nothing : take n up ≡ [] = take_all n up (omega arith) ∙ none in
-    ap (λ (xs : List ℕ). settled s link (after_feeding link Responder xs rest d)) nothing ∙ settled-same s link d (running-keeps s link d r).1
+    ap (λ (xs : List ℕ). settled s link (after_feeding link Responder xs rest d)) nothing ∙ settled_same s link d (running_keeps s link d r).1
 
-up-not-more : (s : Setting) (link : ℕ) (d : Drill) → IsRunning s link d → NotMore (work_left s (after_all_up s link d) link) (work_left s d link)
-up-not-more s link d r = by (pipes_of link d).up refl
+up_not_more : (s : Setting) (link : ℕ) (d : Drill) → IsRunning s link d → NotMore (work_left s (after_all_up s link d) link) (work_left s d link)
+up_not_more s link d r = by (pipes_of link d).up refl
   where
     by : (xs : List ℕ) → (pipes_of link d).up ≡ xs → NotMore (work_left s (after_all_up s link d) link) (work_left s d link)
-    by [] e = inl (ap (λ (x : Drill). work_left s x link) (idle-up s link d r e))
-    by (b ∷ xs) e = inr (up-less s link d (running-keeps s link d r) r.room r.server_heard (λ none. some b xs (sym e ∙ none)))
+    by [] e = inl (ap (λ (x : Drill). work_left s x link) (idle_up s link d r e))
+    by (b ∷ xs) e = inr (up_less_lem s link d (running_keeps s link d r) r.room r.server_heard (λ none. some b xs (sym e ∙ none)))
       where
         some : (b : ℕ) (xs : List ℕ) → b ∷ xs ≡ [] → ⊥
         some b xs x = absurd cc
 
-dones-pipes : (s : Setting) (link n : ℕ) (d : Drill) → (after_dones s link n d).pipes ≡ d.pipes
+dones_pipes : (s : Setting) (link n : ℕ) (d : Drill) → (after_dones s link n d).pipes ≡ d.pipes
 unfolding after_done
-dones-pipes s link zero d = refl
-dones-pipes s link (suc n) d = dones-pipes s link n (after_done s link d) ∙ by (slice_get (outcomes_due (s.opened link) link d.marks) 0)
+dones_pipes s link zero d = refl
+dones_pipes s link (suc n) d = dones_pipes s link n (after_done s link d) ∙ by (slice_get (outcomes_due (s.opened link) link d.marks) 0)
   where
     by : (c : Option CompletedCall) → (after_handing link c d).pipes ≡ d.pipes
     by None = refl
     by (Some c) = refl
 
-outcomes-left : (s : Setting) (link : ℕ) (d : Drill) → Keeps s link d → work_left s (settled s link (after_outcomes s link d)) link ≡ work_left s d link
+outcomes_left : (s : Setting) (link : ℕ) (d : Drill) → Keeps s link d → work_left s (settled s link (after_outcomes s link d)) link ≡ work_left s d link
 unfolding after_outcomes work_left send_bytes_left end_of_side
-outcomes-left s link d h =
+outcomes_left s link d h =
     let o = s.opened link in
     let n = length (outcomes_due o link d.marks) in
     let mid = after_dones s link n d in
-    let kept = dones-keep s link n d h in
-    let leaves = outcomes-leave s o link d in
-    let pipes = ap (λ (ps : List Pipes). slice_index_or ps (link - 1) empty_pipes) (dones-pipes s link n d) in
-    ap (λ (x : Drill). work_left s x link) (settled-same s link mid kept.1)
+    let kept = dones_keep s link n d h in
+    let leaves = outcomes_leave s o link d in
+    let pipes = ap (λ (ps : List Pipes). slice_index_or ps (link - 1) empty_pipes) (dones_pipes s link n d) in
+    ap (λ (x : Drill). work_left s x link) (settled_same s link mid kept.1)
     ∙ (λ i. (stays (leaves.client_end i) + stays (leaves.server_end i))
     ∷ sum_by frame_len (filter is_send (frames_completed Initiator (leaves.got i) ((pipes i).up ++ (kept.1.client ∙ sym h.1.client) i)))
     ∷ length (leaves.reads i)
@@ -211,76 +211,76 @@ outcomes-left s link d h =
     ∷ length (pipes i).up
     ∷ [])
 
-idle-down : (s : Setting) (link : ℕ) (d : Drill) → IsRunning s link d → (pipes_of link d).down ≡ [] → work_left s (after_all_down s link d) link ≡ work_left s d link
+idle_down : (s : Setting) (link : ℕ) (d : Drill) → IsRunning s link d → (pipes_of link d).down ≡ [] → work_left s (after_all_down s link d) link ≡ work_left s d link
 unfolding after_down
-idle-down s link d r none =
+idle_down s link d r none =
     let down = (pipes_of link d).down in
     let n = length down in
     let rest : Pipes = record (pipes_of link d) { down = drop n down } in
     let nothing : take n down ≡ [] = take_all n down (omega arith) ∙ none in
-    ap (λ (xs : List ℕ). work_left s (settled s link (after_outcomes s link (after_feeding link Initiator xs rest d))) link) nothing ∙ outcomes-left s link d (running-keeps s link d r)
+    ap (λ (xs : List ℕ). work_left s (settled s link (after_outcomes s link (after_feeding link Initiator xs rest d))) link) nothing ∙ outcomes_left s link d (running_keeps s link d r)
 
-down-not-more : (s : Setting) → StepsKeepTypes s → (link : ℕ) (d : Drill) → Good s link d → NotMore (work_left s (after_all_down s link d) link) (work_left s d link)
-down-not-more s types link d g = by (pipes_of link d).down refl
+down_not_more : (s : Setting) → StepsKeepTypes s → (link : ℕ) (d : Drill) → Good s link d → NotMore (work_left s (after_all_down s link d) link) (work_left s d link)
+down_not_more s types link d g = by (pipes_of link d).down refl
   where
     by : (xs : List ℕ) → (pipes_of link d).down ≡ xs → NotMore (work_left s (after_all_down s link d) link) (work_left s d link)
-    by [] e = inl (idle-down s link d g.0 e)
-    by (b ∷ xs) e = inr (down-less s link d (running-keeps s link d g.0) (running-carries s link d g.0) g.0.client_heard (λ none. some b xs (sym e ∙ none)) (types link AllDown d g.0 g.1))
+    by [] e = inl (idle_down s link d g.0 e)
+    by (b ∷ xs) e = inr (down_less_lem s link d (running_keeps s link d g.0) (running_carries s link d g.0) g.0.client_heard (λ none. some b xs (sym e ∙ none)) (types link AllDown d g.0 g.1))
       where
         some : (b : ℕ) (xs : List ℕ) → b ∷ xs ≡ [] → ⊥
         some b xs x = absurd cc
 
 -- calls
 
-next-of : (dropped : Bool) (call : ReadyCall) (next : Option ReadyCall) → if_standing dropped next ≡ Some call → next ≡ Some call
-next-of true call next e = absurd cc
-next-of false call next e = e
+next_of_lem : (dropped : Bool) (call : ReadyCall) (next : Option ReadyCall) → if_standing dropped next ≡ Some call → next ≡ Some call
+next_of_lem true call next e = absurd cc
+next_of_lem false call next e = e
 
-work-idle : (s : Setting) (link : ℕ) (d : Drill) → waiting_call s link d.marks ≡ None → after_work s link d ≡ d
+work_idle : (s : Setting) (link : ℕ) (d : Drill) → waiting_call s link d.marks ≡ None → after_work s link d ≡ d
 unfolding after_work
-work-idle s link d e = ap (λ (c : Option ReadyCall). after_execution s link c d) e
+work_idle s link d e = ap (λ (c : Option ReadyCall). after_execution s link c d) e
 
-work-of : (s : Setting) → AnswersCalls s → (link : ℕ) (d : Drill) (call : ReadyCall) → IsRunning s link d → waiting_call s link d.marks ≡ Some call → IsLess (work_left s (after_work s link d) link) (work_left s d link)
+work_of : (s : Setting) → AnswersCalls s → (link : ℕ) (d : Drill) (call : ReadyCall) → IsRunning s link d → waiting_call s link d.marks ≡ Some call → IsLess (work_left s (after_work s link d) link) (work_left s d link)
 unfolding after_work waiting_call
-work-of s answers link d call r e =
-    let next = next-of (is_dropped link d.marks) call (next_call (s.opened link) link d.marks) e in
+work_of s answers link d call r e =
+    let next = next_of_lem (is_dropped link d.marks) call (next_call (s.opened link) link d.marks) e in
     let answer = answers link d call next in
     subst (λ (x : Drill). IsLess (work_left s x link) (work_left s d link))
     (sym (ap (λ (c : Option ReadyCall). after_execution s link c d) e ∙ ap (λ (reply : Option (List ℕ)). after_answer s link call reply d) answer.1))
-    (executed-less s link call answer.0 d (running-keeps s link d r) r.room next)
+    (executed_less s link call answer.0 d (running_keeps s link d r) r.room next)
 
-work-not-more : (s : Setting) → AnswersCalls s → (link : ℕ) (d : Drill) → IsRunning s link d → NotMore (work_left s (after_work s link d) link) (work_left s d link)
-work-not-more s answers link d r = by (waiting_call s link d.marks) refl
+work_not_more : (s : Setting) → AnswersCalls s → (link : ℕ) (d : Drill) → IsRunning s link d → NotMore (work_left s (after_work s link d) link) (work_left s d link)
+work_not_more s answers link d r = by (waiting_call s link d.marks) refl
   where
     by : (c : Option ReadyCall) → waiting_call s link d.marks ≡ c → NotMore (work_left s (after_work s link d) link) (work_left s d link)
-    by None e = inl (ap (λ (x : Drill). work_left s x link) (work-idle s link d e))
-    by (Some call) e = inr (work-of s answers link d call r e)
+    by None e = inl (ap (λ (x : Drill). work_left s x link) (work_idle s link d e))
+    by (Some call) e = inr (work_of s answers link d call r e)
 
-calls-good : (s : Setting) → StepsKeepTypes s → (link n : ℕ) (d : Drill) → Good s link d → Good s link (after_calls s link n d)
-calls-good s types link zero d g = g
-calls-good s types link (suc n) d g = calls-good s types link n (after_work s link d) (good-step s types link Work d g)
+calls_good : (s : Setting) → StepsKeepTypes s → (link n : ℕ) (d : Drill) → Good s link d → Good s link (after_calls s link n d)
+calls_good s types link zero d g = g
+calls_good s types link (suc n) d g = calls_good s types link n (after_work s link d) (good_step s types link Work d g)
 
-calls-not-more : (s : Setting) → AnswersCalls s → (link n : ℕ) (d : Drill) → IsRunning s link d → NotMore (work_left s (after_calls s link n d) link) (work_left s d link)
-calls-not-more s answers link zero d r = inl refl
-calls-not-more s answers link (suc n) d r =
-    not-more (work_left s (after_calls s link (suc n) d) link) (work_left s (after_work s link d) link) (work_left s d link)
-    (calls-not-more s answers link n (after_work s link d) (step-runs s link Work d r)) (work-not-more s answers link d r)
+calls_not_more : (s : Setting) → AnswersCalls s → (link n : ℕ) (d : Drill) → IsRunning s link d → NotMore (work_left s (after_calls s link n d) link) (work_left s d link)
+calls_not_more s answers link zero d r = inl refl
+calls_not_more s answers link (suc n) d r =
+    not_more_lem (work_left s (after_calls s link (suc n) d) link) (work_left s (after_work s link d) link) (work_left s d link)
+    (calls_not_more s answers link n (after_work s link d) (step_runs s link Work d r)) (work_not_more s answers link d r)
 
-calls-idle : (s : Setting) (link n : ℕ) (d : Drill) → waiting_call s link d.marks ≡ None → after_calls s link n d ≡ d
-calls-idle s link zero d e = refl
-calls-idle s link (suc n) d e = ap (λ (x : Drill). after_calls s link n x) (work-idle s link d e) ∙ calls-idle s link n d e
+calls_idle : (s : Setting) (link n : ℕ) (d : Drill) → waiting_call s link d.marks ≡ None → after_calls s link n d ≡ d
+calls_idle s link zero d e = refl
+calls_idle s link (suc n) d e = ap (λ (x : Drill). after_calls s link n x) (work_idle s link d e) ∙ calls_idle s link n d e
 
-calls-less : (s : Setting) → AnswersCalls s → (link n : ℕ) (d : Drill) (call : ReadyCall) → 0 < n → IsRunning s link d → waiting_call s link d.marks ≡ Some call → IsLess (work_left s (after_calls s link n d) link) (work_left s d link)
-calls-less s answers link zero d call some r e = absurd (omega (arith, some))
-calls-less s answers link (suc n) d call some r e =
-    then-less (work_left s (after_calls s link (suc n) d) link) (work_left s (after_work s link d) link) (work_left s d link)
-    (calls-not-more s answers link n (after_work s link d) (step-runs s link Work d r)) (work-of s answers link d call r e)
+calls_less : (s : Setting) → AnswersCalls s → (link n : ℕ) (d : Drill) (call : ReadyCall) → 0 < n → IsRunning s link d → waiting_call s link d.marks ≡ Some call → IsLess (work_left s (after_calls s link n d) link) (work_left s d link)
+calls_less s answers link zero d call some r e = absurd (omega (arith, some))
+calls_less s answers link (suc n) d call some r e =
+    then_less (work_left s (after_calls s link (suc n) d) link) (work_left s (after_work s link d) link) (work_left s d link)
+    (calls_not_more s answers link n (after_work s link d) (step_runs s link Work d r)) (work_of s answers link d call r e)
 
-some-ready : (s : Setting) (link : ℕ) (d : Drill) (call : ReadyCall) → waiting_call s link d.marks ≡ Some call → 0 < length (server (s.opened link) link d.marks).state.ready
+some_ready : (s : Setting) (link : ℕ) (d : Drill) (call : ReadyCall) → waiting_call s link d.marks ≡ Some call → 0 < length (server (s.opened link) link d.marks).state.ready
 unfolding waiting_call next_call
-some-ready s link d call e =
+some_ready s link d call e =
     let server_is = server (s.opened link) link d.marks in
-    by server_is.state.ready server_is.ended (next-of (is_dropped link d.marks) call (first_ready server_is.state.ready server_is.ended) e)
+    by server_is.state.ready server_is.ended (next_of_lem (is_dropped link d.marks) call (first_ready server_is.state.ready server_is.ended) e)
   where
     by : (ready : List ReadyCall) (ended : Option End) → first_ready ready ended ≡ Some call → 0 < length ready
     by ready (Some end) e = absurd cc
@@ -289,34 +289,34 @@ some-ready s link d call e =
 
 -- ===== all up, all calls, all down
 
-moves-good : (s : Setting) → StepsKeepTypes s → (link : ℕ) (d : Drill) → Good s link d → Good s link (after_moves s link d)
+moves_good : (s : Setting) → StepsKeepTypes s → (link : ℕ) (d : Drill) → Good s link d → Good s link (after_moves s link d)
 unfolding after_moves after_all_work
-moves-good s types link d g =
+moves_good s types link d g =
     let one = after_all_up s link d in
     let n = length (server (s.opened link) link one.marks).state.ready in
-    good-step s types link AllDown (after_calls s link n one) (calls-good s types link n one (good-step s types link AllUp d g))
+    good_step s types link AllDown (after_calls s link n one) (calls_good s types link n one (good_step s types link AllUp d g))
 
-moves-not-more : (s : Setting) → StepsKeepTypes s → AnswersCalls s → (link : ℕ) (d : Drill) → Good s link d → NotMore (work_left s (after_moves s link d) link) (work_left s d link)
+moves_not_more : (s : Setting) → StepsKeepTypes s → AnswersCalls s → (link : ℕ) (d : Drill) → Good s link d → NotMore (work_left s (after_moves s link d) link) (work_left s d link)
 unfolding after_moves after_all_work
-moves-not-more s types answers link d g =
+moves_not_more s types answers link d g =
     let one = after_all_up s link d in
     let n = length (server (s.opened link) link one.marks).state.ready in
     let two = after_calls s link n one in
-    let g_one = good-step s types link AllUp d g in
-    not-more (work_left s (after_all_down s link two) link) (work_left s two link) (work_left s d link) (down-not-more s types link two (calls-good s types link n one g_one))
-    (not-more (work_left s two link) (work_left s one link) (work_left s d link) (calls-not-more s answers link n one g_one.0) (up-not-more s link d g.0))
+    let g_one = good_step s types link AllUp d g in
+    not_more_lem (work_left s (after_all_down s link two) link) (work_left s two link) (work_left s d link) (down_not_more s types link two (calls_good s types link n one g_one))
+    (not_more_lem (work_left s two link) (work_left s one link) (work_left s d link) (calls_not_more s answers link n one g_one.0) (up_not_more s link d g.0))
 
-still-cases : (up down : List ℕ) (c : Option ReadyCall) → (is_empty up && (is_empty down && is_none c)) ≡ false →
+still_cases : (up down : List ℕ) (c : Option ReadyCall) → (is_empty up && (is_empty down && is_none c)) ≡ false →
     (up ≢ []) ⊎ ((up ≡ []) × (((call : ReadyCall) × (c ≡ Some call)) ⊎ ((c ≡ None) × (down ≢ []))))
-still-cases (b ∷ up) down c e = inl (λ none. absurd cc)
-still-cases [] down (Some call) e = inr (refl, inl (call, refl))
-still-cases [] [] None e = absurd cc
-still-cases [] (b ∷ down) None e = inr (refl, inr (refl, λ none. absurd cc))
+still_cases (b ∷ up) down c e = inl (λ none. absurd cc)
+still_cases [] down (Some call) e = inr (refl, inl (call, refl))
+still_cases [] [] None e = absurd cc
+still_cases [] (b ∷ down) None e = inr (refl, inr (refl, λ none. absurd cc))
 
 -- if something moves on the link
-moves-less : (s : Setting) → StepsKeepTypes s → AnswersCalls s → (link : ℕ) (d : Drill) → Good s link d → is_still s d link ≡ false → IsLess (work_left s (after_moves s link d) link) (work_left s d link)
+moves_less : (s : Setting) → StepsKeepTypes s → AnswersCalls s → (link : ℕ) (d : Drill) → Good s link d → is_still s d link ≡ false → IsLess (work_left s (after_moves s link d) link) (work_left s d link)
 unfolding after_moves after_all_work is_still
-moves-less s types answers link d g e = by (still-cases (pipes_of link d).up (pipes_of link d).down (waiting_call s link d.marks) e)
+moves_less s types answers link d g e = by (still_cases (pipes_of link d).up (pipes_of link d).down (waiting_call s link d.marks) e)
   where
     ready_after : Drill → ℕ
     ready_after x = length (server (s.opened link) link x.marks).state.ready
@@ -329,24 +329,24 @@ moves-less s types answers link d g e = by (still-cases (pipes_of link d).up (pi
     Goal x = IsLess (work_left s (after_all_down s link (after_calls s link (ready_after x) x)) link) (work_left s d link)
 
     idle : (pipes_of link d).up ≡ [] → Goal d → Goal one
-    idle none goal = subst Goal (sym (idle-up s link d g.0 none)) goal
+    idle none goal = subst Goal (sym (idle_up s link d g.0 none)) goal
 
     by : ((pipes_of link d).up ≢ []) ⊎ (((pipes_of link d).up ≡ []) × (((call : ReadyCall) × (waiting_call s link d.marks ≡ Some call)) ⊎ ((waiting_call s link d.marks ≡ None) × ((pipes_of link d).down ≢ [])))) → Goal one
     by (inl some) =
         let two = after_calls s link (ready_after one) one in
-        let g_one = good-step s types link AllUp d g in
-        then-less (work_left s (after_all_down s link two) link) (work_left s one link) (work_left s d link)
-        (not-more (work_left s (after_all_down s link two) link) (work_left s two link) (work_left s one link) (down-not-more s types link two (calls-good s types link (ready_after one) one g_one)) (calls-not-more s answers link (ready_after one) one g_one.0))
-        (up-less s link d (running-keeps s link d g.0) g.0.room g.0.server_heard some)
+        let g_one = good_step s types link AllUp d g in
+        then_less (work_left s (after_all_down s link two) link) (work_left s one link) (work_left s d link)
+        (not_more_lem (work_left s (after_all_down s link two) link) (work_left s two link) (work_left s one link) (down_not_more s types link two (calls_good s types link (ready_after one) one g_one)) (calls_not_more s answers link (ready_after one) one g_one.0))
+        (up_less_lem s link d (running_keeps s link d g.0) g.0.room g.0.server_heard some)
     by (inr (none, inl (call, is))) =
         let two = after_calls s link (ready_after d) d in
         idle none
-        (then-less (work_left s (after_all_down s link two) link) (work_left s two link) (work_left s d link) (down-not-more s types link two (calls-good s types link (ready_after d) d g))
-        (calls-less s answers link (ready_after d) d call (some-ready s link d call is) g.0 is))
+        (then_less (work_left s (after_all_down s link two) link) (work_left s two link) (work_left s d link) (down_not_more s types link two (calls_good s types link (ready_after d) d g))
+        (calls_less s answers link (ready_after d) d call (some_ready s link d call is) g.0 is))
     by (inr (none, inr (waits, some))) =
         idle none
-        (subst (λ (x : Drill). IsLess (work_left s (after_all_down s link x) link) (work_left s d link)) (sym (calls-idle s link (ready_after d) d waits))
-        (down-less s link d (running-keeps s link d g.0) (running-carries s link d g.0) g.0.client_heard some (types link AllDown d g.0 g.1)))
+        (subst (λ (x : Drill). IsLess (work_left s (after_all_down s link x) link) (work_left s d link)) (sym (calls_idle s link (ready_after d) d waits))
+        (down_less_lem s link d (running_keeps s link d g.0) (running_carries s link d g.0) g.0.client_heard some (types link AllDown d g.0 g.1)))
 
 -- ===== a round
 
@@ -366,8 +366,8 @@ all_left s (l ∷ links) d = work_left s d l ++ all_left s links d
 apart_pipes : (a b : ℕ) → 1 ≤ a → 1 ≤ b → a ≢ b → a - 1 ≢ b - 1
 apart_pipes a b one also ne = λ same. ne (let x = one in let y = also in let z = same in omega (arith, x, y, z))
 
-alone-through : (s : Setting) (link : ℕ) (a b c : Drill) → LeftAlone s link a b → LeftAlone s link b c → LeftAlone s link a c
-alone-through s link a b c x y = record {
+alone_through : (s : Setting) (link : ℕ) (a b c : Drill) → LeftAlone s link a b → LeftAlone s link b c → LeftAlone s link a c
+alone_through s link a b c x y = record {
   client_is = y.client_is ∙ x.client_is;
   server_is = y.server_is ∙ x.server_is;
   due = y.due ∙ x.due;
@@ -377,27 +377,27 @@ alone-through s link a b c x y = record {
   dropped = y.dropped ∙ x.dropped;
 }
 
-moves-leave : (s : Setting) (link l : ℕ) (d : Drill) → 1 ≤ link → 1 ≤ l → l ≢ link → LeftAlone s link d (after_moves s l d)
-moves-leave s link l d one some ne = left-alone s link l d (after_moves s l d) ne (λ same. apart_pipes l link some one ne (sym same)) (moves-adds s l d)
+moves_leave : (s : Setting) (link l : ℕ) (d : Drill) → 1 ≤ link → 1 ≤ l → l ≢ link → LeftAlone s link d (after_moves s l d)
+moves_leave s link l d one some ne = left_alone_lem s link l d (after_moves s l d) ne (λ same. apart_pipes l link some one ne (sym same)) (moves_adds s l d)
 
-round-leaves : (s : Setting) (link : ℕ) (links : List ℕ) (d : Drill) → 1 ≤ link → AllByRecursion (λ (k : ℕ). (1 ≤ k) × (k ≢ link)) links → LeftAlone s link d (after_round s links d)
-round-leaves s link [] d one others = record { client_is = refl; server_is = refl; due = refl; sent = refl; got = refl; pipes = refl; dropped = refl }
-round-leaves s link (l ∷ links) d one others =
-    alone-through s link d (after_moves s l d) (after_round s links (after_moves s l d)) (moves-leave s link l d one others.0.0 others.0.1) (round-leaves s link links (after_moves s l d) one others.1)
+round_leaves : (s : Setting) (link : ℕ) (links : List ℕ) (d : Drill) → 1 ≤ link → AllByRecursion (λ (k : ℕ). (1 ≤ k) × (k ≢ link)) links → LeftAlone s link d (after_round s links d)
+round_leaves s link [] d one others = record { client_is = refl; server_is = refl; due = refl; sent = refl; got = refl; pipes = refl; dropped = refl }
+round_leaves s link (l ∷ links) d one others =
+    alone_through s link d (after_moves s l d) (after_round s links (after_moves s l d)) (moves_leave s link l d one others.0.0 others.0.1) (round_leaves s link links (after_moves s l d) one others.1)
 
-all-same : (s : Setting) (l : ℕ) (links : List ℕ) (d : Drill) → 1 ≤ l → AllByRecursion (λ (k : ℕ). (1 ≤ k) × (k ≢ l)) links →
+all_same : (s : Setting) (l : ℕ) (links : List ℕ) (d : Drill) → 1 ≤ l → AllByRecursion (λ (k : ℕ). (1 ≤ k) × (k ≢ l)) links →
     (all_left s links (after_moves s l d) ≡ all_left s links d) × (list_all (is_still s (after_moves s l d)) links ≡ list_all (is_still s d) links)
-all-same s l [] d one others = (refl, refl)
-all-same s l (k ∷ links) d one others =
-    let a = moves-leave s k l d others.0.0 one (λ same. others.0.1 (sym same)) in
-    let rest = all-same s l links d one others.1 in
-    ((λ i. same-left s k d (after_moves s l d) a i ++ rest.0 i), (λ i. same-still s k d (after_moves s l d) a i && rest.1 i))
+all_same s l [] d one others = (refl, refl)
+all_same s l (k ∷ links) d one others =
+    let a = moves_leave s k l d others.0.0 one (λ same. others.0.1 (sym same)) in
+    let rest = all_same s l links d one others.1 in
+    ((λ i. same_left_lem s k d (after_moves s l d) a i ++ rest.0 i), (λ i. same_still s k d (after_moves s l d) a i && rest.1 i))
 
-others-run : (s : Setting) (l : ℕ) (links : List ℕ) (d : Drill) → 1 ≤ l → AllByRecursion (λ (k : ℕ). (1 ≤ k) × (k ≢ l)) links → AllRun s links d → AllRun s links (after_moves s l d)
-others-run s l [] d one others r = tt
-others-run s l (k ∷ links) d one others r = (
-  other-runs s k l d (after_moves s l d) (λ same. others.0.1 (sym same)) (apart_pipes k l others.0.0 one others.0.1) (moves-adds s l d) r.0,
-  others-run s l links d one others.1 r.1,
+others_run : (s : Setting) (l : ℕ) (links : List ℕ) (d : Drill) → 1 ≤ l → AllByRecursion (λ (k : ℕ). (1 ≤ k) × (k ≢ l)) links → AllRun s links d → AllRun s links (after_moves s l d)
+others_run s l [] d one others r = tt
+others_run s l (k ∷ links) d one others r = (
+  other_runs s k l d (after_moves s l d) (λ same. others.0.1 (sym same)) (apart_pipes k l others.0.0 one others.0.1) (moves_adds s l d) r.0,
+  others_run s l links d one others.1 r.1,
 )
 
 -- the links of a round still run after it, and the marks are of their types
@@ -405,46 +405,46 @@ record RoundGood (s : Setting) (links : List ℕ) (new : Drill) : Type 0 where
   run : AllRun s links new
   typed : IsTyped new.marks
 
-round-runs : (s : Setting) (link : ℕ) (links : List ℕ) (d : Drill) → 1 ≤ link → AllByRecursion (λ (k : ℕ). (1 ≤ k) × (k ≢ link)) links → IsRunning s link d → IsRunning s link (after_round s links d)
-round-runs s link [] d one others r = r
-round-runs s link (l ∷ links) d one others r =
-    round-runs s link links (after_moves s l d) one others.1
-    (other-runs s link l d (after_moves s l d) others.0.1 (λ same. apart_pipes l link others.0.0 one others.0.1 (sym same)) (moves-adds s l d) r)
+round_runs : (s : Setting) (link : ℕ) (links : List ℕ) (d : Drill) → 1 ≤ link → AllByRecursion (λ (k : ℕ). (1 ≤ k) × (k ≢ link)) links → IsRunning s link d → IsRunning s link (after_round s links d)
+round_runs s link [] d one others r = r
+round_runs s link (l ∷ links) d one others r =
+    round_runs s link links (after_moves s l d) one others.1
+    (other_runs s link l d (after_moves s l d) others.0.1 (λ same. apart_pipes l link others.0.0 one others.0.1 (sym same)) (moves_adds s l d) r)
 
-round-good : (s : Setting) → StepsKeepTypes s → (links : List ℕ) (d : Drill) → AreApart links → AllRun s links d → IsTyped d.marks → RoundGood s links (after_round s links d)
-round-good s types [] d apart r t = record { run = tt; typed = t }
-round-good s types (l ∷ links) d apart r t =
+round_good : (s : Setting) → StepsKeepTypes s → (links : List ℕ) (d : Drill) → AreApart links → AllRun s links d → IsTyped d.marks → RoundGood s links (after_round s links d)
+round_good s types [] d apart r t = record { run = tt; typed = t }
+round_good s types (l ∷ links) d apart r t =
     let mid = after_moves s l d in
-    let g = moves-good s types l d (r.0, t) in
-    let rest = round-good s types links mid apart.2 (others-run s l links d apart.0 apart.1 r.1) g.1 in
-    record { run = (round-runs s l links mid apart.0 apart.1 g.0, rest.run); typed = rest.typed }
+    let g = moves_good s types l d (r.0, t) in
+    let rest = round_good s types links mid apart.2 (others_run s l links d apart.0 apart.1 r.1) g.1 in
+    record { run = (round_runs s l links mid apart.0 apart.1 g.0, rest.run); typed = rest.typed }
 
-not-all : (a b : Bool) → a && b ≡ false → (a ≡ false) ⊎ (b ≡ false)
-not-all true b e = inr e
-not-all false b e = inl refl
+not_all : (a b : Bool) → a && b ≡ false → (a ≡ false) ⊎ (b ≡ false)
+not_all true b e = inr e
+not_all false b e = inl refl
 
-both-lists : (a b x y : List ℕ) → NotMore a b → NotMore x y → NotMore (a ++ x) (b ++ y)
-both-lists a b x y (inr h) f = inr (less-front a b x y h)
-both-lists a b x y (inl e) (inl f) = inl (λ i. e i ++ f i)
-both-lists a b x y (inl e) (inr g) = inr (subst (λ (z : List ℕ). IsLess (z ++ x) (b ++ y)) (sym e) (less-behind b x y g))
+both_lists : (a b x y : List ℕ) → NotMore a b → NotMore x y → NotMore (a ++ x) (b ++ y)
+both_lists a b x y (inr h) f = inr (less_front a b x y h)
+both_lists a b x y (inl e) (inl f) = inl (λ i. e i ++ f i)
+both_lists a b x y (inl e) (inr g) = inr (subst (λ (z : List ℕ). IsLess (z ++ x) (b ++ y)) (sym e) (less_behind b x y g))
 
-later-list : (a b x y : List ℕ) → NotMore a b → IsLess x y → IsLess (a ++ x) (b ++ y)
-later-list a b x y (inr h) g = less-front a b x y h
-later-list a b x y (inl e) g = subst (λ (z : List ℕ). IsLess (z ++ x) (b ++ y)) (sym e) (less-behind b x y g)
+later_list : (a b x y : List ℕ) → NotMore a b → IsLess x y → IsLess (a ++ x) (b ++ y)
+later_list a b x y (inr h) g = less_front a b x y h
+later_list a b x y (inl e) g = subst (λ (z : List ℕ). IsLess (z ++ x) (b ++ y)) (sym e) (less_behind b x y g)
 
 record RoundLess (s : Setting) (links : List ℕ) (d new : Drill) : Type 0 where
   not_more : NotMore (all_left s links new) (all_left s links d)
   less : list_all (is_still s d) links ≡ false → IsLess (all_left s links new) (all_left s links d)
 
-round-less : (s : Setting) → StepsKeepTypes s → AnswersCalls s → (links : List ℕ) (d : Drill) → AreApart links → AllRun s links d → IsTyped d.marks → RoundLess s links d (after_round s links d)
-round-less s types answers [] d apart r t = record { not_more = inl refl; less = λ e. absurd (wrong e) }
+round_less : (s : Setting) → StepsKeepTypes s → AnswersCalls s → (links : List ℕ) (d : Drill) → AreApart links → AllRun s links d → IsTyped d.marks → RoundLess s links d (after_round s links d)
+round_less s types answers [] d apart r t = record { not_more = inl refl; less = λ e. absurd (wrong e) }
   where
     wrong : true ≡ false → ⊥
     wrong e = absurd cc
-round-less s types answers (l ∷ links) d apart r t =
+round_less s types answers (l ∷ links) d apart r t =
     let mid = after_moves s l d in
-    let g = moves-good s types l d (r.0, t) in
-    by (round-less s types answers links mid apart.2 (others-run s l links d apart.0 apart.1 r.1) g.1)
+    let g = moves_good s types l d (r.0, t) in
+    by (round_less s types answers links mid apart.2 (others_run s l links d apart.0 apart.1 r.1) g.1)
   where
     mid : Drill
     mid = after_moves s l d
@@ -453,26 +453,26 @@ round-less s types answers (l ∷ links) d apart r t =
     new = after_round s links mid
 
     own : work_left s new l ≡ work_left s mid l
-    own = same-left s l mid new (round-leaves s l links mid apart.0 apart.1)
+    own = same_left_lem s l mid new (round_leaves s l links mid apart.0 apart.1)
 
     same : (all_left s links mid ≡ all_left s links d) × (list_all (is_still s mid) links ≡ list_all (is_still s d) links)
-    same = all-same s l links d apart.0 apart.1
+    same = all_same s l links d apart.0 apart.1
 
     front : NotMore (work_left s new l) (work_left s d l)
-    front = not-more (work_left s new l) (work_left s mid l) (work_left s d l) (inl own) (moves-not-more s types answers l d (r.0, t))
+    front = not_more_lem (work_left s new l) (work_left s mid l) (work_left s d l) (inl own) (moves_not_more s types answers l d (r.0, t))
 
     by : RoundLess s links mid new → RoundLess s (l ∷ links) d new
     by rest = record {
-      not_more = both-lists (work_left s new l) (work_left s d l) (all_left s links new) (all_left s links d) front (subst (λ (x : List ℕ). NotMore (all_left s links new) x) same.0 rest.not_more);
-      less = λ e. which (not-all (is_still s d l) (list_all (is_still s d) links) e);
+      not_more = both_lists (work_left s new l) (work_left s d l) (all_left s links new) (all_left s links d) front (subst (λ (x : List ℕ). NotMore (all_left s links new) x) same.0 rest.not_more);
+      less = λ e. which (not_all (is_still s d l) (list_all (is_still s d) links) e);
     }
       where
         which : (is_still s d l ≡ false) ⊎ (list_all (is_still s d) links ≡ false) → IsLess (all_left s (l ∷ links) new) (all_left s (l ∷ links) d)
         which (inl moves) =
-            less-front (work_left s new l) (work_left s d l) (all_left s links new) (all_left s links d)
-            (subst (λ (x : List ℕ). IsLess x (work_left s d l)) (sym own) (moves-less s types answers l d (r.0, t) moves))
+            less_front (work_left s new l) (work_left s d l) (all_left s links new) (all_left s links d)
+            (subst (λ (x : List ℕ). IsLess x (work_left s d l)) (sym own) (moves_less s types answers l d (r.0, t) moves))
         which (inr later) =
-            later-list (work_left s new l) (work_left s d l) (all_left s links new) (all_left s links d) front
+            later_list (work_left s new l) (work_left s d l) (all_left s links new) (all_left s links d) front
             (subst (λ (x : List ℕ). IsLess (all_left s links new) x) same.0 (rest.less (same.1 ∙ later)))
 
 -- ===== a drain ends
@@ -481,17 +481,17 @@ six : (s : Setting) (link : ℕ) (d : Drill) → length (work_left s d link) ≡
 unfolding work_left
 six s link d = refl
 
-all-long : (s : Setting) (links : List ℕ) (d : Drill) → length (all_left s links d) ≡ 6 * length links
-all-long s [] d = refl
-all-long s (l ∷ links) d = omega (arith, length-append (work_left s d l) (all_left s links d), six s l d, all-long s links d)
+all_long : (s : Setting) (links : List ℕ) (d : Drill) → length (all_left s links d) ≡ 6 * length links
+all_long s [] d = refl
+all_long s (l ∷ links) d = omega (arith, length-append (work_left s d l) (all_left s links d), six s l d, all_long s links d)
 
 Ends : Setting → List ℕ → Drill → Type 0
 Ends s links d = (rounds : ℕ) × (new : Drill) × Drains s links rounds d new
 
 -- If the server has a reply to each call that waits, and steps keep marks of their types: a number of rounds, and nothing moves on any of the links.
-pub drain-ends : (s : Setting) (links : List ℕ) → AreApart links → StepsKeepTypes s → AnswersCalls s → (d : Drill) → AllRun s links d → IsTyped d.marks → (rounds : ℕ) × (new : Drill) × Drains s links rounds d new
+pub drain_ends : (s : Setting) (links : List ℕ) → AreApart links → StepsKeepTypes s → AnswersCalls s → (d : Drill) → AllRun s links d → IsTyped d.marks → (rounds : ℕ) × (new : Drill) × Drains s links rounds d new
 unfolding Ends
-drain-ends s links apart types answers d r t = by_less (6 * length links) P step (all_left s links d) (all-long s links d) d refl r t
+drain_ends s links apart types answers d r t = by_less (6 * length links) P step (all_left s links d) (all_long s links d) d refl r t
   where
     P : List ℕ → Type 0
     P x = (d : Drill) → all_left s links d ≡ x → AllRun s links d → IsTyped d.marks → Ends s links d
@@ -503,46 +503,46 @@ drain-ends s links apart types answers d r t = by_less (6 * length links) P step
         by true e = (zero, d, (e, refl))
         by false e =
             let new = after_round s links d in
-            let good = round-good s types links d apart r t in
-            let fewer = (round-less s types answers links d apart r t).less e in
-            let rest = less (all_left s links new) (all-long s links new) (subst (λ (y : List ℕ). IsLess (all_left s links new) y) is fewer) new refl good.run good.typed in
+            let good = round_good s types links d apart r t in
+            let fewer = (round_less s types answers links d apart r t).less e in
+            let rest = less (all_left s links new) (all_long s links new) (subst (λ (y : List ℕ). IsLess (all_left s links new) y) is fewer) new refl good.run good.typed in
             (suc rest.0, rest.1, (e, rest.2))
 
 -- ===== of a script
 
-range-others : (low from n : ℕ) → low < from → AllByRecursion (λ (k : ℕ). (1 ≤ k) × (k ≢ low)) (range_with_len from n)
-range-others low from zero lt = tt
-range-others low from (suc n) lt = ((omega (arith, lt), λ same. absurd (omega (arith, lt, same))), range-others low (from + 1) n (omega (arith, lt)))
+range_others : (low from n : ℕ) → low < from → AllByRecursion (λ (k : ℕ). (1 ≤ k) × (k ≢ low)) (range_with_len from n)
+range_others low from zero lt = tt
+range_others low from (suc n) lt = ((omega (arith, lt), λ same. absurd (omega (arith, lt, same))), range_others low (from + 1) n (omega (arith, lt)))
 
-range-apart : (from n : ℕ) → 1 ≤ from → AreApart (range_with_len from n)
-range-apart from zero some = tt
-range-apart from (suc n) some = (some, range-others from (from + 1) n (omega arith), range-apart (from + 1) n (omega (arith, some)))
+range_apart : (from n : ℕ) → 1 ≤ from → AreApart (range_with_len from n)
+range_apart from zero some = tt
+range_apart from (suc n) some = (some, range_others from (from + 1) n (omega arith), range_apart (from + 1) n (omega (arith, some)))
 
-range-all : (P : ℕ → Type 0) (most from n : ℕ) → ((l : ℕ) → 1 ≤ l → l ≤ most → P l) → 1 ≤ from → from + n ≤ most + 1 → AllByRecursion P (range_with_len from n)
-range-all P most from zero h some le = tt
-range-all P most from (suc n) h some le = (h from some (omega (arith, le)), range-all P most (from + 1) n h (omega (arith, some)) (omega (arith, le)))
+range_all : (P : ℕ → Type 0) (most from n : ℕ) → ((l : ℕ) → 1 ≤ l → l ≤ most → P l) → 1 ≤ from → from + n ≤ most + 1 → AllByRecursion P (range_with_len from n)
+range_all P most from zero h some le = tt
+range_all P most from (suc n) h some le = (h from some (omega (arith, le)), range_all P most (from + 1) n h (omega (arith, some)) (omega (arith, le)))
 
 pub drains_end : DrainsEnd
 drains_end server script is raw replies answers before after cut mid typed made =
     let s = setting_of server script.opening in
     let types = steps_keep_types s replies in
     let clients = script.opening.clients in
-    drain-ends s (links_of clients) (range-apart 1 clients (omega arith)) types answers mid
-    (range-all (λ (l : ℕ). IsRunning s l mid) clients 1 clients (λ l low high. script-runs server script is l (low, high) (raw l (low, high)) before after cut mid made) (omega arith) (omega arith)) typed
+    drain_ends s (links_of clients) (range_apart 1 clients (omega arith)) types answers mid
+    (range_all (λ (l : ℕ). IsRunning s l mid) clients 1 clients (λ l low high. script_runs server script is l (low, high) (raw l (low, high)) before after cut mid made) (omega arith) (omega arith)) typed
 
 -- ===== if no outcome is due, a step that adds a mark moves something
 
-idle-all : (s : Setting) (link : ℕ) (d : Drill) → IsRunning s link d → outcomes_due (s.opened link) link d.marks ≡ [] → (pipes_of link d).down ≡ [] → after_all_down s link d ≡ d
+idle_all : (s : Setting) (link : ℕ) (d : Drill) → IsRunning s link d → outcomes_due (s.opened link) link d.marks ≡ [] → (pipes_of link d).down ≡ [] → after_all_down s link d ≡ d
 unfolding after_down after_outcomes
-idle-all s link d r due none =
+idle_all s link d r due none =
     let down = (pipes_of link d).down in
     let n = length down in
     let rest : Pipes = record (pipes_of link d) { down = drop n down } in
     let nothing : take n down ≡ [] = take_all n down (omega arith) ∙ none in
     ap (λ (xs : List ℕ). settled s link (after_outcomes s link (after_feeding link Initiator xs rest d))) nothing
-    ∙ ap (λ (cs : List CompletedCall). settled s link (after_dones s link (length cs) d)) due ∙ settled-same s link d (running-keeps s link d r).1
+    ∙ ap (λ (cs : List CompletedCall). settled s link (after_dones s link (length cs) d)) due ∙ settled_same s link d (running_keeps s link d r).1
 
-pub moves-if : (s : Setting) (link : ℕ) (step : DrainStep) (d : Drill) → IsRunning s link d → outcomes_due (s.opened link) link d.marks ≡ [] → (after_step s link step d).marks ≢ d.marks → Moves s link step d
-moves-if s link AllUp d r due moved = λ none. moved (ap (λ (x : Drill). x.marks) (idle-up s link d r none))
-moves-if s link Work d r due moved = moved
-moves-if s link AllDown d r due moved = λ none. moved (ap (λ (x : Drill). x.marks) (idle-all s link d r due none))
+pub moves_if : (s : Setting) (link : ℕ) (step : DrainStep) (d : Drill) → IsRunning s link d → outcomes_due (s.opened link) link d.marks ≡ [] → (after_step s link step d).marks ≢ d.marks → Moves s link step d
+moves_if s link AllUp d r due moved = λ none. moved (ap (λ (x : Drill). x.marks) (idle_up s link d r none))
+moves_if s link Work d r due moved = moved
+moves_if s link AllDown d r due moved = λ none. moved (ap (λ (x : Drill). x.marks) (idle_all s link d r due none))

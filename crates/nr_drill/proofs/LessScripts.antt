@@ -8,7 +8,7 @@ use Rattle.nr_wire.specs.declared.hello.Side.{Side}
 use Rattle.nr_wire.specs.declared.hello.Side.TheVariants.{Initiator, Responder}
 use Rattle.nr_wire.specs.declared.stream.Awaited.TheVariants.{Hello as HelloFrom, Fpdu}
 use Rattle.nr_wire.specs.Stream.{Split, split}
-use Rattle.nr_wire.proofs.Splits.{split-frame}
+use Rattle.nr_wire.proofs.Splits.{split_frame}
 use Rattle.nr_link.specs.declared.end.End.{End}
 use Rattle.nr_link.specs.Frames.{Frame, frames_from, frames_of, frames_completed}
 use Rattle.nr_link.specs.Output.{own_hello}
@@ -17,17 +17,17 @@ use Rattle.nr_reduce.specs.declared.mark.Mark.TheVariants as marks
 use Rattle.nr_reduce.specs.declared.mark.LinkParameters.{LinkParameters}
 use Rattle.nr_reduce.specs.declared.call.Call.{Call}
 use Rattle.nr_reduce.specs.History.{bytes_received, fed_at, is_dropped}
-use Rattle.nr_reduce.specs.Events.{Event, events_at, events}
-use Rattle.nr_reduce.specs.Events.Event.{FrameReceived}
+use Rattle.nr_reduce.specs.Events.{RunEvent, events_at, events}
+use Rattle.nr_reduce.specs.Events.RunEvent.{FrameReceived}
 use Rattle.nr_reduce.specs.EndRules.{EndState, end_state_after, output_for_all, output_for_by, output_for_in, next_end_state}
 use Rattle.nr_reduce.specs.ServerState.{ServerState}
 use Rattle.nr_reduce.specs.Client.{client_rules, initial_client}
 use Rattle.nr_reduce.specs.Server.{server_rules, server_end, server_output}
 use Rattle.nr_reduce.specs.Run.{client, server, output_due}
-use Rattle.nr_reduce.proofs.Steps.{server-one, output_due_down-one}
-use Rattle.nr_reduce.proofs.Standing.{itself, received-one}
-use Rattle.nr_laws.proofs.Brought.{hello-is}
-use Rattle.nr_laws.proofs.ServerEnds.{hello-goes}
+use Rattle.nr_reduce.proofs.Steps.{server_one, output_due_down_one}
+use Rattle.nr_reduce.proofs.Standing.{itself, received_one}
+use Rattle.nr_laws.proofs.Brought.{hello_is}
+use Rattle.nr_laws.proofs.ServerEnds.{hello_goes}
 use Rattle.nr_script.specs.declared.script.Line.{Line}
 use Rattle.nr_script.specs.declared.script.Line.TheVariants as lines
 use Rattle.nr_script.specs.Script.{ScriptLines, HasWritableCred, IsScript}
@@ -37,14 +37,14 @@ use Rattle.nr_drill.specs.Follows.{after_line, Drains, Makes, MakeAll, parameter
 use Rattle.nr_drill.specs.WorkLeft.{DrainStep, after_step}
 use Rattle.nr_drill.specs.WorkLeft.DrainStep.{AllUp, Work, AllDown}
 use Rattle.nr_drill.specs.Drains.{IsRunning}
-use Rattle.nr_laws.proofs.Keys.{any-append}
-use Rattle.nr_drill.proofs.Lawful.{IsLawful, Keeps, lawful-settled, lawful-after_up, lawful-work, lawful-after_down}
-use Rattle.nr_drill.proofs.Followed.{Among, among_range, Extends, link_of, no_event, submit-adds, up-adds, down-adds, work-adds, forget-adds, revoke-adds, drop-adds, raw-adds, moves-adds, opening-adds, start-lawful, elsewhere, laws_of, opened_by_script}
-use Rattle.nr_drill.proofs.Carried.{Carries, NamesClient, opened_stands, lines-passed, all_name, neither_raw, carry-settled, carries-up, carries-down, carries-work, carries-elsewhere, same_here, IsSameHere, other_than, are_links, start-carries}
-use Rattle.nr_drill.proofs.LessWork.{leaves-through, settled-leaves, own, no-drop, same-due_down}
-use Rattle.nr_drill.proofs.LessFrames.{frames-one, completed-is, still-heard}
-use Rattle.nr_drill.proofs.LessSteps.{running-keeps, running-carries}
-use Rattle.nr_drill.proofs.LessDown.{all-written, outcomes-leave}
+use Rattle.nr_laws.proofs.DistinctKeys.{any_append}
+use Rattle.nr_drill.proofs.Lawful.{IsLawful, Keeps, lawful_settled, lawful_after_up, lawful_work, lawful_after_down}
+use Rattle.nr_drill.proofs.Followed.{Among, among_range, Extends, link_of, no_event, submit_adds, up_adds, down_adds, work_adds, forget_adds, revoke_adds, drop_adds, raw_adds, moves_adds, opening_adds, start_lawful, elsewhere, laws_of, opened_by_script}
+use Rattle.nr_drill.proofs.Carried.{Carries, NamesClient, opened_stands, lines_passed, all_name, neither_raw, carry_settled, carries_up, carries_down, carries_work, carries_elsewhere, same_here, IsSameHere, other_than, are_links, start_carries}
+use Rattle.nr_drill.proofs.LessWork.{leaves_through, settled_leaves, own, no_drop, same_due_down}
+use Rattle.nr_drill.proofs.LessFrames.{frames_one, completed_is, still_heard}
+use Rattle.nr_drill.proofs.LessSteps.{running_keeps, running_carries}
+use Rattle.nr_drill.proofs.LessDown.{all_written_lem, outcomes_leave}
 
 -- ===== each side has the hello of the other
 
@@ -52,114 +52,114 @@ pub record Heard (link : ℕ) (run : List Mark) : Type 0 where
   pub client : frames_of Responder (bytes_received link Initiator run) ≢ []
   pub server : frames_of Initiator (bytes_received link Responder run) ≢ []
 
-received-both : (link : ℕ) (side : Side) (run more : List Mark) → bytes_received link side (run ++ more) ≡ bytes_received link side run ++ bytes_received link side more
+received_both : (link : ℕ) (side : Side) (run more : List Mark) → bytes_received link side (run ++ more) ≡ bytes_received link side run ++ bytes_received link side more
 unfolding bytes_received
-received-both link side run more = flat_map-append (fed_at link side) run more
+received_both link side run more = flat_map-append (fed_at link side) run more
 
-pub heard-more : (link : ℕ) (run more : List Mark) → Heard link run → Heard link (run ++ more)
-heard-more link run more h = record {
-  client = subst (λ (xs : List ℕ). frames_of Responder xs ≢ []) (sym (received-both link Initiator run more)) (still-heard Responder (bytes_received link Initiator run) (bytes_received link Initiator more) h.client);
-  server = subst (λ (xs : List ℕ). frames_of Initiator xs ≢ []) (sym (received-both link Responder run more)) (still-heard Initiator (bytes_received link Responder run) (bytes_received link Responder more) h.server);
+pub heard_more : (link : ℕ) (run more : List Mark) → Heard link run → Heard link (run ++ more)
+heard_more link run more h = record {
+  client = subst (λ (xs : List ℕ). frames_of Responder xs ≢ []) (sym (received_both link Initiator run more)) (still_heard Responder (bytes_received link Initiator run) (bytes_received link Initiator more) h.client);
+  server = subst (λ (xs : List ℕ). frames_of Initiator xs ≢ []) (sym (received_both link Responder run more)) (still_heard Initiator (bytes_received link Responder run) (bytes_received link Responder more) h.server);
 }
 
-pub heard-by : (link acted : ℕ) (old new : Drill) → Extends acted old new → Heard link old.marks → Heard link new.marks
-heard-by link acted old new x h = subst (Heard link) (sym x.marks.is) (heard-more link old.marks x.marks.added h)
+pub heard_by_lem : (link acted : ℕ) (old new : Drill) → Extends acted old new → Heard link old.marks → Heard link new.marks
+heard_by_lem link acted old new x h = subst (Heard link) (sym x.marks.is) (heard_more link old.marks x.marks.added h)
 
-line-heard : (s : Setting) (link : ℕ) (line : Line) (d : Drill) → Heard link d.marks → Heard link (after_line s line d).marks
-line-heard s link (lines.Cred client cred) d h = h
-line-heard s link (lines.Call client form prog vers proc args) d h =
+line_heard : (s : Setting) (link : ℕ) (line : Line) (d : Drill) → Heard link d.marks → Heard link (after_line s line d).marks
+line_heard s link (lines.Cred client cred) d h = h
+line_heard s link (lines.Call client form prog vers proc args) d h =
     let call : Call = record { prog = prog; vers = vers; proc = proc; cred = cred_of client d; args = args } in
-    heard-by link client d (after_submit s client call form d) (submit-adds s client call form d) h
-line-heard s link (lines.Up client most) d h = heard-by link client d (after_up s client most d) (up-adds s client most d) h
-line-heard s link (lines.Down client most) d h = heard-by link client d (after_down s client most d) (down-adds s client most d) h
-line-heard s link (lines.Work client) d h = heard-by link client d (after_work s client d) (work-adds s client d) h
-line-heard s link (lines.Tick seconds) d h = h
-line-heard s link (lines.Forget client number) d h = heard-by link client d (after_forget s client number d) (forget-adds s client number d) h
-line-heard s link (lines.Revoke client number) d h = heard-by link client d (after_revoke s client number d) (revoke-adds s client number d) h
-line-heard s link (lines.Drop client) d h = heard-by link client d (after_drop client d) (drop-adds client d) h
-line-heard s link (lines.Raw client side bytes) d h = heard-by link client d (after_raw client side bytes (is_dropped client d.marks) d) (raw-adds client side bytes (is_dropped client d.marks) d) h
-line-heard s link lines.Drain d h = h
+    heard_by_lem link client d (after_submit s client call form d) (submit_adds s client call form d) h
+line_heard s link (lines.Up client most) d h = heard_by_lem link client d (after_up s client most d) (up_adds s client most d) h
+line_heard s link (lines.Down client most) d h = heard_by_lem link client d (after_down s client most d) (down_adds s client most d) h
+line_heard s link (lines.Work client) d h = heard_by_lem link client d (after_work s client d) (work_adds s client d) h
+line_heard s link (lines.Tick seconds) d h = h
+line_heard s link (lines.Forget client number) d h = heard_by_lem link client d (after_forget s client number d) (forget_adds s client number d) h
+line_heard s link (lines.Revoke client number) d h = heard_by_lem link client d (after_revoke s client number d) (revoke_adds s client number d) h
+line_heard s link (lines.Drop client) d h = heard_by_lem link client d (after_drop client d) (drop_adds client d) h
+line_heard s link (lines.Raw client side bytes) d h = heard_by_lem link client d (after_raw client side bytes (is_dropped client d.marks) d) (raw_adds client side bytes (is_dropped client d.marks) d) h
+line_heard s link lines.Drain d h = h
 
-round-heard : (s : Setting) (link : ℕ) (links : List ℕ) (d : Drill) → Heard link d.marks → Heard link (after_round s links d).marks
-round-heard s link [] d h = h
-round-heard s link (l ∷ links) d h = round-heard s link links (after_moves s l d) (heard-by link l d (after_moves s l d) (moves-adds s l d) h)
+round_heard : (s : Setting) (link : ℕ) (links : List ℕ) (d : Drill) → Heard link d.marks → Heard link (after_round s links d).marks
+round_heard s link [] d h = h
+round_heard s link (l ∷ links) d h = round_heard s link links (after_moves s l d) (heard_by_lem link l d (after_moves s l d) (moves_adds s l d) h)
 
-pub drain-heard : (s : Setting) (link : ℕ) (links : List ℕ) (rounds : ℕ) (old new : Drill) → Drains s links rounds old new → Heard link old.marks → Heard link new.marks
-drain-heard s link links zero old new drains h = subst (λ (d : Drill). Heard link d.marks) (sym drains.1) h
-drain-heard s link links (suc rounds) old new drains h = drain-heard s link links rounds (after_round s links old) new drains.1 (round-heard s link links old h)
+pub drain_heard : (s : Setting) (link : ℕ) (links : List ℕ) (rounds : ℕ) (old new : Drill) → Drains s links rounds old new → Heard link old.marks → Heard link new.marks
+drain_heard s link links zero old new drains h = subst (λ (d : Drill). Heard link d.marks) (sym drains.1) h
+drain_heard s link links (suc rounds) old new drains h = drain_heard s link links rounds (after_round s links old) new drains.1 (round_heard s link links old h)
 
-made-heard : (s : Setting) (clients link : ℕ) (line : Line) (old new : Drill) → Makes s clients line old new → Heard link old.marks → Heard link new.marks
-made-heard s clients link (lines.Cred client cred) old new e h = subst (λ (d : Drill). Heard link d.marks) (sym e) (line-heard s link (lines.Cred client cred) old h)
-made-heard s clients link (lines.Call client form prog vers proc args) old new e h = subst (λ (d : Drill). Heard link d.marks) (sym e) (line-heard s link (lines.Call client form prog vers proc args) old h)
-made-heard s clients link (lines.Up client most) old new e h = subst (λ (d : Drill). Heard link d.marks) (sym e) (line-heard s link (lines.Up client most) old h)
-made-heard s clients link (lines.Down client most) old new e h = subst (λ (d : Drill). Heard link d.marks) (sym e) (line-heard s link (lines.Down client most) old h)
-made-heard s clients link (lines.Work client) old new e h = subst (λ (d : Drill). Heard link d.marks) (sym e) (line-heard s link (lines.Work client) old h)
-made-heard s clients link (lines.Tick seconds) old new e h = subst (λ (d : Drill). Heard link d.marks) (sym e) (line-heard s link (lines.Tick seconds) old h)
-made-heard s clients link (lines.Forget client number) old new e h = subst (λ (d : Drill). Heard link d.marks) (sym e) (line-heard s link (lines.Forget client number) old h)
-made-heard s clients link (lines.Revoke client number) old new e h = subst (λ (d : Drill). Heard link d.marks) (sym e) (line-heard s link (lines.Revoke client number) old h)
-made-heard s clients link (lines.Drop client) old new e h = subst (λ (d : Drill). Heard link d.marks) (sym e) (line-heard s link (lines.Drop client) old h)
-made-heard s clients link (lines.Raw client side bytes) old new e h = subst (λ (d : Drill). Heard link d.marks) (sym e) (line-heard s link (lines.Raw client side bytes) old h)
-made-heard s clients link lines.Drain old new e h = drain-heard s link (links_of clients) e.0 old new e.1 h
+made_heard : (s : Setting) (clients link : ℕ) (line : Line) (old new : Drill) → Makes s clients line old new → Heard link old.marks → Heard link new.marks
+made_heard s clients link (lines.Cred client cred) old new e h = subst (λ (d : Drill). Heard link d.marks) (sym e) (line_heard s link (lines.Cred client cred) old h)
+made_heard s clients link (lines.Call client form prog vers proc args) old new e h = subst (λ (d : Drill). Heard link d.marks) (sym e) (line_heard s link (lines.Call client form prog vers proc args) old h)
+made_heard s clients link (lines.Up client most) old new e h = subst (λ (d : Drill). Heard link d.marks) (sym e) (line_heard s link (lines.Up client most) old h)
+made_heard s clients link (lines.Down client most) old new e h = subst (λ (d : Drill). Heard link d.marks) (sym e) (line_heard s link (lines.Down client most) old h)
+made_heard s clients link (lines.Work client) old new e h = subst (λ (d : Drill). Heard link d.marks) (sym e) (line_heard s link (lines.Work client) old h)
+made_heard s clients link (lines.Tick seconds) old new e h = subst (λ (d : Drill). Heard link d.marks) (sym e) (line_heard s link (lines.Tick seconds) old h)
+made_heard s clients link (lines.Forget client number) old new e h = subst (λ (d : Drill). Heard link d.marks) (sym e) (line_heard s link (lines.Forget client number) old h)
+made_heard s clients link (lines.Revoke client number) old new e h = subst (λ (d : Drill). Heard link d.marks) (sym e) (line_heard s link (lines.Revoke client number) old h)
+made_heard s clients link (lines.Drop client) old new e h = subst (λ (d : Drill). Heard link d.marks) (sym e) (line_heard s link (lines.Drop client) old h)
+made_heard s clients link (lines.Raw client side bytes) old new e h = subst (λ (d : Drill). Heard link d.marks) (sym e) (line_heard s link (lines.Raw client side bytes) old h)
+made_heard s clients link lines.Drain old new e h = drain_heard s link (links_of clients) e.0 old new e.1 h
 
-pub lines-heard : (s : Setting) (clients link : ℕ) (all : List Line) (old new : Drill) → MakeAll s clients all old new → Heard link old.marks → Heard link new.marks
-lines-heard s clients link [] old new e h = subst (λ (d : Drill). Heard link d.marks) (sym e) h
-lines-heard s clients link (line ∷ others) old new e h = lines-heard s clients link others e.0 new e.2 (made-heard s clients link line old e.0 e.1 h)
+pub lines_heard : (s : Setting) (clients link : ℕ) (all : List Line) (old new : Drill) → MakeAll s clients all old new → Heard link old.marks → Heard link new.marks
+lines_heard s clients link [] old new e h = subst (λ (d : Drill). Heard link d.marks) (sym e) h
+lines_heard s clients link (line ∷ others) old new e h = lines_heard s clients link others e.0 new e.2 (made_heard s clients link line old e.0 e.1 h)
 
 -- ===== the hello is one frame
 
 hello_frame : Side → Frame
 hello_frame side = record { at = 0; end = 0 + length (own_hello side); bytes = own_hello side }
 
-split-none : (side : Side) → (split Fpdu []).frames ≡ []
+split_none : (side : Side) → (split Fpdu []).frames ≡ []
 unfolding split
-split-none side = refl
+split_none side = refl
 
-none-framed : (side : Side) → frames_of side [] ≡ []
+none_framed : (side : Side) → frames_of side [] ≡ []
 unfolding frames_of split
-none-framed side = refl
+none_framed side = refl
 
-hello-frames : (side : Side) → frames_of side (own_hello side) ≡ hello_frame side ∷ []
+hello_frames : (side : Side) → frames_of side (own_hello side) ≡ hello_frame side ∷ []
 unfolding frames_of hello_frame
-hello-frames side =
+hello_frames side =
     ap (λ (xs : List ℕ). frames_from 0 (split (HelloFrom side) xs).frames) (sym (append-nil (own_hello side)))
-    ∙ ap (λ (s : Split). frames_from 0 s.frames) (split-frame (HelloFrom side) (own_hello side) [] (hello-is side).is_frame)
-    ∙ ap (λ (fs : List (List ℕ)). frames_from 0 (own_hello side ∷ fs)) (split-none side)
+    ∙ ap (λ (s : Split). frames_from 0 s.frames) (split_frame (HelloFrom side) (own_hello side) [] (hello_is side).is_frame)
+    ∙ ap (λ (fs : List (List ℕ)). frames_from 0 (own_hello side ∷ fs)) (split_none side)
 
-some-frame : (f : Frame) (fs more : List Frame) → fs ≡ f ∷ more → fs ≢ []
-some-frame f [] more e = absurd cc
-some-frame f (x ∷ fs) more e = λ none. absurd cc
+some_frame : (f : Frame) (fs more : List Frame) → fs ≡ f ∷ more → fs ≢ []
+some_frame f [] more e = absurd cc
+some_frame f (x ∷ fs) more e = λ none. absurd cc
 
-begins-heard : (side : Side) (stream more : List ℕ) → stream ≡ own_hello side ++ more → frames_of side stream ≢ []
-begins-heard side stream more is =
-    subst (λ (xs : List ℕ). frames_of side xs ≢ []) (sym is) (still-heard side (own_hello side) more (some-frame (hello_frame side) (frames_of side (own_hello side)) [] (hello-frames side)))
+begins_heard : (side : Side) (stream more : List ℕ) → stream ≡ own_hello side ++ more → frames_of side stream ≢ []
+begins_heard side stream more is =
+    subst (λ (xs : List ℕ). frames_of side xs ≢ []) (sym is) (still_heard side (own_hello side) more (some_frame (hello_frame side) (frames_of side (own_hello side)) [] (hello_frames side)))
 
 -- the first frame of the client that a server receives
-first-completed : (piece more : List ℕ) → piece ≡ own_hello Initiator ++ more → (fs : List Frame) × (frames_completed Initiator [] piece ≡ hello_frame Initiator ∷ fs)
-first-completed piece more is =
+first_completed : (piece more : List ℕ) → piece ≡ own_hello Initiator ++ more → (fs : List Frame) × (frames_completed Initiator [] piece ≡ hello_frame Initiator ∷ fs)
+first_completed piece more is =
     let fs = frames_completed Initiator (own_hello Initiator) more in (
       fs,
-      completed-is Initiator [] piece
-          ∙ ap (λ (old : List Frame). drop (length old) (frames_of Initiator piece)) (none-framed Initiator)
-          ∙ ap (λ (xs : List ℕ). frames_of Initiator xs) is ∙ frames-one Initiator (own_hello Initiator) more ∙ ap (λ (old : List Frame). old ++ fs) (hello-frames Initiator),
+      completed_is Initiator [] piece
+          ∙ ap (λ (old : List Frame). drop (length old) (frames_of Initiator piece)) (none_framed Initiator)
+          ∙ ap (λ (xs : List ℕ). frames_of Initiator xs) is ∙ frames_one Initiator (own_hello Initiator) more ∙ ap (λ (old : List Frame). old ++ fs) (hello_frames Initiator),
     )
 
 -- a server answers it with its own, whatever else it knows
-answers-hello : (o : LinkParameters) (r : EndState ServerState) (es : List Event) → r.ended ≡ None →
+answers_hello : (o : LinkParameters) (r : EndState ServerState) (es : List RunEvent) → r.ended ≡ None →
     (more : List ℕ) × (output_for_all (server_rules o) r (FrameReceived (hello_frame Initiator) ∷ es) ≡ own_hello Responder ++ more)
 unfolding server_output hello_frame
-answers-hello o r es lives =
+answers_hello o r es lives =
     let event = FrameReceived (hello_frame Initiator) in
     let more = output_for_all (server_rules o) (next_end_state (server_rules o) r event) es in
-    let goes : server_end o r.state event ≡ None = hello-goes o r.state (hello_frame Initiator) refl refl in (
+    let goes : server_end o r.state event ≡ None = hello_goes o r.state (hello_frame Initiator) refl refl in (
       more,
       ap (λ (xs : List ℕ). xs ++ more)
           (ap (λ (e : Option End). output_for_in (server_rules o) r.state event e) lives
           ∙ ap (λ (e : Option End). output_for_by (server_rules o) r.state event e) goes),
     )
 
-client-begins : (o : LinkParameters) (link : ℕ) (run : List Mark) → (more : List ℕ) × (output_due o link Initiator run ≡ own_hello Initiator ++ more)
+client_begins_lem : (o : LinkParameters) (link : ℕ) (run : List Mark) → (more : List ℕ) × (output_due o link Initiator run ≡ own_hello Initiator ++ more)
 unfolding output_due
-client-begins o link run = (output_for_all (client_rules o) (initial_client o) (events link Initiator run), refl)
+client_begins_lem o link run = (output_for_all (client_rules o) (initial_client o) (events link Initiator run), refl)
 
 -- ===== a link opens
 
@@ -169,69 +169,69 @@ pub record Fresh (o : LinkParameters) (link : ℕ) (run : List Mark) : Type 0 wh
   pub lives : (server o link run).ended ≡ None
   pub due : output_due o link Responder run ≡ []
 
-start-fresh : (o : LinkParameters) (link : ℕ) → Fresh o link []
+start_fresh : (o : LinkParameters) (link : ℕ) → Fresh o link []
 unfolding bytes_received server output_due events
-start-fresh o link = record { got = refl; lives = refl; due = refl }
+start_fresh o link = record { got = refl; lives = refl; due = refl }
 
-server-elsewhere : (o : LinkParameters) (link other : ℕ) (run added : List Mark) → other ≢ link → AllByRecursion (λ (mark : Mark). link_of mark ≡ other) added →
+server_elsewhere : (o : LinkParameters) (link other : ℕ) (run added : List Mark) → other ≢ link → AllByRecursion (λ (mark : Mark). link_of mark ≡ other) added →
     (server o link (run ++ added) ≡ server o link run) × (output_due o link Responder (run ++ added) ≡ output_due o link Responder run)
-server-elsewhere o link other run [] ne own = (ap (λ (r : List Mark). server o link r) (append-nil run), ap (λ (r : List Mark). output_due o link Responder r) (append-nil run))
-server-elsewhere o link other run (mark ∷ added) ne own =
+server_elsewhere o link other run [] ne own = (ap (λ (r : List Mark). server o link r) (append-nil run), ap (λ (r : List Mark). output_due o link Responder r) (append-nil run))
+server_elsewhere o link other run (mark ∷ added) ne own =
     let from : link_of mark ≢ link = (λ same. ne (sym own.0 ∙ same)) in
     let none = no_event link Responder run mark from in
-    let rest = server-elsewhere o link other (run ++ mark ∷ []) added ne own.1 in (
-      ap (λ (r : List Mark). server o link r) (sym (append_assoc run (mark ∷ []) added)) ∙ rest.0 ∙ server-one o link run mark ∙ ap (λ (es : List Event). end_state_after (server_rules o) (server o link run) es) none,
-      ap (λ (r : List Mark). output_due o link Responder r) (sym (append_assoc run (mark ∷ []) added)) ∙ rest.1 ∙ same-due_down o link run mark [] none refl,
+    let rest = server_elsewhere o link other (run ++ mark ∷ []) added ne own.1 in (
+      ap (λ (r : List Mark). server o link r) (sym (append_assoc run (mark ∷ []) added)) ∙ rest.0 ∙ server_one o link run mark ∙ ap (λ (es : List RunEvent). end_state_after (server_rules o) (server o link run) es) none,
+      ap (λ (r : List Mark). output_due o link Responder r) (sym (append_assoc run (mark ∷ []) added)) ∙ rest.1 ∙ same_due_down o link run mark [] none refl,
     )
 
-fresh-elsewhere : (o : LinkParameters) (link other : ℕ) (old new : Drill) → other ≢ link → Extends other old new → Fresh o link old.marks → Fresh o link new.marks
-fresh-elsewhere o link other old new ne x h =
-    let same = server-elsewhere o link other old.marks x.marks.added ne x.marks.own in
+fresh_elsewhere : (o : LinkParameters) (link other : ℕ) (old new : Drill) → other ≢ link → Extends other old new → Fresh o link old.marks → Fresh o link new.marks
+fresh_elsewhere o link other old new ne x h =
+    let same = server_elsewhere o link other old.marks x.marks.added ne x.marks.own in
     subst (Fresh o link) (sym x.marks.is) (record {
       got = (same_here link other old.marks x.marks.added ne x.marks.own).received Responder ∙ h.got;
       lives = ap (λ (r : EndState ServerState). r.ended) same.0 ∙ h.lives;
       due = same.1 ∙ h.due;
     })
 
-fed-got : (link : ℕ) (side : Side) (piece : List ℕ) (rest : Pipes) (d : Drill) → bytes_received link side (after_feeding link side piece rest d).marks ≡ bytes_received link side d.marks ++ piece
-fed-got link side [] rest d = sym (append-nil (bytes_received link side d.marks))
-fed-got link Initiator (b ∷ piece) rest d =
-    received-one link Initiator d.marks (marks.Fed link Initiator (b ∷ piece)) ∙ ap (λ (xs : List ℕ). bytes_received link Initiator d.marks ++ xs) (ap (λ (t : Bool). if t && true then b ∷ piece else []) (itself link))
-fed-got link Responder (b ∷ piece) rest d =
-    received-one link Responder d.marks (marks.Fed link Responder (b ∷ piece)) ∙ ap (λ (xs : List ℕ). bytes_received link Responder d.marks ++ xs) (ap (λ (t : Bool). if t && true then b ∷ piece else []) (itself link))
+fed_got : (link : ℕ) (side : Side) (piece : List ℕ) (rest : Pipes) (d : Drill) → bytes_received link side (after_feeding link side piece rest d).marks ≡ bytes_received link side d.marks ++ piece
+fed_got link side [] rest d = sym (append-nil (bytes_received link side d.marks))
+fed_got link Initiator (b ∷ piece) rest d =
+    received_one link Initiator d.marks (marks.Fed link Initiator (b ∷ piece)) ∙ ap (λ (xs : List ℕ). bytes_received link Initiator d.marks ++ xs) (ap (λ (t : Bool). if t && true then b ∷ piece else []) (itself link))
+fed_got link Responder (b ∷ piece) rest d =
+    received_one link Responder d.marks (marks.Fed link Responder (b ∷ piece)) ∙ ap (λ (xs : List ℕ). bytes_received link Responder d.marks ++ xs) (ap (λ (t : Bool). if t && true then b ∷ piece else []) (itself link))
 
-fed-standing : (link : ℕ) (side : Side) (piece : List ℕ) (rest : Pipes) (d : Drill) → is_dropped link (after_feeding link side piece rest d).marks ≡ is_dropped link d.marks
-fed-standing link side [] rest d = refl
-fed-standing link side (b ∷ piece) rest d = no-drop link d.marks (marks.Fed link side (b ∷ piece)) refl
+fed_standing : (link : ℕ) (side : Side) (piece : List ℕ) (rest : Pipes) (d : Drill) → is_dropped link (after_feeding link side piece rest d).marks ≡ is_dropped link d.marks
+fed_standing link side [] rest d = refl
+fed_standing link side (b ∷ piece) rest d = no_drop link d.marks (marks.Fed link side (b ∷ piece)) refl
 
 -- what is due to the server of the link once it is fed the client's hello
-fed-due : (o : LinkParameters) (link : ℕ) (piece more : List ℕ) (rest : Pipes) (d : Drill) → piece ≡ own_hello Initiator ++ more → Fresh o link d.marks →
+fed_due : (o : LinkParameters) (link : ℕ) (piece more : List ℕ) (rest : Pipes) (d : Drill) → piece ≡ own_hello Initiator ++ more → Fresh o link d.marks →
     (left : List ℕ) × (output_due o link Responder (after_feeding link Responder piece rest d).marks ≡ own_hello Responder ++ left)
-fed-due o link [] more rest d is h = absurd (begins-heard Initiator [] more is (none-framed Initiator))
-fed-due o link (b ∷ piece) more rest d is h =
+fed_due o link [] more rest d is h = absurd (begins_heard Initiator [] more is (none_framed Initiator))
+fed_due o link (b ∷ piece) more rest d is h =
     let run = d.marks in
     let all = b ∷ piece in
     let mark = marks.Fed link Responder all in
-    let first = first-completed all more is in
+    let first = first_completed all more is in
     let events_are : events_at link Responder run mark ≡ FrameReceived (hello_frame Initiator) ∷ map FrameReceived first.0 =
     own link (map FrameReceived (frames_completed Initiator (bytes_received link Responder run) all))
     ∙ ap (λ (got : List ℕ). map FrameReceived (frames_completed Initiator got all)) h.got ∙ ap (λ (fs : List Frame). map FrameReceived fs) first.1 in
-    let answer = answers-hello o (server o link run) (map FrameReceived first.0) h.lives in (
+    let answer = answers_hello o (server o link run) (map FrameReceived first.0) h.lives in (
       answer.0,
-      output_due_down-one o link run mark
+      output_due_down_one o link run mark
           ∙ (λ i. h.due i ++ output_for_all (server_rules o) (server o link run) (events_are i))
           ∙ answer.1,
     )
 
 -- Once a link is open each side has the hello of the other.
-opening-heard : (s : Setting) (link : ℕ) (d : Drill) → IsLawful (s.opened link) link d.marks → is_dropped link d.marks ≡ false → Carries link d → Fresh (s.opened link) link d.marks → Heard link (after_opening s link d).marks
+opening_heard : (s : Setting) (link : ℕ) (d : Drill) → IsLawful (s.opened link) link d.marks → is_dropped link d.marks ≡ false → Carries link d → Fresh (s.opened link) link d.marks → Heard link (after_opening s link d).marks
 unfolding after_opening after_up after_down
-opening-heard s link d h standing c fresh =
+opening_heard s link d h standing c fresh =
     let o = s.opened link in
     let one = settled s link d in
-    let l_one = settled-leaves s o link d in
-    let k_one = lawful-settled s link d h in
-    let c_one = carry-settled s link d standing c in
+    let l_one = settled_leaves s o link d in
+    let k_one = lawful_settled s link d h in
+    let c_one = carry_settled s link d standing c in
     let stands_one : is_dropped link one.marks ≡ false = l_one.dropped ∙ standing in
     let fresh_one : Fresh o link one.marks = record { got = l_one.got ∙ fresh.got; lives = l_one.server_end ∙ fresh.lives; due = l_one.due_down ∙ fresh.due } in
     let up = (pipes_of link one).up in
@@ -239,49 +239,49 @@ opening-heard s link d h standing c fresh =
     let fed = after_feeding_up link n one in
     let rest : Pipes = record (pipes_of link one) { up = drop n up } in
     let two = settled s link fed in
-    let l_two = settled-leaves s o link fed in
-    let k_two = lawful-after_up s link n one k_one in
-    let c_two = carries-up s link n one k_one c_one in
-    let stands_two : is_dropped link two.marks ≡ false = l_two.dropped ∙ fed-standing link Responder (take n up) rest one ∙ stands_one in
-    let begins = client-begins o link one.marks in
-    let sent : bytes_received link Responder one.marks ++ up ≡ own_hello Initiator ++ begins.0 = (c_one.carried stands_one).up ∙ (all-written s link one k_one).0 ∙ begins.1 in
+    let l_two = settled_leaves s o link fed in
+    let k_two = lawful_after_up s link n one k_one in
+    let c_two = carries_up s link n one k_one c_one in
+    let stands_two : is_dropped link two.marks ≡ false = l_two.dropped ∙ fed_standing link Responder (take n up) rest one ∙ stands_one in
+    let begins = client_begins_lem o link one.marks in
+    let sent : bytes_received link Responder one.marks ++ up ≡ own_hello Initiator ++ begins.0 = (c_one.carried stands_one).up ∙ (all_written_lem s link one k_one).0 ∙ begins.1 in
     let whole : take n up ≡ up = take_all n up (omega arith) in
     let piece : take n up ≡ own_hello Initiator ++ begins.0 = whole ∙ ap (λ (got : List ℕ). got ++ up) (sym fresh_one.got) ∙ sent in
     let got_two : bytes_received link Responder two.marks ≡ own_hello Initiator ++ begins.0 =
-    l_two.got ∙ fed-got link Responder (take n up) rest one ∙ ap (λ (xs : List ℕ). bytes_received link Responder one.marks ++ xs) whole ∙ sent in
-    let due = fed-due o link (take n up) begins.0 rest one piece fresh_one in
+    l_two.got ∙ fed_got link Responder (take n up) rest one ∙ ap (λ (xs : List ℕ). bytes_received link Responder one.marks ++ xs) whole ∙ sent in
+    let due = fed_due o link (take n up) begins.0 rest one piece fresh_one in
     let down = (pipes_of link two).down in
     let m = length down in
     let fed_two = after_feeding_down link m two in
     let rest_two : Pipes = record (pipes_of link two) { down = drop m down } in
     let three = settled s link (after_outcomes s link fed_two) in
-    let l_three = leaves-through o link fed_two.marks (after_outcomes s link fed_two).marks three.marks (outcomes-leave s o link fed_two) (settled-leaves s o link (after_outcomes s link fed_two)) in
+    let l_three = leaves_through o link fed_two.marks (after_outcomes s link fed_two).marks three.marks (outcomes_leave s o link fed_two) (settled_leaves s o link (after_outcomes s link fed_two)) in
     let got_three : bytes_received link Initiator three.marks ≡ own_hello Responder ++ due.0 =
-    l_three.heard ∙ fed-got link Initiator (take m down) rest_two two ∙ ap (λ (xs : List ℕ). bytes_received link Initiator two.marks ++ xs) (take_all m down (omega arith))
-    ∙ (c_two.carried stands_two).down ∙ (all-written s link two k_two).1 ∙ l_two.due_down ∙ due.1 in
-    let extends = down-adds s link m two in
-    let server_two : frames_of Initiator (bytes_received link Responder two.marks) ≢ [] = begins-heard Initiator (bytes_received link Responder two.marks) begins.0 got_two in
+    l_three.heard ∙ fed_got link Initiator (take m down) rest_two two ∙ ap (λ (xs : List ℕ). bytes_received link Initiator two.marks ++ xs) (take_all m down (omega arith))
+    ∙ (c_two.carried stands_two).down ∙ (all_written_lem s link two k_two).1 ∙ l_two.due_down ∙ due.1 in
+    let extends = down_adds s link m two in
+    let server_two : frames_of Initiator (bytes_received link Responder two.marks) ≢ [] = begins_heard Initiator (bytes_received link Responder two.marks) begins.0 got_two in
     record {
-      client = begins-heard Responder (bytes_received link Initiator three.marks) due.0 got_three;
+      client = begins_heard Responder (bytes_received link Initiator three.marks) due.0 got_three;
       server = subst (λ (run : List Mark). frames_of Initiator (bytes_received link Responder run) ≢ []) (sym extends.marks.is)
-          (subst (λ (xs : List ℕ). frames_of Initiator xs ≢ []) (sym (received-both link Responder two.marks extends.marks.added)) (still-heard Initiator (bytes_received link Responder two.marks) (bytes_received link Responder extends.marks.added) server_two));
+          (subst (λ (xs : List ℕ). frames_of Initiator xs ≢ []) (sym (received_both link Responder two.marks extends.marks.added)) (still_heard Initiator (bytes_received link Responder two.marks) (bytes_received link Responder extends.marks.added) server_two));
     }
 
-openings-leave : (s : Setting) (link : ℕ) (links : List ℕ) (d : Drill) → Heard link d.marks → Heard link (after_openings s links d).marks
-openings-leave s link [] d h = h
-openings-leave s link (l ∷ links) d h = openings-leave s link links (after_opening s l d) (heard-by link l d (after_opening s l d) (opening-adds s l d) h)
+openings_leave : (s : Setting) (link : ℕ) (links : List ℕ) (d : Drill) → Heard link d.marks → Heard link (after_openings s links d).marks
+openings_leave s link [] d h = h
+openings_leave s link (l ∷ links) d h = openings_leave s link links (after_opening s l d) (heard_by_lem link l d (after_opening s l d) (opening_adds s l d) h)
 
-openings-heard : (s : Setting) (link : ℕ) (links : List ℕ) (d : Drill) → 1 ≤ link → AllByRecursion (λ (l : ℕ). 1 ≤ l) links → Among link links → IsLawful (s.opened link) link d.marks →
+openings_heard : (s : Setting) (link : ℕ) (links : List ℕ) (d : Drill) → 1 ≤ link → AllByRecursion (λ (l : ℕ). 1 ≤ l) links → Among link links → IsLawful (s.opened link) link d.marks →
     is_dropped link d.marks ≡ false → Carries link d → Fresh (s.opened link) link d.marks → Heard link (after_openings s links d).marks
-openings-heard s link [] d one some among h standing c fresh = absurd among
-openings-heard s link (l ∷ links) d one some among h standing c fresh =
-    by (eqb l link) refl among (openings-heard s link links (after_opening s l d) one some.1)
+openings_heard s link [] d one some among h standing c fresh = absurd among
+openings_heard s link (l ∷ links) d one some among h standing c fresh =
+    by (eqb l link) refl among (openings_heard s link links (after_opening s l d) one some.1)
   where
     here : l ≡ link → Heard link (after_openings s links (after_opening s l d)).marks
     here same =
-        openings-leave s link links (after_opening s l d)
+        openings_leave s link links (after_opening s l d)
         (subst (λ (k : ℕ). Heard k (after_opening s l d).marks) same
-        (opening-heard s l d (subst (λ (k : ℕ). IsLawful (s.opened k) k d.marks) (sym same) h) (subst (λ (k : ℕ). is_dropped k d.marks ≡ false) (sym same) standing)
+        (opening_heard s l d (subst (λ (k : ℕ). IsLawful (s.opened k) k d.marks) (sym same) h) (subst (λ (k : ℕ). is_dropped k d.marks ≡ false) (sym same) standing)
         (subst (λ (k : ℕ). Carries k d) (sym same) c) (subst (λ (k : ℕ). Fresh (s.opened k) k d.marks) (sym same) fresh)))
 
     Later : Type 0
@@ -290,11 +290,11 @@ openings-heard s link (l ∷ links) d one some among h standing c fresh =
 
     later_on : l ≢ link → Among link links → Later → Heard link (after_openings s links (after_opening s l d)).marks
     later_on ne later more =
-        let x = opening-adds s l d in
+        let x = opening_adds s l d in
         let same : IsSameHere link d.marks (after_opening s l d).marks = subst (IsSameHere link d.marks) (sym x.marks.is) (same_here link l d.marks x.marks.added ne x.marks.own) in
         more later ((elsewhere (s.opened link) link l d.marks (after_opening s l d).marks ne x.marks).lawful h) (same.dropped ∙ standing)
-        (carries-elsewhere link l d (after_opening s l d) ne (λ same. ne (let a = some.0 in let b = one in let c = same in omega (arith, a, b, c))) x c)
-        (fresh-elsewhere (s.opened link) link l d (after_opening s l d) ne x fresh)
+        (carries_elsewhere link l d (after_opening s l d) ne (λ same. ne (let a = some.0 in let b = one in let c = same in omega (arith, a, b, c))) x c)
+        (fresh_elsewhere (s.opened link) link l d (after_opening s l d) ne x fresh)
 
     by : (b : Bool) → eqb l link ≡ b → (l ≡ link) ⊎ Among link links → Later → Heard link (after_openings s links (after_opening s l d)).marks
     by true is among more = here (eqb-true l link is)
@@ -302,19 +302,19 @@ openings-heard s link (l ∷ links) d one some among h standing c fresh =
     by false is (inr later) more = later_on (other_than l link is) later more
 
 -- on each link of a script, once all are open
-pub opened-heard : (server : SerialServer) (script : ScriptLines) → (link : ℕ) → IsLink script link → Heard link (opened_drill server script.opening).marks
+pub opened_heard : (server : SerialServer) (script : ScriptLines) → (link : ℕ) → IsLink script link → Heard link (opened_drill server script.opening).marks
 unfolding opened_drill
-opened-heard server script link within =
+opened_heard server script link within =
     let opening = script.opening in
     let s = setting_of server opening in
     let clients = opening.clients in
-    openings-heard s link (links_of clients) (start clients) within.0 (are_links 1 clients (omega arith)) (among_range link 1 clients within.0 (let b = within.1 in omega (arith, b)))
-    (start-lawful (parameters_of opening link) link) refl (start-carries clients link within.0 within.1) (start-fresh (parameters_of opening link) link)
+    openings_heard s link (links_of clients) (start clients) within.0 (are_links 1 clients (omega arith)) (among_range link 1 clients within.0 (let b = within.1 in omega (arith, b)))
+    (start_lawful (parameters_of opening link) link) refl (start_carries clients link within.0 within.1) (start_fresh (parameters_of opening link) link)
 
 -- ===== so a link runs before and after each line and each step
 
-pub running-from : (s : Setting) (link : ℕ) (d : Drill) → Keeps s link d → Carries link d → Heard link d.marks → IsRunning s link d
-running-from s link d h c heard =
+pub running_from : (s : Setting) (link : ℕ) (d : Drill) → Keeps s link d → Carries link d → Heard link d.marks → IsRunning s link d
+running_from s link d h c heard =
     let laws = laws_of (s.opened link) link d.marks h.0 h.1 in
     record {
       asked = laws.asked;
@@ -329,55 +329,55 @@ running-from s link d h c heard =
       server_heard = heard.server;
     }
 
-pub running-heard : (s : Setting) (link : ℕ) (d : Drill) → IsRunning s link d → Heard link d.marks
-running-heard s link d r = record { client = r.client_heard; server = r.server_heard }
+pub running_heard : (s : Setting) (link : ℕ) (d : Drill) → IsRunning s link d → Heard link d.marks
+running_heard s link d r = record { client = r.client_heard; server = r.server_heard }
 
-step-keeps : (s : Setting) (link : ℕ) (step : DrainStep) (d : Drill) → Keeps s link d → Keeps s link (after_step s link step d)
-step-keeps s link AllUp d h = lawful-after_up s link (length (pipes_of link d).up) d h
-step-keeps s link Work d h = lawful-work s link d h
-step-keeps s link AllDown d h = lawful-after_down s link (length (pipes_of link d).down) d h
+step_keeps : (s : Setting) (link : ℕ) (step : DrainStep) (d : Drill) → Keeps s link d → Keeps s link (after_step s link step d)
+step_keeps s link AllUp d h = lawful_after_up s link (length (pipes_of link d).up) d h
+step_keeps s link Work d h = lawful_work s link d h
+step_keeps s link AllDown d h = lawful_after_down s link (length (pipes_of link d).down) d h
 
-step-carries : (s : Setting) (link : ℕ) (step : DrainStep) (d : Drill) → Keeps s link d → Carries link d → Carries link (after_step s link step d)
-step-carries s link AllUp d h c = carries-up s link (length (pipes_of link d).up) d h c
-step-carries s link Work d h c = carries-work s link d c
-step-carries s link AllDown d h c = carries-down s link (length (pipes_of link d).down) d h c
+step_carries : (s : Setting) (link : ℕ) (step : DrainStep) (d : Drill) → Keeps s link d → Carries link d → Carries link (after_step s link step d)
+step_carries s link AllUp d h c = carries_up s link (length (pipes_of link d).up) d h c
+step_carries s link Work d h c = carries_work s link d c
+step_carries s link AllDown d h c = carries_down s link (length (pipes_of link d).down) d h c
 
-pub step-adds : (s : Setting) (link : ℕ) (step : DrainStep) (d : Drill) → Extends link d (after_step s link step d)
-step-adds s link AllUp d = up-adds s link (length (pipes_of link d).up) d
-step-adds s link Work d = work-adds s link d
-step-adds s link AllDown d = down-adds s link (length (pipes_of link d).down) d
+pub step_adds : (s : Setting) (link : ℕ) (step : DrainStep) (d : Drill) → Extends link d (after_step s link step d)
+step_adds s link AllUp d = up_adds s link (length (pipes_of link d).up) d
+step_adds s link Work d = work_adds s link d
+step_adds s link AllDown d = down_adds s link (length (pipes_of link d).down) d
 
 -- a step of the link
-pub step-runs : (s : Setting) (link : ℕ) (step : DrainStep) (d : Drill) → IsRunning s link d → IsRunning s link (after_step s link step d)
-step-runs s link step d r =
-    let h = running-keeps s link d r in
-    running-from s link (after_step s link step d) (step-keeps s link step d h) (step-carries s link step d h (running-carries s link d r))
-    (heard-by link link d (after_step s link step d) (step-adds s link step d) (running-heard s link d r))
+pub step_runs : (s : Setting) (link : ℕ) (step : DrainStep) (d : Drill) → IsRunning s link d → IsRunning s link (after_step s link step d)
+step_runs s link step d r =
+    let h = running_keeps s link d r in
+    running_from s link (after_step s link step d) (step_keeps s link step d h) (step_carries s link step d h (running_carries s link d r))
+    (heard_by_lem link link d (after_step s link step d) (step_adds s link step d) (running_heard s link d r))
 
 -- what is done on another link
-pub other-runs : (s : Setting) (link other : ℕ) (old new : Drill) → other ≢ link → link - 1 ≢ other - 1 → Extends other old new → IsRunning s link old → IsRunning s link new
-other-runs s link other old new ne apart x r =
-    let h = running-keeps s link old r in
+pub other_runs : (s : Setting) (link other : ℕ) (old new : Drill) → other ≢ link → link - 1 ≢ other - 1 → Extends other old new → IsRunning s link old → IsRunning s link new
+other_runs s link other old new ne apart x r =
+    let h = running_keeps s link old r in
     let same = elsewhere (s.opened link) link other old.marks new.marks ne x.marks in
-    running-from s link new (same.lawful h.0, same.written h.0 h.1) (carries-elsewhere link other old new ne apart x (running-carries s link old r)) (heard-by link other old new x (running-heard s link old r))
+    running_from s link new (same.lawful h.0, same.written h.0 h.1) (carries_elsewhere link other old new ne apart x (running_carries s link old r)) (heard_by_lem link other old new x (running_heard s link old r))
 
 any_front : {X : Type 0} (p : X → Bool) (xs ys : List X) → list_any p (xs ++ ys) ≡ false → list_any p xs ≡ false
-any_front p xs ys e = (neither_raw (list_any p xs) (list_any p ys) (sym (any-append p xs ys) ∙ e)).0
+any_front p xs ys e = (neither_raw (list_any p xs) (list_any p ys) (sym (any_append p xs ys) ∙ e)).0
 
 all_front : {X : Type 0} (P : X → Type 0) (xs ys : List X) → AllByRecursion P (xs ++ ys) → AllByRecursion P xs
 all_front P [] ys h = tt
 all_front P (x ∷ xs) ys h = (h.0, all_front P xs ys h.1)
 
 -- On a link of a script into whose pipes no line puts bytes: it runs after the first lines, however many.
-pub script-runs : (server : SerialServer) (script : ScriptLines) → IsScript script → (link : ℕ) → IsLink script link → HasNoRaw script link → (before after : List Line) → script.lines ≡ before ++ after → (mid : Drill) →
+pub script_runs : (server : SerialServer) (script : ScriptLines) → IsScript script → (link : ℕ) → IsLink script link → HasNoRaw script link → (before after : List Line) → script.lines ≡ before ++ after → (mid : Drill) →
     MakeAll (setting_of server script.opening) script.opening.clients before (opened_drill server script.opening) mid → IsRunning (setting_of server script.opening) link mid
-script-runs server script is link within raw before after cut mid made =
+script_runs server script is link within raw before after cut mid made =
     let opening = script.opening in
     let s = setting_of server opening in
     let clients = opening.clients in
     let first = opened_stands server script is link within in
-    let stands = lines-passed s clients link before (opened_drill server opening) mid within.0 (opened_by_script script is)
+    let stands = lines_passed s clients link before (opened_drill server opening) mid within.0 (opened_by_script script is)
     (all_front HasWritableCred before after (subst (AllByRecursion HasWritableCred) cut is.creds))
     (all_front NamesClient before after (subst (AllByRecursion NamesClient) cut (all_name opening [] script.lines is.follow_on)))
     (any_front (is_raw_of link) before after (ap (λ (all : List Line). list_any (is_raw_of link) all) (sym cut) ∙ raw)) made first in
-    running-from s link mid stands.holds.keeps stands.carries (lines-heard s clients link before (opened_drill server opening) mid made (opened-heard server script link within))
+    running_from s link mid stands.holds.keeps stands.carries (lines_heard s clients link before (opened_drill server opening) mid made (opened_heard server script link within))

@@ -11,15 +11,15 @@ use Rattle.nr_drill.specs.WorkLeft.DrainStep.{AllUp, Work, AllDown}
 use Rattle.nr_drill.specs.Drains.{IsRunning, StepsLeaveLess}
 use Rattle.nr_drill.proofs.Lawful.{Keeps, left_is, due_of}
 use Rattle.nr_drill.proofs.Carried.{Carries}
-use Rattle.nr_drill.proofs.LessWork.{work-less}
-use Rattle.nr_drill.proofs.LessUp.{up-less}
-use Rattle.nr_drill.proofs.LessDown.{down-less}
+use Rattle.nr_drill.proofs.LessWork.{work_less}
+use Rattle.nr_drill.proofs.LessUp.{up_less_lem}
+use Rattle.nr_drill.proofs.LessDown.{down_less_lem}
 
 all_due : (o : LinkParameters) (link : ℕ) (side : Side) (run : List Mark) → bytes_sent link side run ≡ output_due o link side run → bytes_sent link side run ++ [] ≡ output_due o link side run
 all_due o link side run is = append-nil (bytes_sent link side run) ∙ is
 
-pub running-keeps : (s : Setting) (link : ℕ) (d : Drill) → IsRunning s link d → Keeps s link d
-running-keeps s link d r =
+pub running_keeps : (s : Setting) (link : ℕ) (d : Drill) → IsRunning s link d → Keeps s link d
+running_keeps s link d r =
     let o = s.opened link in
     let up = all_due o link Initiator d.marks r.asked.written in
     let down = all_due o link Responder d.marks r.served.written in (
@@ -27,10 +27,10 @@ running-keeps s link d r =
       record { client = left_is o link Initiator d.marks [] up; server = left_is o link Responder d.marks [] down },
     )
 
-pub running-carries : (s : Setting) (link : ℕ) (d : Drill) → IsRunning s link d → Carries link d
-running-carries s link d r = record { matched = r.matched; room = r.room; carried = λ e. record { up = r.up e; down = r.down e }; gone = r.gone }
+pub running_carries : (s : Setting) (link : ℕ) (d : Drill) → IsRunning s link d → Carries link d
+running_carries s link d r = record { matched = r.matched; room = r.room; carried = λ e. record { up = r.up e; down = r.down e }; gone = r.gone }
 
 pub steps_leave_less : StepsLeaveLess
-steps_leave_less s link AllUp old r moves typed = up-less s link old (running-keeps s link old r) r.room r.server_heard moves
-steps_leave_less s link Work old r moves typed = work-less s link old (running-keeps s link old r) r.room moves
-steps_leave_less s link AllDown old r moves typed = down-less s link old (running-keeps s link old r) (running-carries s link old r) r.client_heard moves typed
+steps_leave_less s link AllUp old r moves typed = up_less_lem s link old (running_keeps s link old r) r.room r.server_heard moves
+steps_leave_less s link Work old r moves typed = work_less s link old (running_keeps s link old r) r.room moves
+steps_leave_less s link AllDown old r moves typed = down_less_lem s link old (running_keeps s link old r) (running_carries s link old r) r.client_heard moves typed

@@ -9,25 +9,25 @@ use Rattle.nr_wire.specs.Constants.{OPCODE_READ_RESPONSE}
 use Rattle.nr_wire.specs.declared.hello.Side.{Side}
 use Rattle.nr_wire.specs.declared.hello.Side.TheVariants.{Initiator, Responder}
 use Rattle.nr_wire.specs.declared.stream.Awaited.TheVariants.{Hello as HelloFrom}
-use Rattle.nr_wire.specs.Segment.{Segment, segment_of, segment_flaw}
+use Rattle.nr_wire.specs.Segment.{Segment, segment_of, frame_reason}
 use Rattle.nr_wire.specs.Fields.{half_word_of}
 use Rattle.nr_wire.specs.Segment.Segment.{Tagged, Untagged}
 use Rattle.nr_wire.specs.Stream.{AreFrames, awaited_after, split}
 use Rattle.nr_wire.proofs.Frames.{fields_some}
-use Rattle.nr_wire.proofs.Splits.{split-Splits}
+use Rattle.nr_wire.proofs.Splits.{split_Splits}
 use Rattle.nr_link.specs.declared.end.End.{End}
 use Rattle.nr_link.specs.Frames.{Frame, frames_from, frames_of, frames_completed, is_hello}
 use Rattle.nr_link.specs.Limits.{open_reads_max}
 use Rattle.nr_link.specs.Output.{own_hello}
 use Rattle.nr_link.specs.ReceiveState.{begun_bytes}
 use Rattle.nr_link.specs.Ending.{frame_segment}
-use Rattle.nr_link.proofs.Streams.{frames_completed-split}
+use Rattle.nr_link.proofs.Streams.{frames_completed_split}
 use Rattle.nr_reduce.specs.declared.mark.Mark.{Mark}
 use Rattle.nr_reduce.specs.declared.mark.Mark.TheVariants as marks
 use Rattle.nr_reduce.specs.declared.mark.LinkParameters.{LinkParameters}
 use Rattle.nr_reduce.specs.History.{bytes_received}
-use Rattle.nr_reduce.specs.Events.{Event}
-use Rattle.nr_reduce.specs.Events.Event.{FrameReceived}
+use Rattle.nr_reduce.specs.Events.{RunEvent}
+use Rattle.nr_reduce.specs.Events.RunEvent.{FrameReceived}
 use Rattle.nr_reduce.specs.EndRules.{EndState, live, end_state_after, next_end_state_by, output_for_all, output_for_by}
 use Rattle.nr_reduce.specs.ClientState.{ClientState}
 use Rattle.nr_reduce.specs.ServerState.{ServerState, PendingCall, PendingRead, ReadyCall}
@@ -39,11 +39,11 @@ use Rattle.nr_reduce.specs.ServerFrames.{FrameEffect, no_effect, with_verdict, r
 use Rattle.nr_reduce.specs.Server.{with_own_hello, server_rules, server_end, server_output, server_state_after, sends_from, requests_from, newly_open_reads, effect_output, with_effect}
 use Rattle.nr_reduce.specs.Client.{client_rules}
 use Rattle.nr_reduce.specs.Run.{client, server, end_of_side}
-use Rattle.nr_reduce.proofs.Steps.{ended-stays}
+use Rattle.nr_reduce.proofs.Steps.{ended_stays}
 use Rattle.nr_drill.specs.Drill.{Setting, Drill, Pipes, unwritten, after_output, settled, pipes_of, with_mark, with_pipes, after_feeding, after_feeding_up, after_up, after_all_up}
 use Rattle.nr_drill.specs.WorkLeft.{frame_len, is_send, is_send_segment, send_bytes_left, work_left, stays, IsLess}
-use Rattle.nr_drill.proofs.Lawful.{Keeps, lawful-mark, lawful-settled}
-use Rattle.nr_drill.proofs.LessWork.{own, not_own, same-client, same-server, settled-leaves, settled-down, more-left, set_pipes, set_room, down-leaves_up}
+use Rattle.nr_drill.proofs.Lawful.{Keeps, lawful_mark, lawful_settled}
+use Rattle.nr_drill.proofs.LessWork.{own, not_own, same_client, same_server, settled_leaves, settled_down, more_left, set_pipes, set_room, down_leaves_up}
 
 -- ===== what a frame that is no Send makes of a server
 
@@ -51,62 +51,62 @@ use Rattle.nr_drill.proofs.LessWork.{own, not_own, same-client, same-server, set
 abbrev Lessens : ServerState → FrameEffect → Type 0
 Lessens k e = (length e.reads < length k.reads) ⊎ ((e.reads ≡ k.reads) × (e.ready ≡ []) × (e.errors ≡ []) × (newly_open_reads e ≡ []))
 
-nothing-done : (k : ServerState) → Lessens k (no_effect k)
-nothing-done k = inr (refl, refl, refl, drop-length (take open_reads_max k.reads))
+nothing_done : (k : ServerState) → Lessens k (no_effect k)
+nothing_done k = inr (refl, refl, refl, drop-length (take open_reads_max k.reads))
 
-filter-le : {X : Type 0} (p : X → Bool) (xs : List X) → length (filter p xs) ≤ length xs
-filter-le p [] = omega arith
-filter-le {X = X} p (x ∷ xs) = by (p x) (filter-le p xs)
+filter_le : {X : Type 0} (p : X → Bool) (xs : List X) → length (filter p xs) ≤ length xs
+filter_le p [] = omega arith
+filter_le {X = X} p (x ∷ xs) = by (p x) (filter_le p xs)
   where
     by : (b : Bool) → length (filter p xs) ≤ length xs → length (cond b (x ∷ filter p xs) (filter p xs)) ≤ suc (length xs)
     by true le = omega (arith, le)
     by false le = omega (arith, le)
 
-kept-le : {X : Type 0} (n : ℕ) (p : X → Bool) (xs : List X) → length (take n xs ++ filter p (drop n xs)) ≤ length xs
-kept-le n p xs =
-    omega (arith, length-append (take n xs) (filter p (drop n xs)), filter-le p (drop n xs), length-append (take n xs) (drop n xs), ap (λ (ys : List _). length ys) (take-append-drop n xs))
+kept_le_lem : {X : Type 0} (n : ℕ) (p : X → Bool) (xs : List X) → length (take n xs ++ filter p (drop n xs)) ≤ length xs
+kept_le_lem n p xs =
+    omega (arith, length-append (take n xs) (filter p (drop n xs)), filter_le p (drop n xs), length-append (take n xs) (drop n xs), ap (λ (ys : List _). length ys) (take-append-drop n xs))
 
-verdict-reads : (v : CallVerdict) (e : FrameEffect) → (with_verdict v e).reads ≡ e.reads
-verdict-reads (Refuses reason) e = refl
-verdict-reads (IsReady r) e = refl
+verdict_reads : (v : CallVerdict) (e : FrameEffect) → (with_verdict v e).reads ≡ e.reads
+verdict_reads (Refuses reason) e = refl
+verdict_reads (IsReady r) e = refl
 
-whole-reads : (k : ServerState) (place : ℕ) (c : PendingCall) (e : FrameEffect) → (ready_if_whole k place c e).reads ≡ e.reads
-whole-reads k place c e = by (is_read e.reads c.number)
+whole_reads : (k : ServerState) (place : ℕ) (c : PendingCall) (e : FrameEffect) → (ready_if_whole k place c e).reads ≡ e.reads
+whole_reads k place c e = by (is_read e.reads c.number)
   where
     v : CallVerdict
     v = by_payload c (payload_of k place c)
 
     by : (b : Bool) → (cond b (with_verdict v e) e).reads ≡ e.reads
-    by true = verdict-reads v e
+    by true = verdict_reads v e
     by false = refl
 
-read-le : (k : ServerState) (place : ℕ) (r : PendingRead) (c : Option PendingCall) (e : FrameEffect) → length (read_effect k place r c e).reads ≤ length e.reads
-read-le k place r None e = omega arith
-read-le k place r (Some c) e = by (is_stream_read c r e.reads && not (is_read_chunk_of_item (chunk_bytes k place c 0) c.lists.read))
+read_le : (k : ServerState) (place : ℕ) (r : PendingRead) (c : Option PendingCall) (e : FrameEffect) → length (read_effect k place r c e).reads ≤ length e.reads
+read_le k place r None e = omega arith
+read_le k place r (Some c) e = by (is_stream_read c r e.reads && not (is_read_chunk_of_item (chunk_bytes k place c 0) c.lists.read))
   where
     by : (b : Bool) → length (cond b (with_refused_call k c e) (ready_if_whole k place c e)).reads ≤ length e.reads
-    by true = kept-le e.kept (λ x. not (eqb x.number c.number)) e.reads
-    by false = omega (arith, ap (λ (rs : List PendingRead). length rs) (whole-reads k place c e))
+    by true = kept_le_lem e.kept (λ x. not (eqb x.number c.number)) e.reads
+    by false = omega (arith, ap (λ (rs : List PendingRead). length rs) (whole_reads k place c e))
 
-response-lessens : (k : ServerState) (place : ℕ) (reads : List PendingRead) → k.reads ≡ reads → Lessens k (response_effect k place reads)
-response-lessens k place [] is = nothing-done k
-response-lessens k place (r ∷ reads) is =
+response_lessens : (k : ServerState) (place : ℕ) (reads : List PendingRead) → k.reads ≡ reads → Lessens k (response_effect k place reads)
+response_lessens k place [] is = nothing_done k
+response_lessens k place (r ∷ reads) is =
     let e : FrameEffect = record (no_effect k) { reads = reads; kept = length (open_reads k) - 1 } in
-    let le = read-le k place r (call_of_number k r.number) e in
+    let le = read_le k place r (call_of_number k r.number) e in
     inl (omega (arith, le, ap (λ (rs : List PendingRead). length rs) is))
 
-tagged-lessens : (k : ServerState) (place opcode : ℕ) (last : Bool) → Lessens k (tagged_effect k place opcode last)
-tagged-lessens k place opcode last = by (eqb opcode OPCODE_READ_RESPONSE && last)
+tagged_lessens : (k : ServerState) (place opcode : ℕ) (last : Bool) → Lessens k (tagged_effect k place opcode last)
+tagged_lessens k place opcode last = by (eqb opcode OPCODE_READ_RESPONSE && last)
   where
     by : (b : Bool) → Lessens k (cond b (response_effect k place k.reads) (no_effect k))
-    by true = response-lessens k place k.reads refl
-    by false = nothing-done k
+    by true = response_lessens k place k.reads refl
+    by false = nothing_done k
 
-effect-lessens : (k : ServerState) (f : Frame) (r : Result Segment ℕ) → is_send_segment r ≡ false → Lessens k (effect_in k f r)
-effect-lessens k f (Err reason) e = nothing-done k
-effect-lessens k f (Ok (Untagged last opcode w queue msn offset payload)) e =
-    subst (λ (b : Bool). Lessens k (by_message k f.end (cond (b && last) (Some (begun_bytes k.received.begun ++ payload)) None))) (sym e) (nothing-done k)
-effect-lessens k f (Ok (Tagged last opcode stag to payload)) e = tagged-lessens (with_access k f (Tagged last opcode stag to payload)) f.end opcode last
+effect_lessens : (k : ServerState) (f : Frame) (r : Result Segment ℕ) → is_send_segment r ≡ false → Lessens k (effect_in k f r)
+effect_lessens k f (Err reason) e = nothing_done k
+effect_lessens k f (Ok (Untagged last opcode w queue msn offset payload)) e =
+    subst (λ (b : Bool). Lessens k (by_message k f.end (cond (b && last) (Some (begun_bytes k.received.begun ++ payload)) None))) (sym e) (nothing_done k)
+effect_lessens k f (Ok (Tagged last opcode stag to payload)) e = tagged_lessens (with_access k f (Tagged last opcode stag to payload)) f.end opcode last
 
 -- ===== and what such frames make of it
 
@@ -117,10 +117,10 @@ Lowers k left out = (length left.reads < length k.reads) ⊎ ((left.reads ≡ k.
 not_send : (f : Frame) → is_hello f ≡ false → is_send f ≡ false → is_send_segment (frame_segment f) ≡ false
 not_send f appended none = (λ i. cond (sym appended i) false (is_send_segment (frame_segment f))) ∙ none
 
-frame-lowers : (o : LinkParameters) (k : ServerState) (f : Frame) → is_hello f ≡ false → is_send f ≡ false → Lowers k (server_state_after o k (FrameReceived f)) (server_output o k (FrameReceived f))
+frame_lowers : (o : LinkParameters) (k : ServerState) (f : Frame) → is_hello f ≡ false → is_send f ≡ false → Lowers k (server_state_after o k (FrameReceived f)) (server_output o k (FrameReceived f))
 unfolding server_state_after server_output frame_effect
-frame-lowers o k f appended none =
-    subst (λ (b : Bool). Lowers k (cond b (with_own_hello k) (with_effect k f e)) (cond b (own_hello Responder) (effect_output k e))) (sym appended) (by (effect-lessens k f (frame_segment f) (not_send f appended none)))
+frame_lowers o k f appended none =
+    subst (λ (b : Bool). Lowers k (cond b (with_own_hello k) (with_effect k f e)) (cond b (own_hello Responder) (effect_output k e))) (sym appended) (by (effect_lessens k f (frame_segment f) (not_send f appended none)))
   where
     e : FrameEffect
     e = frame_effect k f
@@ -133,23 +133,23 @@ frame-lowers o k f appended none =
       (λ i. sends_from (k.messages_queued + 1) (errors i) ++ requests_from (k.requests_sent + 1) (opened i)),
     )
 
-lowers-through : (a b c : ServerState) (xs ys : List ℕ) → Lowers a b xs → Lowers b c ys → Lowers a c (xs ++ ys)
-lowers-through a b c xs ys (inl lt) (inl also) = inl (omega (arith, lt, also))
-lowers-through a b c xs ys (inl lt) (inr (reads, ready, none)) = inl (omega (arith, lt, ap (λ (rs : List PendingRead). length rs) reads))
-lowers-through a b c xs ys (inr (reads, ready, none)) (inl lt) = inl (omega (arith, lt, ap (λ (rs : List PendingRead). length rs) reads))
-lowers-through a b c xs ys (inr (reads, ready, none)) (inr (reads_too, ready_too, none_too)) = inr (reads_too ∙ reads, ready_too ∙ ready, (λ i. none i ++ none_too i))
+lowers_through : (a b c : ServerState) (xs ys : List ℕ) → Lowers a b xs → Lowers b c ys → Lowers a c (xs ++ ys)
+lowers_through a b c xs ys (inl lt) (inl also) = inl (omega (arith, lt, also))
+lowers_through a b c xs ys (inl lt) (inr (reads, ready, none)) = inl (omega (arith, lt, ap (λ (rs : List PendingRead). length rs) reads))
+lowers_through a b c xs ys (inr (reads, ready, none)) (inl lt) = inl (omega (arith, lt, ap (λ (rs : List PendingRead). length rs) reads))
+lowers_through a b c xs ys (inr (reads, ready, none)) (inr (reads_too, ready_too, none_too)) = inr (reads_too ∙ reads, ready_too ∙ ready, (λ i. none i ++ none_too i))
 
 -- frames of which none is a hello or a Send, by a server that they don't end
-pub frames-lower : (o : LinkParameters) (k : ServerState) (fs : List Frame) → AllByRecursion (λ (f : Frame). is_hello f ≡ false) fs → AllByRecursion (λ (f : Frame). is_send f ≡ false) fs →
+pub frames_lower : (o : LinkParameters) (k : ServerState) (fs : List Frame) → AllByRecursion (λ (f : Frame). is_hello f ≡ false) fs → AllByRecursion (λ (f : Frame). is_send f ≡ false) fs →
     (end_state_after (server_rules o) (live k) (map FrameReceived fs)).ended ≡ None →
     Lowers k (end_state_after (server_rules o) (live k) (map FrameReceived fs)).state (output_for_all (server_rules o) (live k) (map FrameReceived fs))
-frames-lower o k [] appended none stays = inr (refl, refl, refl)
-frames-lower o k (f ∷ fs) appended none unended = by (server_end o k (FrameReceived f)) unended (frames-lower o (server_state_after o k (FrameReceived f)) fs appended.1 none.1)
+frames_lower o k [] appended none stays = inr (refl, refl, refl)
+frames_lower o k (f ∷ fs) appended none unended = by (server_end o k (FrameReceived f)) unended (frames_lower o (server_state_after o k (FrameReceived f)) fs appended.1 none.1)
   where
-    event : Event
+    event : RunEvent
     event = FrameReceived f
 
-    more : List Event
+    more : List RunEvent
     more = map FrameReceived fs
 
     next : ServerState
@@ -159,9 +159,9 @@ frames-lower o k (f ∷ fs) appended none unended = by (server_end o k (FrameRec
         ((end_state_after (server_rules o) (live next) more).ended ≡ None → Lowers next (end_state_after (server_rules o) (live next) more).state (output_for_all (server_rules o) (live next) more)) →
         Lowers k (end_state_after (server_rules o) (next_end_state_by (server_rules o) k event end) more).state (output_for_by (server_rules o) k event end ++ output_for_all (server_rules o) (next_end_state_by (server_rules o) k event end) more)
     by None e later =
-        lowers-through k next (end_state_after (server_rules o) (live next) more).state (server_output o k event) (output_for_all (server_rules o) (live next) more)
-        (frame-lowers o k f appended.0 none.0) (later e)
-    by (Some end) e later = absurd (let wrong : Some end ≡ None = sym (ap (λ (r : EndState ServerState). r.ended) (ended-stays (server_rules o) k end more).0) ∙ e in cc)
+        lowers_through k next (end_state_after (server_rules o) (live next) more).state (server_output o k event) (output_for_all (server_rules o) (live next) more)
+        (frame_lowers o k f appended.0 none.0) (later e)
+    by (Some end) e later = absurd (let wrong : Some end ≡ None = sym (ap (λ (r : EndState ServerState). r.ended) (ended_stays (server_rules o) k end more).0) ∙ e in cc)
 
 -- ===== the frames that are completed
 
@@ -170,9 +170,9 @@ later_frames : (at : ℕ) (fs : List (List ℕ)) → 0 < at → AllByRecursion (
 later_frames at [] some = tt
 later_frames at (f ∷ fs) some = (ne_eqb at 0 (λ e. omega (arith, e, some)), later_frames (at + length f) fs (omega (arith, some)))
 
-pub some-bytes : (side : Side) (fs : List (List ℕ)) → fs ≢ [] → AreFrames (HelloFrom side) fs → 0 < length (concat fs)
-some-bytes side [] some h = absurd (some refl)
-some-bytes side (f ∷ fs) some h = (let a = h.0.fields in let b = fields_some (HelloFrom side) in omega (arith, a, b, length-append f (concat fs)))
+pub some_bytes_lem : (side : Side) (fs : List (List ℕ)) → fs ≢ [] → AreFrames (HelloFrom side) fs → 0 < length (concat fs)
+some_bytes_lem side [] some h = absurd (some refl)
+some_bytes_lem side (f ∷ fs) some h = (let a = h.0.fields in let b = fields_some (HelloFrom side) in omega (arith, a, b, length-append f (concat fs)))
 
 -- if the first frame was received, those that more bytes complete are none
 pub behind_hello : (side : Side) (got more : List ℕ) → frames_of side got ≢ [] → AllByRecursion (λ (f : Frame). is_hello f ≡ false) (frames_completed side got more)
@@ -180,13 +180,13 @@ unfolding frames_of
 behind_hello side got more heard =
     let fs = (split (HelloFrom side) got).frames in
     let some : fs ≢ [] = (λ none. heard (ap (λ (xs : List (List ℕ)). frames_from 0 xs) none)) in
-    subst (λ (all : List Frame). AllByRecursion (λ (f : Frame). is_hello f ≡ false) all) (sym (frames_completed-split side got more))
+    subst (λ (all : List Frame). AllByRecursion (λ (f : Frame). is_hello f ≡ false) all) (sym (frames_completed_split side got more))
     (later_frames (length (concat fs)) (split (awaited_after (HelloFrom side) fs) ((split (HelloFrom side) got).rest ++ more)).frames
-    (some-bytes side fs some (split-Splits (HelloFrom side) got).each))
+    (some_bytes_lem side fs some (split_Splits (HelloFrom side) got).each))
 
 -- a Send has bytes
 empty_not_send : is_send_segment (segment_of []) ≡ false
-unfolding segment_of segment_flaw half_word_of
+unfolding segment_of frame_reason half_word_of
 empty_not_send = refl
 
 send_has_bytes : (at end : ℕ) (bytes : List ℕ) → is_send (record { at = at; end = end; bytes = bytes }) ≡ true → 0 < length bytes
@@ -224,10 +224,10 @@ none_completed side got = ap (λ (xs : List ℕ). drop (length (frames_of side g
 abbrev fed_up : ℕ → List ℕ → Drill → Drill
 fed_up link bytes d = with_pipes link (record (pipes_of link d) { up = [] }) (with_mark (marks.Fed link Responder bytes) d)
 
-fed-less : (s : Setting) (link : ℕ) (bytes : List ℕ) (d : Drill) → Keeps s link d → link - 1 < length d.pipes → frames_of Initiator (bytes_received link Responder d.marks) ≢ [] →
+fed_less : (s : Setting) (link : ℕ) (bytes : List ℕ) (d : Drill) → Keeps s link d → link - 1 < length d.pipes → frames_of Initiator (bytes_received link Responder d.marks) ≢ [] →
     (pipes_of link d).up ≡ bytes → 0 < length bytes → IsLess (work_left s (settled s link (fed_up link bytes d)) link) (work_left s d link)
 unfolding work_left send_bytes_left end_of_side
-fed-less s link bytes d h room heard waits some = by_end before.ended refl
+fed_less s link bytes d h room heard waits some = by_end before.ended refl
   where
     o : LinkParameters
     o = s.opened link
@@ -253,56 +253,56 @@ fed-less s link bytes d h room heard waits some = by_end before.ended refl
     fs : List Frame
     fs = frames_completed Initiator got bytes
 
-    es : List Event
+    es : List RunEvent
     es = map FrameReceived fs
 
     after : EndState ServerState
     after = end_state_after (server_rules o) before es
 
-    down_events : List Event
+    down_events : List RunEvent
     down_events = map FrameReceived (frames_completed Responder (bytes_received link Initiator run) bytes)
 
     server_is : server o link mid.marks ≡ after
-    server_is = same-server o link run mark es (own link es)
+    server_is = same_server o link run mark es (own link es)
 
     client_end : (client o link new.marks).ended ≡ (client o link run).ended
-    client_end = (settled-leaves s o link mid).client_end ∙ ap (λ (r : EndState ClientState). r.ended) (same-client o link run mark [] (not_own link down_events))
+    client_end = (settled_leaves s o link mid).client_end ∙ ap (λ (r : EndState ClientState). r.ended) (same_client o link run mark [] (not_own link down_events))
 
     server_end_is : (server o link new.marks).ended ≡ after.ended
-    server_end_is = (settled-leaves s o link mid).server_end ∙ ap (λ (r : EndState ServerState). r.ended) server_is
+    server_end_is = (settled_leaves s o link mid).server_end ∙ ap (λ (r : EndState ServerState). r.ended) server_is
 
     reads : (server o link new.marks).state.reads ≡ after.state.reads
-    reads = (settled-leaves s o link mid).reads ∙ ap (λ (r : EndState ServerState). r.state.reads) server_is
+    reads = (settled_leaves s o link mid).reads ∙ ap (λ (r : EndState ServerState). r.state.reads) server_is
 
     ready : (server o link new.marks).state.ready ≡ after.state.ready
-    ready = (settled-leaves s o link mid).ready ∙ ap (λ (r : EndState ServerState). r.state.ready) server_is
+    ready = (settled_leaves s o link mid).ready ∙ ap (λ (r : EndState ServerState). r.state.ready) server_is
 
     none : unwritten o link Initiator mid.marks ≡ []
-    none = more-left o link Initiator run mark refl h.0.client ∙ (λ i. h.1.client i ++ output_for_all (client_rules o) (client o link run) (not_own link down_events i))
+    none = more_left o link Initiator run mark refl h.0.client ∙ (λ i. h.1.client i ++ output_for_all (client_rules o) (client o link run) (not_own link down_events i))
 
     out : List ℕ
     out = unwritten o link Responder mid.marks
 
     out_is : out ≡ output_for_all (server_rules o) before es
-    out_is = more-left o link Responder run mark refl h.0.server ∙ (λ i. h.1.server i ++ output_for_all (server_rules o) before (own link es i))
+    out_is = more_left o link Responder run mark refl h.0.server ∙ (λ i. h.1.server i ++ output_for_all (server_rules o) before (own link es i))
 
     set : pipes_of link mid ≡ record (pipes_of link d) { up = [] }
     set = set_pipes link (record (pipes_of link d) { up = [] }) (with_mark mark d) room
 
     up : (pipes_of link new).up ≡ []
     up =
-        ap (λ (x : Drill). (pipes_of link x).up) (settled-down s link mid none)
-        ∙ down-leaves_up link out mid (set_room link (record (pipes_of link d) { up = [] }) (with_mark mark d) room) ∙ ap (λ (p : Pipes). p.up) set
+        ap (λ (x : Drill). (pipes_of link x).up) (settled_down s link mid none)
+        ∙ down_leaves_up link out mid (set_room link (record (pipes_of link d) { up = [] }) (with_mark mark d) room) ∙ ap (λ (p : Pipes). p.up) set
 
     kept : Keeps s link new
-    kept = lawful-settled s link mid (lawful-mark o link run mark h.0 refl refl tt tt tt)
+    kept = lawful_settled s link mid (lawful_mark o link run mark h.0 refl refl tt tt tt)
 
     up_less : length (pipes_of link new).up < length (pipes_of link d).up
     up_less = omega (arith, some, ap (λ (xs : List ℕ). length xs) up, ap (λ (xs : List ℕ). length xs) waits)
 
     same_down : out ≡ [] → (pipes_of link new).down ≡ (pipes_of link d).down
     same_down nothing =
-        ap (λ (x : Drill). (pipes_of link x).down) (settled-down s link mid none ∙ ap (λ (xs : List ℕ). after_output link Responder xs mid) nothing) ∙ ap (λ (p : Pipes). p.down) set
+        ap (λ (x : Drill). (pipes_of link x).down) (settled_down s link mid none ∙ ap (λ (xs : List ℕ). after_output link Responder xs mid) nothing) ∙ ap (λ (p : Pipes). p.down) set
 
     sent_after : sum_by frame_len (filter is_send (frames_completed Initiator (bytes_received link Responder new.marks) ((pipes_of link new).up ++ unwritten o link Initiator new.marks))) ≡ 0
     sent_after =
@@ -351,13 +351,13 @@ fed-less s link bytes d h room heard waits some = by_end before.ended refl
         let alive : before ≡ live before.state = (λ i. record { state = before.state; ended = lives i }) in
         by_sends (is ∙ sym lives) (λ absent.
         subst (λ (r : EndState ServerState). Lowers before.state (end_state_after (server_rules o) r es).state (output_for_all (server_rules o) r es)) (sym alive)
-        (frames-lower o before.state fs (behind_hello Initiator got bytes heard) absent (ap (λ (r : EndState ServerState). (end_state_after (server_rules o) r es).ended) (sym alive) ∙ is)))
+        (frames_lower o before.state fs (behind_hello Initiator got bytes heard) absent (ap (λ (r : EndState ServerState). (end_state_after (server_rules o) r es).ended) (sym alive) ∙ is)))
 
     by_end : (end : Option End) → before.ended ≡ end → IsLess (work_left s new link) (work_left s d link)
     by_end None is = by_after is after.ended refl
     by_end (Some end) is =
         let was : before ≡ record { state = before.state; ended = Some end } = (λ i. record { state = before.state; ended = is i }) in
-        let stands = ended-stays (server_rules o) before.state end es in
+        let stands = ended_stays (server_rules o) before.state end es in
         let same : after ≡ before = ap (λ (r : EndState ServerState). end_state_after (server_rules o) r es) was ∙ stands.0 ∙ sym was in
         by_sends (ap (λ (r : EndState ServerState). r.ended) same) (λ absent. inr (
           ap (λ (r : EndState ServerState). r.state.reads) same,
@@ -375,13 +375,13 @@ feeding_up link [] rest d some = absurd (some refl)
 feeding_up link (b ∷ bytes) rest d some = refl
 
 -- If the server has the client's hello and bytes wait for it, feeding it all of them leaves less work.
-pub up-less : (s : Setting) (link : ℕ) (d : Drill) → Keeps s link d → link - 1 < length d.pipes → frames_of Initiator (bytes_received link Responder d.marks) ≢ [] → (pipes_of link d).up ≢ [] →
+pub up_less_lem : (s : Setting) (link : ℕ) (d : Drill) → Keeps s link d → link - 1 < length d.pipes → frames_of Initiator (bytes_received link Responder d.marks) ≢ [] → (pipes_of link d).up ≢ [] →
     IsLess (work_left s (after_all_up s link d) link) (work_left s d link)
 unfolding after_up
-up-less s link d h room heard some =
+up_less_lem s link d h room heard some =
     let pipes = pipes_of link d in
     let n = length pipes.up in
     let all : take n pipes.up ≡ pipes.up = take_all n pipes.up (omega arith) in
     let is : after_feeding_up link n d ≡ fed_up link pipes.up d =
     (λ i. after_feeding link Responder (all i) (record pipes { up = drop-length pipes.up i }) d) ∙ feeding_up link pipes.up (record pipes { up = [] }) d some in
-    subst (λ (x : Drill). IsLess (work_left s (settled s link x) link) (work_left s d link)) (sym is) (fed-less s link pipes.up d h room heard refl (no_bytes_less n pipes.up refl some))
+    subst (λ (x : Drill). IsLess (work_left s (settled s link x) link) (work_left s d link)) (sym is) (fed_less s link pipes.up d h room heard refl (no_bytes_less n pipes.up refl some))

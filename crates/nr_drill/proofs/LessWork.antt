@@ -12,8 +12,8 @@ use Rattle.nr_reduce.specs.declared.mark.Mark.TheVariants as marks
 use Rattle.nr_reduce.specs.declared.mark.LinkParameters.{LinkParameters}
 use Rattle.nr_reduce.specs.History.{ExecutedCall, written_at, fed_at, bytes_received, is_drop_of, is_dropped}
 use Rattle.nr_reduce.specs.PlainJournal.{journal}
-use Rattle.nr_reduce.specs.Events.{Event, events_at, if_own}
-use Rattle.nr_reduce.specs.Events.Event.{CallExecuted, QueueWritten}
+use Rattle.nr_reduce.specs.Events.{RunEvent, events_at, if_own}
+use Rattle.nr_reduce.specs.Events.RunEvent.{CallExecuted, QueueWritten}
 use Rattle.nr_reduce.specs.EndRules.{EndState, end_state_after, output_for_all}
 use Rattle.nr_reduce.specs.ClientState.{ClientState}
 use Rattle.nr_reduce.specs.ServerState.{ServerState, PendingRead, ReadyCall}
@@ -21,12 +21,12 @@ use Rattle.nr_reduce.specs.Client.{client_rules, client_end, client_output, clie
 use Rattle.nr_reduce.specs.Server.{server_rules, server_end, server_output, server_state_after}
 use Rattle.nr_reduce.specs.Run.{client, server, output_due, end_of_side}
 use Rattle.nr_reduce.specs.Served.{next_call, first_ready}
-use Rattle.nr_reduce.proofs.Steps.{client-one, server-one, output_due_up-one, output_due_down-one}
-use Rattle.nr_reduce.proofs.Standing.{itself, received-one}
-use Rattle.nr_laws.proofs.Keys.{any-append}
+use Rattle.nr_reduce.proofs.Steps.{client_one, server_one, output_due_up_one, output_due_down_one}
+use Rattle.nr_reduce.proofs.Standing.{itself, received_one}
+use Rattle.nr_laws.proofs.DistinctKeys.{any_append}
 use Rattle.nr_drill.specs.Drill.{Setting, Drill, Pipes, empty_pipes, plain_of, now, unwritten, appended, after_output, after_all_output, settled, pipes_of, with_mark, with_pipes, if_standing, waiting_call, after_answer, after_execution, after_work}
 use Rattle.nr_drill.specs.WorkLeft.{frame_len, is_send, send_bytes_left, work_left, stays, IsLess}
-use Rattle.nr_drill.proofs.Lawful.{IsDueOf, Keeps, more_due, left_is, due-more, lawful-mark, lawful-settled}
+use Rattle.nr_drill.proofs.Lawful.{IsDueOf, Keeps, more_due, left_is, due_more, lawful_mark, lawful_settled}
 
 -- ===== what writing leaves
 
@@ -45,11 +45,11 @@ pub record Leaves (o : LinkParameters) (link : ℕ) (old new : List Mark) : Type
   pub sends : (server o link new).state.received.sends ≡ (server o link old).state.received.sends
   pub dropped : is_dropped link new ≡ is_dropped link old
 
-pub leaves-all : (o : LinkParameters) (link : ℕ) (run : List Mark) → Leaves o link run run
-leaves-all o link run = record { client_end = refl; server_end = refl; reads = refl; ready = refl; got = refl; heard = refl; due = refl; due_down = refl; accepted = refl; sends = refl; dropped = refl }
+pub leaves_all : (o : LinkParameters) (link : ℕ) (run : List Mark) → Leaves o link run run
+leaves_all o link run = record { client_end = refl; server_end = refl; reads = refl; ready = refl; got = refl; heard = refl; due = refl; due_down = refl; accepted = refl; sends = refl; dropped = refl }
 
-pub leaves-through : (o : LinkParameters) (link : ℕ) (a b c : List Mark) → Leaves o link a b → Leaves o link b c → Leaves o link a c
-leaves-through o link a b c x y = record {
+pub leaves_through : (o : LinkParameters) (link : ℕ) (a b c : List Mark) → Leaves o link a b → Leaves o link b c → Leaves o link a c
+leaves_through o link a b c x y = record {
   client_end = y.client_end ∙ x.client_end;
   server_end = y.server_end ∙ x.server_end;
   reads = y.reads ∙ x.reads;
@@ -70,151 +70,151 @@ record SameWork (o : LinkParameters) (a b : EndState ServerState) (taken : ℕ) 
   sends : b.state.received.sends ≡ a.state.received.sends
   quiet : output_for_all (server_rules o) a (QueueWritten taken ∷ []) ≡ []
 
-record SameCalls (o : LinkParameters) (a : EndState ClientState) (event : Event) : Type 0 where
+record SameCalls (o : LinkParameters) (a : EndState ClientState) (event : RunEvent) : Type 0 where
   ended : (end_state_after (client_rules o) a (event ∷ [])).ended ≡ a.ended
   accepted : (end_state_after (client_rules o) a (event ∷ [])).state.calls_accepted ≡ a.state.calls_accepted
   quiet : output_for_all (client_rules o) a (event ∷ []) ≡ []
 
-written-calls : (o : LinkParameters) (k : ClientState) (ended : Option End) (taken : ℕ) → SameCalls o (record { state = k; ended = ended }) (QueueWritten taken)
+written_calls : (o : LinkParameters) (k : ClientState) (ended : Option End) (taken : ℕ) → SameCalls o (record { state = k; ended = ended }) (QueueWritten taken)
 unfolding client_end client_output client_state_after
-written-calls o k None taken = record { ended = refl; accepted = refl; quiet = refl }
-written-calls o k (Some end) taken = record { ended = refl; accepted = refl; quiet = refl }
+written_calls o k None taken = record { ended = refl; accepted = refl; quiet = refl }
+written_calls o k (Some end) taken = record { ended = refl; accepted = refl; quiet = refl }
 
-written-work : (o : LinkParameters) (k : ServerState) (ended : Option End) (taken : ℕ) →
+written_work : (o : LinkParameters) (k : ServerState) (ended : Option End) (taken : ℕ) →
     SameWork o (record { state = k; ended = ended }) (end_state_after (server_rules o) (record { state = k; ended = ended }) (QueueWritten taken ∷ [])) taken
 unfolding server_end server_output server_state_after
-written-work o k None taken = record { ended = refl; reads = refl; ready = refl; sends = refl; quiet = refl }
-written-work o k (Some end) taken = record { ended = refl; reads = refl; ready = refl; sends = refl; quiet = refl }
+written_work o k None taken = record { ended = refl; reads = refl; ready = refl; sends = refl; quiet = refl }
+written_work o k (Some end) taken = record { ended = refl; reads = refl; ready = refl; sends = refl; quiet = refl }
 
 -- an end without an event is as it was
-pub same-client : (o : LinkParameters) (link : ℕ) (run : List Mark) (mark : Mark) (es : List Event) → events_at link Initiator run mark ≡ es →
+pub same_client : (o : LinkParameters) (link : ℕ) (run : List Mark) (mark : Mark) (es : List RunEvent) → events_at link Initiator run mark ≡ es →
     client o link (run ++ mark ∷ []) ≡ end_state_after (client_rules o) (client o link run) es
-same-client o link run mark es is = client-one o link run mark ∙ ap (λ (xs : List Event). end_state_after (client_rules o) (client o link run) xs) is
+same_client o link run mark es is = client_one o link run mark ∙ ap (λ (xs : List RunEvent). end_state_after (client_rules o) (client o link run) xs) is
 
-pub same-server : (o : LinkParameters) (link : ℕ) (run : List Mark) (mark : Mark) (es : List Event) → events_at link Responder run mark ≡ es →
+pub same_server : (o : LinkParameters) (link : ℕ) (run : List Mark) (mark : Mark) (es : List RunEvent) → events_at link Responder run mark ≡ es →
     server o link (run ++ mark ∷ []) ≡ end_state_after (server_rules o) (server o link run) es
-same-server o link run mark es is = server-one o link run mark ∙ ap (λ (xs : List Event). end_state_after (server_rules o) (server o link run) xs) is
+same_server o link run mark es is = server_one o link run mark ∙ ap (λ (xs : List RunEvent). end_state_after (server_rules o) (server o link run) xs) is
 
-pub own : (link : ℕ) (es : List Event) → if_own (eqb link link && true) es ≡ es
+pub own : (link : ℕ) (es : List RunEvent) → if_own (eqb link link && true) es ≡ es
 own link es = ap (λ (b : Bool). if_own (b && true) es) (itself link)
 
-pub not_own : (link : ℕ) (es : List Event) → if_own (eqb link link && false) es ≡ []
+pub not_own : (link : ℕ) (es : List RunEvent) → if_own (eqb link link && false) es ≡ []
 not_own link es = ap (λ (b : Bool). if_own (b && false) es) (itself link)
 
-pub not-fed : (link : ℕ) (run : List Mark) (mark : Mark) → fed_at link Responder mark ≡ [] → bytes_received link Responder (run ++ mark ∷ []) ≡ bytes_received link Responder run
-not-fed link run mark none = received-one link Responder run mark ∙ ap (λ (xs : List ℕ). bytes_received link Responder run ++ xs) none ∙ append-nil (bytes_received link Responder run)
+pub not_fed_lem : (link : ℕ) (run : List Mark) (mark : Mark) → fed_at link Responder mark ≡ [] → bytes_received link Responder (run ++ mark ∷ []) ≡ bytes_received link Responder run
+not_fed_lem link run mark none = received_one link Responder run mark ∙ ap (λ (xs : List ℕ). bytes_received link Responder run ++ xs) none ∙ append-nil (bytes_received link Responder run)
 
 or_false : (b : Bool) → (b || false) ≡ b
 or_false true = refl
 or_false false = refl
 
-pub no-drop : (link : ℕ) (run : List Mark) (mark : Mark) → is_drop_of link mark ≡ false → is_dropped link (run ++ mark ∷ []) ≡ is_dropped link run
-no-drop link run mark none =
-    any-append (is_drop_of link) run (mark ∷ []) ∙ ap (λ (b : Bool). is_dropped link run || (b || false)) none ∙ or_false (is_dropped link run)
+pub no_drop : (link : ℕ) (run : List Mark) (mark : Mark) → is_drop_of link mark ≡ false → is_dropped link (run ++ mark ∷ []) ≡ is_dropped link run
+no_drop link run mark none =
+    any_append (is_drop_of link) run (mark ∷ []) ∙ ap (λ (b : Bool). is_dropped link run || (b || false)) none ∙ or_false (is_dropped link run)
 
-pub not-heard : (link : ℕ) (run : List Mark) (mark : Mark) → fed_at link Initiator mark ≡ [] → bytes_received link Initiator (run ++ mark ∷ []) ≡ bytes_received link Initiator run
-not-heard link run mark none = received-one link Initiator run mark ∙ ap (λ (xs : List ℕ). bytes_received link Initiator run ++ xs) none ∙ append-nil (bytes_received link Initiator run)
+pub not_heard : (link : ℕ) (run : List Mark) (mark : Mark) → fed_at link Initiator mark ≡ [] → bytes_received link Initiator (run ++ mark ∷ []) ≡ bytes_received link Initiator run
+not_heard link run mark none = received_one link Initiator run mark ∙ ap (λ (xs : List ℕ). bytes_received link Initiator run ++ xs) none ∙ append-nil (bytes_received link Initiator run)
 
 -- what is due to the client after a mark
-pub due-more_up : (o : LinkParameters) (link : ℕ) (run : List Mark) (mark : Mark) (es : List Event) (out : List ℕ) → events_at link Initiator run mark ≡ es → output_for_all (client_rules o) (client o link run) es ≡ out →
+pub due_more_up : (o : LinkParameters) (link : ℕ) (run : List Mark) (mark : Mark) (es : List RunEvent) (out : List ℕ) → events_at link Initiator run mark ≡ es → output_for_all (client_rules o) (client o link run) es ≡ out →
     output_due o link Initiator (run ++ mark ∷ []) ≡ output_due o link Initiator run ++ out
-due-more_up o link run mark es out is told =
-    output_due_up-one o link run mark ∙ ap (λ (xs : List ℕ). output_due o link Initiator run ++ xs) (ap (λ (xs : List Event). output_for_all (client_rules o) (client o link run) xs) is ∙ told)
+due_more_up o link run mark es out is told =
+    output_due_up_one o link run mark ∙ ap (λ (xs : List ℕ). output_due o link Initiator run ++ xs) (ap (λ (xs : List RunEvent). output_for_all (client_rules o) (client o link run) xs) is ∙ told)
 
-pub same-due : (o : LinkParameters) (link : ℕ) (run : List Mark) (mark : Mark) (es : List Event) → events_at link Initiator run mark ≡ es → output_for_all (client_rules o) (client o link run) es ≡ [] →
+pub same_due : (o : LinkParameters) (link : ℕ) (run : List Mark) (mark : Mark) (es : List RunEvent) → events_at link Initiator run mark ≡ es → output_for_all (client_rules o) (client o link run) es ≡ [] →
     output_due o link Initiator (run ++ mark ∷ []) ≡ output_due o link Initiator run
-same-due o link run mark es is told = due-more_up o link run mark es [] is told ∙ append-nil (output_due o link Initiator run)
+same_due o link run mark es is told = due_more_up o link run mark es [] is told ∙ append-nil (output_due o link Initiator run)
 
 -- and to the server
-pub same-due_down : (o : LinkParameters) (link : ℕ) (run : List Mark) (mark : Mark) (es : List Event) → events_at link Responder run mark ≡ es → output_for_all (server_rules o) (server o link run) es ≡ [] →
+pub same_due_down : (o : LinkParameters) (link : ℕ) (run : List Mark) (mark : Mark) (es : List RunEvent) → events_at link Responder run mark ≡ es → output_for_all (server_rules o) (server o link run) es ≡ [] →
     output_due o link Responder (run ++ mark ∷ []) ≡ output_due o link Responder run
-same-due_down o link run mark es is told =
-    output_due_down-one o link run mark ∙ ap (λ (xs : List ℕ). output_due o link Responder run ++ xs) (ap (λ (xs : List Event). output_for_all (server_rules o) (server o link run) xs) is ∙ told)
+same_due_down o link run mark es is told =
+    output_due_down_one o link run mark ∙ ap (λ (xs : List ℕ). output_due o link Responder run ++ xs) (ap (λ (xs : List RunEvent). output_for_all (server_rules o) (server o link run) xs) is ∙ told)
     ∙ append-nil (output_due o link Responder run)
 
-wrote-leaves : (o : LinkParameters) (link : ℕ) (writer : Side) (run : List Mark) (bytes : List ℕ) → Leaves o link run (run ++ marks.Wrote link writer bytes ∷ [])
-wrote-leaves o link Initiator run bytes =
+wrote_leaves : (o : LinkParameters) (link : ℕ) (writer : Side) (run : List Mark) (bytes : List ℕ) → Leaves o link run (run ++ marks.Wrote link writer bytes ∷ [])
+wrote_leaves o link Initiator run bytes =
     let mark = marks.Wrote link Initiator bytes in
     let c = client o link run in
-    let s = same-server o link run mark [] (not_own link (QueueWritten (length bytes) ∷ [])) in
-    let k = same-client o link run mark (QueueWritten (length bytes) ∷ []) (own link (QueueWritten (length bytes) ∷ [])) in
-    let w = written-calls o c.state c.ended (length bytes) in
+    let s = same_server o link run mark [] (not_own link (QueueWritten (length bytes) ∷ [])) in
+    let k = same_client o link run mark (QueueWritten (length bytes) ∷ []) (own link (QueueWritten (length bytes) ∷ [])) in
+    let w = written_calls o c.state c.ended (length bytes) in
     record {
       client_end = ap (λ (r : EndState ClientState). r.ended) k ∙ w.ended;
       server_end = ap (λ (r : EndState ServerState). r.ended) s;
       reads = ap (λ (r : EndState ServerState). r.state.reads) s;
       ready = ap (λ (r : EndState ServerState). r.state.ready) s;
-      got = not-fed link run mark refl;
-      heard = not-heard link run mark refl;
-      due = same-due o link run mark (QueueWritten (length bytes) ∷ []) (own link (QueueWritten (length bytes) ∷ [])) w.quiet;
-      due_down = same-due_down o link run mark [] (not_own link (QueueWritten (length bytes) ∷ [])) refl;
+      got = not_fed_lem link run mark refl;
+      heard = not_heard link run mark refl;
+      due = same_due o link run mark (QueueWritten (length bytes) ∷ []) (own link (QueueWritten (length bytes) ∷ [])) w.quiet;
+      due_down = same_due_down o link run mark [] (not_own link (QueueWritten (length bytes) ∷ [])) refl;
       accepted = ap (λ (r : EndState ClientState). r.state.calls_accepted) k ∙ w.accepted;
       sends = ap (λ (r : EndState ServerState). r.state.received.sends) s;
-      dropped = no-drop link run mark refl;
+      dropped = no_drop link run mark refl;
     }
-wrote-leaves o link Responder run bytes =
+wrote_leaves o link Responder run bytes =
     let mark = marks.Wrote link Responder bytes in
-    let s = same-server o link run mark (QueueWritten (length bytes) ∷ []) (own link (QueueWritten (length bytes) ∷ [])) in
-    let k = same-client o link run mark [] (not_own link (QueueWritten (length bytes) ∷ [])) in
-    let w = written-work o (server o link run).state (server o link run).ended (length bytes) in
+    let s = same_server o link run mark (QueueWritten (length bytes) ∷ []) (own link (QueueWritten (length bytes) ∷ [])) in
+    let k = same_client o link run mark [] (not_own link (QueueWritten (length bytes) ∷ [])) in
+    let w = written_work o (server o link run).state (server o link run).ended (length bytes) in
     record {
       client_end = ap (λ (r : EndState ClientState). r.ended) k;
       server_end = ap (λ (r : EndState ServerState). r.ended) s ∙ w.ended;
       reads = ap (λ (r : EndState ServerState). r.state.reads) s ∙ w.reads;
       ready = ap (λ (r : EndState ServerState). r.state.ready) s ∙ w.ready;
-      got = not-fed link run mark refl;
-      heard = not-heard link run mark refl;
-      due = same-due o link run mark [] (not_own link (QueueWritten (length bytes) ∷ [])) refl;
-      due_down = same-due_down o link run mark (QueueWritten (length bytes) ∷ []) (own link (QueueWritten (length bytes) ∷ [])) w.quiet;
+      got = not_fed_lem link run mark refl;
+      heard = not_heard link run mark refl;
+      due = same_due o link run mark [] (not_own link (QueueWritten (length bytes) ∷ [])) refl;
+      due_down = same_due_down o link run mark (QueueWritten (length bytes) ∷ []) (own link (QueueWritten (length bytes) ∷ [])) w.quiet;
       accepted = ap (λ (r : EndState ClientState). r.state.calls_accepted) k;
       sends = ap (λ (r : EndState ServerState). r.state.received.sends) s ∙ w.sends;
-      dropped = no-drop link run mark refl;
+      dropped = no_drop link run mark refl;
     }
 
 -- an outcome that is handed over
-pub done-leaves : (o : LinkParameters) (link xid : ℕ) (outcome : Outcome) (run : List Mark) → Leaves o link run (run ++ marks.Done link xid outcome ∷ [])
-done-leaves o link xid outcome run =
+pub done_leaves : (o : LinkParameters) (link xid : ℕ) (outcome : Outcome) (run : List Mark) → Leaves o link run (run ++ marks.Done link xid outcome ∷ [])
+done_leaves o link xid outcome run =
     let mark = marks.Done link xid outcome in
-    let s = same-server o link run mark [] refl in
-    let k = same-client o link run mark [] refl in
+    let s = same_server o link run mark [] refl in
+    let k = same_client o link run mark [] refl in
     record {
       client_end = ap (λ (r : EndState ClientState). r.ended) k;
       server_end = ap (λ (r : EndState ServerState). r.ended) s;
       reads = ap (λ (r : EndState ServerState). r.state.reads) s;
       ready = ap (λ (r : EndState ServerState). r.state.ready) s;
-      got = not-fed link run mark refl;
-      heard = not-heard link run mark refl;
-      due = same-due o link run mark [] refl refl;
-      due_down = same-due_down o link run mark [] refl refl;
+      got = not_fed_lem link run mark refl;
+      heard = not_heard link run mark refl;
+      due = same_due o link run mark [] refl refl;
+      due_down = same_due_down o link run mark [] refl refl;
       accepted = ap (λ (r : EndState ClientState). r.state.calls_accepted) k;
       sends = ap (λ (r : EndState ServerState). r.state.received.sends) s;
-      dropped = no-drop link run mark refl;
+      dropped = no_drop link run mark refl;
     }
 
-pub output-leaves : (o : LinkParameters) (link : ℕ) (side : Side) (bytes : List ℕ) (d : Drill) → Leaves o link d.marks (after_output link side bytes d).marks
-output-leaves o link side [] d = leaves-all o link d.marks
-output-leaves o link side (b ∷ bytes) d = wrote-leaves o link side d.marks (b ∷ bytes)
+pub output_leaves : (o : LinkParameters) (link : ℕ) (side : Side) (bytes : List ℕ) (d : Drill) → Leaves o link d.marks (after_output link side bytes d).marks
+output_leaves o link side [] d = leaves_all o link d.marks
+output_leaves o link side (b ∷ bytes) d = wrote_leaves o link side d.marks (b ∷ bytes)
 
-pub settled-leaves : (s : Setting) (o : LinkParameters) (link : ℕ) (d : Drill) → Leaves o link d.marks (settled s link d).marks
+pub settled_leaves : (s : Setting) (o : LinkParameters) (link : ℕ) (d : Drill) → Leaves o link d.marks (settled s link d).marks
 unfolding settled
-settled-leaves s o link d =
+settled_leaves s o link d =
     let mid = after_all_output s link Initiator d in
-    leaves-through o link d.marks mid.marks (settled s link d).marks
-    (output-leaves o link Initiator (unwritten (s.opened link) link Initiator d.marks) d)
-    (output-leaves o link Responder (unwritten (s.opened link) link Responder mid.marks) mid)
+    leaves_through o link d.marks mid.marks (settled s link d).marks
+    (output_leaves o link Initiator (unwritten (s.opened link) link Initiator d.marks) d)
+    (output_leaves o link Responder (unwritten (s.opened link) link Responder mid.marks) mid)
 
 -- ===== what is left to write after a mark that writes nothing
 
-pub more-left : (o : LinkParameters) (link : ℕ) (side : Side) (run : List Mark) (mark : Mark) → written_at link side mark ≡ [] → IsDueOf o link side run →
+pub more_left : (o : LinkParameters) (link : ℕ) (side : Side) (run : List Mark) (mark : Mark) → written_at link side mark ≡ [] → IsDueOf o link side run →
     unwritten o link side (run ++ mark ∷ []) ≡ unwritten o link side run ++ more_due o link side run mark
-more-left o link side run mark none is =
-    left_is o link side (run ++ mark ∷ []) (unwritten o link side run ++ more_due o link side run mark) (due-more o link side run mark none is)
+more_left o link side run mark none is =
+    left_is o link side (run ++ mark ∷ []) (unwritten o link side run ++ more_due o link side run mark) (due_more o link side run mark none is)
 
 -- if the client has nothing to write, the server alone writes
-pub settled-down : (s : Setting) (link : ℕ) (d : Drill) → unwritten (s.opened link) link Initiator d.marks ≡ [] →
+pub settled_down : (s : Setting) (link : ℕ) (d : Drill) → unwritten (s.opened link) link Initiator d.marks ≡ [] →
     settled s link d ≡ after_output link Responder (unwritten (s.opened link) link Responder d.marks) d
 unfolding settled
-settled-down s link d none =
+settled_down s link d none =
     ap (λ (m : Drill). after_output link Responder (unwritten (s.opened link) link Responder m.marks) m) (ap (λ (xs : List ℕ). after_output link Initiator xs d) none)
 
 -- ===== pipes
@@ -225,43 +225,43 @@ set_pipes link pipes d room = get_or-set_same d.pipes (link - 1) pipes empty_pip
 pub set_room : (link : ℕ) (pipes : Pipes) (d : Drill) → link - 1 < length d.pipes → link - 1 < length (with_pipes link pipes d).pipes
 set_room link pipes d room = subst (λ (n : ℕ). link - 1 < n) (sym (length-set d.pipes (link - 1) pipes)) room
 
-pub down-leaves_up : (link : ℕ) (bytes : List ℕ) (d : Drill) → link - 1 < length d.pipes → (pipes_of link (after_output link Responder bytes d)).up ≡ (pipes_of link d).up
-down-leaves_up link [] d room = refl
-down-leaves_up link (b ∷ bytes) d room =
+pub down_leaves_up : (link : ℕ) (bytes : List ℕ) (d : Drill) → link - 1 < length d.pipes → (pipes_of link (after_output link Responder bytes d)).up ≡ (pipes_of link d).up
+down_leaves_up link [] d room = refl
+down_leaves_up link (b ∷ bytes) d room =
     ap (λ (p : Pipes). p.up) (set_pipes link (appended Responder (b ∷ bytes) (pipes_of link d)) (with_mark (marks.Wrote link Responder (b ∷ bytes)) d) room)
 
-pub up-leaves_down : (link : ℕ) (bytes : List ℕ) (d : Drill) → link - 1 < length d.pipes → (pipes_of link (after_output link Initiator bytes d)).down ≡ (pipes_of link d).down
-up-leaves_down link [] d room = refl
-up-leaves_down link (b ∷ bytes) d room =
+pub up_leaves_down : (link : ℕ) (bytes : List ℕ) (d : Drill) → link - 1 < length d.pipes → (pipes_of link (after_output link Initiator bytes d)).down ≡ (pipes_of link d).down
+up_leaves_down link [] d room = refl
+up_leaves_down link (b ∷ bytes) d room =
     ap (λ (p : Pipes). p.down) (set_pipes link (appended Initiator (b ∷ bytes) (pipes_of link d)) (with_mark (marks.Wrote link Initiator (b ∷ bytes)) d) room)
 
 -- ===== a call is executed
 
-executed-end : (o : LinkParameters) (k : ServerState) (call : ExecutedCall) →
+executed_end : (o : LinkParameters) (k : ServerState) (call : ExecutedCall) →
     ((end_state_after (server_rules o) (record { state = k; ended = None }) (CallExecuted call ∷ [])).ended ≡ None)
     × ((end_state_after (server_rules o) (record { state = k; ended = None }) (CallExecuted call ∷ [])).state.reads ≡ k.reads)
     × ((end_state_after (server_rules o) (record { state = k; ended = None }) (CallExecuted call ∷ [])).state.ready ≡ drop 1 k.ready)
 unfolding server_end server_state_after
-executed-end o k call = (refl, refl, refl)
+executed_end o k call = (refl, refl, refl)
 
 fewer : (ready : List ReadyCall) (call : ReadyCall) → slice_get ready 0 ≡ Some call → length (drop 1 ready) < length ready
 fewer [] call e = absurd cc
 fewer (r ∷ ready) call e = omega arith
 
 -- whose next call there is hasn't ended
-pub is-next : (ready : List ReadyCall) (ended : Option End) (call : ReadyCall) → first_ready ready ended ≡ Some call → (ended ≡ None) × (slice_get ready 0 ≡ Some call)
-is-next ready (Some end) call e = absurd cc
-is-next ready None call e = (refl, e)
+pub is_next_lem : (ready : List ReadyCall) (ended : Option End) (call : ReadyCall) → first_ready ready ended ≡ Some call → (ended ≡ None) × (slice_get ready 0 ≡ Some call)
+is_next_lem ready (Some end) call e = absurd cc
+is_next_lem ready None call e = (refl, e)
 
 -- a call that waits is the next one of a server
-waits-next : (dropped : Bool) (call : ReadyCall) (next : Option ReadyCall) → if_standing dropped next ≡ Some call → next ≡ Some call
-waits-next true call next e = absurd cc
-waits-next false call next e = e
+waits_next : (dropped : Bool) (call : ReadyCall) (next : Option ReadyCall) → if_standing dropped next ≡ Some call → next ≡ Some call
+waits_next true call next e = absurd cc
+waits_next false call next e = e
 
-pub executed-less : (s : Setting) (link : ℕ) (call : ReadyCall) (reply : List ℕ) (d : Drill) → Keeps s link d → link - 1 < length d.pipes → next_call (s.opened link) link d.marks ≡ Some call →
+pub executed_less : (s : Setting) (link : ℕ) (call : ReadyCall) (reply : List ℕ) (d : Drill) → Keeps s link d → link - 1 < length d.pipes → next_call (s.opened link) link d.marks ≡ Some call →
     IsLess (work_left s (after_answer s link call (Some reply) d) link) (work_left s d link)
 unfolding work_left send_bytes_left end_of_side next_call
-executed-less s link call reply d h room next =
+executed_less s link call reply d h room next =
     let o = s.opened link in
     let run = d.marks in
     let place = length (journal (plain_of s.server) run) in
@@ -270,22 +270,22 @@ executed-less s link call reply d h room next =
     let mid = with_mark mark d in
     let new = settled s link mid in
     let server_before = server o link run in
-    let first = is-next server_before.state.ready server_before.ended call next in
-    let done = executed-end o server_before.state (record { xid = call.xid; moment = now d; payload = call.payload; place = place; reply = reply }) in
-    let client_is = same-client o link run mark [] (not_own link (event ∷ [])) in
+    let first = is_next_lem server_before.state.ready server_before.ended call next in
+    let done = executed_end o server_before.state (record { xid = call.xid; moment = now d; payload = call.payload; place = place; reply = reply }) in
+    let client_is = same_client o link run mark [] (not_own link (event ∷ [])) in
     let server_is : server o link mid.marks ≡ end_state_after (server_rules o) (record { state = server_before.state; ended = None }) (event ∷ []) =
-    same-server o link run mark (event ∷ []) (own link (event ∷ []))
+    same_server o link run mark (event ∷ []) (own link (event ∷ []))
     ∙ (λ i. end_state_after (server_rules o) (record { state = server_before.state; ended = first.0 i }) (event ∷ [])) in
-    let leaves = settled-leaves s o link mid in
-    let kept = lawful-settled s link mid (lawful-mark o link run mark h.0 refl refl tt (λ same. record { call = call; is_next = next; own = refl; conveyed = refl }) tt) in
+    let leaves = settled_leaves s o link mid in
+    let kept = lawful_settled s link mid (lawful_mark o link run mark h.0 refl refl tt (λ same. record { call = call; is_next = next; own = refl; conveyed = refl }) tt) in
     let none : unwritten o link Initiator mid.marks ≡ [] =
-    more-left o link Initiator run mark refl h.0.client
+    more_left o link Initiator run mark refl h.0.client
     ∙ (λ i. h.1.client i ++ output_for_all (client_rules o) (client o link run) (not_own link (event ∷ []) i)) in
     let up : (pipes_of link new).up ≡ (pipes_of link d).up =
-    ap (λ (x : Drill). (pipes_of link x).up) (settled-down s link mid none) ∙ down-leaves_up link (unwritten o link Responder mid.marks) mid room in
+    ap (λ (x : Drill). (pipes_of link x).up) (settled_down s link mid none) ∙ down_leaves_up link (unwritten o link Responder mid.marks) mid room in
     let client_end : (client o link new.marks).ended ≡ (client o link run).ended = leaves.client_end ∙ ap (λ (r : EndState ClientState). r.ended) client_is in
     let server_end : (server o link new.marks).ended ≡ server_before.ended = leaves.server_end ∙ ap (λ (r : EndState ServerState). r.ended) server_is ∙ done.0 ∙ sym first.0 in
-    let got : bytes_received link Responder new.marks ≡ bytes_received link Responder run = leaves.got ∙ not-fed link run mark refl in
+    let got : bytes_received link Responder new.marks ≡ bytes_received link Responder run = leaves.got ∙ not_fed_lem link run mark refl in
     let reads : (server o link new.marks).state.reads ≡ server_before.state.reads = leaves.reads ∙ ap (λ (r : EndState ServerState). r.state.reads) server_is ∙ done.1 in
     let ready : (server o link new.marks).state.ready ≡ drop 1 server_before.state.ready = leaves.ready ∙ ap (λ (r : EndState ServerState). r.state.ready) server_is ∙ done.2 in
     inr (
@@ -299,21 +299,21 @@ executed-less s link call reply d h room next =
       ),
     )
 
-answered-less : (s : Setting) (link : ℕ) (call : ReadyCall) (reply : Option (List ℕ)) (d : Drill) → Keeps s link d → link - 1 < length d.pipes → next_call (s.opened link) link d.marks ≡ Some call →
+answered_less : (s : Setting) (link : ℕ) (call : ReadyCall) (reply : Option (List ℕ)) (d : Drill) → Keeps s link d → link - 1 < length d.pipes → next_call (s.opened link) link d.marks ≡ Some call →
     (after_answer s link call reply d).marks ≢ d.marks → IsLess (work_left s (after_answer s link call reply d) link) (work_left s d link)
-answered-less s link call None d h room next moved = absurd (moved refl)
-answered-less s link call (Some reply) d h room next moved = executed-less s link call reply d h room next
+answered_less s link call None d h room next moved = absurd (moved refl)
+answered_less s link call (Some reply) d h room next moved = executed_less s link call reply d h room next
 
-waiting-less : (s : Setting) (link : ℕ) (call : Option ReadyCall) (d : Drill) → Keeps s link d → link - 1 < length d.pipes →
+waiting_less : (s : Setting) (link : ℕ) (call : Option ReadyCall) (d : Drill) → Keeps s link d → link - 1 < length d.pipes →
     if_standing (is_dropped link d.marks) (next_call (s.opened link) link d.marks) ≡ call →
     (after_execution s link call d).marks ≢ d.marks → IsLess (work_left s (after_execution s link call d) link) (work_left s d link)
-waiting-less s link None d h room next moved = absurd (moved refl)
-waiting-less s link (Some call) d h room next moved =
-    answered-less s link call (s.server.reply_to (journal (plain_of s.server) d.marks) (now d) call.payload) d h room
-    (waits-next (is_dropped link d.marks) call (next_call (s.opened link) link d.marks) next) moved
+waiting_less s link None d h room next moved = absurd (moved refl)
+waiting_less s link (Some call) d h room next moved =
+    answered_less s link call (s.server.reply_to (journal (plain_of s.server) d.marks) (now d) call.payload) d h room
+    (waits_next (is_dropped link d.marks) call (next_call (s.opened link) link d.marks) next) moved
 
 -- a call that is executed leaves less work, on any link
-pub work-less : (s : Setting) (link : ℕ) (d : Drill) → Keeps s link d → link - 1 < length d.pipes → (after_work s link d).marks ≢ d.marks →
+pub work_less : (s : Setting) (link : ℕ) (d : Drill) → Keeps s link d → link - 1 < length d.pipes → (after_work s link d).marks ≢ d.marks →
     IsLess (work_left s (after_work s link d) link) (work_left s d link)
 unfolding after_work waiting_call
-work-less s link d h room moved = waiting-less s link (waiting_call s link d.marks) d h room refl moved
+work_less s link d h room moved = waiting_less s link (waiting_call s link d.marks) d h room refl moved

@@ -7,32 +7,32 @@ use Rattle.nr_script.specs.Script.{ScriptLines}
 use Rattle.nr_drill.specs.Drill.{SerialServer, Setting, Drill, links_of, after_round}
 use Rattle.nr_drill.specs.Follows.{Drains, Makes, MakeAll, Follows, setting_of, opened_drill}
 
-drains-once : (s : Setting) (links : List ℕ) (n m : ℕ) (old one two : Drill) → Drains s links n old one → Drains s links m old two → one ≡ two
-drains-once s links zero zero old one two h g = h.1 ∙ sym g.1
-drains-once s links zero (suc m) old one two h g = let e = sym h.0 ∙ g.0 in absurd cc
-drains-once s links (suc n) zero old one two h g = let e = sym g.0 ∙ h.0 in absurd cc
-drains-once s links (suc n) (suc m) old one two h g = drains-once s links n m (after_round s links old) one two h.1 g.1
+drains_once : (s : Setting) (links : List ℕ) (n m : ℕ) (old one two : Drill) → Drains s links n old one → Drains s links m old two → one ≡ two
+drains_once s links zero zero old one two h g = h.1 ∙ sym g.1
+drains_once s links zero (suc m) old one two h g = let e = sym h.0 ∙ g.0 in absurd cc
+drains_once s links (suc n) zero old one two h g = let e = sym g.0 ∙ h.0 in absurd cc
+drains_once s links (suc n) (suc m) old one two h g = drains_once s links n m (after_round s links old) one two h.1 g.1
 
-makes-once : (s : Setting) (clients : ℕ) (line : Line) (old one two : Drill) → Makes s clients line old one → Makes s clients line old two → one ≡ two
-makes-once s clients (lines.Cred client cred) old one two h g = h ∙ sym g
-makes-once s clients (lines.Call client form prog vers proc args) old one two h g = h ∙ sym g
-makes-once s clients (lines.Up client most) old one two h g = h ∙ sym g
-makes-once s clients (lines.Down client most) old one two h g = h ∙ sym g
-makes-once s clients (lines.Work client) old one two h g = h ∙ sym g
-makes-once s clients (lines.Tick seconds) old one two h g = h ∙ sym g
-makes-once s clients (lines.Forget client number) old one two h g = h ∙ sym g
-makes-once s clients (lines.Revoke client number) old one two h g = h ∙ sym g
-makes-once s clients (lines.Drop client) old one two h g = h ∙ sym g
-makes-once s clients (lines.Raw client side bytes) old one two h g = h ∙ sym g
-makes-once s clients lines.Drain old one two h g = drains-once s (links_of clients) h.0 g.0 old one two h.1 g.1
+makes_once : (s : Setting) (clients : ℕ) (line : Line) (old one two : Drill) → Makes s clients line old one → Makes s clients line old two → one ≡ two
+makes_once s clients (lines.Cred client cred) old one two h g = h ∙ sym g
+makes_once s clients (lines.Call client form prog vers proc args) old one two h g = h ∙ sym g
+makes_once s clients (lines.Up client most) old one two h g = h ∙ sym g
+makes_once s clients (lines.Down client most) old one two h g = h ∙ sym g
+makes_once s clients (lines.Work client) old one two h g = h ∙ sym g
+makes_once s clients (lines.Tick seconds) old one two h g = h ∙ sym g
+makes_once s clients (lines.Forget client number) old one two h g = h ∙ sym g
+makes_once s clients (lines.Revoke client number) old one two h g = h ∙ sym g
+makes_once s clients (lines.Drop client) old one two h g = h ∙ sym g
+makes_once s clients (lines.Raw client side bytes) old one two h g = h ∙ sym g
+makes_once s clients lines.Drain old one two h g = drains_once s (links_of clients) h.0 g.0 old one two h.1 g.1
 
-made-once : (s : Setting) (clients : ℕ) (all : List Line) (old one two : Drill) → MakeAll s clients all old one → MakeAll s clients all old two → one ≡ two
-made-once s clients [] old one two h g = h ∙ sym g
-made-once s clients (line ∷ all) old one two (mid, h, k) (other, g, l) =
-    let same : mid ≡ other = makes-once s clients line old mid other h g in
-    made-once s clients all mid one two k (subst (λ (d : Drill). MakeAll s clients all d two) (sym same) l)
+made_once : (s : Setting) (clients : ℕ) (all : List Line) (old one two : Drill) → MakeAll s clients all old one → MakeAll s clients all old two → one ≡ two
+made_once s clients [] old one two h g = h ∙ sym g
+made_once s clients (line ∷ all) old one two (mid, h, k) (other, g, l) =
+    let same : mid ≡ other = makes_once s clients line old mid other h g in
+    made_once s clients all mid one two k (subst (λ (d : Drill). MakeAll s clients all d two) (sym same) l)
 
 pub one_run : (server : SerialServer) (script : ScriptLines) (run other : List Mark) → Follows server script run → Follows server script other → run ≡ other
 one_run server script run other h g =
-    let same : h.last ≡ g.last = made-once (setting_of server script.opening) script.opening.clients script.lines (opened_drill server script.opening) h.last g.last h.makes g.makes in
+    let same : h.last ≡ g.last = made_once (setting_of server script.opening) script.opening.clients script.lines (opened_drill server script.opening) h.last g.last h.makes g.makes in
     h.marks_are ∙ ap (λ (d : Drill). d.marks) same ∙ sym g.marks_are

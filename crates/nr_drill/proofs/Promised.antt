@@ -8,22 +8,22 @@ use Rattle.nr_reduce.specs.declared.mark.Mark.TheVariants as marks
 use Rattle.nr_reduce.specs.declared.mark.LinkParameters.{LinkParameters}
 use Rattle.nr_reduce.specs.declared.outline.Plan.{Plan}
 use Rattle.nr_reduce.specs.PlainJournal.{PlainServer, journal}
-use Rattle.nr_reduce.specs.Journal.{Plainly, PlainMark}
-use Rattle.nr_reduce.specs.IsPlain.{IsPlain}
+use Rattle.nr_reduce.specs.Journal.{AnsweredByPlainServer, PlainMark}
+use Rattle.nr_reduce.specs.KeepsReplyLimits.{KeepsReplyLimits}
 use Rattle.nr_reduce.specs.Matched.{IsPrefixOf, Matched}
 use Rattle.nr_reduce.specs.Asked.{AskedMark, IsAll}
 use Rattle.nr_reduce.specs.Served.{ServedMark}
 use Rattle.nr_reduce.specs.SoFar.{InFull}
 use Rattle.nr_reduce.specs.Run.{end_of_side}
-use Rattle.nr_reduce.proofs.SoFarLaws.{AtEachMark-each, asked-mark, served-mark}
+use Rattle.nr_reduce.proofs.SoFarLaws.{AtEachMark_each, asked_mark, served_mark}
 use Rattle.nr_laws.specs.MarkAt.{MarkAt}
 use Rattle.nr_laws.specs.MatchedSoFar.{MatchedSoFar}
 use Rattle.nr_laws.specs.Typed.{IsTyped}
 use Rattle.nr_laws.specs.Payloads.{HasPlan}
-use Rattle.nr_laws.specs.PlainLinks.{PlainlyOn, PlainOnMark, HasPlainReplies}
+use Rattle.nr_laws.specs.PlainLinks.{AnsweredByPlainServerOn, PlainOnMark, HasPlainReplies}
 use Rattle.nr_laws.specs.EndCauses.{KeepLaws}
 use Rattle.nr_laws.specs.Stays.{HasNoRevoke, AreConveyedOrRefused}
-use Rattle.nr_laws.specs.Completion.{NothingWaits, HaveCompleted}
+use Rattle.nr_laws.specs.Completion.{NothingInTransit, HaveCompleted}
 use Rattle.nr_laws.proofs.PlacedLinks.{plain_links_have_plain_replies}
 use Rattle.nr_laws.proofs.RepliedPlans.{replies_have_plans}
 use Rattle.nr_laws.proofs.PlainReplies.{replies_are_plain}
@@ -31,7 +31,7 @@ use Rattle.nr_laws.proofs.ChunkCauses.{chunk_has_cause}
 use Rattle.nr_laws.proofs.Completed.{no_other_version}
 use Rattle.nr_laws.proofs.AutoReplies.{auto_has_replies}
 use Rattle.nr_laws.proofs.Following.{places_follow}
-use Rattle.nr_laws.proofs.NeitherEnds.{links-stay, matched-calls-complete}
+use Rattle.nr_laws.proofs.NeitherEnds.{links_stay, matched_calls_complete}
 use Rattle.nr_script.specs.Script.{ScriptLines, IsScript}
 use Rattle.nr_drill.specs.Drill.{SerialServer, plain_of}
 use Rattle.nr_drill.specs.Follows.{Follows, parameters_of}
@@ -41,8 +41,8 @@ use Rattle.nr_drill.proofs.Carried.{follows_keeps}
 
 so_far : (script : ScriptLines) (o : LinkParameters) (link : ℕ) (run : List Mark) → KeepsLaws script o link run → Matched link run → MatchedSoFar o link run
 so_far script o link run laws matched = record {
-  asked = AtEachMark-each (AskedMark IsAll o link) (AskedMark IsPrefixOf o link) [] run (asked-mark o link) laws.asked.each;
-  served = AtEachMark-each (ServedMark IsAll o link) (ServedMark IsPrefixOf o link) [] run (served-mark o link) laws.served.each;
+  asked = AtEachMark_each (AskedMark IsAll o link) (AskedMark IsPrefixOf o link) [] run (asked_mark o link) laws.asked.each;
+  served = AtEachMark_each (ServedMark IsAll o link) (ServedMark IsPrefixOf o link) [] run (served_mark o link) laws.served.each;
   matched = matched;
 }
 
@@ -57,10 +57,10 @@ on_link plain link before (marks.Forget l xid) h = tt
 on_link plain link before (marks.Revoke l xid bytes) h = tt
 on_link plain link before (marks.Drop l) h = tt
 
-pub plainly_on : (plain : PlainServer) (link : ℕ) (run : List Mark) → Plainly plain run → PlainlyOn plain link run
-plainly_on plain link run h = AtEachMark-each (PlainMark plain) (PlainOnMark plain link) [] run (on_link plain link) h
+pub plainly_on : (plain : PlainServer) (link : ℕ) (run : List Mark) → AnsweredByPlainServer plain run → AnsweredByPlainServerOn plain link run
+plainly_on plain link run h = AtEachMark_each (PlainMark plain) (PlainOnMark plain link) [] run (on_link plain link) h
 
-pub replied_on : (server : SerialServer) (link : ℕ) (run : List Mark) → Plainly (plain_of server) run → HasPlainReplies (plain_of server) link run
+pub replied_on : (server : SerialServer) (link : ℕ) (run : List Mark) → AnsweredByPlainServer (plain_of server) run → HasPlainReplies (plain_of server) link run
 replied_on server link run h = plain_links_have_plain_replies server.reply_to server.adds link run (plainly_on (plain_of server) link run h)
 
 -- a call that was accepted before a mark of a run was accepted in the run
@@ -85,9 +85,9 @@ pub record Promise (server : SerialServer) (script : ScriptLines) (run : List Ma
   pub server_stays : (link : ℕ) → IsLink script link → HasNoRaw script link → HasNoRevoke link run → AreConveyedOrRefused (parameters_of script.opening link) link run →
       end_of_side (parameters_of script.opening link) link Responder run ≡ None
   pub complete : (link : ℕ) → IsLink script link → HasNoRaw script link → HasNoRevoke link run → AreConveyedOrRefused (parameters_of script.opening link) link run →
-      NothingWaits (parameters_of script.opening link) link run → HaveCompleted (parameters_of script.opening link) link run
+      NothingInTransit (parameters_of script.opening link) link run → HaveCompleted (parameters_of script.opening link) link run
 
-pub follows_promises : (server : SerialServer) (script : ScriptLines) (run : List Mark) → IsScript script → IsPlain (plain_of server) → IsTyped run → Follows server script run → Promise server script run
+pub follows_promises : (server : SerialServer) (script : ScriptLines) (run : List Mark) → IsScript script → KeepsReplyLimits (plain_of server) → IsTyped run → Follows server script run → Promise server script run
 unfolding in_run journal
 follows_promises server script run is plain typed follows =
     let J = journal (plain_of server) run in
@@ -116,10 +116,10 @@ follows_promises server script run is plain typed follows =
           places_follow server.adds J (parameters_of script.opening link) (parameters_of script.opening other_link) link other_link run before between before_first before_second call form xid other_xid outcome
           moment other_moment payload other_payload place other_place reply other_reply typed (sofar link within raw) (sofar other_link other_within other_raw) (record { is = refl; places = told.0.places }) done first second;
       client_stays = λ link within raw kept_memory conveyed.
-          (links-stay server.reply_to server.adds (parameters_of script.opening link) link run (opened_by_script script is link) typed (kept link within raw) kept_memory conveyed plain (replied_on server link run told.1)).0;
+          (links_stay server.reply_to server.adds (parameters_of script.opening link) link run (opened_by_script script is link) typed (kept link within raw) kept_memory conveyed plain (replied_on server link run told.1)).0;
       server_stays = λ link within raw kept_memory conveyed.
-          (links-stay server.reply_to server.adds (parameters_of script.opening link) link run (opened_by_script script is link) typed (kept link within raw) kept_memory conveyed plain (replied_on server link run told.1)).1;
+          (links_stay server.reply_to server.adds (parameters_of script.opening link) link run (opened_by_script script is link) typed (kept link within raw) kept_memory conveyed plain (replied_on server link run told.1)).1;
       complete = λ link within raw kept_memory conveyed waits.
-          matched-calls-complete server.reply_to server.adds (parameters_of script.opening link) link run (opened_by_script script is link) typed (full link within raw) kept_memory conveyed plain
+          matched_calls_complete server.reply_to server.adds (parameters_of script.opening link) link run (opened_by_script script is link) typed (full link within raw) kept_memory conveyed plain
           (replied_on server link run told.1) waits;
     }

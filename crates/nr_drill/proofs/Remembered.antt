@@ -4,7 +4,7 @@ use Rattle.nr_reduce.specs.declared.mark.Mark.{Mark}
 use Rattle.nr_reduce.specs.declared.mark.LinkParameters.{LinkParameters}
 use Rattle.nr_reduce.specs.Asked.{AskedMark, AskedSoFar, IsAll, Asked}
 use Rattle.nr_reduce.specs.Matched.{IsPrefixOf}
-use Rattle.nr_reduce.proofs.SoFarLaws.{AtEachMark-each, asked-mark}
+use Rattle.nr_reduce.proofs.SoFarLaws.{AtEachMark_each, asked_mark}
 use Rattle.nr_laws.specs.Typed.{IsTyped}
 use Rattle.nr_laws.proofs.Touched.{client_touched, server_touched}
 use Rattle.nr_laws.proofs.Frozen.{revoke_stands}
@@ -13,9 +13,9 @@ use Rattle.nr_laws.proofs.AllowedBytes.{client_bytes_are_allowed, server_bytes_a
 use Rattle.nr_laws.proofs.SentBytes.{sent_bytes_are_allowed}
 use Rattle.nr_drill.specs.Memory.{KeepsMemory}
 
-pub keeps-memory : (opened : LinkParameters) (link : ℕ) (run : List Mark) → IsTyped run → Asked opened link run → KeepsMemory opened link run
-keeps-memory opened link run typed asked =
-    let sofar : AskedSoFar opened link run = AtEachMark-each (AskedMark IsAll opened link) (AskedMark IsPrefixOf opened link) [] run (asked-mark opened link) asked.each in
+pub keeps_memory : (opened : LinkParameters) (link : ℕ) (run : List Mark) → IsTyped run → Asked opened link run → KeepsMemory opened link run
+keeps_memory opened link run typed asked =
+    let sofar : AskedSoFar opened link run = AtEachMark_each (AskedMark IsAll opened link) (AskedMark IsPrefixOf opened link) [] run (asked_mark opened link) asked.each in
     record {
       client_touched = client_touched opened link run;
       server_touched = server_touched opened link run;

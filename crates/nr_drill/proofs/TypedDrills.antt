@@ -4,7 +4,7 @@ use Rattle.std.specs.List.{AllByRecursion}
 use Rattle.std.proofs.Common.{◌≡◌, ℕ, zero, suc, ◌+◌, ◌^◌, ◌<◌, Bool, true, false, List, [], ◌∷◌, ◌++◌, length, map, take, drop, Option, None, Some, refl, sym, ap, subst, ◌∙◌, append-nil}
 use Rattle.nr_xdr.specs.Item.{IsBytes}
 use Rattle.nr_xdr.specs.Item.Item.{Unsigned}
-use Rattle.nr_xdr.proofs.WordBytes.{IsBytes-take, IsBytes-drop}
+use Rattle.nr_xdr.proofs.WordBytes.{IsBytes_take, IsBytes_drop}
 use Rattle.nr_wire.specs.declared.hello.Side.{Side}
 use Rattle.nr_wire.specs.declared.hello.Side.TheVariants.{Initiator, Responder}
 use Rattle.nr_rpc.specs.declared.cred.Cred.{Cred}
@@ -31,10 +31,10 @@ use Rattle.nr_reduce.specs.SubmitAnswer.{submit_answer_after}
 use Rattle.nr_reduce.specs.Served.{first_ready, next_call}
 use Rattle.nr_reduce.specs.Run.{server, output_due}
 use Rattle.nr_reduce.specs.Asked.{revoked_bytes}
-use Rattle.nr_reduce.proofs.Steps.{AtEachMark-first}
-use Rattle.nr_reduce.proofs.SoFarLaws.{AtEachMark-each}
-use Rattle.nr_reduce.proofs.Placing.{AtEachMark-at}
-use Rattle.nr_reduce.proofs.Standing.{AtEachMark-more, one_more}
+use Rattle.nr_reduce.proofs.Steps.{AtEachMark_first}
+use Rattle.nr_reduce.proofs.SoFarLaws.{AtEachMark_each}
+use Rattle.nr_reduce.proofs.Placing.{AtEachMark_at}
+use Rattle.nr_reduce.proofs.Standing.{AtEachMark_more, one_more}
 use Rattle.nr_laws.specs.Typed.{IsTypedForm, TypedMark, IsTyped}
 use Rattle.nr_laws.proofs.Bytes.{bytes_both}
 use Rattle.nr_script.specs.declared.script.Line.{Line}
@@ -43,10 +43,10 @@ use Rattle.nr_script.specs.Script.{ScriptLines, IsTypedCred, HasWordPosition, Is
 use Rattle.nr_drill.specs.Drill.{SerialServer, Setting, Drill, Pipes, plain_of, now, unwritten, after_output, after_all_output, settled, pipes_of, with_pipes, with_mark, with_cred, appended, empty_pipes, cred_of, after_submit, after_feeding, after_feeding_up, after_up, if_standing, waiting_call, after_answer, after_execution, after_work, after_calls, after_drop, after_raw, after_feeding_down, after_handing, after_done, after_dones, after_outcomes, after_down, answer_of_line, open_xid, after_giving_up, after_forget, after_taking_back, after_revoke, after_all_up, after_all_work, after_moves, after_round, after_opening, after_openings, start, links_of}
 use Rattle.nr_drill.specs.Follows.{after_line, Drains, Makes, MakeAll, Follows, setting_of, opened_drill}
 use Rattle.nr_drill.specs.InBytes.{RepliedMark, RepliedInBytes, RepliesInBytes}
-use Rattle.nr_script.proofs.ByteLists.{no-bytes}
-use Rattle.nr_script.proofs.ByteLists.{AreOfBytes, items-bytes}
-use Rattle.nr_drill.proofs.ByteClients.{client-due}
-use Rattle.nr_drill.proofs.ByteServers.{ReadyOfBytes, server-due, ready-bytes}
+use Rattle.nr_script.proofs.ByteLists.{no_bytes_lem}
+use Rattle.nr_script.proofs.ByteLists.{AreOfBytes, items_bytes}
+use Rattle.nr_drill.proofs.ByteClients.{client_due}
+use Rattle.nr_drill.proofs.ByteServers.{ReadyOfBytes, server_due, ready_bytes}
 
 -- ===== a drill that is of its types
 
@@ -58,106 +58,106 @@ pub record IsTypedDrill (d : Drill) : Type 0 where
   pub pipes : AllByRecursion PipesOfBytes d.pipes
   pub creds : AllByRecursion IsTypedCred d.creds
 
-pipes-at : (all : List Pipes) (i : ℕ) → AllByRecursion PipesOfBytes all → PipesOfBytes (slice_index_or all i empty_pipes)
-pipes-at [] i h = (no-bytes, no-bytes)
-pipes-at (p ∷ all) zero h = h.0
-pipes-at (p ∷ all) (suc i) h = pipes-at all i h.1
+pipes_at : (all : List Pipes) (i : ℕ) → AllByRecursion PipesOfBytes all → PipesOfBytes (slice_index_or all i empty_pipes)
+pipes_at [] i h = (no_bytes_lem, no_bytes_lem)
+pipes_at (p ∷ all) zero h = h.0
+pipes_at (p ∷ all) (suc i) h = pipes_at all i h.1
 
-with-pipes-at : (all : List Pipes) (i : ℕ) (p : Pipes) → AllByRecursion PipesOfBytes all → PipesOfBytes p → AllByRecursion PipesOfBytes (slice_set all i p)
-with-pipes-at [] i p h g = tt
-with-pipes-at (x ∷ all) zero p h g = (g, h.1)
-with-pipes-at (x ∷ all) (suc i) p h g = (h.0, with-pipes-at all i p h.1 g)
+with_pipes_at : (all : List Pipes) (i : ℕ) (p : Pipes) → AllByRecursion PipesOfBytes all → PipesOfBytes p → AllByRecursion PipesOfBytes (slice_set all i p)
+with_pipes_at [] i p h g = tt
+with_pipes_at (x ∷ all) zero p h g = (g, h.1)
+with_pipes_at (x ∷ all) (suc i) p h g = (h.0, with_pipes_at all i p h.1 g)
 
-cred-at : (all : List Cred) (i : ℕ) → AllByRecursion IsTypedCred all → IsTypedCred (slice_index_or all i creds.None)
-cred-at [] i h = tt
-cred-at (c ∷ all) zero h = h.0
-cred-at (c ∷ all) (suc i) h = cred-at all i h.1
+cred_at_lem : (all : List Cred) (i : ℕ) → AllByRecursion IsTypedCred all → IsTypedCred (slice_index_or all i creds.None)
+cred_at_lem [] i h = tt
+cred_at_lem (c ∷ all) zero h = h.0
+cred_at_lem (c ∷ all) (suc i) h = cred_at_lem all i h.1
 
-with-cred-at : (all : List Cred) (i : ℕ) (c : Cred) → AllByRecursion IsTypedCred all → IsTypedCred c → AllByRecursion IsTypedCred (slice_set all i c)
-with-cred-at [] i c h g = tt
-with-cred-at (x ∷ all) zero c h g = (g, h.1)
-with-cred-at (x ∷ all) (suc i) c h g = (h.0, with-cred-at all i c h.1 g)
+with_cred_at_lem : (all : List Cred) (i : ℕ) (c : Cred) → AllByRecursion IsTypedCred all → IsTypedCred c → AllByRecursion IsTypedCred (slice_set all i c)
+with_cred_at_lem [] i c h g = tt
+with_cred_at_lem (x ∷ all) zero c h g = (g, h.1)
+with_cred_at_lem (x ∷ all) (suc i) c h g = (h.0, with_cred_at_lem all i c h.1 g)
 
 marked : (mark : Mark) (d : Drill) → TypedMark d.marks mark → IsTypedDrill d → IsTypedDrill (with_mark mark d)
-marked mark d t h = record { typed = AtEachMark-more TypedMark [] d.marks mark h.typed t; pipes = h.pipes; creds = h.creds }
+marked mark d t h = record { typed = AtEachMark_more TypedMark [] d.marks mark h.typed t; pipes = h.pipes; creds = h.creds }
 
 piped : (link : ℕ) (p : Pipes) (d : Drill) → PipesOfBytes p → IsTypedDrill d → IsTypedDrill (with_pipes link p d)
-piped link p d g h = record { typed = h.typed; pipes = with-pipes-at d.pipes (link - 1) p h.pipes g; creds = h.creds }
+piped link p d g h = record { typed = h.typed; pipes = with_pipes_at d.pipes (link - 1) p h.pipes g; creds = h.creds }
 
-behind-bytes : (side : Side) (bytes : List ℕ) (p : Pipes) → IsBytes bytes → PipesOfBytes p → PipesOfBytes (appended side bytes p)
-behind-bytes Initiator bytes p b h = (bytes_both p.up bytes h.0 b, h.1)
-behind-bytes Responder bytes p b h = (h.0, bytes_both p.down bytes h.1 b)
+behind_bytes : (side : Side) (bytes : List ℕ) (p : Pipes) → IsBytes bytes → PipesOfBytes p → PipesOfBytes (appended side bytes p)
+behind_bytes Initiator bytes p b h = (bytes_both p.up bytes h.0 b, h.1)
+behind_bytes Responder bytes p b h = (h.0, bytes_both p.down bytes h.1 b)
 
 -- ===== each step of a drill
 
 -- what a side has to write, and hasn't written, are bytes
-unwritten-bytes : (o : LinkParameters) (link : ℕ) (side : Side) (run : List Mark) → IsTyped run → IsBytes (unwritten o link side run)
+unwritten_bytes : (o : LinkParameters) (link : ℕ) (side : Side) (run : List Mark) → IsTyped run → IsBytes (unwritten o link side run)
 unfolding unwritten
-unwritten-bytes o link Initiator run typed = IsBytes-drop (length (bytes_sent link Initiator run)) (output_due o link Initiator run) (client-due o link run typed)
-unwritten-bytes o link Responder run typed = IsBytes-drop (length (bytes_sent link Responder run)) (output_due o link Responder run) (server-due o link run typed)
+unwritten_bytes o link Initiator run typed = IsBytes_drop (length (bytes_sent link Initiator run)) (output_due o link Initiator run) (client_due o link run typed)
+unwritten_bytes o link Responder run typed = IsBytes_drop (length (bytes_sent link Responder run)) (output_due o link Responder run) (server_due o link run typed)
 
-output-typed : (link : ℕ) (side : Side) (bytes : List ℕ) (d : Drill) → IsBytes bytes → IsTypedDrill d → IsTypedDrill (after_output link side bytes d)
-output-typed link side [] d b h = h
-output-typed link side (x ∷ bytes) d b h =
-    piped link (appended side (x ∷ bytes) (pipes_of link d)) (with_mark (marks.Wrote link side (x ∷ bytes)) d) (behind-bytes side (x ∷ bytes) (pipes_of link d) b (pipes-at d.pipes (link - 1) h.pipes))
+output_typed : (link : ℕ) (side : Side) (bytes : List ℕ) (d : Drill) → IsBytes bytes → IsTypedDrill d → IsTypedDrill (after_output link side bytes d)
+output_typed link side [] d b h = h
+output_typed link side (x ∷ bytes) d b h =
+    piped link (appended side (x ∷ bytes) (pipes_of link d)) (with_mark (marks.Wrote link side (x ∷ bytes)) d) (behind_bytes side (x ∷ bytes) (pipes_of link d) b (pipes_at d.pipes (link - 1) h.pipes))
     (marked (marks.Wrote link side (x ∷ bytes)) d tt h)
 
-fed-typed : (link : ℕ) (side : Side) (bytes : List ℕ) (rest : Pipes) (d : Drill) → IsBytes bytes → PipesOfBytes rest → IsTypedDrill d → IsTypedDrill (after_feeding link side bytes rest d)
-fed-typed link side [] rest d b g h = h
-fed-typed link side (x ∷ bytes) rest d b g h = piped link rest (with_mark (marks.Fed link side (x ∷ bytes)) d) g (marked (marks.Fed link side (x ∷ bytes)) d b h)
+fed_typed : (link : ℕ) (side : Side) (bytes : List ℕ) (rest : Pipes) (d : Drill) → IsBytes bytes → PipesOfBytes rest → IsTypedDrill d → IsTypedDrill (after_feeding link side bytes rest d)
+fed_typed link side [] rest d b g h = h
+fed_typed link side (x ∷ bytes) rest d b g h = piped link rest (with_mark (marks.Fed link side (x ∷ bytes)) d) g (marked (marks.Fed link side (x ∷ bytes)) d b h)
 
-fed_up-typed : (link n : ℕ) (d : Drill) → IsTypedDrill d → IsTypedDrill (after_feeding_up link n d)
-fed_up-typed link n d h =
+fed_up_typed : (link n : ℕ) (d : Drill) → IsTypedDrill d → IsTypedDrill (after_feeding_up link n d)
+fed_up_typed link n d h =
     let pipes = pipes_of link d in
-    let p = pipes-at d.pipes (link - 1) h.pipes in
-    fed-typed link Responder (take n pipes.up) (record pipes { up = drop n pipes.up }) d (IsBytes-take n pipes.up p.0) (IsBytes-drop n pipes.up p.0, p.1) h
+    let p = pipes_at d.pipes (link - 1) h.pipes in
+    fed_typed link Responder (take n pipes.up) (record pipes { up = drop n pipes.up }) d (IsBytes_take n pipes.up p.0) (IsBytes_drop n pipes.up p.0, p.1) h
 
-fed_down-typed : (link n : ℕ) (d : Drill) → IsTypedDrill d → IsTypedDrill (after_feeding_down link n d)
-fed_down-typed link n d h =
+fed_down_typed : (link n : ℕ) (d : Drill) → IsTypedDrill d → IsTypedDrill (after_feeding_down link n d)
+fed_down_typed link n d h =
     let pipes = pipes_of link d in
-    let p = pipes-at d.pipes (link - 1) h.pipes in
-    fed-typed link Initiator (take n pipes.down) (record pipes { down = drop n pipes.down }) d (IsBytes-take n pipes.down p.1) (p.0, IsBytes-drop n pipes.down p.1) h
+    let p = pipes_at d.pipes (link - 1) h.pipes in
+    fed_typed link Initiator (take n pipes.down) (record pipes { down = drop n pipes.down }) d (IsBytes_take n pipes.down p.1) (p.0, IsBytes_drop n pipes.down p.1) h
 
-handed-typed : (link : ℕ) (c : Option CompletedCall) (d : Drill) → IsTypedDrill d → IsTypedDrill (after_handing link c d)
-handed-typed link None d h = h
-handed-typed link (Some c) d h = marked (marks.Done link c.xid c.outcome) d tt h
+handed_typed : (link : ℕ) (c : Option CompletedCall) (d : Drill) → IsTypedDrill d → IsTypedDrill (after_handing link c d)
+handed_typed link None d h = h
+handed_typed link (Some c) d h = marked (marks.Done link c.xid c.outcome) d tt h
 
 -- ----- a call
 
-unsigned-all : (ns : List ℕ) → AreOfBytes (map Unsigned ns)
-unsigned-all [] = tt
-unsigned-all (n ∷ ns) = (tt, unsigned-all ns)
+unsigned_all : (ns : List ℕ) → AreOfBytes (map Unsigned ns)
+unsigned_all [] = tt
+unsigned_all (n ∷ ns) = (tt, unsigned_all ns)
 
-auth-bytes : (cred : Cred) → IsTypedCred cred → IsBytes (auth_of cred).body
-auth-bytes creds.None h = no-bytes
-auth-bytes (creds.Sys stamp machine uid gid gids) h = items-bytes (sys_items stamp machine uid gid gids) (tt, (h.0, (tt, (tt, (tt, unsigned-all gids)))))
-auth-bytes (creds.Other flavor) h = no-bytes
+auth_bytes_lem : (cred : Cred) → IsTypedCred cred → IsBytes (auth_of cred).body
+auth_bytes_lem creds.None h = no_bytes_lem
+auth_bytes_lem (creds.Sys stamp machine uid gid gids) h = items_bytes (sys_items stamp machine uid gid gids) (tt, (h.0, (tt, (tt, (tt, unsigned_all gids)))))
+auth_bytes_lem (creds.Other flavor) h = no_bytes_lem
 
-payload-is-bytes : (xid : ℕ) (call : Call) → IsTypedCred call.cred → IsBytes call.args → IsBytes (call_payload xid call)
+payload_is_bytes : (xid : ℕ) (call : Call) → IsTypedCred call.cred → IsBytes call.args → IsBytes (call_payload xid call)
 unfolding call_payload
-payload-is-bytes xid call cred args =
+payload_is_bytes xid call cred args =
     bytes_both (call_head (Version2 xid call.prog call.vers call.proc call.cred 0)) call.args
-    (items-bytes (version2_items xid call.prog call.vers call.proc (auth_of call.cred) no_verifier)
-    (tt, (tt, (tt, (tt, (tt, (tt, (tt, (auth-bytes call.cred cred, (tt, (no-bytes, tt)))))))))))
+    (items_bytes (version2_items xid call.prog call.vers call.proc (auth_of call.cred) no_verifier)
+    (tt, (tt, (tt, (tt, (tt, (tt, (tt, (auth_bytes_lem call.cred cred, (tt, (no_bytes_lem, tt)))))))))))
     args
 
-cred-fits : (cred : Cred) → IsTypedCred cred → CredFits cred
-cred-fits creds.None h = tt
-cred-fits (creds.Sys stamp machine uid gid gids) h = h.1
-cred-fits (creds.Other flavor) h = h
+cred_fits : (cred : Cred) → IsTypedCred cred → CredFits cred
+cred_fits creds.None h = tt
+cred_fits (creds.Sys stamp machine uid gid gids) h = h.1
+cred_fits (creds.Other flavor) h = h
 
-typed-form : (form : Form) → HasWordPosition form → IsTypedForm form
-typed-form forms.Auto h = tt
-typed-form forms.Inline h = tt
-typed-form forms.Chunk h = tt
-typed-form forms.Long h = tt
-typed-form (forms.Given offer) h = h
+typed_form : (form : Form) → HasWordPosition form → IsTypedForm form
+typed_form forms.Auto h = tt
+typed_form forms.Inline h = tt
+typed_form forms.Chunk h = tt
+typed_form forms.Long h = tt
+typed_form (forms.Given offer) h = h
 
-submit-mark : (link : ℕ) (run : List Mark) (call : Call) (form : Form) (answer : Submission) → HasWordPosition form → (call.prog < 2 ^ 32) × (call.vers < 2 ^ 32) × (call.proc < 2 ^ 32) × IsBytes call.args → IsTypedCred call.cred →
+submit_mark : (link : ℕ) (run : List Mark) (call : Call) (form : Form) (answer : Submission) → HasWordPosition form → (call.prog < 2 ^ 32) × (call.vers < 2 ^ 32) × (call.proc < 2 ^ 32) × IsBytes call.args → IsTypedCred call.cred →
     TypedMark run (marks.Submit link call form answer)
-submit-mark link run call form (submissions.Accepted xid) f h c = (payload-is-bytes xid call c h.3, typed-form form f, (h.0, h.1, h.2, cred-fits call.cred c))
-submit-mark link run call form (submissions.Refused why) f h c = tt
-submit-mark link run call form submissions.Dropped f h c = tt
+submit_mark link run call form (submissions.Accepted xid) f h c = (payload_is_bytes xid call c h.3, typed_form form f, (h.0, h.1, h.2, cred_fits call.cred c))
+submit_mark link run call form (submissions.Refused why) f h c = tt
+submit_mark link run call form submissions.Dropped f h c = tt
 
 -- ===== what each line keeps
 
@@ -175,162 +175,162 @@ pub record KeptBySteps (s : Setting) (P : Drill → Type 0) : Type 0 where
   pub executes : (link : ℕ) (call : ReadyCall) (reply : List ℕ) (d : Drill) → waiting_call s link d.marks ≡ Some call →
       s.server.reply_to (journal (plain_of s.server) d.marks) (now d) call.payload ≡ Some reply → P d → P (executed s link call reply d)
 
-output-quiet : (s : Setting) (link : ℕ) (side : Side) (bytes : List ℕ) (d : Drill) → AddsQuiet s d (after_output link side bytes d)
-output-quiet s link side [] d = Same refl
-output-quiet s link side (b ∷ bytes) d = More (marks.Wrote link side (b ∷ bytes)) refl refl
+output_quiet : (s : Setting) (link : ℕ) (side : Side) (bytes : List ℕ) (d : Drill) → AddsQuiet s d (after_output link side bytes d)
+output_quiet s link side [] d = Same refl
+output_quiet s link side (b ∷ bytes) d = More (marks.Wrote link side (b ∷ bytes)) refl refl
 
-fed-quiet : (s : Setting) (link : ℕ) (side : Side) (bytes : List ℕ) (rest : Pipes) (d : Drill) → AddsQuiet s d (after_feeding link side bytes rest d)
-fed-quiet s link side [] rest d = Same refl
-fed-quiet s link side (b ∷ bytes) rest d = More (marks.Fed link side (b ∷ bytes)) refl refl
+fed_quiet : (s : Setting) (link : ℕ) (side : Side) (bytes : List ℕ) (rest : Pipes) (d : Drill) → AddsQuiet s d (after_feeding link side bytes rest d)
+fed_quiet s link side [] rest d = Same refl
+fed_quiet s link side (b ∷ bytes) rest d = More (marks.Fed link side (b ∷ bytes)) refl refl
 
-handing-quiet : (s : Setting) (link : ℕ) (c : Option CompletedCall) (d : Drill) → AddsQuiet s d (after_handing link c d)
-handing-quiet s link None d = Same refl
-handing-quiet s link (Some c) d = More (marks.Done link c.xid c.outcome) refl refl
+handing_quiet : (s : Setting) (link : ℕ) (c : Option CompletedCall) (d : Drill) → AddsQuiet s d (after_handing link c d)
+handing_quiet s link None d = Same refl
+handing_quiet s link (Some c) d = More (marks.Done link c.xid c.outcome) refl refl
 
-all_output-keeps : (s : Setting) (P : Drill → Type 0) → KeptBySteps s P → (link : ℕ) (side : Side) (d : Drill) → P d → P (after_all_output s link side d)
-all_output-keeps s P k link side d h =
+all_output_keeps : (s : Setting) (P : Drill → Type 0) → KeptBySteps s P → (link : ℕ) (side : Side) (d : Drill) → P d → P (after_all_output s link side d)
+all_output_keeps s P k link side d h =
     let bytes = unwritten (s.opened link) link side d.marks in
-    k.quiet d (after_all_output s link side d) (output-quiet s link side bytes d) (λ t. output-typed link side bytes d (unwritten-bytes (s.opened link) link side d.marks t.typed) t) h
+    k.quiet d (after_all_output s link side d) (output_quiet s link side bytes d) (λ t. output_typed link side bytes d (unwritten_bytes (s.opened link) link side d.marks t.typed) t) h
 
-settled-keeps : (s : Setting) (P : Drill → Type 0) → KeptBySteps s P → (link : ℕ) (d : Drill) → P d → P (settled s link d)
+settled_keeps : (s : Setting) (P : Drill → Type 0) → KeptBySteps s P → (link : ℕ) (d : Drill) → P d → P (settled s link d)
 unfolding settled
-settled-keeps s P k link d h = all_output-keeps s P k link Responder (after_all_output s link Initiator d) (all_output-keeps s P k link Initiator d h)
+settled_keeps s P k link d h = all_output_keeps s P k link Responder (after_all_output s link Initiator d) (all_output_keeps s P k link Initiator d h)
 
-up-keeps : (s : Setting) (P : Drill → Type 0) → KeptBySteps s P → (link n : ℕ) (d : Drill) → P d → P (after_up s link n d)
+up_keeps : (s : Setting) (P : Drill → Type 0) → KeptBySteps s P → (link n : ℕ) (d : Drill) → P d → P (after_up s link n d)
 unfolding after_up
-up-keeps s P k link n d h =
+up_keeps s P k link n d h =
     let pipes = pipes_of link d in
-    settled-keeps s P k link (after_feeding_up link n d)
-    (k.quiet d (after_feeding_up link n d) (fed-quiet s link Responder (take n pipes.up) (record pipes { up = drop n pipes.up }) d) (fed_up-typed link n d) h)
+    settled_keeps s P k link (after_feeding_up link n d)
+    (k.quiet d (after_feeding_up link n d) (fed_quiet s link Responder (take n pipes.up) (record pipes { up = drop n pipes.up }) d) (fed_up_typed link n d) h)
 
-dones-keep : (s : Setting) (P : Drill → Type 0) → KeptBySteps s P → (link n : ℕ) (d : Drill) → P d → P (after_dones s link n d)
+dones_keep : (s : Setting) (P : Drill → Type 0) → KeptBySteps s P → (link n : ℕ) (d : Drill) → P d → P (after_dones s link n d)
 unfolding after_done
-dones-keep s P k link zero d h = h
-dones-keep s P k link (suc n) d h =
+dones_keep s P k link zero d h = h
+dones_keep s P k link (suc n) d h =
     let c = slice_get (outcomes_due (s.opened link) link d.marks) 0 in
-    dones-keep s P k link n (after_done s link d) (k.quiet d (after_handing link c d) (handing-quiet s link c d) (handed-typed link c d) h)
+    dones_keep s P k link n (after_done s link d) (k.quiet d (after_handing link c d) (handing_quiet s link c d) (handed_typed link c d) h)
 
-down-keeps : (s : Setting) (P : Drill → Type 0) → KeptBySteps s P → (link n : ℕ) (d : Drill) → P d → P (after_down s link n d)
+down_keeps : (s : Setting) (P : Drill → Type 0) → KeptBySteps s P → (link n : ℕ) (d : Drill) → P d → P (after_down s link n d)
 unfolding after_down after_outcomes
-down-keeps s P k link n d h =
+down_keeps s P k link n d h =
     let pipes = pipes_of link d in
     let fed = after_feeding_down link n d in
-    settled-keeps s P k link (after_outcomes s link fed)
-    (dones-keep s P k link (length (outcomes_due (s.opened link) link fed.marks)) fed
-    (k.quiet d fed (fed-quiet s link Initiator (take n pipes.down) (record pipes { down = drop n pipes.down }) d) (fed_down-typed link n d) h))
+    settled_keeps s P k link (after_outcomes s link fed)
+    (dones_keep s P k link (length (outcomes_due (s.opened link) link fed.marks)) fed
+    (k.quiet d fed (fed_quiet s link Initiator (take n pipes.down) (record pipes { down = drop n pipes.down }) d) (fed_down_typed link n d) h))
 
-answer-keeps : (s : Setting) (P : Drill → Type 0) → KeptBySteps s P → (link : ℕ) (call : ReadyCall) (reply : Option (List ℕ)) (d : Drill) → waiting_call s link d.marks ≡ Some call →
+answer_keeps : (s : Setting) (P : Drill → Type 0) → KeptBySteps s P → (link : ℕ) (call : ReadyCall) (reply : Option (List ℕ)) (d : Drill) → waiting_call s link d.marks ≡ Some call →
     s.server.reply_to (journal (plain_of s.server) d.marks) (now d) call.payload ≡ reply → P d → P (after_answer s link call reply d)
-answer-keeps s P k link call None d next is h = h
-answer-keeps s P k link call (Some reply) d next is h = settled-keeps s P k link (executed s link call reply d) (k.executes link call reply d next is h)
+answer_keeps s P k link call None d next is h = h
+answer_keeps s P k link call (Some reply) d next is h = settled_keeps s P k link (executed s link call reply d) (k.executes link call reply d next is h)
 
-execution-keeps : (s : Setting) (P : Drill → Type 0) → KeptBySteps s P → (link : ℕ) (call : Option ReadyCall) (d : Drill) → waiting_call s link d.marks ≡ call → P d → P (after_execution s link call d)
-execution-keeps s P k link None d next h = h
-execution-keeps s P k link (Some call) d next h = answer-keeps s P k link call (s.server.reply_to (journal (plain_of s.server) d.marks) (now d) call.payload) d next refl h
+execution_keeps : (s : Setting) (P : Drill → Type 0) → KeptBySteps s P → (link : ℕ) (call : Option ReadyCall) (d : Drill) → waiting_call s link d.marks ≡ call → P d → P (after_execution s link call d)
+execution_keeps s P k link None d next h = h
+execution_keeps s P k link (Some call) d next h = answer_keeps s P k link call (s.server.reply_to (journal (plain_of s.server) d.marks) (now d) call.payload) d next refl h
 
-work-keeps : (s : Setting) (P : Drill → Type 0) → KeptBySteps s P → (link : ℕ) (d : Drill) → P d → P (after_work s link d)
+work_keeps : (s : Setting) (P : Drill → Type 0) → KeptBySteps s P → (link : ℕ) (d : Drill) → P d → P (after_work s link d)
 unfolding after_work
-work-keeps s P k link d h = execution-keeps s P k link (waiting_call s link d.marks) d refl h
+work_keeps s P k link d h = execution_keeps s P k link (waiting_call s link d.marks) d refl h
 
-calls-keep : (s : Setting) (P : Drill → Type 0) → KeptBySteps s P → (link n : ℕ) (d : Drill) → P d → P (after_calls s link n d)
-calls-keep s P k link zero d h = h
-calls-keep s P k link (suc n) d h = calls-keep s P k link n (after_work s link d) (work-keeps s P k link d h)
+calls_keep : (s : Setting) (P : Drill → Type 0) → KeptBySteps s P → (link n : ℕ) (d : Drill) → P d → P (after_calls s link n d)
+calls_keep s P k link zero d h = h
+calls_keep s P k link (suc n) d h = calls_keep s P k link n (after_work s link d) (work_keeps s P k link d h)
 
-giving_up-keeps : (s : Setting) (P : Drill → Type 0) → KeptBySteps s P → (link : ℕ) (xid : Option ℕ) (d : Drill) → P d → P (after_giving_up link xid d)
-giving_up-keeps s P k link None d h = h
-giving_up-keeps s P k link (Some xid) d h = k.quiet d (with_mark (marks.Forget link xid) d) (More (marks.Forget link xid) refl refl) (marked (marks.Forget link xid) d tt) h
+giving_up_keeps : (s : Setting) (P : Drill → Type 0) → KeptBySteps s P → (link : ℕ) (xid : Option ℕ) (d : Drill) → P d → P (after_giving_up link xid d)
+giving_up_keeps s P k link None d h = h
+giving_up_keeps s P k link (Some xid) d h = k.quiet d (with_mark (marks.Forget link xid) d) (More (marks.Forget link xid) refl refl) (marked (marks.Forget link xid) d tt) h
 
-forget-keeps : (s : Setting) (P : Drill → Type 0) → KeptBySteps s P → (link number : ℕ) (d : Drill) → P d → P (after_forget s link number d)
+forget_keeps : (s : Setting) (P : Drill → Type 0) → KeptBySteps s P → (link number : ℕ) (d : Drill) → P d → P (after_forget s link number d)
 unfolding after_forget
-forget-keeps s P k link number d h = giving_up-keeps s P k link (open_xid s link d.marks (answer_of_line link number d.marks)) d h
+forget_keeps s P k link number d h = giving_up_keeps s P k link (open_xid s link d.marks (answer_of_line link number d.marks)) d h
 
-taking_back-keeps : (s : Setting) (P : Drill → Type 0) → KeptBySteps s P → (link : ℕ) (xid : Option ℕ) (d : Drill) → P d → P (after_taking_back s link xid d)
-taking_back-keeps s P k link None d h = h
-taking_back-keeps s P k link (Some xid) d h =
+taking_back_keeps : (s : Setting) (P : Drill → Type 0) → KeptBySteps s P → (link : ℕ) (xid : Option ℕ) (d : Drill) → P d → P (after_taking_back s link xid d)
+taking_back_keeps s P k link None d h = h
+taking_back_keeps s P k link (Some xid) d h =
     let mark = marks.Revoke link xid (revoked_bytes (s.opened link) link d.marks xid) in
-    settled-keeps s P k link (with_mark mark d) (k.quiet d (with_mark mark d) (More mark refl refl) (marked mark d tt) h)
+    settled_keeps s P k link (with_mark mark d) (k.quiet d (with_mark mark d) (More mark refl refl) (marked mark d tt) h)
 
-revoke-keeps : (s : Setting) (P : Drill → Type 0) → KeptBySteps s P → (link number : ℕ) (d : Drill) → P d → P (after_revoke s link number d)
+revoke_keeps : (s : Setting) (P : Drill → Type 0) → KeptBySteps s P → (link number : ℕ) (d : Drill) → P d → P (after_revoke s link number d)
 unfolding after_revoke
-revoke-keeps s P k link number d h = taking_back-keeps s P k link (open_xid s link d.marks (answer_of_line link number d.marks)) d h
+revoke_keeps s P k link number d h = taking_back_keeps s P k link (open_xid s link d.marks (answer_of_line link number d.marks)) d h
 
-submit-quiet : (s : Setting) (link : ℕ) (call : Call) (form : Form) (answer : Submission) (d : Drill) → AddsQuiet s d (with_mark (marks.Submit link call form answer) d)
-submit-quiet s link call form answer d = More (marks.Submit link call form answer) refl refl
+submit_quiet : (s : Setting) (link : ℕ) (call : Call) (form : Form) (answer : Submission) (d : Drill) → AddsQuiet s d (with_mark (marks.Submit link call form answer) d)
+submit_quiet s link call form answer d = More (marks.Submit link call form answer) refl refl
 
-raw-quiet : (s : Setting) (link : ℕ) (side : Side) (bytes : List ℕ) (dropped : Bool) (d : Drill) → AddsQuiet s d (after_raw link side bytes dropped d)
-raw-quiet s link side bytes true d = Same refl
-raw-quiet s link side bytes false d = Same refl
+raw_quiet : (s : Setting) (link : ℕ) (side : Side) (bytes : List ℕ) (dropped : Bool) (d : Drill) → AddsQuiet s d (after_raw link side bytes dropped d)
+raw_quiet s link side bytes true d = Same refl
+raw_quiet s link side bytes false d = Same refl
 
-raw-typed : (link : ℕ) (side : Side) (bytes : List ℕ) (dropped : Bool) (d : Drill) → IsBytes bytes → IsTypedDrill d → IsTypedDrill (after_raw link side bytes dropped d)
-raw-typed link side bytes true d b h = h
-raw-typed link side bytes false d b h = piped link (appended side bytes (pipes_of link d)) d (behind-bytes side bytes (pipes_of link d) b (pipes-at d.pipes (link - 1) h.pipes)) h
+raw_typed : (link : ℕ) (side : Side) (bytes : List ℕ) (dropped : Bool) (d : Drill) → IsBytes bytes → IsTypedDrill d → IsTypedDrill (after_raw link side bytes dropped d)
+raw_typed link side bytes true d b h = h
+raw_typed link side bytes false d b h = piped link (appended side bytes (pipes_of link d)) d (behind_bytes side bytes (pipes_of link d) b (pipes_at d.pipes (link - 1) h.pipes)) h
 
-line-keeps : (s : Setting) (P : Drill → Type 0) → KeptBySteps s P → (line : Line) (d : Drill) → IsTypedLine line → P d → P (after_line s line d)
+line_keeps : (s : Setting) (P : Drill → Type 0) → KeptBySteps s P → (line : Line) (d : Drill) → IsTypedLine line → P d → P (after_line s line d)
 unfolding after_submit
-line-keeps s P k (lines.Cred client cred) d l h =
-    k.quiet d (with_cred client cred d) (Same refl) (λ t. record { typed = t.typed; pipes = t.pipes; creds = with-cred-at d.creds (client - 1) cred t.creds l }) h
-line-keeps s P k (lines.Call client form prog vers proc args) d l h =
+line_keeps s P k (lines.Cred client cred) d l h =
+    k.quiet d (with_cred client cred d) (Same refl) (λ t. record { typed = t.typed; pipes = t.pipes; creds = with_cred_at_lem d.creds (client - 1) cred t.creds l }) h
+line_keeps s P k (lines.Call client form prog vers proc args) d l h =
     let call : Call = record { prog = prog; vers = vers; proc = proc; cred = cred_of client d; args = args } in
     let answer = submit_answer_after (s.opened client) client d.marks call form in
     let mark = marks.Submit client call form answer in
-    settled-keeps s P k client (with_mark mark d)
-    (k.quiet d (with_mark mark d) (submit-quiet s client call form answer d)
-    (λ t. marked mark d (submit-mark client d.marks call form answer l.0 (l.1, l.2, l.3, l.4) (cred-at d.creds (client - 1) t.creds)) t) h)
-line-keeps s P k (lines.Up client most) d l h = up-keeps s P k client most d h
-line-keeps s P k (lines.Down client most) d l h = down-keeps s P k client most d h
-line-keeps s P k (lines.Work client) d l h = work-keeps s P k client d h
-line-keeps s P k (lines.Tick seconds) d l h =
+    settled_keeps s P k client (with_mark mark d)
+    (k.quiet d (with_mark mark d) (submit_quiet s client call form answer d)
+    (λ t. marked mark d (submit_mark client d.marks call form answer l.0 (l.1, l.2, l.3, l.4) (cred_at_lem d.creds (client - 1) t.creds)) t) h)
+line_keeps s P k (lines.Up client most) d l h = up_keeps s P k client most d h
+line_keeps s P k (lines.Down client most) d l h = down_keeps s P k client most d h
+line_keeps s P k (lines.Work client) d l h = work_keeps s P k client d h
+line_keeps s P k (lines.Tick seconds) d l h =
     k.quiet d (record d { seconds = d.seconds + seconds }) (Same refl) (λ t. record { typed = t.typed; pipes = t.pipes; creds = t.creds }) h
-line-keeps s P k (lines.Forget client number) d l h = forget-keeps s P k client number d h
-line-keeps s P k (lines.Revoke client number) d l h = revoke-keeps s P k client number d h
-line-keeps s P k (lines.Drop client) d l h =
-    k.quiet d (after_drop client d) (More (marks.Drop client) refl refl) (λ t. piped client empty_pipes (with_mark (marks.Drop client) d) (no-bytes, no-bytes) (marked (marks.Drop client) d tt t)) h
-line-keeps s P k (lines.Raw client side bytes) d l h =
+line_keeps s P k (lines.Forget client number) d l h = forget_keeps s P k client number d h
+line_keeps s P k (lines.Revoke client number) d l h = revoke_keeps s P k client number d h
+line_keeps s P k (lines.Drop client) d l h =
+    k.quiet d (after_drop client d) (More (marks.Drop client) refl refl) (λ t. piped client empty_pipes (with_mark (marks.Drop client) d) (no_bytes_lem, no_bytes_lem) (marked (marks.Drop client) d tt t)) h
+line_keeps s P k (lines.Raw client side bytes) d l h =
     let dropped = is_dropped client d.marks in
-    k.quiet d (after_raw client side bytes dropped d) (raw-quiet s client side bytes dropped d) (raw-typed client side bytes dropped d l) h
-line-keeps s P k lines.Drain d l h = h
+    k.quiet d (after_raw client side bytes dropped d) (raw_quiet s client side bytes dropped d) (raw_typed client side bytes dropped d l) h
+line_keeps s P k lines.Drain d l h = h
 
-moves-keep : (s : Setting) (P : Drill → Type 0) → KeptBySteps s P → (link : ℕ) (d : Drill) → P d → P (after_moves s link d)
+moves_keep : (s : Setting) (P : Drill → Type 0) → KeptBySteps s P → (link : ℕ) (d : Drill) → P d → P (after_moves s link d)
 unfolding after_moves after_all_work
-moves-keep s P k link d h =
+moves_keep s P k link d h =
     let one = after_all_up s link d in
     let two = after_all_work s link one in
-    down-keeps s P k link (length (pipes_of link two).down) two
-    (calls-keep s P k link (length (server (s.opened link) link one.marks).state.ready) one (up-keeps s P k link (length (pipes_of link d).up) d h))
+    down_keeps s P k link (length (pipes_of link two).down) two
+    (calls_keep s P k link (length (server (s.opened link) link one.marks).state.ready) one (up_keeps s P k link (length (pipes_of link d).up) d h))
 
-round-keeps : (s : Setting) (P : Drill → Type 0) → KeptBySteps s P → (links : List ℕ) (d : Drill) → P d → P (after_round s links d)
-round-keeps s P k [] d h = h
-round-keeps s P k (link ∷ links) d h = round-keeps s P k links (after_moves s link d) (moves-keep s P k link d h)
+round_keeps : (s : Setting) (P : Drill → Type 0) → KeptBySteps s P → (links : List ℕ) (d : Drill) → P d → P (after_round s links d)
+round_keeps s P k [] d h = h
+round_keeps s P k (link ∷ links) d h = round_keeps s P k links (after_moves s link d) (moves_keep s P k link d h)
 
-drain-keeps : (s : Setting) (P : Drill → Type 0) → KeptBySteps s P → (links : List ℕ) (rounds : ℕ) (old new : Drill) → Drains s links rounds old new → P old → P new
-drain-keeps s P k links zero old new drains h = subst P (sym drains.1) h
-drain-keeps s P k links (suc rounds) old new drains h = drain-keeps s P k links rounds (after_round s links old) new drains.1 (round-keeps s P k links old h)
+drain_keeps : (s : Setting) (P : Drill → Type 0) → KeptBySteps s P → (links : List ℕ) (rounds : ℕ) (old new : Drill) → Drains s links rounds old new → P old → P new
+drain_keeps s P k links zero old new drains h = subst P (sym drains.1) h
+drain_keeps s P k links (suc rounds) old new drains h = drain_keeps s P k links rounds (after_round s links old) new drains.1 (round_keeps s P k links old h)
 
-made-keeps : (s : Setting) (P : Drill → Type 0) → KeptBySteps s P → (clients : ℕ) (line : Line) (old new : Drill) → IsTypedLine line → Makes s clients line old new → P old → P new
-made-keeps s P k clients (lines.Cred client cred) old new l e h = subst P (sym e) (line-keeps s P k (lines.Cred client cred) old l h)
-made-keeps s P k clients (lines.Call client form prog vers proc args) old new l e h = subst P (sym e) (line-keeps s P k (lines.Call client form prog vers proc args) old l h)
-made-keeps s P k clients (lines.Up client most) old new l e h = subst P (sym e) (line-keeps s P k (lines.Up client most) old l h)
-made-keeps s P k clients (lines.Down client most) old new l e h = subst P (sym e) (line-keeps s P k (lines.Down client most) old l h)
-made-keeps s P k clients (lines.Work client) old new l e h = subst P (sym e) (line-keeps s P k (lines.Work client) old l h)
-made-keeps s P k clients (lines.Tick seconds) old new l e h = subst P (sym e) (line-keeps s P k (lines.Tick seconds) old l h)
-made-keeps s P k clients (lines.Forget client number) old new l e h = subst P (sym e) (line-keeps s P k (lines.Forget client number) old l h)
-made-keeps s P k clients (lines.Revoke client number) old new l e h = subst P (sym e) (line-keeps s P k (lines.Revoke client number) old l h)
-made-keeps s P k clients (lines.Drop client) old new l e h = subst P (sym e) (line-keeps s P k (lines.Drop client) old l h)
-made-keeps s P k clients (lines.Raw client side bytes) old new l e h = subst P (sym e) (line-keeps s P k (lines.Raw client side bytes) old l h)
-made-keeps s P k clients lines.Drain old new l e h = drain-keeps s P k (links_of clients) e.0 old new e.1 h
+made_keeps : (s : Setting) (P : Drill → Type 0) → KeptBySteps s P → (clients : ℕ) (line : Line) (old new : Drill) → IsTypedLine line → Makes s clients line old new → P old → P new
+made_keeps s P k clients (lines.Cred client cred) old new l e h = subst P (sym e) (line_keeps s P k (lines.Cred client cred) old l h)
+made_keeps s P k clients (lines.Call client form prog vers proc args) old new l e h = subst P (sym e) (line_keeps s P k (lines.Call client form prog vers proc args) old l h)
+made_keeps s P k clients (lines.Up client most) old new l e h = subst P (sym e) (line_keeps s P k (lines.Up client most) old l h)
+made_keeps s P k clients (lines.Down client most) old new l e h = subst P (sym e) (line_keeps s P k (lines.Down client most) old l h)
+made_keeps s P k clients (lines.Work client) old new l e h = subst P (sym e) (line_keeps s P k (lines.Work client) old l h)
+made_keeps s P k clients (lines.Tick seconds) old new l e h = subst P (sym e) (line_keeps s P k (lines.Tick seconds) old l h)
+made_keeps s P k clients (lines.Forget client number) old new l e h = subst P (sym e) (line_keeps s P k (lines.Forget client number) old l h)
+made_keeps s P k clients (lines.Revoke client number) old new l e h = subst P (sym e) (line_keeps s P k (lines.Revoke client number) old l h)
+made_keeps s P k clients (lines.Drop client) old new l e h = subst P (sym e) (line_keeps s P k (lines.Drop client) old l h)
+made_keeps s P k clients (lines.Raw client side bytes) old new l e h = subst P (sym e) (line_keeps s P k (lines.Raw client side bytes) old l h)
+made_keeps s P k clients lines.Drain old new l e h = drain_keeps s P k (links_of clients) e.0 old new e.1 h
 
-lines-keep : (s : Setting) (P : Drill → Type 0) → KeptBySteps s P → (clients : ℕ) (all : List Line) (old new : Drill) → AllByRecursion IsTypedLine all → MakeAll s clients all old new → P old → P new
-lines-keep s P k clients [] old new l e h = subst P (sym e) h
-lines-keep s P k clients (line ∷ others) old new l e h = lines-keep s P k clients others e.0 new l.1 e.2 (made-keeps s P k clients line old e.0 l.0 e.1 h)
+lines_keep : (s : Setting) (P : Drill → Type 0) → KeptBySteps s P → (clients : ℕ) (all : List Line) (old new : Drill) → AllByRecursion IsTypedLine all → MakeAll s clients all old new → P old → P new
+lines_keep s P k clients [] old new l e h = subst P (sym e) h
+lines_keep s P k clients (line ∷ others) old new l e h = lines_keep s P k clients others e.0 new l.1 e.2 (made_keeps s P k clients line old e.0 l.0 e.1 h)
 
-openings-keep : (s : Setting) (P : Drill → Type 0) → KeptBySteps s P → (links : List ℕ) (d : Drill) → P d → P (after_openings s links d)
+openings_keep : (s : Setting) (P : Drill → Type 0) → KeptBySteps s P → (links : List ℕ) (d : Drill) → P d → P (after_openings s links d)
 unfolding after_opening
-openings-keep s P k [] d h = h
-openings-keep s P k (link ∷ links) d h =
+openings_keep s P k [] d h = h
+openings_keep s P k (link ∷ links) d h =
     let one = settled s link d in
     let two = after_all_up s link one in
-    openings-keep s P k links (after_opening s link d)
-    (down-keeps s P k link (length (pipes_of link two).down) two (up-keeps s P k link (length (pipes_of link one).up) one (settled-keeps s P k link d h)))
+    openings_keep s P k links (after_opening s link d)
+    (down_keeps s P k link (length (pipes_of link two).down) two (up_keeps s P k link (length (pipes_of link one).up) one (settled_keeps s P k link d h)))
 
 -- what holds of a drill before anything happened holds of it at the end of a script
 pub follows_keeps_by_steps : (server : SerialServer) (script : ScriptLines) (run : List Mark) (P : Drill → Type 0) → IsScript script → (follows : Follows server script run) → KeptBySteps (setting_of server script.opening) P →
@@ -339,109 +339,109 @@ unfolding opened_drill
 follows_keeps_by_steps server script run P is follows k h =
     let s = setting_of server script.opening in
     let clients = script.opening.clients in
-    lines-keep s P k clients script.lines (opened_drill server script.opening) follows.last is.typed follows.makes (openings-keep s P k (links_of clients) (start clients) h)
+    lines_keep s P k clients script.lines (opened_drill server script.opening) follows.last is.typed follows.makes (openings_keep s P k (links_of clients) (start clients) h)
 
 -- ===== before anything happened
 
-none-wait : (clients : ℕ) → AllByRecursion PipesOfBytes (replicate clients empty_pipes)
-none-wait zero = tt
-none-wait (suc n) = ((no-bytes, no-bytes), none-wait n)
+none_wait : (clients : ℕ) → AllByRecursion PipesOfBytes (replicate clients empty_pipes)
+none_wait zero = tt
+none_wait (suc n) = ((no_bytes_lem, no_bytes_lem), none_wait n)
 
-no-creds : (clients : ℕ) → AllByRecursion IsTypedCred (replicate clients creds.None)
-no-creds zero = tt
-no-creds (suc n) = (tt, no-creds n)
+no_creds : (clients : ℕ) → AllByRecursion IsTypedCred (replicate clients creds.None)
+no_creds zero = tt
+no_creds (suc n) = (tt, no_creds n)
 
-start-typed : (clients : ℕ) → IsTypedDrill (start clients)
-start-typed clients = record { typed = tt; pipes = none-wait clients; creds = no-creds clients }
+start_typed : (clients : ℕ) → IsTypedDrill (start clients)
+start_typed clients = record { typed = tt; pipes = none_wait clients; creds = no_creds clients }
 
 -- ===== if replies are bytes
 
-first-replied : (run : List Mark) (mark : Mark) → RepliedInBytes (run ++ mark ∷ []) → RepliedInBytes run
-first-replied run mark h = AtEachMark-first RepliedMark [] run (mark ∷ []) h
+first_replied : (run : List Mark) (mark : Mark) → RepliedInBytes (run ++ mark ∷ []) → RepliedInBytes run
+first_replied run mark h = AtEachMark_first RepliedMark [] run (mark ∷ []) h
 
-quiet-replied : (s : Setting) (old new : Drill) → AddsQuiet s old new → RepliedInBytes new.marks → RepliedInBytes old.marks
-quiet-replied s old new (Same is) h = subst RepliedInBytes is h
-quiet-replied s old new (More mark none is) h = first-replied old.marks mark (subst RepliedInBytes is h)
+quiet_replied : (s : Setting) (old new : Drill) → AddsQuiet s old new → RepliedInBytes new.marks → RepliedInBytes old.marks
+quiet_replied s old new (Same is) h = subst RepliedInBytes is h
+quiet_replied s old new (More mark none is) h = first_replied old.marks mark (subst RepliedInBytes is h)
 
 -- once all replies so far are bytes, a drill is of its types
-typed-if : (s : Setting) → KeptBySteps s (λ d. RepliedInBytes d.marks → IsTypedDrill d)
-typed-if s = record {
-  quiet = λ old new adds keeps h replied. keeps (h (quiet-replied s old new adds replied));
+typed_if : (s : Setting) → KeptBySteps s (λ d. RepliedInBytes d.marks → IsTypedDrill d)
+typed_if s = record {
+  quiet = λ old new adds keeps h replied. keeps (h (quiet_replied s old new adds replied));
   executes = λ link call reply d next is h replied.
       (let mark = marks.Execute link call.xid (now d) call.payload (length (journal (plain_of s.server) d.marks)) reply in
-      marked mark d (AtEachMark-at RepliedMark [] d.marks mark [] replied) (h (first-replied d.marks mark replied)));
+      marked mark d (AtEachMark_at RepliedMark [] d.marks mark [] replied) (h (first_replied d.marks mark replied)));
 }
 
 -- The run of a drill is of its types, if each reply is bytes.
 pub follows_is_typed : (server : SerialServer) (script : ScriptLines) (run : List Mark) → IsScript script → RepliedInBytes run → Follows server script run → IsTyped run
 follows_is_typed server script run is replied follows =
-    let last = follows_keeps_by_steps server script run (λ d. RepliedInBytes d.marks → IsTypedDrill d) is follows (typed-if (setting_of server script.opening)) (λ none. start-typed script.opening.clients) in
+    let last = follows_keeps_by_steps server script run (λ d. RepliedInBytes d.marks → IsTypedDrill d) is follows (typed_if (setting_of server script.opening)) (λ none. start_typed script.opening.clients) in
     subst IsTyped (sym follows.marks_are) (last (subst RepliedInBytes follows.marks_are replied)).typed
 
 -- ===== if the server replies in bytes
 
-journal-one : (s : Setting) (run : List Mark) (mark : Mark) → journal (plain_of s.server) (run ++ mark ∷ []) ≡ journal (plain_of s.server) run ++ entries_added (plain_of s.server) mark
+journal_one : (s : Setting) (run : List Mark) (mark : Mark) → journal (plain_of s.server) (run ++ mark ∷ []) ≡ journal (plain_of s.server) run ++ entries_added (plain_of s.server) mark
 unfolding journal
-journal-one s run mark = one_more (entries_added (plain_of s.server)) run mark
+journal_one s run mark = one_more (entries_added (plain_of s.server)) run mark
 
-quiet-journal : (s : Setting) (old new : Drill) → AddsQuiet s old new → journal (plain_of s.server) new.marks ≡ journal (plain_of s.server) old.marks
-quiet-journal s old new (Same is) = ap (λ (run : List Mark). journal (plain_of s.server) run) is
-quiet-journal s old new (More mark none is) =
-    ap (λ (run : List Mark). journal (plain_of s.server) run) is ∙ journal-one s old.marks mark
+quiet_journal : (s : Setting) (old new : Drill) → AddsQuiet s old new → journal (plain_of s.server) new.marks ≡ journal (plain_of s.server) old.marks
+quiet_journal s old new (Same is) = ap (λ (run : List Mark). journal (plain_of s.server) run) is
+quiet_journal s old new (More mark none is) =
+    ap (λ (run : List Mark). journal (plain_of s.server) run) is ∙ journal_one s old.marks mark
     ∙ ap (λ (es : List Entry). journal (plain_of s.server) old.marks ++ es) none ∙ append-nil (journal (plain_of s.server) old.marks)
 
-first-is : (calls : List ReadyCall) (call : ReadyCall) → slice_get calls 0 ≡ Some call → AllByRecursion ReadyOfBytes calls → ReadyOfBytes call
-first-is [] call e h = absurd cc
-first-is (c ∷ calls) call e h = (let is : c ≡ call = cc in subst ReadyOfBytes is h.0)
+first_is_lem : (calls : List ReadyCall) (call : ReadyCall) → slice_get calls 0 ≡ Some call → AllByRecursion ReadyOfBytes calls → ReadyOfBytes call
+first_is_lem [] call e h = absurd cc
+first_is_lem (c ∷ calls) call e h = (let is : c ≡ call = cc in subst ReadyOfBytes is h.0)
 
-next-bytes : (calls : List ReadyCall) (ended : Option End) (call : ReadyCall) → first_ready calls ended ≡ Some call → AllByRecursion ReadyOfBytes calls → ReadyOfBytes call
-next-bytes calls None call e h = first-is calls call e h
-next-bytes calls (Some end) call e h = absurd cc
+next_bytes_lem : (calls : List ReadyCall) (ended : Option End) (call : ReadyCall) → first_ready calls ended ≡ Some call → AllByRecursion ReadyOfBytes calls → ReadyOfBytes call
+next_bytes_lem calls None call e h = first_is_lem calls call e h
+next_bytes_lem calls (Some end) call e h = absurd cc
 
-standing-next : (dropped : Bool) (call : ReadyCall) (next : Option ReadyCall) → if_standing dropped next ≡ Some call → next ≡ Some call
-standing-next true call next e = absurd cc
-standing-next false call next e = e
+standing_next : (dropped : Bool) (call : ReadyCall) (next : Option ReadyCall) → if_standing dropped next ≡ Some call → next ≡ Some call
+standing_next true call next e = absurd cc
+standing_next false call next e = e
 
-waiting-bytes : (s : Setting) (link : ℕ) (run : List Mark) (call : ReadyCall) → waiting_call s link run ≡ Some call → IsTyped run → ReadyOfBytes call
+waiting_bytes_lem : (s : Setting) (link : ℕ) (run : List Mark) (call : ReadyCall) → waiting_call s link run ≡ Some call → IsTyped run → ReadyOfBytes call
 unfolding waiting_call next_call
-waiting-bytes s link run call e typed =
+waiting_bytes_lem s link run call e typed =
     let r = server (s.opened link) link run in
-    next-bytes r.state.ready r.ended call (standing-next (is_dropped link run) call (next_call (s.opened link) link run) e) (ready-bytes (s.opened link) link run typed)
+    next_bytes_lem r.state.ready r.ended call (standing_next (is_dropped link run) call (next_call (s.opened link) link run) e) (ready_bytes (s.opened link) link run typed)
 
-typed-by : (s : Setting) (r : RepliesInBytes s.server) → KeptBySteps s (λ d. IsTypedDrill d × r.Holds (journal (plain_of s.server) d.marks))
-typed-by s r = record {
-  quiet = λ old new adds keeps h. (keeps h.0, subst r.Holds (sym (quiet-journal s old new adds)) h.1);
+typed_by : (s : Setting) (r : RepliesInBytes s.server) → KeptBySteps s (λ d. IsTypedDrill d × r.Holds (journal (plain_of s.server) d.marks))
+typed_by s r = record {
+  quiet = λ old new adds keeps h. (keeps h.0, subst r.Holds (sym (quiet_journal s old new adds)) h.1);
   executes = λ link call reply d next is h.
       (let mark = marks.Execute link call.xid (now d) call.payload (length (journal (plain_of s.server) d.marks)) reply in
       let J = journal (plain_of s.server) d.marks in
-      let payload = waiting-bytes s link d.marks call next h.0.typed in (
+      let payload = waiting_bytes_lem s link d.marks call next h.0.typed in (
         marked mark d (r.reply J (now d) call.payload reply h.1 payload is) h.0,
-        subst r.Holds (sym (journal-one s d.marks mark)) (r.more J (now d) call.payload reply h.1 payload is),
+        subst r.Holds (sym (journal_one s d.marks mark)) (r.more J (now d) call.payload reply h.1 payload is),
       ));
 }
 
-nothing-held : (s : Setting) (r : RepliesInBytes s.server) → r.Holds (journal (plain_of s.server) [])
+nothing_held : (s : Setting) (r : RepliesInBytes s.server) → r.Holds (journal (plain_of s.server) [])
 unfolding journal
-nothing-held s r = r.none
+nothing_held s r = r.none
 
 -- Or if its server replies in bytes.
 pub follows_in_bytes : (server : SerialServer) (script : ScriptLines) (run : List Mark) → IsScript script → RepliesInBytes server → Follows server script run → IsTyped run
 follows_in_bytes server script run is r follows =
     let s = setting_of server script.opening in
-    let last = follows_keeps_by_steps server script run (λ d. IsTypedDrill d × r.Holds (journal (plain_of server) d.marks)) is follows (typed-by s r) (start-typed script.opening.clients, nothing-held s r) in
+    let last = follows_keeps_by_steps server script run (λ d. IsTypedDrill d × r.Holds (journal (plain_of server) d.marks)) is follows (typed_by s r) (start_typed script.opening.clients, nothing_held s r) in
     subst IsTyped (sym follows.marks_are) last.0.typed
 
-replied-mark : (before : List Mark) (mark : Mark) → TypedMark before mark → RepliedMark before mark
-replied-mark before (marks.Execute l xid moment payload place reply) h = h
-replied-mark before (marks.Submit l call form answer) h = tt
-replied-mark before (marks.Wrote l side bytes) h = tt
-replied-mark before (marks.Fed l side bytes) h = tt
-replied-mark before (marks.Done l xid outcome) h = tt
-replied-mark before (marks.Lost l xid) h = tt
-replied-mark before (marks.Forget l xid) h = tt
-replied-mark before (marks.Revoke l xid bytes) h = tt
-replied-mark before (marks.Drop l) h = tt
+replied_mark : (before : List Mark) (mark : Mark) → TypedMark before mark → RepliedMark before mark
+replied_mark before (marks.Execute l xid moment payload place reply) h = h
+replied_mark before (marks.Submit l call form answer) h = tt
+replied_mark before (marks.Wrote l side bytes) h = tt
+replied_mark before (marks.Fed l side bytes) h = tt
+replied_mark before (marks.Done l xid outcome) h = tt
+replied_mark before (marks.Lost l xid) h = tt
+replied_mark before (marks.Forget l xid) h = tt
+replied_mark before (marks.Revoke l xid bytes) h = tt
+replied_mark before (marks.Drop l) h = tt
 
 -- Each reply of its run is then bytes.
 pub follows_replied : (server : SerialServer) (script : ScriptLines) (run : List Mark) → IsScript script → RepliesInBytes server → Follows server script run → RepliedInBytes run
-follows_replied server script run is r follows = AtEachMark-each TypedMark RepliedMark [] run replied-mark (follows_in_bytes server script run is r follows)
+follows_replied server script run is r follows = AtEachMark_each TypedMark RepliedMark [] run replied_mark (follows_in_bytes server script run is r follows)

@@ -15,7 +15,7 @@ use Rattle.nr_reduce.specs.declared.mark.Mark.TheVariants as marks
 use Rattle.nr_reduce.specs.declared.mark.LinkParameters.{LinkParameters}
 use Rattle.nr_reduce.specs.declared.outline.Plan.{Plan}
 use Rattle.nr_reduce.specs.PlainJournal.{PlainServer, journal}
-use Rattle.nr_reduce.specs.Journal.{Journaled, Plainly}
+use Rattle.nr_reduce.specs.Journal.{Journaled, AnsweredByPlainServer}
 use Rattle.nr_reduce.specs.History.{AcceptedCall, completed_calls, bytes_sent, bytes_received, is_dropped}
 use Rattle.nr_reduce.specs.OutcomesDue.{outcomes_due}
 use Rattle.nr_reduce.specs.Run.{end_of_side}
@@ -29,7 +29,7 @@ use Rattle.nr_laws.specs.Grant.{AcceptsByRule}
 use Rattle.nr_laws.specs.Payloads.{HasPlan}
 use Rattle.nr_laws.specs.PlainReplies.{HasPlainReply}
 use Rattle.nr_laws.specs.ChunkOutcomes.{HasChunkCause, IsAnswered}
-use Rattle.nr_laws.specs.Completion.{HaveCompleted, HasOutcome, IsKept, NothingWaits}
+use Rattle.nr_laws.specs.Completion.{HaveCompleted, HasOutcome, IsKept, NothingInTransit}
 use Rattle.nr_laws.specs.Stays.{HasNoRevoke, AreConveyedOrRefused}
 use Rattle.nr_script.specs.declared.script.Line.{Line}
 use Rattle.nr_script.specs.declared.script.Line.TheVariants as lines
@@ -103,7 +103,7 @@ AnswersChanges server opened link run = (before : List Mark) (xid : ℕ) (moment
 pub record Stays (script : ScriptLines) (opened : LinkParameters) (link : ℕ) (run : List Mark) : Type 0 where
   pub client : end_of_side opened link Initiator run ≡ None
   pub server : end_of_side opened link Responder run ≡ None
-  pub complete : EndsWithDrain script link → NothingWaits opened link run × HaveCompleted opened link run
+  pub complete : EndsWithDrain script link → NothingInTransit opened link run × HaveCompleted opened link run
   pub done : EndsWithDrain script link → (a : AcceptedCall) → IsKept link run a → HasOutcome (completed_calls link run) a.xid
 
 -- ===== the run
@@ -124,7 +124,7 @@ pub record IsDrillRun (server : SerialServer) (script : ScriptLines) (run : List
   pub follows : Follows server script run
   pub typed : IsTyped run
   pub journaled : Journaled (plain_of server) (journal (plain_of server) run) run
-  pub plainly : Plainly (plain_of server) run
+  pub plainly : AnsweredByPlainServer (plain_of server) run
   pub laws : (link : ℕ) → IsLink script link → KeepsLaws script (parameters_of script.opening link) link run
   pub memory : (link : ℕ) → IsLink script link → KeepsMemory (parameters_of script.opening link) link run
   pub outcomes : (link : ℕ) → IsLink script link → HasNoRaw script link → Completes (plain_of server) (journal (plain_of server) run) (parameters_of script.opening link) link run

@@ -18,60 +18,60 @@ use Rattle.nr_link.specs.Output.{read_response}
 use Rattle.nr_link.specs.ReceiveState.{is_send, begun_bytes, read_request_in, send_continued}
 use Rattle.nr_link.specs.SegmentFaults.{ExpectedResponse, is_begun}
 use Rattle.nr_endpoint.specs.SendQueue.{with_end, written}
-use Rattle.nr_endpoint.specs.ReceiveQueue.{Notice, ReceiveQueue, with_segment, with_read_done, lent_for, sends_begun, messages_in, receives_kept, message_notices}
-use Rattle.nr_endpoint.specs.ReceiveQueue.Notice.{MessageReceived, ReadDone}
-use Rattle.nr_endpoint.specs.LinkState.{LinkState, Link, has_ended, initial_link}
+use Rattle.nr_endpoint.specs.ReceiveQueue.{DeliveredEvent, ReceiveQueue, with_segment, with_read_done, lent_for, sends_begun, messages_in, receives_kept, message_notices}
+use Rattle.nr_endpoint.specs.ReceiveQueue.DeliveredEvent.{MessageReceived, ReadDone}
+use Rattle.nr_endpoint.specs.LinkState.{LinkState, LinkSide, has_ended, initial_link}
 use Rattle.nr_endpoint.specs.Judging.{segment_end, next_frame, with_frame, with_segment_by, with_fpdu, with_peer_hello, with_effect, with_read_request, with_read_response, reads_after, fetch_access}
 use Rattle.nr_endpoint.specs.SegmentEnds.{RequestIsFine, SendIsFine}
 use Rattle.nr_endpoint.specs.Calls.{Call, after_call, after_calls}
 use Rattle.nr_endpoint.specs.Calls.Call.{Feed, FeedOne, NextEvent, Post, Stop, OutOfMemory, Send, WriteRemote, ReadRemote, Drain, Register, Release}
 use Rattle.nr_endpoint.specs.OutputLaws.{IsAllowedCall, AreAllowedCalls, IsBounded, SidesStayBounded}
-use Rattle.nr_endpoint.proofs.AlongFrames.{feed-keeps, feed_one-keeps}
-use Rattle.nr_endpoint.proofs.Alive.{alive-request, alive-send}
-use Rattle.nr_endpoint.proofs.SendQueues.{ends_left-fewer}
+use Rattle.nr_endpoint.proofs.AlongFrames.{feed_keeps, feed_one_keeps}
+use Rattle.nr_endpoint.proofs.Alive.{alive_request, alive_send}
+use Rattle.nr_endpoint.proofs.SendQueues.{ends_left_fewer}
 
 -- each receive of a queue is free, in use or lent
 abbrev pub HasReceives : ℕ → ReceiveQueue → Type 0
 HasReceives opened q = (receives_kept q + q.lent ≡ opened) × (q.receives ≡ opened)
 
-messages-append : (xs ys : List Notice) → messages_in (xs ++ ys) ≡ messages_in xs + messages_in ys
-messages-append [] ys = omega arith
-messages-append (MessageReceived number invalidated bytes ∷ xs) ys = omega (arith, messages-append xs ys)
-messages-append (ReadDone ∷ xs) ys = messages-append xs ys
+messages_append : (xs ys : List DeliveredEvent) → messages_in (xs ++ ys) ≡ messages_in xs + messages_in ys
+messages_append [] ys = omega arith
+messages_append (MessageReceived number invalidated bytes ∷ xs) ys = omega (arith, messages_append xs ys)
+messages_append (ReadDone ∷ xs) ys = messages_append xs ys
 
 -- ---- What a segment does to the receives
 
-read-receives : (opened : ℕ) (q : ReceiveQueue) (last : Bool) → HasReceives opened q → HasReceives opened (cond last (with_read_done q) q)
-read-receives opened q true has = (omega (arith, has.0, messages-append q.notices (ReadDone ∷ [])), has.1)
-read-receives opened q false has = has
+read_receives : (opened : ℕ) (q : ReceiveQueue) (last : Bool) → HasReceives opened q → HasReceives opened (cond last (with_read_done q) q)
+read_receives opened q true has = (omega (arith, has.0, messages_append q.notices (ReadDone ∷ [])), has.1)
+read_receives opened q false has = has
 
-kept-begun : (n : ℕ) (begun : Option (List ℕ)) → sends_begun (begun_within n begun) ≡ sends_begun begun
-kept-begun n None = refl
-kept-begun n (Some bytes) = refl
+kept_begun_lem : (n : ℕ) (begun : Option (List ℕ)) → sends_begun (begun_within n begun) ≡ sends_begun begun
+kept_begun_lem n None = refl
+kept_begun_lem n (Some bytes) = refl
 
 -- the receive of the begun Send, or else a free one
-one-taken : (begun : Option (List ℕ)) (free : ℕ) → (is_begun begun ≡ false → 0 < free) → cond (not (is_begun begun)) (free - 1) free + 1 ≡ free + sends_begun begun
-one-taken None free some = omega (arith, some refl)
-one-taken (Some bytes) free some = omega arith
+one_taken_lem : (begun : Option (List ℕ)) (free : ℕ) → (is_begun begun ≡ false → 0 < free) → cond (not (is_begun begun)) (free - 1) free + 1 ≡ free + sends_begun begun
+one_taken_lem None free some = omega (arith, some refl)
+one_taken_lem (Some bytes) free some = omega arith
 
-send-receives : (opened : ℕ) (q : ReceiveQueue) (last : Bool) (w queue msn offset : ℕ) (payload : List ℕ) → (is_begun q.received.begun ≡ false → 0 < q.free) → HasReceives opened q →
+send_receives : (opened : ℕ) (q : ReceiveQueue) (last : Bool) (w queue msn offset : ℕ) (payload : List ℕ) → (is_begun q.received.begun ≡ false → 0 < q.free) → HasReceives opened q →
     HasReceives opened (with_segment (Untagged last OPCODE_SEND w queue msn offset payload) q)
 unfolding with_segment
-send-receives opened q true w queue msn offset payload some has =
-    (omega (arith, has.0, one-taken q.received.begun q.free some, messages-append q.notices (MessageReceived (q.received.sends + 1) None (begun_bytes q.received.begun ++ payload) ∷ [])), has.1)
-send-receives opened q false w queue msn offset payload some has =
-    (omega (arith, has.0, one-taken q.received.begun q.free some, messages-append q.notices []), has.1)
+send_receives opened q true w queue msn offset payload some has =
+    (omega (arith, has.0, one_taken_lem q.received.begun q.free some, messages_append q.notices (MessageReceived (q.received.sends + 1) None (begun_bytes q.received.begun ++ payload) ∷ [])), has.1)
+send_receives opened q false w queue msn offset payload some has =
+    (omega (arith, has.0, one_taken_lem q.received.begun q.free some, messages_append q.notices []), has.1)
 
-request-receives : (opened : ℕ) (q : ReceiveQueue) (last : Bool) (w queue msn offset : ℕ) (payload : List ℕ) → HasReceives opened q →
+request_receives : (opened : ℕ) (q : ReceiveQueue) (last : Bool) (w queue msn offset : ℕ) (payload : List ℕ) → HasReceives opened q →
     HasReceives opened (with_segment (Untagged last OPCODE_READ_REQUEST w queue msn offset payload) q)
 unfolding with_segment
-request-receives opened q last w queue msn offset payload has = (omega (arith, has.0, kept-begun q.receive_length q.received.begun, messages-append q.notices []), has.1)
+request_receives opened q last w queue msn offset payload has = (omega (arith, has.0, kept_begun_lem q.receive_length q.received.begun, messages_append q.notices []), has.1)
 
 -- of another opcode nothing is counted
-other-receives : (opened : ℕ) (q : ReceiveQueue) (last : Bool) (opcode w queue msn offset : ℕ) (payload : List ℕ) → is_send opcode ≡ false → eqb opcode OPCODE_READ_REQUEST ≡ false →
+other_receives : (opened : ℕ) (q : ReceiveQueue) (last : Bool) (opcode w queue msn offset : ℕ) (payload : List ℕ) → is_send opcode ≡ false → eqb opcode OPCODE_READ_REQUEST ≡ false →
     HasReceives opened q → HasReceives opened (with_segment (Untagged last opcode w queue msn offset payload) q)
 unfolding with_segment
-other-receives opened q last opcode w queue msn offset payload no_send no_request has =
+other_receives opened q last opcode w queue msn offset payload no_send no_request has =
     by (is_send opcode) (eqb opcode OPCODE_READ_REQUEST) no_send no_request
   where
     by : (b r : Bool) → b ≡ false → r ≡ false → HasReceives opened (record {
@@ -88,12 +88,12 @@ other-receives opened q last opcode w queue msn offset payload no_send no_reques
     })
     by true r is none = absurd cc
     by false true is none = absurd cc
-    by false false is none = (omega (arith, has.0, kept-begun q.receive_length q.received.begun, messages-append q.notices []), has.1)
+    by false false is none = (omega (arith, has.0, kept_begun_lem q.receive_length q.received.begun, messages_append q.notices []), has.1)
 
-segment-receives : (opened : ℕ) (s : LinkState) (f : Frame) (last : Bool) (opcode w queue msn offset : ℕ) (payload : List ℕ) → f.at ≡ s.place →
+segment_receives : (opened : ℕ) (s : LinkState) (f : Frame) (last : Bool) (opcode w queue msn offset : ℕ) (payload : List ℕ) → f.at ≡ s.place →
     segment_end s f (Untagged last opcode w queue msn offset payload) ≡ None → HasReceives opened s.receive_queue →
     HasReceives opened (with_segment (Untagged last opcode w queue msn offset payload) s.receive_queue)
-segment-receives opened s f last opcode w queue msn offset payload at lives has =
+segment_receives opened s f last opcode w queue msn offset payload at lives has =
     by (is_send opcode) (eqb opcode OPCODE_READ_REQUEST) refl refl
   where
     different : OPCODE_SEND ≢ OPCODE_READ_REQUEST
@@ -103,13 +103,13 @@ segment-receives opened s f last opcode w queue msn offset payload at lives has 
     by true r is other =
         let same : opcode ≡ OPCODE_SEND = eqb-true opcode OPCODE_SEND is in
         let goes : segment_end s f (Untagged last OPCODE_SEND w queue msn offset payload) ≡ None = subst (λ (o : ℕ). segment_end s f (Untagged last o w queue msn offset payload) ≡ None) same lives in
-        let fine : SendIsFine s last payload = (alive-send s f last OPCODE_SEND w queue msn offset payload at refl different goes).1 in
+        let fine : SendIsFine s last payload = (alive_send s f last OPCODE_SEND w queue msn offset payload at refl different goes).1 in
         subst (λ (o : ℕ). HasReceives opened (with_segment (Untagged last o w queue msn offset payload) s.receive_queue)) (sym same)
-        (send-receives opened s.receive_queue last w queue msn offset payload fine.receive has)
+        (send_receives opened s.receive_queue last w queue msn offset payload fine.receive has)
     by false true is other =
         subst (λ (o : ℕ). HasReceives opened (with_segment (Untagged last o w queue msn offset payload) s.receive_queue)) (sym (eqb-true opcode OPCODE_READ_REQUEST other))
-        (request-receives opened s.receive_queue last w queue msn offset payload has)
-    by false false is other = other-receives opened s.receive_queue last opcode w queue msn offset payload is other has
+        (request_receives opened s.receive_queue last w queue msn offset payload has)
+    by false false is other = other_receives opened s.receive_queue last opcode w queue msn offset payload is other has
 
 -- ---- The responses that are owed
 
@@ -120,35 +120,35 @@ owed s f last opcode w queue msn offset payload false is at lives few = few
 owed s f last opcode w queue msn offset payload true is at lives few =
     let same : opcode ≡ OPCODE_READ_REQUEST = eqb-true opcode OPCODE_READ_REQUEST is in
     let goes : segment_end s f (Untagged last OPCODE_READ_REQUEST w queue msn offset payload) ≡ None = subst (λ (o : ℕ). segment_end s f (Untagged last o w queue msn offset payload) ≡ None) same lives in
-    let fine : RequestIsFine s payload = alive-request s f last w queue msn offset payload at goes in
+    let fine : RequestIsFine s payload = alive_request s f last w queue msn offset payload at goes in
     let r = read_request_in payload in
     omega (arith, fine.few, length-append s.send_queue.response_ends (length (s.send_queue.fpdus ++ read_response r.sink r.sink_to (bytes_at s.memory (fetch_access r))) ∷ []))
 
 -- ---- A frame
 
-fewer-reads : (last : Bool) (n : ℕ) (reads : List ExpectedResponse) → length (reads_after last n reads) ≤ length reads
-fewer-reads last n [] = omega arith
-fewer-reads true n (r ∷ reads) = omega arith
-fewer-reads false n (r ∷ reads) = omega arith
+fewer_reads : (last : Bool) (n : ℕ) (reads : List ExpectedResponse) → length (reads_after last n reads) ≤ length reads
+fewer_reads last n [] = omega arith
+fewer_reads true n (r ∷ reads) = omega arith
+fewer_reads false n (r ∷ reads) = omega arith
 
-placed-bounded : (opened : ℕ) (s : LinkState) (b last : Bool) (n : ℕ) → IsBounded opened s → IsBounded opened (cond b (with_read_response last n s) s)
-placed-bounded opened s true last n is =
-    let receives : HasReceives opened (cond last (with_read_done s.receive_queue) s.receive_queue) = read-receives opened s.receive_queue last (is.sum, is.same) in
-    record { reads = omega (arith, is.reads, fewer-reads last n s.reads); responses = is.responses; sum = receives.0; same = receives.1 }
-placed-bounded opened s false last n is = is
+placed_bounded : (opened : ℕ) (s : LinkState) (b last : Bool) (n : ℕ) → IsBounded opened s → IsBounded opened (cond b (with_read_response last n s) s)
+placed_bounded opened s true last n is =
+    let receives : HasReceives opened (cond last (with_read_done s.receive_queue) s.receive_queue) = read_receives opened s.receive_queue last (is.sum, is.same) in
+    record { reads = omega (arith, is.reads, fewer_reads last n s.reads); responses = is.responses; sum = receives.0; same = receives.1 }
+placed_bounded opened s false last n is = is
 
-segment-bounded : (opened : ℕ) (s : LinkState) (f : Frame) (segment : Segment) (e : Option End) → f.at ≡ s.place → segment_end s f segment ≡ e → IsBounded opened s →
+segment_bounded : (opened : ℕ) (s : LinkState) (f : Frame) (segment : Segment) (e : Option End) → f.at ≡ s.place → segment_end s f segment ≡ e → IsBounded opened s →
     IsBounded opened (with_segment_by f segment e s)
 unfolding with_effect with_end
-segment-bounded opened s f segment (Some end) at lives is = record { reads = is.reads; responses = is.responses; sum = is.sum; same = is.same }
-segment-bounded opened s f (Tagged last opcode stag to payload) None at lives is =
+segment_bounded opened s f segment (Some end) at lives is = record { reads = is.reads; responses = is.responses; sum = is.sum; same = is.same }
+segment_bounded opened s f (Tagged last opcode stag to payload) None at lives is =
     let after : IsBounded opened (cond (eqb opcode OPCODE_READ_RESPONSE) (with_read_response last (length payload) (record s { memory = after_place s.memory stag to payload })) (record s { memory = after_place s.memory stag to payload })) =
-    placed-bounded opened (record s { memory = after_place s.memory stag to payload }) (eqb opcode OPCODE_READ_RESPONSE) last (length payload)
+    placed_bounded opened (record s { memory = after_place s.memory stag to payload }) (eqb opcode OPCODE_READ_RESPONSE) last (length payload)
     (record { reads = is.reads; responses = is.responses; sum = is.sum; same = is.same }) in
     record { reads = after.reads; responses = after.responses; sum = after.sum; same = after.same }
-segment-bounded opened s f (Untagged last opcode w queue msn offset payload) None at lives is =
+segment_bounded opened s f (Untagged last opcode w queue msn offset payload) None at lives is =
     let receives : HasReceives opened (with_segment (Untagged last opcode w queue msn offset payload) s.receive_queue) =
-    segment-receives opened s f last opcode w queue msn offset payload at lives (is.sum, is.same) in
+    segment_receives opened s f last opcode w queue msn offset payload at lives (is.sum, is.same) in
     record {
       reads = is.reads;
       responses = owed s f last opcode w queue msn offset payload (eqb opcode OPCODE_READ_REQUEST) refl at lives is.responses;
@@ -156,63 +156,63 @@ segment-bounded opened s f (Untagged last opcode w queue msn offset payload) Non
       same = receives.1;
     }
 
-fpdu-bounded : (opened : ℕ) (s : LinkState) (f : Frame) (r : Result Segment ℕ) → f.at ≡ s.place → IsBounded opened s → IsBounded opened (with_fpdu f r s)
+fpdu_bounded : (opened : ℕ) (s : LinkState) (f : Frame) (r : Result Segment ℕ) → f.at ≡ s.place → IsBounded opened s → IsBounded opened (with_fpdu f r s)
 unfolding with_fpdu with_end
-fpdu-bounded opened s f (Ok segment) at is = segment-bounded opened s f segment (segment_end s f segment) at refl is
-fpdu-bounded opened s f (Err reason) at is = record { reads = is.reads; responses = is.responses; sum = is.sum; same = is.same }
+fpdu_bounded opened s f (Ok segment) at is = segment_bounded opened s f segment (segment_end s f segment) at refl is
+fpdu_bounded opened s f (Err reason) at is = record { reads = is.reads; responses = is.responses; sum = is.sum; same = is.same }
 
-hello-bounded : (opened : ℕ) (s : LinkState) (f : Frame) (r : Result Hello ℕ) → IsBounded opened s → IsBounded opened (with_peer_hello f r s)
+hello_bounded : (opened : ℕ) (s : LinkState) (f : Frame) (r : Result Hello ℕ) → IsBounded opened s → IsBounded opened (with_peer_hello f r s)
 unfolding with_peer_hello with_end
-hello-bounded opened s f (Ok hello) is = record { reads = is.reads; responses = is.responses; sum = is.sum; same = is.same }
-hello-bounded opened s f (Err reason) is = record { reads = is.reads; responses = is.responses; sum = is.sum; same = is.same }
+hello_bounded opened s f (Ok hello) is = record { reads = is.reads; responses = is.responses; sum = is.sum; same = is.same }
+hello_bounded opened s f (Err reason) is = record { reads = is.reads; responses = is.responses; sum = is.sum; same = is.same }
 
-frame-bounded : (opened : ℕ) (a : Awaited) (s : LinkState) (frame : List ℕ) → has_ended s ≡ false → IsBounded opened s → IsBounded opened (with_frame s a frame)
-frame-bounded opened (HelloFrom side) s frame live is = hello-bounded opened s (next_frame s frame) (hello_of side frame) is
-frame-bounded opened Fpdu s frame live is = fpdu-bounded opened s (next_frame s frame) (segment_of frame) refl is
+frame_bounded : (opened : ℕ) (a : Awaited) (s : LinkState) (frame : List ℕ) → has_ended s ≡ false → IsBounded opened s → IsBounded opened (with_frame s a frame)
+frame_bounded opened (HelloFrom side) s frame live is = hello_bounded opened s (next_frame s frame) (hello_of side frame) is
+frame_bounded opened Fpdu s frame live is = fpdu_bounded opened s (next_frame s frame) (segment_of frame) refl is
 
 -- ---- A call
 
-told-first : (notices : List Notice) → lent_for notices + messages_in (drop 1 notices) ≡ messages_in notices
-told-first [] = refl
-told-first (MessageReceived number invalidated bytes ∷ notices) = refl
-told-first (ReadDone ∷ notices) = omega arith
+told_first : (notices : List DeliveredEvent) → lent_for notices + messages_in (drop 1 notices) ≡ messages_in notices
+told_first [] = refl
+told_first (MessageReceived number invalidated bytes ∷ notices) = refl
+told_first (ReadDone ∷ notices) = omega arith
 
-either-bounded : (opened : ℕ) (s after : LinkState) (b : Bool) → IsBounded opened s → IsBounded opened after → IsBounded opened (cond b s after)
-either-bounded opened s after true is later = is
-either-bounded opened s after false is later = later
+either_bounded : (opened : ℕ) (s after : LinkState) (b : Bool) → IsBounded opened s → IsBounded opened after → IsBounded opened (cond b s after)
+either_bounded opened s after true is later = is
+either_bounded opened s after false is later = later
 
-call-bounded : (opened : ℕ) (link : Link) (call : Call) → IsAllowedCall link call → IsBounded opened link.state → IsBounded opened (after_call link call).state
+call_bounded : (opened : ℕ) (link : LinkSide) (call : Call) → IsAllowedCall link call → IsBounded opened link.state → IsBounded opened (after_call link call).state
 unfolding after_call with_end written
-call-bounded opened link (Feed piece) may is = feed-keeps (λ a s. IsBounded opened s) (frame-bounded opened) link piece is
-call-bounded opened link (FeedOne piece) may is = feed_one-keeps (λ a s. IsBounded opened s) (frame-bounded opened) link piece is
-call-bounded opened link NextEvent may is =
-    record { reads = is.reads; responses = is.responses; sum = omega (arith, is.sum, told-first link.state.receive_queue.notices); same = is.same }
-call-bounded opened link Post may is = record { reads = is.reads; responses = is.responses; sum = omega (arith, is.sum, may); same = is.same }
-call-bounded opened link (Stop reason) may is =
-    either-bounded opened link.state _ (has_ended link.state) is (record { reads = is.reads; responses = is.responses; sum = is.sum; same = is.same })
-call-bounded opened link OutOfMemory may is =
-    either-bounded opened link.state _ (has_ended link.state) is (record { reads = is.reads; responses = is.responses; sum = is.sum; same = is.same })
-call-bounded opened link (Send message) may is =
-    either-bounded opened link.state _ (has_ended link.state) is (record { reads = is.reads; responses = is.responses; sum = is.sum; same = is.same })
-call-bounded opened link (WriteRemote stag to bytes) may is =
-    either-bounded opened link.state _ (has_ended link.state) is (record { reads = is.reads; responses = is.responses; sum = is.sum; same = is.same })
-call-bounded opened link (ReadRemote sink at stag to len) may is =
-    either-bounded opened link.state _ (has_ended link.state) is
+call_bounded opened link (Feed piece) may is = feed_keeps (λ a s. IsBounded opened s) (frame_bounded opened) link piece is
+call_bounded opened link (FeedOne piece) may is = feed_one_keeps (λ a s. IsBounded opened s) (frame_bounded opened) link piece is
+call_bounded opened link NextEvent may is =
+    record { reads = is.reads; responses = is.responses; sum = omega (arith, is.sum, told_first link.state.receive_queue.notices); same = is.same }
+call_bounded opened link Post may is = record { reads = is.reads; responses = is.responses; sum = omega (arith, is.sum, may); same = is.same }
+call_bounded opened link (Stop reason) may is =
+    either_bounded opened link.state _ (has_ended link.state) is (record { reads = is.reads; responses = is.responses; sum = is.sum; same = is.same })
+call_bounded opened link OutOfMemory may is =
+    either_bounded opened link.state _ (has_ended link.state) is (record { reads = is.reads; responses = is.responses; sum = is.sum; same = is.same })
+call_bounded opened link (Send message) may is =
+    either_bounded opened link.state _ (has_ended link.state) is (record { reads = is.reads; responses = is.responses; sum = is.sum; same = is.same })
+call_bounded opened link (WriteRemote stag to bytes) may is =
+    either_bounded opened link.state _ (has_ended link.state) is (record { reads = is.reads; responses = is.responses; sum = is.sum; same = is.same })
+call_bounded opened link (ReadRemote sink at stag to len) may is =
+    either_bounded opened link.state _ (has_ended link.state) is
     (record { reads = omega (arith, may, length-append link.state.reads (record { sink = sink; at = at; left = len } ∷ [])); responses = is.responses; sum = is.sum; same = is.same })
-call-bounded opened link (Drain count) may is =
-    let fewer = ends_left-fewer (count - length link.state.send_queue.hello) link.state.send_queue.response_ends in
+call_bounded opened link (Drain count) may is =
+    let fewer = ends_left_fewer (count - length link.state.send_queue.hello) link.state.send_queue.response_ends in
     record { reads = is.reads; responses = omega (arith, is.responses, fewer); sum = is.sum; same = is.same }
-call-bounded opened link (Register buf right) may is = record { reads = is.reads; responses = is.responses; sum = is.sum; same = is.same }
-call-bounded opened link (Release stag) may is = record { reads = is.reads; responses = is.responses; sum = is.sum; same = is.same }
+call_bounded opened link (Register buf right) may is = record { reads = is.reads; responses = is.responses; sum = is.sum; same = is.same }
+call_bounded opened link (Release stag) may is = record { reads = is.reads; responses = is.responses; sum = is.sum; same = is.same }
 
-calls-bounded : (opened : ℕ) (link : Link) (calls : List Call) → AreAllowedCalls link calls → IsBounded opened link.state → IsBounded opened (after_calls link calls).state
+calls_bounded : (opened : ℕ) (link : LinkSide) (calls : List Call) → AreAllowedCalls link calls → IsBounded opened link.state → IsBounded opened (after_calls link calls).state
 unfolding after_calls
-calls-bounded opened link [] may is = is
-calls-bounded opened link (call ∷ calls) may is = calls-bounded opened (after_call link call) calls may.1 (call-bounded opened link call may.0 is)
+calls_bounded opened link [] may is = is
+calls_bounded opened link (call ∷ calls) may is = calls_bounded opened (after_call link call) calls may.1 (call_bounded opened link call may.0 is)
 
-initial-bounded : (side : Side) (receives first_stag : ℕ) → IsBounded receives (initial_link side receives first_stag).state
+initial_bounded : (side : Side) (receives first_stag : ℕ) → IsBounded receives (initial_link side receives first_stag).state
 unfolding initial_link
-initial-bounded side receives first_stag = record { reads = omega arith; responses = omega arith; sum = omega arith; same = refl }
+initial_bounded side receives first_stag = record { reads = omega arith; responses = omega arith; sum = omega arith; same = refl }
 
-pub sides-stay-bounded : SidesStayBounded
-sides-stay-bounded side receives first_stag calls may = calls-bounded receives (initial_link side receives first_stag) calls may (initial-bounded side receives first_stag)
+pub sides_stay_bounded_lem : SidesStayBounded
+sides_stay_bounded_lem side receives first_stag calls may = calls_bounded receives (initial_link side receives first_stag) calls may (initial_bounded side receives first_stag)

@@ -7,79 +7,79 @@ use Rattle.nr_wire.specs.declared.stream.Awaited.TheVariants.{Hello as HelloFrom
 use Rattle.nr_wire.specs.Segment.{Segment, segment_of}
 use Rattle.nr_wire.specs.Segment.Segment.{Tagged, Untagged}
 use Rattle.nr_regions.specs.RegisteredMemory.{RegisteredMemory, Claim, IsHeld}
-use Rattle.nr_regions.specs.Events.{Event, after_event, after_events, IsNoReleaseOf}
-use Rattle.nr_regions.proofs.Holding.{held-after_event}
+use Rattle.nr_regions.specs.Events.{MemoryEvent, after_event, after_events, IsNoReleaseOf}
+use Rattle.nr_regions.proofs.Holding.{held_after_event}
 use Rattle.nr_link.specs.declared.end.End.{End}
 use Rattle.nr_link.specs.Frames.{Frame}
-use Rattle.nr_endpoint.specs.LinkState.{LinkState, Link, has_ended}
+use Rattle.nr_endpoint.specs.LinkState.{LinkState, LinkSide, has_ended}
 use Rattle.nr_endpoint.specs.Judging.{segment_end, next_frame, with_frame}
 use Rattle.nr_endpoint.specs.Calls.{Call, after_call}
 use Rattle.nr_endpoint.specs.Calls.Call.{Feed, FeedOne, NextEvent, Post, Stop, OutOfMemory, Send, WriteRemote, ReadRemote, Drain, Register, Release}
 use Rattle.nr_endpoint.specs.Laws.{segment_arrivals, fpdu_arrivals, frame_arrivals, arrivals, frames_made_whole, call_events, memory_events, ClaimsStay}
-use Rattle.nr_endpoint.proofs.MemoryLaws.{memory-follows-events}
+use Rattle.nr_endpoint.proofs.MemoryLaws.{memory_follows_events}
 
 -- none of the events releases this STag
-abbrev NoneReleases : ℕ → List Event → Type 0
+abbrev NoneReleases : ℕ → List MemoryEvent → Type 0
 NoneReleases stag [] = Unit {0}
 NoneReleases stag (event ∷ events) = IsNoReleaseOf stag event × NoneReleases stag events
 
-held-after_events : (m : RegisteredMemory) (claim : Claim) (events : List Event) → IsHeld m claim → NoneReleases claim.stag events → IsHeld (after_events m events) claim
-held-after_events m claim [] held none = held
-held-after_events m claim (event ∷ events) held none = held-after_events (after_event m event) claim events (held-after_event m claim event held none.0) none.1
+held_after_events : (m : RegisteredMemory) (claim : Claim) (events : List MemoryEvent) → IsHeld m claim → NoneReleases claim.stag events → IsHeld (after_events m events) claim
+held_after_events m claim [] held none = held
+held_after_events m claim (event ∷ events) held none = held_after_events (after_event m event) claim events (held_after_event m claim event held none.0) none.1
 
-none-append : (stag : ℕ) (xs ys : List Event) → NoneReleases stag xs → NoneReleases stag ys → NoneReleases stag (xs ++ ys)
-none-append stag [] ys first second = second
-none-append stag (event ∷ xs) ys first second = (first.0, none-append stag xs ys first.1 second)
+none_append_lem : (stag : ℕ) (xs ys : List MemoryEvent) → NoneReleases stag xs → NoneReleases stag ys → NoneReleases stag (xs ++ ys)
+none_append_lem stag [] ys first second = second
+none_append_lem stag (event ∷ xs) ys first second = (first.0, none_append_lem stag xs ys first.1 second)
 
 -- ---- No frame releases
 
-segment-none : (stag : ℕ) (f : Frame) (segment : Segment) (e : Option End) → NoneReleases stag (segment_arrivals f segment e)
-segment-none stag f segment (Some end) = tt
-segment-none stag f (Untagged last opcode w queue msn offset payload) None = tt
-segment-none stag f (Tagged last opcode to_stag to payload) None = (tt, tt)
+segment_none : (stag : ℕ) (f : Frame) (segment : Segment) (e : Option End) → NoneReleases stag (segment_arrivals f segment e)
+segment_none stag f segment (Some end) = tt
+segment_none stag f (Untagged last opcode w queue msn offset payload) None = tt
+segment_none stag f (Tagged last opcode to_stag to payload) None = (tt, tt)
 
-fpdu-none : (stag : ℕ) (s : LinkState) (f : Frame) (r : Result Segment ℕ) → NoneReleases stag (fpdu_arrivals s f r)
-fpdu-none stag s f (Ok segment) = segment-none stag f segment (segment_end s f segment)
-fpdu-none stag s f (Err reason) = tt
+fpdu_none : (stag : ℕ) (s : LinkState) (f : Frame) (r : Result Segment ℕ) → NoneReleases stag (fpdu_arrivals s f r)
+fpdu_none stag s f (Ok segment) = segment_none stag f segment (segment_end s f segment)
+fpdu_none stag s f (Err reason) = tt
 
-frame-none : (stag : ℕ) (s : LinkState) (a : Awaited) (frame : List ℕ) → NoneReleases stag (frame_arrivals s a frame)
-frame-none stag s (HelloFrom side) frame = tt
-frame-none stag s Fpdu frame = fpdu-none stag s (next_frame s frame) (segment_of frame)
+frame_none : (stag : ℕ) (s : LinkState) (a : Awaited) (frame : List ℕ) → NoneReleases stag (frame_arrivals s a frame)
+frame_none stag s (HelloFrom side) frame = tt
+frame_none stag s Fpdu frame = fpdu_none stag s (next_frame s frame) (segment_of frame)
 
-unless-none : (stag : ℕ) (b : Bool) (events : List Event) → NoneReleases stag events → NoneReleases stag (cond b [] events)
-unless-none stag true events none = tt
-unless-none stag false events none = none
+unless_none : (stag : ℕ) (b : Bool) (events : List MemoryEvent) → NoneReleases stag events → NoneReleases stag (cond b [] events)
+unless_none stag true events none = tt
+unless_none stag false events none = none
 
-arrivals-none : (stag : ℕ) (frames : List (List ℕ)) (a : Awaited) (s : LinkState) → NoneReleases stag (arrivals frames a s)
-arrivals-none stag [] a s = tt
-arrivals-none stag (frame ∷ frames) a s =
-    unless-none stag (has_ended s) (frame_arrivals s a frame ++ arrivals frames Fpdu (with_frame s a frame))
-    (none-append stag (frame_arrivals s a frame) (arrivals frames Fpdu (with_frame s a frame)) (frame-none stag s a frame) (arrivals-none stag frames Fpdu (with_frame s a frame)))
+arrivals_none : (stag : ℕ) (frames : List (List ℕ)) (a : Awaited) (s : LinkState) → NoneReleases stag (arrivals frames a s)
+arrivals_none stag [] a s = tt
+arrivals_none stag (frame ∷ frames) a s =
+    unless_none stag (has_ended s) (frame_arrivals s a frame ++ arrivals frames Fpdu (with_frame s a frame))
+    (none_append_lem stag (frame_arrivals s a frame) (arrivals frames Fpdu (with_frame s a frame)) (frame_none stag s a frame) (arrivals_none stag frames Fpdu (with_frame s a frame)))
 
 -- ---- Calls
 
-call-none : (stag : ℕ) (link : Link) (call : Call) → call ≢ Release stag → NoneReleases stag (call_events link call)
-call-none stag link (Feed piece) other = arrivals-none stag (frames_made_whole link piece) link.awaited link.state
-call-none stag link (FeedOne piece) other = arrivals-none stag (take 1 (frames_made_whole link piece)) link.awaited link.state
-call-none stag link NextEvent other = tt
-call-none stag link Post other = tt
-call-none stag link (Stop reason) other = tt
-call-none stag link OutOfMemory other = tt
-call-none stag link (Send message) other = tt
-call-none stag link (WriteRemote to_stag to bytes) other = tt
-call-none stag link (ReadRemote sink at from_stag to len) other = tt
-call-none stag link (Drain count) other = tt
-call-none stag link (Register buf right) other = (tt, tt)
-call-none stag link (Release released) other = (λ e. other (ap (λ (n : ℕ). Release n) e), tt)
+call_none : (stag : ℕ) (link : LinkSide) (call : Call) → call ≢ Release stag → NoneReleases stag (call_events link call)
+call_none stag link (Feed piece) other = arrivals_none stag (frames_made_whole link piece) link.awaited link.state
+call_none stag link (FeedOne piece) other = arrivals_none stag (take 1 (frames_made_whole link piece)) link.awaited link.state
+call_none stag link NextEvent other = tt
+call_none stag link Post other = tt
+call_none stag link (Stop reason) other = tt
+call_none stag link OutOfMemory other = tt
+call_none stag link (Send message) other = tt
+call_none stag link (WriteRemote to_stag to bytes) other = tt
+call_none stag link (ReadRemote sink at from_stag to len) other = tt
+call_none stag link (Drain count) other = tt
+call_none stag link (Register buf right) other = (tt, tt)
+call_none stag link (Release released) other = (λ e. other (ap (λ (n : ℕ). Release n) e), tt)
 
-calls-none : (stag : ℕ) (link : Link) (calls : List Call) → All (λ call. call ≢ Release stag) calls → NoneReleases stag (memory_events link calls)
-calls-none stag link [] others = tt
-calls-none stag link (call ∷ calls) others =
-    none-append stag (call_events link call) (memory_events (after_call link call) calls)
-    (call-none stag link call (All-head (λ call. call ≢ Release stag) call calls others))
-    (calls-none stag (after_call link call) calls (All-tail (λ call. call ≢ Release stag) call calls others))
+calls_none : (stag : ℕ) (link : LinkSide) (calls : List Call) → All (λ call. call ≢ Release stag) calls → NoneReleases stag (memory_events link calls)
+calls_none stag link [] others = tt
+calls_none stag link (call ∷ calls) others =
+    none_append_lem stag (call_events link call) (memory_events (after_call link call) calls)
+    (call_none stag link call (All-head (λ call. call ≢ Release stag) call calls others))
+    (calls_none stag (after_call link call) calls (All-tail (λ call. call ≢ Release stag) call calls others))
 
-pub claims-stay : ClaimsStay
-claims-stay link claim calls held others =
-    subst (λ (m : RegisteredMemory). IsHeld m claim) (sym (memory-follows-events link calls))
-    (held-after_events link.state.memory claim (memory_events link calls) held (calls-none claim.stag link calls others))
+pub claims_stay_lem : ClaimsStay
+claims_stay_lem link claim calls held others =
+    subst (λ (m : RegisteredMemory). IsHeld m claim) (sym (memory_follows_events link calls))
+    (held_after_events link.state.memory claim (memory_events link calls) held (calls_none claim.stag link calls others))

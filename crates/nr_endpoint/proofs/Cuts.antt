@@ -10,9 +10,9 @@ use Rattle.nr_xdr.specs.Item.{word, hyper}
 use Rattle.nr_wire.specs.Constants.{OPCODE_SEND, QUEUE_SEND}
 use Rattle.nr_wire.specs.Segment.Segment.{Untagged}
 use Rattle.nr_link.specs.Output.{cut, segment_count, segment_payload, send, write, read_response}
-use Rattle.nr_endpoint.specs.Carriers.{carried}
-use Rattle.nr_endpoint.specs.declared.framing.Carrier.{Carrier}
-use Rattle.nr_endpoint.specs.declared.framing.Carrier.TheVariants as carriers
+use Rattle.nr_endpoint.specs.Carriers.{operation_segment}
+use Rattle.nr_endpoint.specs.declared.framing.Operation.{Operation}
+use Rattle.nr_endpoint.specs.declared.framing.Operation.TheVariants as carriers
 use Rattle.nr_link.specs.Limits.{segment_max}
 
 -- the payload of a segment, cut within the length
@@ -25,10 +25,10 @@ payload_within bytes n m =
     ∙ ap (λ (k : ℕ). take k (drop n bytes)) (swap (length (drop n bytes)) m) ∙ take_min m (drop n bytes)
 
 -- the FPDU of the segment with this number, and those of the first n segments
-abbrev pub piece : Carrier → List ℕ → ℕ → List ℕ
-piece carrier bytes i = encoding (carried carrier (eqb (i + 1) (segment_count bytes)) (segment_max * i) (segment_payload bytes i))
+abbrev pub piece : Operation → List ℕ → ℕ → List ℕ
+piece carrier bytes i = encoding (operation_segment carrier (eqb (i + 1) (segment_count bytes)) (segment_max * i) (segment_payload bytes i))
 
-unfoldable pub pieces : Carrier → List ℕ → ℕ → List ℕ
+unfoldable pub pieces : Operation → List ℕ → ℕ → List ℕ
 pieces carrier bytes n = flat_map (piece carrier bytes) (range_with_len 0 n)
 
 -- one number more
@@ -38,11 +38,11 @@ range_more a n j h =
     ∙ map-range_with_len_more (λ (x : ℕ). x) a n j h
     ∙ ap (λ (xs : List ℕ). xs ++ j ∷ []) (map-id (range_with_len a n))
 
-pub pieces_none : (carrier : Carrier) (bytes : List ℕ) → pieces carrier bytes 0 ≡ []
+pub pieces_none : (carrier : Operation) (bytes : List ℕ) → pieces carrier bytes 0 ≡ []
 unfolding pieces
 pieces_none carrier bytes = refl
 
-pub pieces_more : (carrier : Carrier) (bytes : List ℕ) (n : ℕ) →
+pub pieces_more : (carrier : Operation) (bytes : List ℕ) (n : ℕ) →
     pieces carrier bytes (n + 1) ≡ pieces carrier bytes n ++ piece carrier bytes n
 unfolding pieces
 pieces_more carrier bytes n =
@@ -51,19 +51,19 @@ pieces_more carrier bytes n =
     ∙ flat_map-append f (range_with_len 0 n) (n ∷ [])
     ∙ ap (λ (xs : List ℕ). flat_map f (range_with_len 0 n) ++ xs) (append-nil (f n))
 
-pub pieces_all : (carrier : Carrier) (bytes : List ℕ) → pieces carrier bytes (segment_count bytes) ≡ cut (carried carrier) bytes
+pub pieces_all : (carrier : Operation) (bytes : List ℕ) → pieces carrier bytes (segment_count bytes) ≡ cut (operation_segment carrier) bytes
 unfolding pieces cut
 pieces_all carrier bytes = refl
 
 -- a segment of a cut can be written
-pub carried_writable : (carrier : Carrier) (last : Bool) (offset : ℕ) (payload : List ℕ) → length payload ≤ segment_max →
-    IsWritable (carried carrier last offset payload)
+pub carried_writable : (carrier : Operation) (last : Bool) (offset : ℕ) (payload : List ℕ) → length payload ≤ segment_max →
+    IsWritable (operation_segment carrier last offset payload)
 carried_writable (carriers.Send msn) last offset payload h = (omega arith, omega arith)
 carried_writable (carriers.Write stag to) last offset payload h = (omega arith, omega arith)
 carried_writable (carriers.Response stag to) last offset payload h = (omega arith, omega arith)
 
-pub writable_from : (segment : Segment) (carrier : Carrier) (last : Bool) (offset : ℕ) (payload : List ℕ) →
-    segment ≡ carried carrier last offset payload → length payload ≤ segment_max → IsWritable segment
+pub writable_from : (segment : Segment) (carrier : Operation) (last : Bool) (offset : ℕ) (payload : List ℕ) →
+    segment ≡ operation_segment carrier last offset payload → length payload ≤ segment_max → IsWritable segment
 writable_from segment carrier last offset payload is h =
     subst (λ (s : Segment). IsWritable s) (sym is) (carried_writable carrier last offset payload h)
 
@@ -71,9 +71,9 @@ pub payload_short : (bytes : List ℕ) (i : ℕ) → length (segment_payload byt
 payload_short bytes i = omega (arith, length-take segment_max (drop (segment_max * i) bytes))
 
 -- one segment more
-pub piece_pushed : (new old start : List ℕ) (segment : Segment) (carrier : Carrier) (bytes : List ℕ) (i : ℕ) →
+pub piece_pushed : (new old start : List ℕ) (segment : Segment) (carrier : Operation) (bytes : List ℕ) (i : ℕ) →
     old ≡ start ++ pieces carrier bytes i → new ≡ old ++ encoding segment →
-    segment ≡ carried carrier (eqb (i + 1) (segment_count bytes)) (segment_max * i) (segment_payload bytes i) →
+    segment ≡ operation_segment carrier (eqb (i + 1) (segment_count bytes)) (segment_max * i) (segment_payload bytes i) →
     new ≡ start ++ pieces carrier bytes (i + 1)
 piece_pushed new old start segment carrier bytes i so_far pushed is =
     pushed
@@ -82,8 +82,8 @@ piece_pushed new old start segment carrier bytes i so_far pushed is =
     ∙ ap (λ (xs : List ℕ). start ++ xs) (sym (pieces_more carrier bytes i))
 
 -- and all of them
-pub all_pushed : (new start : List ℕ) (carrier : Carrier) (bytes : List ℕ) (i : ℕ) → i ≡ segment_count bytes →
-    new ≡ start ++ pieces carrier bytes i → new ≡ start ++ cut (carried carrier) bytes
+pub all_pushed : (new start : List ℕ) (carrier : Operation) (bytes : List ℕ) (i : ℕ) → i ≡ segment_count bytes →
+    new ≡ start ++ pieces carrier bytes i → new ≡ start ++ cut (operation_segment carrier) bytes
 all_pushed new start carrier bytes i here so_far =
     so_far
     ∙ ap (λ (n : ℕ). start ++ pieces carrier bytes n) here
@@ -91,17 +91,17 @@ all_pushed new start carrier bytes i here so_far =
 
 -- ---- What carries the bytes of each call
 
-pub carried_send : (n : ℕ) (message : List ℕ) → cut (carried (carriers.Send ((n + 1) % 2 ^ 32))) message ≡ send ((n + 1) % 2 ^ 32) message
+pub carried_send : (n : ℕ) (message : List ℕ) → cut (operation_segment (carriers.Send ((n + 1) % 2 ^ 32))) message ≡ send ((n + 1) % 2 ^ 32) message
 unfolding send
 carried_send n message =
     let same : (n + 1) % 2 ^ 32 ≡ ((n + 1) % 2 ^ 32) % 2 ^ 32 = omega arith in
     ap (λ (m : ℕ). cut (λ last offset payload. Untagged last OPCODE_SEND 0 QUEUE_SEND m offset payload) message) same
 
-pub carried_write : (stag to : ℕ) (bytes : List ℕ) → cut (carried (carriers.Write stag to)) bytes ≡ write stag to bytes
+pub carried_write : (stag to : ℕ) (bytes : List ℕ) → cut (operation_segment (carriers.Write stag to)) bytes ≡ write stag to bytes
 unfolding write
 carried_write stag to bytes = refl
 
-pub carried_response : (stag to : ℕ) (bytes : List ℕ) → cut (carried (carriers.Response stag to)) bytes ≡ read_response stag to bytes
+pub carried_response : (stag to : ℕ) (bytes : List ℕ) → cut (operation_segment (carriers.Response stag to)) bytes ≡ read_response stag to bytes
 unfolding read_response
 carried_response stag to bytes = refl
 

@@ -8,140 +8,140 @@ use Rattle.nr_wire.specs.Hello.{Hello, hello_of}
 use Rattle.nr_wire.specs.Segment.{Segment, segment_of}
 use Rattle.nr_wire.specs.Feeding.{feeding_after, feeding_after_frames, feeding_in, feeding_after_step}
 use Rattle.nr_wire.specs.Stream.{is_whole, frame_len, split}
-use Rattle.nr_wire.proofs.Splits.{split-Splits}
+use Rattle.nr_wire.proofs.Splits.{split_Splits}
 use Rattle.nr_wire.proofs.Frames.{whole_from}
 use Rattle.nr_wire.proofs.Feedings.{feeding_after_step-whole, feeding_after_step-partial, feeding_after_step-ended}
 use Rattle.nr_link.specs.declared.end.End.{End}
 use Rattle.nr_link.specs.Frames.{Frame}
 use Rattle.nr_endpoint.specs.FedBytes.{fed_bytes}
-use Rattle.nr_endpoint.specs.ReceiveQueue.{Notice, lent_for}
-use Rattle.nr_endpoint.specs.ReceiveQueue.Notice.{MessageReceived}
+use Rattle.nr_endpoint.specs.ReceiveQueue.{DeliveredEvent, lent_for}
+use Rattle.nr_endpoint.specs.ReceiveQueue.DeliveredEvent.{MessageReceived}
 use Rattle.nr_wire.specs.declared.hello.Side.{Side}
 use Rattle.nr_regions.specs.declared.right.Right.{Right}
-use Rattle.nr_endpoint.specs.LinkState.{initial_link, LinkState, Link, has_ended}
+use Rattle.nr_endpoint.specs.LinkState.{initial_link, LinkState, LinkSide, has_ended}
 use Rattle.nr_endpoint.specs.Judging.{with_frame, with_fpdu, with_peer_hello, with_segment_by, segment_end, next_frame}
 use Rattle.nr_endpoint.specs.Calls.{StandsOn, after_call, after_calls}
 use Rattle.nr_endpoint.specs.Calls.Call.{Feed, FeedOne, NextEvent, Post, Send, WriteRemote, ReadRemote, Drain, Register}
 
 -- ---- A frame
 
-segment-place : (f : Frame) (segment : Segment) (e : Option End) (s : LinkState) → s.place ≤ f.end → (with_segment_by f segment e s).place ≤ f.end
-segment-place f segment None s le = omega arith
-segment-place f segment (Some end) s le = le
+segment_place : (f : Frame) (segment : Segment) (e : Option End) (s : LinkState) → s.place ≤ f.end → (with_segment_by f segment e s).place ≤ f.end
+segment_place f segment None s le = omega arith
+segment_place f segment (Some end) s le = le
 
-fpdu-place : (f : Frame) (r : Result Segment ℕ) (s : LinkState) → s.place ≤ f.end → (with_fpdu f r s).place ≤ f.end
+fpdu_place : (f : Frame) (r : Result Segment ℕ) (s : LinkState) → s.place ≤ f.end → (with_fpdu f r s).place ≤ f.end
 unfolding with_fpdu
-fpdu-place f (Ok segment) s le = segment-place f segment (segment_end s f segment) s le
-fpdu-place f (Err reason) s le = le
+fpdu_place f (Ok segment) s le = segment_place f segment (segment_end s f segment) s le
+fpdu_place f (Err reason) s le = le
 
-hello-place : (f : Frame) (r : Result Hello ℕ) (s : LinkState) → s.place ≤ f.end → (with_peer_hello f r s).place ≤ f.end
+hello_place : (f : Frame) (r : Result Hello ℕ) (s : LinkState) → s.place ≤ f.end → (with_peer_hello f r s).place ≤ f.end
 unfolding with_peer_hello
-hello-place f (Ok hello) s le = omega arith
-hello-place f (Err reason) s le = le
+hello_place f (Ok hello) s le = omega arith
+hello_place f (Err reason) s le = le
 
-frame-place : (s : LinkState) (a : Awaited) (bytes : List ℕ) → (with_frame s a bytes).place ≤ s.place + length bytes
-frame-place s (HelloFrom side) bytes = hello-place (next_frame s bytes) (hello_of side bytes) s (omega arith)
-frame-place s Fpdu bytes = fpdu-place (next_frame s bytes) (segment_of bytes) s (omega arith)
+frame_place : (s : LinkState) (a : Awaited) (bytes : List ℕ) → (with_frame s a bytes).place ≤ s.place + length bytes
+frame_place s (HelloFrom side) bytes = hello_place (next_frame s bytes) (hello_of side bytes) s (omega arith)
+frame_place s Fpdu bytes = fpdu_place (next_frame s bytes) (segment_of bytes) s (omega arith)
 
 -- ---- Frames
 
-kept-by : (b : Bool) (rest : List ℕ) → length (cond b [] rest) ≤ length rest
-kept-by true rest = omega arith
-kept-by false rest = omega arith
+kept_by_lem : (b : Bool) (rest : List ℕ) → length (cond b [] rest) ≤ length rest
+kept_by_lem true rest = omega arith
+kept_by_lem false rest = omega arith
 
-frames-within : (frames : List (List ℕ)) (rest : List ℕ) (a : Awaited) (s : LinkState) →
+frames_within : (frames : List (List ℕ)) (rest : List ℕ) (a : Awaited) (s : LinkState) →
     fed_bytes (feeding_after_frames has_ended with_frame frames rest a s) ≤ s.place + (length (concat frames) + length rest)
-frames-within [] rest a s = omega (arith, kept-by (has_ended s) rest)
-frames-within (frame ∷ frames) rest a s = by (frames-within frames rest Fpdu (with_frame s a frame)) (has_ended s) refl
+frames_within [] rest a s = omega (arith, kept_by_lem (has_ended s) rest)
+frames_within (frame ∷ frames) rest a s = by (frames_within frames rest Fpdu (with_frame s a frame)) (has_ended s) refl
   where
-    the_rest : Bool → Link
+    the_rest : Bool → LinkSide
     the_rest b = cond b (feeding_in has_ended with_frame a [] s) (feeding_after_frames has_ended with_frame frames rest Fpdu (with_frame s a frame))
 
     by : fed_bytes (feeding_after_frames has_ended with_frame frames rest Fpdu (with_frame s a frame)) ≤ (with_frame s a frame).place + (length (concat frames) + length rest) →
         (b : Bool) → has_ended s ≡ b → fed_bytes (the_rest (has_ended s)) ≤ s.place + (length (concat (frame ∷ frames)) + length rest)
     by others true e = subst (λ (b : Bool). fed_bytes (the_rest b) ≤ s.place + (length (concat (frame ∷ frames)) + length rest)) (sym e)
-        (omega (arith, kept-by (has_ended s) []))
+        (omega (arith, kept_by_lem (has_ended s) []))
     by others false e = subst (λ (b : Bool). fed_bytes (the_rest b) ≤ s.place + (length (concat (frame ∷ frames)) + length rest)) (sym e)
-        (omega (arith, others, frame-place s a frame, length-append frame (concat frames)))
+        (omega (arith, others, frame_place s a frame, length-append frame (concat frames)))
 
-pub fed-within : (l : Link) (piece : List ℕ) → fed_bytes (after_call l (Feed piece)) ≤ fed_bytes l + length piece
+pub fed_within : (l : LinkSide) (piece : List ℕ) → fed_bytes (after_call l (Feed piece)) ≤ fed_bytes l + length piece
 unfolding after_call feeding_after
-fed-within l piece =
-    let s = split-Splits l.awaited (l.rest ++ piece) in
+fed_within l piece =
+    let s = split_Splits l.awaited (l.rest ++ piece) in
     let len : length (l.rest ++ piece) ≡ length (concat (split l.awaited (l.rest ++ piece)).frames) + length (split l.awaited (l.rest ++ piece)).rest =
     ap (λ (bytes : List ℕ). length bytes) s.whole ∙ length-append (concat (split l.awaited (l.rest ++ piece)).frames) (split l.awaited (l.rest ++ piece)).rest in
-    omega (arith, len, length-append l.rest piece, frames-within (split l.awaited (l.rest ++ piece)).frames (split l.awaited (l.rest ++ piece)).rest l.awaited l.state)
+    omega (arith, len, length-append l.rest piece, frames_within (split l.awaited (l.rest ++ piece)).frames (split l.awaited (l.rest ++ piece)).rest l.awaited l.state)
 
-pub fed_one-within : (l : Link) (piece : List ℕ) → fed_bytes (after_call l (FeedOne piece)) ≤ fed_bytes l + length piece
+pub fed_one_within : (l : LinkSide) (piece : List ℕ) → fed_bytes (after_call l (FeedOne piece)) ≤ fed_bytes l + length piece
 unfolding after_call
-fed_one-within l piece = by (has_ended l.state) refl (is_whole l.awaited (l.rest ++ piece)) refl
+fed_one_within l piece = by (has_ended l.state) refl (is_whole l.awaited (l.rest ++ piece)) refl
   where
     by : (e : Bool) → has_ended l.state ≡ e → (w : Bool) → is_whole l.awaited (l.rest ++ piece) ≡ w → fed_bytes (feeding_after_step has_ended with_frame l piece) ≤ fed_bytes l + length piece
-    by true e w whole = subst (λ (x : Link). fed_bytes x ≤ fed_bytes l + length piece) (sym (feeding_after_step-ended has_ended with_frame l piece e)) (omega arith)
+    by true e w whole = subst (λ (x : LinkSide). fed_bytes x ≤ fed_bytes l + length piece) (sym (feeding_after_step-ended has_ended with_frame l piece e)) (omega arith)
     by false e true whole =
         let f = whole_from l.awaited (l.rest ++ piece) whole in
-        subst (λ (x : Link). fed_bytes x ≤ fed_bytes l + length piece) (sym (feeding_after_step-whole has_ended with_frame l piece e whole))
+        subst (λ (x : LinkSide). fed_bytes x ≤ fed_bytes l + length piece) (sym (feeding_after_step-whole has_ended with_frame l piece e whole))
         (omega (
           arith,
           f.frame,
           length-append l.rest piece,
           length-take (frame_len l.awaited (l.rest ++ piece)) (l.rest ++ piece),
-          frame-place l.state l.awaited (take (frame_len l.awaited (l.rest ++ piece)) (l.rest ++ piece)),
+          frame_place l.state l.awaited (take (frame_len l.awaited (l.rest ++ piece)) (l.rest ++ piece)),
         ))
-    by false e false partial = subst (λ (x : Link). fed_bytes x ≤ fed_bytes l + length piece) (sym (feeding_after_step-partial has_ended with_frame l piece e partial))
+    by false e false partial = subst (λ (x : LinkSide). fed_bytes x ≤ fed_bytes l + length piece) (sym (feeding_after_step-partial has_ended with_frame l piece e partial))
         (omega (arith, length-append l.rest piece))
 
-unless-place : (s after : LinkState) (b : Bool) → after.place ≡ s.place → (cond b s after).place ≡ s.place
-unless-place s after true is = refl
-unless-place s after false is = is
+unless_place : (s after : LinkState) (b : Bool) → after.place ≡ s.place → (cond b s after).place ≡ s.place
+unless_place s after true is = refl
+unless_place s after false is = is
 
-pub send-fed : (l : Link) (message : List ℕ) → fed_bytes (after_call l (Send message)) ≡ fed_bytes l
+pub send_fed : (l : LinkSide) (message : List ℕ) → fed_bytes (after_call l (Send message)) ≡ fed_bytes l
 unfolding after_call
-send-fed l message = ap (λ (n : ℕ). n + length l.rest) (unless-place l.state _ (has_ended l.state) refl)
+send_fed l message = ap (λ (n : ℕ). n + length l.rest) (unless_place l.state _ (has_ended l.state) refl)
 
-pub write-fed : (l : Link) (stag to : ℕ) (bytes : List ℕ) → fed_bytes (after_call l (WriteRemote stag to bytes)) ≡ fed_bytes l
+pub write_fed_lem : (l : LinkSide) (stag to : ℕ) (bytes : List ℕ) → fed_bytes (after_call l (WriteRemote stag to bytes)) ≡ fed_bytes l
 unfolding after_call
-write-fed l stag to bytes = ap (λ (n : ℕ). n + length l.rest) (unless-place l.state _ (has_ended l.state) refl)
+write_fed_lem l stag to bytes = ap (λ (n : ℕ). n + length l.rest) (unless_place l.state _ (has_ended l.state) refl)
 
-pub read-fed : (l : Link) (sink at stag to len : ℕ) → fed_bytes (after_call l (ReadRemote sink at stag to len)) ≡ fed_bytes l
+pub read_fed : (l : LinkSide) (sink at stag to len : ℕ) → fed_bytes (after_call l (ReadRemote sink at stag to len)) ≡ fed_bytes l
 unfolding after_call
-read-fed l sink at stag to len = ap (λ (n : ℕ). n + length l.rest) (unless-place l.state _ (has_ended l.state) refl)
+read_fed l sink at stag to len = ap (λ (n : ℕ). n + length l.rest) (unless_place l.state _ (has_ended l.state) refl)
 
-pub event-fed : (l : Link) → fed_bytes (after_call l NextEvent) ≡ fed_bytes l
+pub event_fed : (l : LinkSide) → fed_bytes (after_call l NextEvent) ≡ fed_bytes l
 unfolding after_call
-event-fed l = refl
+event_fed l = refl
 
-pub post-fed : (l : Link) → fed_bytes (after_call l Post) ≡ fed_bytes l
+pub post_fed : (l : LinkSide) → fed_bytes (after_call l Post) ≡ fed_bytes l
 unfolding after_call
-post-fed l = refl
+post_fed l = refl
 
-pub drain-fed : (l : Link) (n : ℕ) → fed_bytes (after_call l (Drain n)) ≡ fed_bytes l
+pub drain_fed : (l : LinkSide) (n : ℕ) → fed_bytes (after_call l (Drain n)) ≡ fed_bytes l
 unfolding after_call
-drain-fed l n = refl
+drain_fed l n = refl
 
-pub fed_stands : (before after : Link) (piece : List ℕ) → StandsOn before (Feed piece) after → fed_bytes after ≤ fed_bytes before + length piece
+pub fed_stands : (before after : LinkSide) (piece : List ℕ) → StandsOn before (Feed piece) after → fed_bytes after ≤ fed_bytes before + length piece
 unfolding after_calls
 fed_stands before after piece stands =
-    subst (λ (l : Link). fed_bytes l ≤ fed_bytes before + length piece) (sym (stands before [] refl)) (fed-within before piece)
+    subst (λ (l : LinkSide). fed_bytes l ≤ fed_bytes before + length piece) (sym (stands before [] refl)) (fed_within before piece)
 
-pub event_stands : (before after : Link) → after ≡ after_call before NextEvent → fed_bytes after ≡ fed_bytes before
-event_stands before after is = ap (λ (l : Link). fed_bytes l) is ∙ event-fed before
+pub event_stands : (before after : LinkSide) → after ≡ after_call before NextEvent → fed_bytes after ≡ fed_bytes before
+event_stands before after is = ap (λ (l : LinkSide). fed_bytes l) is ∙ event_fed before
 
-pub post_stands : (before after : Link) → after ≡ after_call before Post → fed_bytes after ≡ fed_bytes before
-post_stands before after is = ap (λ (l : Link). fed_bytes l) is ∙ post-fed before
+pub post_stands : (before after : LinkSide) → after ≡ after_call before Post → fed_bytes after ≡ fed_bytes before
+post_stands before after is = ap (λ (l : LinkSide). fed_bytes l) is ∙ post_fed before
 
-pub message_lent : (before after : Link) (number : ℕ) (invalidated : Option ℕ) (bytes : List ℕ) → before.state.receive_queue.notices ≡ MessageReceived number invalidated bytes ∷ after.state.receive_queue.notices → after ≡ after_call before NextEvent →
+pub message_lent : (before after : LinkSide) (number : ℕ) (invalidated : Option ℕ) (bytes : List ℕ) → before.state.receive_queue.notices ≡ MessageReceived number invalidated bytes ∷ after.state.receive_queue.notices → after ≡ after_call before NextEvent →
     0 < after.state.receive_queue.lent
 unfolding after_call
 message_lent before after number invalidated bytes first is =
-    let lent : after.state.receive_queue.lent ≡ before.state.receive_queue.lent + lent_for before.state.receive_queue.notices = ap (λ (l : Link). l.state.receive_queue.lent) is in
-    let one : lent_for before.state.receive_queue.notices ≡ 1 = ap (λ (n : List Notice). lent_for n) first in
+    let lent : after.state.receive_queue.lent ≡ before.state.receive_queue.lent + lent_for before.state.receive_queue.notices = ap (λ (l : LinkSide). l.state.receive_queue.lent) is in
+    let one : lent_for before.state.receive_queue.notices ≡ 1 = ap (λ (n : List DeliveredEvent). lent_for n) first in
     omega (arith, lent, one)
 
-pub open_fed : (l : Link) (side : Side) (receives stag : ℕ) → l ≡ initial_link side receives stag → fed_bytes l ≡ 0
+pub open_fed : (l : LinkSide) (side : Side) (receives stag : ℕ) → l ≡ initial_link side receives stag → fed_bytes l ≡ 0
 unfolding initial_link
-open_fed l side receives stag is = ap (λ (x : Link). fed_bytes x) is
+open_fed l side receives stag is = ap (λ (x : LinkSide). fed_bytes x) is
 
-pub register_fed : (before after : Link) (buf : List ℕ) (right : Right) → after ≡ after_call before (Register buf right) → fed_bytes after ≡ fed_bytes before
+pub register_fed : (before after : LinkSide) (buf : List ℕ) (right : Right) → after ≡ after_call before (Register buf right) → fed_bytes after ≡ fed_bytes before
 unfolding after_call
-register_fed before after buf right is = ap (λ (l : Link). fed_bytes l) is
+register_fed before after buf right is = ap (λ (l : LinkSide). fed_bytes l) is

@@ -7,36 +7,36 @@ use Rattle.nr_regions.specs.Access.{Grant, grant_denial}
 use Rattle.nr_regions.proofs.Contents.{same_denial}
 use Rattle.nr_link.specs.declared.end.End.{End}
 use Rattle.nr_link.specs.Frames.{Frame}
-use Rattle.nr_link.specs.SegmentFaults.{segment_fault}
+use Rattle.nr_link.specs.SegmentFaults.{segment_reason}
 use Rattle.nr_link.specs.Ending.{access_of, end_of_fault, frame_end, frame_end_by, frame_segment}
 use Rattle.nr_link.specs.Ending as link
 use Rattle.nr_endpoint.specs.LinkState.{LinkState}
 use Rattle.nr_endpoint.specs.Judging.{readiness, missing_access, segment_end, next_frame, with_fpdu, with_segment_by}
 use Rattle.nr_endpoint.specs.Laws.{DeniesAlike, GrantsEndAlike, OffersDenyAlike}
-use Rattle.nr_endpoint.proofs.EndLaws.{effect-ended}
+use Rattle.nr_endpoint.proofs.EndLaws.{effect_ended}
 
-lacks-same : (s : LinkState) (grants : List Grant) (f : Frame) (segment : Segment) → DeniesAlike s.memory grants f.end → missing_access s.memory segment ≡ link.missing_access grants f segment
-lacks-same s grants f segment alike = by (access_of segment)
+lacks_same : (s : LinkState) (grants : List Grant) (f : Frame) (segment : Segment) → DeniesAlike s.memory grants f.end → missing_access s.memory segment ≡ link.missing_access grants f segment
+lacks_same s grants f segment alike = by (access_of segment)
   where
     by : (a : Option Access) → Rattle.std.specs.Prelude.option_and_then (denial s.memory) a ≡ Rattle.std.specs.Prelude.option_and_then (λ (access : Access). grant_denial grants access f.end) a
     by None = refl
     by (Some access) = alike access
 
-segment-ended : (s : LinkState) (f : Frame) (segment : Segment) (e : Option End) → s.ended ≡ None → (with_segment_by f segment e s).ended ≡ e
-segment-ended s f segment None live = effect-ended s segment ∙ live
-segment-ended s f segment (Some end) live = refl
+segment_ended : (s : LinkState) (f : Frame) (segment : Segment) (e : Option End) → s.ended ≡ None → (with_segment_by f segment e s).ended ≡ e
+segment_ended s f segment None live = effect_ended s segment ∙ live
+segment_ended s f segment (Some end) live = refl
 
-fpdu-ended : (s : LinkState) (grants : List Grant) (f : Frame) (r : Result Segment ℕ) → s.ended ≡ None → DeniesAlike s.memory grants f.end →
+fpdu_ended : (s : LinkState) (grants : List Grant) (f : Frame) (r : Result Segment ℕ) → s.ended ≡ None → DeniesAlike s.memory grants f.end →
     (with_fpdu f r s).ended ≡ frame_end_by (readiness s) grants f r
 unfolding with_fpdu segment_end
-fpdu-ended s grants f (Ok segment) live alike =
-    segment-ended s f segment (segment_end s f segment) live
-    ∙ ap (λ (missing : Option Denied). end_of_fault f segment (segment_fault (readiness s missing) segment)) (lacks-same s grants f segment alike)
-fpdu-ended s grants f (Err reason) live alike = refl
+fpdu_ended s grants f (Ok segment) live alike =
+    segment_ended s f segment (segment_end s f segment) live
+    ∙ ap (λ (missing : Option Denied). end_of_fault f segment (segment_reason (readiness s missing) segment)) (lacks_same s grants f segment alike)
+fpdu_ended s grants f (Err reason) live alike = refl
 
-pub grants-end-alike : GrantsEndAlike
+pub grants_end_alike : GrantsEndAlike
 unfolding frame_end frame_segment
-grants-end-alike s grants frame live alike = fpdu-ended s grants (next_frame s frame) (segment_of frame) live alike
+grants_end_alike s grants frame live alike = fpdu_ended s grants (next_frame s frame) (segment_of frame) live alike
 
-pub offers-deny-alike : OffersDenyAlike
-offers-deny-alike m grants end same access = same_denial grants m access end (same access.stag)
+pub offers_deny_alike : OffersDenyAlike
+offers_deny_alike m grants end same access = same_denial grants m access end (same access.stag)

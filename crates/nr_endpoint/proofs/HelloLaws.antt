@@ -17,12 +17,12 @@ use Rattle.nr_link.specs.Frames.{Frame}
 use Rattle.nr_link.specs.Output.{refusing_hello}
 use Rattle.nr_endpoint.specs.SendQueue.{with_end, written, writable}
 use Rattle.nr_link.specs.Ending.{rejection}
-use Rattle.nr_endpoint.specs.LinkState.{LinkState, Link, has_ended, initial_link}
+use Rattle.nr_endpoint.specs.LinkState.{LinkState, LinkSide, has_ended, initial_link}
 use Rattle.nr_endpoint.specs.Judging.{segment_end, next_frame, with_frame, with_segment_by, with_fpdu, with_peer_hello, with_effect, with_read_response}
 use Rattle.nr_endpoint.specs.Calls.{Call, after_call, after_calls}
 use Rattle.nr_endpoint.specs.Calls.Call.{Feed, FeedOne, NextEvent, Post, Stop, OutOfMemory, Send, WriteRemote, ReadRemote, Drain, Register, Release}
 use Rattle.nr_endpoint.specs.Laws.{MayBeCalled, MayAllBeCalled, bytes_drained, bytes_written, IsHelloAlone, NoFpduBeforeHello}
-use Rattle.nr_endpoint.proofs.AlongFrames.{feed-keeps, feed_one-keeps}
+use Rattle.nr_endpoint.proofs.AlongFrames.{feed_keeps, feed_one_keeps}
 
 abbrev awaits_hello : Awaited → Bool
 awaits_hello (HelloFrom side) = true
@@ -39,9 +39,9 @@ Early side out a s = (s.side ≡ side) × (s.has_hello ≡ false → IsEarly sid
 
 -- ---- A frame
 
-by-reason : (b : Bool) → (cond b refusing_hello [] ≡ []) ⊎ ((true ≡ true) × (cond b refusing_hello [] ≡ refusing_hello))
-by-reason true = inr (refl, refl)
-by-reason false = inl refl
+by_reason : (b : Bool) → (cond b refusing_hello [] ≡ []) ⊎ ((true ≡ true) × (cond b refusing_hello [] ≡ refusing_hello))
+by_reason true = inr (refl, refl)
+by_reason false = inl refl
 
 -- a side that rejects the peer's hello
 rejected : (side : Side) (out hello : List ℕ) (at reason : ℕ) (gone : Bool) → gone ≡ false → IsHelloAlone side gone (out ++ hello) →
@@ -51,13 +51,13 @@ rejected Responder out hello at reason gone live (inr (ended, is)) = absurd (let
 rejected Responder out hello at reason gone live (inl none) =
     let same : out ++ (hello ++ cond (eqb reason REASON_FLAGS) refusing_hello []) ≡ cond (eqb reason REASON_FLAGS) refusing_hello [] =
     sym (append_assoc out hello (cond (eqb reason REASON_FLAGS) refusing_hello [])) ∙ ap (λ (xs : List ℕ). xs ++ cond (eqb reason REASON_FLAGS) refusing_hello []) none in
-    subst (λ (xs : List ℕ). (xs ≡ []) ⊎ ((true ≡ true) × (xs ≡ refusing_hello))) (sym same) (by-reason (eqb reason REASON_FLAGS))
+    subst (λ (xs : List ℕ). (xs ≡ []) ⊎ ((true ≡ true) × (xs ≡ refusing_hello))) (sym same) (by_reason (eqb reason REASON_FLAGS))
 
-hello-early : (side : Side) (out : List ℕ) (a : Awaited) (s : LinkState) (f : Frame) (r : Result Hello ℕ) → has_ended s ≡ false → Early side out a s →
+hello_early : (side : Side) (out : List ℕ) (a : Awaited) (s : LinkState) (f : Frame) (r : Result Hello ℕ) → has_ended s ≡ false → Early side out a s →
     Early side out Fpdu (with_peer_hello f r s)
 unfolding with_peer_hello with_end
-hello-early side out a s f (Ok hello) live early = (early.0, λ none. absurd (let h : true ≡ false = none in cc))
-hello-early side out a s f (Err reason) live early = (
+hello_early side out a s f (Ok hello) live early = (early.0, λ none. absurd (let h : true ≡ false = none in cc))
+hello_early side out a s f (Err reason) live early = (
   early.0,
   λ none. record {
     start = (early.1 none).start;
@@ -71,35 +71,35 @@ hello-early side out a s f (Err reason) live early = (
 abbrev pub SameSide : LinkState → LinkState → Type 0
 SameSide s after = (after.side ≡ s.side) × (after.has_hello ≡ s.has_hello)
 
-placed-side : (s : LinkState) (b last : Bool) (n : ℕ) → SameSide s (cond b (with_read_response last n s) s)
-placed-side s true last n = (refl, refl)
-placed-side s false last n = (refl, refl)
+placed_side : (s : LinkState) (b last : Bool) (n : ℕ) → SameSide s (cond b (with_read_response last n s) s)
+placed_side s true last n = (refl, refl)
+placed_side s false last n = (refl, refl)
 
-segment-side : (s : LinkState) (f : Frame) (segment : Segment) (e : Option End) → SameSide s (with_segment_by f segment e s)
+segment_side : (s : LinkState) (f : Frame) (segment : Segment) (e : Option End) → SameSide s (with_segment_by f segment e s)
 unfolding with_effect
-segment-side s f segment (Some end) = (refl, refl)
-segment-side s f (Untagged last opcode w queue msn offset payload) None = (refl, refl)
-segment-side s f (Tagged last opcode stag to payload) None =
-    placed-side (record s { memory = after_place s.memory stag to payload }) (eqb opcode OPCODE_READ_RESPONSE) last (length payload)
+segment_side s f segment (Some end) = (refl, refl)
+segment_side s f (Untagged last opcode w queue msn offset payload) None = (refl, refl)
+segment_side s f (Tagged last opcode stag to payload) None =
+    placed_side (record s { memory = after_place s.memory stag to payload }) (eqb opcode OPCODE_READ_RESPONSE) last (length payload)
 
-pub fpdu-side : (s : LinkState) (f : Frame) (r : Result Segment ℕ) → SameSide s (with_fpdu f r s)
+pub fpdu_side : (s : LinkState) (f : Frame) (r : Result Segment ℕ) → SameSide s (with_fpdu f r s)
 unfolding with_fpdu
-fpdu-side s f (Ok segment) = segment-side s f segment (segment_end s f segment)
-fpdu-side s f (Err reason) = (refl, refl)
+fpdu_side s f (Ok segment) = segment_side s f segment (segment_end s f segment)
+fpdu_side s f (Err reason) = (refl, refl)
 
-frame-early : (side : Side) (out : List ℕ) (a : Awaited) (s : LinkState) (frame : List ℕ) → has_ended s ≡ false → Early side out a s → Early side out Fpdu (with_frame s a frame)
-frame-early side out (HelloFrom other) s frame live early = hello-early side out (HelloFrom other) s (next_frame s frame) (hello_of other frame) live early
-frame-early side out Fpdu s frame live early =
-    let same : SameSide s (with_fpdu (next_frame s frame) (segment_of frame) s) = fpdu-side s (next_frame s frame) (segment_of frame) in
+frame_early : (side : Side) (out : List ℕ) (a : Awaited) (s : LinkState) (frame : List ℕ) → has_ended s ≡ false → Early side out a s → Early side out Fpdu (with_frame s a frame)
+frame_early side out (HelloFrom other) s frame live early = hello_early side out (HelloFrom other) s (next_frame s frame) (hello_of other frame) live early
+frame_early side out Fpdu s frame live early =
+    let same : SameSide s (with_fpdu (next_frame s frame) (segment_of frame) s) = fpdu_side s (next_frame s frame) (segment_of frame) in
     (same.0 ∙ early.0, λ none. absurd (let h : false ≡ true = (early.1 (sym same.1 ∙ none)).awaited live in cc))
 
 -- ---- A call
 
 -- a call that queues FPDUs at most
-unless-early : (side : Side) (out : List ℕ) (a : Awaited) (s after : LinkState) (b : Bool) → after.side ≡ s.side → after.has_hello ≡ s.has_hello → after.place ≡ s.place →
+unless_early : (side : Side) (out : List ℕ) (a : Awaited) (s after : LinkState) (b : Bool) → after.side ≡ s.side → after.has_hello ≡ s.has_hello → after.place ≡ s.place →
     after.ended ≡ s.ended → after.send_queue.hello ≡ s.send_queue.hello → Early side out a s → Early side out a (cond b s after)
-unless-early side out a s after true own has place gone hello early = early
-unless-early side out a s after false own has place gone hello early = (
+unless_early side out a s after true own has place gone hello early = early
+unless_early side out a s after false own has place gone hello early = (
   own ∙ early.0,
   λ none.
       let e : IsEarly side out a s = early.1 (sym has ∙ none) in
@@ -111,15 +111,15 @@ unless-early side out a s after false own has place gone hello early = (
       },
 )
 
-ended-alone : (side : Side) (b : Bool) (bytes : List ℕ) → IsHelloAlone side b bytes → IsHelloAlone side true bytes
-ended-alone Initiator b bytes is = is
-ended-alone Responder b bytes (inl none) = inl none
-ended-alone Responder b bytes (inr (gone, is)) = inr (refl, is)
+ended_alone : (side : Side) (b : Bool) (bytes : List ℕ) → IsHelloAlone side b bytes → IsHelloAlone side true bytes
+ended_alone Initiator b bytes is = is
+ended_alone Responder b bytes (inl none) = inl none
+ended_alone Responder b bytes (inr (gone, is)) = inr (refl, is)
 
-drained-early : (side : Side) (out : List ℕ) (a : Awaited) (s : LinkState) (n : ℕ) → Early side out a s →
+drained_early : (side : Side) (out : List ℕ) (a : Awaited) (s : LinkState) (n : ℕ) → Early side out a s →
     Early side (out ++ take n (writable s.has_hello s.send_queue)) a (record s { send_queue = written n s.send_queue })
 unfolding written
-drained-early side out a s n early = (
+drained_early side out a s n early = (
   early.0,
   λ none.
       let e : IsEarly side out a s = early.1 none in
@@ -134,56 +134,56 @@ drained-early side out a s n early = (
       },
 )
 
-no-more : (side : Side) (out : List ℕ) (a : Awaited) (s : LinkState) → Early side out a s → Early side (out ++ []) a s
-no-more side out a s early = subst (λ (xs : List ℕ). Early side xs a s) (sym (append-nil out)) early
+no_more_lem : (side : Side) (out : List ℕ) (a : Awaited) (s : LinkState) → Early side out a s → Early side (out ++ []) a s
+no_more_lem side out a s early = subst (λ (xs : List ℕ). Early side xs a s) (sym (append-nil out)) early
 
-either-early : (side : Side) (out : List ℕ) (a : Awaited) (s after : LinkState) (b : Bool) → Early side out a s → Early side out a after → Early side out a (cond b s after)
-either-early side out a s after true early later = early
-either-early side out a s after false early later = later
+either_early : (side : Side) (out : List ℕ) (a : Awaited) (s after : LinkState) (b : Bool) → Early side out a s → Early side out a after → Early side out a (cond b s after)
+either_early side out a s after true early later = early
+either_early side out a s after false early later = later
 
-call-early : (side : Side) (out : List ℕ) (link : Link) (call : Call) → MayBeCalled link call → Early side out link.awaited link.state →
+call_early : (side : Side) (out : List ℕ) (link : LinkSide) (call : Call) → MayBeCalled link call → Early side out link.awaited link.state →
     Early side (out ++ bytes_drained link call) (after_call link call).awaited (after_call link call).state
 unfolding after_call with_end
-call-early side out link (Feed piece) may early =
-    no-more side out (after_call link (Feed piece)).awaited (after_call link (Feed piece)).state (feed-keeps (Early side out) (frame-early side out) link piece early)
-call-early side out link (FeedOne piece) may early =
-    no-more side out (after_call link (FeedOne piece)).awaited (after_call link (FeedOne piece)).state (feed_one-keeps (Early side out) (frame-early side out) link piece early)
-call-early side out link NextEvent may early = no-more side out link.awaited _ (early.0, λ none. let e = early.1 none in record { start = e.start; awaited = e.awaited; alone = e.alone })
-call-early side out link Post may early = no-more side out link.awaited _ (early.0, λ none. let e = early.1 none in record { start = e.start; awaited = e.awaited; alone = e.alone })
-call-early side out link (Stop reason) may early = no-more side out link.awaited _ (either-early side out link.awaited link.state _ (has_ended link.state) early (early.0, λ none. absurd (let e = early.1 none in omega (arith, may, e.start))))
-call-early side out link OutOfMemory may early = no-more side out link.awaited _ (either-early side out link.awaited link.state _ (has_ended link.state) early (
+call_early side out link (Feed piece) may early =
+    no_more_lem side out (after_call link (Feed piece)).awaited (after_call link (Feed piece)).state (feed_keeps (Early side out) (frame_early side out) link piece early)
+call_early side out link (FeedOne piece) may early =
+    no_more_lem side out (after_call link (FeedOne piece)).awaited (after_call link (FeedOne piece)).state (feed_one_keeps (Early side out) (frame_early side out) link piece early)
+call_early side out link NextEvent may early = no_more_lem side out link.awaited _ (early.0, λ none. let e = early.1 none in record { start = e.start; awaited = e.awaited; alone = e.alone })
+call_early side out link Post may early = no_more_lem side out link.awaited _ (early.0, λ none. let e = early.1 none in record { start = e.start; awaited = e.awaited; alone = e.alone })
+call_early side out link (Stop reason) may early = no_more_lem side out link.awaited _ (either_early side out link.awaited link.state _ (has_ended link.state) early (early.0, λ none. absurd (let e = early.1 none in omega (arith, may, e.start))))
+call_early side out link OutOfMemory may early = no_more_lem side out link.awaited _ (either_early side out link.awaited link.state _ (has_ended link.state) early (
   early.0,
   λ none. let e = early.1 none in record {
     start = e.start;
     awaited = λ ended. absurd (let h : true ≡ false = ended in cc);
-    alone = ended-alone side (has_ended link.state) (out ++ link.state.send_queue.hello) e.alone;
+    alone = ended_alone side (has_ended link.state) (out ++ link.state.send_queue.hello) e.alone;
   },
 ))
-call-early side out link (Send message) may early = no-more side out link.awaited _ (unless-early side out link.awaited link.state _ (has_ended link.state) refl refl refl refl refl early)
-call-early side out link (WriteRemote stag to bytes) may early = no-more side out link.awaited _ (unless-early side out link.awaited link.state _ (has_ended link.state) refl refl refl refl refl early)
-call-early side out link (ReadRemote sink at stag to len) may early = no-more side out link.awaited _ (unless-early side out link.awaited link.state _ (has_ended link.state) refl refl refl refl refl early)
-call-early side out link (Drain count) may early = drained-early side out link.awaited link.state count early
-call-early side out link (Register buf right) may early = no-more side out link.awaited _ (early.0, λ none. let e = early.1 none in record { start = e.start; awaited = e.awaited; alone = e.alone })
-call-early side out link (Release stag) may early = no-more side out link.awaited _ (early.0, λ none. let e = early.1 none in record { start = e.start; awaited = e.awaited; alone = e.alone })
+call_early side out link (Send message) may early = no_more_lem side out link.awaited _ (unless_early side out link.awaited link.state _ (has_ended link.state) refl refl refl refl refl early)
+call_early side out link (WriteRemote stag to bytes) may early = no_more_lem side out link.awaited _ (unless_early side out link.awaited link.state _ (has_ended link.state) refl refl refl refl refl early)
+call_early side out link (ReadRemote sink at stag to len) may early = no_more_lem side out link.awaited _ (unless_early side out link.awaited link.state _ (has_ended link.state) refl refl refl refl refl early)
+call_early side out link (Drain count) may early = drained_early side out link.awaited link.state count early
+call_early side out link (Register buf right) may early = no_more_lem side out link.awaited _ (early.0, λ none. let e = early.1 none in record { start = e.start; awaited = e.awaited; alone = e.alone })
+call_early side out link (Release stag) may early = no_more_lem side out link.awaited _ (early.0, λ none. let e = early.1 none in record { start = e.start; awaited = e.awaited; alone = e.alone })
 
-calls-early : (side : Side) (out : List ℕ) (link : Link) (calls : List Call) → MayAllBeCalled link calls → Early side out link.awaited link.state →
+calls_early : (side : Side) (out : List ℕ) (link : LinkSide) (calls : List Call) → MayAllBeCalled link calls → Early side out link.awaited link.state →
     Early side (out ++ bytes_written link calls) (after_calls link calls).awaited (after_calls link calls).state
 unfolding after_calls
-calls-early side out link [] may early = no-more side out link.awaited link.state early
-calls-early side out link (call ∷ calls) may early =
+calls_early side out link [] may early = no_more_lem side out link.awaited link.state early
+calls_early side out link (call ∷ calls) may early =
     subst (λ (xs : List ℕ). Early side xs (after_calls (after_call link call) calls).awaited (after_calls (after_call link call) calls).state)
     (append_assoc out (bytes_drained link call) (bytes_written (after_call link call) calls))
-    (calls-early side (out ++ bytes_drained link call) (after_call link call) calls may.1 (call-early side out link call may.0 early))
+    (calls_early side (out ++ bytes_drained link call) (after_call link call) calls may.1 (call_early side out link call may.0 early))
 
-initial-early : (side : Side) (receives first_stag : ℕ) → Early side [] (initial_link side receives first_stag).awaited (initial_link side receives first_stag).state
+initial_early : (side : Side) (receives first_stag : ℕ) → Early side [] (initial_link side receives first_stag).awaited (initial_link side receives first_stag).state
 unfolding initial_link
-initial-early Initiator receives first_stag = (refl, λ none. record { start = refl; awaited = λ live. refl; alone = refl })
-initial-early Responder receives first_stag = (refl, λ none. record { start = refl; awaited = λ live. refl; alone = inl refl })
+initial_early Initiator receives first_stag = (refl, λ none. record { start = refl; awaited = λ live. refl; alone = refl })
+initial_early Responder receives first_stag = (refl, λ none. record { start = refl; awaited = λ live. refl; alone = inl refl })
 
-pub no-fpdu-before-hello : NoFpduBeforeHello
-no-fpdu-before-hello side receives first_stag calls may none =
-    let start : Link = initial_link side receives first_stag in
+pub no_fpdu_before_hello_lem : NoFpduBeforeHello
+no_fpdu_before_hello_lem side receives first_stag calls may none =
+    let start : LinkSide = initial_link side receives first_stag in
     let s : LinkState = (after_calls start calls).state in
     let all : writable s.has_hello s.send_queue ≡ s.send_queue.hello = ap (λ (b : Bool). s.send_queue.hello ++ cond b s.send_queue.fpdus []) none ∙ append-nil s.send_queue.hello in
     subst (λ (xs : List ℕ). IsHelloAlone side (has_ended s) (bytes_written start calls ++ xs)) (sym all)
-    ((calls-early side [] start calls may (initial-early side receives first_stag)).1 none).alone
+    ((calls_early side [] start calls may (initial_early side receives first_stag)).1 none).alone

@@ -19,18 +19,18 @@ use Rattle.nr_regions.specs.declared.denied.Denied.{Denied}
 use Rattle.nr_link.specs.declared.end.End.{End}
 use Rattle.nr_link.specs.declared.end.End.TheVariants as ends
 use Rattle.nr_link.specs.Frames.{Frame}
-use Rattle.nr_link.specs.SegmentFaults.{SegmentFault}
-use Rattle.nr_link.specs.SegmentFaults.SegmentFault.{Reason, NoBuffer, AccessDenied, PeerTerminated}
+use Rattle.nr_link.specs.SegmentFaults.{SegmentReason}
+use Rattle.nr_link.specs.SegmentFaults.SegmentReason.{Reason, NoBuffer, AccessDenied, PeerTerminated}
 use Rattle.nr_link.specs.Ending.{access_of, denied_at, end_of_fault}
 use Rattle.nr_regions.specs.RegisteredMemory.{Access}
-use Rattle.nr_endpoint.specs.LinkState.{LinkState, Link, has_ended}
+use Rattle.nr_endpoint.specs.LinkState.{LinkState, LinkSide, has_ended}
 use Rattle.nr_endpoint.specs.SendQueue.{output_len}
 use Rattle.nr_endpoint.specs.Judging.{with_frame, with_fpdu, with_peer_hello, with_segment_by, with_effect, segment_end, next_frame}
 use Rattle.nr_endpoint.specs.Calls.{after_call, IsStep, QueuesOutput, makes_whole}
 use Rattle.nr_endpoint.specs.Calls.Call.{Feed, FeedOne, OutOfMemory}
 use Rattle.nr_endpoint.specs.EndpointState.{EndpointState, KeepsStaging, cut_frame_len}
-use Rattle.nr_endpoint.proofs.Standing.{live-state}
-use Rattle.nr_endpoint.proofs.StagedFrames.{taken_whole, taken_all, whole_as_staged, front-of}
+use Rattle.nr_endpoint.proofs.Standing.{live_state}
+use Rattle.nr_endpoint.proofs.StagedFrames.{taken_whole, taken_all, whole_as_staged, front_of}
 
 -- ---- The side after it
 
@@ -44,13 +44,13 @@ stepped_whole st next a rest piece frame none whole is then =
     ap (λ (s : LinkState). the_link s) (then ∙ ap (with_frame st a) is)
     ∙ sym (feeding_after_step-whole has_ended with_frame (record { awaited = a; rest = rest; state = st }) piece (living st none) whole)
   where
-    the_link : LinkState → Link
+    the_link : LinkState → LinkSide
     the_link s = record { awaited = Fpdu; rest = []; state = s }
 
 pub queues_whole : (st : LinkState) (a : Awaited) (rest piece frame : List ℕ) → st.ended ≡ None → is_whole a (rest ++ piece) ≡ true → frame ≡ take (frame_len a (rest ++ piece)) (rest ++ piece) →
     output_len st.send_queue < output_len (with_frame st a frame).send_queue → QueuesOutput (record { awaited = a; rest = rest; state = st }) piece
 queues_whole st a rest piece frame none whole is more =
-    subst (λ (l : Link). output_len st.send_queue < output_len l.state.send_queue) (stepped_whole st (with_frame st a frame) a rest piece frame none whole is refl) more
+    subst (λ (l : LinkSide). output_len st.send_queue < output_len l.state.send_queue) (stepped_whole st (with_frame st a frame) a rest piece frame none whole is refl) more
 
 pub stepped_partial : (st : LinkState) (a : Awaited) (rest piece left : List ℕ) → st.ended ≡ None → is_whole a (rest ++ piece) ≡ false → left ≡ rest ++ piece →
     record { awaited = a; rest = left; state = st } ≡ after_call (record { awaited = a; rest = rest; state = st }) (FeedOne piece)
@@ -58,15 +58,15 @@ unfolding after_call
 stepped_partial st a rest piece left none partial is =
     ap (λ (bytes : List ℕ). the_link bytes) is ∙ sym (feeding_after_step-partial has_ended with_frame (record { awaited = a; rest = rest; state = st }) piece (living st none) partial)
   where
-    the_link : List ℕ → Link
+    the_link : List ℕ → LinkSide
     the_link bytes = record { awaited = a; rest = bytes; state = st }
 
 pub out_of_memory : (st next : LinkState) (a : Awaited) (rest : List ℕ) → st.ended ≡ None → next ≡ record st { ended = Some ends.Memory } →
     record { awaited = a; rest = []; state = next } ≡ after_call (record { awaited = a; rest = rest; state = st }) OutOfMemory
 unfolding after_call
-out_of_memory st next a rest none is = ap (λ (s : LinkState). the_link s) (is ∙ sym (live-state st _ none))
+out_of_memory st next a rest none is = ap (λ (s : LinkState). the_link s) (is ∙ sym (live_state st _ none))
   where
-    the_link : LinkState → Link
+    the_link : LinkState → LinkSide
     the_link s = record { awaited = a; rest = []; state = s }
 
 -- what was judged
@@ -116,7 +116,7 @@ staged_len old new piece s t is few room =
     ∙ omega (arith, few, room, length-append (take s old) (take t piece ++ drop (s + t) old), length-append (take t piece) (drop (s + t) old), length-take s old, length-take t piece, length-drop (s + t) old)
 
 pub staged_front : (old new piece : List ℕ) (s t : ℕ) → new ≡ take s old ++ (take t piece ++ drop (s + t) old) → t ≤ length piece → s + t ≤ length old → take (s + t) new ≡ take s old ++ take t piece
-staged_front old new piece s t is few room = ap (take (s + t)) is ∙ front-of old piece s t (omega (arith, room)) few
+staged_front old new piece s t is few room = ap (take (s + t)) is ∙ front_of old piece s t (omega (arith, room)) few
 
 pub staged_behind : (old new piece : List ℕ) (s t k : ℕ) → new ≡ take s old ++ (take t piece ++ drop (s + t) old) → t ≤ length piece → s + t ≤ length old → s + t ≤ k → drop k new ≡ drop k old
 staged_behind old new piece s t k is few room within =
@@ -193,43 +193,43 @@ keeps_whole a after st next old new piece s t facts len p taken whole other =
 
 -- ---- No frame makes want of memory
 
-not-memory : (f : Frame) (segment : Segment) (fault : Option (SegmentFault Denied)) → end_of_fault f segment fault ≢ Some ends.Memory
-not-memory f segment None is = absurd cc
-not-memory f segment (Some (Reason reason)) is = absurd cc
-not-memory f segment (Some (NoBuffer msn)) is = absurd cc
-not-memory f segment (Some (AccessDenied why)) is = by (access_of segment) is
+not_memory : (f : Frame) (segment : Segment) (fault : Option (SegmentReason Denied)) → end_of_fault f segment fault ≢ Some ends.Memory
+not_memory f segment None is = absurd cc
+not_memory f segment (Some (Reason reason)) is = absurd cc
+not_memory f segment (Some (NoBuffer msn)) is = absurd cc
+not_memory f segment (Some (AccessDenied why)) is = by (access_of segment) is
   where
     by : (access : Option Access) → Some (denied_at access why) ≢ Some ends.Memory
     by None h = absurd cc
     by (Some access) h = absurd cc
-not-memory f segment (Some (PeerTerminated word)) is = absurd cc
+not_memory f segment (Some (PeerTerminated word)) is = absurd cc
 
-ended-by : (b : Bool) (one other : LinkState) (e : Option End) → one.ended ≡ e → other.ended ≡ e → (cond b one other).ended ≡ e
-ended-by true one other e h k = h
-ended-by false one other e h k = k
+ended_by_lem : (b : Bool) (one other : LinkState) (e : Option End) → one.ended ≡ e → other.ended ≡ e → (cond b one other).ended ≡ e
+ended_by_lem true one other e h k = h
+ended_by_lem false one other e h k = k
 
-effect-ended : (segment : Segment) (s : LinkState) → (with_effect segment s).ended ≡ s.ended
+effect_ended : (segment : Segment) (s : LinkState) → (with_effect segment s).ended ≡ s.ended
 unfolding with_effect
-effect-ended (Tagged last opcode stag to payload) s = ended-by (eqb opcode OPCODE_READ_RESPONSE) _ _ s.ended refl refl
-effect-ended (Untagged last opcode w queue msn offset payload) s = refl
+effect_ended (Tagged last opcode stag to payload) s = ended_by_lem (eqb opcode OPCODE_READ_RESPONSE) _ _ s.ended refl refl
+effect_ended (Untagged last opcode w queue msn offset payload) s = refl
 
-segment-not-memory : (f : Frame) (segment : Segment) (e : Option End) (s : LinkState) → e ≢ Some ends.Memory → s.ended ≡ None → (with_segment_by f segment e s).ended ≢ Some ends.Memory
-segment-not-memory f segment None s other none is = absurd (let h : None ≡ Some ends.Memory = sym none ∙ sym (effect-ended segment s) ∙ is in cc)
-segment-not-memory f segment (Some end) s other none is = other is
+segment_not_memory : (f : Frame) (segment : Segment) (e : Option End) (s : LinkState) → e ≢ Some ends.Memory → s.ended ≡ None → (with_segment_by f segment e s).ended ≢ Some ends.Memory
+segment_not_memory f segment None s other none is = absurd (let h : None ≡ Some ends.Memory = sym none ∙ sym (effect_ended segment s) ∙ is in cc)
+segment_not_memory f segment (Some end) s other none is = other is
 
-fpdu-not-memory : (f : Frame) (r : Result Segment ℕ) (s : LinkState) → s.ended ≡ None → (with_fpdu f r s).ended ≢ Some ends.Memory
+fpdu_not_memory : (f : Frame) (r : Result Segment ℕ) (s : LinkState) → s.ended ≡ None → (with_fpdu f r s).ended ≢ Some ends.Memory
 unfolding with_fpdu segment_end
-fpdu-not-memory f (Ok segment) s none is = segment-not-memory f segment _ s (not-memory f segment _) none is
-fpdu-not-memory f (Err reason) s none is = absurd cc
+fpdu_not_memory f (Ok segment) s none is = segment_not_memory f segment _ s (not_memory f segment _) none is
+fpdu_not_memory f (Err reason) s none is = absurd cc
 
-hello-not-memory : (f : Frame) (r : Result Hello ℕ) (s : LinkState) → s.ended ≡ None → (with_peer_hello f r s).ended ≢ Some ends.Memory
+hello_not_memory : (f : Frame) (r : Result Hello ℕ) (s : LinkState) → s.ended ≡ None → (with_peer_hello f r s).ended ≢ Some ends.Memory
 unfolding with_peer_hello
-hello-not-memory f (Ok hello) s none is = absurd (let h : None ≡ Some ends.Memory = sym none ∙ is in cc)
-hello-not-memory f (Err reason) s none is = absurd cc
+hello_not_memory f (Ok hello) s none is = absurd (let h : None ≡ Some ends.Memory = sym none ∙ is in cc)
+hello_not_memory f (Err reason) s none is = absurd cc
 
-pub frame-not-memory : (s : LinkState) (a : Awaited) (bytes : List ℕ) → s.ended ≡ None → (with_frame s a bytes).ended ≢ Some ends.Memory
-frame-not-memory s (HelloFrom side) bytes none = hello-not-memory (next_frame s bytes) (hello_of side bytes) s none
-frame-not-memory s Fpdu bytes none = fpdu-not-memory (next_frame s bytes) (segment_of bytes) s none
+pub frame_not_memory : (s : LinkState) (a : Awaited) (bytes : List ℕ) → s.ended ≡ None → (with_frame s a bytes).ended ≢ Some ends.Memory
+frame_not_memory s (HelloFrom side) bytes none = hello_not_memory (next_frame s bytes) (hello_of side bytes) s none
+frame_not_memory s Fpdu bytes none = fpdu_not_memory (next_frame s bytes) (segment_of bytes) s none
 
 -- ---- One frame at a time
 
@@ -249,48 +249,48 @@ pub unchanged : (e : EndpointState) (piece : List ℕ) → KeepsStaging e e piec
 unchanged e piece = record { others = refl; len = refl }
 
 -- what one step left, where it wasn't for want of memory, and where it was
-step-not-memory : (before : Link) (piece : List ℕ) → before.state.ended ≡ None → (after_call before (FeedOne piece)).state.ended ≢ Some ends.Memory
+step_not_memory : (before : LinkSide) (piece : List ℕ) → before.state.ended ≡ None → (after_call before (FeedOne piece)).state.ended ≢ Some ends.Memory
 unfolding after_call
-step-not-memory before piece none is = by (is_whole before.awaited (before.rest ++ piece)) refl
+step_not_memory before piece none is = by (is_whole before.awaited (before.rest ++ piece)) refl
   where
     by : (w : Bool) → is_whole before.awaited (before.rest ++ piece) ≡ w → ⊥
-    by true whole = frame-not-memory before.state before.awaited (take (frame_len before.awaited (before.rest ++ piece)) (before.rest ++ piece)) none
-        (ap (λ (l : Link). l.state.ended) (sym (feeding_after_step-whole has_ended with_frame before piece (living before.state none) whole)) ∙ is)
-    by false partial = absurd (let h : None ≡ Some ends.Memory = sym none ∙ ap (λ (l : Link). l.state.ended) (sym (feeding_after_step-partial has_ended with_frame before piece (living before.state none) partial)) ∙ is in cc)
+    by true whole = frame_not_memory before.state before.awaited (take (frame_len before.awaited (before.rest ++ piece)) (before.rest ++ piece)) none
+        (ap (λ (l : LinkSide). l.state.ended) (sym (feeding_after_step-whole has_ended with_frame before piece (living before.state none) whole)) ∙ is)
+    by false partial = absurd (let h : None ≡ Some ends.Memory = sym none ∙ ap (λ (l : LinkSide). l.state.ended) (sym (feeding_after_step-partial has_ended with_frame before piece (living before.state none) partial)) ∙ is in cc)
 
-pub memory-ends : (l : Link) → l.state.ended ≡ None → (after_call l OutOfMemory).state.ended ≡ Some ends.Memory
+pub memory_ends : (l : LinkSide) → l.state.ended ≡ None → (after_call l OutOfMemory).state.ended ≡ Some ends.Memory
 unfolding after_call
-memory-ends l none = ap (λ (s : LinkState). s.ended) (live-state l.state _ none)
+memory_ends l none = ap (λ (s : LinkState). s.ended) (live_state l.state _ none)
 
-pub step_ok : (before after : Link) (piece : List ℕ) → IsStep before piece after → before.state.ended ≡ None → after.state.ended ≢ Some ends.Memory → after ≡ after_call before (FeedOne piece)
+pub step_ok : (before after : LinkSide) (piece : List ℕ) → IsStep before piece after → before.state.ended ≡ None → after.state.ended ≢ Some ends.Memory → after ≡ after_call before (FeedOne piece)
 step_ok before after piece (inl is) none other = is
-step_ok before after piece (inr (is, whole, queues)) none other = absurd (other (ap (λ (l : Link). l.state.ended) is ∙ memory-ends before none))
+step_ok before after piece (inr (is, whole, queues)) none other = absurd (other (ap (λ (l : LinkSide). l.state.ended) is ∙ memory_ends before none))
 
-pub step_memory : (before after : Link) (piece : List ℕ) → IsStep before piece after → before.state.ended ≡ None → after.state.ended ≡ Some ends.Memory → after ≡ after_call before OutOfMemory
-step_memory before after piece (inl is) none memory = absurd (step-not-memory before piece none (ap (λ (l : Link). l.state.ended) (sym is) ∙ memory))
+pub step_memory : (before after : LinkSide) (piece : List ℕ) → IsStep before piece after → before.state.ended ≡ None → after.state.ended ≡ Some ends.Memory → after ≡ after_call before OutOfMemory
+step_memory before after piece (inl is) none memory = absurd (step_not_memory before piece none (ap (λ (l : LinkSide). l.state.ended) (sym is) ∙ memory))
 step_memory before after piece (inr (is, whole, queues)) none memory = is
 
-pub step_frame : (before after : Link) (piece : List ℕ) → IsStep before piece after → before.state.ended ≡ None → after.state.ended ≡ Some ends.Memory → (makes_whole before piece ≡ true) × QueuesOutput before piece
-step_frame before after piece (inl is) none memory = absurd (step-not-memory before piece none (ap (λ (l : Link). l.state.ended) (sym is) ∙ memory))
+pub step_frame : (before after : LinkSide) (piece : List ℕ) → IsStep before piece after → before.state.ended ≡ None → after.state.ended ≡ Some ends.Memory → (makes_whole before piece ≡ true) × QueuesOutput before piece
+step_frame before after piece (inl is) none memory = absurd (step_not_memory before piece none (ap (λ (l : LinkSide). l.state.ended) (sym is) ∙ memory))
 step_frame before after piece (inr (is, whole, queues)) none memory = (whole, queues)
 
 -- no feed makes want of memory either
-ended-or-on : (b : Bool) (s : LinkState) (one other : Link) → has_ended s ≡ b → s.ended ≢ Some ends.Memory → one.state ≡ s → (has_ended s ≡ false → other.state.ended ≢ Some ends.Memory) → (cond b one other).state.ended ≢ Some ends.Memory
-ended-or-on true s one other e kept same on is = kept (ap (λ (t : LinkState). t.ended) (sym same) ∙ is)
-ended-or-on false s one other e kept same on is = on e is
+ended_or_on : (b : Bool) (s : LinkState) (one other : LinkSide) → has_ended s ≡ b → s.ended ≢ Some ends.Memory → one.state ≡ s → (has_ended s ≡ false → other.state.ended ≢ Some ends.Memory) → (cond b one other).state.ended ≢ Some ends.Memory
+ended_or_on true s one other e kept same on is = kept (ap (λ (t : LinkState). t.ended) (sym same) ∙ is)
+ended_or_on false s one other e kept same on is = on e is
 
-no-end : (e : Option End) → is_some e ≡ false → e ≡ None
-no-end None h = refl
-no-end (Some end) h = absurd cc
+no_end : (e : Option End) → is_some e ≡ false → e ≡ None
+no_end None h = refl
+no_end (Some end) h = absurd cc
 
-frames-not-memory : (frames : List (List ℕ)) (rest : List ℕ) (a : Awaited) (s : LinkState) → s.ended ≢ Some ends.Memory → (feeding_after_frames has_ended with_frame frames rest a s).state.ended ≢ Some ends.Memory
-frames-not-memory [] rest a s kept is = kept is
-frames-not-memory (frame ∷ frames) rest a s kept is =
-    ended-or-on (has_ended s) s (feeding_in has_ended with_frame a [] s) (feeding_after_frames has_ended with_frame frames rest Fpdu (with_frame s a frame)) refl kept refl
-    (λ e. frames-not-memory frames rest Fpdu (with_frame s a frame) (frame-not-memory s a frame (no-end s.ended e))) is
+frames_not_memory : (frames : List (List ℕ)) (rest : List ℕ) (a : Awaited) (s : LinkState) → s.ended ≢ Some ends.Memory → (feeding_after_frames has_ended with_frame frames rest a s).state.ended ≢ Some ends.Memory
+frames_not_memory [] rest a s kept is = kept is
+frames_not_memory (frame ∷ frames) rest a s kept is =
+    ended_or_on (has_ended s) s (feeding_in has_ended with_frame a [] s) (feeding_after_frames has_ended with_frame frames rest Fpdu (with_frame s a frame)) refl kept refl
+    (λ e. frames_not_memory frames rest Fpdu (with_frame s a frame) (frame_not_memory s a frame (no_end s.ended e))) is
 
-pub feed-not-memory : (before : Link) (piece : List ℕ) → before.state.ended ≡ None → (after_call before (Feed piece)).state.ended ≢ Some ends.Memory
+pub feed_not_memory : (before : LinkSide) (piece : List ℕ) → before.state.ended ≡ None → (after_call before (Feed piece)).state.ended ≢ Some ends.Memory
 unfolding after_call feeding_after
-feed-not-memory before piece none is =
+feed_not_memory before piece none is =
     let s = split before.awaited (before.rest ++ piece) in
-    frames-not-memory s.frames s.rest before.awaited before.state (λ memory. absurd (let h : None ≡ Some ends.Memory = sym none ∙ memory in cc)) is
+    frames_not_memory s.frames s.rest before.awaited before.state (λ memory. absurd (let h : None ≡ Some ends.Memory = sym none ∙ memory in cc)) is

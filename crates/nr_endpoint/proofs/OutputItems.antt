@@ -7,9 +7,9 @@ use Rattle.std.proofs.Math.Seq.{take-add}
 use Rattle.nr_link.specs.OutputItem.{OutputItem, item_encoding, items_encoding, is_send_item, is_response_item, item_ends, items_written, items_left}
 use Rattle.nr_link.specs.OutputItem.OutputItem.{SendItem, WriteItem, ReadRequestItem, ReadResponseItem, LastItem}
 use Rattle.nr_endpoint.specs.SendQueue.{SendQueue, ends_left, ends_passed, written, writable}
-use Rattle.nr_endpoint.proofs.SendQueues.{ends_left-append, ends_passed-append}
-use Rattle.nr_endpoint.proofs.Queued.{send-some, response-some}
-use Rattle.nr_endpoint.proofs.ItemEnds.{encoding-more, end_of_item, ends-more, left-twice, passed-twice, left-kept, EndsAlike, HasBytes, left-counts, written-counts}
+use Rattle.nr_endpoint.proofs.SendQueues.{ends_left_append, ends_passed_append}
+use Rattle.nr_endpoint.proofs.Queued.{send_some, response_some}
+use Rattle.nr_endpoint.proofs.ItemEnds.{encoding_more, end_of_item, ends_more, left_twice, passed_twice, left_kept, EndsAlike, HasBytes, left_counts, written_counts}
 
 -- the most that the count of Sends tells
 abbrev pub most : ℕ
@@ -31,19 +31,19 @@ pub record QueueIs (all : List ℕ) (has_hello : Bool) (out : List ℕ) (items :
 
 -- ---- The items that are counted have bytes
 
-pub sends-some : HasBytes is_send_item
-sends-some (SendItem number message) of_kind = send-some number message
-sends-some (WriteItem stag to bytes) of_kind = absurd cc
-sends-some (ReadRequestItem number sink sink_to size stag to) of_kind = absurd cc
-sends-some (ReadResponseItem stag to bytes) of_kind = absurd cc
-sends-some (LastItem end) of_kind = absurd cc
+pub sends_some : HasBytes is_send_item
+sends_some (SendItem number message) of_kind = send_some number message
+sends_some (WriteItem stag to bytes) of_kind = absurd cc
+sends_some (ReadRequestItem number sink sink_to size stag to) of_kind = absurd cc
+sends_some (ReadResponseItem stag to bytes) of_kind = absurd cc
+sends_some (LastItem end) of_kind = absurd cc
 
-pub responses-some : HasBytes is_response_item
-responses-some (SendItem number message) of_kind = absurd cc
-responses-some (WriteItem stag to bytes) of_kind = absurd cc
-responses-some (ReadRequestItem number sink sink_to size stag to) of_kind = absurd cc
-responses-some (ReadResponseItem stag to bytes) of_kind = response-some stag to bytes
-responses-some (LastItem end) of_kind = absurd cc
+pub responses_some : HasBytes is_response_item
+responses_some (SendItem number message) of_kind = absurd cc
+responses_some (WriteItem stag to bytes) of_kind = absurd cc
+responses_some (ReadRequestItem number sink sink_to size stag to) of_kind = absurd cc
+responses_some (ReadResponseItem stag to bytes) of_kind = response_some stag to bytes
+responses_some (LastItem end) of_kind = absurd cc
 
 -- ---- One item more
 
@@ -51,9 +51,9 @@ responses-some (LastItem end) of_kind = absurd cc
 abbrev pub queued_end : (OutputItem → Bool) → List ℕ → OutputItem → List ℕ
 queued_end is fpdus item = cond (is item) (length (fpdus ++ item_encoding item) ∷ []) []
 
-end-left : (is : OutputItem → Bool) (all gone : ℕ) (fpdus : List ℕ) (item : OutputItem) → HasBytes is → gone ≤ all → length fpdus ≡ all - gone →
+end_left : (is : OutputItem → Bool) (all gone : ℕ) (fpdus : List ℕ) (item : OutputItem) → HasBytes is → gone ≤ all → length fpdus ≡ all - gone →
     ends_left gone (end_of_item is (0 + all) item) ≡ queued_end is fpdus item
-end-left is all gone fpdus item some within len = by (is item) refl
+end_left is all gone fpdus item some within len = by (is item) refl
   where
     by : (b : Bool) → is item ≡ b → ends_left gone (end_of_item is (0 + all) item) ≡ queued_end is fpdus item
     by false none =
@@ -63,48 +63,48 @@ end-left is all gone fpdus item some within len = by (is item) refl
         let one : 1 ≤ length (item_encoding item) = some item of_kind in
         let place : 0 + all + length (item_encoding item) - gone ≡ length (fpdus ++ item_encoding item) = omega (arith, within, len, length-append fpdus (item_encoding item)) in
         ap (λ (b : Bool). ends_left gone (cond b ((0 + all + length (item_encoding item)) ∷ []) [])) of_kind
-        ∙ left-kept gone (0 + all + length (item_encoding item)) [] (omega (arith, one, within))
+        ∙ left_kept gone (0 + all + length (item_encoding item)) [] (omega (arith, one, within))
         ∙ ap (λ (n : ℕ). n ∷ []) place
         ∙ sym (ap (λ (b : Bool). cond b (length (fpdus ++ item_encoding item) ∷ []) []) of_kind)
 
-left-more : (is : OutputItem → Bool) (gone : ℕ) (fpdus queued : List ℕ) (items : List OutputItem) (item : OutputItem) → HasBytes is → gone ≤ length (items_encoding items) →
+left_more : (is : OutputItem → Bool) (gone : ℕ) (fpdus queued : List ℕ) (items : List OutputItem) (item : OutputItem) → HasBytes is → gone ≤ length (items_encoding items) →
     fpdus ≡ drop gone (items_encoding items) → queued ≡ ends_left gone (item_ends is 0 items) →
     queued ++ queued_end is fpdus item ≡ ends_left gone (item_ends is 0 (items ++ item ∷ []))
-left-more is gone fpdus queued items item some within here so_far =
+left_more is gone fpdus queued items item some within here so_far =
     let all : ℕ = length (items_encoding items) in
     let len : length fpdus ≡ all - gone = ap (λ (bytes : List ℕ). length bytes) here ∙ length-drop gone (items_encoding items) in
-    (λ i. so_far i ++ sym (end-left is all gone fpdus item some within len) i)
-    ∙ sym (ends_left-append gone (item_ends is 0 items) (end_of_item is (0 + all) item))
-    ∙ ap (λ (ends : List ℕ). ends_left gone ends) (sym (ends-more is 0 items item))
+    (λ i. so_far i ++ sym (end_left is all gone fpdus item some within len) i)
+    ∙ sym (ends_left_append gone (item_ends is 0 items) (end_of_item is (0 + all) item))
+    ∙ ap (λ (ends : List ℕ). ends_left gone ends) (sym (ends_more is 0 items item))
 
-cond-count : (b : Bool) (x y : ℕ) → length (cond b (x ∷ []) []) ≡ length (cond b (y ∷ []) [])
-cond-count true x y = refl
-cond-count false x y = refl
+cond_count : (b : Bool) (x y : ℕ) → length (cond b (x ∷ []) []) ≡ length (cond b (y ∷ []) [])
+cond_count true x y = refl
+cond_count false x y = refl
 
-passed-more : (is : OutputItem → Bool) (gone : ℕ) (items : List OutputItem) (item : OutputItem) → HasBytes is → gone ≤ length (items_encoding items) →
+passed_more_lem : (is : OutputItem → Bool) (gone : ℕ) (items : List OutputItem) (item : OutputItem) → HasBytes is → gone ≤ length (items_encoding items) →
     ends_passed gone (item_ends is 0 items) ≡ ends_passed gone (item_ends is 0 (items ++ item ∷ []))
-passed-more is gone items item some within =
+passed_more_lem is gone items item some within =
     let all : ℕ = length (items_encoding items) in
     let rest : List ℕ = drop gone (items_encoding items) in
     let same : length (ends_left gone (end_of_item is (0 + all) item)) ≡ length (end_of_item is (0 + all) item) =
-    ap (λ (ends : List ℕ). length ends) (end-left is all gone rest item some within (length-drop gone (items_encoding items)))
-    ∙ cond-count (is item) (length (rest ++ item_encoding item)) (0 + all + length (item_encoding item)) in
+    ap (λ (ends : List ℕ). length ends) (end_left is all gone rest item some within (length-drop gone (items_encoding items)))
+    ∙ cond_count (is item) (length (rest ++ item_encoding item)) (0 + all + length (item_encoding item)) in
     let none : ends_passed gone (end_of_item is (0 + all) item) ≡ 0 = omega (arith, same) in
     let sum : ends_passed gone (item_ends is 0 items ++ end_of_item is (0 + all) item) ≡ ends_passed gone (item_ends is 0 items) + ends_passed gone (end_of_item is (0 + all) item) =
-    ends_passed-append gone (item_ends is 0 items) (end_of_item is (0 + all) item) in
-    omega (arith, none, sum) ∙ ap (λ (ends : List ℕ). ends_passed gone ends) (sym (ends-more is 0 items item))
+    ends_passed_append gone (item_ends is 0 items) (end_of_item is (0 + all) item) in
+    omega (arith, none, sum) ∙ ap (λ (ends : List ℕ). ends_passed gone ends) (sym (ends_more is 0 items item))
 
-drop-seam : (n : ℕ) (xs ys : List ℕ) → length xs ≡ n → drop n (xs ++ ys) ≡ ys
-drop-seam n xs ys len = drop_at xs ys n len
+drop_seam : (n : ℕ) (xs ys : List ℕ) → length xs ≡ n → drop n (xs ++ ys) ≡ ys
+drop_seam n xs ys len = drop_at xs ys n len
 
-drop-more : (n : ℕ) (xs ys : List ℕ) → n ≤ length xs → drop n (xs ++ ys) ≡ drop n xs ++ ys
-drop-more n xs ys le =
+drop_more_lem : (n : ℕ) (xs ys : List ℕ) → n ≤ length xs → drop n (xs ++ ys) ≡ drop n xs ++ ys
+drop_more_lem n xs ys le =
     ap (λ (zs : List ℕ). drop n (zs ++ ys)) (sym (take-append-drop n xs))
     ∙ ap (λ (zs : List ℕ). drop n zs) (append_assoc (take n xs) (drop n xs) ys)
-    ∙ drop-seam n (take n xs) (drop n xs ++ ys) (omega (arith, length-take n xs))
+    ∙ drop_seam n (take n xs) (drop n xs ++ ys) (omega (arith, length-take n xs))
 
-encoding-one : (items : List OutputItem) (item : OutputItem) → items_encoding (items ++ item ∷ []) ≡ items_encoding items ++ item_encoding item
-encoding-one items item = encoding-more items (item ∷ []) ∙ ap (λ (bytes : List ℕ). items_encoding items ++ bytes) (append-nil (item_encoding item))
+encoding_one : (items : List OutputItem) (item : OutputItem) → items_encoding (items ++ item ∷ []) ≡ items_encoding items ++ item_encoding item
+encoding_one items item = encoding_more items (item ∷ []) ∙ ap (λ (bytes : List ℕ). items_encoding items ++ bytes) (append-nil (item_encoding item))
 
 -- the queue with one item more
 pub record HasItem (q : SendQueue) (item : OutputItem) (after : SendQueue) : Type 0 where
@@ -114,34 +114,34 @@ pub record HasItem (q : SendQueue) (item : OutputItem) (after : SendQueue) : Typ
   pub responses : after.response_ends ≡ q.response_ends ++ queued_end is_response_item q.fpdus item
   pub left : after.sends_left ≡ q.sends_left
 
-pub with-item : (all : List ℕ) (has_hello : Bool) (out : List ℕ) (items : List OutputItem) (q after : SendQueue) (item : OutputItem) → HasItem q item after →
+pub with_item : (all : List ℕ) (has_hello : Bool) (out : List ℕ) (items : List OutputItem) (q after : SendQueue) (item : OutputItem) → HasItem q item after →
     QueueIs all has_hello out items q → QueueIs all has_hello out (items ++ item ∷ []) after
-with-item all has_hello out items q after item has is = record {
+with_item all has_hello out items q after item has is = record {
   greeted = is.greeted;
   gone = is.gone;
   hello = has.hello ∙ is.hello;
   fpdus = has.fpdus ∙ ap (λ (bytes : List ℕ). bytes ++ item_encoding item) is.fpdus
-      ∙ sym (drop-more is.gone (items_encoding items) (item_encoding item) is.within) ∙ ap (drop is.gone) (sym (encoding-one items item));
+      ∙ sym (drop_more_lem is.gone (items_encoding items) (item_encoding item) is.within) ∙ ap (drop is.gone) (sym (encoding_one items item));
   written = is.written ∙ ap (λ (bytes : List ℕ). take is.greeted all ++ bytes)
-      (sym (take-append-le is.gone (items_encoding items) (item_encoding item) is.within) ∙ ap (take is.gone) (sym (encoding-one items item)));
-  within = omega (arith, is.within, ap (λ (bytes : List ℕ). length bytes) (encoding-one items item), length-append (items_encoding items) (item_encoding item));
+      (sym (take-append-le is.gone (items_encoding items) (item_encoding item) is.within) ∙ ap (take is.gone) (sym (encoding_one items item)));
+  within = omega (arith, is.within, ap (λ (bytes : List ℕ). length bytes) (encoding_one items item), length-append (items_encoding items) (item_encoding item));
   order = is.order;
   early = is.early;
-  sends = has.sends ∙ left-more is_send_item is.gone q.fpdus q.send_ends items item sends-some is.within is.fpdus is.sends;
-  responses = has.responses ∙ left-more is_response_item is.gone q.fpdus q.response_ends items item responses-some is.within is.fpdus is.responses;
-  left = has.left ∙ is.left ∙ ap (λ (n : ℕ). min n most) (passed-more is_send_item is.gone items item sends-some is.within);
+  sends = has.sends ∙ left_more is_send_item is.gone q.fpdus q.send_ends items item sends_some is.within is.fpdus is.sends;
+  responses = has.responses ∙ left_more is_response_item is.gone q.fpdus q.response_ends items item responses_some is.within is.fpdus is.responses;
+  left = has.left ∙ is.left ∙ ap (λ (n : ℕ). min n most) (passed_more_lem is_send_item is.gone items item sends_some is.within);
 }
 
 -- ---- More of the hello
 
-pub with-greeting : (all more : List ℕ) (later : Bool) (out : List ℕ) (items : List OutputItem) (q after : SendQueue) → after ≡ record q { hello = q.hello ++ more } →
+pub with_greeting : (all more : List ℕ) (later : Bool) (out : List ℕ) (items : List OutputItem) (q after : SendQueue) → after ≡ record q { hello = q.hello ++ more } →
     QueueIs all false out items q → QueueIs (all ++ more) later out items after
-with-greeting all more later out items q after same is =
+with_greeting all more later out items q after same is =
     let early : (is.gone ≡ 0) × (is.greeted ≤ length all) = is.early refl in
     subst (λ (k : SendQueue). QueueIs (all ++ more) later out items k) (sym same) (record {
       greeted = is.greeted;
       gone = is.gone;
-      hello = ap (λ (bytes : List ℕ). bytes ++ more) is.hello ∙ sym (drop-more is.greeted all more early.1);
+      hello = ap (λ (bytes : List ℕ). bytes ++ more) is.hello ∙ sym (drop_more_lem is.greeted all more early.1);
       fpdus = is.fpdus;
       written = is.written ∙ ap (λ (bytes : List ℕ). bytes ++ take is.gone (items_encoding items)) (sym (take-append-le is.greeted all more early.1));
       within = is.within;
@@ -160,13 +160,13 @@ front hello fpdus = take_at hello fpdus (length hello) refl
 behind : (hello fpdus : List ℕ) → drop (length hello) (hello ++ fpdus) ≡ fpdus
 behind hello fpdus = drop_at hello fpdus (length hello) refl
 
-none-taken : (n : ℕ) (bytes : List ℕ) → bytes ≡ [] → take n bytes ≡ []
-none-taken n [] none = take_all n [] (omega arith)
-none-taken n (byte ∷ bytes) none = absurd (omega (arith, ap (λ (xs : List ℕ). length xs) none))
+none_taken_lem : (n : ℕ) (bytes : List ℕ) → bytes ≡ [] → take n bytes ≡ []
+none_taken_lem n [] none = take_all n [] (omega arith)
+none_taken_lem n (byte ∷ bytes) none = absurd (omega (arith, ap (λ (xs : List ℕ). length xs) none))
 
 -- the first n of what may be written are the next bytes of the hello and then of the items
-taken-of : (n : ℕ) (hello fpdus : List ℕ) → take n (hello ++ fpdus) ≡ take n hello ++ take (n - length hello) fpdus
-taken-of n hello fpdus =
+taken_of : (n : ℕ) (hello fpdus : List ℕ) → take n (hello ++ fpdus) ≡ take n hello ++ take (n - length hello) fpdus
+taken_of n hello fpdus =
     elim (cases_lt (length hello) n) [
       | inl more ↦ (let sum : length hello + (n - length hello) ≡ n = omega (arith, more) in
           subst (λ (m : ℕ). take m (hello ++ fpdus) ≡ take n hello ++ take (n - length hello) fpdus) sum
@@ -178,10 +178,10 @@ taken-of n hello fpdus =
     ]
 
 -- and those of the items come only after all of the hello
-pub with-written : (all : List ℕ) (has_hello : Bool) (out : List ℕ) (items : List OutputItem) (q : SendQueue) (n : ℕ) → n ≤ length (writable has_hello q) →
+pub with_written : (all : List ℕ) (has_hello : Bool) (out : List ℕ) (items : List OutputItem) (q : SendQueue) (n : ℕ) → n ≤ length (writable has_hello q) →
     QueueIs all has_hello out items q → QueueIs all has_hello (out ++ take n (writable has_hello q)) items (written n q)
 unfolding written
-with-written all has_hello out items q n fits is = record {
+with_written all has_hello out items q n fits is = record {
   greeted = is.greeted + n;
   gone = is.gone + m;
   hello = ap (drop n) is.hello ∙ drop-drop n is.greeted all;
@@ -191,8 +191,8 @@ with-written all has_hello out items q n fits is = record {
   within = omega (arith, is.within, few, ap (λ (xs : List ℕ). length xs) is.fpdus, length-drop is.gone bytes);
   order = later is.order;
   early = λ none. (omega (arith, (is.early none).0, none-of none), omega (arith, (is.early none).1, short none, ap (λ (xs : List ℕ). length xs) is.hello, length-drop is.greeted all));
-  sends = ap (ends_left m) is.sends ∙ left-twice is.gone m (item_ends is_send_item 0 items);
-  responses = ap (ends_left m) is.responses ∙ left-twice is.gone m (item_ends is_response_item 0 items);
+  sends = ap (ends_left m) is.sends ∙ left_twice is.gone m (item_ends is_send_item 0 items);
+  responses = ap (ends_left m) is.responses ∙ left_twice is.gone m (item_ends is_response_item 0 items);
   left = (λ i. min (is.left i + ends_passed m (is.sends i)) most) ∙ counted;
 }
   where
@@ -203,7 +203,7 @@ with-written all has_hello out items q n fits is = record {
     ends = item_ends is_send_item 0 items
 
     counted : min (min (ends_passed is.gone ends) most + ends_passed m (ends_left is.gone ends)) most ≡ min (ends_passed (is.gone + m) ends) most
-    counted = omega (arith, passed-twice is.gone m ends)
+    counted = omega (arith, passed_twice is.gone m ends)
 
     bytes : List ℕ
     bytes = items_encoding items
@@ -222,7 +222,7 @@ with-written all has_hello out items q n fits is = record {
     none-of none = omega (arith, short none)
 
     may-by : (b : Bool) → n ≤ length (q.hello ++ cond b q.fpdus []) → take n (q.hello ++ cond b q.fpdus []) ≡ take n q.hello ++ take m q.fpdus
-    may-by true few_bytes = taken-of n q.hello q.fpdus
+    may-by true few_bytes = taken_of n q.hello q.fpdus
     may-by false few_bytes =
         let none : m ≡ 0 = omega (arith, few_bytes, length-append q.hello []) in
         ap (take n) (append-nil q.hello) ∙ sym (append-nil (take n q.hello)) ∙ sym (ap (λ (k : ℕ). take n q.hello ++ take k q.fpdus) none)
@@ -241,7 +241,7 @@ with-written all has_hello out items q n fits is = record {
         ∙ ap (λ (xs : List ℕ). take (is.greeted + n) all ++ xs)
         (sym (ap (λ (xs : List ℕ). xs ++ take m (drop is.gone bytes)) first) ∙ sym (take-add is.gone m bytes))
     joins (inr whole) =
-        let nothing : take n (drop is.greeted all) ≡ [] = none-taken n (drop is.greeted all) (drop_all is.greeted all whole) in
+        let nothing : take n (drop is.greeted all) ≡ [] = none_taken_lem n (drop is.greeted all) (drop_all is.greeted all whole) in
         ap (λ (xs : List ℕ). (take is.greeted all ++ take is.gone bytes) ++ (xs ++ take m (drop is.gone bytes))) nothing
         ∙ append_assoc (take is.greeted all) (take is.gone bytes) (take m (drop is.gone bytes))
         ∙ ap (λ (xs : List ℕ). take is.greeted all ++ xs) (sym (take-add is.gone m bytes))
@@ -257,9 +257,9 @@ with-written all has_hello out items q n fits is = record {
 
 -- ---- What follows
 
-pub output-whole : (all : List ℕ) (has_hello : Bool) (out : List ℕ) (items : List OutputItem) (q : SendQueue) → QueueIs all has_hello out items q →
+pub output_whole : (all : List ℕ) (has_hello : Bool) (out : List ℕ) (items : List OutputItem) (q : SendQueue) → QueueIs all has_hello out items q →
     out ++ (q.hello ++ q.fpdus) ≡ all ++ items_encoding items
-output-whole all has_hello out items q is =
+output_whole all has_hello out items q is =
     (λ i. is.written i ++ (is.hello i ++ is.fpdus i)) ∙ by is.order
   where
     bytes : List ℕ
@@ -276,16 +276,16 @@ output-whole all has_hello out items q is =
         ∙ append_assoc all (take is.gone bytes) (drop is.gone bytes)
         ∙ ap (λ (xs : List ℕ). all ++ xs) (take-append-drop is.gone bytes)
 
-same-test : (a b c d : ℕ) → ((a < b) → (c < d)) → ((b ≤ a) → (d ≤ c)) → nat_lt a b ≡ nat_lt c d
-same-test a b c d less more =
+same_test_lem : (a b c d : ℕ) → ((a < b) → (c < d)) → ((b ≤ a) → (d ≤ c)) → nat_lt a b ≡ nat_lt c d
+same_test_lem a b c d less more =
     elim (cases_lt a b) [
       | inl lt ↦ lt-ltb a b lt ∙ sym (lt-ltb c d (less lt))
       | inr le ↦ le-ltb a b le ∙ sym (le-ltb c d (more le))
     ]
 
-ends-alike : (all : List ℕ) (has_hello : Bool) (out : List ℕ) (items : List OutputItem) (q : SendQueue) (is : QueueIs all has_hello out items q) →
+ends_alike : (all : List ℕ) (has_hello : Bool) (out : List ℕ) (items : List OutputItem) (q : SendQueue) (is : QueueIs all has_hello out items q) →
     EndsAlike (length all) (length out) is.gone
-ends-alike all has_hello out items q is end some =
+ends_alike all has_hello out items q is end some =
     let count : length out ≡ length (take is.greeted all) + length (take is.gone (items_encoding items)) =
     ap (λ (xs : List ℕ). length xs) is.written ∙ length-append (take is.greeted all) (take is.gone (items_encoding items)) in
     let hello : length (take is.greeted all) ≡ min is.greeted (length all) = length-take is.greeted all in
@@ -295,19 +295,19 @@ ends-alike all has_hello out items q is end some =
     by : length out ≡ length (take is.greeted all) + length (take is.gone (items_encoding items)) → length (take is.greeted all) ≡ min is.greeted (length all) →
         length (take is.gone (items_encoding items)) ≡ is.gone → (is.gone ≡ 0) ⊎ (length all ≤ is.greeted) → nat_lt (length out) (length all + end) ≡ nat_lt is.gone end
     by count hello gone (inl none) =
-        same-test (length out) (length all + end) is.gone end (λ lt. omega (arith, none, some)) (λ le. omega (arith, le, count, hello, gone, none, some))
+        same_test_lem (length out) (length all + end) is.gone end (λ lt. omega (arith, none, some)) (λ le. omega (arith, le, count, hello, gone, none, some))
     by count hello gone (inr whole) =
-        same-test (length out) (length all + end) is.gone end (λ lt. omega (arith, lt, count, hello, gone, whole)) (λ le. omega (arith, le, count, hello, gone, whole))
+        same_test_lem (length out) (length all + end) is.gone end (λ lt. omega (arith, lt, count, hello, gone, whole)) (λ le. omega (arith, le, count, hello, gone, whole))
 
-pub sends-count : (all : List ℕ) (has_hello : Bool) (out : List ℕ) (items : List OutputItem) (q : SendQueue) → QueueIs all has_hello out items q →
+pub sends_count : (all : List ℕ) (has_hello : Bool) (out : List ℕ) (items : List OutputItem) (q : SendQueue) → QueueIs all has_hello out items q →
     q.sends_left ≡ min (items_written is_send_item (length all) (length out) items) most
-sends-count all has_hello out items q is =
-    is.left ∙ ap (λ (n : ℕ). min n most) (sym (written-counts is_send_item (length all) (length out) is.gone items sends-some (ends-alike all has_hello out items q is)))
+sends_count all has_hello out items q is =
+    is.left ∙ ap (λ (n : ℕ). min n most) (sym (written_counts is_send_item (length all) (length out) is.gone items sends_some (ends_alike all has_hello out items q is)))
 
-pub responses-count : (all : List ℕ) (has_hello : Bool) (out : List ℕ) (items : List OutputItem) (q : SendQueue) → QueueIs all has_hello out items q →
+pub responses_count : (all : List ℕ) (has_hello : Bool) (out : List ℕ) (items : List OutputItem) (q : SendQueue) → QueueIs all has_hello out items q →
     length q.response_ends ≡ items_left is_response_item (length all) (length out) items
-responses-count all has_hello out items q is =
+responses_count all has_hello out items q is =
     let start : length all + 0 ≡ length all = omega arith in
     ap (λ (xs : List ℕ). length xs) is.responses
-    ∙ sym (left-counts is_response_item (length all) (length out) is.gone 0 items responses-some (ends-alike all has_hello out items q is))
+    ∙ sym (left_counts is_response_item (length all) (length out) is.gone 0 items responses_some (ends_alike all has_hello out items q is))
     ∙ ap (λ (n : ℕ). items_left is_response_item n (length out) items) start

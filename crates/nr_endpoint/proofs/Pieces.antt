@@ -12,18 +12,18 @@ use Rattle.nr_wire.specs.Constants.{OPCODE_READ_RESPONSE}
 use Rattle.nr_wire.specs.Feeding.{Feeding, bytes_taken, feeding_after, feeding_after_frames, feeding_in, feeding_after_step}
 use Rattle.nr_wire.specs.Stream.{Split, IsPartial, IsFrame, is_whole, frame_len, split}
 use Rattle.nr_wire.proofs.Frames.{partial_not_whole, whole_from}
-use Rattle.nr_wire.proofs.Splits.{split-partial}
-use Rattle.nr_wire.proofs.Feedings.{feeding_after_step-whole, feeding_after_step-partial, feeding_after_step-rest, feeding_after_step-partial_rest, feeding_after-append, feeding-ended, bytes_taken-whole, bytes_taken-partial}
+use Rattle.nr_wire.proofs.Splits.{split_partial}
+use Rattle.nr_wire.proofs.Feedings.{feeding_after_step-whole, feeding_after_step-partial, feeding_after_step-rest, feeding_after_step-partial_rest, feeding_after-append, feeding-ended, bytes_taken_whole, bytes_taken_partial}
 use Rattle.nr_link.specs.declared.end.End.{End}
 use Rattle.nr_link.specs.declared.end.End.TheVariants as ends
 use Rattle.nr_link.specs.Frames.{Frame}
-use Rattle.nr_endpoint.specs.LinkState.{LinkState, Link, has_ended}
+use Rattle.nr_endpoint.specs.LinkState.{LinkState, LinkSide, has_ended}
 use Rattle.nr_endpoint.specs.Judging.{with_frame, with_fpdu, with_peer_hello, with_segment_by, with_effect, segment_end, next_frame}
 use Rattle.nr_endpoint.specs.EndpointState.{EndpointState, KeepsStaging, cut_frame_len}
 use Rattle.nr_endpoint.specs.Calls.{after_call, after_calls, StandsOnAll, IsStep, RanOutAt, QueuesOutput, makes_whole}
 use Rattle.nr_endpoint.specs.Calls.Call.{Feed, FeedOne, OutOfMemory}
 use Rattle.nr_endpoint.proofs.StagedFrames.{taken_whole, whole_as_staged}
-use Rattle.nr_endpoint.proofs.OneStep.{living, memory_stays, memory-ends, feed-not-memory}
+use Rattle.nr_endpoint.proofs.OneStep.{living, memory_stays, memory_ends, feed_not_memory}
 use Rattle.nr_endpoint.proofs.Standing.{stands_on_all}
 
 -- ---- Feeding nothing, and one step as a feed
@@ -37,13 +37,13 @@ module _ {S : Type 0} (ended : S → Bool) (advanced : S → Awaited → List �
   unfolding feeding_after
   feeding-none f p none =
       ap (λ (bytes : List ℕ). feeding_after_frames ended advanced (split f.awaited bytes).frames (split f.awaited bytes).rest f.awaited f.state) (append-nil f.rest)
-      ∙ ap (λ (s : Split). feeding_after_frames ended advanced s.frames s.rest f.awaited f.state) (split-partial f.awaited f.rest (partial_not_whole f.awaited f.rest p))
+      ∙ ap (λ (s : Split). feeding_after_frames ended advanced s.frames s.rest f.awaited f.state) (split_partial f.awaited f.rest (partial_not_whole f.awaited f.rest p))
       ∙ feeding-in f.awaited f.rest f.state (ended f.state) refl none
 
   step-whole : (f : Feeding S) (x : List ℕ) → ended f.state ≡ false → IsFrame f.awaited (f.rest ++ x) → is_whole f.awaited (f.rest ++ x) ≡ true →
       (bytes_taken f.awaited f.rest x ≡ length x) × (feeding_after ended advanced (feeding_after_step ended advanced f x) [] ≡ feeding_after_step ended advanced f x)
   step-whole f x going frame whole = (
-    bytes_taken-whole f.awaited f.rest x whole ∙ omega (arith, frame.len, length-append f.rest x),
+    bytes_taken_whole f.awaited f.rest x whole ∙ omega (arith, frame.len, length-append f.rest x),
     feeding-none (feeding_after_step ended advanced f x) (feeding_after_step-partial_rest ended advanced f x)
         (λ e. ap (λ (g : Feeding S). g.rest) (feeding_after_step-whole ended advanced f x going whole)),
   )
@@ -69,7 +69,7 @@ module _ {S : Type 0} (ended : S → Bool) (advanced : S → Awaited → List �
       take-frame : (bytes : List ℕ) → IsFrame f.awaited bytes → take (frame_len f.awaited bytes) bytes ≡ bytes
       take-frame bytes frame = ap (λ (n : ℕ). take n bytes) frame.len ∙ take_all (length bytes) bytes (omega arith)
   step-taken f piece false partial going p =
-      let n : bytes_taken f.awaited f.rest piece ≡ length piece = bytes_taken-partial f.awaited f.rest piece partial in
+      let n : bytes_taken f.awaited f.rest piece ≡ length piece = bytes_taken_partial f.awaited f.rest piece partial in
       let all : take (bytes_taken f.awaited f.rest piece) piece ≡ piece = ap (λ (k : ℕ). take k piece) n ∙ take_all (length piece) piece (omega arith) in
       let none : drop (bytes_taken f.awaited f.rest piece) piece ≡ [] = ap (λ (k : ℕ). drop k piece) n ∙ drop_all (length piece) piece (omega arith) in
       let kept : feeding_after_step ended advanced f piece ≡ record { awaited = f.awaited; rest = f.rest ++ piece; state = f.state } = feeding_after_step-partial ended advanced f piece going partial in
@@ -84,22 +84,22 @@ module _ {S : Type 0} (ended : S → Bool) (advanced : S → Awaited → List �
 -- ---- The loop
 
 -- After some steps: the side stands where the first n bytes of the piece bring it, and the others are left; or memory ran out there.
-pub record IsOn (before : Link) (piece : List ℕ) (now : Link) (left : List ℕ) : Type 0 where
+pub record IsOn (before : LinkSide) (piece : List ℕ) (now : LinkSide) (left : List ℕ) : Type 0 where
   pub count : ℕ
   pub left_is : left ≡ drop count piece
   pub now_is : now ≡ after_call before (Feed (take count piece))
 
-pub record IsOut (before : Link) (piece : List ℕ) (now : Link) : Type 0 where
+pub record IsOut (before : LinkSide) (piece : List ℕ) (now : LinkSide) : Type 0 where
   pub memory : now.state.ended ≡ Some ends.Memory
   pub count : ℕ
   pub now_is : now ≡ after_calls before (Feed (take count piece) ∷ OutOfMemory ∷ [])
   pub frame : RanOutAt before piece count
 
-pub begins : (before : Link) (piece : List ℕ) → IsPartial before.awaited before.rest → (has_ended before.state ≡ true → before.rest ≡ []) → IsOn before piece before piece
+pub begins : (before : LinkSide) (piece : List ℕ) → IsPartial before.awaited before.rest → (has_ended before.state ≡ true → before.rest ≡ []) → IsOn before piece before piece
 unfolding after_call
 begins before piece p none = record { count = 0; left_is = refl; now_is = sym (feeding-none has_ended with_frame before p none) }
 
-pub goes_on_by : (before now after : Link) (piece left : List ℕ) → IsOn before piece now left → now.state.ended ≡ None → IsPartial now.awaited now.rest → after ≡ after_call now (FeedOne left) →
+pub goes_on_by : (before now after : LinkSide) (piece left : List ℕ) → IsOn before piece now left → now.state.ended ≡ None → IsPartial now.awaited now.rest → after ≡ after_call now (FeedOne left) →
     IsOn before piece after (drop (bytes_taken now.awaited now.rest left) left)
 unfolding after_call
 goes_on_by before now after piece left on none p is =
@@ -115,18 +115,18 @@ goes_on_by before now after piece left on none p is =
           ∙ ap (feeding_after has_ended with_frame before) (sym (take-add on.count t piece));
     }
 
-pub runs_out : (before now after : Link) (piece left : List ℕ) → IsOn before piece now left → now.state.ended ≡ None → after ≡ after_call now OutOfMemory → makes_whole now left ≡ true → QueuesOutput now left →
+pub runs_out : (before now after : LinkSide) (piece left : List ℕ) → IsOn before piece now left → now.state.ended ≡ None → after ≡ after_call now OutOfMemory → makes_whole now left ≡ true → QueuesOutput now left →
     0 < length left → (left ≡ piece) ⊎ (now.rest ≡ []) → IsOut before piece after
 unfolding after_calls
 runs_out before now after piece left on none is whole queues some first = record {
-  memory = ap (λ (l : Link). l.state.ended) is ∙ memory-ends now none;
+  memory = ap (λ (l : LinkSide). l.state.ended) is ∙ memory_ends now none;
   count = on.count;
-  now_is = is ∙ ap (λ (l : Link). after_call l OutOfMemory) on.now_is;
+  now_is = is ∙ ap (λ (l : LinkSide). after_call l OutOfMemory) on.now_is;
   frame = record {
-    live = ap (λ (l : Link). has_ended l.state) (sym on.now_is) ∙ living now.state none;
+    live = ap (λ (l : LinkSide). has_ended l.state) (sym on.now_is) ∙ living now.state none;
     whole = (λ i. makes_whole (sym on.now_is i) (sym on.left_is i)) ∙ whole;
-    queues = subst (λ (l : Link). QueuesOutput l (drop on.count piece)) on.now_is (subst (λ (x : List ℕ). QueuesOutput now x) on.left_is queues);
-    front = λ far. ap (λ (l : Link). l.rest) (sym on.now_is) ∙ by first far;
+    queues = subst (λ (l : LinkSide). QueuesOutput l (drop on.count piece)) on.now_is (subst (λ (x : List ℕ). QueuesOutput now x) on.left_is queues);
+    front = λ far. ap (λ (l : LinkSide). l.rest) (sym on.now_is) ∙ by first far;
   };
 }
   where
@@ -135,20 +135,20 @@ runs_out before now after piece left on none is whole queues some first = record
     by (inr rest) far = rest
 
 -- at the end of the piece, or where the side ended before it
-pub all_fed : (before now : Link) (piece left : List ℕ) → IsOn before piece now left → left ≡ [] → now ≡ after_call before (Feed piece)
+pub all_fed : (before now : LinkSide) (piece left : List ℕ) → IsOn before piece now left → left ≡ [] → now ≡ after_call before (Feed piece)
 all_fed before now piece left on none =
     on.now_is ∙ ap (λ (bytes : List ℕ). after_call before (Feed bytes)) (take_all on.count piece (omega (arith, length-drop on.count piece, ap (λ (x : List ℕ). length x) (sym on.left_is ∙ none))))
 
-pub ended_fed : (before now : Link) (piece left : List ℕ) → IsOn before piece now left → has_ended now.state ≡ true → now.rest ≡ [] → now ≡ after_call before (Feed piece)
+pub ended_fed : (before now : LinkSide) (piece left : List ℕ) → IsOn before piece now left → has_ended now.state ≡ true → now.rest ≡ [] → now ≡ after_call before (Feed piece)
 unfolding after_call
 ended_fed before now piece left on ended none =
     sym (feeding-ended has_ended with_frame now (drop on.count piece) ended none).0
-    ∙ ap (λ (l : Link). feeding_after has_ended with_frame l (drop on.count piece)) on.now_is
+    ∙ ap (λ (l : LinkSide). feeding_after has_ended with_frame l (drop on.count piece)) on.now_is
     ∙ feeding_after-append has_ended with_frame before (take on.count piece) (drop on.count piece)
     ∙ ap (feeding_after has_ended with_frame before) (take-append-drop on.count piece)
 
-not-frame : (a : Awaited) (rest left : List ℕ) → IsPartial a rest → is_whole a (rest ++ left) ≡ true → length rest < frame_len a (rest ++ left)
-not-frame a rest left p whole =
+not_frame : (a : Awaited) (rest left : List ℕ) → IsPartial a rest → is_whole a (rest ++ left) ≡ true → length rest < frame_len a (rest ++ left)
+not_frame a rest left p whole =
     elim (cases_lt (length rest) (frame_len a (rest ++ left))) [
       | inl lt ↦ lt
       | inr le ↦
@@ -162,44 +162,44 @@ pub some_taken : (a : Awaited) (rest left : List ℕ) → IsPartial a rest → 0
 some_taken a rest left p some = by (is_whole a (rest ++ left)) refl
   where
     by : (w : Bool) → is_whole a (rest ++ left) ≡ w → 0 < bytes_taken a rest left
-    by true whole = omega (arith, (taken_whole a rest left p whole).1.1, not-frame a rest left p whole)
-    by false partial = omega (arith, some, bytes_taken-partial a rest left partial)
+    by true whole = omega (arith, (taken_whole a rest left p whole).1.1, not_frame a rest left p whole)
+    by false partial = omega (arith, some, bytes_taken_partial a rest left partial)
 
 -- ---- The place after a frame
 
-place-by : (b : Bool) (one other : LinkState) (n : ℕ) → one.place ≡ n → other.place ≡ n → (cond b one other).place ≡ n
-place-by true one other n h k = h
-place-by false one other n h k = k
+place_by : (b : Bool) (one other : LinkState) (n : ℕ) → one.place ≡ n → other.place ≡ n → (cond b one other).place ≡ n
+place_by true one other n h k = h
+place_by false one other n h k = k
 
-effect-place : (segment : Segment) (s : LinkState) → (with_effect segment s).place ≡ s.place
+effect_place : (segment : Segment) (s : LinkState) → (with_effect segment s).place ≡ s.place
 unfolding with_effect
-effect-place (Tagged last opcode stag to payload) s = place-by (eqb opcode OPCODE_READ_RESPONSE) _ _ s.place refl refl
-effect-place (Untagged last opcode w queue msn offset payload) s = refl
+effect_place (Tagged last opcode stag to payload) s = place_by (eqb opcode OPCODE_READ_RESPONSE) _ _ s.place refl refl
+effect_place (Untagged last opcode w queue msn offset payload) s = refl
 
-segment-place : (f : Frame) (segment : Segment) (e : Option End) (s : LinkState) → (with_segment_by f segment e s).ended ≡ None → (with_segment_by f segment e s).place ≡ f.end
-segment-place f segment None s none = refl
-segment-place f segment (Some end) s none = absurd cc
+segment_place : (f : Frame) (segment : Segment) (e : Option End) (s : LinkState) → (with_segment_by f segment e s).ended ≡ None → (with_segment_by f segment e s).place ≡ f.end
+segment_place f segment None s none = refl
+segment_place f segment (Some end) s none = absurd cc
 
-fpdu-place : (f : Frame) (r : Result Segment ℕ) (s : LinkState) → (with_fpdu f r s).ended ≡ None → (with_fpdu f r s).place ≡ f.end
+fpdu_place : (f : Frame) (r : Result Segment ℕ) (s : LinkState) → (with_fpdu f r s).ended ≡ None → (with_fpdu f r s).place ≡ f.end
 unfolding with_fpdu
-fpdu-place f (Ok segment) s none = segment-place f segment (segment_end s f segment) s none
-fpdu-place f (Err reason) s none = absurd cc
+fpdu_place f (Ok segment) s none = segment_place f segment (segment_end s f segment) s none
+fpdu_place f (Err reason) s none = absurd cc
 
-hello-place : (f : Frame) (r : Result Hello ℕ) (s : LinkState) → (with_peer_hello f r s).ended ≡ None → (with_peer_hello f r s).place ≡ f.end
+hello_place : (f : Frame) (r : Result Hello ℕ) (s : LinkState) → (with_peer_hello f r s).ended ≡ None → (with_peer_hello f r s).place ≡ f.end
 unfolding with_peer_hello
-hello-place f (Ok hello) s none = refl
-hello-place f (Err reason) s none = absurd cc
+hello_place f (Ok hello) s none = refl
+hello_place f (Err reason) s none = absurd cc
 
-pub frame-place : (s : LinkState) (a : Awaited) (bytes : List ℕ) → (with_frame s a bytes).ended ≡ None → (with_frame s a bytes).place ≡ s.place + length bytes
-frame-place s (HelloFrom side) bytes none = hello-place (next_frame s bytes) (hello_of side bytes) s none
-frame-place s Fpdu bytes none = fpdu-place (next_frame s bytes) (segment_of bytes) s none
+pub frame_place : (s : LinkState) (a : Awaited) (bytes : List ℕ) → (with_frame s a bytes).ended ≡ None → (with_frame s a bytes).place ≡ s.place + length bytes
+frame_place s (HelloFrom side) bytes none = hello_place (next_frame s bytes) (hello_of side bytes) s none
+frame_place s Fpdu bytes none = fpdu_place (next_frame s bytes) (segment_of bytes) s none
 
 -- where something is left and the side goes on, the frame was whole: nothing is kept, and the place is behind it
-pub record IsBehindFrame (now after : Link) (left : List ℕ) : Type 0 where
+pub record IsBehindFrame (now after : LinkSide) (left : List ℕ) : Type 0 where
   pub rest : after.rest ≡ []
   pub place : after.state.ended ≡ None → after.state.place ≡ now.state.place + (length now.rest + bytes_taken now.awaited now.rest left)
 
-pub behind : (now after : Link) (left : List ℕ) → now.state.ended ≡ None → IsPartial now.awaited now.rest → after ≡ after_call now (FeedOne left) → bytes_taken now.awaited now.rest left < length left → IsBehindFrame now after left
+pub behind : (now after : LinkSide) (left : List ℕ) → now.state.ended ≡ None → IsPartial now.awaited now.rest → after ≡ after_call now (FeedOne left) → bytes_taken now.awaited now.rest left < length left → IsBehindFrame now after left
 unfolding after_call
 behind now after left none p is less = by (is_whole now.awaited (now.rest ++ left)) refl
   where
@@ -211,13 +211,13 @@ behind now after left none p is less = by (is_whole now.awaited (now.rest ++ lef
         let w = whole_from now.awaited (now.rest ++ left) whole in
         let len : length frame ≡ frame_len now.awaited (now.rest ++ left) = omega (arith, w.frame, length-take (frame_len now.awaited (now.rest ++ left)) (now.rest ++ left)) in
         record {
-          rest = ap (λ (l : Link). l.rest) step;
+          rest = ap (λ (l : LinkSide). l.rest) step;
           place = λ going.
-              ap (λ (l : Link). l.state.place) step
-              ∙ frame-place now.state now.awaited frame (sym (ap (λ (l : Link). l.state.ended) step) ∙ going)
+              ap (λ (l : LinkSide). l.state.place) step
+              ∙ frame_place now.state now.awaited frame (sym (ap (λ (l : LinkSide). l.state.ended) step) ∙ going)
               ∙ ap (λ (n : ℕ). now.state.place + n) (len ∙ sym t.1.1);
         }
-    by false partial = absurd (omega (arith, less, bytes_taken-partial now.awaited now.rest left partial))
+    by false partial = absurd (omega (arith, less, bytes_taken_partial now.awaited now.rest left partial))
 
 -- ---- The staging buffer from step to step
 
@@ -226,15 +226,15 @@ deeper m k xs ys le same =
     let sum : m + (k - m) ≡ k = omega (arith, le) in
     ap (λ (n : ℕ). drop n xs) (sym sum) ∙ sym (drop-drop (k - m) m xs) ∙ ap (drop (k - m)) same ∙ drop-drop (k - m) m ys ∙ ap (λ (n : ℕ). drop n ys) sum
 
-no-cut : (a : Awaited) (rest piece : List ℕ) → rest ≡ [] → cut_frame_len a rest piece ≡ 0
-no-cut a [] piece none = refl
-no-cut a (byte ∷ rest) piece none = absurd cc
+no_cut : (a : Awaited) (rest piece : List ℕ) → rest ≡ [] → cut_frame_len a rest piece ≡ 0
+no_cut a [] piece none = refl
+no_cut a (byte ∷ rest) piece none = absurd cc
 
 pub keeps_on : (old now new : EndpointState) (piece left : List ℕ) → KeepsStaging old now piece → ((now ≡ old) × (left ≡ piece)) ⊎ (now.link.rest ≡ []) → KeepsStaging now new left → KeepsStaging old new piece
 keeps_on old now new piece left first (inl same) then = subst (λ (x : List ℕ). KeepsStaging old new x) same.1 (subst (λ (e : EndpointState). KeepsStaging e new left) same.0 then)
 keeps_on old now new piece left first (inr none) then =
     let k : ℕ = max (length new.link.rest) (cut_frame_len old.link.awaited old.link.rest piece) in
-    let cut : cut_frame_len now.link.awaited now.link.rest left ≡ 0 = no-cut now.link.awaited now.link.rest left none in
+    let cut : cut_frame_len now.link.awaited now.link.rest left ≡ 0 = no_cut now.link.awaited now.link.rest left none in
     record {
       others = deeper (max (length new.link.rest) (cut_frame_len now.link.awaited now.link.rest left)) k new.staging now.staging (omega (arith, cut)) then.others
           ∙ deeper (max (length now.link.rest) (cut_frame_len old.link.awaited old.link.rest piece)) k now.staging old.staging (omega (arith, ap (λ (x : List ℕ). length x) none)) first.others;
@@ -244,7 +244,7 @@ keeps_on old now new piece left first (inr none) then =
 -- ---- What holds from step to step
 
 -- how far a piece was taken: the side stands where its first bytes bring it, and the others are left; or it has all of it; or memory ran out
-pub data HowFar (before : Link) (piece : List ℕ) (now : Link) (left : List ℕ) : Type 0 where
+pub data HowFar (before : LinkSide) (piece : List ℕ) (now : LinkSide) (left : List ℕ) : Type 0 where
   On : IsOn before piece now left → HowFar before piece now left
   All : now ≡ after_call before (Feed piece) → left ≡ [] → HowFar before piece now left
   Out : IsOut before piece now → left ≡ [] → HowFar before piece now left
@@ -280,68 +280,68 @@ pub record Advanced (now new : EndpointState) (left after : List ℕ) : Type 0 w
   pub ended_rest : has_ended new.link.state ≡ true → new.link.rest ≡ []
   pub room : new.room ≡ now.room
 
-none-left : (b : Bool) (xs after : List ℕ) → after ≡ cond b [] xs → b ≡ true → after ≡ []
-none-left true xs after is e = is
-none-left false xs after is e = absurd cc
+none_left_lem : (b : Bool) (xs after : List ℕ) → after ≡ cond b [] xs → b ≡ true → after ≡ []
+none_left_lem true xs after is e = is
+none_left_lem false xs after is e = absurd cc
 
-rest-left : (b : Bool) (xs after : List ℕ) → after ≡ cond b [] xs → b ≡ false → after ≡ xs
-rest-left true xs after is e = absurd cc
-rest-left false xs after is e = is
+rest_left : (b : Bool) (xs after : List ℕ) → after ≡ cond b [] xs → b ≡ false → after ≡ xs
+rest_left true xs after is e = absurd cc
+rest_left false xs after is e = is
 
-is-none : (e : Option End) → is_some e ≡ false → e ≡ None
-is-none None h = refl
-is-none (Some end) h = absurd cc
+is_none_lem : (e : Option End) → is_some e ≡ false → e ≡ None
+is_none_lem None h = refl
+is_none_lem (Some end) h = absurd cc
 
-on-of : (before now : Link) (piece left : List ℕ) → HowFar before piece now left → 0 < length left → IsOn before piece now left
-on-of before now piece left (On on) some = on
-on-of before now piece left (All is none) some = absurd (omega (arith, some, ap (λ (x : List ℕ). length x) none))
-on-of before now piece left (Out out none) some = absurd (omega (arith, some, ap (λ (x : List ℕ). length x) none))
+on_of : (before now : LinkSide) (piece left : List ℕ) → HowFar before piece now left → 0 < length left → IsOn before piece now left
+on_of before now piece left (On on) some = on
+on_of before now piece left (All is none) some = absurd (omega (arith, some, ap (λ (x : List ℕ). length x) none))
+on_of before now piece left (Out out none) some = absurd (omega (arith, some, ap (λ (x : List ℕ). length x) none))
 
-first-of : (old now : EndpointState) (piece left : List ℕ) → 0 < length left → ((now ≡ old) × (left ≡ piece)) ⊎ ((now.link.rest ≡ []) ⊎ (left ≡ [])) → ((now ≡ old) × (left ≡ piece)) ⊎ (now.link.rest ≡ [])
-first-of old now piece left some (inl same) = inl same
-first-of old now piece left some (inr (inl none)) = inr none
-first-of old now piece left some (inr (inr none)) = absurd (omega (arith, some, ap (λ (x : List ℕ). length x) none))
+first_of_lem : (old now : EndpointState) (piece left : List ℕ) → 0 < length left → ((now ≡ old) × (left ≡ piece)) ⊎ ((now.link.rest ≡ []) ⊎ (left ≡ [])) → ((now ≡ old) × (left ≡ piece)) ⊎ (now.link.rest ≡ [])
+first_of_lem old now piece left some (inl same) = inl same
+first_of_lem old now piece left some (inr (inl none)) = inr none
+first_of_lem old now piece left some (inr (inr none)) = absurd (omega (arith, some, ap (λ (x : List ℕ). length x) none))
 
 -- a side that had ended: all is taken, and nothing changes
-fed-ended : (old now new : EndpointState) (piece left after : List ℕ) → IsFedTo old piece now left → 0 < length left → Advanced now new left after → has_ended now.link.state ≡ true → IsFedTo old piece new after
-fed-ended old now new piece left after fed some adv ended =
+fed_ended : (old now new : EndpointState) (piece left after : List ℕ) → IsFedTo old piece now left → 0 < length left → Advanced now new left after → has_ended now.link.state ≡ true → IsFedTo old piece new after
+fed_ended old now new piece left after fed some adv ended =
     let same : new ≡ now = adv.ended ended in
     let still : has_ended new.link.state ≡ true = ap (λ (e : EndpointState). has_ended e.link.state) same ∙ ended in
-    let none : after ≡ [] = none-left (has_ended new.link.state) _ after adv.left_is still in
+    let none : after ≡ [] = none_left_lem (has_ended new.link.state) _ after adv.left_is still in
     record {
-      staging = keeps_on old now new piece left fed.staging (first-of old now piece left some fed.first) adv.staging;
+      staging = keeps_on old now new piece left fed.staging (first_of_lem old now piece left some fed.first) adv.staging;
       partial = adv.partial;
       ended_rest = adv.ended_rest;
-      far = All (ap (λ (e : EndpointState). e.link) same ∙ ended_fed old.link now.link piece left (on-of old.link now.link piece left fed.far some) ended (fed.ended_rest ended)) none;
+      far = All (ap (λ (e : EndpointState). e.link) same ∙ ended_fed old.link now.link piece left (on_of old.link now.link piece left fed.far some) ended (fed.ended_rest ended)) none;
       first = inr (inr none);
       within = λ _ going. absurd (let h : true ≡ false = sym still ∙ ap (λ (e : Option End). is_some e) going in cc);
       room = adv.room ∙ fed.room;
     }
 
 -- a side that goes on by a frame, or by all that is left
-fed-live : (old now new : EndpointState) (piece left after : List ℕ) → IsFedTo old piece now left → 0 < length left → Advanced now new left after → now.link.state.ended ≡ None → new.link ≡ after_call now.link (FeedOne left) →
+fed_live : (old now new : EndpointState) (piece left after : List ℕ) → IsFedTo old piece now left → 0 < length left → Advanced now new left after → now.link.state.ended ≡ None → new.link ≡ after_call now.link (FeedOne left) →
     (b : Bool) → has_ended new.link.state ≡ b → IsFedTo old piece new after
-fed-live old now new piece left after fed some adv live is true e =
-    let none : after ≡ [] = none-left (has_ended new.link.state) _ after adv.left_is e in
+fed_live old now new piece left after fed some adv live is true e =
+    let none : after ≡ [] = none_left_lem (has_ended new.link.state) _ after adv.left_is e in
     record {
-      staging = keeps_on old now new piece left fed.staging (first-of old now piece left some fed.first) adv.staging;
+      staging = keeps_on old now new piece left fed.staging (first_of_lem old now piece left some fed.first) adv.staging;
       partial = adv.partial;
       ended_rest = adv.ended_rest;
-      far = All (ended_fed old.link new.link piece _ (goes_on_by old.link now.link new.link piece left (on-of old.link now.link piece left fed.far some) live fed.partial is) e (adv.ended_rest e)) none;
+      far = All (ended_fed old.link new.link piece _ (goes_on_by old.link now.link new.link piece left (on_of old.link now.link piece left fed.far some) live fed.partial is) e (adv.ended_rest e)) none;
       first = inr (inr none);
       within = λ _ going. absurd (let h : true ≡ false = sym e ∙ ap (λ (x : Option End). is_some x) going in cc);
       room = adv.room ∙ fed.room;
     }
-fed-live old now new piece left after fed some adv live is false e =
+fed_live old now new piece left after fed some adv live is false e =
     let t : ℕ = bytes_taken now.link.awaited now.link.rest left in
-    let rest : after ≡ drop t left = rest-left (has_ended new.link.state) _ after adv.left_is e in
-    let on : IsOn old.link piece new.link (drop t left) = goes_on_by old.link now.link new.link piece left (on-of old.link now.link piece left fed.far some) live fed.partial is in
+    let rest : after ≡ drop t left = rest_left (has_ended new.link.state) _ after adv.left_is e in
+    let on : IsOn old.link piece new.link (drop t left) = goes_on_by old.link now.link new.link piece left (on_of old.link now.link piece left fed.far some) live fed.partial is in
     let bound : now.link.state.place + length now.link.rest + length left ≤ 2 ^ 62 = fed.within some live in
     elim (cases_lt t (length left)) [
       | inl less ↦
           let b : IsBehindFrame now.link new.link left = behind now.link new.link left live fed.partial is less in
           record {
-            staging = keeps_on old now new piece left fed.staging (first-of old now piece left some fed.first) adv.staging;
+            staging = keeps_on old now new piece left fed.staging (first_of_lem old now piece left some fed.first) adv.staging;
             partial = adv.partial;
             ended_rest = adv.ended_rest;
             far = On (subst (λ (x : List ℕ). IsOn old.link piece new.link x) (sym rest) on);
@@ -352,7 +352,7 @@ fed-live old now new piece left after fed some adv live is false e =
       | inr all ↦
           let none : after ≡ [] = rest ∙ drop_all t left all in
           record {
-            staging = keeps_on old now new piece left fed.staging (first-of old now piece left some fed.first) adv.staging;
+            staging = keeps_on old now new piece left fed.staging (first_of_lem old now piece left some fed.first) adv.staging;
             partial = adv.partial;
             ended_rest = adv.ended_rest;
             far = All (all_fed old.link new.link piece (drop t left) on (drop_all t left all)) none;
@@ -363,19 +363,19 @@ fed-live old now new piece left after fed some adv live is false e =
     ]
 
 -- memory ran out
-same-or-none : (old now : EndpointState) (piece left : List ℕ) → ((now ≡ old) × (left ≡ piece)) ⊎ (now.link.rest ≡ []) → (left ≡ piece) ⊎ (now.link.rest ≡ [])
-same-or-none old now piece left (inl same) = inl same.1
-same-or-none old now piece left (inr none) = inr none
+same_or_none : (old now : EndpointState) (piece left : List ℕ) → ((now ≡ old) × (left ≡ piece)) ⊎ (now.link.rest ≡ []) → (left ≡ piece) ⊎ (now.link.rest ≡ [])
+same_or_none old now piece left (inl same) = inl same.1
+same_or_none old now piece left (inr none) = inr none
 
-fed-out : (old now new : EndpointState) (piece left after : List ℕ) → IsFedTo old piece now left → 0 < length left → Advanced now new left after → now.link.state.ended ≡ None → new.link ≡ after_call now.link OutOfMemory →
+fed_out : (old now new : EndpointState) (piece left after : List ℕ) → IsFedTo old piece now left → 0 < length left → Advanced now new left after → now.link.state.ended ≡ None → new.link ≡ after_call now.link OutOfMemory →
     makes_whole now.link left ≡ true → QueuesOutput now.link left → IsFedTo old piece new after
-fed-out old now new piece left after fed some adv live is whole queues =
-    let out : IsOut old.link piece new.link = runs_out old.link now.link new.link piece left (on-of old.link now.link piece left fed.far some) live is whole queues some
-    (same-or-none old now piece left (first-of old now piece left some fed.first)) in
+fed_out old now new piece left after fed some adv live is whole queues =
+    let out : IsOut old.link piece new.link = runs_out old.link now.link new.link piece left (on_of old.link now.link piece left fed.far some) live is whole queues some
+    (same_or_none old now piece left (first_of_lem old now piece left some fed.first)) in
     let e : has_ended new.link.state ≡ true = ap (λ (x : Option End). is_some x) out.memory in
-    let none : after ≡ [] = none-left (has_ended new.link.state) _ after adv.left_is e in
+    let none : after ≡ [] = none_left_lem (has_ended new.link.state) _ after adv.left_is e in
     record {
-      staging = keeps_on old now new piece left fed.staging (first-of old now piece left some fed.first) adv.staging;
+      staging = keeps_on old now new piece left fed.staging (first_of_lem old now piece left some fed.first) adv.staging;
       partial = adv.partial;
       ended_rest = adv.ended_rest;
       far = Out out none;
@@ -384,24 +384,24 @@ fed-out old now new piece left after fed some adv live is whole queues =
       room = adv.room ∙ fed.room;
     }
 
-fed-step : (old now new : EndpointState) (piece left after : List ℕ) → IsFedTo old piece now left → 0 < length left → Advanced now new left after → now.link.state.ended ≡ None → IsStep now.link left new.link → IsFedTo old piece new after
-fed-step old now new piece left after fed some adv live (inl is) = fed-live old now new piece left after fed some adv live is (has_ended new.link.state) refl
-fed-step old now new piece left after fed some adv live (inr (is, whole, queues)) = fed-out old now new piece left after fed some adv live is whole queues
+fed_step : (old now new : EndpointState) (piece left after : List ℕ) → IsFedTo old piece now left → 0 < length left → Advanced now new left after → now.link.state.ended ≡ None → IsStep now.link left new.link → IsFedTo old piece new after
+fed_step old now new piece left after fed some adv live (inl is) = fed_live old now new piece left after fed some adv live is (has_ended new.link.state) refl
+fed_step old now new piece left after fed some adv live (inr (is, whole, queues)) = fed_out old now new piece left after fed some adv live is whole queues
 
 pub fed_on : (old now new : EndpointState) (piece left after : List ℕ) → IsFedTo old piece now left → 0 < length left → Advanced now new left after → IsFedTo old piece new after
 fed_on old now new piece left after fed some adv = by (has_ended now.link.state) refl
   where
     by : (b : Bool) → has_ended now.link.state ≡ b → IsFedTo old piece new after
-    by true e = fed-ended old now new piece left after fed some adv e
-    by false e = fed-step old now new piece left after fed some adv (is-none now.link.state.ended e) (adv.live (is-none now.link.state.ended e))
+    by true e = fed_ended old now new piece left after fed some adv e
+    by false e = fed_step old now new piece left after fed some adv (is_none_lem now.link.state.ended e) (adv.live (is_none_lem now.link.state.ended e))
 
 -- fewer bytes are left
 pub fewer_left : (old now new : EndpointState) (piece left after : List ℕ) → IsFedTo old piece now left → 0 < length left → Advanced now new left after → length after < length left
 fewer_left old now new piece left after fed some adv = by (has_ended new.link.state) refl
   where
     by : (b : Bool) → has_ended new.link.state ≡ b → length after < length left
-    by true e = omega (arith, some, ap (λ (x : List ℕ). length x) (none-left (has_ended new.link.state) _ after adv.left_is e))
-    by false e = omega (arith, some_taken now.link.awaited now.link.rest left fed.partial some, ap (λ (x : List ℕ). length x) (rest-left (has_ended new.link.state) _ after adv.left_is e), length-drop (bytes_taken now.link.awaited now.link.rest left) left)
+    by true e = omega (arith, some, ap (λ (x : List ℕ). length x) (none_left_lem (has_ended new.link.state) _ after adv.left_is e))
+    by false e = omega (arith, some_taken now.link.awaited now.link.rest left fed.partial some, ap (λ (x : List ℕ). length x) (rest_left (has_ended new.link.state) _ after adv.left_is e), length-drop (bytes_taken now.link.awaited now.link.rest left) left)
 
 -- ---- Where nothing is left
 
@@ -413,11 +413,11 @@ fed_all old now piece fed other = by fed.far
     by (All is none) = is
     by (Out out none) = absurd (other out.memory)
 
-memory-again : (l : Link) → l.state.ended ≡ Some ends.Memory → l.rest ≡ [] → l ≡ after_call l OutOfMemory
-memory-again l memory none = memory_stays l.state l.awaited l.rest memory none
+memory_again : (l : LinkSide) → l.state.ended ≡ Some ends.Memory → l.rest ≡ [] → l ≡ after_call l OutOfMemory
+memory_again l memory none = memory_stays l.state l.awaited l.rest memory none
 
 -- what a feed leaves where memory ran out
-abbrev pub IsFedOut : Link → List ℕ → Link → Type 0
+abbrev pub IsFedOut : LinkSide → List ℕ → LinkSide → Type 0
 IsFedOut before piece after =
     (n : ℕ) × (after ≡ after_calls before (Feed (take n piece) ∷ OutOfMemory ∷ [])) × StandsOnAll before (Feed (take n piece) ∷ OutOfMemory ∷ []) after
     × (has_ended before.state ≡ false → RanOutAt before piece n)
@@ -426,8 +426,8 @@ pub fed_memory : (old now : EndpointState) (piece : List ℕ) → IsFedTo old pi
 fed_memory old now piece fed live memory = by fed.far
   where
     by : HowFar old.link piece now.link [] → IsFedOut old.link piece now.link
-    by (On on) = absurd (feed-not-memory old.link (take on.count piece) live (ap (λ (l : Link). l.state.ended) (sym on.now_is) ∙ memory))
-    by (All is none) = absurd (feed-not-memory old.link piece live (ap (λ (l : Link). l.state.ended) (sym is) ∙ memory))
+    by (On on) = absurd (feed_not_memory old.link (take on.count piece) live (ap (λ (l : LinkSide). l.state.ended) (sym on.now_is) ∙ memory))
+    by (All is none) = absurd (feed_not_memory old.link piece live (ap (λ (l : LinkSide). l.state.ended) (sym is) ∙ memory))
     by (Out out none) = (
       out.count,
       out.now_is,
@@ -437,21 +437,21 @@ fed_memory old now piece fed live memory = by fed.far
 
 -- ---- A side that had ended
 
-pub ended_all : (l : Link) (piece : List ℕ) (end : End) → l.state.ended ≡ Some end → (has_ended l.state ≡ true → l.rest ≡ []) → l ≡ after_call l (Feed piece)
+pub ended_all : (l : LinkSide) (piece : List ℕ) (end : End) → l.state.ended ≡ Some end → (has_ended l.state ≡ true → l.rest ≡ []) → l ≡ after_call l (Feed piece)
 unfolding after_call
 ended_all l piece end is none =
     let ended : has_ended l.state ≡ true = ap (λ (e : Option End). is_some e) is in
     sym (feeding-ended has_ended with_frame l piece ended (none ended)).0
 
-ended-again : (l : Link) (piece : List ℕ) → l.state.ended ≡ Some ends.Memory → (has_ended l.state ≡ true → l.rest ≡ []) → l ≡ after_calls l (Feed (take 0 piece) ∷ OutOfMemory ∷ [])
+ended_again : (l : LinkSide) (piece : List ℕ) → l.state.ended ≡ Some ends.Memory → (has_ended l.state ≡ true → l.rest ≡ []) → l ≡ after_calls l (Feed (take 0 piece) ∷ OutOfMemory ∷ [])
 unfolding after_calls
-ended-again l piece is none =
-    memory-again l is (none (ap (λ (e : Option End). is_some e) is)) ∙ ap (λ (k : Link). after_call k OutOfMemory) (ended_all l (take 0 piece) ends.Memory is none)
+ended_again l piece is none =
+    memory_again l is (none (ap (λ (e : Option End). is_some e) is)) ∙ ap (λ (k : LinkSide). after_call k OutOfMemory) (ended_all l (take 0 piece) ends.Memory is none)
 
-pub ended_memory : (l : Link) (piece : List ℕ) → l.state.ended ≡ Some ends.Memory → (has_ended l.state ≡ true → l.rest ≡ []) → IsFedOut l piece l
+pub ended_memory : (l : LinkSide) (piece : List ℕ) → l.state.ended ≡ Some ends.Memory → (has_ended l.state ≡ true → l.rest ≡ []) → IsFedOut l piece l
 ended_memory l piece is none = (
   0,
-  ended-again l piece is none,
-  stands_on_all l (Feed (take 0 piece) ∷ OutOfMemory ∷ []) l (ended-again l piece is none),
+  ended_again l piece is none,
+  stands_on_all l (Feed (take 0 piece) ∷ OutOfMemory ∷ []) l (ended_again l piece is none),
   λ going. absurd (let h : true ≡ false = sym (ap (λ (e : Option End). is_some e) is) ∙ going in cc),
 )

@@ -16,70 +16,70 @@ use Rattle.nr_link.specs.declared.end.End.{End}
 use Rattle.nr_endpoint.specs.SendQueue.{SendQueue, output_len, with_hello, with_response, with_end}
 use Rattle.nr_endpoint.specs.Judging.{reply_hello, with_effect, fetch_access}
 use Rattle.nr_endpoint.specs.LinkState.{LinkState}
-use Rattle.nr_endpoint.proofs.WholeFrames.{longer-by}
+use Rattle.nr_endpoint.proofs.WholeFrames.{longer_by}
 
-middle-some : (a b c : List ℕ) (x : ℕ) → 1 ≤ length (a ++ (x ∷ b) ++ c)
-middle-some a b c x = omega (arith, length-append (a ++ (x ∷ b)) c, length-append a (x ∷ b))
+middle_some : (a b c : List ℕ) (x : ℕ) → 1 ≤ length (a ++ (x ∷ b) ++ c)
+middle_some a b c x = omega (arith, length-append (a ++ (x ∷ b)) c, length-append a (x ∷ b))
 
-hello-some : (hello : Hello) → 1 ≤ length (hello_encoding hello)
+hello_some : (hello : Hello) → 1 ≤ length (hello_encoding hello)
 unfolding hello_encoding
-hello-some hello = middle-some (key hello.side) _ hello.private hello.flags
+hello_some hello = middle_some (key hello.side) _ hello.private hello.flags
 
-encoding-some : (segment : Segment) → 1 ≤ length (encoding segment)
+encoding_some : (segment : Segment) → 1 ≤ length (encoding segment)
 unfolding encoding
-encoding-some segment = omega (arith, longer-by 0 0 (replicate (tail_len (ulpdu_size segment)) 0) segment)
+encoding_some segment = omega (arith, longer_by 0 0 (replicate (tail_len (ulpdu_size segment)) 0) segment)
 
-flat-some : (f : ℕ → List ℕ) (n : ℕ) → 1 ≤ n → 1 ≤ length (f 0) → 1 ≤ length (flat_map f (range_with_len 0 n))
-flat-some f zero some first = absurd (omega (arith, some))
-flat-some f (suc n) some first = omega (arith, first, length-append (f 0) (flat_map f (range_with_len (0 + 1) n)))
+flat_some : (f : ℕ → List ℕ) (n : ℕ) → 1 ≤ n → 1 ≤ length (f 0) → 1 ≤ length (flat_map f (range_with_len 0 n))
+flat_some f zero some first = absurd (omega (arith, some))
+flat_some f (suc n) some first = omega (arith, first, length-append (f 0) (flat_map f (range_with_len (0 + 1) n)))
 
-cut-some : (segment : Bool → ℕ → List ℕ → Segment) (bytes : List ℕ) → 1 ≤ length (cut segment bytes)
+cut_some_lem : (segment : Bool → ℕ → List ℕ → Segment) (bytes : List ℕ) → 1 ≤ length (cut segment bytes)
 unfolding cut
-cut-some segment bytes = flat-some _ (segment_count bytes) (omega arith) (encoding-some _)
+cut_some_lem segment bytes = flat_some _ (segment_count bytes) (omega arith) (encoding_some _)
 
-pub response-some : (stag to : ℕ) (bytes : List ℕ) → 1 ≤ length (read_response stag to bytes)
+pub response_some : (stag to : ℕ) (bytes : List ℕ) → 1 ≤ length (read_response stag to bytes)
 unfolding read_response
-response-some stag to bytes = cut-some _ bytes
+response_some stag to bytes = cut_some_lem _ bytes
 
-pub send-some : (msn : ℕ) (message : List ℕ) → 1 ≤ length (send msn message)
+pub send_some : (msn : ℕ) (message : List ℕ) → 1 ≤ length (send msn message)
 unfolding send
-send-some msn message = cut-some _ message
+send_some msn message = cut_some_lem _ message
 
-terminate-some : (word : ℕ) → 1 ≤ length (terminate_message word)
+terminate_some : (word : ℕ) → 1 ≤ length (terminate_message word)
 unfolding terminate_message
-terminate-some word = encoding-some _
+terminate_some word = encoding_some _
 
-own-some : (side : Side) → 1 ≤ length (own_hello side)
+own_some : (side : Side) → 1 ≤ length (own_hello side)
 unfolding own_hello
-own-some side = hello-some _
+own_some side = hello_some _
 
-refusing-some : 1 ≤ length refusing_hello
+refusing_some : 1 ≤ length refusing_hello
 unfolding refusing_hello
-refusing-some = hello-some _
+refusing_some = hello_some _
 
 -- ---- The queue has more output with it
 
-pub hello-queues : (q : SendQueue) → output_len q < output_len (with_hello (reply_hello Responder) q)
-hello-queues q = omega (arith, own-some Responder, length-append q.hello (own_hello Responder))
+pub hello_queues : (q : SendQueue) → output_len q < output_len (with_hello (reply_hello Responder) q)
+hello_queues q = omega (arith, own_some Responder, length-append q.hello (own_hello Responder))
 
-response-queues : (stag to : ℕ) (bytes : List ℕ) (q : SendQueue) → output_len q < output_len (with_response stag to bytes q)
-response-queues stag to bytes q = omega (arith, response-some stag to bytes, length-append q.fpdus (read_response stag to bytes))
+response_queues : (stag to : ℕ) (bytes : List ℕ) (q : SendQueue) → output_len q < output_len (with_response stag to bytes q)
+response_queues stag to bytes q = omega (arith, response_some stag to bytes, length-append q.fpdus (read_response stag to bytes))
 
-pub request-queues : (s : LinkState) (last : Bool) (w queue msn offset : ℕ) (payload : List ℕ) →
+pub request_queues : (s : LinkState) (last : Bool) (w queue msn offset : ℕ) (payload : List ℕ) →
     output_len s.send_queue < output_len (with_effect (Untagged last OPCODE_READ_REQUEST w queue msn offset payload) s).send_queue
 unfolding with_effect
-request-queues s last w queue msn offset payload =
-    response-queues (read_request_in payload).sink (read_request_in payload).sink_to (bytes_at s.memory (fetch_access (read_request_in payload))) s.send_queue
+request_queues s last w queue msn offset payload =
+    response_queues (read_request_in payload).sink (read_request_in payload).sink_to (bytes_at s.memory (fetch_access (read_request_in payload))) s.send_queue
 
-pub rejection-queues : (side : Side) (end : End) (q : SendQueue) → rejection side end ≡ refusing_hello → output_len q < output_len (with_end side end q)
+pub rejection_queues : (side : Side) (end : End) (q : SendQueue) → rejection side end ≡ refusing_hello → output_len q < output_len (with_end side end q)
 unfolding with_end
-rejection-queues side end q is =
-    omega (arith, refusing-some, ap (λ (bytes : List ℕ). length bytes) is, length-append q.hello (rejection side end), length-append q.fpdus (final_output end))
+rejection_queues side end q is =
+    omega (arith, refusing_some, ap (λ (bytes : List ℕ). length bytes) is, length-append q.hello (rejection side end), length-append q.fpdus (final_output end))
 
-pub terminate-queues : (side : Side) (end : End) (word : ℕ) (q : SendQueue) → final_output end ≡ terminate_message word → output_len q < output_len (with_end side end q)
+pub terminate_queues : (side : Side) (end : End) (word : ℕ) (q : SendQueue) → final_output end ≡ terminate_message word → output_len q < output_len (with_end side end q)
 unfolding with_end
-terminate-queues side end word q is =
-    omega (arith, terminate-some word, ap (λ (bytes : List ℕ). length bytes) is, length-append q.hello (rejection side end), length-append q.fpdus (final_output end))
+terminate_queues side end word q is =
+    omega (arith, terminate_some word, ap (λ (bytes : List ℕ). length bytes) is, length-append q.hello (rejection side end), length-append q.fpdus (final_output end))
 
 -- what holds anyway holds where there is an error
 pub on_any_err : {T E P : Type 0} (r : Result T E) → P → OnErr r P

@@ -16,7 +16,7 @@ use Rattle.nr_endpoint.specs.SendQueue.{with_response, with_end}
 use Rattle.nr_endpoint.specs.LinkState.{LinkState}
 use Rattle.nr_endpoint.specs.Judging.{segment_end, fetch_access, next_frame, with_frame, with_segment_by, with_fpdu, with_peer_hello, with_effect, with_read_response, with_read_request}
 use Rattle.nr_endpoint.specs.Laws.{ReadsAreAllowed, IsAllowedRead, final_fpdus, NothingElseIsRead, OtherFramesQueueNothing}
-use Rattle.nr_endpoint.proofs.Alive.{alive-request}
+use Rattle.nr_endpoint.proofs.Alive.{alive_request}
 
 -- the frame of a segment that doesn't end the side
 taken : (s : LinkState) (frame : List ℕ) (segment : Segment) → segment_of frame ≡ Ok segment → segment_end s (next_frame s frame) segment ≡ None →
@@ -33,25 +33,25 @@ asked : (opcode : ℕ) (b : Bool) (payload : List ℕ) (request : ReadRequest) �
 asked opcode true payload request is = (refl, cc)
 asked opcode false payload request is = absurd cc
 
-read-allowed : (s : LinkState) (f : Frame) (segment : Segment) (request : ReadRequest) → f.at ≡ s.place → read_request_of segment ≡ Some request → segment_end s f segment ≡ None →
+read_allowed : (s : LinkState) (f : Frame) (segment : Segment) (request : ReadRequest) → f.at ≡ s.place → read_request_of segment ≡ Some request → segment_end s f segment ≡ None →
     denial s.memory (fetch_access request) ≡ None
-read-allowed s f (Tagged last opcode stag to payload) request at asks lives = absurd cc
-read-allowed s f (Untagged last opcode w queue msn offset payload) request at asks lives =
+read_allowed s f (Tagged last opcode stag to payload) request at asks lives = absurd cc
+read_allowed s f (Untagged last opcode w queue msn offset payload) request at asks lives =
     let parts : (eqb opcode OPCODE_READ_REQUEST ≡ true) × (read_request_in payload ≡ request) = asked opcode (eqb opcode OPCODE_READ_REQUEST) payload request asks in
     let goes : segment_end s f (Untagged last OPCODE_READ_REQUEST w queue msn offset payload) ≡ None =
     subst (λ (o : ℕ). segment_end s f (Untagged last o w queue msn offset payload) ≡ None) (eqb-true opcode OPCODE_READ_REQUEST parts.0) lives in
-    subst (λ (r : ReadRequest). denial s.memory (fetch_access r) ≡ None) parts.1 (alive-request s f last w queue msn offset payload at goes).allowed
+    subst (λ (r : ReadRequest). denial s.memory (fetch_access r) ≡ None) parts.1 (alive_request s f last w queue msn offset payload at goes).allowed
 
-read-queued : (s : LinkState) (f : Frame) (segment : Segment) (request : ReadRequest) → read_request_of segment ≡ Some request →
+read_queued : (s : LinkState) (f : Frame) (segment : Segment) (request : ReadRequest) → read_request_of segment ≡ Some request →
     (with_segment_by f segment None s).send_queue ≡ with_response request.sink request.sink_to (bytes_at s.memory (fetch_access request)) s.send_queue
 unfolding with_effect
-read-queued s f (Tagged last opcode stag to payload) request asks = absurd cc
-read-queued s f (Untagged last opcode w queue msn offset payload) request asks = ap (λ (r : Option ReadRequest). with_read_request r s.memory s.send_queue) asks
+read_queued s f (Tagged last opcode stag to payload) request asks = absurd cc
+read_queued s f (Untagged last opcode w queue msn offset payload) request asks = ap (λ (r : Option ReadRequest). with_read_request r s.memory s.send_queue) asks
 
-pub reads-are-allowed : ReadsAreAllowed
-reads-are-allowed s frame segment request whole asks lives = (
-  read-allowed s (next_frame s frame) segment request refl asks lives,
-  ap (λ (t : LinkState). t.send_queue) (taken s frame segment whole lives) ∙ read-queued s (next_frame s frame) segment request asks,
+pub reads_are_allowed_lem : ReadsAreAllowed
+reads_are_allowed_lem s frame segment request whole asks lives = (
+  read_allowed s (next_frame s frame) segment request refl asks lives,
+  ap (λ (t : LinkState). t.send_queue) (taken s frame segment whole lives) ∙ read_queued s (next_frame s frame) segment request asks,
 )
 
 -- ---- Any other frame
@@ -59,70 +59,70 @@ reads-are-allowed s frame segment request whole asks lives = (
 abbrev QueuesLast : LinkState → LinkState → Type 0
 QueuesLast s after = after.send_queue.fpdus ≡ s.send_queue.fpdus ++ final_fpdus after.ended
 
-nothing-more : (before after : List ℕ) (e : Option End) → e ≡ None → after ≡ before → after ≡ before ++ final_fpdus e
-nothing-more before after e lives same = same ∙ sym (append-nil before) ∙ ap (λ (x : Option End). before ++ final_fpdus x) (sym lives)
+nothing_more : (before after : List ℕ) (e : Option End) → e ≡ None → after ≡ before → after ≡ before ++ final_fpdus e
+nothing_more before after e lives same = same ∙ sym (append-nil before) ∙ ap (λ (x : Option End). before ++ final_fpdus x) (sym lives)
 
-hello-queues : (s : LinkState) (f : Frame) (r : Result Hello ℕ) → s.ended ≡ None → QueuesLast s (with_peer_hello f r s)
+hello_queues : (s : LinkState) (f : Frame) (r : Result Hello ℕ) → s.ended ≡ None → QueuesLast s (with_peer_hello f r s)
 unfolding with_peer_hello with_end
-hello-queues s f (Ok hello) live = nothing-more s.send_queue.fpdus s.send_queue.fpdus s.ended live refl
-hello-queues s f (Err reason) live = refl
+hello_queues s f (Ok hello) live = nothing_more s.send_queue.fpdus s.send_queue.fpdus s.ended live refl
+hello_queues s f (Err reason) live = refl
 
-placed-state : (s t : LinkState) (b last : Bool) (n : ℕ) → t.ended ≡ None → t.send_queue.fpdus ≡ s.send_queue.fpdus →
+placed_state : (s t : LinkState) (b last : Bool) (n : ℕ) → t.ended ≡ None → t.send_queue.fpdus ≡ s.send_queue.fpdus →
     ((cond b (with_read_response last n t) t).ended ≡ None) × ((cond b (with_read_response last n t) t).send_queue.fpdus ≡ s.send_queue.fpdus)
-placed-state s t true last n live same = (live, same)
-placed-state s t false last n live same = (live, same)
+placed_state s t true last n live same = (live, same)
+placed_state s t false last n live same = (live, same)
 
-tagged-queues : (s : LinkState) (f : Frame) (last : Bool) (opcode stag to : ℕ) (payload : List ℕ) → s.ended ≡ None →
+tagged_queues : (s : LinkState) (f : Frame) (last : Bool) (opcode stag to : ℕ) (payload : List ℕ) → s.ended ≡ None →
     QueuesLast s (with_segment_by f (Tagged last opcode stag to payload) None s)
 unfolding with_effect
-tagged-queues s f last opcode stag to payload live =
+tagged_queues s f last opcode stag to payload live =
     let placed : LinkState = record s { memory = after_place s.memory stag to payload } in
     let t : LinkState = cond (eqb opcode OPCODE_READ_RESPONSE) (with_read_response last (length payload) placed) placed in
-    let parts : (t.ended ≡ None) × (t.send_queue.fpdus ≡ s.send_queue.fpdus) = placed-state s placed (eqb opcode OPCODE_READ_RESPONSE) last (length payload) live refl in
-    nothing-more s.send_queue.fpdus t.send_queue.fpdus t.ended parts.0 parts.1
+    let parts : (t.ended ≡ None) × (t.send_queue.fpdus ≡ s.send_queue.fpdus) = placed_state s placed (eqb opcode OPCODE_READ_RESPONSE) last (length payload) live refl in
+    nothing_more s.send_queue.fpdus t.send_queue.fpdus t.ended parts.0 parts.1
 
-untagged-queues : (s : LinkState) (f : Frame) (last : Bool) (opcode w queue msn offset : ℕ) (payload : List ℕ) → s.ended ≡ None →
+untagged_queues : (s : LinkState) (f : Frame) (last : Bool) (opcode w queue msn offset : ℕ) (payload : List ℕ) → s.ended ≡ None →
     read_request_of (Untagged last opcode w queue msn offset payload) ≡ None → QueuesLast s (with_segment_by f (Untagged last opcode w queue msn offset payload) None s)
 unfolding with_effect
-untagged-queues s f last opcode w queue msn offset payload live asks =
-    nothing-more s.send_queue.fpdus (with_read_request (read_request_of (Untagged last opcode w queue msn offset payload)) s.memory s.send_queue).fpdus s.ended live (ap (λ (r : Option ReadRequest). (with_read_request r s.memory s.send_queue).fpdus) asks)
+untagged_queues s f last opcode w queue msn offset payload live asks =
+    nothing_more s.send_queue.fpdus (with_read_request (read_request_of (Untagged last opcode w queue msn offset payload)) s.memory s.send_queue).fpdus s.ended live (ap (λ (r : Option ReadRequest). (with_read_request r s.memory s.send_queue).fpdus) asks)
 
 -- what a segment asks for, or that it asks for nothing
-segment-queues : (s : LinkState) (frame : List ℕ) (segment : Segment) (e : Option End) → s.ended ≡ None → segment_of frame ≡ Ok segment → segment_end s (next_frame s frame) segment ≡ e →
+segment_queues : (s : LinkState) (frame : List ℕ) (segment : Segment) (e : Option End) → s.ended ≡ None → segment_of frame ≡ Ok segment → segment_end s (next_frame s frame) segment ≡ e →
     IsAllowedRead s Fpdu frame ⊎ QueuesLast s (with_segment_by (next_frame s frame) segment e s)
 unfolding with_end
-segment-queues s frame segment (Some end) live whole is = inr refl
-segment-queues s frame (Tagged last opcode stag to payload) None live whole is = inr (tagged-queues s (next_frame s frame) last opcode stag to payload live)
-segment-queues s frame (Untagged last opcode w queue msn offset payload) None live whole is =
+segment_queues s frame segment (Some end) live whole is = inr refl
+segment_queues s frame (Tagged last opcode stag to payload) None live whole is = inr (tagged_queues s (next_frame s frame) last opcode stag to payload live)
+segment_queues s frame (Untagged last opcode w queue msn offset payload) None live whole is =
     by (read_request_of (Untagged last opcode w queue msn offset payload)) refl
   where
     by : (r : Option ReadRequest) → read_request_of (Untagged last opcode w queue msn offset payload) ≡ r →
         IsAllowedRead s Fpdu frame ⊎ QueuesLast s (with_segment_by (next_frame s frame) (Untagged last opcode w queue msn offset payload) None s)
-    by None asks = inr (untagged-queues s (next_frame s frame) last opcode w queue msn offset payload live asks)
+    by None asks = inr (untagged_queues s (next_frame s frame) last opcode w queue msn offset payload live asks)
     by (Some request) asks = inl (record { segment = Untagged last opcode w queue msn offset payload; request = request; fpdu = refl; whole = whole; asks = asks; lives = is })
 
-fpdu-queues : (s : LinkState) (frame : List ℕ) (r : Result Segment ℕ) → s.ended ≡ None → segment_of frame ≡ r →
+fpdu_queues : (s : LinkState) (frame : List ℕ) (r : Result Segment ℕ) → s.ended ≡ None → segment_of frame ≡ r →
     IsAllowedRead s Fpdu frame ⊎ QueuesLast s (with_fpdu (next_frame s frame) r s)
 unfolding with_fpdu with_end
-fpdu-queues s frame (Ok segment) live whole = segment-queues s frame segment (segment_end s (next_frame s frame) segment) live whole refl
-fpdu-queues s frame (Err reason) live whole = inr refl
+fpdu_queues s frame (Ok segment) live whole = segment_queues s frame segment (segment_end s (next_frame s frame) segment) live whole refl
+fpdu_queues s frame (Err reason) live whole = inr refl
 
-pub nothing-else-is-read : NothingElseIsRead
-nothing-else-is-read s (HelloFrom side) frame live = inr (hello-queues s (next_frame s frame) (hello_of side frame) live)
-nothing-else-is-read s Fpdu frame live = fpdu-queues s frame (segment_of frame) live refl
+pub nothing_else_is_read : NothingElseIsRead
+nothing_else_is_read s (HelloFrom side) frame live = inr (hello_queues s (next_frame s frame) (hello_of side frame) live)
+nothing_else_is_read s Fpdu frame live = fpdu_queues s frame (segment_of frame) live refl
 
 -- ---- A frame that asks for nothing queues nothing
 
-placed-queue : (s t : LinkState) (b last : Bool) (n : ℕ) → t.send_queue ≡ s.send_queue → (cond b (with_read_response last n t) t).send_queue ≡ s.send_queue
-placed-queue s t true last n same = same
-placed-queue s t false last n same = same
+placed_queue : (s t : LinkState) (b last : Bool) (n : ℕ) → t.send_queue ≡ s.send_queue → (cond b (with_read_response last n t) t).send_queue ≡ s.send_queue
+placed_queue s t true last n same = same
+placed_queue s t false last n same = same
 
 quiet : (s : LinkState) (f : Frame) (segment : Segment) → read_request_of segment ≡ None → (with_segment_by f segment None s).send_queue ≡ s.send_queue
 unfolding with_effect
 quiet s f (Tagged last opcode stag to payload) asks =
-    placed-queue s (record s { memory = after_place s.memory stag to payload }) (eqb opcode OPCODE_READ_RESPONSE) last (length payload) refl
+    placed_queue s (record s { memory = after_place s.memory stag to payload }) (eqb opcode OPCODE_READ_RESPONSE) last (length payload) refl
 quiet s f (Untagged last opcode w queue msn offset payload) asks = ap (λ (r : Option ReadRequest). with_read_request r s.memory s.send_queue) asks
 
-pub other-frames-queue-nothing : OtherFramesQueueNothing
-other-frames-queue-nothing s frame segment whole asks lives =
+pub other_frames_queue_nothing : OtherFramesQueueNothing
+other_frames_queue_nothing s frame segment whole asks lives =
     ap (λ (t : LinkState). t.send_queue) (taken s frame segment whole lives) ∙ quiet s (next_frame s frame) segment asks

@@ -2,8 +2,8 @@
 use Rattle.std.proofs.Common.{◌≡◌, ℕ, zero, suc, ◌+◌, ◌-◌, ◌<◌, ◌≤◌, nat_lt, true, List, [], ◌∷◌, ◌++◌, length, take, replicate, Option, None, refl, sym, ap, ◌∙◌, arith, append_assoc, length-append}
 use Rattle.std.proofs.lemmas.List.{length-replicate, replicate_more}
 use Rattle.std.proofs.lemmas.List.Elements.{All-head, All-tail, All-rest, All-cons}
-use Rattle.nr_endpoint.specs.ReceiveQueue.{Notice, messages_in}
-use Rattle.nr_endpoint.specs.ReceiveQueue.Notice.{MessageReceived, ReadDone}
+use Rattle.nr_endpoint.specs.ReceiveQueue.{DeliveredEvent, messages_in}
+use Rattle.nr_endpoint.specs.ReceiveQueue.DeliveredEvent.{MessageReceived, ReadDone}
 use Rattle.nr_endpoint.specs.Receives.{InBuffer, AreReceives}
 use Rattle.nr_endpoint.specs.Views.{notices, reads_first, without_first_read}
 use Rattle.nr_endpoint.specs.declared.receive_queue.BegunSend.{BegunSend}
@@ -12,50 +12,50 @@ use Rattle.nr_endpoint.specs.declared.receive_queue.ReceivedMessage.{ReceivedMes
 -- ---- What it tells
 
 -- the same reads stand before the notices of the other messages
-behind : (m : ReceivedMessage) (xs ys : List Notice) (zs : List Notice) → xs ≡ ys ++ zs →
+behind : (m : ReceivedMessage) (xs ys : List DeliveredEvent) (zs : List DeliveredEvent) → xs ≡ ys ++ zs →
     replicate m.reads_done ReadDone ++ MessageReceived m.number None (take m.len m.buf) ∷ xs ≡ (replicate m.reads_done ReadDone ++ MessageReceived m.number None (take m.len m.buf) ∷ ys) ++ zs
 behind m xs ys zs is =
-    ap (λ (list : List Notice). replicate m.reads_done ReadDone ++ MessageReceived m.number None (take m.len m.buf) ∷ list) is
+    ap (λ (list : List DeliveredEvent). replicate m.reads_done ReadDone ++ MessageReceived m.number None (take m.len m.buf) ∷ list) is
     ∙ sym (append_assoc (replicate m.reads_done ReadDone) (MessageReceived m.number None (take m.len m.buf) ∷ ys) zs)
 
 -- one more read was done
-pub notices-read : (messages : List ReceivedMessage) (reads_done : ℕ) → notices messages (reads_done + 1) ≡ notices messages reads_done ++ ReadDone ∷ []
-notices-read [] reads_done = sym (replicate_more reads_done ReadDone)
-notices-read (m ∷ messages) reads_done = behind m (notices messages (reads_done + 1)) (notices messages reads_done) (ReadDone ∷ []) (notices-read messages reads_done)
+pub notices_read : (messages : List ReceivedMessage) (reads_done : ℕ) → notices messages (reads_done + 1) ≡ notices messages reads_done ++ ReadDone ∷ []
+notices_read [] reads_done = sym (replicate_more reads_done ReadDone)
+notices_read (m ∷ messages) reads_done = behind m (notices messages (reads_done + 1)) (notices messages reads_done) (ReadDone ∷ []) (notices_read messages reads_done)
 
 -- a message came: the reads that were done since the last one stand before it
-pub notices-message : (messages : List ReceivedMessage) (reads_done number : ℕ) (buf : List ℕ) (len : ℕ) →
+pub notices_message : (messages : List ReceivedMessage) (reads_done number : ℕ) (buf : List ℕ) (len : ℕ) →
     notices (messages ++ record { reads_done = reads_done; number = number; buf = buf; len = len } ∷ []) 0 ≡ notices messages reads_done ++ MessageReceived number None (take len buf) ∷ []
-notices-message [] reads_done number buf len = refl
-notices-message (m ∷ messages) reads_done number buf len =
-    behind m (notices (messages ++ record { reads_done = reads_done; number = number; buf = buf; len = len } ∷ []) 0) (notices messages reads_done) (MessageReceived number None (take len buf) ∷ []) (notices-message messages reads_done number buf len)
+notices_message [] reads_done number buf len = refl
+notices_message (m ∷ messages) reads_done number buf len =
+    behind m (notices (messages ++ record { reads_done = reads_done; number = number; buf = buf; len = len } ∷ []) 0) (notices messages reads_done) (MessageReceived number None (take len buf) ∷ []) (notices_message messages reads_done number buf len)
 
 -- the reads that are counted are among the notices
-pub reads-within : (messages : List ReceivedMessage) (reads_done : ℕ) → reads_done ≤ length (notices messages reads_done)
-reads-within [] reads_done = omega (arith, length-replicate reads_done ReadDone)
-reads-within (m ∷ messages) reads_done =
-    omega (arith, reads-within messages reads_done, length-append (replicate m.reads_done ReadDone) (MessageReceived m.number None (take m.len m.buf) ∷ notices messages reads_done))
+pub reads_within : (messages : List ReceivedMessage) (reads_done : ℕ) → reads_done ≤ length (notices messages reads_done)
+reads_within [] reads_done = omega (arith, length-replicate reads_done ReadDone)
+reads_within (m ∷ messages) reads_done =
+    omega (arith, reads_within messages reads_done, length-append (replicate m.reads_done ReadDone) (MessageReceived m.number None (take m.len m.buf) ∷ notices messages reads_done))
 
 -- how many of the notices are of messages
-messages_in-reads : (n : ℕ) (others : List Notice) → messages_in (replicate n ReadDone ++ others) ≡ messages_in others
-messages_in-reads zero others = refl
-messages_in-reads (suc n) others = messages_in-reads n others
+messages_in_reads : (n : ℕ) (others : List DeliveredEvent) → messages_in (replicate n ReadDone ++ others) ≡ messages_in others
+messages_in_reads zero others = refl
+messages_in_reads (suc n) others = messages_in_reads n others
 
-pub messages_in-notices : (messages : List ReceivedMessage) (reads_done : ℕ) → messages_in (notices messages reads_done) ≡ length messages
-messages_in-notices [] reads_done = by reads_done
+pub messages_in_notices : (messages : List ReceivedMessage) (reads_done : ℕ) → messages_in (notices messages reads_done) ≡ length messages
+messages_in_notices [] reads_done = by reads_done
   where
     by : (n : ℕ) → messages_in (replicate n ReadDone) ≡ 0
     by zero = refl
     by (suc n) = by n
-messages_in-notices (m ∷ messages) reads_done =
-    let first : messages_in (notices (m ∷ messages) reads_done) ≡ 1 + messages_in (notices messages reads_done) = messages_in-reads m.reads_done (MessageReceived m.number None (take m.len m.buf) ∷ notices messages reads_done) in
-    omega (arith, first, messages_in-notices messages reads_done)
+messages_in_notices (m ∷ messages) reads_done =
+    let first : messages_in (notices (m ∷ messages) reads_done) ≡ 1 + messages_in (notices messages reads_done) = messages_in_reads m.reads_done (MessageReceived m.number None (take m.len m.buf) ∷ notices messages reads_done) in
+    omega (arith, first, messages_in_notices messages reads_done)
 
 -- the owner is told a read that was done before the first message, or behind the last one
-pub notices-first_read : (messages : List ReceivedMessage) (reads_done : ℕ) → nat_lt 0 (reads_first messages) ≡ true →
+pub notices_first_read : (messages : List ReceivedMessage) (reads_done : ℕ) → nat_lt 0 (reads_first messages) ≡ true →
     notices messages reads_done ≡ ReadDone ∷ notices (without_first_read messages) reads_done
-notices-first_read [] reads_done some = absurd cc
-notices-first_read (m ∷ messages) reads_done some = by m.reads_done some
+notices_first_read [] reads_done some = absurd cc
+notices_first_read (m ∷ messages) reads_done some = by m.reads_done some
   where
     by : (n : ℕ) → nat_lt 0 n ≡ true →
         replicate n ReadDone ++ MessageReceived m.number None (take m.len m.buf) ∷ notices messages reads_done ≡ ReadDone ∷ (replicate (n - 1) ReadDone ++ MessageReceived m.number None (take m.len m.buf) ∷ notices messages reads_done)
@@ -64,12 +64,12 @@ notices-first_read (m ∷ messages) reads_done some = by m.reads_done some
         let less : n ≡ suc n - 1 = omega arith in
         ap (λ (k : ℕ). ReadDone ∷ (replicate k ReadDone ++ MessageReceived m.number None (take m.len m.buf) ∷ notices messages reads_done)) less
 
-pub notices-last_read : (messages : List ReceivedMessage) (reads_done : ℕ) → messages ≡ [] → 0 < reads_done → notices messages reads_done ≡ ReadDone ∷ notices messages (reads_done - 1)
-notices-last_read [] zero none some = absurd (omega (arith, some))
-notices-last_read [] (suc n) none some =
+pub notices_last_read : (messages : List ReceivedMessage) (reads_done : ℕ) → messages ≡ [] → 0 < reads_done → notices messages reads_done ≡ ReadDone ∷ notices messages (reads_done - 1)
+notices_last_read [] zero none some = absurd (omega (arith, some))
+notices_last_read [] (suc n) none some =
     let less : n ≡ suc n - 1 = omega arith in
     ap (λ (k : ℕ). ReadDone ∷ replicate k ReadDone) less
-notices-last_read (m ∷ messages) reads_done none some = absurd (omega (arith, ap (λ (list : List ReceivedMessage). length list) none))
+notices_last_read (m ∷ messages) reads_done none some = absurd (omega (arith, ap (λ (list : List ReceivedMessage). length list) none))
 
 -- ---- Its buffers
 

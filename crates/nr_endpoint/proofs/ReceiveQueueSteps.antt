@@ -6,8 +6,8 @@ use Rattle.nr_wire.specs.Constants.{OPCODE_SEND, OPCODE_READ_REQUEST}
 use Rattle.nr_link.specs.KeptSends.{begun_within}
 use Rattle.nr_link.specs.ReceiveState.{begun_bytes}
 use Rattle.nr_link.specs.SegmentFaults.{is_begun}
-use Rattle.nr_endpoint.specs.ReceiveQueue.{Notice, ReceiveQueue, with_segment, with_read_done, told, lent_for}
-use Rattle.nr_endpoint.specs.ReceiveQueue.Notice.{MessageReceived, ReadDone}
+use Rattle.nr_endpoint.specs.ReceiveQueue.{DeliveredEvent, ReceiveQueue, with_segment, with_read_done, delivered, lent_for}
+use Rattle.nr_endpoint.specs.ReceiveQueue.DeliveredEvent.{MessageReceived, ReadDone}
 
 pub with_request : (last : Bool) (w queue msn offset : ℕ) (payload : List ℕ) (q : ReceiveQueue) → begun_within q.receive_length q.received.begun ≡ q.received.begun →
     record { receives = q.receives; receive_length = q.receive_length; received = record { sends = q.received.sends; begun = q.received.begun; requests = q.received.requests + 1 }; free = q.free; lent = q.lent; notices = q.notices }
@@ -25,13 +25,13 @@ with_last q payload message free m f =
     λ i. record { receives = q.receives; receive_length = q.receive_length; received = record { sends = q.received.sends + 1; begun = None; requests = q.received.requests }; free = f i; lent = q.lent; notices = q.notices ++ MessageReceived (q.received.sends + 1) None (m i) ∷ [] }
 
 -- with these notices
-abbrev notices_as : List Notice → ReceiveQueue → ReceiveQueue
+abbrev notices_as : List DeliveredEvent → ReceiveQueue → ReceiveQueue
 notices_as list q = record { receives = q.receives; receive_length = q.receive_length; received = q.received; free = q.free; lent = q.lent; notices = list }
 
-pub read_counted : (q : ReceiveQueue) (more : List Notice) → more ≡ q.notices ++ ReadDone ∷ [] → notices_as more q ≡ with_read_done q
+pub read_counted : (q : ReceiveQueue) (more : List DeliveredEvent) → more ≡ q.notices ++ ReadDone ∷ [] → notices_as more q ≡ with_read_done q
 read_counted q more is = λ i. notices_as (is i) q
 
-pub read_told : (q : ReceiveQueue) (left : List Notice) → q.notices ≡ ReadDone ∷ left → notices_as left q ≡ told q
+pub read_told : (q : ReceiveQueue) (left : List DeliveredEvent) → q.notices ≡ ReadDone ∷ left → notices_as left q ≡ delivered q
 read_told q left is =
     let none : lent_for q.notices ≡ 0 = ap lent_for is in
     let lent : q.lent ≡ q.lent + lent_for q.notices = omega (arith, none) in

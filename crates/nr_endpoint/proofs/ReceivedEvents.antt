@@ -7,126 +7,126 @@ use Rattle.nr_wire.specs.declared.stream.Awaited.{Awaited}
 use Rattle.nr_wire.specs.declared.stream.Awaited.TheVariants.{Hello as HelloFrom, Fpdu}
 use Rattle.nr_wire.specs.Segment.{Segment, segment_of}
 use Rattle.nr_wire.specs.Stream.{IsPartial, AreFrames}
-use Rattle.nr_wire.proofs.Splits.{split-Splits}
+use Rattle.nr_wire.proofs.Splits.{split_Splits}
 use Rattle.nr_link.specs.declared.end.End.{End}
 use Rattle.nr_link.specs.Frames.{Frame}
-use Rattle.nr_endpoint.specs.ReceiveQueue.{Notice}
-use Rattle.nr_endpoint.specs.LinkState.{LinkState, Link, has_ended, peer, initial_link}
+use Rattle.nr_endpoint.specs.ReceiveQueue.{DeliveredEvent}
+use Rattle.nr_endpoint.specs.LinkState.{LinkState, LinkSide, has_ended, peer, initial_link}
 use Rattle.nr_endpoint.specs.Judging.{segment_end, next_frame, with_frame}
 use Rattle.nr_endpoint.specs.Calls.{Call, after_call, after_calls}
 use Rattle.nr_endpoint.specs.Calls.Call.{Feed, FeedOne, NextEvent, Post, Stop, OutOfMemory, Send, WriteRemote, ReadRemote, Drain, Register, Release}
-use Rattle.nr_endpoint.specs.Laws.{frames_made_whole, bytes_in_call, bytes_fed, notices_of, MadeNotice, made_at, segment_notices, fpdu_notices, frame_notices, notices_of_frames, call_notices, notices_made, NoticesRise}
+use Rattle.nr_endpoint.specs.Laws.{frames_made_whole, bytes_in_call, bytes_fed, notices_of, QueuedEvent, made_at, segment_notices, fpdu_notices, frame_notices, notices_of_frames, call_notices, notices_made, NoticesRise}
 use Rattle.nr_endpoint.specs.ReceivedLaws.{EventsOfReceivedBytes}
-use Rattle.nr_endpoint.proofs.Pieces.{frame-place}
-use Rattle.nr_endpoint.proofs.NoticeLaws.{frames-make, ended-notices, events-are-in-order}
-use Rattle.nr_endpoint.proofs.Received.{FirstAbove, no-end, fed-partial, first-above, one-above, one-are}
-use Rattle.nr_endpoint.proofs.StreamLaws.{IsFed, call-fed, stream-fed}
+use Rattle.nr_endpoint.proofs.Pieces.{frame_place}
+use Rattle.nr_endpoint.proofs.NoticeLaws.{frames_make, ended_notices, events_are_in_order}
+use Rattle.nr_endpoint.proofs.Received.{FirstAbove, no_end, fed_partial, first_above, one_above, one_are}
+use Rattle.nr_endpoint.proofs.StreamLaws.{IsFed, call_fed, stream_fed}
 
 -- each notice is made at a frame that ends after this place
-abbrev Above : ℕ → List MadeNotice → Type 0
+abbrev Above : ℕ → List QueuedEvent → Type 0
 Above low [] = Unit {0}
 Above low (made ∷ others) = (low < made.end) × Above low others
 
-above-joined : (low : ℕ) (xs ys : List MadeNotice) → Above low xs → Above low ys → Above low (xs ++ ys)
-above-joined low [] ys first second = second
-above-joined low (made ∷ xs) ys first second = (first.0, above-joined low xs ys first.1 second)
+above_joined : (low : ℕ) (xs ys : List QueuedEvent) → Above low xs → Above low ys → Above low (xs ++ ys)
+above_joined low [] ys first second = second
+above_joined low (made ∷ xs) ys first second = (first.0, above_joined low xs ys first.1 second)
 
-lower : (low high : ℕ) (list : List MadeNotice) → low ≤ high → Above high list → Above low list
+lower : (low high : ℕ) (list : List QueuedEvent) → low ≤ high → Above high list → Above low list
 lower low high [] le above = tt
 lower low high (made ∷ list) le above = (omega (arith, le, above.0), lower low high list le above.1)
 
-from-rise : (low from until : ℕ) (list : List MadeNotice) → low ≤ from → NoticesRise from list until → Above low list
-from-rise low from until [] le rise = tt
-from-rise low from until (made ∷ list) le rise = (omega (arith, le, rise.0), from-rise low made.end until list (omega (arith, le, rise.0)) rise.1)
+from_rise : (low from until : ℕ) (list : List QueuedEvent) → low ≤ from → NoticesRise from list until → Above low list
+from_rise low from until [] le rise = tt
+from_rise low from until (made ∷ list) le rise = (omega (arith, le, rise.0), from_rise low made.end until list (omega (arith, le, rise.0)) rise.1)
 
-rise-low : (from until : ℕ) (list : List MadeNotice) → NoticesRise from list until → from ≤ until
-rise-low from until [] rise = rise
-rise-low from until (made ∷ list) rise = omega (arith, rise.0, rise-low made.end until list rise.1)
+rise_low : (from until : ℕ) (list : List QueuedEvent) → NoticesRise from list until → from ≤ until
+rise_low from until [] rise = rise
+rise_low from until (made ∷ list) rise = omega (arith, rise.0, rise_low made.end until list rise.1)
 
-all-above : (low : ℕ) (list : List MadeNotice) → Above low list → All (λ made. low < made.end) list
-all-above low [] above = All-nil (λ (made : MadeNotice). low < made.end)
-all-above low (made ∷ list) above = All-cons (λ (x : MadeNotice). low < x.end) made list above.0 (all-above low list above.1)
+all_above_lem : (low : ℕ) (list : List QueuedEvent) → Above low list → All (λ made. low < made.end) list
+all_above_lem low [] above = All-nil (λ (made : QueuedEvent). low < made.end)
+all_above_lem low (made ∷ list) above = All-cons (λ (x : QueuedEvent). low < x.end) made list above.0 (all_above_lem low list above.1)
 
-all-below : (from until high : ℕ) (list : List MadeNotice) → until ≤ high → NoticesRise from list until → All (λ made. made.end ≤ high) list
-all-below from until high [] le rise = All-nil (λ (made : MadeNotice). made.end ≤ high)
-all-below from until high (made ∷ list) le rise =
-    All-cons (λ (x : MadeNotice). x.end ≤ high) made list (omega (arith, le, rise-low made.end until list rise.1)) (all-below made.end until high list le rise.1)
+all_below : (from until high : ℕ) (list : List QueuedEvent) → until ≤ high → NoticesRise from list until → All (λ made. made.end ≤ high) list
+all_below from until high [] le rise = All-nil (λ (made : QueuedEvent). made.end ≤ high)
+all_below from until high (made ∷ list) le rise =
+    All-cons (λ (x : QueuedEvent). x.end ≤ high) made list (omega (arith, le, rise_low made.end until list rise.1)) (all_below made.end until high list le rise.1)
 
 -- ---- Frames
 
-made-above : (low n : ℕ) (notices : List Notice) → low < n → Above low (map (made_at n) notices)
-made-above low n [] long = tt
-made-above low n (notice ∷ notices) long = (long, made-above low n notices long)
+made_above : (low n : ℕ) (notices : List DeliveredEvent) → low < n → Above low (map (made_at n) notices)
+made_above low n [] long = tt
+made_above low n (notice ∷ notices) long = (long, made_above low n notices long)
 
-segment-above : (low : ℕ) (s : LinkState) (f : Frame) (segment : Segment) (e : Option End) → low < f.end → Above low (segment_notices s f segment e)
-segment-above low s f segment (Some end) long = tt
-segment-above low s f segment None long = made-above low f.end (notices_of s.receive_queue.received segment) long
+segment_above : (low : ℕ) (s : LinkState) (f : Frame) (segment : Segment) (e : Option End) → low < f.end → Above low (segment_notices s f segment e)
+segment_above low s f segment (Some end) long = tt
+segment_above low s f segment None long = made_above low f.end (notices_of s.receive_queue.received segment) long
 
-fpdu-above : (low : ℕ) (s : LinkState) (f : Frame) (r : Result Segment ℕ) → low < f.end → Above low (fpdu_notices s f r)
-fpdu-above low s f (Ok segment) long = segment-above low s f segment (segment_end s f segment) long
-fpdu-above low s f (Err reason) long = tt
+fpdu_above : (low : ℕ) (s : LinkState) (f : Frame) (r : Result Segment ℕ) → low < f.end → Above low (fpdu_notices s f r)
+fpdu_above low s f (Ok segment) long = segment_above low s f segment (segment_end s f segment) long
+fpdu_above low s f (Err reason) long = tt
 
-frame-above : (low : ℕ) (s : LinkState) (a : Awaited) (frame : List ℕ) → low < s.place + length frame → Above low (frame_notices s a frame)
-frame-above low s (HelloFrom side) frame long = tt
-frame-above low s Fpdu frame long = fpdu-above low s (next_frame s frame) (segment_of frame) long
+frame_above : (low : ℕ) (s : LinkState) (a : Awaited) (frame : List ℕ) → low < s.place + length frame → Above low (frame_notices s a frame)
+frame_above low s (HelloFrom side) frame long = tt
+frame_above low s Fpdu frame long = fpdu_above low s (next_frame s frame) (segment_of frame) long
 
-frames-above : (low : ℕ) (frames : List (List ℕ)) (a : Awaited) (s : LinkState) → has_ended s ≡ false → AreFrames a frames → FirstAbove low s.place frames → Above low (notices_of_frames frames a s)
-frames-above low [] a s live each first = tt
-frames-above low (frame ∷ frames) a s live each first =
+frames_above : (low : ℕ) (frames : List (List ℕ)) (a : Awaited) (s : LinkState) → has_ended s ≡ false → AreFrames a frames → FirstAbove low s.place frames → Above low (notices_of_frames frames a s)
+frames_above low [] a s live each first = tt
+frames_above low (frame ∷ frames) a s live each first =
     subst (λ (w : Bool). Above low (cond w [] (frame_notices s a frame ++ notices_of_frames frames Fpdu (with_frame s a frame)))) (sym live)
-    (above-joined low (frame_notices s a frame) (notices_of_frames frames Fpdu (with_frame s a frame)) (frame-above low s a frame first) (by (has_ended (with_frame s a frame)) refl))
+    (above_joined low (frame_notices s a frame) (notices_of_frames frames Fpdu (with_frame s a frame)) (frame_above low s a frame first) (by (has_ended (with_frame s a frame)) refl))
   where
     by : (b : Bool) → has_ended (with_frame s a frame) ≡ b → Above low (notices_of_frames frames Fpdu (with_frame s a frame))
-    by true over = subst (λ (list : List MadeNotice). Above low list) (sym (ended-notices frames Fpdu (with_frame s a frame) over)) tt
+    by true over = subst (λ (list : List QueuedEvent). Above low list) (sym (ended_notices frames Fpdu (with_frame s a frame) over)) tt
     by false goes =
-        let place : (with_frame s a frame).place ≡ s.place + length frame = frame-place s a frame (no-end (with_frame s a frame).ended goes) in
-        from-rise low (with_frame s a frame).place _ (notices_of_frames frames Fpdu (with_frame s a frame)) (omega (arith, first, place))
-        (frames-make frames [] Fpdu (with_frame s a frame) (has_ended (with_frame s a frame)) refl each.1).1
+        let place : (with_frame s a frame).place ≡ s.place + length frame = frame_place s a frame (no_end (with_frame s a frame).ended goes) in
+        from_rise low (with_frame s a frame).place _ (notices_of_frames frames Fpdu (with_frame s a frame)) (omega (arith, first, place))
+        (frames_make frames [] Fpdu (with_frame s a frame) (has_ended (with_frame s a frame)) refl each.1).1
 
 -- ---- Calls
 
-fed-above : (from : Side) (link : Link) (bytes piece : List ℕ) → IsFed from link bytes → (b : Bool) → has_ended link.state ≡ b →
+fed_above : (from : Side) (link : LinkSide) (bytes piece : List ℕ) → IsFed from link bytes → (b : Bool) → has_ended link.state ≡ b →
     Above (length bytes) (notices_of_frames (frames_made_whole link piece) link.awaited link.state) × Above (length bytes) (notices_of_frames (take 1 (frames_made_whole link piece)) link.awaited link.state)
-fed-above from link bytes piece fed true over = (
-  subst (λ (list : List MadeNotice). Above (length bytes) list) (sym (ended-notices (frames_made_whole link piece) link.awaited link.state over)) tt,
-  subst (λ (list : List MadeNotice). Above (length bytes) list) (sym (ended-notices (take 1 (frames_made_whole link piece)) link.awaited link.state over)) tt,
+fed_above from link bytes piece fed true over = (
+  subst (λ (list : List QueuedEvent). Above (length bytes) list) (sym (ended_notices (frames_made_whole link piece) link.awaited link.state over)) tt,
+  subst (λ (list : List QueuedEvent). Above (length bytes) list) (sym (ended_notices (take 1 (frames_made_whole link piece)) link.awaited link.state over)) tt,
 )
-fed-above from link bytes piece fed false live =
-    let kept : IsPartial link.awaited link.rest × (link.state.place + length link.rest ≡ length bytes) = fed-partial from link bytes (fed.keeps live) in
+fed_above from link bytes piece fed false live =
+    let kept : IsPartial link.awaited link.rest × (link.state.place + length link.rest ≡ length bytes) = fed_partial from link bytes (fed.keeps live) in
     let frames : List (List ℕ) = frames_made_whole link piece in
-    let each : AreFrames link.awaited frames = (split-Splits link.awaited (link.rest ++ piece)).each in
+    let each : AreFrames link.awaited frames = (split_Splits link.awaited (link.rest ++ piece)).each in
     let first : FirstAbove (length bytes) link.state.place frames =
-    subst (λ (n : ℕ). FirstAbove n link.state.place frames) kept.1 (first-above link.awaited link.rest piece link.state.place kept.0) in (
-      frames-above (length bytes) frames link.awaited link.state live each first,
-      frames-above (length bytes) (take 1 frames) link.awaited link.state live (one-are link.awaited frames each) (one-above (length bytes) link.state.place frames first),
+    subst (λ (n : ℕ). FirstAbove n link.state.place frames) kept.1 (first_above link.awaited link.rest piece link.state.place kept.0) in (
+      frames_above (length bytes) frames link.awaited link.state live each first,
+      frames_above (length bytes) (take 1 frames) link.awaited link.state live (one_are link.awaited frames each) (one_above (length bytes) link.state.place frames first),
     )
 
-call-above : (from : Side) (link : Link) (bytes : List ℕ) (call : Call) → IsFed from link bytes → Above (length bytes) (call_notices link call)
-call-above from link bytes (Feed piece) fed = (fed-above from link bytes piece fed (has_ended link.state) refl).0
-call-above from link bytes (FeedOne piece) fed = (fed-above from link bytes piece fed (has_ended link.state) refl).1
-call-above from link bytes NextEvent fed = tt
-call-above from link bytes Post fed = tt
-call-above from link bytes (Stop reason) fed = tt
-call-above from link bytes OutOfMemory fed = tt
-call-above from link bytes (Send message) fed = tt
-call-above from link bytes (WriteRemote stag to payload) fed = tt
-call-above from link bytes (ReadRemote sink at stag to len) fed = tt
-call-above from link bytes (Drain count) fed = tt
-call-above from link bytes (Register buf right) fed = tt
-call-above from link bytes (Release stag) fed = tt
+call_above : (from : Side) (link : LinkSide) (bytes : List ℕ) (call : Call) → IsFed from link bytes → Above (length bytes) (call_notices link call)
+call_above from link bytes (Feed piece) fed = (fed_above from link bytes piece fed (has_ended link.state) refl).0
+call_above from link bytes (FeedOne piece) fed = (fed_above from link bytes piece fed (has_ended link.state) refl).1
+call_above from link bytes NextEvent fed = tt
+call_above from link bytes Post fed = tt
+call_above from link bytes (Stop reason) fed = tt
+call_above from link bytes OutOfMemory fed = tt
+call_above from link bytes (Send message) fed = tt
+call_above from link bytes (WriteRemote stag to payload) fed = tt
+call_above from link bytes (ReadRemote sink at stag to len) fed = tt
+call_above from link bytes (Drain count) fed = tt
+call_above from link bytes (Register buf right) fed = tt
+call_above from link bytes (Release stag) fed = tt
 
-calls-above : (from : Side) (link : Link) (bytes : List ℕ) (calls : List Call) → IsFed from link bytes → Above (length bytes) (notices_made link calls)
-calls-above from link bytes [] fed = tt
-calls-above from link bytes (call ∷ calls) fed =
+calls_above : (from : Side) (link : LinkSide) (bytes : List ℕ) (calls : List Call) → IsFed from link bytes → Above (length bytes) (notices_made link calls)
+calls_above from link bytes [] fed = tt
+calls_above from link bytes (call ∷ calls) fed =
     let more : List ℕ = bytes ++ bytes_in_call link call in
-    above-joined (length bytes) (call_notices link call) (notices_made (after_call link call) calls) (call-above from link bytes call fed)
+    above_joined (length bytes) (call_notices link call) (notices_made (after_call link call) calls) (call_above from link bytes call fed)
     (lower (length bytes) (length more) (notices_made (after_call link call) calls) (omega (arith, length-append bytes (bytes_in_call link call)))
-    (calls-above from (after_call link call) more calls (call-fed from link bytes call fed)))
+    (calls_above from (after_call link call) more calls (call_fed from link bytes call fed)))
 
-pub events-of-received-bytes : EventsOfReceivedBytes
-events-of-received-bytes side receives first_stag before after =
-    let start : Link = initial_link side receives first_stag in
-    let fed : IsFed (peer side) (after_calls start before) (bytes_fed start before) = stream-fed side receives first_stag before in (
-      all-below start.state.place (after_calls start before).state.place (length (bytes_fed start before)) (notices_made start before) (omega (arith, fed.within)) (events-are-in-order start before),
-      all-above (length (bytes_fed start before)) (notices_made (after_calls start before) after) (calls-above (peer side) (after_calls start before) (bytes_fed start before) after fed),
+pub events_of_received_bytes : EventsOfReceivedBytes
+events_of_received_bytes side receives first_stag before after =
+    let start : LinkSide = initial_link side receives first_stag in
+    let fed : IsFed (peer side) (after_calls start before) (bytes_fed start before) = stream_fed side receives first_stag before in (
+      all_below start.state.place (after_calls start before).state.place (length (bytes_fed start before)) (notices_made start before) (omega (arith, fed.within)) (events_are_in_order start before),
+      all_above_lem (length (bytes_fed start before)) (notices_made (after_calls start before) after) (calls_above (peer side) (after_calls start before) (bytes_fed start before) after fed),
     )

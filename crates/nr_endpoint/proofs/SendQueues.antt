@@ -12,17 +12,17 @@ use Rattle.std.proofs.lemmas.List.Filters.{length-filter_both}
 use Rattle.nr_endpoint.specs.SendQueue.{ends_left, ends_passed}
 
 -- the ends that are left, and how many went by, of two lists
-pub ends_left-append : (n : ℕ) (xs ys : List ℕ) → ends_left n (xs ++ ys) ≡ ends_left n xs ++ ends_left n ys
-ends_left-append n xs ys =
+pub ends_left_append : (n : ℕ) (xs ys : List ℕ) → ends_left n (xs ++ ys) ≡ ends_left n xs ++ ends_left n ys
+ends_left_append n xs ys =
     ap (map (λ (end : ℕ). end - n)) (filter-append (ltb n) xs ys) ∙ map-append (λ (end : ℕ). end - n) (filter (ltb n) xs) (filter (ltb n) ys)
 
-pub ends_left-fewer : (n : ℕ) (xs : List ℕ) → length (ends_left n xs) ≤ length xs
-ends_left-fewer n xs =
+pub ends_left_fewer : (n : ℕ) (xs : List ℕ) → length (ends_left n xs) ≤ length xs
+ends_left_fewer n xs =
     omega (arith, length-map (filter (ltb n) xs) (λ (end : ℕ). end - n), length-filter_both (ltb n) (λ (end : ℕ). not (ltb n end)) (λ _. refl) xs)
 
-pub ends_passed-append : (n : ℕ) (xs ys : List ℕ) → ends_passed n (xs ++ ys) ≡ ends_passed n xs + ends_passed n ys
-ends_passed-append n xs ys =
-    omega (arith, length-append xs ys, ap length (ends_left-append n xs ys), length-append (ends_left n xs) (ends_left n ys), ends_left-fewer n xs, ends_left-fewer n ys)
+pub ends_passed_append : (n : ℕ) (xs ys : List ℕ) → ends_passed n (xs ++ ys) ≡ ends_passed n xs + ends_passed n ys
+ends_passed_append n xs ys =
+    omega (arith, length-append xs ys, ap length (ends_left_append n xs ys), length-append (ends_left n xs) (ends_left n ys), ends_left_fewer n xs, ends_left_fewer n ys)
 
 -- after i ends were looked at, the others stand before those of them that are left
 unfoldable pub looked_at : ℕ → ℕ → List ℕ → List ℕ
@@ -46,7 +46,7 @@ looked_at_more n i ends old new h so_far is =
     is
     ∙ ap (λ (xs : List ℕ). drop 1 xs ++ ends_left n (take 1 xs)) begins
     ∙ append_assoc (drop (i + 1) ends) (ends_left n (take i ends)) (ends_left n (x ∷ []))
-    ∙ ap (λ (xs : List ℕ). drop (i + 1) ends ++ xs) (sym (ap (ends_left n) (take_more ends i 0 h) ∙ ends_left-append n (take i ends) (x ∷ [])))
+    ∙ ap (λ (xs : List ℕ). drop (i + 1) ends ++ xs) (sym (ap (ends_left n) (take_more ends i 0 h) ∙ ends_left_append n (take i ends) (x ∷ [])))
 
 -- how many went by, of the first i and of one more
 pub first_of : (n i : ℕ) (ends old : List ℕ) → i < length ends → old ≡ looked_at n i ends → take 1 old ≡ get_or ends i 0 ∷ []
@@ -59,7 +59,7 @@ pub passed_more : (n i passed more : ℕ) (ends old : List ℕ) → i < length e
 passed_more n i passed more ends old h so_far passed_is more_is =
     let one : more ≡ ends_passed n (get_or ends i 0 ∷ []) = more_is ∙ ap (ends_passed n) (first_of n i ends old h so_far) in
     (λ t. passed_is t + one t)
-    ∙ sym (ap (ends_passed n) (take_more ends i 0 h) ∙ ends_passed-append n (take i ends) (get_or ends i 0 ∷ []))
+    ∙ sym (ap (ends_passed n) (take_more ends i 0 h) ∙ ends_passed_append n (take i ends) (get_or ends i 0 ∷ []))
 
 pub passed_within : (n i : ℕ) (ends : List ℕ) → ends_passed n (take i ends) ≤ i
 passed_within n i ends = omega (arith, length-take i ends)
@@ -70,7 +70,7 @@ taken_both hello fpdus count =
     take-add (length hello) count (hello ++ fpdus)
     ∙ (λ t. take_at hello fpdus (length hello) refl t ++ take count (drop_at hello fpdus (length hello) refl t))
 
--- what `write_both` says where n bytes of those that may be written were written
+-- what `write_queue` says where n bytes of those that may be written were written
 abbrev pub Written : {T E : Type 0} → (may hello fpdus hello_left fpdus_left : List ℕ) → ℕ → Option (List ℕ) → Option (List ℕ) → Result T E → ℕ → Type 0
 Written may hello fpdus hello_left fpdus_left count before after r n =
     (count ≡ n - length hello) × (n ≤ length may) × (hello_left ≡ drop n hello) × (fpdus_left ≡ drop (n - length hello) fpdus)

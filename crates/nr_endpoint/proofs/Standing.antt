@@ -6,31 +6,31 @@ use Rattle.nr_regions.specs.declared.right.Right.{Right}
 use Rattle.nr_regions.specs.RegisteredMemory.{after_register, after_release}
 use Rattle.nr_link.specs.declared.end.End.TheVariants as ends
 use Rattle.nr_endpoint.specs.SendQueue.{with_send, with_write, with_request, writable, written}
-use Rattle.nr_endpoint.specs.ReceiveQueue.{told, posted}
-use Rattle.nr_endpoint.specs.LinkState.{Link, LinkState, has_ended}
+use Rattle.nr_endpoint.specs.ReceiveQueue.{delivered, posted}
+use Rattle.nr_endpoint.specs.LinkState.{LinkSide, LinkState, has_ended}
 use Rattle.nr_endpoint.specs.Judging.{with_end_of}
 use Rattle.nr_endpoint.specs.EndpointState.{EndpointState}
 use Rattle.nr_endpoint.specs.Calls.{Call, after_call, after_calls, StandsOn, StandsOnAll, with_state, unless_ended, ended_link}
 use Rattle.nr_endpoint.specs.Calls.Call.{NextEvent, Post, Stop, OutOfMemory, Send, WriteRemote, ReadRemote, Drain, Register, Release}
 
-pub after_calls-append : (link : Link) (calls : List Call) (call : Call) → after_calls link (calls ++ call ∷ []) ≡ after_call (after_calls link calls) call
+pub after_calls_append : (link : LinkSide) (calls : List Call) (call : Call) → after_calls link (calls ++ call ∷ []) ≡ after_call (after_calls link calls) call
 unfolding after_calls
-after_calls-append link [] call = refl
-after_calls-append link (first ∷ calls) call = after_calls-append (after_call link first) calls call
+after_calls_append link [] call = refl
+after_calls_append link (first ∷ calls) call = after_calls_append (after_call link first) calls call
 
-after_calls-append_all : (link : Link) (calls more : List Call) → after_calls link (calls ++ more) ≡ after_calls (after_calls link calls) more
+after_calls_append_all : (link : LinkSide) (calls more : List Call) → after_calls link (calls ++ more) ≡ after_calls (after_calls link calls) more
 unfolding after_calls
-after_calls-append_all link [] more = refl
-after_calls-append_all link (first ∷ calls) more = after_calls-append_all (after_call link first) calls more
+after_calls_append_all link [] more = refl
+after_calls_append_all link (first ∷ calls) more = after_calls_append_all (after_call link first) calls more
 
-pub stands_on_all : (before : Link) (more : List Call) (after : Link) → after ≡ after_calls before more → StandsOnAll before more after
-stands_on_all before more after is = λ start calls stands. is ∙ ap (λ (link : Link). after_calls link more) stands ∙ sym (after_calls-append_all start calls more)
+pub stands_on_all : (before : LinkSide) (more : List Call) (after : LinkSide) → after ≡ after_calls before more → StandsOnAll before more after
+stands_on_all before more after is = λ start calls stands. is ∙ ap (λ (link : LinkSide). after_calls link more) stands ∙ sym (after_calls_append_all start calls more)
 
-pub stands_on : (before : Link) (call : Call) (after : Link) → after ≡ after_call before call → StandsOn before call after
-stands_on before call after is = λ start calls stands. is ∙ ap (λ (link : Link). after_call link call) stands ∙ sym (after_calls-append start calls call)
+pub stands_on : (before : LinkSide) (call : Call) (after : LinkSide) → after ≡ after_call before call → StandsOn before call after
+stands_on before call after is = λ start calls stands. is ∙ ap (λ (link : LinkSide). after_call link call) stands ∙ sym (after_calls_append start calls call)
 
 -- what holds of the fields holds of the value
-pub seen : {room : ℕ} (before : Link) (staging : List ℕ) (now : EndpointState) (after : Link) (call : Call) → record { link = before; staging = staging; room = room } ≡ now →
+pub seen : {room : ℕ} (before : LinkSide) (staging : List ℕ) (now : EndpointState) (after : LinkSide) (call : Call) → record { link = before; staging = staging; room = room } ≡ now →
     after ≡ after_call before call → after ≡ after_call now.link call
 seen before staging now after call view is = is ∙ ap (λ (e : EndpointState). after_call e.link call) view
 
@@ -40,64 +40,64 @@ on_ok (Err e) f p = p
 
 -- ---- Each call
 
-pub told-state : (l : Link) (t : LinkState) → t ≡ record l.state { receive_queue = told l.state.receive_queue } → with_state t l ≡ after_call l NextEvent
+pub told_state : (l : LinkSide) (t : LinkState) → t ≡ record l.state { receive_queue = delivered l.state.receive_queue } → with_state t l ≡ after_call l NextEvent
 unfolding after_call
-told-state l t is = ap (λ (s : LinkState). with_state s l) is
+told_state l t is = ap (λ (s : LinkState). with_state s l) is
 
-pub posted-state : (l : Link) (t : LinkState) → t ≡ record l.state { receive_queue = posted l.state.receive_queue } → with_state t l ≡ after_call l Post
+pub posted_state : (l : LinkSide) (t : LinkState) → t ≡ record l.state { receive_queue = posted l.state.receive_queue } → with_state t l ≡ after_call l Post
 unfolding after_call
-posted-state l t is = ap (λ (s : LinkState). with_state s l) is
+posted_state l t is = ap (λ (s : LinkState). with_state s l) is
 
-pub live-state : (s after : LinkState) → s.ended ≡ None → unless_ended s after ≡ after
-live-state s after none = ap (λ (b : Bool). cond b s after) (ap (λ (e : Option End). is_some e) none)
+pub live_state : (s after : LinkState) → s.ended ≡ None → unless_ended s after ≡ after
+live_state s after none = ap (λ (b : Bool). cond b s after) (ap (λ (e : Option End). is_some e) none)
 
-pub stopped-state : (l : Link) (t : LinkState) (reason : ℕ) → l.state.ended ≡ None → t ≡ with_end_of (ends.Bad l.state.last reason) l.state → ended_link t l ≡ after_call l (Stop reason)
+pub stopped_state : (l : LinkSide) (t : LinkState) (reason : ℕ) → l.state.ended ≡ None → t ≡ with_end_of (ends.Bad l.state.last reason) l.state → ended_link t l ≡ after_call l (Stop reason)
 unfolding after_call
-stopped-state l t reason none is = ap (λ (s : LinkState). ended_link s l) (is ∙ sym (live-state l.state _ none))
+stopped_state l t reason none is = ap (λ (s : LinkState). ended_link s l) (is ∙ sym (live_state l.state _ none))
 
-pub out-of-memory-state : (l : Link) (t : LinkState) → l.state.ended ≡ None → t ≡ record l.state { ended = Some ends.Memory } → ended_link t l ≡ after_call l OutOfMemory
+pub out_of_memory_state : (l : LinkSide) (t : LinkState) → l.state.ended ≡ None → t ≡ record l.state { ended = Some ends.Memory } → ended_link t l ≡ after_call l OutOfMemory
 unfolding after_call
-out-of-memory-state l t none is = ap (λ (s : LinkState). ended_link s l) (is ∙ sym (live-state l.state _ none))
+out_of_memory_state l t none is = ap (λ (s : LinkState). ended_link s l) (is ∙ sym (live_state l.state _ none))
 
-pub sent-state : (l : Link) (t : LinkState) (message : List ℕ) → t ≡ unless_ended l.state (record l.state { send_queue = with_send message l.state.send_queue }) → with_state t l ≡ after_call l (Send message)
+pub sent_state : (l : LinkSide) (t : LinkState) (message : List ℕ) → t ≡ unless_ended l.state (record l.state { send_queue = with_send message l.state.send_queue }) → with_state t l ≡ after_call l (Send message)
 unfolding after_call
-sent-state l t message is = ap (λ (s : LinkState). with_state s l) is
+sent_state l t message is = ap (λ (s : LinkState). with_state s l) is
 
-pub written-state : (l : Link) (t : LinkState) (stag to : ℕ) (bytes : List ℕ) → t ≡ unless_ended l.state (record l.state { send_queue = with_write stag to bytes l.state.send_queue }) →
+pub written_state : (l : LinkSide) (t : LinkState) (stag to : ℕ) (bytes : List ℕ) → t ≡ unless_ended l.state (record l.state { send_queue = with_write stag to bytes l.state.send_queue }) →
     with_state t l ≡ after_call l (WriteRemote stag to bytes)
 unfolding after_call
-written-state l t stag to bytes is = ap (λ (s : LinkState). with_state s l) is
+written_state l t stag to bytes is = ap (λ (s : LinkState). with_state s l) is
 
-pub read-state : (l : Link) (t : LinkState) (sink at stag to len : ℕ) → t ≡ unless_ended l.state (record l.state {
+pub read_state : (l : LinkSide) (t : LinkState) (sink at stag to len : ℕ) → t ≡ unless_ended l.state (record l.state {
   send_queue = with_request sink at len stag to l.state.send_queue;
   reads = l.state.reads ++ record { sink = sink; at = at; left = len } ∷ [];
 }) →
     with_state t l ≡ after_call l (ReadRemote sink at stag to len)
 unfolding after_call
-read-state l t sink at stag to len is = ap (λ (s : LinkState). with_state s l) is
+read_state l t sink at stag to len is = ap (λ (s : LinkState). with_state s l) is
 
-pub drained-state : (l : Link) (t : LinkState) (n : ℕ) → t ≡ record l.state { send_queue = written n l.state.send_queue } → with_state t l ≡ after_call l (Drain n)
+pub drained_state : (l : LinkSide) (t : LinkState) (n : ℕ) → t ≡ record l.state { send_queue = written n l.state.send_queue } → with_state t l ≡ after_call l (Drain n)
 unfolding after_call
-drained-state l t n is = ap (λ (s : LinkState). with_state s l) is
+drained_state l t n is = ap (λ (s : LinkState). with_state s l) is
 
-pub registered-state : (l : Link) (t : LinkState) (buf : List ℕ) (right : Right) → t ≡ record l.state { memory = after_register l.state.memory right buf } → with_state t l ≡ after_call l (Register buf right)
+pub registered_state : (l : LinkSide) (t : LinkState) (buf : List ℕ) (right : Right) → t ≡ record l.state { memory = after_register l.state.memory right buf } → with_state t l ≡ after_call l (Register buf right)
 unfolding after_call
-registered-state l t buf right is = ap (λ (s : LinkState). with_state s l) is
+registered_state l t buf right is = ap (λ (s : LinkState). with_state s l) is
 
-pub released-state : (l : Link) (t : LinkState) (stag : ℕ) → t ≡ record l.state { memory = after_release l.state.memory stag } → with_state t l ≡ after_call l (Release stag)
+pub released_state : (l : LinkSide) (t : LinkState) (stag : ℕ) → t ≡ record l.state { memory = after_release l.state.memory stag } → with_state t l ≡ after_call l (Release stag)
 unfolding after_call
-released-state l t stag is = ap (λ (s : LinkState). with_state s l) is
+released_state l t stag is = ap (λ (s : LinkState). with_state s l) is
 
 -- ---- Where a call does nothing, or some of it
 
-pub told-if : {room : ℕ} (b : Bool) (l : Link) (staging : List ℕ) (now : EndpointState) (t : LinkState) → record { link = l; staging = staging; room = room } ≡ now →
-    t ≡ (if b then record l.state { receive_queue = told l.state.receive_queue } else l.state) → with_state t l ≡ (if b then after_call now.link NextEvent else now.link)
-told-if true l staging now t view is = seen l staging now (with_state t l) NextEvent view (told-state l t is)
-told-if false l staging now t view is = ap (λ (s : LinkState). with_state s l) is ∙ ap (λ (e : EndpointState). e.link) view
+pub told_if : {room : ℕ} (b : Bool) (l : LinkSide) (staging : List ℕ) (now : EndpointState) (t : LinkState) → record { link = l; staging = staging; room = room } ≡ now →
+    t ≡ (if b then record l.state { receive_queue = delivered l.state.receive_queue } else l.state) → with_state t l ≡ (if b then after_call now.link NextEvent else now.link)
+told_if true l staging now t view is = seen l staging now (with_state t l) NextEvent view (told_state l t is)
+told_if false l staging now t view is = ap (λ (s : LinkState). with_state s l) is ∙ ap (λ (e : EndpointState). e.link) view
 
-pub told-stands : (b : Bool) (before after : Link) → after ≡ (if b then after_call before NextEvent else before) → b ≡ true → StandsOn before NextEvent after
-told-stands true before after is = λ holds. stands_on before NextEvent after is
-told-stands false before after is = λ holds. absurd cc
+pub told_stands : (b : Bool) (before after : LinkSide) → after ≡ (if b then after_call before NextEvent else before) → b ≡ true → StandsOn before NextEvent after
+told_stands true before after is = λ holds. stands_on before NextEvent after is
+told_stands false before after is = λ holds. absurd cc
 
 -- where a result is an error, nothing is asked of `Ok`
 pub on_err : {T E : Type 0} (r : Result T E) → IsErr r → (Q : Type 0) → OnOk r Q
@@ -105,7 +105,7 @@ on_err (Ok x) is Q = absurd cc
 on_err (Err e) is Q = cc
 
 -- After a drain of some bytes: they were taken, as this says, and they are all, where that was said.
-abbrev pub IsDrained : (List ℕ → Type 0) → (ℕ → ℕ → Type 0) → Link → Link → Type 0
+abbrev pub IsDrained : (List ℕ → Type 0) → (ℕ → ℕ → Type 0) → LinkSide → LinkSide → Type 0
 IsDrained IsTaken IsAll before after =
     (n : ℕ) × (n ≤ length (writable before.state.has_hello before.state.send_queue)) × IsTaken (take n (writable before.state.has_hello before.state.send_queue))
     × (after ≡ after_call before (Drain n)) × StandsOn before (Drain n) after
@@ -116,28 +116,28 @@ WasDrained IsTaken IsAll s t =
     (n : ℕ) × (n ≤ length (writable s.has_hello s.send_queue)) × (t ≡ record s { send_queue = written n s.send_queue })
     × IsTaken (take n (writable s.has_hello s.send_queue)) × IsAll n (length (writable s.has_hello s.send_queue))
 
-pub drained : {room : ℕ} (IsTaken : List ℕ → Type 0) (WasAll IsAll : ℕ → ℕ → Type 0) → ((n len : ℕ) → WasAll n len → IsAll n len) → (before : Link) (staging : List ℕ) (now : EndpointState) (t : LinkState) →
+pub drained : {room : ℕ} (IsTaken : List ℕ → Type 0) (WasAll IsAll : ℕ → ℕ → Type 0) → ((n len : ℕ) → WasAll n len → IsAll n len) → (before : LinkSide) (staging : List ℕ) (now : EndpointState) (t : LinkState) →
     record { link = before; staging = staging; room = room } ≡ now → WasDrained IsTaken WasAll before.state t → IsDrained IsTaken IsAll now.link (with_state t before)
 drained IsTaken WasAll IsAll on before staging now t view (n, fits, is, took, all) =
-    let same : with_state t before ≡ after_call before (Drain n) = drained-state before t n is in
+    let same : with_state t before ≡ after_call before (Drain n) = drained_state before t n is in
     let done : IsDrained IsTaken IsAll before (with_state t before) = (n, fits, took, same, stands_on before (Drain n) (with_state t before) same, on n (length (writable before.state.has_hello before.state.send_queue)) all) in
     subst (λ (e : EndpointState). IsDrained IsTaken IsAll e.link (with_state t before)) view done
 
 -- ---- An end
 
 -- a side that has ended keeps no input
-pub stopped : {room : ℕ} (before : Link) (staging : List ℕ) (now : EndpointState) (t : LinkState) (reason : ℕ) → record { link = before; staging = staging; room = room } ≡ now → now.link.state.ended ≡ None →
+pub stopped : {room : ℕ} (before : LinkSide) (staging : List ℕ) (now : EndpointState) (t : LinkState) (reason : ℕ) → record { link = before; staging = staging; room = room } ≡ now → now.link.state.ended ≡ None →
     t ≡ with_end_of (ends.Bad before.state.last reason) before.state → ended_link t before ≡ after_call now.link (Stop reason)
 stopped before staging now t reason view none is =
-    seen before staging now (ended_link t before) (Stop reason) view (stopped-state before t reason (ap (λ (e : EndpointState). e.link.state.ended) view ∙ none) is)
+    seen before staging now (ended_link t before) (Stop reason) view (stopped_state before t reason (ap (λ (e : EndpointState). e.link.state.ended) view ∙ none) is)
 
-pub out_of_memory : {room : ℕ} (before : Link) (staging : List ℕ) (now : EndpointState) (t : LinkState) → record { link = before; staging = staging; room = room } ≡ now → now.link.state.ended ≡ None →
+pub out_of_memory : {room : ℕ} (before : LinkSide) (staging : List ℕ) (now : EndpointState) (t : LinkState) → record { link = before; staging = staging; room = room } ≡ now → now.link.state.ended ≡ None →
     t ≡ record before.state { ended = Some ends.Memory } → ended_link t before ≡ after_call now.link OutOfMemory
 out_of_memory before staging now t view none is =
-    seen before staging now (ended_link t before) OutOfMemory view (out-of-memory-state before t (ap (λ (e : EndpointState). e.link.state.ended) view ∙ none) is)
+    seen before staging now (ended_link t before) OutOfMemory view (out_of_memory_state before t (ap (λ (e : EndpointState). e.link.state.ended) view ∙ none) is)
 
 -- one that has ended already stays as it is
-pub memory_kept : (l : Link) → has_ended l.state ≡ true → l.rest ≡ [] → l ≡ after_call l OutOfMemory
+pub memory_kept : (l : LinkSide) → has_ended l.state ≡ true → l.rest ≡ [] → l ≡ after_call l OutOfMemory
 unfolding after_call
 memory_kept l over none =
     λ i. record { awaited = l.awaited; rest = none i; state = sym (ap (λ (b : Bool). cond b l.state (record l.state { ended = Some ends.Memory })) over) i }

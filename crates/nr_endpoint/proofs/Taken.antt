@@ -8,9 +8,9 @@ use Rattle.nr_regions.specs.RegisteredMemory.{bytes_at}
 use Rattle.nr_endpoint.specs.SendQueue.{SendQueue, with_response}
 use Rattle.nr_link.specs.KeptSends.{kept_within, begun_within}
 use Rattle.nr_endpoint.specs.ReceiveQueue.{ReceiveQueue, with_segment}
-use Rattle.nr_endpoint.specs.ReceiveQueue.Notice.{MessageReceived}
+use Rattle.nr_endpoint.specs.ReceiveQueue.DeliveredEvent.{MessageReceived}
 use Rattle.nr_endpoint.specs.LinkState.{LinkState}
-use Rattle.nr_endpoint.specs.Judging.{with_effect, next_frame, behind_frame, fetch_access}
+use Rattle.nr_endpoint.specs.Judging.{with_effect, next_frame, after_frame, fetch_access}
 use Rattle.nr_endpoint.specs.Counted.{IsCounted}
 
 kept_len : (n : ℕ) (bytes : List ℕ) → length (kept_within n bytes) ≡ length bytes
@@ -51,7 +51,7 @@ counted_request greeted q place most n counted some = record {
 
 pub took_send : (s : LinkState) (q : ReceiveQueue) (last : Bool) (payload frame : List ℕ) → q ≡ with_segment (Untagged last OPCODE_SEND 0 0 0 0 payload) s.receive_queue →
     record { side = s.side; has_hello = s.has_hello; last = s.place; place = s.place + length frame; ended = s.ended; receive_queue = q; reads = s.reads; memory = s.memory; send_queue = s.send_queue; message_max = s.message_max }
-    ≡ behind_frame (next_frame s frame) (with_effect (Untagged last OPCODE_SEND 0 0 0 0 payload) s)
+    ≡ after_frame (next_frame s frame) (with_effect (Untagged last OPCODE_SEND 0 0 0 0 payload) s)
 unfolding with_effect
 took_send s q last payload frame is =
     λ i. record { side = s.side; has_hello = s.has_hello; last = s.place; place = s.place + length frame; ended = s.ended; receive_queue = is i; reads = s.reads; memory = s.memory; send_queue = s.send_queue; message_max = s.message_max }
@@ -59,7 +59,7 @@ took_send s q last payload frame is =
 pub took_request : (s : LinkState) (q : ReceiveQueue) (sends : SendQueue) (r : ReadRequest) (bytes payload frame : List ℕ) → q ≡ with_segment (Untagged true OPCODE_READ_REQUEST 0 0 0 0 []) s.receive_queue →
     sends ≡ with_response r.sink r.sink_to bytes s.send_queue → r ≡ read_request_in payload → bytes ≡ bytes_at s.memory (fetch_access r) →
     record { side = s.side; has_hello = s.has_hello; last = s.place; place = s.place + length frame; ended = s.ended; receive_queue = q; reads = s.reads; memory = s.memory; send_queue = sends; message_max = s.message_max }
-    ≡ behind_frame (next_frame s frame) (with_effect (Untagged true OPCODE_READ_REQUEST 0 0 0 0 payload) s)
+    ≡ after_frame (next_frame s frame) (with_effect (Untagged true OPCODE_READ_REQUEST 0 0 0 0 payload) s)
 unfolding with_effect with_segment
 took_request s q sends r bytes payload frame is queued request fetched =
     (λ i. record { side = s.side; has_hello = s.has_hello; last = s.place; place = s.place + length frame; ended = s.ended; receive_queue = is i; reads = s.reads; memory = s.memory; send_queue = queued i; message_max = s.message_max })

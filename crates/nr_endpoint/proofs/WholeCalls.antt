@@ -5,22 +5,22 @@ use Rattle.std.proofs.lemmas.List.{append-nil, drop_more, take-append-le}
 use Rattle.nr_regions.specs.declared.right.Right.{Right}
 use Rattle.nr_regions.specs.declared.right.Right.TheVariants.{Fetch, Fill}
 use Rattle.nr_regions.specs.RegisteredMemory.{RegisteredMemory, Claim, IsHeld, after_register}
-use Rattle.nr_regions.specs.Events.Event.{Register as RegisterRegion}
+use Rattle.nr_regions.specs.Events.MemoryEvent.{Register as RegisterRegion}
 use Rattle.nr_regions.specs.Events.{after_event}
-use Rattle.nr_regions.proofs.Holding.{held-after_register, held-after_event}
+use Rattle.nr_regions.proofs.Holding.{held_after_register, held_after_event}
 use Rattle.nr_link.specs.Output.{write}
 use Rattle.nr_endpoint.specs.declared.offering.Offered.{Offered}
 use Rattle.nr_endpoint.specs.declared.offering.Claims.{Claims}
 use Rattle.nr_endpoint.specs.declared.framing.RemoteWrite.{RemoteWrite}
 use Rattle.nr_endpoint.specs.SendQueue.{SendQueue, with_send, with_fpdus, with_write}
-use Rattle.nr_endpoint.specs.LinkState.{Link, LinkState, has_ended}
+use Rattle.nr_endpoint.specs.LinkState.{LinkSide, LinkState, has_ended}
 use Rattle.nr_endpoint.specs.EndpointState.{EndpointState}
 use Rattle.nr_endpoint.specs.Calls.{Call, after_call, after_calls, with_state, unless_ended}
 use Rattle.nr_endpoint.specs.Calls.Call.{Send}
 use Rattle.nr_endpoint.specs.Offering.{offer_calls, register_call, with_buffer, claim_if, with_read, with_write_buffer, with_offered, claims_of, AreHeld, after_offer, write_call, answer_calls, writes_output, after_answer}
 
 -- what holds of the fields holds of the value
-pub seen_all : {room : ℕ} (before : Link) (staging : List ℕ) (now : EndpointState) (after : Link) (calls : List Call) → record { link = before; staging = staging; room = room } ≡ now →
+pub seen_all : {room : ℕ} (before : LinkSide) (staging : List ℕ) (now : EndpointState) (after : LinkSide) (calls : List Call) → record { link = before; staging = staging; room = room } ≡ now →
     after ≡ after_calls before calls → after ≡ after_calls now.link calls
 seen_all before staging now after calls view is = is ∙ ap (λ (e : EndpointState). after_calls e.link calls) view
 
@@ -30,75 +30,75 @@ seen_all before staging now after calls view is = is ∙ ap (λ (e : EndpointSta
 abbrev remembers : LinkState → RegisteredMemory → LinkState
 remembers s m = record s { memory = m }
 
-registered-all : (l : Link) (read write reply : Option (List ℕ)) →
+registered_all_lem : (l : LinkSide) (read write reply : Option (List ℕ)) →
     with_state (remembers l.state (with_buffer (with_buffer (with_buffer l.state.memory Fetch read) Fill write) Fill reply)) l
     ≡ after_calls l (register_call Fetch read ++ (register_call Fill write ++ register_call Fill reply))
 unfolding after_calls after_call
-registered-all l None None None = refl
-registered-all l None None (Some c) = refl
-registered-all l None (Some b) None = refl
-registered-all l None (Some b) (Some c) = refl
-registered-all l (Some a) None None = refl
-registered-all l (Some a) None (Some c) = refl
-registered-all l (Some a) (Some b) None = refl
-registered-all l (Some a) (Some b) (Some c) = refl
+registered_all_lem l None None None = refl
+registered_all_lem l None None (Some c) = refl
+registered_all_lem l None (Some b) None = refl
+registered_all_lem l None (Some b) (Some c) = refl
+registered_all_lem l (Some a) None None = refl
+registered_all_lem l (Some a) None (Some c) = refl
+registered_all_lem l (Some a) (Some b) None = refl
+registered_all_lem l (Some a) (Some b) (Some c) = refl
 
 abbrev after_sent : List ℕ → LinkState → LinkState
 after_sent message s = unless_ended s (record s { send_queue = with_send message s.send_queue })
 
-sent : (l : Link) (message : List ℕ) → with_state (after_sent message l.state) l ≡ after_call l (Send message)
+sent : (l : LinkSide) (message : List ℕ) → with_state (after_sent message l.state) l ≡ after_call l (Send message)
 unfolding after_call
 sent l message = refl
 
-first-call : (l : Link) (call : Call) (calls : List Call) → after_calls l (call ∷ calls) ≡ after_calls (after_call l call) calls
+first_call : (l : LinkSide) (call : Call) (calls : List Call) → after_calls l (call ∷ calls) ≡ after_calls (after_call l call) calls
 unfolding after_calls
-first-call l call calls = refl
+first_call l call calls = refl
 
-no-calls : (l : Link) → after_calls l [] ≡ l
+no_calls_lem : (l : LinkSide) → after_calls l [] ≡ l
 unfolding after_calls
-no-calls l = refl
+no_calls_lem l = refl
 
-in-order : (s : LinkState) (message : List ℕ) (o : Offered) (b : Bool) →
+in_order_lem : (s : LinkState) (message : List ℕ) (o : Offered) (b : Bool) →
     record s { memory = with_offered s.memory o; send_queue = cond b s.send_queue (with_send message s.send_queue) }
     ≡ remembers (cond b s (record s { send_queue = with_send message s.send_queue })) (with_offered (cond b s (record s { send_queue = with_send message s.send_queue })).memory o)
-in-order s message o true = refl
-in-order s message o false = refl
+in_order_lem s message o true = refl
+in_order_lem s message o false = refl
 
-pub offered-state : (l : Link) (t : LinkState) (message : List ℕ) (o : Offered) → t ≡ after_offer message o l.state → with_state t l ≡ after_calls l (offer_calls message o)
-offered-state l t message o is =
+pub offered_state : (l : LinkSide) (t : LinkState) (message : List ℕ) (o : Offered) → t ≡ after_offer message o l.state → with_state t l ≡ after_calls l (offer_calls message o)
+offered_state l t message o is =
     let others : List Call = register_call Fetch o.read ++ (register_call Fill o.write ++ register_call Fill o.reply) in
-    ap (λ (s : LinkState). with_state s l) (is ∙ in-order l.state message o (has_ended l.state))
-    ∙ registered-all (with_state (after_sent message l.state) l) o.read o.write o.reply
-    ∙ ap (λ (k : Link). after_calls k others) (sent l message)
-    ∙ sym (first-call l (Send message) others)
+    ap (λ (s : LinkState). with_state s l) (is ∙ in_order_lem l.state message o (has_ended l.state))
+    ∙ registered_all_lem (with_state (after_sent message l.state) l) o.read o.write o.reply
+    ∙ ap (λ (k : LinkSide). after_calls k others) (sent l message)
+    ∙ sym (first_call l (Send message) others)
 
 -- each registration is held
-claim-held : (m : RegisteredMemory) (right : Right) (buf : Option (List ℕ)) → IfSome (claim_if m buf) (IsHeld (with_buffer m right buf))
-claim-held m right None = tt
-claim-held m right (Some buf) = held-after_register m right buf
+claim_held : (m : RegisteredMemory) (right : Right) (buf : Option (List ℕ)) → IfSome (claim_if m buf) (IsHeld (with_buffer m right buf))
+claim_held m right None = tt
+claim_held m right (Some buf) = held_after_register m right buf
 
-register-keeps : (m : RegisteredMemory) (right : Right) (buf : List ℕ) (claim : Claim) → IsHeld m claim → IsHeld (after_register m right buf) claim
+register_keeps : (m : RegisteredMemory) (right : Right) (buf : List ℕ) (claim : Claim) → IsHeld m claim → IsHeld (after_register m right buf) claim
 unfolding after_event
-register-keeps m right buf claim held = held-after_event m claim (RegisterRegion right buf) held tt
+register_keeps m right buf claim held = held_after_event m claim (RegisterRegion right buf) held tt
 
-claim-stays : (m : RegisteredMemory) (claim : Option Claim) (right : Right) (buf : Option (List ℕ)) → IfSome claim (IsHeld m) → IfSome claim (IsHeld (with_buffer m right buf))
-claim-stays m None right buf held = tt
-claim-stays m (Some claim) right None held = held
-claim-stays m (Some claim) right (Some buf) held = register-keeps m right buf claim held
+claim_stays : (m : RegisteredMemory) (claim : Option Claim) (right : Right) (buf : Option (List ℕ)) → IfSome claim (IsHeld m) → IfSome claim (IsHeld (with_buffer m right buf))
+claim_stays m None right buf held = tt
+claim_stays m (Some claim) right None held = held
+claim_stays m (Some claim) right (Some buf) held = register_keeps m right buf claim held
 
-pub offered-held : (m : RegisteredMemory) (o : Offered) → AreHeld (with_offered m o) (claims_of m o)
-offered-held m o = (
-  claim-stays (with_write_buffer m o) (claim_if m o.read) Fill o.reply (claim-stays (with_read m o) (claim_if m o.read) Fill o.write (claim-held m Fetch o.read)),
+pub offered_held : (m : RegisteredMemory) (o : Offered) → AreHeld (with_offered m o) (claims_of m o)
+offered_held m o = (
+  claim_stays (with_write_buffer m o) (claim_if m o.read) Fill o.reply (claim_stays (with_read m o) (claim_if m o.read) Fill o.write (claim_held m Fetch o.read)),
   (
-    claim-stays (with_write_buffer m o) (claim_if (with_read m o) o.write) Fill o.reply (claim-held (with_read m o) Fill o.write),
-    claim-held (with_write_buffer m o) Fill o.reply,
+    claim_stays (with_write_buffer m o) (claim_if (with_read m o) o.write) Fill o.reply (claim_held (with_read m o) Fill o.write),
+    claim_held (with_write_buffer m o) Fill o.reply,
   ),
 )
 
-pub held-of : (r : Result Claims Offered) (m n : RegisteredMemory) (o : Offered) → IfOk r (λ claims. claims ≡ claims_of m o) → OnOk r (n ≡ with_offered m o) → IfOk r (AreHeld n)
-held-of (Ok claims) m n o is same =
-    subst (λ (k : RegisteredMemory). AreHeld k claims) (sym same) (subst (λ (given : Claims). AreHeld (with_offered m o) given) (sym is) (offered-held m o))
-held-of (Err e) m n o is same = tt
+pub held_of : (r : Result Claims Offered) (m n : RegisteredMemory) (o : Offered) → IfOk r (λ claims. claims ≡ claims_of m o) → OnOk r (n ≡ with_offered m o) → IfOk r (AreHeld n)
+held_of (Ok claims) m n o is same =
+    subst (λ (k : RegisteredMemory). AreHeld k claims) (sym same) (subst (λ (given : Claims). AreHeld (with_offered m o) given) (sym is) (offered_held m o))
+held_of (Err e) m n o is same = tt
 
 -- ---- RDMA Writes and a Send
 
@@ -106,46 +106,46 @@ held-of (Err e) m n o is same = tt
 abbrev queued : LinkState → SendQueue → LinkState
 queued s q = record s { send_queue = q }
 
-answered-live : (writes : List RemoteWrite) (l : Link) (message : List ℕ) → has_ended l.state ≡ false →
+answered_live : (writes : List RemoteWrite) (l : LinkSide) (message : List ℕ) → has_ended l.state ≡ false →
     with_state (queued l.state (with_send message (with_fpdus (writes_output writes) l.state.send_queue))) l ≡ after_calls l (answer_calls writes message)
 unfolding after_call
-answered-live [] l message live =
+answered_live [] l message live =
     let q : SendQueue = l.state.send_queue in
     ap (λ (bytes : List ℕ). with_state (queued l.state (with_send message (record q { fpdus = bytes }))) l) (append-nil q.fpdus)
     ∙ sym (ap (λ (b : Bool). with_state (cond b l.state (queued l.state (with_send message q))) l) live)
-    ∙ sym (no-calls (after_call l (Send message)))
-    ∙ sym (first-call l (Send message) [])
-answered-live (w ∷ writes) l message live =
+    ∙ sym (no_calls_lem (after_call l (Send message)))
+    ∙ sym (first_call l (Send message) [])
+answered_live (w ∷ writes) l message live =
     let q : SendQueue = l.state.send_queue in
-    let one : Link = with_state (queued l.state (with_write w.stag w.to w.bytes.now q)) l in
+    let one : LinkSide = with_state (queued l.state (with_write w.stag w.to w.bytes.now q)) l in
     let first : after_call l (write_call w) ≡ one = ap (λ (b : Bool). with_state (cond b l.state (queued l.state (with_write w.stag w.to w.bytes.now q))) l) live in
     ap (λ (bytes : List ℕ). with_state (queued l.state (with_send message (record q { fpdus = bytes }))) l) (sym (append_assoc q.fpdus (write w.stag w.to w.bytes.now) (writes_output writes)))
-    ∙ answered-live writes one message live
-    ∙ ap (λ (k : Link). after_calls k (answer_calls writes message)) (sym first)
-    ∙ sym (first-call l (write_call w) (answer_calls writes message))
+    ∙ answered_live writes one message live
+    ∙ ap (λ (k : LinkSide). after_calls k (answer_calls writes message)) (sym first)
+    ∙ sym (first_call l (write_call w) (answer_calls writes message))
 
-answered-ended : (writes : List RemoteWrite) (l : Link) (message : List ℕ) → has_ended l.state ≡ true → l ≡ after_calls l (answer_calls writes message)
+answered_ended : (writes : List RemoteWrite) (l : LinkSide) (message : List ℕ) → has_ended l.state ≡ true → l ≡ after_calls l (answer_calls writes message)
 unfolding after_call
-answered-ended [] l message over =
+answered_ended [] l message over =
     sym (ap (λ (b : Bool). with_state (cond b l.state (queued l.state (with_send message l.state.send_queue))) l) over)
-    ∙ sym (no-calls (after_call l (Send message)))
-    ∙ sym (first-call l (Send message) [])
-answered-ended (w ∷ writes) l message over =
+    ∙ sym (no_calls_lem (after_call l (Send message)))
+    ∙ sym (first_call l (Send message) [])
+answered_ended (w ∷ writes) l message over =
     let first : after_call l (write_call w) ≡ l = ap (λ (b : Bool). with_state (cond b l.state (queued l.state (with_write w.stag w.to w.bytes.now l.state.send_queue))) l) over in
-    answered-ended writes l message over
-    ∙ ap (λ (k : Link). after_calls k (answer_calls writes message)) (sym first)
-    ∙ sym (first-call l (write_call w) (answer_calls writes message))
+    answered_ended writes l message over
+    ∙ ap (λ (k : LinkSide). after_calls k (answer_calls writes message)) (sym first)
+    ∙ sym (first_call l (write_call w) (answer_calls writes message))
 
-pub answered-state : (l : Link) (t : LinkState) (writes : List RemoteWrite) (message : List ℕ) → t ≡ after_answer writes message l.state →
+pub answered_state : (l : LinkSide) (t : LinkState) (writes : List RemoteWrite) (message : List ℕ) → t ≡ after_answer writes message l.state →
     with_state t l ≡ after_calls l (answer_calls writes message)
-answered-state l t writes message is = ap (λ (s : LinkState). with_state s l) is ∙ by (has_ended l.state) refl
+answered_state l t writes message is = ap (λ (s : LinkState). with_state s l) is ∙ by (has_ended l.state) refl
   where
     after : LinkState
     after = queued l.state (with_send message (with_fpdus (writes_output writes) l.state.send_queue))
 
     by : (b : Bool) → has_ended l.state ≡ b → with_state (cond (has_ended l.state) l.state after) l ≡ after_calls l (answer_calls writes message)
-    by true over = ap (λ (b : Bool). with_state (cond b l.state after) l) over ∙ answered-ended writes l message over
-    by false live = ap (λ (b : Bool). with_state (cond b l.state after) l) live ∙ answered-live writes l message live
+    by true over = ap (λ (b : Bool). with_state (cond b l.state after) l) over ∙ answered_ended writes l message over
+    by false live = ap (λ (b : Bool). with_state (cond b l.state after) l) live ∙ answered_live writes l message live
 
 -- ---- RDMA Writes, one at a time
 

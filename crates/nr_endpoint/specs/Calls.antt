@@ -7,8 +7,8 @@ use Rattle.nr_regions.specs.RegisteredMemory.{after_register, after_release}
 use Rattle.nr_link.specs.declared.end.End.TheVariants as ends
 use Rattle.nr_link.specs.Reasons.{REASON_KIND, REASON_HEAD, REASON_XID, REASON_CALL, REASON_CHUNKS, REASON_VERSION, REASON_STAGS}
 use Rattle.nr_endpoint.specs.SendQueue.{output_len, with_send, with_write, with_request, written}
-use Rattle.nr_endpoint.specs.ReceiveQueue.{told, posted}
-use Rattle.nr_endpoint.specs.LinkState.{LinkState, Link, has_ended}
+use Rattle.nr_endpoint.specs.ReceiveQueue.{delivered, posted}
+use Rattle.nr_endpoint.specs.LinkState.{LinkState, LinkSide, has_ended}
 use Rattle.nr_endpoint.specs.Judging.{with_frame, with_end_of}
 
 -- A call with what it was given. `Drain` has the number of bytes that the sink took, `Post` and `NextEvent` nothing. `OutOfMemory`
@@ -33,21 +33,21 @@ IsStopReason reason =
     (reason ≡ REASON_KIND) ⊎ ((reason ≡ REASON_HEAD) ⊎ ((reason ≡ REASON_XID) ⊎ ((reason ≡ REASON_CALL) ⊎ ((reason ≡ REASON_CHUNKS)
     ⊎ ((reason ≡ REASON_VERSION) ⊎ (reason ≡ REASON_STAGS))))))
 
-abbrev pub with_state : LinkState → Link → Link
+abbrev pub with_state : LinkState → LinkSide → LinkSide
 with_state s link = record { awaited = link.awaited; rest = link.rest; state = s }
 
 -- a side that has ended keeps no input
-abbrev pub ended_link : LinkState → Link → Link
+abbrev pub ended_link : LinkState → LinkSide → LinkSide
 ended_link s link = record { awaited = link.awaited; rest = []; state = s }
 
 -- a side that has ended stays so, and queues nothing
 abbrev pub unless_ended : LinkState → LinkState → LinkState
 unless_ended s after = if has_ended s then s else after
 
-unfoldable pub after_call : Link → Call → Link
+unfoldable pub after_call : LinkSide → Call → LinkSide
 after_call link (Feed piece) = feeding_after has_ended with_frame link piece
 after_call link (FeedOne piece) = feeding_after_step has_ended with_frame link piece
-after_call link NextEvent = with_state (record link.state { receive_queue = told link.state.receive_queue }) link
+after_call link NextEvent = with_state (record link.state { receive_queue = delivered link.state.receive_queue }) link
 after_call link Post = with_state (record link.state { receive_queue = posted link.state.receive_queue }) link
 after_call link (Stop reason) = ended_link (unless_ended link.state (with_end_of (ends.Bad link.state.last reason) link.state)) link
 after_call link OutOfMemory = ended_link (unless_ended link.state (record link.state { ended = Some ends.Memory })) link
@@ -64,39 +64,39 @@ after_call link (Drain count) = with_state (record link.state { send_queue = wri
 after_call link (Register buf right) = with_state (record link.state { memory = after_register link.state.memory right buf }) link
 after_call link (Release stag) = with_state (record link.state { memory = after_release link.state.memory stag }) link
 
-unfoldable pub after_calls : Link → List Call → Link
+unfoldable pub after_calls : LinkSide → List Call → LinkSide
 after_calls link [] = link
 after_calls link (call ∷ calls) = after_calls (after_call link call) calls
 
 -- An endpoint that was in the state `start` stands for these calls.
-abbrev pub StandsFor : Link → List Call → Link → Type 0
-StandsFor start calls link = link ≡ after_calls start calls
+abbrev pub RepresentsCalls : LinkSide → List Call → LinkSide → Type 0
+RepresentsCalls start calls link = link ≡ after_calls start calls
 
 -- For every list of calls that it stood for before, it stands for that list with these calls.
-abbrev pub StandsOnAll : Link → List Call → Link → Type 0
-StandsOnAll before more after = (start : Link) (calls : List Call) → StandsFor start calls before → StandsFor start (calls ++ more) after
+abbrev pub StandsOnAll : LinkSide → List Call → LinkSide → Type 0
+StandsOnAll before more after = (start : LinkSide) (calls : List Call) → RepresentsCalls start calls before → RepresentsCalls start (calls ++ more) after
 
 -- The same with one call.
-abbrev pub StandsOn : Link → Call → Link → Type 0
+abbrev pub StandsOn : LinkSide → Call → LinkSide → Type 0
 StandsOn before call after = StandsOnAll before (call ∷ []) after
 
 -- the frame that a side awaits is whole with these bytes behind what it keeps
-abbrev pub makes_whole : Link → List ℕ → Bool
+abbrev pub makes_whole : LinkSide → List ℕ → Bool
 makes_whole link bytes = is_whole link.awaited (link.rest ++ bytes)
 
 -- With memory, the frame that these bytes make whole would queue output: a responder's hello, a Read Response, or what is written last.
-abbrev pub QueuesOutput : Link → List ℕ → Type 0
+abbrev pub QueuesOutput : LinkSide → List ℕ → Type 0
 QueuesOutput link bytes = output_len link.state.send_queue < output_len (after_call link (FeedOne bytes)).state.send_queue
 
 -- After one step on a piece: it is taken up to the end of the frame that it makes whole, else all of it; or memory ran out for the output of
 -- a frame that it makes whole.
-abbrev pub IsStep : Link → List ℕ → Link → Type 0
+abbrev pub IsStep : LinkSide → List ℕ → LinkSide → Type 0
 IsStep before piece after =
     (after ≡ after_call before (FeedOne piece)) ⊎ ((after ≡ after_call before OutOfMemory) × (makes_whole before piece ≡ true) × QueuesOutput before piece)
 
 -- Where memory ran out in a piece: behind its first n bytes the side hasn't ended, and the bytes that follow make the next frame whole, which
 -- would queue output. Only a frame that was begun before the piece can be begun there.
-pub record RanOutAt (before : Link) (piece : List ℕ) (n : ℕ) : Type 0 where
+pub record RanOutAt (before : LinkSide) (piece : List ℕ) (n : ℕ) : Type 0 where
   pub live : has_ended (after_call before (Feed (take n piece))).state ≡ false
   pub whole : makes_whole (after_call before (Feed (take n piece))) (drop n piece) ≡ true
   pub queues : QueuesOutput (after_call before (Feed (take n piece))) (drop n piece)

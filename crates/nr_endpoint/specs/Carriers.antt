@@ -3,22 +3,22 @@ use Rattle.std.specs.Prelude.{ℕ, ◌+◌, ◌^◌, ◌<◌, ◌≤◌, Bool, L
 use Rattle.nr_wire.specs.Constants.{OPCODE_SEND, OPCODE_WRITE, OPCODE_READ_RESPONSE, QUEUE_SEND}
 use Rattle.nr_wire.specs.Segment.{Segment}
 use Rattle.nr_wire.specs.Segment.Segment.{Tagged, Untagged}
-use Rattle.nr_endpoint.specs.declared.framing.Carrier.{Carrier}
-use Rattle.nr_endpoint.specs.declared.framing.Carrier.TheVariants as carriers
+use Rattle.nr_endpoint.specs.declared.framing.Operation.{Operation}
+use Rattle.nr_endpoint.specs.declared.framing.Operation.TheVariants as carriers
 
-abbrev pub carried : Carrier → Bool → ℕ → List ℕ → Segment
-carried (carriers.Send msn) last offset payload = Untagged last OPCODE_SEND 0 QUEUE_SEND msn offset payload
-carried (carriers.Write stag to) last offset payload = Tagged last OPCODE_WRITE stag (to + offset) payload
-carried (carriers.Response stag to) last offset payload = Tagged last OPCODE_READ_RESPONSE stag (to + offset) payload
+abbrev pub operation_segment : Operation → Bool → ℕ → List ℕ → Segment
+operation_segment (carriers.Send msn) last offset payload = Untagged last OPCODE_SEND 0 QUEUE_SEND msn offset payload
+operation_segment (carriers.Write stag to) last offset payload = Tagged last OPCODE_WRITE stag (to + offset) payload
+operation_segment (carriers.Response stag to) last offset payload = Tagged last OPCODE_READ_RESPONSE stag (to + offset) payload
 
 -- so many bytes can be carried: their offsets fit
-abbrev pub FitsCarrier : Carrier → ℕ → Type 0
+abbrev pub FitsCarrier : Operation → ℕ → Type 0
 FitsCarrier (carriers.Send msn) n = n < 2 ^ 32
 FitsCarrier (carriers.Write stag to) n = to + n ≤ 2 ^ 64
 FitsCarrier (carriers.Response stag to) n = to + n ≤ 2 ^ 64
 
 -- the segment at this offset can be carried
-abbrev pub FitsAt : Carrier → ℕ → Type 0
+abbrev pub FitsAt : Operation → ℕ → Type 0
 FitsAt (carriers.Send msn) offset = offset < 2 ^ 32
 FitsAt (carriers.Write stag to) offset = to + offset < 2 ^ 64
 FitsAt (carriers.Response stag to) offset = to + offset < 2 ^ 64

@@ -14,9 +14,9 @@ use Rattle.nr_link.specs.declared.end.End.TheVariants as ends
 use Rattle.nr_link.specs.ReceiveState.{ReceiveState}
 use Rattle.nr_link.specs.SegmentFaults.{ExpectedResponse}
 use Rattle.nr_endpoint.specs.SendQueue.{SendQueue}
-use Rattle.nr_endpoint.specs.ReceiveQueue.{Notice, ReceiveQueue}
-use Rattle.nr_endpoint.specs.ReceiveQueue.Notice.{MessageReceived, ReadDone}
-use Rattle.nr_endpoint.specs.LinkState.{LinkState, Link}
+use Rattle.nr_endpoint.specs.ReceiveQueue.{DeliveredEvent, ReceiveQueue}
+use Rattle.nr_endpoint.specs.ReceiveQueue.DeliveredEvent.{MessageReceived, ReadDone}
+use Rattle.nr_endpoint.specs.LinkState.{LinkState, LinkSide}
 use Rattle.nr_endpoint.specs.EndpointState.{EndpointState, LinkView}
 
 abbrev pub side_number : Side → ℕ
@@ -26,12 +26,12 @@ side_number Responder = 1
 abbrev pub side_of : ℕ → Side
 side_of n = if n == 0 then Initiator else Responder
 
-pub side_of-number : (side : Side) → side_of (side_number side) ≡ side
-side_of-number Initiator = refl
-side_of-number Responder = refl
+pub side_of_number : (side : Side) → side_of (side_number side) ≡ side
+side_of_number Initiator = refl
+side_of_number Responder = refl
 
 abbrev pub side_code : Coded Side
-side_code = code_by ℕ coded_ℕ side_number side_of side_of-number
+side_code = code_by ℕ coded_ℕ side_number side_of side_of_number
 
 abbrev pub awaited_number : Awaited → ℕ
 awaited_number (HelloFrom Initiator) = 0
@@ -41,13 +41,13 @@ awaited_number Fpdu = 2
 abbrev pub awaited_of : ℕ → Awaited
 awaited_of n = if n == 0 then HelloFrom Initiator else (if n == 1 then HelloFrom Responder else Fpdu)
 
-pub awaited_of-number : (awaited : Awaited) → awaited_of (awaited_number awaited) ≡ awaited
-awaited_of-number (HelloFrom Initiator) = refl
-awaited_of-number (HelloFrom Responder) = refl
-awaited_of-number Fpdu = refl
+pub awaited_of_number : (awaited : Awaited) → awaited_of (awaited_number awaited) ≡ awaited
+awaited_of_number (HelloFrom Initiator) = refl
+awaited_of_number (HelloFrom Responder) = refl
+awaited_of_number Fpdu = refl
 
 abbrev pub awaited_code : Coded Awaited
-awaited_code = code_by ℕ coded_ℕ awaited_number awaited_of awaited_of-number
+awaited_code = code_by ℕ coded_ℕ awaited_number awaited_of awaited_of_number
 
 abbrev pub denied_number : Denied → ℕ
 denied_number NoStag = 0
@@ -72,32 +72,32 @@ end_of p =
     else (if p.0 == 3 then ends.Terminated p.1.0
     else ends.Memory)))
 
-pub end_of-numbers : (end : End) → end_of (end_numbers end) ≡ end
-end_of-numbers (ends.Bad at reason) = refl
-end_of-numbers (ends.Denied stag offset NoStag) = refl
-end_of-numbers (ends.Denied stag offset Bounds) = refl
-end_of-numbers (ends.Denied stag offset Right) = refl
-end_of-numbers (ends.NoBuffer msn) = refl
-end_of-numbers (ends.Terminated reason) = refl
-end_of-numbers ends.Memory = refl
+pub end_of_numbers : (end : End) → end_of (end_numbers end) ≡ end
+end_of_numbers (ends.Bad at reason) = refl
+end_of_numbers (ends.Denied stag offset NoStag) = refl
+end_of_numbers (ends.Denied stag offset Bounds) = refl
+end_of_numbers (ends.Denied stag offset Right) = refl
+end_of_numbers (ends.NoBuffer msn) = refl
+end_of_numbers (ends.Terminated reason) = refl
+end_of_numbers ends.Memory = refl
 
 abbrev pub end_code : Coded End
-end_code = code_by (ℕ × (ℕ × (ℕ × ℕ))) (coded× coded_ℕ (coded× coded_ℕ (coded× coded_ℕ coded_ℕ))) end_numbers end_of end_of-numbers
+end_code = code_by (ℕ × (ℕ × (ℕ × ℕ))) (coded× coded_ℕ (coded× coded_ℕ (coded× coded_ℕ coded_ℕ))) end_numbers end_of end_of_numbers
 
-abbrev pub message_in : Notice → Option (ℕ × (Option ℕ × List ℕ))
+abbrev pub message_in : DeliveredEvent → Option (ℕ × (Option ℕ × List ℕ))
 message_in (MessageReceived number invalidated bytes) = Some (number, (invalidated, bytes))
 message_in ReadDone = None
 
-abbrev pub notice_of : Option (ℕ × (Option ℕ × List ℕ)) → Notice
+abbrev pub notice_of : Option (ℕ × (Option ℕ × List ℕ)) → DeliveredEvent
 notice_of (Some message) = MessageReceived message.0 message.1.0 message.1.1
 notice_of None = ReadDone
 
-pub notice_of-message : (notice : Notice) → notice_of (message_in notice) ≡ notice
-notice_of-message (MessageReceived number invalidated bytes) = refl
-notice_of-message ReadDone = refl
+pub notice_of_message : (notice : DeliveredEvent) → notice_of (message_in notice) ≡ notice
+notice_of_message (MessageReceived number invalidated bytes) = refl
+notice_of_message ReadDone = refl
 
-abbrev pub notice_code : Coded Notice
-notice_code = code_by (Option (ℕ × (Option ℕ × List ℕ))) (coded_option (coded× coded_ℕ (coded× (coded_option coded_ℕ) (coded_list coded_ℕ)))) message_in notice_of notice_of-message
+abbrev pub notice_code : Coded DeliveredEvent
+notice_code = code_by (Option (ℕ × (Option ℕ × List ℕ))) (coded_option (coded× coded_ℕ (coded× (coded_option coded_ℕ) (coded_list coded_ℕ)))) message_in notice_of notice_of_message
 
 abbrev pub received_code : Coded ReceiveState
 received_code =
@@ -106,7 +106,7 @@ received_code =
 
 abbrev pub receive_queue_code : Coded ReceiveQueue
 receive_queue_code =
-    code_by (ℕ × (ReceiveState × (ℕ × (ℕ × (List Notice × ℕ))))) (coded× coded_ℕ (coded× received_code (coded× coded_ℕ (coded× coded_ℕ (coded× (coded_list notice_code) coded_ℕ)))))
+    code_by (ℕ × (ReceiveState × (ℕ × (ℕ × (List DeliveredEvent × ℕ))))) (coded× coded_ℕ (coded× received_code (coded× coded_ℕ (coded× coded_ℕ (coded× (coded_list notice_code) coded_ℕ)))))
     (λ q. (q.receives, (q.received, (q.free, (q.lent, (q.notices, q.receive_length))))))
     (λ p. record { receives = p.0; received = p.1.0; free = p.1.1.0; lent = p.1.1.1.0; notices = p.1.1.1.1.0; receive_length = p.1.1.1.1.1 }) (λ _. refl)
 
@@ -126,14 +126,14 @@ state_code =
     (λ s. (s.side, (s.has_hello, (s.last, (s.place, (s.ended, (s.receive_queue, (s.reads, (s.memory, (s.send_queue, s.message_max))))))))))
     (λ p. record { side = p.0; has_hello = p.1.0; last = p.1.1.0; place = p.1.1.1.0; ended = p.1.1.1.1.0; receive_queue = p.1.1.1.1.1.0; reads = p.1.1.1.1.1.1.0; memory = p.1.1.1.1.1.1.1.0; send_queue = p.1.1.1.1.1.1.1.1.0; message_max = p.1.1.1.1.1.1.1.1.1 }) (λ _. refl)
 
-abbrev pub link_code : Coded Link
+abbrev pub link_code : Coded LinkSide
 link_code =
     code_by (Awaited × (List ℕ × LinkState)) (coded× awaited_code (coded× (coded_list coded_ℕ) state_code)) (λ f. (f.awaited, (f.rest, f.state)))
     (λ p. record { awaited = p.0; rest = p.1.0; state = p.1.1 }) (λ _. refl)
 
 abbrev pub endpoint_code : Coded EndpointState
 endpoint_code =
-    code_by (Link × (List ℕ × ℕ)) (coded× link_code (coded× (coded_list coded_ℕ) coded_ℕ)) (λ e. (e.link, (e.staging, e.room)))
+    code_by (LinkSide × (List ℕ × ℕ)) (coded× link_code (coded× (coded_list coded_ℕ) coded_ℕ)) (λ e. (e.link, (e.staging, e.room)))
     (λ p. record { link = p.0; staging = p.1.0; room = p.1.1 }) (λ _. refl)
 
 abbrev pub link_view_code : Coded LinkView

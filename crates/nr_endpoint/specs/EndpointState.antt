@@ -5,10 +5,10 @@ use Rattle.nr_wire.specs.declared.stream.Awaited.{Awaited}
 use Rattle.nr_wire.specs.Stream.{frame_len}
 use Rattle.nr_regions.specs.RegisteredMemory.{bytes_held}
 use Rattle.nr_endpoint.specs.ReceiveQueue.{receives_kept}
-use Rattle.nr_endpoint.specs.LinkState.{LinkState, Link}
+use Rattle.nr_endpoint.specs.LinkState.{LinkState, LinkSide}
 
 pub record EndpointState : Type 0 where
-  pub link : Link
+  pub link : LinkSide
   pub staging : List ℕ
   pub room : ℕ
 

@@ -1,6 +1,6 @@
 -- How many bytes of the peer's stream a side has gone over: those of its frames, and of the frame that isn't whole.
 use Rattle.std.specs.Prelude.{ℕ, ◌+◌, length}
-use Rattle.nr_endpoint.specs.LinkState.{Link}
+use Rattle.nr_endpoint.specs.LinkState.{LinkSide}
 
-abbrev pub fed_bytes : Link → ℕ
+abbrev pub fed_bytes : LinkSide → ℕ
 fed_bytes l = l.state.place + length l.rest

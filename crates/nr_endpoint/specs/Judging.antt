@@ -17,7 +17,7 @@ use Rattle.nr_link.specs.declared.end.End.TheVariants as ends
 use Rattle.nr_link.specs.Frames.{Frame}
 use Rattle.nr_link.specs.Output.{own_hello}
 use Rattle.nr_link.specs.ReceiveState.{ReadRequest, read_request_of}
-use Rattle.nr_link.specs.SegmentFaults.{ExpectedResponse, Readiness, segment_fault}
+use Rattle.nr_link.specs.SegmentFaults.{ExpectedResponse, Readiness, segment_reason}
 use Rattle.nr_link.specs.Ending.{access_of, end_of_fault}
 use Rattle.nr_endpoint.specs.SendQueue.{SendQueue, with_hello, with_response, with_end}
 use Rattle.nr_endpoint.specs.ReceiveQueue.{with_segment, with_read_done}
@@ -45,7 +45,7 @@ readiness s missing = record {
 }
 
 unfoldable pub segment_end : LinkState → Frame → Segment → Option End
-segment_end s f segment = end_of_fault f segment (segment_fault (readiness s (missing_access s.memory segment)) segment)
+segment_end s f segment = end_of_fault f segment (segment_reason (readiness s (missing_access s.memory segment)) segment)
 
 -- The side ends: it writes its last bytes, and nothing that it receives counts from this frame on.
 abbrev pub with_end_of : End → LinkState → LinkState
@@ -89,12 +89,12 @@ with_effect (Untagged last opcode w queue msn offset payload) s = record s {
 abbrev pub next_frame : LinkState → List ℕ → Frame
 next_frame s bytes = record { at = s.place; end = s.place + length bytes; bytes = bytes }
 
-abbrev pub behind_frame : Frame → LinkState → LinkState
-behind_frame f s = record s { last = f.at; place = f.end }
+abbrev pub after_frame : Frame → LinkState → LinkState
+after_frame f s = record s { last = f.at; place = f.end }
 
 abbrev pub with_segment_by : Frame → Segment → Option End → LinkState → LinkState
 with_segment_by f segment (Some end) s = with_end_of end s
-with_segment_by f segment None s = behind_frame f (with_effect segment s)
+with_segment_by f segment None s = after_frame f (with_effect segment s)
 
 unfoldable pub with_fpdu : Frame → Result Segment ℕ → LinkState → LinkState
 with_fpdu f (Ok segment) s = with_segment_by f segment (segment_end s f segment) s
@@ -106,7 +106,7 @@ reply_hello Initiator = []
 reply_hello Responder = own_hello Responder
 
 unfoldable pub with_peer_hello : Frame → Result Hello ℕ → LinkState → LinkState
-with_peer_hello f (Ok hello) s = behind_frame f (record s { has_hello = true; send_queue = with_hello (reply_hello s.side) s.send_queue })
+with_peer_hello f (Ok hello) s = after_frame f (record s { has_hello = true; send_queue = with_hello (reply_hello s.side) s.send_queue })
 with_peer_hello f (Err reason) s = with_end_of (ends.Bad f.at reason) s
 
 -- after the next frame

@@ -11,9 +11,9 @@ use Rattle.nr_wire.specs.Segment.{Segment, segment_of}
 use Rattle.nr_wire.specs.Segment.Segment.{Tagged, Untagged}
 use Rattle.nr_regions.specs.declared.right.Right.{Right}
 use Rattle.nr_regions.specs.RegisteredMemory.{RegisteredMemory, Access, Claim, IsHeld, denial, live_region, region_offer, held_region, bytes_in, bytes_at}
-use Rattle.nr_regions.specs.Access.{Grant, access_of, contents, TaggedSegment, grant_at, grant_denial, grant_offer}
-use Rattle.nr_regions.specs.Events.{Event, after_event, after_events, tagged_segments, StaysOpen, IsRegisteredAt, IsReleasedAt}
-use Rattle.nr_regions.specs.Events.Event.{Register as RegisterRegion, Release as ReleaseRegion, Arrive}
+use Rattle.nr_regions.specs.Access.{Grant, access_of_tagged, contents, TaggedSegment, grant_at, grant_denial, grant_offer}
+use Rattle.nr_regions.specs.Events.{MemoryEvent, after_event, after_events, tagged_segments, StaysOpen, IsRegisteredAt, IsReleasedAt}
+use Rattle.nr_regions.specs.Events.MemoryEvent.{Register as RegisterRegion, Release as ReleaseRegion, Arrive}
 use Rattle.nr_link.specs.declared.end.End.{End}
 use Rattle.nr_link.specs.declared.end.End.TheVariants as ends
 use Rattle.nr_link.specs.Reasons.{REASON_SHORT, REASON_LONG}
@@ -23,9 +23,9 @@ use Rattle.nr_link.specs.ReceiveState.{ReceiveState, message_completed, ReadRequ
 use Rattle.nr_link.specs.Ending.{tagged_access, final_output, frame_end}
 use Rattle.nr_link.specs.Output.{own_hello, refusing_hello}
 use Rattle.nr_endpoint.specs.SendQueue.{SendQueue, with_response, writable, written}
-use Rattle.nr_endpoint.specs.ReceiveQueue.{Notice, message_notices}
-use Rattle.nr_endpoint.specs.ReceiveQueue.Notice.{ReadDone}
-use Rattle.nr_endpoint.specs.LinkState.{LinkState, Link, has_ended, peer, initial_link}
+use Rattle.nr_endpoint.specs.ReceiveQueue.{DeliveredEvent, message_notices}
+use Rattle.nr_endpoint.specs.ReceiveQueue.DeliveredEvent.{ReadDone}
+use Rattle.nr_endpoint.specs.LinkState.{LinkState, LinkSide, has_ended, peer, initial_link}
 use Rattle.nr_endpoint.specs.Judging.{readiness, segment_end, fetch_access, next_frame, with_frame}
 use Rattle.nr_endpoint.specs.Calls.{Call, IsStopReason, after_call, after_calls}
 use Rattle.nr_endpoint.specs.Calls.Call.{Feed, FeedOne, NextEvent, Post, Stop, OutOfMemory, Send, WriteRemote, ReadRemote, Drain, Register, Release}
@@ -34,21 +34,21 @@ use Rattle.nr_endpoint.specs.Calls.Call.{Feed, FeedOne, NextEvent, Post, Stop, O
 
 -- To feed two pieces is to feed both joined.
 abbrev pub PiecesJoin : Type 0
-PiecesJoin = (link : Link) (x y : List ℕ) → after_calls link (Feed x ∷ Feed y ∷ []) ≡ after_call link (Feed (x ++ y))
+PiecesJoin = (link : LinkSide) (x y : List ℕ) → after_calls link (Feed x ∷ Feed y ∷ []) ≡ after_call link (Feed (x ++ y))
 
 -- One step on a piece, and then the rest of the piece, is the whole piece.
 abbrev pub StepsReach : Type 0
-StepsReach = (link : Link) (piece : List ℕ) → IsPartial link.awaited link.rest →
+StepsReach = (link : LinkSide) (piece : List ℕ) → IsPartial link.awaited link.rest →
     after_calls link (FeedOne piece ∷ Feed (drop (bytes_taken link.awaited link.rest piece) piece) ∷ []) ≡ after_call link (Feed piece)
 
 -- One step is a feed of the bytes that it takes.
 abbrev pub StepsFeed : Type 0
-StepsFeed = (link : Link) (piece : List ℕ) → has_ended link.state ≡ false → IsPartial link.awaited link.rest →
+StepsFeed = (link : LinkSide) (piece : List ℕ) → has_ended link.state ≡ false → IsPartial link.awaited link.rest →
     after_call link (FeedOne piece) ≡ after_call link (Feed (take (bytes_taken link.awaited link.rest piece) piece))
 
 -- A side that has ended takes no more bytes.
 abbrev pub EndStays : Type 0
-EndStays = (link : Link) (piece : List ℕ) → has_ended link.state ≡ true → link.rest ≡ [] →
+EndStays = (link : LinkSide) (piece : List ℕ) → has_ended link.state ≡ true → link.rest ≡ [] →
     (after_call link (Feed piece) ≡ link) × (after_call link (FeedOne piece) ≡ link)
 
 -- After any calls a side keeps less than a frame, and a side that has ended keeps no input.
@@ -63,7 +63,7 @@ EndedKeepsNothing = (side : Side) (receives first_stag : ℕ) (calls : List Call
 -- ---- What is kept of the stream
 
 -- the bytes of the peer's stream that a call hands over: a feed of one frame only those that it takes
-abbrev pub bytes_in_call : Link → Call → List ℕ
+abbrev pub bytes_in_call : LinkSide → Call → List ℕ
 bytes_in_call link (Feed piece) = piece
 bytes_in_call link (FeedOne piece) = take (bytes_taken link.awaited link.rest piece) piece
 bytes_in_call link NextEvent = []
@@ -77,11 +77,11 @@ bytes_in_call link (Drain count) = []
 bytes_in_call link (Register buf right) = []
 bytes_in_call link (Release stag) = []
 
-abbrev pub bytes_fed : Link → List Call → List ℕ
+abbrev pub bytes_fed : LinkSide → List Call → List ℕ
 bytes_fed link [] = []
 bytes_fed link (call ∷ calls) = bytes_in_call link call ++ bytes_fed (after_call link call) calls
 
-pub record KeepsInput (link : Link) (input : InputState) : Type 0 where
+pub record KeepsInput (link : LinkSide) (input : InputState) : Type 0 where
   pub awaited : link.awaited ≡ input.awaited
   pub rest : link.rest ≡ input.rest
   pub place : link.state.place ≡ input.place
@@ -103,29 +103,29 @@ PlaceIsFed = (side : Side) (receives first_stag : ℕ) (calls : List Call) →
 -- ---- What the peer does with the memory of a side
 
 -- The tagged segment of a frame that doesn't end the side arrives at the memory, with the end of its frame.
-abbrev pub segment_arrivals : Frame → Segment → Option End → List Event
+abbrev pub segment_arrivals : Frame → Segment → Option End → List MemoryEvent
 segment_arrivals f segment None = map Arrive (tagged_access f segment)
 segment_arrivals f segment (Some end) = []
 
-abbrev pub fpdu_arrivals : LinkState → Frame → Result Segment ℕ → List Event
+abbrev pub fpdu_arrivals : LinkState → Frame → Result Segment ℕ → List MemoryEvent
 fpdu_arrivals s f (Ok segment) = segment_arrivals f segment (segment_end s f segment)
 fpdu_arrivals s f (Err reason) = []
 
-abbrev pub frame_arrivals : LinkState → Awaited → List ℕ → List Event
+abbrev pub frame_arrivals : LinkState → Awaited → List ℕ → List MemoryEvent
 frame_arrivals s (HelloFrom side) bytes = []
 frame_arrivals s Fpdu bytes = fpdu_arrivals s (next_frame s bytes) (segment_of bytes)
 
 -- those of frames that come one after the other, up to the one that ends the side
-abbrev pub arrivals : List (List ℕ) → Awaited → LinkState → List Event
+abbrev pub arrivals : List (List ℕ) → Awaited → LinkState → List MemoryEvent
 arrivals [] a s = []
 arrivals (frame ∷ frames) a s = if has_ended s then [] else frame_arrivals s a frame ++ arrivals frames Fpdu (with_frame s a frame)
 
 -- the frames that a piece makes whole
-abbrev pub frames_made_whole : Link → List ℕ → List (List ℕ)
+abbrev pub frames_made_whole : LinkSide → List ℕ → List (List ℕ)
 frames_made_whole link piece = (split link.awaited (link.rest ++ piece)).frames
 
 -- What a call does to the memory. A feed of one frame takes the first that the piece makes whole.
-abbrev pub call_events : Link → Call → List Event
+abbrev pub call_events : LinkSide → Call → List MemoryEvent
 call_events link (Feed piece) = arrivals (frames_made_whole link piece) link.awaited link.state
 call_events link (FeedOne piece) = arrivals (take 1 (frames_made_whole link piece)) link.awaited link.state
 call_events link NextEvent = []
@@ -139,33 +139,33 @@ call_events link (Drain count) = []
 call_events link (Register buf right) = RegisterRegion right buf ∷ []
 call_events link (Release stag) = ReleaseRegion stag ∷ []
 
-abbrev pub memory_events : Link → List Call → List Event
+abbrev pub memory_events : LinkSide → List Call → List MemoryEvent
 memory_events link [] = []
 memory_events link (call ∷ calls) = call_events link call ++ memory_events (after_call link call) calls
 
 -- Nothing else changes the memory.
 abbrev pub MemoryFollowsEvents : Type 0
-MemoryFollowsEvents = (link : Link) (calls : List Call) → (after_calls link calls).state.memory ≡ after_events link.state.memory (memory_events link calls)
+MemoryFollowsEvents = (link : LinkSide) (calls : List Call) → (after_calls link calls).state.memory ≡ after_events link.state.memory (memory_events link calls)
 
 -- the memory denies none of the tagged segments, each as it stands when that segment arrives
-abbrev pub IsUndenied : RegisteredMemory → Event → Type 0
+abbrev pub IsUndenied : RegisteredMemory → MemoryEvent → Type 0
 IsUndenied m (RegisterRegion right buf) = Unit {0}
 IsUndenied m (ReleaseRegion stag) = Unit {0}
-IsUndenied m (Arrive s) = denial m (access_of s) ≡ None
+IsUndenied m (Arrive s) = denial m (access_of_tagged s) ≡ None
 
-abbrev pub NoneIsDenied : RegisteredMemory → List Event → Type 0
+abbrev pub NoneIsDenied : RegisteredMemory → List MemoryEvent → Type 0
 NoneIsDenied m [] = Unit {0}
 NoneIsDenied m (event ∷ events) = IsUndenied m event × NoneIsDenied (after_event m event) events
 
 abbrev pub PlacesAreAllowed : Type 0
-PlacesAreAllowed = (link : Link) (calls : List Call) → NoneIsDenied link.state.memory (memory_events link calls)
+PlacesAreAllowed = (link : LinkSide) (calls : List Call) → NoneIsDenied link.state.memory (memory_events link calls)
 
 -- They come in the order of the stream: each ends behind the frames before these calls, and not behind the last of these calls.
 abbrev pub EndsWithin : ℕ → ℕ → TaggedSegment → Type 0
 EndsWithin from until segment = (from < segment.end) × (segment.end ≤ until)
 
 abbrev pub PlacesAreInOrder : Type 0
-PlacesAreInOrder = (link : Link) (calls : List Call) →
+PlacesAreInOrder = (link : LinkSide) (calls : List Call) →
     All (EndsWithin link.state.place (after_calls link calls).state.place) (tagged_segments (memory_events link calls))
 
 -- Each ends behind the one before it, and the first behind this place.
@@ -174,41 +174,41 @@ EndsRise from [] = Unit {0}
 EndsRise from (segment ∷ segments) = (from < segment.end) × EndsRise segment.end segments
 
 abbrev pub ArrivalsRise : Type 0
-ArrivalsRise = (link : Link) (calls : List Call) → EndsRise link.state.place (tagged_segments (memory_events link calls))
+ArrivalsRise = (link : LinkSide) (calls : List Call) → EndsRise link.state.place (tagged_segments (memory_events link calls))
 
 -- ---- What the owner is told
 
 -- what a segment that doesn't end the side tells: that a read is done, by its last Read Response, or the message that it completes
-abbrev pub notices_of : ReceiveState → Segment → List Notice
+abbrev pub notices_of : ReceiveState → Segment → List DeliveredEvent
 notices_of received (Tagged last opcode stag to payload) = if (opcode == OPCODE_READ_RESPONSE) && last then ReadDone ∷ [] else []
 notices_of received (Untagged last opcode w queue msn offset payload) = message_notices (received.sends + 1) (message_completed received (Untagged last opcode w queue msn offset payload))
 
 -- a notice, with the end of the frame that made it
-pub record MadeNotice : Type 0 where
+pub record QueuedEvent : Type 0 where
   pub end : ℕ
-  pub notice : Notice
+  pub notice : DeliveredEvent
 
-abbrev pub made_at : ℕ → Notice → MadeNotice
+abbrev pub made_at : ℕ → DeliveredEvent → QueuedEvent
 made_at end notice = record { end = end; notice = notice }
 
-abbrev pub segment_notices : LinkState → Frame → Segment → Option End → List MadeNotice
+abbrev pub segment_notices : LinkState → Frame → Segment → Option End → List QueuedEvent
 segment_notices s f segment None = map (made_at f.end) (notices_of s.receive_queue.received segment)
 segment_notices s f segment (Some end) = []
 
-abbrev pub fpdu_notices : LinkState → Frame → Result Segment ℕ → List MadeNotice
+abbrev pub fpdu_notices : LinkState → Frame → Result Segment ℕ → List QueuedEvent
 fpdu_notices s f (Ok segment) = segment_notices s f segment (segment_end s f segment)
 fpdu_notices s f (Err reason) = []
 
-abbrev pub frame_notices : LinkState → Awaited → List ℕ → List MadeNotice
+abbrev pub frame_notices : LinkState → Awaited → List ℕ → List QueuedEvent
 frame_notices s (HelloFrom side) bytes = []
 frame_notices s Fpdu bytes = fpdu_notices s (next_frame s bytes) (segment_of bytes)
 
 -- those of frames that come one after the other, up to the one that ends the side
-abbrev pub notices_of_frames : List (List ℕ) → Awaited → LinkState → List MadeNotice
+abbrev pub notices_of_frames : List (List ℕ) → Awaited → LinkState → List QueuedEvent
 notices_of_frames [] a s = []
 notices_of_frames (frame ∷ frames) a s = if has_ended s then [] else frame_notices s a frame ++ notices_of_frames frames Fpdu (with_frame s a frame)
 
-abbrev pub call_notices : Link → Call → List MadeNotice
+abbrev pub call_notices : LinkSide → Call → List QueuedEvent
 call_notices link (Feed piece) = notices_of_frames (frames_made_whole link piece) link.awaited link.state
 call_notices link (FeedOne piece) = notices_of_frames (take 1 (frames_made_whole link piece)) link.awaited link.state
 call_notices link NextEvent = []
@@ -222,48 +222,48 @@ call_notices link (Drain count) = []
 call_notices link (Register buf right) = []
 call_notices link (Release stag) = []
 
-abbrev pub notices_made : Link → List Call → List MadeNotice
+abbrev pub notices_made : LinkSide → List Call → List QueuedEvent
 notices_made link [] = []
 notices_made link (call ∷ calls) = call_notices link call ++ notices_made (after_call link call) calls
 
 -- what a call tells the owner: `NextEvent` the first notice that waits
-abbrev pub call_tells : Link → Call → List Notice
-call_tells link (Feed piece) = []
-call_tells link (FeedOne piece) = []
-call_tells link NextEvent = take 1 link.state.receive_queue.notices
-call_tells link Post = []
-call_tells link (Stop reason) = []
-call_tells link OutOfMemory = []
-call_tells link (Send message) = []
-call_tells link (WriteRemote stag to bytes) = []
-call_tells link (ReadRemote sink at stag to len) = []
-call_tells link (Drain count) = []
-call_tells link (Register buf right) = []
-call_tells link (Release stag) = []
+abbrev pub call_delivers : LinkSide → Call → List DeliveredEvent
+call_delivers link (Feed piece) = []
+call_delivers link (FeedOne piece) = []
+call_delivers link NextEvent = take 1 link.state.receive_queue.notices
+call_delivers link Post = []
+call_delivers link (Stop reason) = []
+call_delivers link OutOfMemory = []
+call_delivers link (Send message) = []
+call_delivers link (WriteRemote stag to bytes) = []
+call_delivers link (ReadRemote sink at stag to len) = []
+call_delivers link (Drain count) = []
+call_delivers link (Register buf right) = []
+call_delivers link (Release stag) = []
 
-abbrev pub notices_told : Link → List Call → List Notice
-notices_told link [] = []
-notices_told link (call ∷ calls) = call_tells link call ++ notices_told (after_call link call) calls
+abbrev pub events_delivered : LinkSide → List Call → List DeliveredEvent
+events_delivered link [] = []
+events_delivered link (call ∷ calls) = call_delivers link call ++ events_delivered (after_call link call) calls
 
 -- What the owner was told and then what still waits is what waited before these calls and then what their frames made, in order. So the
 -- owner is told each once, and nothing else.
 abbrev pub EventsAreTold : Type 0
-EventsAreTold = (link : Link) (calls : List Call) →
-    notices_told link calls ++ (after_calls link calls).state.receive_queue.notices
+EventsAreTold = (link : LinkSide) (calls : List Call) →
+    events_delivered link calls ++ (after_calls link calls).state.receive_queue.notices
     ≡ link.state.receive_queue.notices ++ map (λ made. made.notice) (notices_made link calls)
 
 -- They come in the order of the stream: each is made at a frame behind that of the one before it.
-abbrev pub NoticesRise : ℕ → List MadeNotice → ℕ → Type 0
+abbrev pub NoticesRise : ℕ → List QueuedEvent → ℕ → Type 0
 NoticesRise from [] until = from ≤ until
 NoticesRise from (made ∷ others) until = (from < made.end) × NoticesRise made.end others until
 
 abbrev pub EventsAreInOrder : Type 0
-EventsAreInOrder = (link : Link) (calls : List Call) → NoticesRise link.state.place (notices_made link calls) (after_calls link calls).state.place
+EventsAreInOrder = (link : LinkSide) (calls : List Call) → NoticesRise link.state.place (notices_made link calls) (after_calls link calls).state.place
 
 -- Once a notice is made, and so when the owner is told it, all tagged segments of the frames up to its own have been placed: the memory
 -- is that of the events so far, and of the events of all calls only those are left whose tagged segments end behind that frame.
 abbrev pub EventsFollowAccesses : Type 0
-EventsFollowAccesses = (link : Link) (before after : List Call) →
+EventsFollowAccesses = (link : LinkSide) (before after : List Call) →
     let now = after_calls link before in
     (now.state.memory ≡ after_events link.state.memory (memory_events link before))
     × ((memory_events link (before ++ after) ≡ memory_events link before ++ memory_events now after)
@@ -271,12 +271,12 @@ EventsFollowAccesses = (link : Link) (before after : List Call) →
 
 -- A feed of one frame makes its notice at the place where the side stands then, so no tagged segment of a later frame has been placed.
 abbrev pub OneFrameTellsAtItsEnd : Type 0
-OneFrameTellsAtItsEnd = (link : Link) (piece : List ℕ) →
+OneFrameTellsAtItsEnd = (link : LinkSide) (piece : List ℕ) →
     All (λ made. made.end ≡ (after_call link (FeedOne piece)).state.place) (notices_made link (FeedOne piece ∷ []))
 
 -- It makes one notice at most.
 abbrev pub OneFrameTellsOnce : Type 0
-OneFrameTellsOnce = (link : Link) (piece : List ℕ) →
+OneFrameTellsOnce = (link : LinkSide) (piece : List ℕ) →
     length (after_call link (FeedOne piece)).state.receive_queue.notices ≤ length link.state.receive_queue.notices + 1
 
 -- ---- What the peer reads of it
@@ -317,7 +317,7 @@ OtherFramesQueueNothing = (s : LinkState) (frame : List ℕ) (segment : Segment)
 
 -- A region that stays open holds what it held, with the payload of each allowed tagged segment over it, the later over the earlier.
 abbrev pub OpenRegionHolds : Type 0
-OpenRegionHolds = (grants : List Grant) (link : Link) (calls : List Call) (stag : ℕ) (right : Right) (buf : List ℕ) →
+OpenRegionHolds = (grants : List Grant) (link : LinkSide) (calls : List Call) (stag : ℕ) (right : Right) (buf : List ℕ) →
     stag < link.state.memory.next → live_region link.state.memory stag ≡ Some (record { right = right; buf = buf }) →
     StaysOpen grants stag right (length buf) (memory_events link calls) →
     live_region (after_calls link calls).state.memory stag
@@ -326,7 +326,7 @@ OpenRegionHolds = (grants : List Grant) (link : Link) (calls : List Call) (stag 
 -- A buffer that is released is what was registered, with the payload of each allowed tagged segment of all calls over it, those before
 -- and after among them: they don't touch it.
 abbrev pub ReleasedBufferHolds : Type 0
-ReleasedBufferHolds = (grants : List Grant) (link : Link) (from until : ℕ) (right : Right) (buf : List ℕ) (before between after : List Call) →
+ReleasedBufferHolds = (grants : List Grant) (link : LinkSide) (from until : ℕ) (right : Right) (buf : List ℕ) (before between after : List Call) →
     let start = after_calls link before in
     let stag = start.state.memory.next in
     let opened = after_call start (Register buf right) in
@@ -338,20 +338,20 @@ ReleasedBufferHolds = (grants : List Grant) (link : Link) (from until : ℕ) (ri
 
 -- Once it is released no call gives its STag a region again.
 abbrev pub ReleasedStaysDead : Type 0
-ReleasedStaysDead = (link : Link) (stag : ℕ) (calls : List Call) → stag < link.state.memory.next →
+ReleasedStaysDead = (link : LinkSide) (stag : ℕ) (calls : List Call) → stag < link.state.memory.next →
     live_region (after_calls (after_call link (Release stag)) calls).state.memory stag ≡ None
 
 -- ---- A registration, until its release
 
 -- Whatever else is called, it lasts. `release` asks it of its caller.
 abbrev pub ClaimsStay : Type 0
-ClaimsStay = (link : Link) (claim : Claim) (calls : List Call) → IsHeld link.state.memory claim → All (λ call. call ≢ Release claim.stag) calls →
+ClaimsStay = (link : LinkSide) (claim : Claim) (calls : List Call) → IsHeld link.state.memory claim → All (λ call. call ≢ Release claim.stag) calls →
     IsHeld (after_calls link calls).state.memory claim
 
 -- ---- What a side writes before the peer's hello
 
 -- A side is stopped behind a frame of the peer. `stop` asks this of its caller.
-abbrev pub MayBeCalled : Link → Call → Type 0
+abbrev pub MayBeCalled : LinkSide → Call → Type 0
 MayBeCalled link (Feed piece) = Unit {0}
 MayBeCalled link (FeedOne piece) = Unit {0}
 MayBeCalled link NextEvent = Unit {0}
@@ -365,12 +365,12 @@ MayBeCalled link (Drain count) = Unit {0}
 MayBeCalled link (Register buf right) = Unit {0}
 MayBeCalled link (Release stag) = Unit {0}
 
-abbrev pub MayAllBeCalled : Link → List Call → Type 0
+abbrev pub MayAllBeCalled : LinkSide → List Call → Type 0
 MayAllBeCalled link [] = Unit {0}
 MayAllBeCalled link (call ∷ calls) = MayBeCalled link call × MayAllBeCalled (after_call link call) calls
 
 -- what a sink takes, from the front of what may be written
-abbrev pub bytes_drained : Link → Call → List ℕ
+abbrev pub bytes_drained : LinkSide → Call → List ℕ
 bytes_drained link (Feed piece) = []
 bytes_drained link (FeedOne piece) = []
 bytes_drained link NextEvent = []
@@ -384,7 +384,7 @@ bytes_drained link (Drain count) = take count (writable link.state.has_hello lin
 bytes_drained link (Register buf right) = []
 bytes_drained link (Release stag) = []
 
-abbrev pub bytes_written : Link → List Call → List ℕ
+abbrev pub bytes_written : LinkSide → List Call → List ℕ
 bytes_written link [] = []
 bytes_written link (call ∷ calls) = bytes_drained link call ++ bytes_written (after_call link call) calls
 
@@ -469,17 +469,17 @@ queue_drained_by (call ∷ calls) q = queue_drained_by calls (queue_drained call
 
 -- No call queues anything on a side that has ended: its last FPDU is that with which it ended.
 abbrev pub EndedQueuesNothing : Type 0
-EndedQueuesNothing = (link : Link) (calls : List Call) → has_ended link.state ≡ true →
+EndedQueuesNothing = (link : LinkSide) (calls : List Call) → has_ended link.state ≡ true →
     (after_calls link calls).state.send_queue ≡ queue_drained_by calls link.state.send_queue
 
 -- Where a side is stopped it queues what it writes last, and where memory ran out, nothing.
 abbrev pub StopQueuesLast : Type 0
-StopQueuesLast = (link : Link) (reason : ℕ) → link.state.ended ≡ None →
+StopQueuesLast = (link : LinkSide) (reason : ℕ) → link.state.ended ≡ None →
     (after_call link (Stop reason)).state.send_queue.fpdus ≡ link.state.send_queue.fpdus ++ final_output (ends.Bad link.state.last reason)
 
 abbrev pub OutOfMemoryQueuesNothing : Type 0
-OutOfMemoryQueuesNothing = (link : Link) → (after_call link OutOfMemory).state.send_queue ≡ link.state.send_queue
+OutOfMemoryQueuesNothing = (link : LinkSide) → (after_call link OutOfMemory).state.send_queue ≡ link.state.send_queue
 
 -- An End is kept, whatever is called.
 abbrev pub EndIsKept : Type 0
-EndIsKept = (link : Link) (calls : List Call) → has_ended link.state ≡ true → (after_calls link calls).state.ended ≡ link.state.ended
+EndIsKept = (link : LinkSide) (calls : List Call) → has_ended link.state ≡ true → (after_calls link calls).state.ended ≡ link.state.ended

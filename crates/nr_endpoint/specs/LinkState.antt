@@ -52,8 +52,8 @@ initial_state side receives first_stag = record {
 }
 
 -- a side between two pieces of the peer's stream: the kind of the frame that comes next, and the bytes of it so far
-abbrev pub Link : Type 0
-Link = Feeding LinkState
+abbrev pub LinkSide : Type 0
+LinkSide = Feeding LinkState
 
-unfoldable pub initial_link : Side → ℕ → ℕ → Link
+unfoldable pub initial_link : Side → ℕ → ℕ → LinkSide
 initial_link side receives first_stag = record { awaited = HelloFrom (peer side); rest = []; state = initial_state side receives first_stag }

@@ -19,7 +19,7 @@ use Rattle.nr_link.specs.ReceiveState.{ReadRequest, read_request_of}
 use Rattle.nr_link.specs.Ending.{rejection}
 use Rattle.nr_endpoint.specs.SendQueue.{next_number, writable}
 use Rattle.nr_endpoint.specs.ReceiveQueue.{receives_kept}
-use Rattle.nr_endpoint.specs.LinkState.{LinkState, Link, has_ended, initial_link}
+use Rattle.nr_endpoint.specs.LinkState.{LinkState, LinkSide, has_ended, initial_link}
 use Rattle.nr_endpoint.specs.Judging.{segment_end, fetch_access, next_frame, with_frame}
 use Rattle.nr_endpoint.specs.Calls.{Call, IsStopReason, after_call, after_calls}
 use Rattle.nr_endpoint.specs.Calls.Call.{Feed, FeedOne, NextEvent, Post, Stop, OutOfMemory, Send, WriteRemote, ReadRemote, Drain, Register, Release}
@@ -54,7 +54,7 @@ items_of_frames [] a s = []
 items_of_frames (frame ∷ frames) a s = if has_ended s then [] else frame_items s a frame ++ items_of_frames frames Fpdu (with_frame s a frame)
 
 -- What a call queues. A feed of one frame takes the first that the piece makes whole. Nothing is queued once the side has ended.
-abbrev pub call_items : Link → Call → List OutputItem
+abbrev pub call_items : LinkSide → Call → List OutputItem
 call_items link (Feed piece) = items_of_frames (frames_made_whole link piece) link.awaited link.state
 call_items link (FeedOne piece) = items_of_frames (take 1 (frames_made_whole link piece)) link.awaited link.state
 call_items link NextEvent = []
@@ -69,7 +69,7 @@ call_items link (Drain count) = []
 call_items link (Register buf right) = []
 call_items link (Release stag) = []
 
-abbrev pub items_queued : Link → List Call → List OutputItem
+abbrev pub items_queued : LinkSide → List Call → List OutputItem
 items_queued link [] = []
 items_queued link (call ∷ calls) = call_items link call ++ items_queued (after_call link call) calls
 
@@ -92,7 +92,7 @@ own_output_hello s = hello_queued s.side s.has_hello s.ended
 
 -- What a call asks of its caller or answers itself: a drain took no more than may be written, a side is stopped for a reason of the
 -- layer above, a receive is posted that was lent, and no Read Request is queued while as many as may be are open.
-abbrev pub IsAllowedCall : Link → Call → Type 0
+abbrev pub IsAllowedCall : LinkSide → Call → Type 0
 IsAllowedCall link (Feed piece) = Unit {0}
 IsAllowedCall link (FeedOne piece) = Unit {0}
 IsAllowedCall link NextEvent = Unit {0}
@@ -106,13 +106,13 @@ IsAllowedCall link (Drain count) = count ≤ length (writable link.state.has_hel
 IsAllowedCall link (Register buf right) = Unit {0}
 IsAllowedCall link (Release stag) = Unit {0}
 
-abbrev pub AreAllowedCalls : Link → List Call → Type 0
+abbrev pub AreAllowedCalls : LinkSide → List Call → Type 0
 AreAllowedCalls link [] = Unit {0}
 AreAllowedCalls link (call ∷ calls) = IsAllowedCall link call × AreAllowedCalls (after_call link call) calls
 
 -- Calls that are allowed, and then calls that are allowed after them, are together calls that are allowed.
 abbrev pub AllowedCallsJoin : Type 0
-AllowedCallsJoin = (start : Link) (calls more : List Call) → AreAllowedCalls start calls → AreAllowedCalls (after_calls start calls) more →
+AllowedCallsJoin = (start : LinkSide) (calls more : List Call) → AreAllowedCalls start calls → AreAllowedCalls (after_calls start calls) more →
     AreAllowedCalls start (calls ++ more)
 
 -- ---- The laws

@@ -8,9 +8,9 @@ use Rattle.nr_link.specs.SegmentFaults.{is_begun}
 
 -- What the owner is told: the Send with a number, from 1 on, came whole, with the STag that it invalidates, if any (no Send that is
 -- received here does so); the response to the Read Request that was open longest came whole.
-pub data Notice : Type 0 where
-  MessageReceived : (number : ℕ) → (invalidated : Option ℕ) → (bytes : List ℕ) → Notice
-  ReadDone : Notice
+pub data DeliveredEvent : Type 0 where
+  MessageReceived : (number : ℕ) → (invalidated : Option ℕ) → (bytes : List ℕ) → DeliveredEvent
+  ReadDone : DeliveredEvent
 
 -- How many receives the side was opened with, and the length of each in bytes. The untagged messages so far. How many receives are free.
 -- How many messages were taken whose receive wasn't posted again. What the owner wasn't told yet, in order. Of a Send that is longer than its
@@ -21,7 +21,7 @@ pub record ReceiveQueue : Type 0 where
   pub received : ReceiveState
   pub free : ℕ
   pub lent : ℕ
-  pub notices : List Notice
+  pub notices : List DeliveredEvent
 
 abbrev pub initial_receives : (receives receive_length : ℕ) → ReceiveQueue
 initial_receives receives receive_length = record {
@@ -38,7 +38,7 @@ abbrev pub takes_receive : ReceiveState → Segment → Bool
 takes_receive h (Tagged last opcode stag to payload) = false
 takes_receive h (Untagged last opcode w queue msn offset payload) = is_send opcode && not (is_begun h.begun)
 
-abbrev pub message_notices : ℕ → Option (List ℕ) → List Notice
+abbrev pub message_notices : ℕ → Option (List ℕ) → List DeliveredEvent
 message_notices number None = []
 message_notices number (Some message) = MessageReceived number None message ∷ []
 
@@ -57,13 +57,13 @@ abbrev pub with_read_done : ReceiveQueue → ReceiveQueue
 with_read_done q = record q { notices = q.notices ++ ReadDone ∷ [] }
 
 -- the owner was told the first notice: the receive of a message is lent until it is posted again
-abbrev pub lent_for : List Notice → ℕ
+abbrev pub lent_for : List DeliveredEvent → ℕ
 lent_for [] = 0
 lent_for (MessageReceived number invalidated bytes ∷ notices) = 1
 lent_for (ReadDone ∷ notices) = 0
 
-abbrev pub told : ReceiveQueue → ReceiveQueue
-told q = record q { lent = q.lent + lent_for q.notices; notices = drop 1 q.notices }
+abbrev pub delivered : ReceiveQueue → ReceiveQueue
+delivered q = record q { lent = q.lent + lent_for q.notices; notices = drop 1 q.notices }
 
 abbrev pub posted : ReceiveQueue → ReceiveQueue
 posted q = record q { free = q.free + 1; lent = q.lent - 1 }
@@ -73,7 +73,7 @@ abbrev pub sends_begun : Option (List ℕ) → ℕ
 sends_begun None = 0
 sends_begun (Some bytes) = 1
 
-abbrev pub messages_in : List Notice → ℕ
+abbrev pub messages_in : List DeliveredEvent → ℕ
 messages_in [] = 0
 messages_in (MessageReceived number invalidated bytes ∷ notices) = 1 + messages_in notices
 messages_in (ReadDone ∷ notices) = messages_in notices

@@ -8,16 +8,16 @@ use Rattle.nr_endpoint.specs.declared.event.Event.TheVariants as events
 use Rattle.nr_endpoint.specs.declared.reads.OpenRead.{OpenRead}
 use Rattle.nr_endpoint.specs.declared.receive_queue.BegunSend.{BegunSend}
 use Rattle.nr_endpoint.specs.declared.receive_queue.ReceivedMessage.{ReceivedMessage}
-use Rattle.nr_endpoint.specs.ReceiveQueue.{Notice}
-use Rattle.nr_endpoint.specs.ReceiveQueue.Notice.{MessageReceived, ReadDone}
+use Rattle.nr_endpoint.specs.ReceiveQueue.{DeliveredEvent}
+use Rattle.nr_endpoint.specs.ReceiveQueue.DeliveredEvent.{MessageReceived, ReadDone}
 
 -- an event is told with the receive buffer, of which the message is the first bytes
-abbrev pub notice : Event → Notice
+abbrev pub notice : Event → DeliveredEvent
 notice (events.Message number invalidated buf len) = MessageReceived number invalidated (take len buf)
 notice events.ReadDone = ReadDone
 
 -- each message stands behind the reads that were done before it, and behind the last message stand those that were done since
-abbrev pub notices : List ReceivedMessage → ℕ → List Notice
+abbrev pub notices : List ReceivedMessage → ℕ → List DeliveredEvent
 notices [] reads_done = replicate reads_done ReadDone
 notices (m ∷ messages) reads_done = replicate m.reads_done ReadDone ++ MessageReceived m.number None (take m.len m.buf) ∷ notices messages reads_done
 

@@ -5,25 +5,25 @@ ghost use Rattle.nr_wire.specs.Segment.{IsSupported, payload_in};
 ghost use Rattle.nr_wire.specs.Segment.Segment.{Tagged, Untagged};
 ghost use Rattle.nr_wire.specs.Constants.{OPCODE_SEND};
 ghost use Rattle.nr_wire.specs.View.{segment as plain};
-ghost use Rattle.nr_endpoint.specs.Judging.{segment_end, with_effect, next_frame, behind_frame};
+ghost use Rattle.nr_endpoint.specs.Judging.{segment_end, with_effect, next_frame, after_frame};
 ghost use Rattle.nr_endpoint.specs.SegmentEnds.{tagged_end, RequestIsFine, SendIsFine};
 ghost use Rattle.nr_endpoint.specs.SendQueue.{output_len};
 
 use crate::faults::{kind_of, read_request};
-use crate::link::Link;
+use crate::link::LinkSide;
 use crate::reads::advance;
 use nr_wire::Segment;
 use nr_wire::constants::{OPCODE_READ_REQUEST, OPCODE_READ_RESPONSE};
 use nr_xdr::Memory;
 
-impl Link {
+impl LinkSide {
     /// The effect of a frame's segment that doesn't end the side. `Err` only for a Read Request, whose response wants memory; it changes nothing.
     pub fn take(&mut self, segment: &Segment, frame: &[u8]) -> Result<(), Memory>
         requires supported { IsSupported (plain segment.now) }
         requires size { length (payload_in (plain segment.now)) + 1 ≤ length frame.now }
         requires within { self.old.state.place + length frame.now ≤ 2 ^ 62 }
         requires lives { segment_end self.old.state (next_frame self.old.state frame.now) (plain segment.now) ≡ None }
-        ensures ok { OnOk result (self.new.state ≡ behind_frame (next_frame self.old.state frame.now) (with_effect (plain segment.now) self.old.state)) }
+        ensures ok { OnOk result (self.new.state ≡ after_frame (next_frame self.old.state frame.now) (with_effect (plain segment.now) self.old.state)) }
         ensures err { OnErr result (self.new.state ≡ self.old.state) }
         ensures queued { OnErr result (output_len self.old.state.send_queue < output_len (with_effect (plain segment.now) self.old.state).send_queue) }
         ensures room { self.new.room ≡ self.old.room }
@@ -36,7 +36,7 @@ impl Link {
                 to,
                 payload,
             } => {
-                self.take_tagged(last, opcode, stag, to, payload, frame);
+                self.apply_tagged(last, opcode, stag, to, payload, frame);
                 Ok(())
             }
             Segment::Untagged {
@@ -46,9 +46,9 @@ impl Link {
                 ..
             } => {
                 if opcode == OPCODE_READ_REQUEST {
-                    return self.take_request(payload, frame);
+                    return self.apply_request(payload, frame);
                 }
-                self.take_send(last, payload, frame);
+                self.apply_send(last, payload, frame);
                 Ok(())
             }
         }
@@ -57,7 +57,7 @@ impl Link {
     /// The payload of a tagged segment goes into its region. The last segment of a Read Response ends the Read Request that was open
     /// longest. Takes no memory.
     #[tactic(auto, unfolding(crate::specs::Judging::with_effect, crate::specs::SegmentEnds::tagged_end))]
-    fn take_tagged(
+    fn apply_tagged(
         &mut self,
         last: bool,
         opcode: u8,
@@ -69,7 +69,7 @@ impl Link {
         requires lives { tagged_end self.old.state last opcode stag to payload.now ≡ None }
         requires some { 0 < length frame.now }
         requires within { self.old.state.place + length frame.now ≤ 2 ^ 62 }
-        ensures state { self.new.state ≡ behind_frame (next_frame self.old.state frame.now) (with_effect (Tagged last opcode stag to payload.now) self.old.state) }
+        ensures state { self.new.state ≡ after_frame (next_frame self.old.state frame.now) (with_effect (Tagged last opcode stag to payload.now) self.old.state) }
         ensures room { self.new.room ≡ self.old.room }
     {
         if opcode == OPCODE_READ_RESPONSE {
@@ -87,11 +87,11 @@ impl Link {
     }
 
     /// A Read Request is answered with the bytes as they stand (RFC 5040 section 5.2). An `Err` changes nothing.
-    fn take_request(&mut self, payload: &[u8], frame: &[u8]) -> Result<(), Memory>
+    fn apply_request(&mut self, payload: &[u8], frame: &[u8]) -> Result<(), Memory>
         requires fine { RequestIsFine self.old.state payload.now }
         requires some { 0 < length frame.now }
         requires within { self.old.state.place + length frame.now ≤ 2 ^ 62 }
-        ensures ok { OnOk result (self.new.state ≡ behind_frame (next_frame self.old.state frame.now) (with_effect (Untagged true OPCODE_READ_REQUEST 0 0 0 0 payload.now) self.old.state)) }
+        ensures ok { OnOk result (self.new.state ≡ after_frame (next_frame self.old.state frame.now) (with_effect (Untagged true OPCODE_READ_REQUEST 0 0 0 0 payload.now) self.old.state)) }
         ensures err { OnErr result (self.new.state ≡ self.old.state) }
         ensures room { self.new.room ≡ self.old.room }
     {
@@ -112,11 +112,11 @@ impl Link {
     }
 
     /// One more segment of a Send. Takes no memory.
-    fn take_send(&mut self, last: bool, payload: &[u8], frame: &[u8])
+    fn apply_send(&mut self, last: bool, payload: &[u8], frame: &[u8])
         requires fine { SendIsFine self.old.state last payload.now }
         requires size { length payload.now + 1 ≤ length frame.now }
         requires within { self.old.state.place + length frame.now ≤ 2 ^ 62 }
-        ensures state { self.new.state ≡ behind_frame (next_frame self.old.state frame.now) (with_effect (Untagged last OPCODE_SEND 0 0 0 0 payload.now) self.old.state) }
+        ensures state { self.new.state ≡ after_frame (next_frame self.old.state frame.now) (with_effect (Untagged last OPCODE_SEND 0 0 0 0 payload.now) self.old.state) }
         ensures room { self.new.room ≡ self.old.room }
     {
         self.receive_queue.receive(last, payload);

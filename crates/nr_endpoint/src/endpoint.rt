@@ -6,13 +6,13 @@ ghost use Rattle.nr_wire.specs.Feeding.{bytes_taken};
 ghost use Rattle.nr_wire.specs.Stream.{bytes_needed, IsPartial};
 ghost use Rattle.nr_link.specs.declared.end.End.TheVariants as ends;
 ghost use Rattle.nr_endpoint.specs.LinkState.{initial_link, peer, has_ended};
-ghost use Rattle.nr_endpoint.specs.Calls.{after_call, after_calls, StandsFor, StandsOn, StandsOnAll, IsStep, RanOutAt, QueuesOutput, makes_whole};
+ghost use Rattle.nr_endpoint.specs.Calls.{after_call, after_calls, RepresentsCalls, StandsOn, StandsOnAll, IsStep, RanOutAt, QueuesOutput, makes_whole};
 ghost use Rattle.nr_endpoint.specs.Calls.Call.{Feed, FeedOne, OutOfMemory};
 ghost use Rattle.nr_endpoint.specs.EndpointState.{KeepsStaging};
 ghost use Rattle.nr_endpoint.specs.ReceiveQueue.{receives_kept};
 ghost use Rattle.nr_link.specs.Limits.{open_reads_max};
 
-use crate::link::Link;
+use crate::link::LinkSide;
 use crate::staging::{stage_frame, whole_in_piece};
 use nr_link::End;
 use nr_wire::constants::FPDU_MAX;
@@ -24,7 +24,7 @@ use std::marker::Model;
 /// The endpoint of a link.
 #[derive(Drop)]
 pub struct Endpoint {
-    pub(crate) link: Link,
+    pub(crate) link: LinkSide,
     pub(crate) awaited: Awaited,
     pub(crate) staging: Vec<u8>,
     pub(crate) staged: usize,
@@ -67,10 +67,10 @@ impl Endpoint {
         requires { 0 < first_stag }
         ensures state { IfOk result (λ e. e.link ≡ initial_link side receives first_stag) }
         ensures staging { IfOk result (λ e. length e.staging ≡ FPDU_MAX) }
-        ensures stands { IfOk result (λ e. StandsFor (initial_link side receives first_stag) [] e.link) }
+        ensures stands { IfOk result (λ e. RepresentsCalls (initial_link side receives first_stag) [] e.link) }
     {
         Ok(Endpoint {
-            link: Link::new(alloc, side, receives, first_stag)?,
+            link: LinkSide::new(alloc, side, receives, first_stag)?,
             awaited: Awaited::Hello(peer(side)),
             staging: vec![in alloc; 0u8; FPDU_MAX]?,
             staged: 0,
@@ -187,7 +187,7 @@ impl Endpoint {
     {
         if let Some(len) = whole_in_piece(self.staged, self.awaited, piece) {
             let (frame, _) = piece.split_at(len);
-            if self.link.judge(self.awaited, frame) {
+            if self.link.receive_frame(self.awaited, frame) {
                 self.awaited = Awaited::Fpdu;
             }
             return len;
@@ -200,7 +200,7 @@ impl Endpoint {
             return taken;
         }
         self.staged = 0;
-        if self.link.judge(self.awaited, frame) {
+        if self.link.receive_frame(self.awaited, frame) {
             self.awaited = Awaited::Fpdu;
         }
         taken

@@ -13,7 +13,7 @@ ghost use Rattle.nr_endpoint.specs.Judging.{segment_end};
 ghost use Rattle.nr_endpoint.specs.Views.{read_request_view};
 
 use crate::constants::{OPEN_READS_MAX, READ_REQUEST_LEN, SEND_MIN, TERMINATE_MIN};
-use crate::link::Link;
+use crate::link::LinkSide;
 use crate::reads::is_expected;
 use nr_link::End;
 use nr_link::constants::{
@@ -74,7 +74,7 @@ fn is_bad_request(last: bool, payload: &[u8]) -> bool
     u128::from(request.sink_to) + u128::from(request.size) > 1 << 64
 }
 
-impl Link {
+impl LinkSide {
     /// Why a segment ends the side, if it does: the first fault that applies.
     pub fn fault(&self, segment: &Segment) -> Option<End>
         requires supported { IsSupported (plain segment.now) }

@@ -4,7 +4,7 @@ ghost use Rattle.std.specs.Prelude.{◌≡◌, ℕ, ◌+◌, ◌*◌, ◌^◌, �
 ghost use Rattle.nr_wire.specs.Segment.{IsWritable, encoding};
 ghost use Rattle.nr_wire.specs.View.{segment as plain};
 ghost use Rattle.nr_link.specs.Output.{cut, segment_count, segment_payload, terminate_message};
-ghost use Rattle.nr_endpoint.specs.Carriers.{carried, FitsAt, FitsCarrier};
+ghost use Rattle.nr_endpoint.specs.Carriers.{operation_segment, FitsAt, FitsCarrier};
 ghost use Rattle.nr_endpoint.specs.Offering.{FitsRegion, writes_output};
 
 use crate::constants::SEGMENT_MAX;
@@ -19,7 +19,7 @@ use std::alloc::Global;
 /// What carries some bytes that are cut into segments: the Send with a number, or an RDMA Write or Read Response from byte `to` of a
 /// region on.
 #[derive(Clone, Copy)]
-pub enum Carrier {
+pub enum Operation {
     Send { msn: u32 },
     Write { stag: u32, to: u64 },
     Response { stag: u32, to: u64 },
@@ -37,12 +37,12 @@ pub struct RemoteWrite<'a> {
 }
 
 /// The segment with these bytes, which lie at `offset` of all.
-fn segment(carrier: Carrier, last: bool, offset: usize, payload: &[u8]) -> Segment<'_>
+fn segment(carrier: Operation, last: bool, offset: usize, payload: &[u8]) -> Segment<'_>
     requires { FitsAt carrier offset }
-    ensures { plain result ≡ carried carrier last offset payload.now }
+    ensures { plain result ≡ operation_segment carrier last offset payload.now }
 {
     match carrier {
-        Carrier::Send { msn } => Segment::Untagged {
+        Operation::Send { msn } => Segment::Untagged {
             last,
             opcode: OPCODE_SEND,
             word: 0,
@@ -51,14 +51,14 @@ fn segment(carrier: Carrier, last: bool, offset: usize, payload: &[u8]) -> Segme
             offset: offset as u32,
             payload,
         },
-        Carrier::Write { stag, to } => Segment::Tagged {
+        Operation::Write { stag, to } => Segment::Tagged {
             last,
             opcode: OPCODE_WRITE,
             stag,
             to: to + offset as u64,
             payload,
         },
-        Carrier::Response { stag, to } => Segment::Tagged {
+        Operation::Response { stag, to } => Segment::Tagged {
             last,
             opcode: OPCODE_READ_RESPONSE,
             stag,
@@ -100,11 +100,11 @@ fn segment_payload(bytes: &[u8], i: usize) -> &[u8]
 fn push_segments(
     out: &mut BytesMut,
     alloc: Global,
-    carrier: Carrier,
+    carrier: Operation,
     bytes: &[u8],
 ) -> Result<(), Memory>
     requires { FitsCarrier carrier (length bytes.now) }
-    ensures ok { OnOk result (out.new.items ≡ out.old.items ++ cut (carried carrier) bytes.now) }
+    ensures ok { OnOk result (out.new.items ≡ out.old.items ++ cut (operation_segment carrier) bytes.now) }
     ensures err { OnErr result (take (length out.old.items) out.new.items ≡ out.old.items) }
 {
     let count = segment_count(bytes);
@@ -123,11 +123,11 @@ fn push_segments(
 pub fn push_cut(
     out: &mut BytesMut,
     alloc: Global,
-    carrier: Carrier,
+    carrier: Operation,
     bytes: &[u8],
 ) -> Result<(), Memory>
     requires { FitsCarrier carrier (length bytes.now) }
-    ensures ok { OnOk result (out.new.items ≡ out.old.items ++ cut (carried carrier) bytes.now) }
+    ensures ok { OnOk result (out.new.items ≡ out.old.items ++ cut (operation_segment carrier) bytes.now) }
     ensures err { OnErr result (out.new.items ≡ out.old.items) }
 {
     let len = out.len();
@@ -153,7 +153,7 @@ fn push_each_write(
         push_cut(
             out,
             alloc,
-            Carrier::Write {
+            Operation::Write {
                 stag: write.stag,
                 to: write.to,
             },

@@ -50,7 +50,7 @@ pub fn accesses_follow_bytes()
 /// The owner is told each message and each read that a frame completes, once and in the order of the stream. When it is told, all tagged
 /// segments of the frames up to that one have been placed, and the later ones end behind it (RFC 5040 section 5.5).
 pub fn events_follow_accesses()
-    ensures told { EventsAreTold }
+    ensures delivered { EventsAreTold }
     ensures order { EventsAreInOrder }
     ensures follow { EventsFollowAccesses }
     ensures one_frame { OneFrameTellsAtItsEnd }

@@ -25,7 +25,7 @@ use std::marker::Model;
 
 /// One side of a link.
 #[derive(Drop)]
-pub struct Link {
+pub struct LinkSide {
     pub(crate) side: Side,
     pub(crate) has_hello: bool,
     pub(crate) last: u64,
@@ -38,7 +38,7 @@ pub struct Link {
     pub(crate) message_max: u64,
 }
 
-impl Model for Link {
+impl Model for LinkSide {
     ghost use Rattle.std.specs.Prelude.{map};
     ghost use Rattle.nr_endpoint.specs.EndpointState.{LinkView};
     ghost use Rattle.nr_endpoint.specs.Codes.{link_view_code};
@@ -55,15 +55,20 @@ impl Model for Link {
     ghost invariant = { λ l. IsCounted l.has_hello l.receive_queue l.place l.message_max };
 }
 
-impl Link {
+impl LinkSide {
     /// A side as the link is opened. The first region gets this STag, which isn't 0.
-    pub fn new(alloc: Global, side: Side, receives: u32, first_stag: u32) -> Result<Link, Memory>
+    pub fn new(
+        alloc: Global,
+        side: Side,
+        receives: u32,
+        first_stag: u32,
+    ) -> Result<LinkSide, Memory>
         requires { 0 < first_stag }
         ensures { IfOk result (λ l. l.state ≡ initial_state side receives first_stag) }
     {
         let send_queue = SendQueue::new(alloc, side)?;
         let receive_queue = ReceiveQueue::new(alloc, receives, SEND_MAX)?;
-        Ok(Link {
+        Ok(LinkSide {
             side,
             has_hello: false,
             last: 0,
@@ -79,7 +84,7 @@ impl Link {
 
     /// The next frame, which is whole, ends the side or has its effect. False where memory ran out for what it queues: the side has then ended
     /// as it was before the frame. A frame that queues nothing wants no memory.
-    pub fn judge(&mut self, awaited: Awaited, frame: &[u8]) -> bool
+    pub fn receive_frame(&mut self, awaited: Awaited, frame: &[u8]) -> bool
         requires frame { IsFrame awaited frame.now }
         requires within { self.old.state.place + length frame.now ≤ 2 ^ 62 }
         ensures state { self.new.state ≡ (if result then with_frame self.old.state awaited frame.now else record self.old.state { ended = Some ends.Memory }) }
@@ -87,7 +92,7 @@ impl Link {
         ensures room { self.new.room ≡ self.old.room }
     {
         let judged = match awaited {
-            Awaited::Hello(side) => self.greet(side, frame),
+            Awaited::Hello(side) => self.receive_hello(side, frame),
             Awaited::Fpdu => self.receive_fpdu(frame),
         };
         if judged.is_err() {
@@ -126,7 +131,7 @@ impl Link {
 
     /// The peer's hello (RFC 5044 section 7.1).
     #[tactic(auto, unfolding(crate::specs::Judging::with_peer_hello))]
-    fn greet(&mut self, side: Side, frame: &[u8]) -> Result<(), Memory>
+    fn receive_hello(&mut self, side: Side, frame: &[u8]) -> Result<(), Memory>
         requires frame { IsFrame (Awaited.Hello side) frame.now }
         requires within { self.old.state.place + length frame.now ≤ 2 ^ 62 }
         ensures ok { OnOk result (self.new.state ≡ with_peer_hello (next_frame self.old.state frame.now) (hello_of side frame.now) self.old.state) }

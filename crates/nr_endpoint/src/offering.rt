@@ -8,7 +8,7 @@ ghost use Rattle.nr_endpoint.specs.Offering.{one_of, offered_count, offer_calls,
 
 use crate::endpoint::Endpoint;
 use crate::framing::RemoteWrite;
-use crate::link::Link;
+use crate::link::LinkSide;
 use crate::send_queue::SendQueue;
 use nr_regions::{Regions, Registration, Right};
 use nr_xdr::{Memory, Octets};
@@ -81,7 +81,7 @@ fn send_unless(ended: bool, queue: &mut SendQueue, message: &[u8]) -> Result<(),
     queue.send(message)
 }
 
-impl Link {
+impl LinkSide {
     /// Queues a Send and registers the buffers that it offers. `Err` gives the buffers back, and changes nothing.
     pub fn offer(&mut self, message: &[u8], offered: Offered) -> Result<Claims, Offered>
         requires size { length message.now < 2 ^ 32 }

@@ -9,7 +9,7 @@ ghost use Rattle.nr_link.specs.Limits.{send_max, open_reads_max};
 ghost use Rattle.nr_link.specs.declared.end.End.TheVariants as ends;
 ghost use Rattle.nr_endpoint.specs.declared.fault.ReadRefused.TheVariants as refusals;
 ghost use Rattle.nr_endpoint.specs.SendQueue.{with_send, with_write, with_request, writable, written};
-ghost use Rattle.nr_endpoint.specs.ReceiveQueue.{told, posted, receives_kept};
+ghost use Rattle.nr_endpoint.specs.ReceiveQueue.{delivered, posted, receives_kept};
 ghost use Rattle.nr_endpoint.specs.EndpointState.{bytes_of};
 ghost use Rattle.nr_endpoint.specs.Calls.{unless_ended};
 ghost use Rattle.nr_endpoint.specs.Receives.{HasBuffer};
@@ -18,14 +18,14 @@ ghost use Rattle.nr_endpoint.specs.Views.{notice};
 use crate::constants::OPEN_READS_MAX;
 use crate::event::Event;
 use crate::fault::ReadRefused;
-use crate::link::Link;
+use crate::link::LinkSide;
 use crate::reads::OpenRead;
 use nr_link::End;
 use nr_outside::{Failed, Sink};
 use nr_regions::{Registration, Right, Why};
 use nr_xdr::{Memory, Octets};
 
-impl Link {
+impl LinkSide {
     pub fn end(&self) -> Option<End>
         ensures { result ≡ self.now.state.ended }
     {
@@ -57,7 +57,7 @@ impl Link {
         ensures event { self.old.state.receive_queue.notices ≡ option_to_list (option_map notice result) ++ self.new.state.receive_queue.notices }
         ensures waits { is_some result ≡ nat_lt 0 (length self.old.state.receive_queue.notices) }
         ensures buffer { IfSome result (HasBuffer send_max) }
-        ensures after { self.new.state ≡ (if is_some result then record self.old.state { receive_queue = told self.old.state.receive_queue } else self.old.state) }
+        ensures after { self.new.state ≡ (if is_some result then record self.old.state { receive_queue = delivered self.old.state.receive_queue } else self.old.state) }
         ensures room { self.new.room ≡ self.old.room }
     {
         self.receive_queue.next_event()

@@ -7,7 +7,7 @@ ghost use Rattle.nr_wire.specs.Constants.{OPCODE_SEND, OPCODE_READ_REQUEST};
 ghost use Rattle.nr_link.specs.KeptSends.{kept_within};
 ghost use Rattle.nr_link.specs.ReceiveState.{begun_bytes};
 ghost use Rattle.nr_link.specs.SegmentFaults.{is_begun};
-ghost use Rattle.nr_endpoint.specs.ReceiveQueue.{initial_receives, with_segment, with_read_done, told, posted, receives_kept};
+ghost use Rattle.nr_endpoint.specs.ReceiveQueue.{initial_receives, with_segment, with_read_done, delivered, posted, receives_kept};
 ghost use Rattle.nr_endpoint.specs.Views.{notice, reads_first, without_first_read, begun_send, begun as begun_bytes_of};
 ghost use Rattle.nr_endpoint.specs.Receives.{IsReceive, HasBuffer};
 
@@ -310,7 +310,7 @@ impl ReceiveQueue {
     pub fn next_event(&mut self) -> Option<Event>
         ensures waits { is_some result ≡ nat_lt 0 (length self.old.notices) }
         ensures event { self.old.notices ≡ option_to_list (option_map notice result) ++ self.new.notices }
-        ensures after { self.new ≡ (if is_some result then told self.old else self.old) }
+        ensures after { self.new ≡ (if is_some result then delivered self.old else self.old) }
         ensures buffer { IfSome result (HasBuffer self.old.receive_length) }
     {
         if take_first_read(&mut self.messages) {

@@ -12,7 +12,7 @@ ghost use Rattle.nr_outside.specs.Faults.{Rises};
 ghost use Rattle.nr_endpoint.specs.Offering.{FitsRegion, writes_output};
 ghost use Rattle.nr_endpoint.specs.SendQueue.{initial_queue, output_len, with_hello, with_fpdus, with_send, with_write, with_request, with_response, with_end, terminate_by, writable, written, ends_left, ends_passed};
 
-use crate::framing::{Carrier, RemoteWrite, push_cut, push_segment, push_terminate, push_writes};
+use crate::framing::{Operation, RemoteWrite, push_cut, push_segment, push_terminate, push_writes};
 use bytes::BytesMut;
 use nr_link::End;
 use nr_link::constants::{WORD_BOUNDS, WORD_NO_BUFFER, WORD_NO_STAG, WORD_RIGHT};
@@ -133,7 +133,7 @@ fn is_rejection(side: Side, end: End) -> bool
 }
 
 /// Drops the first end where `n` more written bytes reach it, and answers 1. Else it goes to the back, counted from there on.
-fn pass_first(ends: &mut VecDeque<usize>, n: usize) -> usize
+fn retire_first(ends: &mut VecDeque<usize>, n: usize) -> usize
     ensures left { ends.new.items ≡ drop 1 ends.old.items ++ ends_left n (take 1 ends.old.items) }
     ensures passed { result ≡ ends_passed n (take 1 ends.old.items) }
 {
@@ -157,7 +157,7 @@ fn pass_ends(ends: &mut VecDeque<usize>, n: usize) -> usize
 {
     let mut passed = 0;
     for _i in 0..ends.len() {
-        passed += pass_first(ends, n);
+        passed += retire_first(ends, n);
     }
     passed
 }
@@ -188,7 +188,7 @@ fn write_out<K: Sink>(out: &mut BytesMut, sink: &mut K) -> (usize, Result<(), Fa
 
 /// Writes a hello to a sink, and behind it FPDUs where these may be written, and drops from the front what the sink took. It
 /// answers how many bytes of the FPDUs those were.
-fn write_both<K: Sink>(
+fn write_queue<K: Sink>(
     hello: &mut BytesMut,
     fpdus: &mut BytesMut,
     has_hello: bool,
@@ -254,7 +254,12 @@ impl SendQueue {
     {
         let msn = self.last_send.wrapping_add(1);
         self.send_ends.reserve(1)?;
-        push_cut(&mut self.fpdus, self.alloc, Carrier::Send { msn }, message)?;
+        push_cut(
+            &mut self.fpdus,
+            self.alloc,
+            Operation::Send { msn },
+            message,
+        )?;
         self.send_ends.push_back_reserved(self.fpdus.len());
         self.last_send = msn;
         Ok(())
@@ -270,7 +275,7 @@ impl SendQueue {
         push_cut(
             &mut self.fpdus,
             self.alloc,
-            Carrier::Write { stag, to },
+            Operation::Write { stag, to },
             bytes,
         )
     }
@@ -331,7 +336,7 @@ impl SendQueue {
         push_cut(
             &mut self.fpdus,
             self.alloc,
-            Carrier::Response { stag, to },
+            Operation::Response { stag, to },
             bytes,
         )?;
         self.response_ends.push_back_reserved(self.fpdus.len());
@@ -377,7 +382,7 @@ impl SendQueue {
 
     /// Drops the ends of Sends and Read Responses that the first `n` bytes of the FPDUs reach, which were written. The Sends are
     /// counted.
-    fn drop_passed_ends(&mut self, n: usize)
+    fn retire_written(&mut self, n: usize)
         ensures { self.new ≡ record self.old {
           send_ends = ends_left n self.old.send_ends;
           response_ends = ends_left n self.old.response_ends;
@@ -399,8 +404,8 @@ impl SendQueue {
             (λ _. K.faults sink.new ≡ K.faults sink.old) (λ _. Rises (K.faults sink.old) (K.faults sink.new)) }
         ensures never_falls { K.faults sink.old ≤ K.faults sink.new }
     {
-        let (count, done) = write_both(&mut self.hello, &mut self.fpdus, has_hello, sink);
-        self.drop_passed_ends(count);
+        let (count, done) = write_queue(&mut self.hello, &mut self.fpdus, has_hello, sink);
+        self.retire_written(count);
         done
     }
 }

@@ -13,7 +13,7 @@ use Rattle.nr_xdr.specs.Items.{ReadsAll, AllFit, encodings, TakesAll}
 use Rattle.nr_xdr.specs.Reading.{Cursor, Takes, cursor_past, unsigned_at}
 use Rattle.nr_xdr.proofs.Cursors.{cursor_is, guard_ok, ok_parts}
 use Rattle.nr_xdr.proofs.Items.{unsigned_takes, unsigned_again}
-use Rattle.nr_xdr.proofs.WordBytes.{IsBytes-drop}
+use Rattle.nr_xdr.proofs.WordBytes.{IsBytes_drop}
 use Rattle.nr_xdr.proofs.Chains.{standing, each_takes, each_between, encodings_read}
 use Rattle.nr_xdr.proofs.SequencingSteps.{bind_ok, chosen, done, ok_is}
 use Rattle.nr_header.specs.Constants.{VERSION, FIXED_LEN, MSG, NOMSG, ERROR, ERR_VERS, ERR_CHUNK, READ_SEGMENTS_MAX, WRITE_CHUNKS_MAX, CHUNK_SEGMENTS_MAX, WRITE_SEGMENTS_MAX, PAYLOAD_MAX}
@@ -53,7 +53,7 @@ module _ (bytes : List ℕ) (k : ℕ) where
       let long : 4 ≤ length rest = omega (arith, length-drop k bytes) in
       let there : unsigned_at c ≡ Ok (word_of (take 4 rest), cursor_past 4 c) = rw (le-ltb (length rest) 4 long) refl in
       subst (λ (d : Cursor). Takes c d (Unsigned (word_at k bytes))) (cursor_is (cursor_past 4 c) (standing (k + 4) (drop (k + 4) bytes)) refl (drop-drop 4 k bytes))
-      (unsigned_takes c (word_of (take 4 rest)) (cursor_past 4 c) (IsBytes-drop k bytes fits) there)
+      (unsigned_takes c (word_of (take 4 rest)) (cursor_past 4 c) (IsBytes_drop k bytes fits) there)
 
 -- the fixed words of a message, and what was taken behind them
 record Fixed (bytes : List ℕ) (xid version credit kind : ℕ) (more : List Item) (after : Cursor) : Type 0 where
@@ -270,7 +270,7 @@ msg_take bytes body f e =
     let lists = bind_ok (lists_at false (standing 16 (drop 16 bytes))) _ body e in
     let l = lists.0.0 in
     let after = lists.0.1 in
-    let t = lists_take false (standing 16 (drop 16 bytes)) lists.0 (IsBytes-drop 16 bytes f.1) lists.1 in
+    let t = lists_take false (standing 16 (drop 16 bytes)) lists.0 (IsBytes_drop 16 bytes f.1) lists.1 in
     elim (chosen (sums_pass l (length after.rest)) (Err after.place) (Ok (Msg l after.place)) (Ok body) lists.2) [
       | inl above ↦ absurd (let wrong : Err after.place ≡ done body = above.1 in cc)
       | inr within ↦
@@ -292,7 +292,7 @@ nomsg_take bytes body f e =
     let lists = bind_ok (lists_at true (standing 16 (drop 16 bytes))) _ body e in
     let l = lists.0.0 in
     let after = lists.0.1 in
-    let t = lists_take true (standing 16 (drop 16 bytes)) lists.0 (IsBytes-drop 16 bytes f.1) lists.1 in
+    let t = lists_take true (standing 16 (drop 16 bytes)) lists.0 (IsBytes_drop 16 bytes f.1) lists.1 in
     elim (chosen (sums_pass l 0 || ltb 0 (length after.rest)) (Err after.place) (Ok (Nomsg l)) (Ok body) lists.2) [
       | inl above ↦ absurd (let wrong : Err after.place ≡ done body = above.1 in cc)
       | inr within ↦

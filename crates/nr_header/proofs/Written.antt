@@ -9,9 +9,9 @@ use Rattle.nr_header.specs.declared.header.ReadSegment.{ReadSegment}
 use Rattle.nr_header.specs.declared.header.ChunkLists.{ChunkLists}
 use Rattle.nr_header.specs.Header.{segment_items, entry_items, read_items, segments_items, chunk_items, write_items, reply_items, lists_items}
 
-encodings-append : (is js : List Item) → encodings (is ++ js) ≡ encodings is ++ encodings js
-encodings-append [] js = refl
-encodings-append (item ∷ is) js = ap (λ (b : List ℕ). encoding item ++ b) (encodings-append is js) ∙ sym (append_assoc (encoding item) (encodings is) (encodings js))
+encodings_append : (is js : List Item) → encodings (is ++ js) ≡ encodings is ++ encodings js
+encodings_append [] js = refl
+encodings_append (item ∷ is) js = ap (λ (b : List ℕ). encoding item ++ b) (encodings_append is js) ∙ sym (append_assoc (encoding item) (encodings is) (encodings js))
 
 segments_split : (ss : List RdmaSegment) (more : List Item) → segments_items ss more ≡ segments_items ss [] ++ more
 segments_split [] more = refl
@@ -33,7 +33,7 @@ chunk_goes chunks i chunk total now after lt is so_far e =
     let one = encodings (Boolean true ∷ chunk_items chunk []) in
     let left : drop i chunks ≡ chunk ∷ others = drop_more chunks i chunk lt ∙ ap (λ (k : List RdmaSegment). k ∷ others) (sym is) in
     let split : encodings (write_items (drop i chunks) []) ≡ one ++ rest =
-    ap (λ (ks : List (List RdmaSegment)). encodings (write_items ks [])) left ∙ ap encodings (write_step chunk others) ∙ encodings-append (Boolean true ∷ chunk_items chunk []) (write_items others []) in
+    ap (λ (ks : List (List RdmaSegment)). encodings (write_items ks [])) left ∙ ap encodings (write_step chunk others) ∙ encodings_append (Boolean true ∷ chunk_items chunk []) (write_items others []) in
     ap (λ (b : List ℕ). b ++ rest) e ∙ append_assoc now one rest ∙ ap (λ (b : List ℕ). now ++ b) (sym split) ∙ so_far
 
 read_split : (rs : List ReadSegment) (more : List Item) → read_items rs more ≡ read_items rs [] ++ more
@@ -53,9 +53,9 @@ write_split (chunk ∷ chunks) more =
 lists_encoded : (lists : ChunkLists) → encodings (lists_items lists) ≡ encodings (read_items lists.read []) ++ (encodings (write_items lists.write []) ++ encodings (reply_items lists.reply []))
 lists_encoded lists =
     ap encodings (read_split lists.read (write_items lists.write (reply_items lists.reply [])))
-    ∙ encodings-append (read_items lists.read []) (write_items lists.write (reply_items lists.reply []))
+    ∙ encodings_append (read_items lists.read []) (write_items lists.write (reply_items lists.reply []))
     ∙ ap (λ (b : List ℕ). encodings (read_items lists.read []) ++ b)
-    (ap encodings (write_split lists.write (reply_items lists.reply [])) ∙ encodings-append (write_items lists.write []) (reply_items lists.reply []))
+    (ap encodings (write_split lists.write (reply_items lists.reply [])) ∙ encodings_append (write_items lists.write []) (reply_items lists.reply []))
 
 -- the lists are written one behind the other
 pub lists_put : (lists : ChunkLists) (start read write all : List ℕ) → read ≡ start ++ encodings (read_items lists.read []) → write ≡ read ++ encodings (write_items lists.write [])

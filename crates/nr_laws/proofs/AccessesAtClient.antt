@@ -11,77 +11,77 @@ use Rattle.nr_link.specs.Frames.{Frame, is_hello}
 use Rattle.nr_link.specs.Output.{msn_word, segment_count}
 use Rattle.nr_link.specs.ReceiveState.{begun_bytes, ReadRequest}
 use Rattle.nr_link.specs.Ending.{frame_segment}
-use Rattle.nr_reduce.proofs.OwnLimits.{ClientLimits, limited-plan}
+use Rattle.nr_reduce.proofs.OwnLimits.{ClientLimits, limited_plan}
 use Rattle.nr_reduce.specs.declared.mark.LinkParameters.{LinkParameters}
 use Rattle.nr_reduce.specs.declared.outline.Plan.{Plan}
 use Rattle.nr_reduce.specs.Limits.{numbers_end}
 use Rattle.nr_reduce.specs.Plans.{Buffer, buffers, regions_needed, call_message}
 use Rattle.nr_reduce.specs.History.{AcceptedCall}
-use Rattle.nr_reduce.specs.Events.Event.{FrameReceived, CallSubmitted, QueueWritten}
+use Rattle.nr_reduce.specs.Events.RunEvent.{FrameReceived, CallSubmitted, QueueWritten}
 use Rattle.nr_reduce.specs.OfferedRegions.{Region, closed_if, regions_closed}
-use Rattle.nr_reduce.specs.ClientState.{ClientState, OutstandingCall, call_payload, plan_for, memory_at}
+use Rattle.nr_reduce.specs.ClientState.{ClientState, OutstandingCall, call_payload, plan_for, client_memory_at}
 use Rattle.nr_reduce.specs.Client.{client_state_after, outstanding_of, region_of, with_segment, segment_request, with_hello}
 use Rattle.nr_reduce.specs.ServerState.{ServerState}
 use Rattle.nr_laws.specs.Typed.{IsTypedForm}
 use Rattle.nr_laws.proofs.FrameContents.{FrameContent, call_frame, client_frames, response_frames, tagged_frame, tagged_frames, Carries}
 use Rattle.nr_laws.proofs.FrameContents.FrameContent.{HelloFrame, SendFrame, RequestFrame, TaggedFrame}
-use Rattle.nr_laws.proofs.TotalsAtServer.{segment-is}
-use Rattle.nr_laws.proofs.TotalsAtClient.{after-is, says-is, request_payload}
-use Rattle.nr_laws.proofs.ClientFrame.{says-hello, after-hello}
+use Rattle.nr_laws.proofs.TotalsAtServer.{segment_is}
+use Rattle.nr_laws.proofs.TotalsAtClient.{after_is_lem, says_is, request_payload}
+use Rattle.nr_laws.proofs.ClientFrame.{says_hello, after_hello}
 use Rattle.nr_laws.proofs.OwnEvents.{planned}
-use Rattle.nr_laws.proofs.AnsweredCalls.{message_xids, times, xids-append, times-append}
-use Rattle.nr_laws.proofs.OfferedPlans.{planned-offered}
-use Rattle.nr_laws.proofs.OfferedAccesses.{CallOffered, MessageOffered, CallAsked, ReadOffered, IsLive, IsEarly, AccessesAgree, OffersMore, offers-same, offers-left, offers-right, offers-closed, lists-more, message-more, read-more, accesses-more}
-use Rattle.nr_laws.proofs.Basics.{each-append, each-all, each-kept}
+use Rattle.nr_laws.proofs.AnsweredCalls.{message_xids, times, xids_append, times_append}
+use Rattle.nr_laws.proofs.OfferedPlans.{planned_offered}
+use Rattle.nr_laws.proofs.OfferedAccesses.{CallOffered, MessageOffered, CallAsked, ReadOffered, IsLive, IsEarly, AccessesAgree, OffersMore, offers_same, offers_left, offers_right, offers_closed, lists_more, message_more, read_more_lem, accesses_more}
+use Rattle.nr_laws.proofs.Basics.{each_append, each_all, each_kept}
 
 -- ---- More regions, and more that is received
 
-more-live : (d ps : List FrameContent) (g : Region) → IsLive (message_xids d) g → IsLive (message_xids (d ++ ps)) g
-more-live d ps g (inl h) = inl h
-more-live d ps g (inr h) = inr (omega (arith, h, ap (λ (xs : List ℕ). times g.call xs) (xids-append d ps), times-append g.call (message_xids d) (message_xids ps)))
+more_live : (d ps : List FrameContent) (g : Region) → IsLive (message_xids d) g → IsLive (message_xids (d ++ ps)) g
+more_live d ps g (inl h) = inl h
+more_live d ps g (inr h) = inr (omega (arith, h, ap (λ (xs : List ℕ). times g.call xs) (xids_append d ps), times_append g.call (message_xids d) (message_xids ps)))
 
 -- the client goes on with more regions, and says messages that they offer
-goes-on : (opened : LinkParameters) (k t : ClientState) (s : ServerState) (d e all_up said all_down : List FrameContent) (place : ℕ) → AccessesAgree opened k s d all_up all_down place → OffersMore k.regions t.regions
+goes_on_lem : (opened : LinkParameters) (k t : ClientState) (s : ServerState) (d e all_up said all_down : List FrameContent) (place : ℕ) → AccessesAgree opened k s d all_up all_down place → OffersMore k.regions t.regions
     → AllByRecursion (IsEarly place) t.regions → AllByRecursion (IsLive (message_xids e)) t.regions → AllByRecursion (MessageOffered t.regions) said → AllByRecursion (CallAsked opened t.regions) t.outstanding
     → AccessesAgree opened t s e (all_up ++ said) all_down place
-goes-on opened k t s d e all_up said all_down place h more early lives says asked = record {
+goes_on_lem opened k t s d e all_up said all_down place h more early lives says asked = record {
   early = early;
   lives = lives;
-  up_said = each-append (MessageOffered t.regions) all_up said (each-all (MessageOffered k.regions) (MessageOffered t.regions) all_up (message-more k.regions t.regions more) h.up_said) says;
+  up_said = each_append (MessageOffered t.regions) all_up said (each_all (MessageOffered k.regions) (MessageOffered t.regions) all_up (message_more k.regions t.regions more) h.up_said) says;
   asked = asked;
-  calls = each-all (CallOffered k.regions) (CallOffered t.regions) s.calls (λ c x. lists-more k.regions t.regions c.xid c.lists more x) h.calls;
-  waiting = each-all (ReadOffered k.regions s.calls) (ReadOffered t.regions s.calls) (drop 8 s.reads) (read-more k.regions t.regions more s.calls) h.waiting;
-  down_said = accesses-more k.regions t.regions more [] all_down h.down_said;
+  calls = each_all (CallOffered k.regions) (CallOffered t.regions) s.calls (λ c x. lists_more k.regions t.regions c.xid c.lists more x) h.calls;
+  waiting = each_all (ReadOffered k.regions s.calls) (ReadOffered t.regions s.calls) (drop 8 s.reads) (read_more_lem k.regions t.regions more s.calls) h.waiting;
+  down_said = accesses_more k.regions t.regions more [] all_down h.down_said;
 }
 
 -- ---- A call is submitted
 
-new-early : (xid place : ℕ) (bs : List Buffer) → AllByRecursion (IsEarly place) (map (region_of xid place) bs)
-new-early xid place [] = tt
-new-early xid place (b ∷ bs) = (omega arith, new-early xid place bs)
+new_early : (xid place : ℕ) (bs : List Buffer) → AllByRecursion (IsEarly place) (map (region_of xid place) bs)
+new_early xid place [] = tt
+new_early xid place (b ∷ bs) = (omega arith, new_early xid place bs)
 
-new-live : (answered : List ℕ) (xid place : ℕ) (bs : List Buffer) → AllByRecursion (IsLive answered) (map (region_of xid place) bs)
-new-live answered xid place [] = tt
-new-live answered xid place (b ∷ bs) = (inl refl, new-live answered xid place bs)
+new_live : (answered : List ℕ) (xid place : ℕ) (bs : List Buffer) → AllByRecursion (IsLive answered) (map (region_of xid place) bs)
+new_live answered xid place [] = tt
+new_live answered xid place (b ∷ bs) = (inl refl, new_live answered xid place bs)
 
-pub accessed-submit : (opened : LinkParameters) (k : ClientState) (s : ServerState) (d all_up all_down : List FrameContent) (place : ℕ) (a : AcceptedCall) (plan : Plan) → AccessesAgree opened k s d all_up all_down place → plan_for k a.xid a.call a.form ≡ Ok plan → a.xid < numbers_end
+pub accessed_submit : (opened : LinkParameters) (k : ClientState) (s : ServerState) (d all_up all_down : List FrameContent) (place : ℕ) (a : AcceptedCall) (plan : Plan) → AccessesAgree opened k s d all_up all_down place → plan_for k a.xid a.call a.form ≡ Ok plan → a.xid < numbers_end
     → k.stag + regions_needed plan ≤ numbers_end → IsBytes (call_payload a.xid a.call) → IsTypedForm a.form → ClientLimits k
     → AccessesAgree opened (client_state_after opened k (CallSubmitted place a)) s d (all_up ++ client_frames opened k (CallSubmitted place a)) all_down place
 unfolding client_state_after client_frames plan_for
-accessed-submit opened k s d all_up all_down place a plan h is small stags bytes typed limits =
+accessed_submit opened k s d all_up all_down place a plan h is small stags bytes typed limits =
     let t = client_state_after opened k (CallSubmitted place a) in
     let o = outstanding_of k a in
     let new : List Region = map (region_of a.xid place) (buffers k.stag o.plan) in
     let same : o.plan ≡ plan = planned (call_payload a.xid a.call) (plan_for k a.xid a.call a.form) plan is in
     let own : MessageOffered new (call_frame opened o) =
     subst (λ (p : Plan). MessageOffered (map (region_of a.xid place) (buffers k.stag p)) (SendFrame (call_message a.xid opened.wished k.stag p))) (sym same)
-    (planned-offered (call_payload a.xid a.call) a.form a.xid opened.wished place k.stag plan (limited-plan k a.xid a.call a.form (Ok plan) limits is) bytes typed small stags) in
-    let one : CallAsked opened t.regions o = message-more new t.regions (offers-right k.regions new) (call_frame opened o) own in
-    goes-on opened k t s d d all_up (client_frames opened k (CallSubmitted place a)) all_down place h (offers-left k.regions new)
-    (each-append (IsEarly place) k.regions new h.early (new-early a.xid place (buffers k.stag o.plan)))
-    (each-append (IsLive (message_xids d)) k.regions new h.lives (new-live (message_xids d) a.xid place (buffers k.stag o.plan)))
+    (planned_offered (call_payload a.xid a.call) a.form a.xid opened.wished place k.stag plan (limited_plan k a.xid a.call a.form (Ok plan) limits is) bytes typed small stags) in
+    let one : CallAsked opened t.regions o = message_more new t.regions (offers_right k.regions new) (call_frame opened o) own in
+    goes_on_lem opened k t s d d all_up (client_frames opened k (CallSubmitted place a)) all_down place h (offers_left k.regions new)
+    (each_append (IsEarly place) k.regions new h.early (new_early a.xid place (buffers k.stag o.plan)))
+    (each_append (IsLive (message_xids d)) k.regions new h.lives (new_live (message_xids d) a.xid place (buffers k.stag o.plan)))
     (by t.regions o one k.has_hello)
-    (each-append (CallAsked opened t.regions) k.outstanding (o ∷ []) (each-all (CallAsked opened k.regions) (CallAsked opened t.regions) k.outstanding (λ x. message-more k.regions t.regions (offers-left k.regions new) (call_frame opened x)) h.asked) (one, tt))
+    (each_append (CallAsked opened t.regions) k.outstanding (o ∷ []) (each_all (CallAsked opened k.regions) (CallAsked opened t.regions) k.outstanding (λ x. message_more k.regions t.regions (offers_left k.regions new) (call_frame opened x)) h.asked) (one, tt))
   where
     by : (regions : List Region) (o : OutstandingCall) → CallAsked opened regions o → (b : Bool) → AllByRecursion (MessageOffered regions) (cond b (call_frame opened o ∷ []) [])
     by regions o one true = (one, tt)
@@ -89,104 +89,104 @@ accessed-submit opened k s d all_up all_down place a plan h is small stags bytes
 
 -- ---- A queue is written
 
-pub accessed-written_up : (taken : ℕ) (opened : LinkParameters) (k : ClientState) (s : ServerState) (d all_up all_down : List FrameContent) (place : ℕ) → AccessesAgree opened k s d all_up all_down place
+pub accessed_written_up : (taken : ℕ) (opened : LinkParameters) (k : ClientState) (s : ServerState) (d all_up all_down : List FrameContent) (place : ℕ) → AccessesAgree opened k s d all_up all_down place
     → AccessesAgree opened (client_state_after opened k (QueueWritten taken)) s d all_up all_down place
 unfolding client_state_after
-accessed-written_up taken opened k s d all_up all_down place h =
+accessed_written_up taken opened k s d all_up all_down place h =
     record { early = h.early; lives = h.lives; up_said = h.up_said; asked = h.asked; calls = h.calls; waiting = h.waiting; down_said = h.down_said }
 
 -- ---- A frame is received
 
-asked-said : (opened : LinkParameters) (regions : List Region) (os : List OutstandingCall) → AllByRecursion (CallAsked opened regions) os → AllByRecursion (MessageOffered regions) (map (call_frame opened) os)
-asked-said opened regions [] h = tt
-asked-said opened regions (o ∷ os) h = (h.0, asked-said opened regions os h.1)
+asked_said : (opened : LinkParameters) (regions : List Region) (os : List OutstandingCall) → AllByRecursion (CallAsked opened regions) os → AllByRecursion (MessageOffered regions) (map (call_frame opened) os)
+asked_said opened regions [] h = tt
+asked_said opened regions (o ∷ os) h = (h.0, asked_said opened regions os h.1)
 
-pub accessed-hello_down : (opened : LinkParameters) (k : ClientState) (s : ServerState) (d all_up all_down : List FrameContent) (place : ℕ) (f : Frame) → AccessesAgree opened k s d all_up all_down place → is_hello f ≡ true
+pub accessed_hello_down : (opened : LinkParameters) (k : ClientState) (s : ServerState) (d all_up all_down : List FrameContent) (place : ℕ) (f : Frame) → AccessesAgree opened k s d all_up all_down place → is_hello f ≡ true
     → AccessesAgree opened (client_state_after opened k (FrameReceived f)) s (d ++ HelloFrame ∷ []) (all_up ++ client_frames opened k (FrameReceived f)) all_down place
-accessed-hello_down opened k s d all_up all_down place f h is =
-    subst (λ (t : ClientState). AccessesAgree opened t s (d ++ HelloFrame ∷ []) (all_up ++ client_frames opened k (FrameReceived f)) all_down place) (sym (after-hello opened k f is))
-    (subst (λ (ps : List FrameContent). AccessesAgree opened (with_hello opened k) s (d ++ HelloFrame ∷ []) (all_up ++ ps) all_down place) (sym (says-hello opened k f is))
-    (goes-on opened k (with_hello opened k) s d (d ++ HelloFrame ∷ []) all_up (map (call_frame opened) k.outstanding) all_down place h (offers-same k.regions) h.early
-    (each-all (IsLive (message_xids d)) (IsLive (message_xids (d ++ HelloFrame ∷ []))) k.regions (more-live d (HelloFrame ∷ [])) h.lives) (asked-said opened k.regions k.outstanding h.asked) h.asked))
+accessed_hello_down opened k s d all_up all_down place f h is =
+    subst (λ (t : ClientState). AccessesAgree opened t s (d ++ HelloFrame ∷ []) (all_up ++ client_frames opened k (FrameReceived f)) all_down place) (sym (after_hello opened k f is))
+    (subst (λ (ps : List FrameContent). AccessesAgree opened (with_hello opened k) s (d ++ HelloFrame ∷ []) (all_up ++ ps) all_down place) (sym (says_hello opened k f is))
+    (goes_on_lem opened k (with_hello opened k) s d (d ++ HelloFrame ∷ []) all_up (map (call_frame opened) k.outstanding) all_down place h (offers_same k.regions) h.early
+    (each_all (IsLive (message_xids d)) (IsLive (message_xids (d ++ HelloFrame ∷ []))) k.regions (more_live d (HelloFrame ∷ [])) h.lives) (asked_said opened k.regions k.outstanding h.asked) h.asked))
 
 -- what the client says for a Read Request are no messages
-response-said : (regions : List Region) (k : ClientState) (place : ℕ) (q : Option ReadRequest) → AllByRecursion (MessageOffered regions) (response_frames k place q)
+response_said : (regions : List Region) (k : ClientState) (place : ℕ) (q : Option ReadRequest) → AllByRecursion (MessageOffered regions) (response_frames k place q)
 unfolding tagged_frames
-response-said regions k place None = tt
-response-said regions k place (Some q) = cuts OPCODE_READ_RESPONSE q.sink q.sink_to (take q.size (drop q.to (memory_at k place q.stag))) (range_with_len 0 (segment_count (take q.size (drop q.to (memory_at k place q.stag)))))
+response_said regions k place None = tt
+response_said regions k place (Some q) = cuts OPCODE_READ_RESPONSE q.sink q.sink_to (take q.size (drop q.to (client_memory_at k place q.stag))) (range_with_len 0 (segment_count (take q.size (drop q.to (client_memory_at k place q.stag)))))
   where
     cuts : (opcode stag to : ℕ) (bytes : List ℕ) (is : List ℕ) → AllByRecursion (MessageOffered regions) (map (tagged_frame opcode stag to bytes) is)
     cuts opcode stag to bytes [] = tt
     cuts opcode stag to bytes (i ∷ is) = (tt, cuts opcode stag to bytes is)
 
 -- a frame that closes no region
-other-frame : (opened : LinkParameters) (k : ClientState) (s : ServerState) (d all_up all_down : List FrameContent) (place : ℕ) (p : FrameContent) (f : Frame) (segment : Segment) → AccessesAgree opened k s d all_up all_down place → is_hello f ≡ false → frame_segment f ≡ Ok segment
+other_frame : (opened : LinkParameters) (k : ClientState) (s : ServerState) (d all_up all_down : List FrameContent) (place : ℕ) (p : FrameContent) (f : Frame) (segment : Segment) → AccessesAgree opened k s d all_up all_down place → is_hello f ≡ false → frame_segment f ≡ Ok segment
     → (with_segment k f (Ok segment)).regions ≡ k.regions → (with_segment k f (Ok segment)).outstanding ≡ k.outstanding
     → AccessesAgree opened (client_state_after opened k (FrameReceived f)) s (d ++ p ∷ []) (all_up ++ client_frames opened k (FrameReceived f)) all_down place
-other-frame opened k s d all_up all_down place p f segment h behind is same outs =
+other_frame opened k s d all_up all_down place p f segment h behind is same outs =
     let t = with_segment k f (Ok segment) in
-    let more : OffersMore k.regions t.regions = subst (OffersMore k.regions) (sym same) (offers-same k.regions) in
-    subst (λ (x : ClientState). AccessesAgree opened x s (d ++ p ∷ []) (all_up ++ client_frames opened k (FrameReceived f)) all_down place) (sym (after-is opened k f (Ok segment) behind is))
-    (subst (λ (ps : List FrameContent). AccessesAgree opened t s (d ++ p ∷ []) (all_up ++ ps) all_down place) (sym (says-is opened k f (Ok segment) behind is))
-    (goes-on opened k t s d (d ++ p ∷ []) all_up (response_frames k f.end (segment_request (Ok segment))) all_down place h more
+    let more : OffersMore k.regions t.regions = subst (OffersMore k.regions) (sym same) (offers_same k.regions) in
+    subst (λ (x : ClientState). AccessesAgree opened x s (d ++ p ∷ []) (all_up ++ client_frames opened k (FrameReceived f)) all_down place) (sym (after_is_lem opened k f (Ok segment) behind is))
+    (subst (λ (ps : List FrameContent). AccessesAgree opened t s (d ++ p ∷ []) (all_up ++ ps) all_down place) (sym (says_is opened k f (Ok segment) behind is))
+    (goes_on_lem opened k t s d (d ++ p ∷ []) all_up (response_frames k f.end (segment_request (Ok segment))) all_down place h more
     (subst (AllByRecursion (IsEarly place)) (sym same) h.early)
-    (subst (AllByRecursion (IsLive (message_xids (d ++ p ∷ [])))) (sym same) (each-all (IsLive (message_xids d)) (IsLive (message_xids (d ++ p ∷ []))) k.regions (more-live d (p ∷ [])) h.lives))
-    (response-said t.regions k f.end (segment_request (Ok segment)))
-    (subst (AllByRecursion (CallAsked opened t.regions)) (sym outs) (each-all (CallAsked opened k.regions) (CallAsked opened t.regions) k.outstanding (λ o. message-more k.regions t.regions more (call_frame opened o)) h.asked))))
+    (subst (AllByRecursion (IsLive (message_xids (d ++ p ∷ [])))) (sym same) (each_all (IsLive (message_xids d)) (IsLive (message_xids (d ++ p ∷ []))) k.regions (more_live d (p ∷ [])) h.lives))
+    (response_said t.regions k f.end (segment_request (Ok segment)))
+    (subst (AllByRecursion (CallAsked opened t.regions)) (sym outs) (each_all (CallAsked opened k.regions) (CallAsked opened t.regions) k.outstanding (λ o. message_more k.regions t.regions more (call_frame opened o)) h.asked))))
 
 -- a message closes the regions of the call that it answers
-closed-early : (test : Region → Bool) (end place : ℕ) (regions : List Region) → AllByRecursion (IsEarly place) regions → AllByRecursion (IsEarly place) (regions_closed test end regions)
+closed_early : (test : Region → Bool) (end place : ℕ) (regions : List Region) → AllByRecursion (IsEarly place) regions → AllByRecursion (IsEarly place) (regions_closed test end regions)
 unfolding regions_closed
-closed-early test end place [] h = tt
-closed-early test end place (g ∷ regions) h = (by (test g), closed-early test end place regions h.1)
+closed_early test end place [] h = tt
+closed_early test end place (g ∷ regions) h = (by (test g), closed_early test end place regions h.1)
   where
     by : (b : Bool) → IsEarly place (closed_if b end g)
     by true = h.0
     by false = h.0
 
-closed-live : (end : ℕ) (d : List FrameContent) (message : List ℕ) (regions : List Region) → AllByRecursion (IsLive (message_xids d)) regions
+closed_live : (end : ℕ) (d : List FrameContent) (message : List ℕ) (regions : List Region) → AllByRecursion (IsLive (message_xids d)) regions
     → AllByRecursion (IsLive (message_xids (d ++ SendFrame message ∷ []))) (regions_closed (λ r. eqb r.call (word_at 0 message)) end regions)
 unfolding regions_closed
-closed-live end d message [] h = tt
-closed-live end d message (g ∷ regions) h = (by (eqb g.call (word_at 0 message)) refl, closed-live end d message regions h.1)
+closed_live end d message [] h = tt
+closed_live end d message (g ∷ regions) h = (by (eqb g.call (word_at 0 message)) refl, closed_live end d message regions h.1)
   where
     more : times g.call (message_xids (d ++ SendFrame message ∷ [])) ≡ times g.call (message_xids d) + times g.call (word_at 0 message ∷ [])
-    more = ap (λ (xs : List ℕ). times g.call xs) (xids-append d (SendFrame message ∷ [])) ∙ times-append g.call (message_xids d) (word_at 0 message ∷ [])
+    more = ap (λ (xs : List ℕ). times g.call xs) (xids_append d (SendFrame message ∷ [])) ∙ times_append g.call (message_xids d) (word_at 0 message ∷ [])
 
     by : (b : Bool) → eqb g.call (word_at 0 message) ≡ b → IsLive (message_xids (d ++ SendFrame message ∷ [])) (closed_if b end g)
     by true e =
         let same : eqb (word_at 0 message) g.call ≡ true = eq-eqb (word_at 0 message) g.call (sym (eqb-true g.call (word_at 0 message) e)) in
         inr (omega (arith, more, ap (λ (b : Bool). Rattle.nr_reduce.specs.Plans.one_if b) same))
-    by false e = more-live d (SendFrame message ∷ []) g h.0
+    by false e = more_live d (SendFrame message ∷ []) g h.0
 
-message-frame : (opened : LinkParameters) (k : ClientState) (s : ServerState) (d all_up all_down : List FrameContent) (place : ℕ) (message : List ℕ) (f : Frame) → AccessesAgree opened k s d all_up all_down place → k.received.begun ≡ None
+message_frame : (opened : LinkParameters) (k : ClientState) (s : ServerState) (d all_up all_down : List FrameContent) (place : ℕ) (message : List ℕ) (f : Frame) → AccessesAgree opened k s d all_up all_down place → k.received.begun ≡ None
     → Carries k.received.sends k.received.requests f (SendFrame message)
     → AccessesAgree opened (client_state_after opened k (FrameReceived f)) s (d ++ SendFrame message ∷ []) (all_up ++ client_frames opened k (FrameReceived f)) all_down place
-message-frame opened k s d all_up all_down place message f h none piece =
+message_frame opened k s d all_up all_down place message f h none piece =
     let segment : Segment = Untagged true OPCODE_SEND 0 QUEUE_SEND (msn_word (k.received.sends + 1)) 0 message in
-    let is : frame_segment f ≡ Ok segment = segment-is k.received.sends k.received.requests f (SendFrame message) segment piece refl in
+    let is : frame_segment f ≡ Ok segment = segment_is k.received.sends k.received.requests f (SendFrame message) segment piece refl in
     let t = with_segment k f (Ok segment) in
     let whole : List ℕ = begun_bytes k.received.begun ++ message in
     let same : message ≡ whole = ap (λ (b : Option (List ℕ)). begun_bytes b ++ message) (sym none) in
     let regions : List Region = regions_closed (λ r. eqb r.call (word_at 0 whole)) f.end k.regions in
-    let more : OffersMore k.regions regions = offers-closed (λ r. eqb r.call (word_at 0 whole)) f.end k.regions in
-    subst (λ (x : ClientState). AccessesAgree opened x s (d ++ SendFrame message ∷ []) (all_up ++ client_frames opened k (FrameReceived f)) all_down place) (sym (after-is opened k f (Ok segment) piece.behind is))
-    (subst (λ (ps : List FrameContent). AccessesAgree opened t s (d ++ SendFrame message ∷ []) (all_up ++ ps) all_down place) (sym (says-is opened k f (Ok segment) piece.behind is))
-    (goes-on opened k t s d (d ++ SendFrame message ∷ []) all_up [] all_down place h more
-    (closed-early (λ r. eqb r.call (word_at 0 whole)) f.end place k.regions h.early)
-    (subst (λ (m : List ℕ). AllByRecursion (IsLive (message_xids (d ++ SendFrame message ∷ []))) (regions_closed (λ r. eqb r.call (word_at 0 m)) f.end k.regions)) same (closed-live f.end d message k.regions h.lives))
+    let more : OffersMore k.regions regions = offers_closed (λ r. eqb r.call (word_at 0 whole)) f.end k.regions in
+    subst (λ (x : ClientState). AccessesAgree opened x s (d ++ SendFrame message ∷ []) (all_up ++ client_frames opened k (FrameReceived f)) all_down place) (sym (after_is_lem opened k f (Ok segment) piece.behind is))
+    (subst (λ (ps : List FrameContent). AccessesAgree opened t s (d ++ SendFrame message ∷ []) (all_up ++ ps) all_down place) (sym (says_is opened k f (Ok segment) piece.behind is))
+    (goes_on_lem opened k t s d (d ++ SendFrame message ∷ []) all_up [] all_down place h more
+    (closed_early (λ r. eqb r.call (word_at 0 whole)) f.end place k.regions h.early)
+    (subst (λ (m : List ℕ). AllByRecursion (IsLive (message_xids (d ++ SendFrame message ∷ []))) (regions_closed (λ r. eqb r.call (word_at 0 m)) f.end k.regions)) same (closed_live f.end d message k.regions h.lives))
     tt
-    (each-kept (CallAsked opened regions) (λ o. not (eqb o.xid (word_at 0 whole))) k.outstanding (each-all (CallAsked opened k.regions) (CallAsked opened regions) k.outstanding (λ o. message-more k.regions regions more (call_frame opened o)) h.asked))))
+    (each_kept (CallAsked opened regions) (λ o. not (eqb o.xid (word_at 0 whole))) k.outstanding (each_all (CallAsked opened k.regions) (CallAsked opened regions) k.outstanding (λ o. message_more k.regions regions more (call_frame opened o)) h.asked))))
 
-pub accessed-piece_down : (opened : LinkParameters) (k : ClientState) (s : ServerState) (d all_up all_down : List FrameContent) (place : ℕ) (p : FrameContent) (f : Frame) → AccessesAgree opened k s d all_up all_down place → k.received.begun ≡ None
+pub accessed_piece_down : (opened : LinkParameters) (k : ClientState) (s : ServerState) (d all_up all_down : List FrameContent) (place : ℕ) (p : FrameContent) (f : Frame) → AccessesAgree opened k s d all_up all_down place → k.received.begun ≡ None
     → Carries k.received.sends k.received.requests f p → AccessesAgree opened (client_state_after opened k (FrameReceived f)) s (d ++ p ∷ []) (all_up ++ client_frames opened k (FrameReceived f)) all_down place
-accessed-piece_down opened k s d all_up all_down place HelloFrame f h none piece = absurd (let wrong = piece.is_segment in cc)
-accessed-piece_down opened k s d all_up all_down place (SendFrame message) f h none piece = message-frame opened k s d all_up all_down place message f h none piece
-accessed-piece_down opened k s d all_up all_down place (RequestFrame sink at size stag to) f h none piece =
+accessed_piece_down opened k s d all_up all_down place HelloFrame f h none piece = absurd (let wrong = piece.is_segment in cc)
+accessed_piece_down opened k s d all_up all_down place (SendFrame message) f h none piece = message_frame opened k s d all_up all_down place message f h none piece
+accessed_piece_down opened k s d all_up all_down place (RequestFrame sink at size stag to) f h none piece =
     let segment : Segment = Untagged true OPCODE_READ_REQUEST 0 QUEUE_READ_REQUEST (msn_word (k.received.requests + 1)) 0 (request_payload sink at size stag to) in
-    let is : frame_segment f ≡ Ok segment = segment-is k.received.sends k.received.requests f (RequestFrame sink at size stag to) segment piece refl in
-    other-frame opened k s d all_up all_down place (RequestFrame sink at size stag to) f segment h piece.behind is refl refl
-accessed-piece_down opened k s d all_up all_down place (TaggedFrame last opcode stag to payload) f h none piece =
+    let is : frame_segment f ≡ Ok segment = segment_is k.received.sends k.received.requests f (RequestFrame sink at size stag to) segment piece refl in
+    other_frame opened k s d all_up all_down place (RequestFrame sink at size stag to) f segment h piece.behind is refl refl
+accessed_piece_down opened k s d all_up all_down place (TaggedFrame last opcode stag to payload) f h none piece =
     let segment : Segment = Tagged last opcode stag to payload in
-    let is : frame_segment f ≡ Ok segment = segment-is k.received.sends k.received.requests f (TaggedFrame last opcode stag to payload) segment piece refl in
-    other-frame opened k s d all_up all_down place (TaggedFrame last opcode stag to payload) f segment h piece.behind is refl refl
+    let is : frame_segment f ≡ Ok segment = segment_is k.received.sends k.received.requests f (TaggedFrame last opcode stag to payload) segment piece refl in
+    other_frame opened k s d all_up all_down place (TaggedFrame last opcode stag to payload) f segment h piece.behind is refl refl

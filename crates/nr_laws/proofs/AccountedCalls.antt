@@ -20,21 +20,21 @@ use Rattle.nr_reduce.specs.declared.call.Outcome.{Outcome}
 use Rattle.nr_reduce.specs.declared.call.Outcome.TheVariants as outcomes
 use Rattle.nr_reduce.specs.declared.mark.LinkParameters.{LinkParameters}
 use Rattle.nr_reduce.specs.History.{AcceptedCall, CompletedCall}
-use Rattle.nr_reduce.specs.Events.Event.{FrameReceived, CallSubmitted, MemoryRevoked, QueueWritten}
+use Rattle.nr_reduce.specs.Events.RunEvent.{FrameReceived, CallSubmitted, MemoryRevoked, QueueWritten}
 use Rattle.nr_reduce.specs.Plans.{lists_of}
 use Rattle.nr_reduce.specs.Chunks.{answers_offer, reply_conveyed}
-use Rattle.nr_reduce.specs.ClientState.{ClientState, OutstandingCall, memory_at, is_sent}
-use Rattle.nr_reduce.specs.ClientMessages.{Verdict, verdict, by_head, by_payload, by_lists, by_body, by_call, answered_call, by_header, reply_xid}
-use Rattle.nr_reduce.specs.ClientMessages.Verdict.{EndsLink, GivesOutcome}
-use Rattle.nr_reduce.specs.Client.{client_end, client_state_after, end_of_verdict, outstanding_of, outcomes_of, revoked_call, with_message, with_request, with_segment, segment_message, message_end, with_hello, due_with_response}
-use Rattle.nr_laws.proofs.Keys.{any-append, or-left, or-right}
+use Rattle.nr_reduce.specs.ClientState.{ClientState, OutstandingCall, client_memory_at, is_sent}
+use Rattle.nr_reduce.specs.ClientMessages.{ReplyVerdict, reply_verdict, reply_by_head, reply_by_payload, by_lists, reply_by_body, by_call, answered_call, reply_by_header, reply_xid}
+use Rattle.nr_reduce.specs.ClientMessages.ReplyVerdict.{EndsLink, GivesOutcome}
+use Rattle.nr_reduce.specs.Client.{client_end, client_state_after, end_of_verdict, outstanding_of, outcomes_of, revoked_call, with_message, with_request, with_segment, segment_message, client_message_end, with_hello, due_with_response}
+use Rattle.nr_laws.proofs.DistinctKeys.{any_append, or_left_lem, or_right_lem}
 use Rattle.nr_laws.proofs.TotalsAtClient.{taken}
-use Rattle.nr_laws.proofs.Basics.{some-not, each-all, each-kept}
-use Rattle.nr_laws.proofs.HeaderXid.{header-xid}
+use Rattle.nr_laws.proofs.Basics.{some_not, each_all, each_kept}
+use Rattle.nr_laws.proofs.HeaderXid.{header_xid}
 
 -- ---- A message that doesn't end the client gives an outcome of the call of its xid, or that call's memory was revoked
 
-record GivenOutcome (gone : ℕ → Bool) (xid : ℕ) (v : Verdict) : Type 0 where
+record GivenOutcome (gone : ℕ → Bool) (xid : ℕ) (v : ReplyVerdict) : Type 0 where
   outcome : Option Outcome
   is : v ≡ GivesOutcome xid outcome
   if_none : outcome ≡ None → gone xid ≡ true
@@ -43,44 +43,44 @@ record GivenOutcome (gone : ℕ → Bool) (xid : ℕ) (v : Verdict) : Type 0 whe
 abbrev pub RevokedGone : (ℕ → Bool) → OutstandingCall → Type 0
 RevokedGone gone o = o.is_revoked ≡ true → gone o.xid ≡ true
 
-given-head : (gone : ℕ → Bool) (f : Frame) (xid : ℕ) (payload : List ℕ) (r : Result ReplyHead ℕ) → end_of_verdict f (by_head xid payload r) ≡ None → GivenOutcome gone xid (by_head xid payload r)
-given-head gone f xid payload (Err at) e = absurd cc
-given-head gone f xid payload (Ok head) e = by (eqb (reply_xid head) xid) e
+given_head : (gone : ℕ → Bool) (f : Frame) (xid : ℕ) (payload : List ℕ) (r : Result ReplyHead ℕ) → end_of_verdict f (reply_by_head xid payload r) ≡ None → GivenOutcome gone xid (reply_by_head xid payload r)
+given_head gone f xid payload (Err at) e = absurd cc
+given_head gone f xid payload (Ok head) e = by (eqb (reply_xid head) xid) e
   where
     by : (b : Bool) → end_of_verdict f (cond b (GivesOutcome xid (Some (outcomes.Reply payload))) (EndsLink 19)) ≡ None → GivenOutcome gone xid (cond b (GivesOutcome xid (Some (outcomes.Reply payload))) (EndsLink 19))
-    by true e = record { outcome = Some (outcomes.Reply payload); is = refl; if_none = λ x. absurd (some-not (outcomes.Reply payload) x) }
+    by true e = record { outcome = Some (outcomes.Reply payload); is = refl; if_none = λ x. absurd (some_not (outcomes.Reply payload) x) }
     by false e = absurd cc
 
-given-payload : (gone : ℕ → Bool) (f : Frame) (xid : ℕ) (payload : Option (List ℕ)) → end_of_verdict f (by_payload xid payload) ≡ None → GivenOutcome gone xid (by_payload xid payload)
-given-payload gone f xid None e = absurd cc
-given-payload gone f xid (Some payload) e = given-head gone f xid payload (reply_of payload) e
+given_payload : (gone : ℕ → Bool) (f : Frame) (xid : ℕ) (payload : Option (List ℕ)) → end_of_verdict f (reply_by_payload xid payload) ≡ None → GivenOutcome gone xid (reply_by_payload xid payload)
+given_payload gone f xid None e = absurd cc
+given_payload gone f xid (Some payload) e = given_head gone f xid payload (reply_of payload) e
 
-given-lists : (gone : ℕ → Bool) (k : ClientState) (f : Frame) (o : OutstandingCall) (inline : Option (List ℕ)) (lists : ChunkLists) (b : Bool) → RevokedGone gone o → end_of_verdict f (by_lists k f.end o inline lists b) ≡ None
+given_lists : (gone : ℕ → Bool) (k : ClientState) (f : Frame) (o : OutstandingCall) (inline : Option (List ℕ)) (lists : ChunkLists) (b : Bool) → RevokedGone gone o → end_of_verdict f (by_lists k f.end o inline lists b) ≡ None
     → GivenOutcome gone o.xid (by_lists k f.end o inline lists b)
-given-lists gone k f o inline lists false h e = absurd cc
-given-lists gone k f o inline lists true h e = by o.is_revoked refl e
+given_lists gone k f o inline lists false h e = absurd cc
+given_lists gone k f o inline lists true h e = by o.is_revoked refl e
   where
     conveyed : Option (List ℕ)
-    conveyed = reply_conveyed o.call.prog o.call.vers o.call.proc inline lists (memory_at k f.end)
+    conveyed = reply_conveyed o.call.prog o.call.vers o.call.proc inline lists (client_memory_at k f.end)
 
-    by : (b : Bool) → o.is_revoked ≡ b → end_of_verdict f (cond b (GivesOutcome o.xid None) (by_payload o.xid conveyed)) ≡ None → GivenOutcome gone o.xid (cond b (GivesOutcome o.xid None) (by_payload o.xid conveyed))
+    by : (b : Bool) → o.is_revoked ≡ b → end_of_verdict f (cond b (GivesOutcome o.xid None) (reply_by_payload o.xid conveyed)) ≡ None → GivenOutcome gone o.xid (cond b (GivesOutcome o.xid None) (reply_by_payload o.xid conveyed))
     by true is e = record { outcome = None; is = refl; if_none = λ x. h is }
-    by false is e = given-payload gone f o.xid conveyed e
+    by false is e = given_payload gone f o.xid conveyed e
 
-given-body : (gone : ℕ → Bool) (k : ClientState) (f : Frame) (message : List ℕ) (o : OutstandingCall) (body : Body) → RevokedGone gone o → end_of_verdict f (by_body k f.end o message body) ≡ None → GivenOutcome gone o.xid (by_body k f.end o message body)
-given-body gone k f message o (Msg lists at) h e = given-lists gone k f o (Some (drop at message)) lists (answers_offer false (lists_of o.stag o.plan) lists) h e
-given-body gone k f message o (Nomsg lists) h e = given-lists gone k f o None lists (answers_offer true (lists_of o.stag o.plan) lists) h e
-given-body gone k f message o (ErrVers version low high) h e = record { outcome = Some (outcomes.Version low high); is = refl; if_none = λ x. absurd (some-not (outcomes.Version low high) x) }
-given-body gone k f message o (ErrChunk version) h e = record { outcome = Some outcomes.Chunk; is = refl; if_none = λ x. absurd (some-not outcomes.Chunk x) }
+given_body : (gone : ℕ → Bool) (k : ClientState) (f : Frame) (message : List ℕ) (o : OutstandingCall) (body : Body) → RevokedGone gone o → end_of_verdict f (reply_by_body k f.end o message body) ≡ None → GivenOutcome gone o.xid (reply_by_body k f.end o message body)
+given_body gone k f message o (Msg lists at) h e = given_lists gone k f o (Some (drop at message)) lists (answers_offer false (lists_of o.stag o.plan) lists) h e
+given_body gone k f message o (Nomsg lists) h e = given_lists gone k f o None lists (answers_offer true (lists_of o.stag o.plan) lists) h e
+given_body gone k f message o (ErrVers version low high) h e = record { outcome = Some (outcomes.Version low high); is = refl; if_none = λ x. absurd (some_not (outcomes.Version low high) x) }
+given_body gone k f message o (ErrChunk version) h e = record { outcome = Some outcomes.Chunk; is = refl; if_none = λ x. absurd (some_not outcomes.Chunk x) }
 
 -- what is found
 record FoundCall (gone : ℕ → Bool) (xid : ℕ) (o : OutstandingCall) : Type 0 where
   own : o.xid ≡ xid
   revoked : RevokedGone gone o
 
-found-call : (gone : ℕ → Bool) (sent : OutstandingCall → Bool) (xid : ℕ) (os : List OutstandingCall) (o : OutstandingCall) → AllByRecursion (RevokedGone gone) os → find (λ (x : OutstandingCall). eqb x.xid xid && sent x) os ≡ Some o → FoundCall gone xid o
-found-call gone sent xid [] o h e = absurd cc
-found-call gone sent xid (x ∷ os) o h e = by (eqb x.xid xid) (sent x) refl e (found-call gone sent xid os o h.1)
+found_call : (gone : ℕ → Bool) (sent : OutstandingCall → Bool) (xid : ℕ) (os : List OutstandingCall) (o : OutstandingCall) → AllByRecursion (RevokedGone gone) os → find (λ (x : OutstandingCall). eqb x.xid xid && sent x) os ≡ Some o → FoundCall gone xid o
+found_call gone sent xid [] o h e = absurd cc
+found_call gone sent xid (x ∷ os) o h e = by (eqb x.xid xid) (sent x) refl e (found_call gone sent xid os o h.1)
   where
     here : x ≡ o → eqb x.xid xid ≡ true → FoundCall gone xid o
     here same is = subst (FoundCall gone xid) same (record { own = eqb-true x.xid xid is; revoked = h.0 })
@@ -90,25 +90,25 @@ found-call gone sent xid (x ∷ os) o h e = by (eqb x.xid xid) (sent x) refl e (
     by true false is e later = later e
     by false c is e later = later e
 
-given-call : (gone : ℕ → Bool) (k : ClientState) (f : Frame) (message : List ℕ) (xid : ℕ) (body : Body) (o : Option OutstandingCall) → AllByRecursion (RevokedGone gone) k.outstanding → answered_call k xid ≡ o → end_of_verdict f (by_call k f.end message body o) ≡ None
+given_call : (gone : ℕ → Bool) (k : ClientState) (f : Frame) (message : List ℕ) (xid : ℕ) (body : Body) (o : Option OutstandingCall) → AllByRecursion (RevokedGone gone) k.outstanding → answered_call k xid ≡ o → end_of_verdict f (by_call k f.end message body o) ≡ None
     → GivenOutcome gone xid (by_call k f.end message body o)
-given-call gone k f message xid body None h is e = absurd cc
-given-call gone k f message xid body (Some o) h is e =
-    let found = found-call gone (is_sent k) xid k.outstanding o h is in
-    subst (λ (x : ℕ). GivenOutcome gone x (by_body k f.end o message body)) found.own (given-body gone k f message o body found.revoked e)
+given_call gone k f message xid body None h is e = absurd cc
+given_call gone k f message xid body (Some o) h is e =
+    let found = found_call gone (is_sent k) xid k.outstanding o h is in
+    subst (λ (x : ℕ). GivenOutcome gone x (reply_by_body k f.end o message body)) found.own (given_body gone k f message o body found.revoked e)
 
-given-header : (gone : ℕ → Bool) (k : ClientState) (f : Frame) (message : List ℕ) (r : Result Header HeaderFault) → AllByRecursion (RevokedGone gone) k.outstanding → header_of message ≡ r → end_of_verdict f (by_header k f.end message r) ≡ None
-    → GivenOutcome gone (word_at 0 message) (by_header k f.end message r)
-given-header gone k f message (Ok h) kept is e =
-    subst (λ (x : ℕ). GivenOutcome gone x (by_call k f.end message h.body (answered_call k h.xid))) (header-xid message h is) (given-call gone k f message h.xid h.body (answered_call k h.xid) kept refl e)
-given-header gone k f message (Err faults.Short) kept is e = absurd cc
-given-header gone k f message (Err (faults.Version version)) kept is e = absurd cc
-given-header gone k f message (Err (faults.Kind kind)) kept is e = absurd cc
-given-header gone k f message (Err (faults.BadChunks at)) kept is e = absurd cc
+given_header : (gone : ℕ → Bool) (k : ClientState) (f : Frame) (message : List ℕ) (r : Result Header HeaderFault) → AllByRecursion (RevokedGone gone) k.outstanding → header_of message ≡ r → end_of_verdict f (reply_by_header k f.end message r) ≡ None
+    → GivenOutcome gone (word_at 0 message) (reply_by_header k f.end message r)
+given_header gone k f message (Ok h) kept is e =
+    subst (λ (x : ℕ). GivenOutcome gone x (by_call k f.end message h.body (answered_call k h.xid))) (header_xid message h is) (given_call gone k f message h.xid h.body (answered_call k h.xid) kept refl e)
+given_header gone k f message (Err faults.Short) kept is e = absurd cc
+given_header gone k f message (Err (faults.Version version)) kept is e = absurd cc
+given_header gone k f message (Err (faults.Kind kind)) kept is e = absurd cc
+given_header gone k f message (Err (faults.BadChunks at)) kept is e = absurd cc
 
-given : (gone : ℕ → Bool) (k : ClientState) (f : Frame) (message : List ℕ) → AllByRecursion (RevokedGone gone) k.outstanding → end_of_verdict f (verdict k f.end message) ≡ None → GivenOutcome gone (word_at 0 message) (verdict k f.end message)
-unfolding verdict
-given gone k f message kept e = given-header gone k f message (header_of message) kept refl e
+given : (gone : ℕ → Bool) (k : ClientState) (f : Frame) (message : List ℕ) → AllByRecursion (RevokedGone gone) k.outstanding → end_of_verdict f (reply_verdict k f.end message) ≡ None → GivenOutcome gone (word_at 0 message) (reply_verdict k f.end message)
+unfolding reply_verdict
+given gone k f message kept e = given_header gone k f message (header_of message) kept refl e
 
 -- ---- What a client accounts for
 
@@ -126,118 +126,118 @@ pub record CallsAccounted (gone : ℕ → Bool) (xids : List ℕ) (k : ClientSta
   pub revoked : AllByRecursion (RevokedGone gone) k.outstanding
 
 either : (a b c d e f : Bool) → (a ≡ true → d ≡ true) → (b ≡ true → e ≡ true) → (c ≡ true → f ≡ true) → (a || (b || c)) ≡ true → (d || (e || f)) ≡ true
-either true b c d e f p q r h = or-left d (e || f) (p refl)
-either false true c d e f p q r h = or-right d (e || f) (or-left e f (q refl))
-either false false c d e f p q r h = or-right d (e || f) (or-right e f (r h))
+either true b c d e f p q r h = or_left_lem d (e || f) (p refl)
+either false true c d e f p q r h = or_right_lem d (e || f) (or_left_lem e f (q refl))
+either false false c d e f p q r h = or_right_lem d (e || f) (or_right_lem e f (r h))
 
 -- ---- A frame
 
 differ : (n xid : ℕ) → eqb n xid ≡ true → (other : ℕ) → eqb xid other ≡ false → eqb n other ≡ false
 differ n xid e other not_other = ap (λ (x : ℕ). eqb x other) (eqb-true n xid e) ∙ not_other
 
-others-stay : (xid x : ℕ) (os : List OutstandingCall) → eqb x xid ≡ false → is_outstanding os x ≡ true → is_outstanding (filter (λ (o : OutstandingCall). not (eqb o.xid xid)) os) x ≡ true
-others-stay xid x [] ne e = e
-others-stay xid x (o ∷ os) ne e = by (eqb o.xid x) (eqb o.xid xid) refl refl e (others-stay xid x os ne)
+others_stay : (xid x : ℕ) (os : List OutstandingCall) → eqb x xid ≡ false → is_outstanding os x ≡ true → is_outstanding (filter (λ (o : OutstandingCall). not (eqb o.xid xid)) os) x ≡ true
+others_stay xid x [] ne e = e
+others_stay xid x (o ∷ os) ne e = by (eqb o.xid x) (eqb o.xid xid) refl refl e (others_stay xid x os ne)
   where
     rest : List OutstandingCall
     rest = filter (λ (y : OutstandingCall). not (eqb y.xid xid)) os
 
     by : (a b : Bool) → eqb o.xid x ≡ a → eqb o.xid xid ≡ b → (a || is_outstanding os x) ≡ true → (is_outstanding os x ≡ true → is_outstanding rest x ≡ true) → is_outstanding (cond (not b) (o ∷ rest) rest) x ≡ true
     by true true own same e later = absurd (let wrong : true ≡ false = sym same ∙ differ o.xid x own xid ne in cc)
-    by true false own same e later = or-left (eqb o.xid x) (is_outstanding rest x) own
+    by true false own same e later = or_left_lem (eqb o.xid x) (is_outstanding rest x) own
     by false true own same e later = later e
-    by false false own same e later = or-right (eqb o.xid x) (is_outstanding rest x) (later e)
+    by false false own same e later = or_right_lem (eqb o.xid x) (is_outstanding rest x) (later e)
 
-outcome-more : (done more : List CompletedCall) (x : ℕ) → has_outcome done x ≡ true → has_outcome (done ++ more) x ≡ true
-outcome-more done more x e = any-append (λ (c : CompletedCall). eqb c.xid x) done more ∙ or-left (has_outcome done x) (has_outcome more x) e
+outcome_more : (done more : List CompletedCall) (x : ℕ) → has_outcome done x ≡ true → has_outcome (done ++ more) x ≡ true
+outcome_more done more x e = any_append (λ (c : CompletedCall). eqb c.xid x) done more ∙ or_left_lem (has_outcome done x) (has_outcome more x) e
 
-outcome-new : (done more : List CompletedCall) (x : ℕ) → has_outcome more x ≡ true → has_outcome (done ++ more) x ≡ true
-outcome-new done more x e = any-append (λ (c : CompletedCall). eqb c.xid x) done more ∙ or-right (has_outcome done x) (has_outcome more x) e
+outcome_new : (done more : List CompletedCall) (x : ℕ) → has_outcome more x ≡ true → has_outcome (done ++ more) x ≡ true
+outcome_new done more x e = any_append (λ (c : CompletedCall). eqb c.xid x) done more ∙ or_right_lem (has_outcome done x) (has_outcome more x) e
 
-message-each : (gone : ℕ → Bool) (k : ClientState) (place : ℕ) (message : List ℕ) → GivenOutcome gone (word_at 0 message) (verdict k place message) → (x : ℕ) → IsAccounted gone k x → IsAccounted gone (with_message k place (Some message)) x
-message-each gone k place message g x h = by (eqb x (word_at 0 message)) refl
+message_each : (gone : ℕ → Bool) (k : ClientState) (place : ℕ) (message : List ℕ) → GivenOutcome gone (word_at 0 message) (reply_verdict k place message) → (x : ℕ) → IsAccounted gone k x → IsAccounted gone (with_message k place (Some message)) x
+message_each gone k place message g x h = by (eqb x (word_at 0 message)) refl
   where
     t : ClientState
     t = with_message k place (Some message)
 
     new : (o : Option Outcome) → g.outcome ≡ o → x ≡ word_at 0 message → IsAccounted gone t x
     new (Some outcome) is same =
-        let done : outcomes_of (verdict k place message) ≡ record { xid = word_at 0 message; outcome = outcome } ∷ [] = ap outcomes_of (g.is ∙ ap (λ (o : Option Outcome). GivesOutcome (word_at 0 message) o) is) in
-        let here : has_outcome (outcomes_of (verdict k place message)) x ≡ true =
-        ap (λ (cs : List CompletedCall). has_outcome cs x) done ∙ or-left (eqb (word_at 0 message) x) false (eq-eqb (word_at 0 message) x (sym same)) in
-        or-right (is_outstanding t.outstanding x) (has_outcome t.outcomes x || gone x)
-        (or-left (has_outcome t.outcomes x) (gone x) (outcome-new k.outcomes (outcomes_of (verdict k place message)) x here))
+        let done : outcomes_of (reply_verdict k place message) ≡ record { xid = word_at 0 message; outcome = outcome } ∷ [] = ap outcomes_of (g.is ∙ ap (λ (o : Option Outcome). GivesOutcome (word_at 0 message) o) is) in
+        let here : has_outcome (outcomes_of (reply_verdict k place message)) x ≡ true =
+        ap (λ (cs : List CompletedCall). has_outcome cs x) done ∙ or_left_lem (eqb (word_at 0 message) x) false (eq-eqb (word_at 0 message) x (sym same)) in
+        or_right_lem (is_outstanding t.outstanding x) (has_outcome t.outcomes x || gone x)
+        (or_left_lem (has_outcome t.outcomes x) (gone x) (outcome_new k.outcomes (outcomes_of (reply_verdict k place message)) x here))
     new None is same =
-        or-right (is_outstanding t.outstanding x) (has_outcome t.outcomes x || gone x)
-        (or-right (has_outcome t.outcomes x) (gone x) (ap gone same ∙ g.if_none is))
+        or_right_lem (is_outstanding t.outstanding x) (has_outcome t.outcomes x || gone x)
+        (or_right_lem (has_outcome t.outcomes x) (gone x) (ap gone same ∙ g.if_none is))
 
     by : (b : Bool) → eqb x (word_at 0 message) ≡ b → IsAccounted gone t x
     by true e = new g.outcome refl (eqb-true x (word_at 0 message) e)
     by false e =
         either (is_outstanding k.outstanding x) (has_outcome k.outcomes x) (gone x) (is_outstanding t.outstanding x) (has_outcome t.outcomes x) (gone x)
-        (others-stay (word_at 0 message) x k.outstanding e) (outcome-more k.outcomes (outcomes_of (verdict k place message)) x) (λ z. z) h
+        (others_stay (word_at 0 message) x k.outstanding e) (outcome_more k.outcomes (outcomes_of (reply_verdict k place message)) x) (λ z. z) h
 
-request-accounts : (gone : ℕ → Bool) (xids : List ℕ) (k : ClientState) (due : ℕ) (q : Option ReadRequest) → CallsAccounted gone xids k → CallsAccounted gone xids (with_request k due q)
-request-accounts gone xids k due None h = h
-request-accounts gone xids k due (Some r) h = record { each = h.each; revoked = h.revoked }
+request_accounts : (gone : ℕ → Bool) (xids : List ℕ) (k : ClientState) (due : ℕ) (q : Option ReadRequest) → CallsAccounted gone xids k → CallsAccounted gone xids (with_request k due q)
+request_accounts gone xids k due None h = h
+request_accounts gone xids k due (Some r) h = record { each = h.each; revoked = h.revoked }
 
-message-accounts : (gone : ℕ → Bool) (xids : List ℕ) (k : ClientState) (f : Frame) (m : Option (List ℕ)) → ((message : List ℕ) → m ≡ Some message → end_of_verdict f (verdict k f.end message) ≡ None) → CallsAccounted gone xids k → CallsAccounted gone xids (with_message k f.end m)
-message-accounts gone xids k f None stays h = h
-message-accounts gone xids k f (Some message) stays h =
+message_accounts : (gone : ℕ → Bool) (xids : List ℕ) (k : ClientState) (f : Frame) (m : Option (List ℕ)) → ((message : List ℕ) → m ≡ Some message → end_of_verdict f (reply_verdict k f.end message) ≡ None) → CallsAccounted gone xids k → CallsAccounted gone xids (with_message k f.end m)
+message_accounts gone xids k f None stays h = h
+message_accounts gone xids k f (Some message) stays h =
     let g = given gone k f message h.revoked (stays message refl) in
     record {
-      each = each-all (IsAccounted gone k) (IsAccounted gone (with_message k f.end (Some message))) xids (message-each gone k f.end message g) h.each;
-      revoked = each-kept (RevokedGone gone) (λ (o : OutstandingCall). not (eqb o.xid (word_at 0 message))) k.outstanding h.revoked;
+      each = each_all (IsAccounted gone k) (IsAccounted gone (with_message k f.end (Some message))) xids (message_each gone k f.end message g) h.each;
+      revoked = each_kept (RevokedGone gone) (λ (o : OutstandingCall). not (eqb o.xid (word_at 0 message))) k.outstanding h.revoked;
     }
 
-segment-accounts : (gone : ℕ → Bool) (xids : List ℕ) (k : ClientState) (f : Frame) (r : Result Segment ℕ) → ((message : List ℕ) → segment_message k r ≡ Some message → end_of_verdict f (verdict k f.end message) ≡ None) → CallsAccounted gone xids k → CallsAccounted gone xids (with_segment k f r)
-segment-accounts gone xids k f (Err reason) stays h = h
-segment-accounts gone xids k f (Ok segment) stays h =
-    let m = request-accounts gone xids (with_message k f.end (message_completed k.received segment)) (due_with_response k f segment) (read_request_of segment) (message-accounts gone xids k f (message_completed k.received segment) stays h) in
+segment_accounts : (gone : ℕ → Bool) (xids : List ℕ) (k : ClientState) (f : Frame) (r : Result Segment ℕ) → ((message : List ℕ) → segment_message k r ≡ Some message → end_of_verdict f (reply_verdict k f.end message) ≡ None) → CallsAccounted gone xids k → CallsAccounted gone xids (with_segment k f r)
+segment_accounts gone xids k f (Err reason) stays h = h
+segment_accounts gone xids k f (Ok segment) stays h =
+    let m = request_accounts gone xids (with_message k f.end (message_completed k.received segment)) (due_with_response k f segment) (read_request_of segment) (message_accounts gone xids k f (message_completed k.received segment) stays h) in
     record { each = m.each; revoked = m.revoked }
 
-pub frame-accounts : (opened : LinkParameters) (gone : ℕ → Bool) (xids : List ℕ) (k : ClientState) (f : Frame) → client_end k (FrameReceived f) ≡ None → CallsAccounted gone xids k → CallsAccounted gone xids (client_state_after opened k (FrameReceived f))
+pub frame_accounts : (opened : LinkParameters) (gone : ℕ → Bool) (xids : List ℕ) (k : ClientState) (f : Frame) → client_end k (FrameReceived f) ≡ None → CallsAccounted gone xids k → CallsAccounted gone xids (client_state_after opened k (FrameReceived f))
 unfolding client_state_after
-frame-accounts opened gone xids k f e h = by (is_hello f) refl
+frame_accounts opened gone xids k f e h = by (is_hello f) refl
   where
     by : (b : Bool) → is_hello f ≡ b → CallsAccounted gone xids (cond b (with_hello opened k) (with_segment k f (frame_segment f)))
     by true is = record { each = h.each; revoked = h.revoked }
     by false is =
         let unended = taken k f is e in
-        segment-accounts gone xids k f (frame_segment f)
-        (λ message m. ap (λ (o : Option (List ℕ)). message_end k f o) (sym m) ∙ unended) h
+        segment_accounts gone xids k f (frame_segment f)
+        (λ message m. ap (λ (o : Option (List ℕ)). client_message_end k f o) (sym m) ∙ unended) h
 
 -- ---- Other events
 
-any-map : (f : OutstandingCall → OutstandingCall) (os : List OutstandingCall) (x : ℕ) → ((o : OutstandingCall) → (f o).xid ≡ o.xid) → is_outstanding (map f os) x ≡ is_outstanding os x
-any-map f [] x same = refl
-any-map f (o ∷ os) x same = λ i. eqb (same o i) x || any-map f os x same i
+any_map : (f : OutstandingCall → OutstandingCall) (os : List OutstandingCall) (x : ℕ) → ((o : OutstandingCall) → (f o).xid ≡ o.xid) → is_outstanding (map f os) x ≡ is_outstanding os x
+any_map f [] x same = refl
+any_map f (o ∷ os) x same = λ i. eqb (same o i) x || any_map f os x same i
 
-revoked-to : (gone later : ℕ → Bool) (os : List OutstandingCall) → ((x : ℕ) → gone x ≡ true → later x ≡ true) → AllByRecursion (RevokedGone gone) os → AllByRecursion (RevokedGone later) os
-revoked-to gone later [] more h = tt
-revoked-to gone later (o ∷ os) more h = ((λ e. more o.xid (h.0 e)), revoked-to gone later os more h.1)
+revoked_to : (gone later : ℕ → Bool) (os : List OutstandingCall) → ((x : ℕ) → gone x ≡ true → later x ≡ true) → AllByRecursion (RevokedGone gone) os → AllByRecursion (RevokedGone later) os
+revoked_to gone later [] more h = tt
+revoked_to gone later (o ∷ os) more h = ((λ e. more o.xid (h.0 e)), revoked_to gone later os more h.1)
 
-revoked-map : (gone : ℕ → Bool) (f : OutstandingCall → OutstandingCall) (os : List OutstandingCall) → ((o : OutstandingCall) → RevokedGone gone o → RevokedGone gone (f o)) → AllByRecursion (RevokedGone gone) os → AllByRecursion (RevokedGone gone) (map f os)
-revoked-map gone f [] kept h = tt
-revoked-map gone f (o ∷ os) kept h = (kept o h.0, revoked-map gone f os kept h.1)
+revoked_map : (gone : ℕ → Bool) (f : OutstandingCall → OutstandingCall) (os : List OutstandingCall) → ((o : OutstandingCall) → RevokedGone gone o → RevokedGone gone (f o)) → AllByRecursion (RevokedGone gone) os → AllByRecursion (RevokedGone gone) (map f os)
+revoked_map gone f [] kept h = tt
+revoked_map gone f (o ∷ os) kept h = (kept o h.0, revoked_map gone f os kept h.1)
 
 -- more is given up
-pub accounts-gone : (gone later : ℕ → Bool) (xids : List ℕ) (k : ClientState) → ((x : ℕ) → gone x ≡ true → later x ≡ true) → CallsAccounted gone xids k → CallsAccounted later xids k
-accounts-gone gone later xids k more h = record {
-  each = each-all (IsAccounted gone k) (IsAccounted later k) xids (λ x. either (is_outstanding k.outstanding x) (has_outcome k.outcomes x) (gone x) (is_outstanding k.outstanding x) (has_outcome k.outcomes x) (later x) (λ z. z) (λ z. z) (more x)) h.each;
-  revoked = revoked-to gone later k.outstanding more h.revoked;
+pub accounts_gone : (gone later : ℕ → Bool) (xids : List ℕ) (k : ClientState) → ((x : ℕ) → gone x ≡ true → later x ≡ true) → CallsAccounted gone xids k → CallsAccounted later xids k
+accounts_gone gone later xids k more h = record {
+  each = each_all (IsAccounted gone k) (IsAccounted later k) xids (λ x. either (is_outstanding k.outstanding x) (has_outcome k.outcomes x) (gone x) (is_outstanding k.outstanding x) (has_outcome k.outcomes x) (later x) (λ z. z) (λ z. z) (more x)) h.each;
+  revoked = revoked_to gone later k.outstanding more h.revoked;
 }
 
-pub written-accounts : (taken : ℕ) (opened : LinkParameters) (gone : ℕ → Bool) (xids : List ℕ) (k : ClientState) → CallsAccounted gone xids k → CallsAccounted gone xids (client_state_after opened k (QueueWritten taken))
+pub written_accounts : (taken : ℕ) (opened : LinkParameters) (gone : ℕ → Bool) (xids : List ℕ) (k : ClientState) → CallsAccounted gone xids k → CallsAccounted gone xids (client_state_after opened k (QueueWritten taken))
 unfolding client_state_after
-written-accounts taken opened gone xids k h = record { each = h.each; revoked = h.revoked }
+written_accounts taken opened gone xids k h = record { each = h.each; revoked = h.revoked }
 
-pub revoked-accounts : (opened : LinkParameters) (gone : ℕ → Bool) (xids : List ℕ) (k : ClientState) (place xid : ℕ) → gone xid ≡ true → CallsAccounted gone xids k → CallsAccounted gone xids (client_state_after opened k (MemoryRevoked place xid))
+pub revoked_accounts : (opened : LinkParameters) (gone : ℕ → Bool) (xids : List ℕ) (k : ClientState) (place xid : ℕ) → gone xid ≡ true → CallsAccounted gone xids k → CallsAccounted gone xids (client_state_after opened k (MemoryRevoked place xid))
 unfolding client_state_after
-revoked-accounts opened gone xids k place xid is h = record {
-  each = each-all (IsAccounted gone k) (IsAccounted gone (client_state_after opened k (MemoryRevoked place xid))) xids
-      (λ x h. ap (λ (b : Bool). b || (has_outcome k.outcomes x || gone x)) (any-map (revoked_call xid) k.outstanding x same) ∙ h) h.each;
-  revoked = revoked-map gone (revoked_call xid) k.outstanding kept h.revoked;
+revoked_accounts opened gone xids k place xid is h = record {
+  each = each_all (IsAccounted gone k) (IsAccounted gone (client_state_after opened k (MemoryRevoked place xid))) xids
+      (λ x h. ap (λ (b : Bool). b || (has_outcome k.outcomes x || gone x)) (any_map (revoked_call xid) k.outstanding x same) ∙ h) h.each;
+  revoked = revoked_map gone (revoked_call xid) k.outstanding kept h.revoked;
 }
   where
     same : (o : OutstandingCall) → (revoked_call xid o).xid ≡ o.xid
@@ -254,20 +254,20 @@ revoked-accounts opened gone xids k place xid is h = record {
         by true e = λ z. ap gone (eqb-true o.xid xid e) ∙ is
         by false e = h
 
-pub submit-accounts : (opened : LinkParameters) (gone : ℕ → Bool) (xids : List ℕ) (k : ClientState) (place : ℕ) (a : AcceptedCall) → CallsAccounted gone xids k → CallsAccounted gone (xids ++ a.xid ∷ []) (client_state_after opened k (CallSubmitted place a))
+pub submit_accounts : (opened : LinkParameters) (gone : ℕ → Bool) (xids : List ℕ) (k : ClientState) (place : ℕ) (a : AcceptedCall) → CallsAccounted gone xids k → CallsAccounted gone (xids ++ a.xid ∷ []) (client_state_after opened k (CallSubmitted place a))
 unfolding client_state_after
-submit-accounts opened gone xids k place a h = record {
-  each = push xids (each-all (IsAccounted gone k) (IsAccounted gone (client_state_after opened k (CallSubmitted place a))) xids
+submit_accounts opened gone xids k place a h = record {
+  each = push xids (each_all (IsAccounted gone k) (IsAccounted gone (client_state_after opened k (CallSubmitted place a))) xids
       (λ x. either (is_outstanding k.outstanding x) (has_outcome k.outcomes x) (gone x) (is_outstanding (k.outstanding ++ outstanding_of k a ∷ []) x) (has_outcome k.outcomes x) (gone x)
-      (λ e. any-append (λ (o : OutstandingCall). eqb o.xid x) k.outstanding (outstanding_of k a ∷ []) ∙ or-left (is_outstanding k.outstanding x) (is_outstanding (outstanding_of k a ∷ []) x) e) (λ z. z) (λ z. z)) h.each);
+      (λ e. any_append (λ (o : OutstandingCall). eqb o.xid x) k.outstanding (outstanding_of k a ∷ []) ∙ or_left_lem (is_outstanding k.outstanding x) (is_outstanding (outstanding_of k a ∷ []) x) e) (λ z. z) (λ z. z)) h.each);
   revoked = more k.outstanding h.revoked;
 }
   where
     own : IsAccounted gone (client_state_after opened k (CallSubmitted place a)) a.xid
     own =
-        or-left (is_outstanding (k.outstanding ++ outstanding_of k a ∷ []) a.xid) (has_outcome k.outcomes a.xid || gone a.xid)
-        (any-append (λ (o : OutstandingCall). eqb o.xid a.xid) k.outstanding (outstanding_of k a ∷ [])
-        ∙ or-right (is_outstanding k.outstanding a.xid) (is_outstanding (outstanding_of k a ∷ []) a.xid) (or-left (eqb a.xid a.xid) false (eq-eqb a.xid a.xid refl)))
+        or_left_lem (is_outstanding (k.outstanding ++ outstanding_of k a ∷ []) a.xid) (has_outcome k.outcomes a.xid || gone a.xid)
+        (any_append (λ (o : OutstandingCall). eqb o.xid a.xid) k.outstanding (outstanding_of k a ∷ [])
+        ∙ or_right_lem (is_outstanding k.outstanding a.xid) (is_outstanding (outstanding_of k a ∷ []) a.xid) (or_left_lem (eqb a.xid a.xid) false (eq-eqb a.xid a.xid refl)))
 
     push : (xs : List ℕ) → AllByRecursion (IsAccounted gone (client_state_after opened k (CallSubmitted place a))) xs → AllByRecursion (IsAccounted gone (client_state_after opened k (CallSubmitted place a))) (xs ++ a.xid ∷ [])
     push [] h = (own, tt)

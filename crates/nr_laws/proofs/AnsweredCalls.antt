@@ -23,9 +23,9 @@ use Rattle.nr_reduce.specs.ServerFrames.{FrameEffect, no_effect, with_verdict, f
 use Rattle.nr_reduce.specs.Server.{newly_open_reads}
 use Rattle.nr_laws.proofs.FrameContents.{FrameContent, effect_frames, request_frame, write_frames, answer_frames, tagged_frames}
 use Rattle.nr_laws.proofs.FrameContents.FrameContent.{HelloFrame, SendFrame, RequestFrame, TaggedFrame}
-use Rattle.nr_laws.proofs.PendingSends.{verdict-new}
-use Rattle.nr_laws.proofs.HeaderXid.{answer-xid, chunk-error-xid, version-error-xid}
-use Rattle.nr_laws.proofs.EachEffect.{send-effect, tagged-effect}
+use Rattle.nr_laws.proofs.PendingSends.{verdict_new}
+use Rattle.nr_laws.proofs.HeaderXid.{answer_xid, chunk_error_xid, version_error_xid}
+use Rattle.nr_laws.proofs.EachEffect.{send_effect, tagged_effect_lem}
 
 -- the xids of the messages among some frames, and how often a number is among others
 abbrev pub message_xids : List FrameContent → List ℕ
@@ -45,33 +45,33 @@ call_xids calls = map (λ (c : PendingCall). c.xid) calls
 abbrev pub outstanding_xids : List OutstandingCall → List ℕ
 outstanding_xids calls = map (λ (o : OutstandingCall). o.xid) calls
 
-pub xids-append : (ps qs : List FrameContent) → message_xids (ps ++ qs) ≡ message_xids ps ++ message_xids qs
-xids-append [] qs = refl
-xids-append (HelloFrame ∷ ps) qs = xids-append ps qs
-xids-append (SendFrame message ∷ ps) qs = ap (λ (xs : List ℕ). word_at 0 message ∷ xs) (xids-append ps qs)
-xids-append (RequestFrame sink at size stag to ∷ ps) qs = xids-append ps qs
-xids-append (TaggedFrame last opcode stag to payload ∷ ps) qs = xids-append ps qs
+pub xids_append : (ps qs : List FrameContent) → message_xids (ps ++ qs) ≡ message_xids ps ++ message_xids qs
+xids_append [] qs = refl
+xids_append (HelloFrame ∷ ps) qs = xids_append ps qs
+xids_append (SendFrame message ∷ ps) qs = ap (λ (xs : List ℕ). word_at 0 message ∷ xs) (xids_append ps qs)
+xids_append (RequestFrame sink at size stag to ∷ ps) qs = xids_append ps qs
+xids_append (TaggedFrame last opcode stag to payload ∷ ps) qs = xids_append ps qs
 
-pub times-append : (x : ℕ) (xs ys : List ℕ) → times x (xs ++ ys) ≡ times x xs + times x ys
-times-append x [] ys = omega arith
-times-append x (y ∷ xs) ys = omega (arith, times-append x xs ys)
+pub times_append : (x : ℕ) (xs ys : List ℕ) → times x (xs ++ ys) ≡ times x xs + times x ys
+times_append x [] ys = omega arith
+times_append x (y ∷ xs) ys = omega (arith, times_append x xs ys)
 
 -- ---- What is sent
 
-effect-errors : (messages : List (List ℕ)) (reads : List PendingRead) → message_xids (map SendFrame messages ++ map request_frame reads) ≡ map (λ (m : List ℕ). word_at 0 m) messages
-effect-errors [] [] = refl
-effect-errors [] (r ∷ reads) = effect-errors [] reads
-effect-errors (m ∷ messages) reads = ap (λ (xs : List ℕ). word_at 0 m ∷ xs) (effect-errors messages reads)
+effect_errors : (messages : List (List ℕ)) (reads : List PendingRead) → message_xids (map SendFrame messages ++ map request_frame reads) ≡ map (λ (m : List ℕ). word_at 0 m) messages
+effect_errors [] [] = refl
+effect_errors [] (r ∷ reads) = effect_errors [] reads
+effect_errors (m ∷ messages) reads = ap (λ (xs : List ℕ). word_at 0 m ∷ xs) (effect_errors messages reads)
 
-pub effect-xids : (s : FrameEffect) → message_xids (effect_frames s) ≡ map (λ (m : List ℕ). word_at 0 m) s.errors
-effect-xids s = effect-errors s.errors (newly_open_reads s)
+pub effect_xids : (s : FrameEffect) → message_xids (effect_frames s) ≡ map (λ (m : List ℕ). word_at 0 m) s.errors
+effect_xids s = effect_errors s.errors (newly_open_reads s)
 
-writes-none : (chunk : List RdmaSegment) (bytes : List ℕ) → message_xids (write_frames chunk bytes) ≡ []
+writes_none : (chunk : List RdmaSegment) (bytes : List ℕ) → message_xids (write_frames chunk bytes) ≡ []
 unfolding tagged_frames
-writes-none [] bytes = refl
-writes-none (p ∷ chunk) bytes =
-    xids-append (cond (eqb (min p.length (length bytes)) 0) [] (tagged_frames OPCODE_WRITE p.handle p.offset (take p.length bytes))) (write_frames chunk (drop p.length bytes))
-    ∙ (λ i. by (eqb (min p.length (length bytes)) 0) i ++ writes-none chunk (drop p.length bytes) i)
+writes_none [] bytes = refl
+writes_none (p ∷ chunk) bytes =
+    xids_append (cond (eqb (min p.length (length bytes)) 0) [] (tagged_frames OPCODE_WRITE p.handle p.offset (take p.length bytes))) (write_frames chunk (drop p.length bytes))
+    ∙ (λ i. by (eqb (min p.length (length bytes)) 0) i ++ writes_none chunk (drop p.length bytes) i)
   where
     cuts : (last : ℕ → Bool) (at : ℕ → ℕ) (payload : ℕ → List ℕ) (is : List ℕ) → message_xids (map (λ i. TaggedFrame (last i) OPCODE_WRITE p.handle (at i) (payload i)) is) ≡ []
     cuts last at payload [] = refl
@@ -82,24 +82,24 @@ writes-none (p ∷ chunk) bytes =
     by false = cuts _ _ _ (range_with_len 0 (segment_count (take p.length bytes)))
 
 -- of an executed call: one message, of its xid
-pub answer-xids : (k : ServerState) (xid : ℕ) (offer : ChunkLists) (o : Option Answer) → xid < 2 ^ 32 → message_xids (answer_frames k xid offer o) ≡ xid ∷ []
-answer-xids k xid offer None lt = ap (λ (x : ℕ). x ∷ []) (chunk-error-xid xid (credit_word k) lt)
-answer-xids k xid offer (Some a) lt =
+pub answer_xids : (k : ServerState) (xid : ℕ) (offer : ChunkLists) (o : Option Answer) → xid < 2 ^ 32 → message_xids (answer_frames k xid offer o) ≡ xid ∷ []
+answer_xids k xid offer None lt = ap (λ (x : ℕ). x ∷ []) (chunk_error_xid xid (credit_word k) lt)
+answer_xids k xid offer (Some a) lt =
     let long = cond a.long (write_frames (no_segments offer.reply) a.stream) [] in
     let last = SendFrame (answer_message xid (credit_word k) offer a) ∷ [] in
-    xids-append (write_frames (first_chunk offer.write) a.moved) (long ++ last)
-    ∙ (λ i. writes-none (first_chunk offer.write) a.moved i ++ (xids-append long last ∙ (λ j. by a.long j ++ message_xids last)) i)
-    ∙ ap (λ (x : ℕ). x ∷ []) (answer-xid xid (credit_word k) offer a lt)
+    xids_append (write_frames (first_chunk offer.write) a.moved) (long ++ last)
+    ∙ (λ i. writes_none (first_chunk offer.write) a.moved i ++ (xids_append long last ∙ (λ j. by a.long j ++ message_xids last)) i)
+    ∙ ap (λ (x : ℕ). x ∷ []) (answer_xid xid (credit_word k) offer a lt)
   where
     by : (b : Bool) → message_xids (cond b (write_frames (no_segments offer.reply) a.stream) []) ≡ []
-    by true = writes-none (no_segments offer.reply) a.stream
+    by true = writes_none (no_segments offer.reply) a.stream
     by false = refl
 
 -- ---- Calls that are answered
 
-kept-less : (x : ℕ) (p : PendingCall → Bool) (cs : List PendingCall) → times x (call_xids (filter p cs)) ≤ times x (call_xids cs)
-kept-less x p [] = omega arith
-kept-less x p (c ∷ cs) = by (p c) (kept-less x p cs)
+kept_less : (x : ℕ) (p : PendingCall → Bool) (cs : List PendingCall) → times x (call_xids (filter p cs)) ≤ times x (call_xids cs)
+kept_less x p [] = omega arith
+kept_less x p (c ∷ cs) = by (p c) (kept_less x p cs)
   where
     by : (b : Bool) → times x (call_xids (filter p cs)) ≤ times x (call_xids cs) → times x (call_xids (cond b (c ∷ filter p cs) (filter p cs))) ≤ times x (call_xids (c ∷ cs))
     by true le = omega (arith, le)
@@ -117,7 +117,7 @@ removed x n (y ∷ cs) c e = by (eqb y.number n) e (removed x n cs c)
     dropped : (b : Bool) → eqb y.number c.number ≡ b → y ≡ c → times x (call_xids (cond (not b) (y ∷ rest) rest)) + one_if (eqb c.xid x) ≤ times x (call_xids (y ∷ cs))
     dropped true is same =
         let own : one_if (eqb y.xid x) ≡ one_if (eqb c.xid x) = ap (λ (z : PendingCall). one_if (eqb z.xid x)) same in
-        omega (arith, own, kept-less x (λ (z : PendingCall). not (eqb z.number c.number)) cs)
+        omega (arith, own, kept_less x (λ (z : PendingCall). not (eqb z.number c.number)) cs)
     dropped false is same = absurd (let wrong : true ≡ false = sym (eq-eqb y.number c.number (ap (λ (z : PendingCall). z.number) same)) ∙ is in cc)
 
     later : (b : Bool) → times x (call_xids rest) + one_if (eqb c.xid x) ≤ times x (call_xids cs) → times x (call_xids (cond (not b) (y ∷ rest) rest)) + one_if (eqb c.xid x) ≤ times x (call_xids (y ∷ cs))
@@ -131,10 +131,10 @@ removed x n (y ∷ cs) c e = by (eqb y.number n) e (removed x n cs c)
     by false e more = later (eqb y.number c.number) (more e)
 
 -- or by its xid
-pub executed-less : (x xid : ℕ) (cs : List PendingCall) → list_any (λ (c : PendingCall). eqb c.xid xid) cs ≡ true
+pub executed_less : (x xid : ℕ) (cs : List PendingCall) → list_any (λ (c : PendingCall). eqb c.xid xid) cs ≡ true
     → times x (call_xids (filter (λ (c : PendingCall). not (eqb c.xid xid)) cs)) + one_if (eqb xid x) ≤ times x (call_xids cs)
-executed-less x xid [] e = absurd cc
-executed-less x xid (c ∷ cs) e = by (eqb c.xid xid) refl e (executed-less x xid cs)
+executed_less x xid [] e = absurd cc
+executed_less x xid (c ∷ cs) e = by (eqb c.xid xid) refl e (executed_less x xid cs)
   where
     rest : List PendingCall
     rest = filter (λ (z : PendingCall). not (eqb z.xid xid)) cs
@@ -144,7 +144,7 @@ executed-less x xid (c ∷ cs) e = by (eqb c.xid xid) refl e (executed-less x xi
         → times x (call_xids (cond (not b) (c ∷ rest) rest)) + one_if (eqb xid x) ≤ times x (call_xids (c ∷ cs))
     by true is e more =
         let own : one_if (eqb c.xid x) ≡ one_if (eqb xid x) = ap (λ (n : ℕ). one_if (eqb n x)) (eqb-true c.xid xid is) in
-        omega (arith, own, kept-less x (λ (z : PendingCall). not (eqb z.xid xid)) cs)
+        omega (arith, own, kept_less x (λ (z : PendingCall). not (eqb z.xid xid)) cs)
     by false is e more = omega (arith, more e)
 
 -- ---- Of a frame's effect: what is answered was pending, or is new
@@ -155,18 +155,18 @@ error_xids s = map (λ (m : List ℕ). word_at 0 m) s.errors
 abbrev pub AnswersPending : List PendingCall → (ℕ → ℕ) → FrameEffect → Type 0
 AnswersPending calls new s = (x : ℕ) → times x (error_xids s) + times x (call_xids s.calls) ≤ new x + times x (call_xids calls)
 
-pending-judged : (calls : List PendingCall) (new : ℕ → ℕ) (o : CallVerdict) (s : FrameEffect) → AnswersPending calls new s → AnswersPending calls new (with_verdict o s)
-pending-judged calls new (Refuses reason) s h = h
-pending-judged calls new (IsReady r) s h = h
+pending_judged : (calls : List PendingCall) (new : ℕ → ℕ) (o : CallVerdict) (s : FrameEffect) → AnswersPending calls new s → AnswersPending calls new (with_verdict o s)
+pending_judged calls new (Refuses reason) s h = h
+pending_judged calls new (IsReady r) s h = h
 
-pub pending-send : (k : ServerState) (f : Frame) (message : List ℕ) → k.received.begun ≡ None → word_at 0 message < 2 ^ 32 → frame_segment f ≡ Ok (Untagged true OPCODE_SEND 0 QUEUE_SEND (msn_word (k.received.sends + 1)) 0 message)
+pub pending_send : (k : ServerState) (f : Frame) (message : List ℕ) → k.received.begun ≡ None → word_at 0 message < 2 ^ 32 → frame_segment f ≡ Ok (Untagged true OPCODE_SEND 0 QUEUE_SEND (msn_word (k.received.sends + 1)) 0 message)
     → AnswersPending k.calls (λ x. one_if (eqb (word_at 0 message) x)) (frame_effect k f)
-pending-send k f message none lt is =
-    send-effect k (λ m. word_at 0 m ≡ word_at 0 message) (AnswersPending k.calls new) (record {
-      judged = λ t place c s h. pending-judged k.calls new (by_payload c (payload_of t place c)) s h;
+pending_send k f message none lt is =
+    send_effect k (λ m. word_at 0 m ≡ word_at 0 message) (AnswersPending k.calls new) (record {
+      judged = λ t place c s h. pending_judged k.calls new (by_payload c (payload_of t place c)) s h;
       ends = λ m reason own is x. omega arith;
-      version = λ m own x. omega (arith, ap (λ (n : ℕ). one_if (eqb n x)) (version-error-xid (word_at 0 m) (word_at 4 m) (credit_word k) (omega (arith, own, lt)) ∙ own));
-      chunks = λ m own x. omega (arith, ap (λ (n : ℕ). one_if (eqb n x)) (chunk-error-xid (word_at 0 m) (credit_word k) (omega (arith, own, lt)) ∙ own));
+      version = λ m own x. omega (arith, ap (λ (n : ℕ). one_if (eqb n x)) (version_error_xid (word_at 0 m) (word_at 4 m) (credit_word k) (omega (arith, own, lt)) ∙ own));
+      chunks = λ m own x. omega (arith, ap (λ (n : ℕ). one_if (eqb n x)) (chunk_error_xid (word_at 0 m) (credit_word k) (omega (arith, own, lt)) ∙ own));
       pending = pending;
     }) f message none refl is
   where
@@ -176,15 +176,15 @@ pending-send k f message none lt is =
     pending : (place : ℕ) (m : List ℕ) (c : PendingCall) → word_at 0 m ≡ word_at 0 message → verdict k m ≡ MakesPending c
         → AnswersPending k.calls new (record (no_effect k) { calls = k.calls ++ c ∷ []; reads = k.reads ++ reads_of (k.regions ++ regions_of k place c) c; regions = k.regions ++ regions_of k place c })
     pending place m c own is x =
-        let own_xid = (verdict-new k m c is).0.own ∙ own in
-        omega (arith, ap (λ (xs : List ℕ). times x xs) (map-append (λ (y : PendingCall). y.xid) k.calls (c ∷ [])), times-append x (call_xids k.calls) (c.xid ∷ []), ap (λ (n : ℕ). one_if (eqb n x)) own_xid)
+        let own_xid = (verdict_new k m c is).0.own ∙ own in
+        omega (arith, ap (λ (xs : List ℕ). times x xs) (map-append (λ (y : PendingCall). y.xid) k.calls (c ∷ [])), times_append x (call_xids k.calls) (c.xid ∷ []), ap (λ (n : ℕ). one_if (eqb n x)) own_xid)
 
-pub pending-tagged : (k : ServerState) (f : Frame) (last : Bool) (opcode stag to : ℕ) (payload : List ℕ) → ((n : ℕ) (c : PendingCall) → find (λ (y : PendingCall). eqb y.number n) k.calls ≡ Some c → c.xid < 2 ^ 32) → frame_segment f ≡ Ok (Tagged last opcode stag to payload)
+pub pending_tagged : (k : ServerState) (f : Frame) (last : Bool) (opcode stag to : ℕ) (payload : List ℕ) → ((n : ℕ) (c : PendingCall) → find (λ (y : PendingCall). eqb y.number n) k.calls ≡ Some c → c.xid < 2 ^ 32) → frame_segment f ≡ Ok (Tagged last opcode stag to payload)
     → AnswersPending k.calls (λ x. 0) (frame_effect k f)
-pending-tagged k f last opcode stag to payload small is =
-    tagged-effect k (AnswersPending k.calls (λ x. 0)) (record {
+pending_tagged k f last opcode stag to payload small is =
+    tagged_effect_lem k (AnswersPending k.calls (λ x. 0)) (record {
       unchanged = λ x. omega arith;
-      judged = λ t place c s h. pending-judged k.calls (λ x. 0) (by_payload c (payload_of t place c)) s h;
+      judged = λ t place c s h. pending_judged k.calls (λ x. 0) (by_payload c (payload_of t place c)) s h;
       read = λ r reads is x. omega arith;
-      refused = λ r reads c is found x. omega (arith, removed x r.number k.calls c found, ap (λ (m : ℕ). one_if (eqb m x)) (chunk-error-xid c.xid (credit_word k) (small r.number c found)));
+      refused = λ r reads c is found x. omega (arith, removed x r.number k.calls c found, ap (λ (m : ℕ). one_if (eqb m x)) (chunk_error_xid c.xid (credit_word k) (small r.number c found)));
     }) f last opcode stag to payload is

@@ -14,7 +14,7 @@ use Rattle.nr_reduce.specs.ServerState.{ServerState, PendingCall}
 use Rattle.nr_laws.proofs.FrameContents.{FrameContent}
 use Rattle.nr_laws.proofs.FrameContents.FrameContent.{SendFrame}
 use Rattle.nr_laws.proofs.LinkInvariants.{Transit}
-use Rattle.nr_laws.proofs.AnsweredCalls.{message_xids, times, call_xids, outstanding_xids, xids-append, times-append}
+use Rattle.nr_laws.proofs.AnsweredCalls.{message_xids, times, call_xids, outstanding_xids, xids_append, times_append}
 
 -- how often an xid is that of a message of the server or of a pending call
 abbrev pub given_to : ℕ → List FrameContent → List PendingCall → ℕ
@@ -27,23 +27,23 @@ pub record Answered (first : ℕ) (k : ClientState) (s : ServerState) (u d all_d
   pub open_calls : (x : ℕ) → first ≤ x → x < first + k.calls_accepted → 1 ≤ times x (outstanding_xids k.outstanding) + times x (message_xids d)
   pub room : first + k.calls_accepted ≤ numbers_end
 
-said-more : (x : ℕ) (all_down said : List FrameContent) → times x (message_xids (all_down ++ said)) ≡ times x (message_xids all_down) + times x (message_xids said)
-said-more x all_down said = ap (λ (xs : List ℕ). times x xs) (xids-append all_down said) ∙ times-append x (message_xids all_down) (message_xids said)
+said_more_lem : (x : ℕ) (all_down said : List FrameContent) → times x (message_xids (all_down ++ said)) ≡ times x (message_xids all_down) + times x (message_xids said)
+said_more_lem x all_down said = ap (λ (xs : List ℕ). times x xs) (xids_append all_down said) ∙ times_append x (message_xids all_down) (message_xids said)
 
 -- ---- A frame at the server
 
 abbrev FrameAt : (first : ℕ) → ClientState → ServerState → ServerState → (u d all_down : List FrameContent) → Transit → FrameContent → (rest said : List FrameContent) → Type 0
 FrameAt first k s t u d all_down w p rest said = Answered first k t (u ++ p ∷ []) d (all_down ++ said) (record { queued_up = w.queued_up; up = rest; queued_down = w.queued_down ++ said; down = w.down })
 
-pub answered-send : (first : ℕ) (k : ClientState) (s t : ServerState) (u d all_down : List FrameContent) (w : Transit) (p : FrameContent) (rest said : List FrameContent) → t.received.sends ≡ s.received.sends + 1
+pub answered_send : (first : ℕ) (k : ClientState) (s t : ServerState) (u d all_down : List FrameContent) (w : Transit) (p : FrameContent) (rest said : List FrameContent) → t.received.sends ≡ s.received.sends + 1
     → ((x : ℕ) → times x (message_xids said) + times x (call_xids t.calls) ≤ one_if (eqb (first + s.received.sends) x) + times x (call_xids s.calls))
     → Answered first k s u d all_down w → FrameAt first k s t u d all_down w p rest said
-answered-send first k s t u d all_down w p rest said sends new h = record {
+answered_send first k s t u d all_down w p rest said sends new h = record {
   once = λ x. once x (cases_eq x (first + s.received.sends));
   later = λ x le.
-      omega (arith, le, sends, said-more x all_down said, new x, h.later x (omega (arith, le, sends)), ap one_if (ne_eqb (first + s.received.sends) x (λ e. omega (arith, e, le, sends))));
+      omega (arith, le, sends, said_more_lem x all_down said, new x, h.later x (omega (arith, le, sends)), ap one_if (ne_eqb (first + s.received.sends) x (λ e. omega (arith, e, le, sends))));
   earlier = λ x lt.
-      omega (arith, said-more x all_down said, new x, h.earlier x lt, ap one_if (ne_eqb (first + s.received.sends) x (λ e. omega (arith, e, lt))));
+      omega (arith, said_more_lem x all_down said, new x, h.earlier x lt, ap one_if (ne_eqb (first + s.received.sends) x (λ e. omega (arith, e, lt))));
   open_calls = h.open_calls;
   room = h.room;
 }
@@ -60,27 +60,27 @@ answered-send first k s t u d all_down w p rest said sends new h = record {
     one_most false = omega arith
 
     once : (x : ℕ) → (x ≡ first + s.received.sends) ⊎ (x ≢ first + s.received.sends) → given_to x (all_down ++ said) t.calls ≤ 1
-    once x (inl e) = omega (arith, said-more x all_down said, new x, h.later x (omega (arith, e)), one_most (eqb (first + s.received.sends) x))
-    once x (inr ne) = omega (arith, said-more x all_down said, new x, h.once x, ap one_if (ne_eqb (first + s.received.sends) x (λ e. ne (sym e))))
+    once x (inl e) = omega (arith, said_more_lem x all_down said, new x, h.later x (omega (arith, e)), one_most (eqb (first + s.received.sends) x))
+    once x (inr ne) = omega (arith, said_more_lem x all_down said, new x, h.once x, ap one_if (ne_eqb (first + s.received.sends) x (λ e. ne (sym e))))
 
-pub answered-other : (first : ℕ) (k : ClientState) (s t : ServerState) (u d all_down : List FrameContent) (w : Transit) (p : FrameContent) (rest said : List FrameContent) → t.received.sends ≡ s.received.sends
+pub answered_other : (first : ℕ) (k : ClientState) (s t : ServerState) (u d all_down : List FrameContent) (w : Transit) (p : FrameContent) (rest said : List FrameContent) → t.received.sends ≡ s.received.sends
     → ((x : ℕ) → times x (message_xids said) + times x (call_xids t.calls) ≤ times x (call_xids s.calls))
     → Answered first k s u d all_down w → FrameAt first k s t u d all_down w p rest said
-answered-other first k s t u d all_down w p rest said sends new h = record {
-  once = λ x. omega (arith, said-more x all_down said, new x, h.once x);
-  later = λ x le. omega (arith, said-more x all_down said, new x, h.later x (omega (arith, le, sends)));
-  earlier = λ x lt. omega (arith, said-more x all_down said, new x, h.earlier x lt);
+answered_other first k s t u d all_down w p rest said sends new h = record {
+  once = λ x. omega (arith, said_more_lem x all_down said, new x, h.once x);
+  later = λ x le. omega (arith, said_more_lem x all_down said, new x, h.later x (omega (arith, le, sends)));
+  earlier = λ x lt. omega (arith, said_more_lem x all_down said, new x, h.earlier x lt);
   open_calls = h.open_calls;
   room = h.room;
 }
 
 -- a call is executed, or the server's queue is written
-pub answered-server : (first : ℕ) (k : ClientState) (s t : ServerState) (u d all_down : List FrameContent) (w v : Transit) (said : List FrameContent) → t.received.sends ≡ s.received.sends
+pub answered_server : (first : ℕ) (k : ClientState) (s t : ServerState) (u d all_down : List FrameContent) (w v : Transit) (said : List FrameContent) → t.received.sends ≡ s.received.sends
     → ((x : ℕ) → times x (message_xids said) + times x (call_xids t.calls) ≤ times x (call_xids s.calls)) → Answered first k s u d all_down w → Answered first k t u d (all_down ++ said) v
-answered-server first k s t u d all_down w v said sends new h = record {
-  once = λ x. omega (arith, said-more x all_down said, new x, h.once x);
-  later = λ x le. omega (arith, said-more x all_down said, new x, h.later x (omega (arith, le, sends)));
-  earlier = λ x lt. omega (arith, said-more x all_down said, new x, h.earlier x lt);
+answered_server first k s t u d all_down w v said sends new h = record {
+  once = λ x. omega (arith, said_more_lem x all_down said, new x, h.once x);
+  later = λ x le. omega (arith, said_more_lem x all_down said, new x, h.later x (omega (arith, le, sends)));
+  earlier = λ x lt. omega (arith, said_more_lem x all_down said, new x, h.earlier x lt);
   open_calls = h.open_calls;
   room = h.room;
 }
@@ -88,9 +88,9 @@ answered-server first k s t u d all_down w v said sends new h = record {
 -- ---- A frame at the client
 
 -- the calls of other xids stay
-others-times : (x xid : ℕ) (os : List OutstandingCall) → eqb x xid ≡ false → times x (outstanding_xids (filter (λ (o : OutstandingCall). not (eqb o.xid xid)) os)) ≡ times x (outstanding_xids os)
-others-times x xid [] ne = refl
-others-times x xid (o ∷ os) ne = by (eqb o.xid xid) refl (others-times x xid os ne)
+others_times : (x xid : ℕ) (os : List OutstandingCall) → eqb x xid ≡ false → times x (outstanding_xids (filter (λ (o : OutstandingCall). not (eqb o.xid xid)) os)) ≡ times x (outstanding_xids os)
+others_times x xid [] ne = refl
+others_times x xid (o ∷ os) ne = by (eqb o.xid xid) refl (others_times x xid os ne)
   where
     rest : List OutstandingCall
     rest = filter (λ (y : OutstandingCall). not (eqb y.xid xid)) os
@@ -101,9 +101,9 @@ others-times x xid (o ∷ os) ne = by (eqb o.xid xid) refl (others-times x xid o
         omega (arith, same, ap one_if other)
     by false is same = omega (arith, same)
 
-pub answered-message : (first : ℕ) (k t : ClientState) (s : ServerState) (u d all_down : List FrameContent) (w v : Transit) (message : List ℕ) → t.outstanding ≡ filter (λ (o : OutstandingCall). not (eqb o.xid (word_at 0 message))) k.outstanding → t.calls_accepted ≡ k.calls_accepted
+pub answered_message_lem : (first : ℕ) (k t : ClientState) (s : ServerState) (u d all_down : List FrameContent) (w v : Transit) (message : List ℕ) → t.outstanding ≡ filter (λ (o : OutstandingCall). not (eqb o.xid (word_at 0 message))) k.outstanding → t.calls_accepted ≡ k.calls_accepted
     → Answered first k s u d all_down w → Answered first t s u (d ++ SendFrame message ∷ []) all_down v
-answered-message first k t s u d all_down w v message left accepted h = record {
+answered_message_lem first k t s u d all_down w v message left accepted h = record {
   once = h.once;
   later = h.later;
   earlier = h.earlier;
@@ -112,31 +112,31 @@ answered-message first k t s u d all_down w v message left accepted h = record {
 }
   where
     more : (x : ℕ) → times x (message_xids (d ++ SendFrame message ∷ [])) ≡ times x (message_xids d) + (one_if (eqb (word_at 0 message) x) + 0)
-    more x = said-more x d (SendFrame message ∷ [])
+    more x = said_more_lem x d (SendFrame message ∷ [])
 
     open_call : (x : ℕ) → first ≤ x → x < first + k.calls_accepted → (b : Bool) → eqb (word_at 0 message) x ≡ b → 1 ≤ times x (outstanding_xids t.outstanding) + times x (message_xids (d ++ SendFrame message ∷ []))
     open_call x le lt true is = omega (arith, more x, ap one_if is)
     open_call x le lt false is =
         let other : eqb x (word_at 0 message) ≡ false = ne_eqb x (word_at 0 message) (λ e. absurd (let wrong : true ≡ false = sym (eq-eqb (word_at 0 message) x (sym e)) ∙ is in cc)) in
-        omega (arith, more x, h.open_calls x le lt, ap (λ (os : List OutstandingCall). times x (outstanding_xids os)) left, others-times x (word_at 0 message) k.outstanding other)
+        omega (arith, more x, h.open_calls x le lt, ap (λ (os : List OutstandingCall). times x (outstanding_xids os)) left, others_times x (word_at 0 message) k.outstanding other)
 
 -- a frame without a message
-pub answered-same : (first : ℕ) (k t : ClientState) (s : ServerState) (u d all_down : List FrameContent) (w v : Transit) (p : FrameContent) → t.outstanding ≡ k.outstanding → t.calls_accepted ≡ k.calls_accepted → message_xids (p ∷ []) ≡ []
+pub answered_same : (first : ℕ) (k t : ClientState) (s : ServerState) (u d all_down : List FrameContent) (w v : Transit) (p : FrameContent) → t.outstanding ≡ k.outstanding → t.calls_accepted ≡ k.calls_accepted → message_xids (p ∷ []) ≡ []
     → Answered first k s u d all_down w → Answered first t s u (d ++ p ∷ []) all_down v
-answered-same first k t s u d all_down w v p same accepted none h = record {
+answered_same first k t s u d all_down w v p same accepted none h = record {
   once = h.once;
   later = h.later;
   earlier = h.earlier;
   open_calls = λ x le lt.
-      omega (arith, h.open_calls x le (omega (arith, lt, accepted)), ap (λ (os : List OutstandingCall). times x (outstanding_xids os)) same, said-more x d (p ∷ []), ap (λ (xs : List ℕ). times x xs) none);
+      omega (arith, h.open_calls x le (omega (arith, lt, accepted)), ap (λ (os : List OutstandingCall). times x (outstanding_xids os)) same, said_more_lem x d (p ∷ []), ap (λ (xs : List ℕ). times x xs) none);
   room = omega (arith, accepted, h.room);
 }
 
 -- ---- Events of the client
 
-pub answered-submit : (first : ℕ) (k t : ClientState) (s : ServerState) (u d all_down : List FrameContent) (w v : Transit) (o : OutstandingCall) → t.outstanding ≡ k.outstanding ++ o ∷ [] → t.calls_accepted ≡ k.calls_accepted + 1 → o.xid ≡ first + k.calls_accepted → o.xid < numbers_end
+pub answered_submit : (first : ℕ) (k t : ClientState) (s : ServerState) (u d all_down : List FrameContent) (w v : Transit) (o : OutstandingCall) → t.outstanding ≡ k.outstanding ++ o ∷ [] → t.calls_accepted ≡ k.calls_accepted + 1 → o.xid ≡ first + k.calls_accepted → o.xid < numbers_end
     → Answered first k s u d all_down w → Answered first t s u d all_down v
-answered-submit first k t s u d all_down w v o outs accepted own small h = record {
+answered_submit first k t s u d all_down w v o outs accepted own small h = record {
   once = h.once;
   later = h.later;
   earlier = h.earlier;
@@ -147,7 +147,7 @@ answered-submit first k t s u d all_down w v o outs accepted own small h = recor
     more : (x : ℕ) → times x (outstanding_xids t.outstanding) ≡ times x (outstanding_xids k.outstanding) + (one_if (eqb o.xid x) + 0)
     more x =
         ap (λ (os : List OutstandingCall). times x (outstanding_xids os)) outs ∙ ap (λ (xs : List ℕ). times x xs) (map-append (λ (y : OutstandingCall). y.xid) k.outstanding (o ∷ []))
-        ∙ times-append x (outstanding_xids k.outstanding) (o.xid ∷ [])
+        ∙ times_append x (outstanding_xids k.outstanding) (o.xid ∷ [])
 
     open_call : (x : ℕ) → first ≤ x → x < first + t.calls_accepted → (b : Bool) → eqb o.xid x ≡ b → 1 ≤ times x (outstanding_xids t.outstanding) + times x (message_xids d)
     open_call x le lt true is = omega (arith, more x, ap one_if is)
@@ -159,28 +159,28 @@ answered-submit first k t s u d all_down w v o outs accepted own small h = recor
         below (inl lt2) ne = lt2
         below (inr ge) ne = absurd (ne (omega (arith, own, ge, lt, accepted)))
 
-map-times : (f : OutstandingCall → OutstandingCall) (x : ℕ) (os : List OutstandingCall) → ((o : OutstandingCall) → (f o).xid ≡ o.xid) → times x (outstanding_xids (map f os)) ≡ times x (outstanding_xids os)
-map-times f x [] same = refl
-map-times f x (o ∷ os) same = omega (arith, ap (λ (n : ℕ). one_if (eqb n x)) (same o), map-times f x os same)
+map_times : (f : OutstandingCall → OutstandingCall) (x : ℕ) (os : List OutstandingCall) → ((o : OutstandingCall) → (f o).xid ≡ o.xid) → times x (outstanding_xids (map f os)) ≡ times x (outstanding_xids os)
+map_times f x [] same = refl
+map_times f x (o ∷ os) same = omega (arith, ap (λ (n : ℕ). one_if (eqb n x)) (same o), map_times f x os same)
 
 -- the calls go on as others of the same xids
-pub answered-map : (first : ℕ) (f : OutstandingCall → OutstandingCall) (k t : ClientState) (s : ServerState) (u d all_down : List FrameContent) (w v : Transit) → t.outstanding ≡ map f k.outstanding → ((o : OutstandingCall) → (f o).xid ≡ o.xid) → t.calls_accepted ≡ k.calls_accepted
+pub answered_map : (first : ℕ) (f : OutstandingCall → OutstandingCall) (k t : ClientState) (s : ServerState) (u d all_down : List FrameContent) (w v : Transit) → t.outstanding ≡ map f k.outstanding → ((o : OutstandingCall) → (f o).xid ≡ o.xid) → t.calls_accepted ≡ k.calls_accepted
     → Answered first k s u d all_down w → Answered first t s u d all_down v
-answered-map first f k t s u d all_down w v outs same accepted h = record {
+answered_map first f k t s u d all_down w v outs same accepted h = record {
   once = h.once;
   later = h.later;
   earlier = h.earlier;
   open_calls = λ x le lt.
-      omega (arith, h.open_calls x le (omega (arith, lt, accepted)), ap (λ (os : List OutstandingCall). times x (outstanding_xids os)) outs, map-times f x k.outstanding same);
+      omega (arith, h.open_calls x le (omega (arith, lt, accepted)), ap (λ (os : List OutstandingCall). times x (outstanding_xids os)) outs, map_times f x k.outstanding same);
   room = omega (arith, accepted, h.room);
 }
 
 -- ---- The message at the front answers a call
 
-found-sent : (sent : OutstandingCall → Bool) (x : ℕ) (os : List OutstandingCall) → ((o : OutstandingCall) → o.xid ≡ x → sent o ≡ true) → 1 ≤ times x (outstanding_xids os)
+found_sent : (sent : OutstandingCall → Bool) (x : ℕ) (os : List OutstandingCall) → ((o : OutstandingCall) → o.xid ≡ x → sent o ≡ true) → 1 ≤ times x (outstanding_xids os)
     → (o : OutstandingCall) × (find (λ (y : OutstandingCall). eqb y.xid x && sent y) os ≡ Some o)
-found-sent sent x [] own some = absurd (omega (arith, some))
-found-sent sent x (o ∷ os) own some = by (eqb o.xid x) refl (found-sent sent x os own)
+found_sent sent x [] own some = absurd (omega (arith, some))
+found_sent sent x (o ∷ os) own some = by (eqb o.xid x) refl (found_sent sent x os own)
   where
     by : (b : Bool) → eqb o.xid x ≡ b → (1 ≤ times x (outstanding_xids os) → (y : OutstandingCall) × (find (λ (z : OutstandingCall). eqb z.xid x && sent z) os ≡ Some y))
         → (y : OutstandingCall) × (find (λ (z : OutstandingCall). eqb z.xid x && sent z) (o ∷ os) ≡ Some y)
@@ -189,17 +189,17 @@ found-sent sent x (o ∷ os) own some = by (eqb o.xid x) refl (found-sent sent x
         let m = later (omega (arith, some, ap one_if is)) in
         (m.0, (λ i. cond (is i && sent o) (Some o) (find (λ (z : OutstandingCall). eqb z.xid x && sent z) os)) ∙ m.1)
 
-pub answers-one : (first : ℕ) (k : ClientState) (s : ServerState) (u d all_down : List FrameContent) (w : Transit) (message : List ℕ) (rest : List FrameContent) → all_down ≡ d ++ SendFrame message ∷ rest → s.received.sends ≤ k.calls_accepted → k.first_xid ≡ first → s.received.sends ≤ ends_left k.written k.send_ends
+pub answers_one : (first : ℕ) (k : ClientState) (s : ServerState) (u d all_down : List FrameContent) (w : Transit) (message : List ℕ) (rest : List FrameContent) → all_down ≡ d ++ SendFrame message ∷ rest → s.received.sends ≤ k.calls_accepted → k.first_xid ≡ first → s.received.sends ≤ ends_left k.written k.send_ends
     → Answered first k s u d all_down w → (o : OutstandingCall) × (answered_call k (word_at 0 message) ≡ Some o)
-answers-one first k s u d all_down w message rest parts sends own left h =
+answers_one first k s u d all_down w message rest parts sends own left h =
     let x = word_at 0 message in
     let there : times x (message_xids all_down) ≡ times x (message_xids d) + (1 + times x (message_xids rest)) =
-    ap (λ (ps : List FrameContent). times x (message_xids ps)) parts ∙ said-more x d (SendFrame message ∷ rest)
+    ap (λ (ps : List FrameContent). times x (message_xids ps)) parts ∙ said_more_lem x d (SendFrame message ∷ rest)
     ∙ ap (λ (b : Bool). times x (message_xids d) + (one_if b + times x (message_xids rest))) (eq-eqb x x refl) in
     let below : x < first + s.received.sends = not-later x there (cases_lt x (first + s.received.sends)) in
     let above : first ≤ x = not-earlier x there (cases_lt x first) in
     let some : 1 ≤ times x (outstanding_xids k.outstanding) = omega (arith, there, h.once x, h.open_calls x above (omega (arith, below, sends))) in
-    found-sent (is_sent k) x k.outstanding (λ o same. lt-ltb (o.xid - k.first_xid) (ends_left k.written k.send_ends) (omega (arith, same, own, left, below, above))) some
+    found_sent (is_sent k) x k.outstanding (λ o same. lt-ltb (o.xid - k.first_xid) (ends_left k.written k.send_ends) (omega (arith, same, own, left, below, above))) some
   where
     not-later : (x : ℕ) → times x (message_xids all_down) ≡ times x (message_xids d) + (1 + times x (message_xids rest)) → (x < first + s.received.sends) ⊎ (first + s.received.sends ≤ x) → x < first + s.received.sends
     not-later x there (inl lt) = lt

@@ -10,7 +10,7 @@ use Rattle.nr_reduce.specs.declared.mark.Mark.TheVariants as marks
 use Rattle.nr_reduce.specs.declared.outline.Plan.{Plan}
 use Rattle.nr_reduce.specs.Limits.{send_max}
 use Rattle.nr_reduce.specs.Plans.{plan_of}
-use Rattle.nr_reduce.specs.Undone.{IsNotGiven}
+use Rattle.nr_reduce.specs.ChunkBytes.{IsNotGiven}
 use Rattle.nr_reduce.specs.Matched.{IsPrefixOf}
 use Rattle.nr_reduce.specs.ClientState.{call_payload}
 use Rattle.nr_reduce.specs.Run.{client}
@@ -21,16 +21,16 @@ use Rattle.nr_laws.specs.Payloads.{HasPlan}
 use Rattle.nr_laws.specs.PlainLinks.{server_with, PlainReplyMark}
 use Rattle.nr_laws.specs.RefusedMessages.{HasRefusedMessage}
 use Rattle.nr_laws.specs.ChunkOutcomes.{AutoHasReplies}
-use Rattle.nr_laws.proofs.OnceByXid.{at-mark, before-mark}
-use Rattle.nr_laws.proofs.Following.{far-before}
-use Rattle.nr_laws.proofs.Completed.{version-never}
-use Rattle.nr_laws.proofs.ExecutedPayloads.{planned-by}
+use Rattle.nr_laws.proofs.OnceByXid.{at_mark, before_mark}
+use Rattle.nr_laws.proofs.Following.{far_before}
+use Rattle.nr_laws.proofs.Completed.{version_never}
+use Rattle.nr_laws.proofs.ExecutedPayloads.{planned_by}
 use Rattle.nr_laws.proofs.OwnPayloads.{payloads_are_own}
-use Rattle.nr_laws.proofs.ChunkCauses.{ExecuteNotHeld, chunk-caused, held-by-plan}
-use Rattle.nr_laws.proofs.LaterMarks.{mark-later}
-use Rattle.nr_laws.proofs.OwnPlans.{one-form}
+use Rattle.nr_laws.proofs.ChunkCauses.{ExecuteNotHeld, chunk_caused, held_by_plan}
+use Rattle.nr_laws.proofs.LaterMarks.{mark_later}
+use Rattle.nr_laws.proofs.OwnPlans.{one_form}
 use Rattle.nr_laws.proofs.OwnMessages.{no_own_plan_is_refused}
-use Rattle.nr_laws.proofs.Basics.{some-is}
+use Rattle.nr_laws.proofs.Basics.{some_is_lem}
 
 pub auto_has_replies : AutoHasReplies
 auto_has_replies reply_to adds opened link run earlier before call xid outcome plain plainly typed far at done = by outcome done
@@ -39,16 +39,16 @@ auto_has_replies reply_to adds opened link run earlier before call xid outcome p
     submit = marks.Submit link call forms.Auto (submissions.Accepted xid)
 
     accepted : IsAccepted opened link earlier call forms.Auto xid
-    accepted = at-mark (AskedMark IsPrefixOf opened link) run earlier submit at.after at.is far.asked refl
+    accepted = at_mark (AskedMark IsPrefixOf opened link) run earlier submit at.after at.is far.asked refl
 
     bytes : IsBytes (call_payload xid call)
-    bytes = (at-mark TypedMark run earlier submit at.after at.is typed).0
+    bytes = (at_mark TypedMark run earlier submit at.after at.is typed).0
 
     plan : Plan
     plan = accepted.plan
 
     planned : plan_of (call_payload xid call) forms.Auto send_max send_max ≡ Ok plan
-    planned = planned-by opened link earlier xid call forms.Auto plan accepted.planned
+    planned = planned_by opened link earlier xid call forms.Auto plan accepted.planned
 
     has : HasPlan opened link run xid plan
     has = record { call = call; form = forms.Auto; before = earlier; at = at; planned = accepted.planned }
@@ -56,21 +56,21 @@ auto_has_replies reply_to adds opened link run earlier before call xid outcome p
     not_refused : MarkAt run before (marks.Done link xid outcomes.Chunk) → HasRefusedMessage opened link before xid → ⊥
     not_refused chunk m =
         let mark : Mark = marks.Done link xid outcomes.Chunk in
-        let there = mark-later run before mark chunk.after m.has.before (marks.Submit link m.has.call m.has.form (submissions.Accepted xid)) chunk.is m.has.at in
-        no_own_plan_is_refused opened link before xid (before-mark TypedMark run before mark chunk.after chunk.is typed) (far-before opened link run before mark chunk.after chunk.is far).asked m
-        (subst IsNotGiven (one-form opened link run earlier m.has.before at.after there.after call m.has.call forms.Auto m.has.form xid xid far.asked refl at.is there.is) tt)
+        let there = mark_later run before mark chunk.after m.has.before (marks.Submit link m.has.call m.has.form (submissions.Accepted xid)) chunk.is m.has.at in
+        no_own_plan_is_refused opened link before xid (before_mark TypedMark run before mark chunk.after chunk.is typed) (far_before opened link run before mark chunk.after chunk.is far).asked m
+        (subst IsNotGiven (one_form opened link run earlier m.has.before at.after there.after call m.has.call forms.Auto m.has.form xid xid far.asked refl at.is there.is) tt)
 
     held : MarkAt run before (marks.Done link xid outcomes.Chunk) → ExecuteNotHeld opened link before xid → ⊥
     held chunk u =
         let mark : Mark = marks.Done link xid outcomes.Chunk in
         let execute : Mark = marks.Execute link xid u.moment u.payload u.place u.reply in
-        let executed = mark-later run before mark chunk.after u.before execute chunk.is u.at in
+        let executed = mark_later run before mark chunk.after u.before execute chunk.is u.at in
         let own : call_payload xid call ≡ u.payload =
-        some-is (call_payload xid call) u.payload (payloads_are_own opened link run u.before xid plan u.moment u.payload u.place u.reply typed far has executed) in
-        let replied = at-mark (PlainReplyMark (server_with reply_to adds) link) run u.before execute executed.after executed.is plainly refl in
+        some_is_lem (call_payload xid call) u.payload (payloads_are_own opened link run u.before xid plan u.moment u.payload u.place u.reply typed far has executed) in
+        let replied = at_mark (PlainReplyMark (server_with reply_to adds) link) run u.before execute executed.after executed.is plainly refl in
         plain.auto replied.0 u.moment u.payload u.reply send_max send_max (client opened link earlier).state.stag plan (subst IsBytes own bytes) replied.1 (omega arith)
         (ap (λ (x : List ℕ). plan_of x forms.Auto send_max send_max) (sym own) ∙ planned)
-        (sym (held-by-plan opened link run u.before xid plan u.moment u.payload u.place u.reply typed far has executed) ∙ u.none)
+        (sym (held_by_plan opened link run u.before xid plan u.moment u.payload u.place u.reply typed far has executed) ∙ u.none)
 
     no_cause : MarkAt run before (marks.Done link xid outcomes.Chunk) → HasRefusedMessage opened link before xid ⊎ ExecuteNotHeld opened link before xid → ⊥
     no_cause chunk (inl r) = not_refused chunk r
@@ -78,5 +78,5 @@ auto_has_replies reply_to adds opened link run earlier before call xid outcome p
 
     by : (o : Outcome) → MarkAt run before (marks.Done link xid o) → (reply : List ℕ) × (o ≡ outcomes.Reply reply)
     by (outcomes.Reply reply) there = (reply, refl)
-    by outcomes.Chunk there = absurd (no_cause there (chunk-caused opened link run before there.after xid typed far there.is))
-    by (outcomes.Version low high) there = absurd (version-never opened link run before there.after xid low high typed far there.is)
+    by outcomes.Chunk there = absurd (no_cause there (chunk_caused opened link run before there.after xid typed far there.is))
+    by (outcomes.Version low high) there = absurd (version_never opened link run before there.after xid low high typed far there.is)

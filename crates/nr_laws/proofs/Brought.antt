@@ -13,24 +13,24 @@ use Rattle.nr_wire.specs.Next.{frame_answer, hello_in, segment_in}
 use Rattle.nr_wire.specs.Next.Next.{Whole, More}
 use Rattle.nr_wire.specs.Stream.{Split, split, frames_then, is_whole, frame_len, IsFrame, AreFrames, awaited_after}
 use Rattle.nr_wire.proofs.Frames.{whole_from, fields_some}
-use Rattle.nr_wire.proofs.Splits.{split-append, split-frames}
+use Rattle.nr_wire.proofs.Splits.{split_append, split_frames}
 use Rattle.nr_wire.proofs.Segments.{encoding_again}
 use Rattle.nr_wire.proofs.Hellos.{hello_again}
 use Rattle.nr_link.specs.Output.{own_hello}
 use Rattle.nr_link.specs.Frames.{Frame, frames_from, frames_completed, is_hello}
 use Rattle.nr_link.specs.Ending.{frame_segment}
-use Rattle.nr_link.proofs.Streams.{frames_from-append, frames_completed-split}
+use Rattle.nr_link.proofs.Streams.{frames_from_append, frames_completed_split}
 use Rattle.nr_reduce.specs.declared.call.Submission.TheVariants as submissions
 use Rattle.nr_reduce.specs.declared.mark.Mark.{Mark}
 use Rattle.nr_reduce.specs.declared.mark.Mark.TheVariants as marks
 use Rattle.nr_reduce.specs.History.{other, same_side, bytes_received, fed_at}
-use Rattle.nr_reduce.specs.Events.{Event, events, events_at, if_own}
-use Rattle.nr_reduce.specs.Events.Event.{FrameReceived, CallSubmitted, MemoryRevoked, CallExecuted, QueueWritten}
+use Rattle.nr_reduce.specs.Events.{RunEvent, events, events_at, if_own}
+use Rattle.nr_reduce.specs.Events.RunEvent.{FrameReceived, CallSubmitted, MemoryRevoked, CallExecuted, QueueWritten}
 use Rattle.nr_reduce.specs.Matched.{IsPrefixOf}
-use Rattle.nr_reduce.proofs.Steps.{events-one}
+use Rattle.nr_reduce.proofs.Steps.{events_one}
 use Rattle.nr_laws.proofs.Outputs.{Output, bytes_of, bytes_of_all}
 use Rattle.nr_laws.proofs.Outputs.Output.{AHello, ASegment}
-use Rattle.nr_reduce.proofs.Standing.{received-one}
+use Rattle.nr_reduce.proofs.Standing.{received_one}
 
 -- ---- Segments that are read as they are written
 
@@ -56,9 +56,9 @@ pub record IsSegmentFrame (frame : List ℕ) (segment : Segment) : Type 0 where
   pub is_frame : IsFrame Fpdu frame
   pub says : segment_of frame ≡ Ok segment
 
-pub encoding-is : (segment : Segment) → IsWord segment → IsSegmentFrame (encoding segment) segment
+pub encoding_is : (segment : Segment) → IsWord segment → IsSegmentFrame (encoding segment) segment
 unfolding segment_in
-encoding-is segment w =
+encoding_is segment w =
     let frame = encoding segment in
     let read : segment_in (frame ++ []) ≡ Whole segment (length frame) = encoding_again segment [] w.supported w.fits w.size in
     let found : segment_in frame ≡ Whole segment (length frame) = rw append-nil at read in
@@ -74,9 +74,9 @@ pub record IsHelloFrame (side : Side) (frame : List ℕ) : Type 0 where
   pub is_frame : IsFrame (HelloFrom side) frame
   pub says : hello_of side frame ≡ Ok (record { side = side; flags = 0; private = [] })
 
-pub hello-is : (side : Side) → IsHelloFrame side (own_hello side)
+pub hello_is : (side : Side) → IsHelloFrame side (own_hello side)
 unfolding own_hello hello_in
-hello-is side =
+hello_is side =
     let hello : Hello = record { side = side; flags = 0; private = [] } in
     let frame = hello_encoding hello in
     let read : hello_in side (frame ++ []) ≡ Whole hello (length frame) = hello_again hello [] (unrefused side, lit≤ tt) in
@@ -94,32 +94,32 @@ AreFrom (HelloFrom side) (ASegment s ∷ outs) = ⊥
 AreFrom Fpdu (AHello bytes ∷ outs) = ⊥
 AreFrom Fpdu (ASegment s ∷ outs) = IsWord s × AreFrom Fpdu outs
 
-from-frames : (a : Awaited) (outs : List Output) → AreFrom a outs → AreFrames a (map bytes_of outs)
-from-frames a [] h = tt
-from-frames (HelloFrom side) (AHello bytes ∷ outs) h = (subst (λ (b : List ℕ). IsFrame (HelloFrom side) b) (sym h.0) (hello-is side).is_frame, from-frames Fpdu outs h.1)
-from-frames (HelloFrom side) (ASegment s ∷ outs) h = absurd h
-from-frames Fpdu (AHello bytes ∷ outs) h = absurd h
-from-frames Fpdu (ASegment s ∷ outs) h = ((encoding-is s h.0).is_frame, from-frames Fpdu outs h.1)
+from_frames : (a : Awaited) (outs : List Output) → AreFrom a outs → AreFrames a (map bytes_of outs)
+from_frames a [] h = tt
+from_frames (HelloFrom side) (AHello bytes ∷ outs) h = (subst (λ (b : List ℕ). IsFrame (HelloFrom side) b) (sym h.0) (hello_is side).is_frame, from_frames Fpdu outs h.1)
+from_frames (HelloFrom side) (ASegment s ∷ outs) h = absurd h
+from_frames Fpdu (AHello bytes ∷ outs) h = absurd h
+from_frames Fpdu (ASegment s ∷ outs) h = ((encoding_is s h.0).is_frame, from_frames Fpdu outs h.1)
 
-pub from-first : (a : Awaited) (xs ys : List Output) → AreFrom a (xs ++ ys) → AreFrom a xs
-from-first a [] ys h = tt
-from-first (HelloFrom side) (AHello bytes ∷ xs) ys h = (h.0, from-first Fpdu xs ys h.1)
-from-first (HelloFrom side) (ASegment s ∷ xs) ys h = h
-from-first Fpdu (AHello bytes ∷ xs) ys h = h
-from-first Fpdu (ASegment s ∷ xs) ys h = (h.0, from-first Fpdu xs ys h.1)
+pub from_first : (a : Awaited) (xs ys : List Output) → AreFrom a (xs ++ ys) → AreFrom a xs
+from_first a [] ys h = tt
+from_first (HelloFrom side) (AHello bytes ∷ xs) ys h = (h.0, from_first Fpdu xs ys h.1)
+from_first (HelloFrom side) (ASegment s ∷ xs) ys h = h
+from_first Fpdu (AHello bytes ∷ xs) ys h = h
+from_first Fpdu (ASegment s ∷ xs) ys h = (h.0, from_first Fpdu xs ys h.1)
 
-concat-bytes : (outs : List Output) → concat (map bytes_of outs) ≡ bytes_of_all outs
-concat-bytes [] = refl
-concat-bytes (o ∷ outs) = ap (λ (xs : List ℕ). bytes_of o ++ xs) (concat-bytes outs)
+concat_bytes : (outs : List Output) → concat (map bytes_of outs) ≡ bytes_of_all outs
+concat_bytes [] = refl
+concat_bytes (o ∷ outs) = ap (λ (xs : List ℕ). bytes_of o ++ xs) (concat_bytes outs)
 
-map-take : (n : ℕ) (outs : List Output) → take n (map bytes_of outs) ≡ map bytes_of (take n outs)
-map-take zero outs = refl
-map-take (suc n) [] = refl
-map-take (suc n) (o ∷ outs) = ap (λ (xs : List (List ℕ)). bytes_of o ∷ xs) (map-take n outs)
+map_take : (n : ℕ) (outs : List Output) → take n (map bytes_of outs) ≡ map bytes_of (take n outs)
+map_take zero outs = refl
+map_take (suc n) [] = refl
+map_take (suc n) (o ∷ outs) = ap (λ (xs : List (List ℕ)). bytes_of o ∷ xs) (map_take n outs)
 
-split-nothing : (a : Awaited) → split a [] ≡ record { frames = []; rest = [] }
+split_nothing : (a : Awaited) → split a [] ≡ record { frames = []; rest = [] }
 unfolding split
-split-nothing a = refl
+split_nothing a = refl
 
 -- the first bytes of what a side writes are the frames of its first outputs
 pub record FirstOf (a : Awaited) (stream : List ℕ) (outs : List Output) : Type 0 where
@@ -128,21 +128,21 @@ pub record FirstOf (a : Awaited) (stream : List ℕ) (outs : List Output) : Type
   pub parts : came ++ left ≡ outs
   pub frames : (split a stream).frames ≡ map bytes_of came
 
-pub first-of : (a : Awaited) (stream : List ℕ) (outs : List Output) → AreFrom a outs → IsPrefixOf stream (bytes_of_all outs) → FirstOf a stream outs
-first-of a stream outs from p =
+pub first_of_lem : (a : Awaited) (stream : List ℕ) (outs : List Output) → AreFrom a outs → IsPrefixOf stream (bytes_of_all outs) → FirstOf a stream outs
+first_of_lem a stream outs from p =
     let all : List (List ℕ) = map bytes_of outs in
-    let whole : stream ++ p.0 ≡ concat all ++ [] = p.1 ∙ sym (concat-bytes outs) ∙ sym (append-nil (concat all)) in
+    let whole : stream ++ p.0 ≡ concat all ++ [] = p.1 ∙ sym (concat_bytes outs) ∙ sym (append-nil (concat all)) in
     let first = split a stream in
     let rest = split (awaited_after a first.frames) (first.rest ++ p.0) in
     let both : frames_then first.frames rest ≡ frames_then all (split (awaited_after a all) []) =
-    sym (split-append a stream p.0) ∙ ap (λ (xs : List ℕ). split a xs) whole ∙ split-frames a all [] (from-frames a outs from) in
+    sym (split_append a stream p.0) ∙ ap (λ (xs : List ℕ). split a xs) whole ∙ split_frames a all [] (from_frames a outs from) in
     let frames : first.frames ++ rest.frames ≡ all =
-    ap (λ (s : Split). s.frames) both ∙ ap (λ (s : Split). all ++ s.frames) (split-nothing (awaited_after a all)) ∙ append-nil all in
+    ap (λ (s : Split). s.frames) both ∙ ap (λ (s : Split). all ++ s.frames) (split_nothing (awaited_after a all)) ∙ append-nil all in
     let n = length first.frames in record {
       came = take n outs;
       left = drop n outs;
       parts = take-append-drop n outs;
-      frames = sym (take_at first.frames rest.frames n refl) ∙ ap (λ (fs : List (List ℕ)). take n fs) frames ∙ map-take n outs;
+      frames = sym (take_at first.frames rest.frames n refl) ∙ ap (λ (fs : List (List ℕ)). take n fs) frames ∙ map_take n outs;
     }
 
 -- ---- The frames of events
@@ -152,7 +152,7 @@ Brought (AHello bytes) f = (is_hello f ≡ true) × (f.bytes ≡ bytes)
 Brought (ASegment s) f = (is_hello f ≡ false) × (frame_segment f ≡ Ok s)
 
 -- the frames among some events bring these, in order
-abbrev pub Brings : List Event → List Output → Type 0
+abbrev pub Brings : List RunEvent → List Output → Type 0
 Brings [] outs = outs ≡ []
 Brings (FrameReceived f ∷ es) [] = ⊥
 Brings (FrameReceived f ∷ es) (o ∷ outs) = Brought o f × Brings es outs
@@ -161,7 +161,7 @@ Brings (MemoryRevoked p xid ∷ es) outs = Brings es outs
 Brings (CallExecuted e ∷ es) outs = Brings es outs
 Brings (QueueWritten taken ∷ es) outs = Brings es outs
 
-abbrev frames_in : List Event → List Frame
+abbrev frames_in : List RunEvent → List Frame
 frames_in [] = []
 frames_in (FrameReceived f ∷ es) = f ∷ frames_in es
 frames_in (CallSubmitted p a ∷ es) = frames_in es
@@ -169,33 +169,33 @@ frames_in (MemoryRevoked p xid ∷ es) = frames_in es
 frames_in (CallExecuted e ∷ es) = frames_in es
 frames_in (QueueWritten taken ∷ es) = frames_in es
 
-frames_in-append : (es more : List Event) → frames_in (es ++ more) ≡ frames_in es ++ frames_in more
-frames_in-append [] more = refl
-frames_in-append (FrameReceived f ∷ es) more = ap (λ (fs : List Frame). f ∷ fs) (frames_in-append es more)
-frames_in-append (CallSubmitted p a ∷ es) more = frames_in-append es more
-frames_in-append (MemoryRevoked p xid ∷ es) more = frames_in-append es more
-frames_in-append (CallExecuted e ∷ es) more = frames_in-append es more
-frames_in-append (QueueWritten taken ∷ es) more = frames_in-append es more
+frames_in_append : (es more : List RunEvent) → frames_in (es ++ more) ≡ frames_in es ++ frames_in more
+frames_in_append [] more = refl
+frames_in_append (FrameReceived f ∷ es) more = ap (λ (fs : List Frame). f ∷ fs) (frames_in_append es more)
+frames_in_append (CallSubmitted p a ∷ es) more = frames_in_append es more
+frames_in_append (MemoryRevoked p xid ∷ es) more = frames_in_append es more
+frames_in_append (CallExecuted e ∷ es) more = frames_in_append es more
+frames_in_append (QueueWritten taken ∷ es) more = frames_in_append es more
 
-frames_in-map : (fs : List Frame) → frames_in (map FrameReceived fs) ≡ fs
-frames_in-map [] = refl
-frames_in-map (f ∷ fs) = ap (λ (x : List Frame). f ∷ x) (frames_in-map fs)
+frames_in_map : (fs : List Frame) → frames_in (map FrameReceived fs) ≡ fs
+frames_in_map [] = refl
+frames_in_map (f ∷ fs) = ap (λ (x : List Frame). f ∷ x) (frames_in_map fs)
 
 -- the frames of a stream
 abbrev frames_by : Side → List ℕ → List Frame
 frames_by peer stream = frames_from 0 (split (HelloFrom peer) stream).frames
 
-frames-more : (peer : Side) (old more : List ℕ) → frames_by peer (old ++ more) ≡ frames_by peer old ++ frames_completed peer old more
-frames-more peer old more =
+frames_more : (peer : Side) (old more : List ℕ) → frames_by peer (old ++ more) ≡ frames_by peer old ++ frames_completed peer old more
+frames_more peer old more =
     let s = split (HelloFrom peer) old in
     let later = (split (awaited_after (HelloFrom peer) s.frames) (s.rest ++ more)).frames in
-    ap (λ (x : Split). frames_from 0 x.frames) (split-append (HelloFrom peer) old more)
-    ∙ frames_from-append 0 s.frames later
-    ∙ ap (λ (fs : List Frame). frames_from 0 s.frames ++ fs) (ap (λ (n : ℕ). frames_from n later) (omega arith) ∙ sym (frames_completed-split peer old more))
+    ap (λ (x : Split). frames_from 0 x.frames) (split_append (HelloFrom peer) old more)
+    ∙ frames_from_append 0 s.frames later
+    ∙ ap (λ (fs : List Frame). frames_from 0 s.frames ++ fs) (ap (λ (n : ℕ). frames_from n later) (omega arith) ∙ sym (frames_completed_split peer old more))
 
-if-none : (b : Bool) (e : Event) → frames_in (e ∷ []) ≡ [] → frames_in (if_own b (e ∷ [])) ≡ []
-if-none true e h = h
-if-none false e h = refl
+if_none_lem : (b : Bool) (e : RunEvent) → frames_in (e ∷ []) ≡ [] → frames_in (if_own b (e ∷ [])) ≡ []
+if_none_lem true e h = h
+if_none_lem false e h = refl
 
 quiet : (link : ℕ) (side : Side) (before : List Mark) (mark : Mark) → fed_at link side mark ≡ [] → frames_in (events_at link side before mark) ≡ []
     → frames_by (other side) (bytes_received link side before ++ fed_at link side mark) ≡ frames_by (other side) (bytes_received link side before) ++ frames_in (events_at link side before mark)
@@ -204,8 +204,8 @@ quiet link side before mark none empty =
     ap (λ (xs : List ℕ). frames_by (other side) (old ++ xs)) none ∙ ap (λ (xs : List ℕ). frames_by (other side) xs) (append-nil old)
     ∙ sym (append-nil (frames_by (other side) old)) ∙ ap (λ (fs : List Frame). frames_by (other side) old ++ fs) (sym empty)
 
-mark-frames : (link : ℕ) (side : Side) (before : List Mark) (mark : Mark) → frames_by (other side) (bytes_received link side before ++ fed_at link side mark) ≡ frames_by (other side) (bytes_received link side before) ++ frames_in (events_at link side before mark)
-mark-frames link side before (marks.Fed l s bytes) = by (eqb l link && same_side s side)
+mark_frames : (link : ℕ) (side : Side) (before : List Mark) (mark : Mark) → frames_by (other side) (bytes_received link side before ++ fed_at link side mark) ≡ frames_by (other side) (bytes_received link side before) ++ frames_in (events_at link side before mark)
+mark_frames link side before (marks.Fed l s bytes) = by (eqb l link && same_side s side)
   where
     peer : Side
     peer = other side
@@ -214,34 +214,34 @@ mark-frames link side before (marks.Fed l s bytes) = by (eqb l link && same_side
     old = bytes_received link side before
 
     by : (b : Bool) → frames_by peer (old ++ cond b bytes []) ≡ frames_by peer old ++ frames_in (if_own b (map FrameReceived (frames_completed peer old bytes)))
-    by true = frames-more peer old bytes ∙ ap (λ (fs : List Frame). frames_by peer old ++ fs) (sym (frames_in-map (frames_completed peer old bytes)))
+    by true = frames_more peer old bytes ∙ ap (λ (fs : List Frame). frames_by peer old ++ fs) (sym (frames_in_map (frames_completed peer old bytes)))
     by false = ap (λ (xs : List ℕ). frames_by peer xs) (append-nil old) ∙ sym (append-nil (frames_by peer old))
-mark-frames link side before (marks.Wrote l s bytes) = quiet link side before (marks.Wrote l s bytes) refl (if-none (eqb l link && same_side s side) (QueueWritten (length bytes)) refl)
-mark-frames link side before (marks.Submit l call form (submissions.Accepted xid)) = quiet link side before (marks.Submit l call form (submissions.Accepted xid)) refl (if-none (eqb l link && same_side Initiator side) (CallSubmitted (length (bytes_received link side before)) (record { xid = xid; call = call; form = form })) refl)
-mark-frames link side before (marks.Submit l call form (submissions.Refused why)) = quiet link side before (marks.Submit l call form (submissions.Refused why)) refl refl
-mark-frames link side before (marks.Submit l call form submissions.Dropped) = quiet link side before (marks.Submit l call form submissions.Dropped) refl refl
-mark-frames link side before (marks.Execute l xid moment payload place reply) = quiet link side before (marks.Execute l xid moment payload place reply) refl
-    (if-none (eqb l link && same_side Responder side) (CallExecuted (record { xid = xid; moment = moment; payload = payload; place = place; reply = reply })) refl)
-mark-frames link side before (marks.Revoke l xid bytes) = quiet link side before (marks.Revoke l xid bytes) refl (if-none (eqb l link && same_side Initiator side) (MemoryRevoked (length (bytes_received link side before)) xid) refl)
-mark-frames link side before (marks.Done l xid outcome) = quiet link side before (marks.Done l xid outcome) refl refl
-mark-frames link side before (marks.Lost l xid) = quiet link side before (marks.Lost l xid) refl refl
-mark-frames link side before (marks.Forget l xid) = quiet link side before (marks.Forget l xid) refl refl
-mark-frames link side before (marks.Drop l) = quiet link side before (marks.Drop l) refl refl
+mark_frames link side before (marks.Wrote l s bytes) = quiet link side before (marks.Wrote l s bytes) refl (if_none_lem (eqb l link && same_side s side) (QueueWritten (length bytes)) refl)
+mark_frames link side before (marks.Submit l call form (submissions.Accepted xid)) = quiet link side before (marks.Submit l call form (submissions.Accepted xid)) refl (if_none_lem (eqb l link && same_side Initiator side) (CallSubmitted (length (bytes_received link side before)) (record { xid = xid; call = call; form = form })) refl)
+mark_frames link side before (marks.Submit l call form (submissions.Refused why)) = quiet link side before (marks.Submit l call form (submissions.Refused why)) refl refl
+mark_frames link side before (marks.Submit l call form submissions.Dropped) = quiet link side before (marks.Submit l call form submissions.Dropped) refl refl
+mark_frames link side before (marks.Execute l xid moment payload place reply) = quiet link side before (marks.Execute l xid moment payload place reply) refl
+    (if_none_lem (eqb l link && same_side Responder side) (CallExecuted (record { xid = xid; moment = moment; payload = payload; place = place; reply = reply })) refl)
+mark_frames link side before (marks.Revoke l xid bytes) = quiet link side before (marks.Revoke l xid bytes) refl (if_none_lem (eqb l link && same_side Initiator side) (MemoryRevoked (length (bytes_received link side before)) xid) refl)
+mark_frames link side before (marks.Done l xid outcome) = quiet link side before (marks.Done l xid outcome) refl refl
+mark_frames link side before (marks.Lost l xid) = quiet link side before (marks.Lost l xid) refl refl
+mark_frames link side before (marks.Forget l xid) = quiet link side before (marks.Forget l xid) refl refl
+mark_frames link side before (marks.Drop l) = quiet link side before (marks.Drop l) refl refl
 
-run-frames : (link : ℕ) (side : Side) (before run : List Mark) → frames_in (events link side before) ≡ frames_by (other side) (bytes_received link side before)
+run_frames : (link : ℕ) (side : Side) (before run : List Mark) → frames_in (events link side before) ≡ frames_by (other side) (bytes_received link side before)
     → frames_in (events link side (before ++ run)) ≡ frames_by (other side) (bytes_received link side (before ++ run))
-run-frames link side before [] h = subst (λ (b : List Mark). frames_in (events link side b) ≡ frames_by (other side) (bytes_received link side b)) (sym (append-nil before)) h
-run-frames link side before (mark ∷ run) h =
+run_frames link side before [] h = subst (λ (b : List Mark). frames_in (events link side b) ≡ frames_by (other side) (bytes_received link side b)) (sym (append-nil before)) h
+run_frames link side before (mark ∷ run) h =
     let next : frames_in (events link side (before ++ mark ∷ [])) ≡ frames_by (other side) (bytes_received link side (before ++ mark ∷ [])) =
-    ap frames_in (events-one link side before mark) ∙ frames_in-append (events link side before) (events_at link side before mark)
+    ap frames_in (events_one link side before mark) ∙ frames_in_append (events link side before) (events_at link side before mark)
     ∙ ap (λ (fs : List Frame). fs ++ frames_in (events_at link side before mark)) h
-    ∙ sym (mark-frames link side before mark)
-    ∙ ap (λ (xs : List ℕ). frames_by (other side) xs) (sym (received-one link side before mark)) in
-    subst (λ (b : List Mark). frames_in (events link side b) ≡ frames_by (other side) (bytes_received link side b)) (append_assoc before (mark ∷ []) run) (run-frames link side (before ++ mark ∷ []) run next)
+    ∙ sym (mark_frames link side before mark)
+    ∙ ap (λ (xs : List ℕ). frames_by (other side) xs) (sym (received_one link side before mark)) in
+    subst (λ (b : List Mark). frames_in (events link side b) ≡ frames_by (other side) (bytes_received link side b)) (append_assoc before (mark ∷ []) run) (run_frames link side (before ++ mark ∷ []) run next)
 
-pub events-frames : (link : ℕ) (side : Side) (run : List Mark) → frames_in (events link side run) ≡ frames_by (other side) (bytes_received link side run)
+pub events_frames : (link : ℕ) (side : Side) (run : List Mark) → frames_in (events link side run) ≡ frames_by (other side) (bytes_received link side run)
 unfolding events bytes_received split
-events-frames link side run = run-frames link side [] run refl
+events_frames link side run = run_frames link side [] run refl
 
 -- ---- Frame by frame
 
@@ -251,30 +251,30 @@ EachBrought [] (o ∷ outs) = ⊥
 EachBrought (f ∷ fs) [] = ⊥
 EachBrought (f ∷ fs) (o ∷ outs) = Brought o f × EachBrought fs outs
 
-brings-each : (es : List Event) (outs : List Output) → EachBrought (frames_in es) outs → Brings es outs
-brings-each [] [] h = refl
-brings-each [] (o ∷ outs) h = absurd h
-brings-each (FrameReceived f ∷ es) [] h = absurd h
-brings-each (FrameReceived f ∷ es) (o ∷ outs) h = (h.0, brings-each es outs h.1)
-brings-each (CallSubmitted p a ∷ es) outs h = brings-each es outs h
-brings-each (MemoryRevoked p xid ∷ es) outs h = brings-each es outs h
-brings-each (CallExecuted e ∷ es) outs h = brings-each es outs h
-brings-each (QueueWritten taken ∷ es) outs h = brings-each es outs h
+brings_each : (es : List RunEvent) (outs : List Output) → EachBrought (frames_in es) outs → Brings es outs
+brings_each [] [] h = refl
+brings_each [] (o ∷ outs) h = absurd h
+brings_each (FrameReceived f ∷ es) [] h = absurd h
+brings_each (FrameReceived f ∷ es) (o ∷ outs) h = (h.0, brings_each es outs h.1)
+brings_each (CallSubmitted p a ∷ es) outs h = brings_each es outs h
+brings_each (MemoryRevoked p xid ∷ es) outs h = brings_each es outs h
+brings_each (CallExecuted e ∷ es) outs h = brings_each es outs h
+brings_each (QueueWritten taken ∷ es) outs h = brings_each es outs h
 
-later-brought : (place : ℕ) (outs : List Output) → 0 < place → AreFrom Fpdu outs → EachBrought (frames_from place (map bytes_of outs)) outs
+later_brought : (place : ℕ) (outs : List Output) → 0 < place → AreFrom Fpdu outs → EachBrought (frames_from place (map bytes_of outs)) outs
 unfolding frame_segment
-later-brought place [] some h = tt
-later-brought place (AHello bytes ∷ outs) some h = absurd h
-later-brought place (ASegment s ∷ outs) some h =
-    ((ne_eqb place 0 (λ e. omega (arith, e, some)), (encoding-is s h.0).says), later-brought (place + length (encoding s)) outs (omega (arith, some)) h.1)
+later_brought place [] some h = tt
+later_brought place (AHello bytes ∷ outs) some h = absurd h
+later_brought place (ASegment s ∷ outs) some h =
+    ((ne_eqb place 0 (λ e. omega (arith, e, some)), (encoding_is s h.0).says), later_brought (place + length (encoding s)) outs (omega (arith, some)) h.1)
 
 pub all-brought : (side : Side) (outs : List Output) → AreFrom (HelloFrom side) outs → EachBrought (frames_from 0 (map bytes_of outs)) outs
 all-brought side [] h = tt
 all-brought side (AHello bytes ∷ outs) h =
-    let frame = (hello-is side).is_frame in
+    let frame = (hello_is side).is_frame in
     let least = frame.fields in
     let long = ap (λ (b : List ℕ). length b) h.0 in
-    ((refl, refl), later-brought (0 + length bytes) outs (omega (arith, least, fields_some (HelloFrom side), long)) h.1)
+    ((refl, refl), later_brought (0 + length bytes) outs (omega (arith, least, fields_some (HelloFrom side), long)) h.1)
 all-brought side (ASegment s ∷ outs) h = absurd h
 
 -- what a side receives of what its peer writes
@@ -287,13 +287,13 @@ pub record Receives (link : ℕ) (side : Side) (run : List Mark) (outs : List Ou
 
 pub receives : (link : ℕ) (side : Side) (run : List Mark) (outs : List Output) → AreFrom (HelloFrom (other side)) outs → IsPrefixOf (bytes_received link side run) (bytes_of_all outs) → Receives link side run outs
 receives link side run outs from p =
-    let f = first-of (HelloFrom (other side)) (bytes_received link side run) outs from p in
-    let came : AreFrom (HelloFrom (other side)) f.came = from-first (HelloFrom (other side)) f.came f.left (subst (λ (x : List Output). AreFrom (HelloFrom (other side)) x) (sym f.parts) from) in
-    let frames : frames_in (events link side run) ≡ frames_from 0 (map bytes_of f.came) = events-frames link side run ∙ ap (λ (fs : List (List ℕ)). frames_from 0 fs) f.frames in
+    let f = first_of_lem (HelloFrom (other side)) (bytes_received link side run) outs from p in
+    let came : AreFrom (HelloFrom (other side)) f.came = from_first (HelloFrom (other side)) f.came f.left (subst (λ (x : List Output). AreFrom (HelloFrom (other side)) x) (sym f.parts) from) in
+    let frames : frames_in (events link side run) ≡ frames_from 0 (map bytes_of f.came) = events_frames link side run ∙ ap (λ (fs : List (List ℕ)). frames_from 0 fs) f.frames in
     record {
       came = f.came;
       left = f.left;
       parts = f.parts;
       from = came;
-      brings = brings-each (events link side run) f.came (subst (λ (fs : List Frame). EachBrought fs f.came) (sym frames) (all-brought (other side) f.came came));
+      brings = brings_each (events link side run) f.came (subst (λ (fs : List Frame). EachBrought fs f.came) (sym frames) (all-brought (other side) f.came came));
     }

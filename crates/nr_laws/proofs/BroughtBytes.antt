@@ -5,29 +5,29 @@ use Rattle.nr_wire.specs.Segment.{Segment}
 use Rattle.nr_wire.specs.Segment.Segment.{Tagged, Untagged}
 use Rattle.nr_regions.specs.declared.denied.Denied.{Denied}
 use Rattle.nr_regions.specs.RegisteredMemory.{bytes_after_write}
-use Rattle.nr_regions.specs.Access.{Grant, TaggedSegment, access_of, grant_denial, after_segment, contents}
-use Rattle.nr_regions.proofs.Holding.{length-bytes_after_write}
+use Rattle.nr_regions.specs.Access.{Grant, TaggedSegment, access_of_tagged, grant_denial, after_segment, contents}
+use Rattle.nr_regions.proofs.Holding.{length_bytes_after_write}
 use Rattle.nr_link.specs.declared.end.End.{End as Stop}
 use Rattle.nr_link.specs.Frames.{Frame, is_hello}
 use Rattle.nr_link.specs.Ending.{frame_segment, tagged_access}
-use Rattle.nr_reduce.specs.Events.{Event}
-use Rattle.nr_reduce.specs.Events.Event.{FrameReceived, CallSubmitted, MemoryRevoked, CallExecuted, QueueWritten}
-use Rattle.nr_reduce.specs.EndRules.{Rules, EndState, next_end_state, next_end_state_by, next_end_state_in, end_state_after}
+use Rattle.nr_reduce.specs.Events.{RunEvent}
+use Rattle.nr_reduce.specs.Events.RunEvent.{FrameReceived, CallSubmitted, MemoryRevoked, CallExecuted, QueueWritten}
+use Rattle.nr_reduce.specs.EndRules.{EndMachine, EndState, next_end_state, next_end_state_by, next_end_state_in, end_state_after}
 use Rattle.nr_reduce.specs.Server.{tagged_accesses}
-use Rattle.nr_reduce.proofs.Steps.{end_state_after-append}
+use Rattle.nr_reduce.proofs.Steps.{end_state_after_append}
 use Rattle.nr_laws.proofs.Memory.{Gathering, accesses_event}
 
 -- ---- One byte of what was written over
 
-front-byte : (payload bytes : List ℕ) (i b : ℕ) → length payload ≤ length bytes → slice_get (payload ++ drop (length payload) bytes) i ≡ Some b → (slice_get bytes i ≡ Some b) ⊎ (slice_get payload i ≡ Some b)
-front-byte [] bytes i b le e = inl e
-front-byte (p ∷ payload) [] i b le e = absurd (omega (arith, le))
-front-byte (p ∷ payload) (x ∷ bytes) zero b le e = inr e
-front-byte (p ∷ payload) (x ∷ bytes) (suc i) b le e = front-byte payload bytes i b (omega (arith, le)) e
+front_byte : (payload bytes : List ℕ) (i b : ℕ) → length payload ≤ length bytes → slice_get (payload ++ drop (length payload) bytes) i ≡ Some b → (slice_get bytes i ≡ Some b) ⊎ (slice_get payload i ≡ Some b)
+front_byte [] bytes i b le e = inl e
+front_byte (p ∷ payload) [] i b le e = absurd (omega (arith, le))
+front_byte (p ∷ payload) (x ∷ bytes) zero b le e = inr e
+front_byte (p ∷ payload) (x ∷ bytes) (suc i) b le e = front_byte payload bytes i b (omega (arith, le)) e
 
 -- a byte of what was written over is an old one, or one of the payload
-pub written-byte : (at : ℕ) (bytes payload : List ℕ) (i b : ℕ) → at + length payload ≤ length bytes → slice_get (bytes_after_write bytes at payload) i ≡ Some b → (slice_get bytes i ≡ Some b) ⊎ ((at ≤ i) × (slice_get payload (i - at) ≡ Some b))
-written-byte zero bytes payload i b le e = by (front-byte payload bytes i b (omega (arith, le)) (ap (λ (n : ℕ). slice_get (payload ++ drop n bytes) i) none ∙ e))
+pub written_byte : (at : ℕ) (bytes payload : List ℕ) (i b : ℕ) → at + length payload ≤ length bytes → slice_get (bytes_after_write bytes at payload) i ≡ Some b → (slice_get bytes i ≡ Some b) ⊎ ((at ≤ i) × (slice_get payload (i - at) ≡ Some b))
+written_byte zero bytes payload i b le e = by (front_byte payload bytes i b (omega (arith, le)) (ap (λ (n : ℕ). slice_get (payload ++ drop n bytes) i) none ∙ e))
   where
     none : length payload ≡ 0 + length payload
     none = omega arith
@@ -35,9 +35,9 @@ written-byte zero bytes payload i b le e = by (front-byte payload bytes i b (ome
     by : (slice_get bytes i ≡ Some b) ⊎ (slice_get payload i ≡ Some b) → (slice_get bytes i ≡ Some b) ⊎ ((0 ≤ i) × (slice_get payload (i - 0) ≡ Some b))
     by (inl old) = inl old
     by (inr new) = inr (omega arith, ap (slice_get payload) (let s : i - 0 ≡ i = omega arith in s) ∙ new)
-written-byte (suc at) [] payload i b le e = absurd (omega (arith, le))
-written-byte (suc at) (x ∷ bytes) payload zero b le e = inl e
-written-byte (suc at) (x ∷ bytes) payload (suc i) b le e = by (written-byte at bytes payload i b (omega (arith, le)) (ap (λ (n : ℕ). slice_get (take at bytes ++ (payload ++ drop n (x ∷ bytes))) i) (sym one) ∙ e))
+written_byte (suc at) [] payload i b le e = absurd (omega (arith, le))
+written_byte (suc at) (x ∷ bytes) payload zero b le e = inl e
+written_byte (suc at) (x ∷ bytes) payload (suc i) b le e = by (written_byte at bytes payload i b (omega (arith, le)) (ap (λ (n : ℕ). slice_get (take at bytes ++ (payload ++ drop n (x ∷ bytes))) i) (sym one) ∙ e))
   where
     one : suc at + length payload ≡ suc (at + length payload)
     one = omega arith
@@ -52,10 +52,10 @@ abbrev pub Has : List TaggedSegment → TaggedSegment → Type 0
 Has [] s = ⊥
 Has (a ∷ accesses) s = (a ≡ s) ⊎ Has accesses s
 
-has-append : (xs ys : List TaggedSegment) (s : TaggedSegment) → Has (xs ++ ys) s → Has xs s ⊎ Has ys s
-has-append [] ys s h = inr h
-has-append (x ∷ xs) ys s (inl here) = inl (inl here)
-has-append (x ∷ xs) ys s (inr there) = by (has-append xs ys s there)
+has_append : (xs ys : List TaggedSegment) (s : TaggedSegment) → Has (xs ++ ys) s → Has xs s ⊎ Has ys s
+has_append [] ys s h = inr h
+has_append (x ∷ xs) ys s (inl here) = inl (inl here)
+has_append (x ∷ xs) ys s (inr there) = by (has_append xs ys s there)
   where
     by : Has xs s ⊎ Has ys s → Has (x ∷ xs) s ⊎ Has ys s
     by (inl h) = inl (inr h)
@@ -64,13 +64,13 @@ has-append (x ∷ xs) ys s (inr there) = by (has-append xs ys s there)
 -- the allowed segments for the region under an STag lie within so many bytes
 abbrev pub LieWithin : List Grant → (stag len : ℕ) → List TaggedSegment → Type 0
 LieWithin grants stag len [] = Unit {0}
-LieWithin grants stag len (a ∷ accesses) = (a.stag ≡ stag → grant_denial grants (access_of a) a.end ≡ None → a.to + length a.payload ≤ len) × LieWithin grants stag len accesses
+LieWithin grants stag len (a ∷ accesses) = (a.stag ≡ stag → grant_denial grants (access_of_tagged a) a.end ≡ None → a.to + length a.payload ≤ len) × LieWithin grants stag len accesses
 
 pub record FromSegment (grants : List Grant) (stag : ℕ) (accesses : List TaggedSegment) (at byte : ℕ) : Type 0 where
   pub tagged : TaggedSegment
   pub there : Has accesses tagged
   pub own : tagged.stag ≡ stag
-  pub allowed : grant_denial grants (access_of tagged) tagged.end ≡ None
+  pub allowed : grant_denial grants (access_of_tagged tagged) tagged.end ≡ None
   pub begins : tagged.to ≤ at
   pub byte_is : slice_get tagged.payload (at - tagged.to) ≡ Some byte
 
@@ -78,19 +78,19 @@ record AfterOne (grants : List Grant) (stag : ℕ) (bytes : List ℕ) (a : Tagge
   len : length (after_segment grants stag bytes a) ≡ length bytes
   each : (at byte : ℕ) → slice_get (after_segment grants stag bytes a) at ≡ Some byte → (slice_get bytes at ≡ Some byte) ⊎ FromSegment grants stag (a ∷ []) at byte
 
-after-one : (grants : List Grant) (stag : ℕ) (bytes : List ℕ) (a : TaggedSegment) → (a.stag ≡ stag → grant_denial grants (access_of a) a.end ≡ None → a.to + length a.payload ≤ length bytes) → AfterOne grants stag bytes a
-after-one grants stag bytes a fits = by (eqb a.stag stag) (grant_denial grants (access_of a) a.end) refl refl
+after_one_lem : (grants : List Grant) (stag : ℕ) (bytes : List ℕ) (a : TaggedSegment) → (a.stag ≡ stag → grant_denial grants (access_of_tagged a) a.end ≡ None → a.to + length a.payload ≤ length bytes) → AfterOne grants stag bytes a
+after_one_lem grants stag bytes a fits = by (eqb a.stag stag) (grant_denial grants (access_of_tagged a) a.end) refl refl
   where
-    by : (b : Bool) (d : Option Denied) → eqb a.stag stag ≡ b → grant_denial grants (access_of a) a.end ≡ d → AfterOne grants stag bytes a
+    by : (b : Bool) (d : Option Denied) → eqb a.stag stag ≡ b → grant_denial grants (access_of_tagged a) a.end ≡ d → AfterOne grants stag bytes a
     by true None same none =
         let is : after_segment grants stag bytes a ≡ bytes_after_write bytes a.to a.payload = (λ i. cond (same i && is_none (none i)) (bytes_after_write bytes a.to a.payload) bytes) in
         let own = eqb-true a.stag stag same in
         record {
-          len = ap length is ∙ length-bytes_after_write bytes a.to a.payload (fits own none);
-          each = λ at byte e. of-byte own none at byte (written-byte a.to bytes a.payload at byte (fits own none) (ap (λ (xs : List ℕ). slice_get xs at) (sym is) ∙ e));
+          len = ap length is ∙ length_bytes_after_write bytes a.to a.payload (fits own none);
+          each = λ at byte e. of-byte own none at byte (written_byte a.to bytes a.payload at byte (fits own none) (ap (λ (xs : List ℕ). slice_get xs at) (sym is) ∙ e));
         }
       where
-        of-byte : a.stag ≡ stag → grant_denial grants (access_of a) a.end ≡ None → (at byte : ℕ) → (slice_get bytes at ≡ Some byte) ⊎ ((a.to ≤ at) × (slice_get a.payload (at - a.to) ≡ Some byte)) → (slice_get bytes at ≡ Some byte) ⊎ FromSegment grants stag (a ∷ []) at byte
+        of-byte : a.stag ≡ stag → grant_denial grants (access_of_tagged a) a.end ≡ None → (at byte : ℕ) → (slice_get bytes at ≡ Some byte) ⊎ ((a.to ≤ at) × (slice_get a.payload (at - a.to) ≡ Some byte)) → (slice_get bytes at ≡ Some byte) ⊎ FromSegment grants stag (a ∷ []) at byte
         of-byte own none at byte (inl old) = inl old
         of-byte own none at byte (inr new) = inr (record { tagged = a; there = inl refl; own = own; allowed = none; begins = new.0; byte_is = new.1 })
     by true (Some why) same none =
@@ -105,11 +105,11 @@ pub record HoldsSegments (grants : List Grant) (stag : ℕ) (bytes : List ℕ) (
   pub each : (at byte : ℕ) → slice_get (contents grants stag bytes accesses) at ≡ Some byte → (slice_get bytes at ≡ Some byte) ⊎ FromSegment grants stag accesses at byte
 
 -- what a region holds has its length, and each byte is a registered one or an allowed segment's
-pub holds-segments : (grants : List Grant) (stag n : ℕ) (bytes : List ℕ) (accesses : List TaggedSegment) → length bytes ≡ n → LieWithin grants stag n accesses → HoldsSegments grants stag bytes accesses
-holds-segments grants stag n bytes [] len within = record { len = refl; each = λ at byte e. inl e }
-holds-segments grants stag n bytes (a ∷ accesses) len within =
-    let one : AfterOne grants stag bytes a = after-one grants stag bytes a (λ own none. let w = within.0 own none in omega (arith, w, len)) in
-    let rest : HoldsSegments grants stag (after_segment grants stag bytes a) accesses = holds-segments grants stag n (after_segment grants stag bytes a) accesses (one.len ∙ len) within.1 in
+pub holds_segments : (grants : List Grant) (stag n : ℕ) (bytes : List ℕ) (accesses : List TaggedSegment) → length bytes ≡ n → LieWithin grants stag n accesses → HoldsSegments grants stag bytes accesses
+holds_segments grants stag n bytes [] len within = record { len = refl; each = λ at byte e. inl e }
+holds_segments grants stag n bytes (a ∷ accesses) len within =
+    let one : AfterOne grants stag bytes a = after_one_lem grants stag bytes a (λ own none. let w = within.0 own none in omega (arith, w, len)) in
+    let rest : HoldsSegments grants stag (after_segment grants stag bytes a) accesses = holds_segments grants stag n (after_segment grants stag bytes a) accesses (one.len ∙ len) within.1 in
     record { len = rest.len ∙ one.len; each = λ at byte e. by one at byte (rest.each at byte e) }
   where
     more : (at byte : ℕ) → (xs : List TaggedSegment) → ((s : TaggedSegment) → Has xs s → Has (a ∷ accesses) s) → FromSegment grants stag xs at byte → FromSegment grants stag (a ∷ accesses) at byte
@@ -129,9 +129,9 @@ holds-segments grants stag n bytes (a ∷ accesses) len within =
 
 -- ---- The frames that brought the segments
 
-pub record FromFrame {S : Type 0} (rules : Rules S) (initial : EndState S) (received : List Event) (s : TaggedSegment) : Type 0 where
-  pub earlier : List Event
-  pub later : List Event
+pub record FromFrame {S : Type 0} (rules : EndMachine S) (initial : EndState S) (received : List RunEvent) (s : TaggedSegment) : Type 0 where
+  pub earlier : List RunEvent
+  pub later : List RunEvent
   pub frame : Frame
   pub segment : Segment
   pub is_received : received ≡ earlier ++ FrameReceived frame ∷ later
@@ -148,34 +148,34 @@ record NewAccess (f : Frame) (s : TaggedSegment) : Type 0 where
   is_tagged : tagged_access f segment ≡ s ∷ []
   end_is : s.end ≡ f.end
 
-new-access : (f : Frame) (s : TaggedSegment) → is_hello f ≡ false → (r : Result Segment ℕ) → frame_segment f ≡ r → Has (tagged_accesses f r) s → NewAccess f s
-new-access f s behind (Ok (Tagged last opcode stag to payload)) is (inl same) =
+new_access : (f : Frame) (s : TaggedSegment) → is_hello f ≡ false → (r : Result Segment ℕ) → frame_segment f ≡ r → Has (tagged_accesses f r) s → NewAccess f s
+new_access f s behind (Ok (Tagged last opcode stag to payload)) is (inl same) =
     record { behind = behind; segment = Tagged last opcode stag to payload; is_segment = is; is_tagged = ap (λ (x : TaggedSegment). x ∷ []) same; end_is = ap (λ (x : TaggedSegment). x.end) (sym same) }
-new-access f s behind (Ok (Tagged last opcode stag to payload)) is (inr none) = absurd none
-new-access f s behind (Ok (Untagged last opcode w queue msn offset payload)) is none = absurd none
-new-access f s behind (Err reason) is none = absurd none
+new_access f s behind (Ok (Tagged last opcode stag to payload)) is (inr none) = absurd none
+new_access f s behind (Ok (Untagged last opcode w queue msn offset payload)) is none = absurd none
+new_access f s behind (Err reason) is none = absurd none
 
 -- an access that is there after an event was there before, or came with a frame
-data FromEvent {S : Type 0} (rules : Rules S) (accesses : S → List TaggedSegment) (r : EndState S) (e : Event) (s : TaggedSegment) : Type 0 where
+data FromEvent {S : Type 0} (rules : EndMachine S) (accesses : S → List TaggedSegment) (r : EndState S) (e : RunEvent) (s : TaggedSegment) : Type 0 where
   Old : Has (accesses r.state) s → FromEvent rules accesses r e s
   New : (f : Frame) → e ≡ FrameReceived f → (next_end_state rules r (FrameReceived f)).ended ≡ None → NewAccess f s → FromEvent rules accesses r e s
 
-from-event : {S : Type 0} (rules : Rules S) (accesses : S → List TaggedSegment) → Gathering rules accesses → (r : EndState S) (e : Event) (s : TaggedSegment) → Has (accesses (next_end_state rules r e).state) s → FromEvent rules accesses r e s
-from-event {S} rules accesses goes r e s h = by_end r.ended refl h
+from_event : {S : Type 0} (rules : EndMachine S) (accesses : S → List TaggedSegment) → Gathering rules accesses → (r : EndState S) (e : RunEvent) (s : TaggedSegment) → Has (accesses (next_end_state rules r e).state) s → FromEvent rules accesses r e s
+from_event {S} rules accesses goes r e s h = by_end r.ended refl h
   where
     live : r.ended ≡ None → rules.end_at r.state e ≡ None → (next_end_state rules r e).ended ≡ None
     live is none = ap (λ (o : Option Stop). (next_end_state_in rules r.state e o).ended) is ∙ ap (λ (o : Option Stop). (next_end_state_by rules r.state e o).ended) none
 
-    by_event : (x : Event) → e ≡ x → (next_end_state rules r e).ended ≡ None → Has (accesses_event (accesses r.state) x) s → FromEvent rules accesses r e s
+    by_event : (x : RunEvent) → e ≡ x → (next_end_state rules r e).ended ≡ None → Has (accesses_event (accesses r.state) x) s → FromEvent rules accesses r e s
     by_event (FrameReceived f) is stays h = by_hello (is_hello f) refl h
       where
         by_new : is_hello f ≡ false → Has (accesses r.state) s ⊎ Has (tagged_accesses f (frame_segment f)) s → FromEvent rules accesses r e s
         by_new behind (inl old) = Old old
-        by_new behind (inr new) = New f is (ap (λ (y : Event). (next_end_state rules r y).ended) (sym is) ∙ stays) (new-access f s behind (frame_segment f) refl new)
+        by_new behind (inr new) = New f is (ap (λ (y : RunEvent). (next_end_state rules r y).ended) (sym is) ∙ stays) (new_access f s behind (frame_segment f) refl new)
 
         by_hello : (b : Bool) → is_hello f ≡ b → Has (cond b (accesses r.state) (accesses r.state ++ tagged_accesses f (frame_segment f))) s → FromEvent rules accesses r e s
         by_hello true own h = Old h
-        by_hello false own h = by_new own (has-append (accesses r.state) (tagged_accesses f (frame_segment f)) s h)
+        by_hello false own h = by_new own (has_append (accesses r.state) (tagged_accesses f (frame_segment f)) s h)
     by_event (CallSubmitted p a) is stays h = Old h
     by_event (MemoryRevoked p xid) is stays h = Old h
     by_event (CallExecuted x) is stays h = Old h
@@ -190,17 +190,17 @@ from-event {S} rules accesses goes r e s h = by_end r.ended refl h
     by_end (Some end) is h = Old h
 
 -- what an end keeps as accesses came with frames of its events
-pub from-frames : {S : Type 0} (rules : Rules S) (accesses : S → List TaggedSegment) → Gathering rules accesses → (initial : EndState S) (done es : List Event) (s : TaggedSegment)
+pub from_frames : {S : Type 0} (rules : EndMachine S) (accesses : S → List TaggedSegment) → Gathering rules accesses → (initial : EndState S) (done es : List RunEvent) (s : TaggedSegment)
     → Has (accesses (end_state_after rules (end_state_after rules initial done) es).state) s → Has (accesses (end_state_after rules initial done).state) s ⊎ FromFrame rules initial (done ++ es) s
-from-frames rules accesses goes initial done [] s h = inl h
-from-frames {S} rules accesses goes initial done (e ∷ es) s h =
-    by (from-frames rules accesses goes initial (done ++ e ∷ []) es s (subst (λ (x : EndState S). Has (accesses (end_state_after rules x es).state) s) (sym one) h))
+from_frames rules accesses goes initial done [] s h = inl h
+from_frames {S} rules accesses goes initial done (e ∷ es) s h =
+    by (from_frames rules accesses goes initial (done ++ e ∷ []) es s (subst (λ (x : EndState S). Has (accesses (end_state_after rules x es).state) s) (sym one) h))
   where
     r : EndState S
     r = end_state_after rules initial done
 
     one : end_state_after rules initial (done ++ e ∷ []) ≡ next_end_state rules r e
-    one = end_state_after-append rules initial done (e ∷ [])
+    one = end_state_after_append rules initial done (e ∷ [])
 
     all : (done ++ e ∷ []) ++ es ≡ done ++ e ∷ es
     all = append_assoc done (e ∷ []) es
@@ -212,7 +212,7 @@ from-frames {S} rules accesses goes initial done (e ∷ es) s h =
       later = es;
       frame = f;
       segment = n.segment;
-      is_received = ap (λ (x : Event). done ++ x ∷ es) is;
+      is_received = ap (λ (x : RunEvent). done ++ x ∷ es) is;
       stays = stays;
       behind_hello = n.behind;
       is_segment = n.is_segment;
@@ -221,5 +221,5 @@ from-frames {S} rules accesses goes initial done (e ∷ es) s h =
     })
 
     by : Has (accesses (end_state_after rules initial (done ++ e ∷ [])).state) s ⊎ FromFrame rules initial ((done ++ e ∷ []) ++ es) s → Has (accesses r.state) s ⊎ FromFrame rules initial (done ++ e ∷ es) s
-    by (inl there) = by_event (from-event rules accesses goes r e s (subst (λ (x : EndState S). Has (accesses x.state) s) one there))
-    by (inr f) = inr (subst (λ (xs : List Event). FromFrame rules initial xs s) all f)
+    by (inl there) = by_event (from_event rules accesses goes r e s (subst (λ (x : EndState S). Has (accesses x.state) s) one there))
+    by (inr f) = inr (subst (λ (xs : List RunEvent). FromFrame rules initial xs s) all f)

@@ -11,8 +11,8 @@ use Rattle.nr_link.specs.Ending.{frame_segment, frame_end, hello_end}
 use Rattle.nr_reduce.specs.declared.mark.Mark.{Mark}
 use Rattle.nr_reduce.specs.declared.mark.LinkParameters.{LinkParameters}
 use Rattle.nr_reduce.specs.OfferedRegions.{region_grants}
-use Rattle.nr_reduce.specs.Events.{Event, events}
-use Rattle.nr_reduce.specs.Events.Event.{FrameReceived, CallSubmitted, MemoryRevoked, CallExecuted, QueueWritten}
+use Rattle.nr_reduce.specs.Events.{RunEvent, events}
+use Rattle.nr_reduce.specs.Events.RunEvent.{FrameReceived, CallSubmitted, MemoryRevoked, CallExecuted, QueueWritten}
 use Rattle.nr_reduce.specs.EndRules.{end_state_after}
 use Rattle.nr_reduce.specs.ServerState.{ServerState}
 use Rattle.nr_reduce.specs.ServerFrames.{frame_effect}
@@ -22,20 +22,20 @@ use Rattle.nr_reduce.specs.RunLaws.{server_by}
 use Rattle.nr_laws.proofs.EndReasons.{IsCallReason}
 use Rattle.nr_laws.specs.MatchedSoFar.{MatchedSoFar}
 use Rattle.nr_laws.specs.Typed.{IsTyped}
-use Rattle.nr_laws.proofs.Along.{GoesOn, goes-behind}
-use Rattle.nr_laws.proofs.CallRefusals.{RefusedBy, refused-by, frame-other}
-use Rattle.nr_laws.proofs.EndingEvents.{ends-at}
-use Rattle.nr_laws.proofs.HeldChunks.{server-good}
+use Rattle.nr_laws.proofs.EventOutputs.{GoesOn, goes_behind}
+use Rattle.nr_laws.proofs.CallRefusals.{RefusedBy, refused_by, frame_other}
+use Rattle.nr_laws.proofs.EndingEvents.{ends_at_lem}
+use Rattle.nr_laws.proofs.HeldChunks.{server_good}
 use Rattle.nr_laws.proofs.ServerAlong.{ServerGood, FrameGood}
-use Rattle.nr_laws.proofs.ServerEnds.{hello-goes}
-use Rattle.nr_laws.proofs.Basics.{none-some}
+use Rattle.nr_laws.proofs.ServerEnds.{hello_goes}
+use Rattle.nr_laws.proofs.Basics.{none_some_lem}
 
 -- ---- The frame that ends a server for a call
 
 pub record RefusedAt (opened : LinkParameters) (link : ℕ) (run : List Mark) (reason : ℕ) : Type 0 where
-  pub earlier : List Event
+  pub earlier : List RunEvent
   pub frame : Frame
-  pub later : List Event
+  pub later : List RunEvent
   pub segment : Segment
   pub is : events link Responder run ≡ earlier ++ FrameReceived frame ∷ later
   pub behind : is_hello frame ≡ false
@@ -44,15 +44,15 @@ pub record RefusedAt (opened : LinkParameters) (link : ℕ) (run : List Mark) (r
   pub fits : frame_end (readiness opened (server_by opened earlier)) (region_grants frame.end (server_by opened earlier).regions) frame ≡ None
   pub cause : RefusedBy (server_by opened earlier) frame segment reason
 
-reason-same : (a b n m : ℕ) → Some (ends.Bad a n) ≡ Some (ends.Bad b m) → n ≡ m
-reason-same a b n m e = cc
+reason_same : (a b n m : ℕ) → Some (ends.Bad a n) ≡ Some (ends.Bad b m) → n ≡ m
+reason_same a b n m e = cc
 
-refused-frame : (opened : LinkParameters) (link : ℕ) (run : List Mark) (es : List Event) (f : Frame) (more : List Event) (at reason : ℕ) → events link Responder run ≡ es ++ FrameReceived f ∷ more
+refused_frame : (opened : LinkParameters) (link : ℕ) (run : List Mark) (es : List RunEvent) (f : Frame) (more : List RunEvent) (at reason : ℕ) → events link Responder run ≡ es ++ FrameReceived f ∷ more
     → (end_state_after (server_rules opened) (initial_server opened) es).ended ≡ None → FrameGood f → IsCallReason reason → server_end opened (server_by opened es) (FrameReceived f) ≡ Some (ends.Bad at reason) → RefusedAt opened link run reason
 unfolding server_end
-refused-frame opened link run es f more at reason all live (inl h) own e =
-    absurd (none-some (ends.Bad at reason) (server_end opened (server_by opened es) (FrameReceived f)) (hello-goes opened (server_by opened es) f h.0 h.1) e)
-refused-frame opened link run es f more at reason all live (inr (s, behind, is)) own e =
+refused_frame opened link run es f more at reason all live (inl h) own e =
+    absurd (none_some_lem (ends.Bad at reason) (server_end opened (server_by opened es) (FrameReceived f)) (hello_goes opened (server_by opened es) f h.0 h.1) e)
+refused_frame opened link run es f more at reason all live (inr (s, behind, is)) own e =
     by (frame_end (readiness opened k) grants f) refl (ap (λ (b : Bool). cond b (hello_end (hello_of Initiator f.bytes)) (or_refusal k f (frame_end (readiness opened k) grants f))) (sym behind) ∙ e)
   where
     k : ServerState
@@ -64,7 +64,7 @@ refused-frame opened link run es f more at reason all live (inr (s, behind, is))
     by_refusal : frame_end (readiness opened k) grants f ≡ None → (o : Option ℕ) → (frame_effect k f).refusal ≡ o → refusal_end f o ≡ Some (ends.Bad at reason) → RefusedAt opened link run reason
     by_refusal fits None refusal e = absurd cc
     by_refusal fits (Some n) refusal e =
-        let same : n ≡ reason = reason-same f.at at n reason e in
+        let same : n ≡ reason = reason_same f.at at n reason e in
         record {
           earlier = es;
           frame = f;
@@ -75,25 +75,25 @@ refused-frame opened link run es f more at reason all live (inr (s, behind, is))
           is_segment = is;
           live = live;
           fits = fits;
-          cause = subst (λ (x : ℕ). RefusedBy k f s x) same (refused-by k f s n (subst IsCallReason (sym same) own) is refusal);
+          cause = subst (λ (x : ℕ). RefusedBy k f s x) same (refused_by k f s n (subst IsCallReason (sym same) own) is refusal);
         }
 
     by : (o : Option Stop) → frame_end (readiness opened k) grants f ≡ o → or_refusal k f o ≡ Some (ends.Bad at reason) → RefusedAt opened link run reason
-    by (Some end) fits e = absurd (frame-other (readiness opened k) grants f s at reason is own (fits ∙ e))
+    by (Some end) fits e = absurd (frame_other (readiness opened k) grants f s at reason is own (fits ∙ e))
     by None fits e = by_refusal fits (frame_effect k f).refusal refl e
 
-pub refused-at : (opened : LinkParameters) (link : ℕ) (run : List Mark) → IsTyped run → MatchedSoFar opened link run → (at reason : ℕ) → IsCallReason reason → (server opened link run).ended ≡ Some (ends.Bad at reason) → RefusedAt opened link run reason
+pub refused_at_lem : (opened : LinkParameters) (link : ℕ) (run : List Mark) → IsTyped run → MatchedSoFar opened link run → (at reason : ℕ) → IsCallReason reason → (server opened link run).ended ≡ Some (ends.Bad at reason) → RefusedAt opened link run reason
 unfolding server server_end
-refused-at opened link run typed far at reason own e =
-    let es : List Event = events link Responder run in
-    let r = ends-at (server_rules opened) (initial_server opened) es (ends.Bad at reason) refl e in
-    let good = goes-behind (server_rules opened) ServerGood 0 (initial_server opened) r.earlier (r.event ∷ r.later)
-    (subst (λ (ev : List Event). GoesOn (server_rules opened) ServerGood 0 (initial_server opened) ev) r.is (server-good opened link run typed far.asked far.served far.matched)) in
+refused_at_lem opened link run typed far at reason own e =
+    let es : List RunEvent = events link Responder run in
+    let r = ends_at_lem (server_rules opened) (initial_server opened) es (ends.Bad at reason) refl e in
+    let good = goes_behind (server_rules opened) ServerGood 0 (initial_server opened) r.earlier (r.event ∷ r.later)
+    (subst (λ (ev : List RunEvent). GoesOn (server_rules opened) ServerGood 0 (initial_server opened) ev) r.is (server_good opened link run typed far.asked far.served far.matched)) in
     by r.earlier r.event r.later r.is r.live good.1 r.ends
   where
-    by : (es : List Event) (x : Event) (more : List Event) → events link Responder run ≡ es ++ x ∷ more → (end_state_after (server_rules opened) (initial_server opened) es).ended ≡ None
+    by : (es : List RunEvent) (x : RunEvent) (more : List RunEvent) → events link Responder run ≡ es ++ x ∷ more → (end_state_after (server_rules opened) (initial_server opened) es).ended ≡ None
         → ServerGood (end_state_after (server_rules opened) (initial_server opened) es) x → server_end opened (server_by opened es) x ≡ Some (ends.Bad at reason) → RefusedAt opened link run reason
-    by es (FrameReceived f) more is live good e = refused-frame opened link run es f more at reason is live good own e
+    by es (FrameReceived f) more is live good e = refused_frame opened link run es f more at reason is live good own e
     by es (CallSubmitted p a) more is live good e = absurd cc
     by es (MemoryRevoked p xid) more is live good e = absurd cc
     by es (CallExecuted x) more is live good e = absurd cc

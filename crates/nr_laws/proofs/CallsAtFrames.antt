@@ -23,8 +23,8 @@ use Rattle.nr_reduce.specs.Plans.{plan_of, entries_from, read_list, lists_of}
 use Rattle.nr_reduce.specs.Chunks.{total_at, call_conveyed}
 use Rattle.nr_reduce.specs.OfferedRegions.{Region, region_grants}
 use Rattle.nr_reduce.specs.ClientState.{call_payload}
-use Rattle.nr_reduce.specs.Events.{Event, events}
-use Rattle.nr_reduce.specs.Events.Event.{FrameReceived}
+use Rattle.nr_reduce.specs.Events.{RunEvent, events}
+use Rattle.nr_reduce.specs.Events.RunEvent.{FrameReceived}
 use Rattle.nr_reduce.specs.ServerState.{PendingCall, PendingRead}
 use Rattle.nr_reduce.specs.ServerReads.{is_read, sink_of, reads_of, reads_from, regions_of}
 use Rattle.nr_reduce.specs.ServerMessages.{verdict, payload_of, chunk_bytes}
@@ -38,89 +38,89 @@ use Rattle.nr_reduce.specs.Served.{ServedSoFar}
 use Rattle.nr_reduce.specs.EndRules.{end_state_after}
 use Rattle.nr_reduce.specs.Run.{client}
 use Rattle.nr_reduce.specs.RunLaws.{server_by, known_stream, ends_response, IsReceivedCall}
-use Rattle.nr_reduce.specs.Undone.{ChunkHolds, lists_by}
-use Rattle.nr_reduce.proofs.Conveyed.{Known, known-from, each-found}
-use Rattle.nr_reduce.proofs.Laid.{added_up}
+use Rattle.nr_reduce.specs.ChunkBytes.{ChunkHolds, lists_by}
+use Rattle.nr_reduce.proofs.Conveyed.{Known, known_from, each_found}
+use Rattle.nr_reduce.proofs.WrittenChunks.{added_up}
 use Rattle.nr_laws.proofs.LinkInvariants.{IsUnused}
 use Rattle.nr_laws.specs.Payloads.{form_conveyed}
 use Rattle.nr_laws.specs.RefusedMessages.{IsRefusedMessage}
 use Rattle.nr_laws.specs.Typed.{TypedMark, IsTypedForm, IsTypedCall, IsTyped}
-use Rattle.nr_laws.proofs.AcceptedRegions.{accepted-regions}
+use Rattle.nr_laws.proofs.AcceptedRegions.{accepted_regions}
 use Rattle.nr_laws.proofs.ClientRun.{WasSubmitted}
-use Rattle.nr_laws.proofs.ConveyedCalls.{planned-fits, plan-reads}
-use Rattle.nr_laws.proofs.ConveyedForms.{HasChunk, no-bytes, planned-chunk, received-conveys}
-use Rattle.nr_laws.proofs.EmptyChunks.{new-empty, pending-empty}
-use Rattle.nr_laws.proofs.ExecutedCalls.{frame-message, received-message}
-use Rattle.nr_laws.proofs.ExecutedPayloads.{IsOfPlan, planned-by}
-use Rattle.nr_laws.proofs.HeaderXid.{header-xid, call-xid}
-use Rattle.nr_laws.proofs.HeldChunks.{sink-holds}
-use Rattle.nr_laws.proofs.JudgedCalls.{pending-fine, read-fine}
-use Rattle.nr_laws.proofs.OnceByXid.{at-mark}
-use Rattle.nr_laws.proofs.PendingSends.{verdict-new}
+use Rattle.nr_laws.proofs.ConveyedCalls.{planned_fits, plan_reads}
+use Rattle.nr_laws.proofs.ConveyedForms.{HasChunk, no_bytes_lem, planned_chunk, received_conveys}
+use Rattle.nr_laws.proofs.EmptyChunks.{new_empty, pending_empty}
+use Rattle.nr_laws.proofs.ExecutedCalls.{frame_message, received_message}
+use Rattle.nr_laws.proofs.ExecutedPayloads.{IsOfPlan, planned_by}
+use Rattle.nr_laws.proofs.HeaderXid.{header_xid, call_xid_lem}
+use Rattle.nr_laws.proofs.HeldChunks.{sink_holds}
+use Rattle.nr_laws.proofs.JudgedCalls.{pending_fine, read_fine}
+use Rattle.nr_laws.proofs.OnceByXid.{at_mark}
+use Rattle.nr_laws.proofs.PendingSends.{verdict_new}
 use Rattle.nr_laws.proofs.PlanLists.{ReadsLists}
-use Rattle.nr_laws.proofs.ReadPayloads.{region-small, stag-small, read-region, region-holds, any-right, own-unread}
-use Rattle.nr_laws.proofs.ServerReadsOfRuns.{verdict-lists}
-use Rattle.nr_laws.proofs.SinkReads.{own_reads, total-own, reads-own}
-use Rattle.nr_laws.proofs.SuitedCalls.{HasNoBytes, calls-suit, IsSuited}
+use Rattle.nr_laws.proofs.ReadPayloads.{region_small, stag_small, read_region, region_holds, any_right, own_unread}
+use Rattle.nr_laws.proofs.ServerReadsOfRuns.{verdict_lists}
+use Rattle.nr_laws.proofs.SinkReads.{own_reads, total_own, reads_own}
+use Rattle.nr_laws.proofs.SuitedCalls.{HasNoBytes, calls_suit_lem, IsSuited}
 use Rattle.nr_laws.proofs.TotalsAtServer.{found_has}
 use Rattle.std.proofs.lemmas.Bool.{not-true}
-use Rattle.nr_laws.proofs.SinksKept.{total-nil}
+use Rattle.nr_laws.proofs.SinksKept.{total_nil}
 
 -- ---- The chunks of a plan
 
 -- a call that is whole by its message has no bytes to be read
-nothing-read : (regions : List Region) (reads : List PendingRead) (c : PendingCall) (stag : ℕ) (p : Plan) → HasChunk p → c.lists.read ≡ (lists_of stag p).read → is_read (reads ++ reads_of regions c) c.number ≡ true → added_up p.read ≡ 0
+nothing_read : (regions : List Region) (reads : List PendingRead) (c : PendingCall) (stag : ℕ) (p : Plan) → HasChunk p → c.lists.read ≡ (lists_of stag p).read → is_read (reads ++ reads_of regions c) c.number ≡ true → added_up p.read ≡ 0
 unfolding lists_of
-nothing-read regions reads c stag p chunk lists whole = by p.read_at refl lists
+nothing_read regions reads c stag p chunk lists whole = by p.read_at refl lists
   where
     none : list_any (λ r. eqb r.number c.number) (reads_of regions c) ≡ false
-    none = any-right c.number reads (reads_of regions c) (not-true (list_any (λ r. eqb r.number c.number) (reads ++ reads_of regions c)) whole)
+    none = any_right c.number reads (reads_of regions c) (not-true (list_any (λ r. eqb r.number c.number) (reads ++ reads_of regions c)) whole)
 
     by : (o : Option ℕ) → p.read_at ≡ o → c.lists.read ≡ read_list stag p o → added_up p.read ≡ 0
     by None at e = ap added_up (chunk.apart at)
     by (Some position) at e =
         let same : reads_of regions c ≡ own_reads c.number position (sink_of regions c.number position) stag 0 p.read =
-        ap (λ (read : List ReadSegment). reads_from regions c.number [] read) e ∙ reads-own regions c.number position stag 0 [] p.read (total-nil position) in
-        own-unread c.number position (sink_of regions c.number position) stag 0 p.read (ap (list_any (λ r. eqb r.number c.number)) (sym same) ∙ none)
+        ap (λ (read : List ReadSegment). reads_from regions c.number [] read) e ∙ reads_own regions c.number position stag 0 [] p.read (total_nil position) in
+        own_unread c.number position (sink_of regions c.number position) stag 0 p.read (ap (list_any (λ r. eqb r.number c.number)) (sym same) ∙ none)
 
 -- a chunk without bytes brings what its plan has of it
-empty-brings : (c : PendingCall) (stag position : ℕ) (p : Plan) (bytes : List ℕ) → HasChunk p → c.lists.read ≡ entries_from position stag 0 p.read → added_up p.read ≡ 0 → (total_at position c.lists.read ≡ 0 → bytes ≡ []) → bytes ≡ p.region
-empty-brings c stag position p bytes chunk lists none empty =
-    empty (ap (λ (read : List ReadSegment). total_at position read) lists ∙ total-own position stag 0 p.read ∙ none) ∙ sym (no-bytes p.region (chunk.size ∙ none))
+empty_brings : (c : PendingCall) (stag position : ℕ) (p : Plan) (bytes : List ℕ) → HasChunk p → c.lists.read ≡ entries_from position stag 0 p.read → added_up p.read ≡ 0 → (total_at position c.lists.read ≡ 0 → bytes ≡ []) → bytes ≡ p.region
+empty_brings c stag position p bytes chunk lists none empty =
+    empty (ap (λ (read : List ReadSegment). total_at position read) lists ∙ total_own position stag 0 p.read ∙ none) ∙ sym (no_bytes_lem p.region (chunk.size ∙ none))
 
-plan-holds : (c : PendingCall) (stag : ℕ) (p : Plan) (chunk : ℕ → List ℕ) → c.lists.read ≡ (lists_of stag p).read → ((position : ℕ) → c.lists.read ≡ entries_from position stag 0 p.read → chunk position ≡ p.region) → ChunkHolds chunk p
+plan_holds_lem : (c : PendingCall) (stag : ℕ) (p : Plan) (chunk : ℕ → List ℕ) → c.lists.read ≡ (lists_of stag p).read → ((position : ℕ) → c.lists.read ≡ entries_from position stag 0 p.read → chunk position ≡ p.region) → ChunkHolds chunk p
 unfolding lists_of
-plan-holds c stag p chunk lists held = by p.read_at lists
+plan_holds_lem c stag p chunk lists held = by p.read_at lists
   where
     by : (o : Option ℕ) → c.lists.read ≡ read_list stag p o → IfSome o (λ position. chunk position ≡ p.region)
     by None e = tt
     by (Some position) e = held position e
 
-none-or-some : (n : ℕ) (P : Type 0) → (n ≡ 0 → P) → (0 < n → P) → P
-none-or-some zero P none some = none refl
-none-or-some (suc n) P none some = some (omega arith)
+none_or_some : (n : ℕ) (P : Type 0) → (n ≡ 0 → P) → (0 < n → P) → P
+none_or_some zero P none some = none refl
+none_or_some (suc n) P none some = some (omega arith)
 
 -- ---- What is conveyed of a call that was received
 
 module _ (opened : LinkParameters) (link : ℕ) (run : List Mark) (typed : IsTyped run) {n : ℕ} {m : List ℕ} (w : WasSubmitted opened link run n m) where
   pub submit_typed : IsBytes (call_payload w.xid w.call) × IsTypedForm w.form × IsTypedCall w.call
-  submit_typed = at-mark TypedMark run w.earlier (marks.Submit link w.call w.form (submissions.Accepted w.xid)) w.later w.is typed
+  submit_typed = at_mark TypedMark run w.earlier (marks.Submit link w.call w.form (submissions.Accepted w.xid)) w.later w.is typed
 
   submit_plan : plan_of (call_payload w.xid w.call) w.form send_max send_max ≡ Ok w.accepted.plan
-  submit_plan = planned-by opened link w.earlier w.xid w.call w.form w.accepted.plan w.accepted.planned
+  submit_plan = planned_by opened link w.earlier w.xid w.call w.form w.accepted.plan w.accepted.planned
 
   submit_reads : (header : Header) → header_of m ≡ Ok header → ReadsLists (client opened link w.earlier).state.stag w.accepted.plan m header
   submit_reads header is =
       let k = (client opened link w.earlier).state in
       let p : Plan = w.accepted.plan in
-      let fine = planned-fits (call_payload w.xid w.call) w.form send_max k.stag p submit_plan submit_typed.0 submit_typed.1 w.accepted.stags in
+      let fine = planned_fits (call_payload w.xid w.call) w.form send_max k.stag p submit_plan submit_typed.0 submit_typed.1 w.accepted.stags in
       subst (λ (x : List ℕ). ReadsLists k.stag p x header) (sym w.message_is)
-      (plan-reads w.xid opened.wished k.stag p header fine.0 fine.1 w.accepted.xids (ap header_of (sym w.message_is) ∙ is))
+      (plan_reads w.xid opened.wished k.stag p header fine.0 fine.1 w.accepted.xids (ap header_of (sym w.message_is) ∙ is))
 
   pub submit_xid : word_at 0 m ≡ w.xid
   submit_xid =
       let fits = w.accepted.xids in
-      ap (λ (x : List ℕ). word_at 0 x) w.message_is ∙ call-xid w.xid opened.wished (client opened link w.earlier).state.stag w.accepted.plan (omega (arith, fits))
+      ap (λ (x : List ℕ). word_at 0 x) w.message_is ∙ call_xid_lem w.xid opened.wished (client opened link w.earlier).state.stag w.accepted.plan (omega (arith, fits))
 
   -- where its chunks hold the plan's region
   submit_conveys : (c : PendingCall) (chunk : ℕ → List ℕ) (header : Header) → header_of m ≡ Ok header → c.lists ≡ lists_by header.body → c.inline ≡ known_stream m header.body
@@ -131,7 +131,7 @@ module _ (opened : LinkParameters) (link : ℕ) (run : List Mark) (typed : IsTyp
       let stag : ℕ = (client opened link w.earlier).state.stag in
       let reading = submit_reads header is in
       let of_plan : IsOfPlan stag p c = record { lists = lists ∙ reading.lists; stream = stream ∙ reading.known } in
-      received-conveys (call_payload w.xid w.call) w.form send_max stag p c chunk submit_typed.0 submit_typed.1 submit_plan w.accepted.stags of_plan (plan-holds c stag p chunk (ap (λ (x : ChunkLists). x.read) of_plan.lists) held)
+      received_conveys (call_payload w.xid w.call) w.form send_max stag p c chunk submit_typed.0 submit_typed.1 submit_plan w.accepted.stags of_plan (plan_holds_lem c stag p chunk (ap (λ (x : ChunkLists). x.read) of_plan.lists) held)
 
 -- ---- At a frame
 
@@ -145,7 +145,7 @@ pub record ConveyedAt (opened : LinkParameters) (link : ℕ) (run : List Mark) (
   pub conveyed : payload ≡ form_conveyed submitted.form (call_payload submitted.xid submitted.call)
 
 module _ (opened : LinkParameters) (link : ℕ) (run : List Mark) (typed : IsTyped run) (asked : AskedSoFar opened link run) (served : ServedSoFar opened link run) (matched : Matched link run)
-    (es : List Event) (f : Frame) (more : List Event) (segment : Segment) (all : events link Responder run ≡ es ++ FrameReceived f ∷ more) (behind : is_hello f ≡ false) (is : frame_segment f ≡ Ok segment)
+    (es : List RunEvent) (f : Frame) (more : List RunEvent) (segment : Segment) (all : events link Responder run ≡ es ++ FrameReceived f ∷ more) (behind : is_hello f ≡ false) (is : frame_segment f ≡ Ok segment)
     (live : (end_state_after (server_rules opened) (initial_server opened) es).ended ≡ None) where
   -- of a call that is whole by its message
   pub conveyed-by-message : (message : List ℕ) (c : PendingCall) → message_completed (server_by opened es).received segment ≡ Some message → verdict (server_by opened es) message ≡ MakesPending c
@@ -153,24 +153,24 @@ module _ (opened : LinkParameters) (link : ℕ) (run : List Mark) (typed : IsTyp
   unfolding payload_of
   conveyed-by-message message c whole v read =
       let k = server_by opened es in
-      let w = frame-message opened link run typed asked matched es f more segment message all behind is whole live in
-      let l = verdict-lists k message c v in
-      let new = (verdict-new k message c v).0 in
+      let w = frame_message opened link run typed asked matched es f more segment message all behind is whole live in
+      let l = verdict_lists k message c v in
+      let new = (verdict_new k message c v).0 in
       let p : Plan = w.accepted.plan in
       let stag : ℕ = (client opened link w.earlier).state.stag in
       let chunk = chunk_bytes k f.end c in
-      let region = planned-chunk (call_payload w.xid w.call) w.form send_max send_max p (submit_plan opened link run typed w) in
+      let region = planned_chunk (call_payload w.xid w.call) w.form send_max send_max p (submit_plan opened link run typed w) in
       let lists = l.lists ∙ (submit_reads opened link run typed w l.header l.is).lists in
-      let none : added_up p.read ≡ 0 = nothing-read (k.regions ++ regions_of k f.end c) k.reads c stag p region (ap (λ (x : ChunkLists). x.read) lists) read in
+      let none : added_up p.read ≡ 0 = nothing_read (k.regions ++ regions_of k f.end c) k.reads c stag p region (ap (λ (x : ChunkLists). x.read) lists) read in
       record {
         index = k.received.sends;
         message = message;
         submitted = w;
         number = new.number;
         xid = new.own;
-        accepted = pending-fine k message c v;
+        accepted = pending_fine k message c v;
         conveyed = submit_conveys opened link run typed w c chunk l.header l.is l.lists l.stream
-            (λ position own. empty-brings c stag position p (chunk position) region own none (λ e. new-empty opened es f.end c position new.number));
+            (λ position own. empty_brings c stag position p (chunk position) region own none (λ e. new_empty opened es f.end c position new.number));
       }
 
   -- and of one that is whole by the last read for it, where the access of the frame is allowed
@@ -179,34 +179,34 @@ module _ (opened : LinkParameters) (link : ℕ) (run : List Mark) (typed : IsTyp
   unfolding payload_of
   conveyed-by-read allowed q rest c ends reads found read =
       let k = server_by opened es in
-      let known : Known opened es k = known-from opened [] es (record { calls = tt; ready = tt }) in
-      let own = each-found (IsReceivedCall opened es) q.number k.calls c known.calls found in
-      let w = received-message opened link run typed asked matched c (FrameReceived f ∷ more) es all own live in
+      let known : Known opened es k = known_from opened [] es (record { calls = tt; ready = tt }) in
+      let own = each_found (IsReceivedCall opened es) q.number k.calls c known.calls found in
+      let w = received_message opened link run typed asked matched c (FrameReceived f ∷ more) es all own live in
       let p : Plan = w.accepted.plan in
       let stag : ℕ = (client opened link w.earlier).state.stag in
       let chunk = chunk_bytes (with_access k f segment) f.end c in
       let planned = submit_plan opened link run typed w in
-      let region = planned-chunk (call_payload w.xid w.call) w.form send_max send_max p planned in
+      let region = planned_chunk (call_payload w.xid w.call) w.form send_max send_max p planned in
       let regions : List Region = (client opened link run).state.regions in
       let reading = submit_reads opened link run typed w own.header own.is_header in
-      let suits : IsSuited k.received.sends k.reads c = each-found (IsSuited k.received.sends k.reads) q.number k.calls c (calls-suit opened es).calls_suit found in
+      let suits : IsSuited k.received.sends k.reads c = each_found (IsSuited k.received.sends k.reads) q.number k.calls c (calls_suit_lem opened es).calls_suit found in
       let number : c.number ≡ q.number = found_has (λ (x : PendingCall). x.number) q.number k.calls c found in
       let some : HasNoBytes c.lists.read → ⊥ = λ none. (subst (λ (rs : List PendingRead). IsUnused (λ (x : PendingRead). x.number) c.number rs) reads (suits.unread none)).0 (sym number) in
       let with_bytes : (position : ℕ) → c.lists.read ≡ entries_from position stag 0 p.read → 0 < added_up p.read → chunk position ≡ p.region =
       λ position lists bytes.
-      let backed = read-region regions stag p bytes (accepted-regions opened link run w.earlier w.later w.call w.form w.xid typed asked w.is w.accepted) in
-      sink-holds opened link run typed asked served matched es f more segment q rest c all behind is live allowed ends reads found read
-      (record { position = position; handle = stag; lengths = p.read; lists = lists; some = bytes; region = p.region; size = region.size; region_fits = region-small (call_payload w.xid w.call) w.form send_max send_max p planned; handle_fits = stag-small stag p bytes w.accepted.stags; holds = region-holds regions stag p.region backed }) in
+      let backed = read_region regions stag p bytes (accepted_regions opened link run w.earlier w.later w.call w.form w.xid typed asked w.is w.accepted) in
+      sink_holds opened link run typed asked served matched es f more segment q rest c all behind is live allowed ends reads found read
+      (record { position = position; handle = stag; lengths = p.read; lists = lists; some = bytes; region = p.region; size = region.size; region_fits = region_small (call_payload w.xid w.call) w.form send_max send_max p planned; handle_fits = stag_small stag p bytes w.accepted.stags; holds = region_holds regions stag p.region backed }) in
       let held : (position : ℕ) → c.lists.read ≡ entries_from position stag 0 p.read → chunk position ≡ p.region =
       λ position lists.
-      none-or-some (added_up p.read) (chunk position ≡ p.region)
-      (λ none. empty-brings c stag position p (chunk position) region lists none (λ zero_is. pending-empty opened es f segment q.number c position found zero_is)) (with_bytes position lists) in
+      none_or_some (added_up p.read) (chunk position ≡ p.region)
+      (λ none. empty_brings c stag position p (chunk position) region lists none (λ zero_is. pending_empty opened es f segment q.number c position found zero_is)) (with_bytes position lists) in
       record {
         index = (server_by opened own.earlier).received.sends;
         message = own.message;
         submitted = w;
         number = own.number;
-        xid = own.xid ∙ header-xid own.message own.header own.is_header;
-        accepted = read-fine stag p own.message own.header c own.is_header own.lists own.stream reading.inline reading.lists suits.suits some;
+        xid = own.xid ∙ header_xid own.message own.header own.is_header;
+        accepted = read_fine stag p own.message own.header c own.is_header own.lists own.stream reading.inline reading.lists suits.suits some;
         conveyed = submit_conveys opened link run typed w c chunk own.header own.is_header own.lists own.stream held;
       }

@@ -2,7 +2,7 @@
 use Rattle.std.proofs.Common.{◌≡◌, ◌≢◌, ℕ, List, ◌∷◌, ◌++◌, None, Some, refl, sym, ap, subst, ◌∙◌, inl, inr, ◌⊎◌}
 use Rattle.nr_wire.specs.declared.hello.Side.TheVariants.{Responder}
 use Rattle.nr_rpc.specs.Reading.{call_of, target_of}
-use Rattle.nr_reduce.proofs.OwnLimits.{server-limits-of}
+use Rattle.nr_reduce.proofs.OwnLimits.{server_limits_of}
 use Rattle.nr_reduce.specs.declared.call.Outcome.{Outcome}
 use Rattle.nr_reduce.specs.declared.call.Outcome.TheVariants as outcomes
 use Rattle.nr_outside.specs.declared.moment.Moment.{Moment}
@@ -13,7 +13,7 @@ use Rattle.nr_reduce.specs.declared.outline.Plan.{Plan}
 use Rattle.nr_reduce.specs.History.{ExecutedCall}
 use Rattle.nr_reduce.specs.Limits.{send_max}
 use Rattle.nr_reduce.specs.Plans.{lists_of}
-use Rattle.nr_reduce.specs.Events.{Event, events}
+use Rattle.nr_reduce.specs.Events.{RunEvent, events}
 use Rattle.nr_reduce.specs.Server.{offer_of, answer_of_target}
 use Rattle.nr_reduce.specs.Run.{client, server}
 use Rattle.nr_reduce.specs.RunLaws.{server_by}
@@ -25,18 +25,18 @@ use Rattle.nr_laws.specs.Payloads.{HasPlan}
 use Rattle.nr_laws.specs.RefusedMessages.{HasRefusedMessage}
 use Rattle.nr_laws.specs.ChunkOutcomes.{HasChunkCause, answer_held, ChunkHasCause, OthersHaveNoCause}
 use Rattle.nr_laws.proofs.Outputs.{answer_of_call}
-use Rattle.nr_laws.proofs.OnceByXid.{before-mark, no_xid_twice}
+use Rattle.nr_laws.proofs.OnceByXid.{before_mark, no_xid_twice}
 use Rattle.nr_laws.proofs.Ordered.{Order, order}
 use Rattle.nr_laws.proofs.Ordered.Order.{Behind, Here, Before}
-use Rattle.nr_laws.proofs.Following.{DoneAt, done-at, far-before}
-use Rattle.nr_laws.proofs.Replied.{replied-by}
-use Rattle.nr_laws.proofs.Completed.{ChunkCause, OutcomeCause, outcome-cause, version-never}
+use Rattle.nr_laws.proofs.Following.{DoneAt, done_at, far_before}
+use Rattle.nr_laws.proofs.Replied.{replied_by_lem}
+use Rattle.nr_laws.proofs.Completed.{ChunkCause, OutcomeCause, outcome_cause, version_never}
 use Rattle.nr_laws.proofs.Completed.ChunkCause.{SendRefused, NotHeld}
 use Rattle.nr_laws.proofs.Completed.OutcomeCause.{OfAnswer, OfChunk}
 use Rattle.nr_laws.proofs.ExecutedPayloads.{executes_have_plans}
 use Rattle.nr_laws.proofs.PlannedOffers.{offers_are_planned}
-use Rattle.nr_laws.proofs.LaterMarks.{mark-later, plan-later}
-use Rattle.nr_laws.proofs.RefusedMessages.{refused-message, refused-not-executed}
+use Rattle.nr_laws.proofs.LaterMarks.{mark_later, plan_later}
+use Rattle.nr_laws.proofs.RefusedMessages.{refused_message, refused_not_executed}
 
 -- ---- Of two Executes under one xid there is one
 
@@ -45,9 +45,9 @@ pub record SameExecute (before others : List Mark) (payload asked reply answer :
   pub payload_is : payload ≡ asked
   pub reply_is : reply ≡ answer
 
-pub one-execute : (opened : LinkParameters) (link : ℕ) (run before others : List Mark) (xid : ℕ) (moment now : Moment) (payload asked : List ℕ) (place later : ℕ) (reply answer : List ℕ) → IsTyped run → MatchedSoFar opened link run
+pub one_execute : (opened : LinkParameters) (link : ℕ) (run before others : List Mark) (xid : ℕ) (moment now : Moment) (payload asked : List ℕ) (place later : ℕ) (reply answer : List ℕ) → IsTyped run → MatchedSoFar opened link run
     → MarkAt run before (marks.Execute link xid moment payload place reply) → MarkAt run others (marks.Execute link xid now asked later answer) → SameExecute before others payload asked reply answer
-one-execute opened link run before others xid moment now payload asked place later reply answer typed far at there = by (order before one at.after others two there.after (sym at.is ∙ there.is))
+one_execute opened link run before others xid moment now payload asked place later reply answer typed far at there = by (order before one at.after others two there.after (sym at.is ∙ there.is))
   where
     one : Mark
     one = marks.Execute link xid moment payload place reply
@@ -63,9 +63,9 @@ one-execute opened link run before others xid moment now payload asked place lat
         (record { after = at.after; is = at.is ∙ ap (λ (b : List Mark). b ++ one ∷ at.after) e }) refl)
 
 -- what an executed call is answered, by its mark
-pub held-at : (opened : LinkParameters) (link : ℕ) (before : List Mark) (es : List Event) (xid : ℕ) (e : ExecutedCall) → events link Responder before ≡ es → e.xid ≡ xid → answer_held opened link before xid e.payload e.reply ≡ answer_of_call (server_by opened es) e
+pub held_at : (opened : LinkParameters) (link : ℕ) (before : List Mark) (es : List RunEvent) (xid : ℕ) (e : ExecutedCall) → events link Responder before ≡ es → e.xid ≡ xid → answer_held opened link before xid e.payload e.reply ≡ answer_of_call (server_by opened es) e
 unfolding server
-held-at opened link before es xid e is own = λ i. answer_of_target (offer_of (server_by opened (is i)) (sym own i)) (server_by opened (is i)).down_max e.reply (target_of (call_of e.payload))
+held_at opened link before es xid e is own = λ i. answer_of_target (offer_of (server_by opened (is i)) (sym own i)) (server_by opened (is i)).down_max e.reply (target_of (call_of e.payload))
 
 -- ---- What ERR_CHUNK tells
 
@@ -79,9 +79,9 @@ pub record ExecuteNotHeld (opened : LinkParameters) (link : ℕ) (run : List Mar
   pub at : MarkAt run before (marks.Execute link xid moment payload place reply)
   pub none : answer_held opened link before xid payload reply ≡ None
 
-cause-of : (opened : LinkParameters) (link : ℕ) (run : List Mark) (xid : ℕ) (m : List ℕ) → IsTyped run → MatchedSoFar opened link run → ChunkCause opened link run xid m → HasRefusedMessage opened link run xid ⊎ ExecuteNotHeld opened link run xid
-cause-of opened link run xid m typed far (SendRefused s r own) = inl (subst (λ (x : ℕ). HasRefusedMessage opened link run x) own (refused-message opened link run m typed far s r))
-cause-of opened link run xid m typed far (NotHeld s a own) =
+cause_of_lem : (opened : LinkParameters) (link : ℕ) (run : List Mark) (xid : ℕ) (m : List ℕ) → IsTyped run → MatchedSoFar opened link run → ChunkCause opened link run xid m → HasRefusedMessage opened link run xid ⊎ ExecuteNotHeld opened link run xid
+cause_of_lem opened link run xid m typed far (SendRefused s r own) = inl (subst (λ (x : ℕ). HasRefusedMessage opened link run x) own (refused_message opened link run m typed far s r))
+cause_of_lem opened link run xid m typed far (NotHeld s a own) =
     let e = s.call in
     let k = a.mark in
     inr (record {
@@ -91,37 +91,37 @@ cause-of opened link run xid m typed far (NotHeld s a own) =
       reply = e.reply;
       before = k.earlier;
       at = record { after = k.later; is = k.is ∙ ap (λ (x : ℕ). k.earlier ++ marks.Execute link x e.moment e.payload e.place e.reply ∷ k.later) own };
-      none = held-at opened link k.earlier s.earlier xid e k.before own ∙ s.none;
+      none = held_at opened link k.earlier s.earlier xid e k.before own ∙ s.none;
     })
 
-pub chunk-caused : (opened : LinkParameters) (link : ℕ) (run before after : List Mark) (xid : ℕ) → IsTyped run → MatchedSoFar opened link run → run ≡ before ++ marks.Done link xid outcomes.Chunk ∷ after
+pub chunk_caused : (opened : LinkParameters) (link : ℕ) (run before after : List Mark) (xid : ℕ) → IsTyped run → MatchedSoFar opened link run → run ≡ before ++ marks.Done link xid outcomes.Chunk ∷ after
     → HasRefusedMessage opened link before xid ⊎ ExecuteNotHeld opened link before xid
-chunk-caused opened link run before after xid typed far is = by (outcome-cause opened link run before after xid outcomes.Chunk typed far is)
+chunk_caused opened link run before after xid typed far is = by (outcome_cause opened link run before after xid outcomes.Chunk typed far is)
   where
     d : DoneAt opened link before xid outcomes.Chunk
-    d = done-at opened link run before after xid outcomes.Chunk typed far is
+    d = done_at opened link run before after xid outcomes.Chunk typed far is
 
     by : OutcomeCause opened link before xid d.said.given.message outcomes.Chunk → HasRefusedMessage opened link before xid ⊎ ExecuteNotHeld opened link before xid
     by (OfAnswer w) = elim w [ ]
-    by (OfChunk w cause) = cause-of opened link before xid d.said.given.message d.typed d.far cause
+    by (OfChunk w cause) = cause_of_lem opened link before xid d.said.given.message d.typed d.far cause
 
 -- ---- The offer by the call's plan
 
 -- what the offer holds which the server keeps is what the plan's offer holds
-pub held-by-plan : (opened : LinkParameters) (link : ℕ) (run before : List Mark) (xid : ℕ) (plan : Plan) (moment : Moment) (payload : List ℕ) (place : ℕ) (reply : List ℕ) → IsTyped run → MatchedSoFar opened link run
+pub held_by_plan : (opened : LinkParameters) (link : ℕ) (run before : List Mark) (xid : ℕ) (plan : Plan) (moment : Moment) (payload : List ℕ) (place : ℕ) (reply : List ℕ) → IsTyped run → MatchedSoFar opened link run
     → (has : HasPlan opened link run xid plan) → MarkAt run before (marks.Execute link xid moment payload place reply)
     → answer_held opened link before xid payload reply ≡ answer_of_target (lists_of (client opened link has.before).state.stag plan) send_max reply (target_of (call_of payload))
-held-by-plan opened link run before xid plan moment payload place reply typed far has at =
-    let down = (server-limits-of opened link before).down in
+held_by_plan opened link run before xid plan moment payload place reply typed far has at =
+    let down = (server_limits_of opened link before).down in
     let offer = offers_are_planned opened link run before xid plan moment payload place reply typed far has at in
     (λ i. answer_of_target (offer i) (down i) reply (target_of (call_of payload)))
 
-planned-cause : (opened : LinkParameters) (link : ℕ) (run : List Mark) (xid : ℕ) → IsTyped run → MatchedSoFar opened link run → HasRefusedMessage opened link run xid ⊎ ExecuteNotHeld opened link run xid → HasChunkCause opened link run xid
-planned-cause opened link run xid typed far (inl m) = inl m
-planned-cause opened link run xid typed far (inr u) =
+planned_cause : (opened : LinkParameters) (link : ℕ) (run : List Mark) (xid : ℕ) → IsTyped run → MatchedSoFar opened link run → HasRefusedMessage opened link run xid ⊎ ExecuteNotHeld opened link run xid → HasChunkCause opened link run xid
+planned_cause opened link run xid typed far (inl m) = inl m
+planned_cause opened link run xid typed far (inr u) =
     let execute : Mark = marks.Execute link xid u.moment u.payload u.place u.reply in
     let p = executes_have_plans opened link run u.before xid u.moment u.payload u.place u.reply typed far u.at in
-    let has = plan-later opened link run u.before execute u.at.after xid p.0 u.at.is p.1 in
+    let has = plan_later opened link run u.before execute u.at.after xid p.0 u.at.is p.1 in
     inr (record {
       plan = p.0;
       has = has;
@@ -131,19 +131,19 @@ planned-cause opened link run xid typed far (inr u) =
       reply = u.reply;
       before = u.before;
       at = u.at;
-      none = sym (held-by-plan opened link run u.before xid p.0 u.moment u.payload u.place u.reply typed far has u.at) ∙ u.none;
+      none = sym (held_by_plan opened link run u.before xid p.0 u.moment u.payload u.place u.reply typed far has u.at) ∙ u.none;
     })
 
 -- ---- Where one of them stands, no reply is handed over
 
-executed-without-cause : (opened : LinkParameters) (link : ℕ) (run before : List Mark) (xid : ℕ) (moment : Moment) (payload : List ℕ) (place : ℕ) (reply : List ℕ) (a : Answer) → IsTyped run → MatchedSoFar opened link run
+executed_without_cause : (opened : LinkParameters) (link : ℕ) (run before : List Mark) (xid : ℕ) (moment : Moment) (payload : List ℕ) (place : ℕ) (reply : List ℕ) (a : Answer) → IsTyped run → MatchedSoFar opened link run
     → MarkAt run before (marks.Execute link xid moment payload place reply) → answer_held opened link before xid payload reply ≡ Some a → HasChunkCause opened link run xid → ⊥
-executed-without-cause opened link run before xid moment payload place reply a typed far at is (inl m) = refused-not-executed opened link run before xid moment payload place reply typed far m at
-executed-without-cause opened link run before xid moment payload place reply a typed far at is (inr u) =
-    let s = one-execute opened link run before u.before xid moment u.moment payload u.payload place u.place reply u.reply typed far at u.at in
+executed_without_cause opened link run before xid moment payload place reply a typed far at is (inl m) = refused_not_executed opened link run before xid moment payload place reply typed far m at
+executed_without_cause opened link run before xid moment payload place reply a typed far at is (inr u) =
+    let s = one_execute opened link run before u.before xid moment u.moment payload u.payload place u.place reply u.reply typed far at u.at in
     let wrong : Some a ≡ None =
     sym is ∙ (λ i. answer_held opened link (s.place i) xid (s.payload_is i) (s.reply_is i))
-    ∙ held-by-plan opened link run u.before xid u.plan u.moment u.payload u.place u.reply typed far u.has u.at ∙ u.none in
+    ∙ held_by_plan opened link run u.before xid u.plan u.moment u.payload u.place u.reply typed far u.has u.at ∙ u.none in
     absurd cc
 
 -- the Execute of a reply that was handed over, whose offer held it
@@ -157,9 +157,9 @@ record HeldExecute (opened : LinkParameters) (link : ℕ) (run : List Mark) (xid
   answer : Answer
   held : answer_held opened link before xid payload reply ≡ Some answer
 
-held-execute : (opened : LinkParameters) (link : ℕ) (run before after : List Mark) (xid : ℕ) (reply : List ℕ) → IsTyped run → MatchedSoFar opened link run → run ≡ before ++ marks.Done link xid (outcomes.Reply reply) ∷ after → HeldExecute opened link before xid
-held-execute opened link run before after xid reply typed far is =
-    let r = replied-by opened link run before after xid reply typed far is in
+held_execute : (opened : LinkParameters) (link : ℕ) (run before after : List Mark) (xid : ℕ) (reply : List ℕ) → IsTyped run → MatchedSoFar opened link run → run ≡ before ++ marks.Done link xid (outcomes.Reply reply) ∷ after → HeldExecute opened link before xid
+held_execute opened link run before after xid reply typed far is =
+    let r = replied_by_lem opened link run before after xid reply typed far is in
     let e = r.answer.call in
     let mark = r.by.mark in
     record {
@@ -170,7 +170,7 @@ held-execute opened link run before after xid reply typed far is =
       before = mark.earlier;
       at = record { after = mark.later; is = mark.is ∙ ap (λ (x : ℕ). mark.earlier ++ marks.Execute link x e.moment e.payload e.place e.reply ∷ mark.later) r.own };
       answer = r.answer.answer;
-      held = held-at opened link mark.earlier r.answer.earlier xid e mark.before r.own ∙ r.answer.is_answer;
+      held = held_at opened link mark.earlier r.answer.earlier xid e mark.before r.own ∙ r.answer.is_answer;
     }
 
 -- ---- The laws
@@ -181,35 +181,35 @@ others_have_no_cause opened link run before xid outcome typed far at other cause
     by : (o : Outcome) → run ≡ before ++ marks.Done link xid o ∷ at.after → o ≢ outcomes.Chunk → ⊥
     by (outcomes.Reply reply) is other =
         let mark : Mark = marks.Done link xid (outcomes.Reply reply) in
-        let h = held-execute opened link run before at.after xid reply typed far is in
+        let h = held_execute opened link run before at.after xid reply typed far is in
         let execute : Mark = marks.Execute link xid h.moment h.payload h.place h.reply in
-        executed-without-cause opened link run h.before xid h.moment h.payload h.place h.reply h.answer typed far (mark-later run before mark at.after h.before execute is h.at) h.held cause
+        executed_without_cause opened link run h.before xid h.moment h.payload h.place h.reply h.answer typed far (mark_later run before mark at.after h.before execute is h.at) h.held cause
     by outcomes.Chunk is other = other refl
-    by (outcomes.Version low high) is other = version-never opened link run before at.after xid low high typed far is
+    by (outcomes.Version low high) is other = version_never opened link run before at.after xid low high typed far is
 
 pub chunk_has_cause : ChunkHasCause
 chunk_has_cause opened link run before xid outcome typed far at = (to, λ cause. by outcome at.is (later cause))
   where
     to : outcome ≡ outcomes.Chunk → HasChunkCause opened link before xid
     to e =
-        planned-cause opened link before xid (before-mark TypedMark run before (marks.Done link xid outcome) at.after at.is typed) (far-before opened link run before (marks.Done link xid outcome) at.after at.is far)
-        (chunk-caused opened link run before at.after xid typed far (at.is ∙ ap (λ (o : Outcome). before ++ marks.Done link xid o ∷ at.after) e))
+        planned_cause opened link before xid (before_mark TypedMark run before (marks.Done link xid outcome) at.after at.is typed) (far_before opened link run before (marks.Done link xid outcome) at.after at.is far)
+        (chunk_caused opened link run before at.after xid typed far (at.is ∙ ap (λ (o : Outcome). before ++ marks.Done link xid o ∷ at.after) e))
 
     later : HasChunkCause opened link before xid → HasChunkCause opened link run xid
-    later (inl m) = inl (record { plan = m.plan; has = plan-later opened link run before (marks.Done link xid outcome) at.after xid m.plan at.is m.has; refused = m.refused })
+    later (inl m) = inl (record { plan = m.plan; has = plan_later opened link run before (marks.Done link xid outcome) at.after xid m.plan at.is m.has; refused = m.refused })
     later (inr u) = inr (record {
       plan = u.plan;
-      has = plan-later opened link run before (marks.Done link xid outcome) at.after xid u.plan at.is u.has;
+      has = plan_later opened link run before (marks.Done link xid outcome) at.after xid u.plan at.is u.has;
       moment = u.moment;
       payload = u.payload;
       place = u.place;
       reply = u.reply;
       before = u.before;
-      at = mark-later run before (marks.Done link xid outcome) at.after u.before (marks.Execute link xid u.moment u.payload u.place u.reply) at.is u.at;
+      at = mark_later run before (marks.Done link xid outcome) at.after u.before (marks.Execute link xid u.moment u.payload u.place u.reply) at.is u.at;
       none = u.none;
     })
 
     by : (o : Outcome) → run ≡ before ++ marks.Done link xid o ∷ at.after → HasChunkCause opened link run xid → o ≡ outcomes.Chunk
     by (outcomes.Reply reply) is cause = absurd (others_have_no_cause opened link run before xid (outcomes.Reply reply) typed far (record { after = at.after; is = is }) (λ e. absurd cc) cause)
     by outcomes.Chunk is cause = refl
-    by (outcomes.Version low high) is cause = absurd (version-never opened link run before at.after xid low high typed far is)
+    by (outcomes.Version low high) is cause = absurd (version_never opened link run before at.after xid low high typed far is)

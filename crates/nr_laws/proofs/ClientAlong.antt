@@ -7,49 +7,49 @@ use Rattle.nr_link.specs.declared.end.End.{End as Stop}
 use Rattle.nr_link.specs.declared.end.End.TheVariants as ends
 use Rattle.nr_link.specs.Frames.{Frame, is_hello}
 use Rattle.nr_link.specs.ReceiveState.{ReadRequest, read_request_of, message_completed}
-use Rattle.nr_link.specs.SegmentFaults.{segment_fault}
+use Rattle.nr_link.specs.SegmentFaults.{segment_reason}
 use Rattle.nr_link.specs.Ending.{frame_segment, missing_access, is_hello_reason}
 use Rattle.nr_reduce.proofs.OwnLimits.{ClientLimits}
 use Rattle.nr_reduce.specs.declared.mark.LinkParameters.{LinkParameters}
 use Rattle.nr_reduce.specs.declared.outline.Plan.{Plan}
 use Rattle.nr_reduce.specs.History.{AcceptedCall}
-use Rattle.nr_reduce.specs.Events.{Event}
-use Rattle.nr_reduce.specs.Events.Event.{FrameReceived, CallSubmitted, MemoryRevoked, CallExecuted, QueueWritten}
+use Rattle.nr_reduce.specs.Events.{RunEvent}
+use Rattle.nr_reduce.specs.Events.RunEvent.{FrameReceived, CallSubmitted, MemoryRevoked, CallExecuted, QueueWritten}
 use Rattle.nr_reduce.specs.EndRules.{next_end_state_by, next_end_state_in}
 use Rattle.nr_reduce.specs.OfferedRegions.{region_grants}
 use Rattle.nr_reduce.specs.Plans.{TooLarge, plan_of, regions_needed}
-use Rattle.nr_reduce.specs.ClientState.{ClientState, OutstandingCall, call_payload, plan_for, memory_at}
-use Rattle.nr_reduce.specs.Client.{client_rules, client_end, client_state_after, readiness, segment_request, outstanding_of, plan_or, with_message, with_request, with_segment, with_hello, due_with_response}
+use Rattle.nr_reduce.specs.ClientState.{ClientState, OutstandingCall, call_payload, plan_for, client_memory_at}
+use Rattle.nr_reduce.specs.Client.{client_rules, client_end, client_state_after, client_readiness, segment_request, outstanding_of, plan_or, with_message, with_request, with_segment, with_hello, due_with_response}
 use Rattle.nr_reduce.specs.RunLaws.{outstanding_from, as_submitted}
 use Rattle.nr_reduce.proofs.Sizes.{message_size}
-use Rattle.nr_laws.proofs.Along.{IsNext, place_after, outputs_by, outputs_in}
+use Rattle.nr_laws.proofs.EventOutputs.{IsNext, place_after, outputs_by, outputs_in}
 use Rattle.nr_laws.proofs.Outputs.{Output, IsShort, FitsSegment, CallsShort, message_of_call, message_outputs, call_sends, client_says, response_outputs, response_segments, final_outputs, terminate_segment, CallShort}
 use Rattle.nr_laws.proofs.Outputs.Output.{ASegment}
 use Rattle.nr_laws.proofs.Brought.{AreFrom}
-use Rattle.nr_laws.proofs.Words.{message-words, terminate-word, from-append, payload-bytes}
-use Rattle.nr_laws.proofs.Messages.{messages, messages-message, messages-append, messages-calls, messages-tagged, tagged-response, messages-final}
-use Rattle.nr_laws.proofs.Completions.{Completes, completes-none, completes-append, completes-message, completes-calls, completes-tagged, completes-final}
-use Rattle.nr_laws.proofs.ClientSays.{IsGoodCall, ClientGood, accepted_in, accepted-append, asked, HasHello, ClientSays, short-revoked, submitted-messages, map-more, client-unharmed, formed, response-words}
-use Rattle.nr_laws.proofs.Basics.{above-zero, each-append, each-kept}
-use Rattle.nr_reduce.proofs.Waiting.{start, stag_behind, from-append as from-more, behind-append, submitted-append, revoked-same}
+use Rattle.nr_laws.proofs.Words.{message_words, terminate_word_lem, from_append, payload_bytes_lem}
+use Rattle.nr_laws.proofs.Messages.{messages, messages_message, messages_append, messages_calls, messages_tagged, tagged_response, messages_final}
+use Rattle.nr_laws.proofs.Completions.{Completes, completes_none, completes_append, completes_message, completes_calls, completes_tagged, completes_final}
+use Rattle.nr_laws.proofs.ClientSays.{IsGoodCall, ClientGood, accepted_in, accepted_append, asked, HasHello, ClientSays, short_revoked, submitted_messages, map_more, client_has_no_fault, formed, response_words}
+use Rattle.nr_laws.proofs.Basics.{above_zero, each_append, each_kept}
+use Rattle.nr_reduce.proofs.Waiting.{start, stag_behind, from_append as from-more, behind_append, submitted_append, revoked_same}
 
 -- ---- What is said for a frame
 
-pub final-words : (end : Stop) → AreFrom Fpdu (final_outputs end)
-final-words (ends.Bad at reason) = by (is_hello_reason reason)
+pub final_words : (end : Stop) → AreFrom Fpdu (final_outputs end)
+final_words (ends.Bad at reason) = by (is_hello_reason reason)
   where
     by : (b : Bool) → AreFrom Fpdu (cond b [] (ASegment (terminate_segment reason) ∷ []))
     by true = tt
-    by false = (terminate-word reason, tt)
-final-words (ends.Denied stag offset why) = (terminate-word _, tt)
-final-words (ends.NoBuffer msn) = (terminate-word _, tt)
-final-words (ends.Terminated reason) = tt
-final-words ends.Memory = tt
+    by false = (terminate_word_lem reason, tt)
+final_words (ends.Denied stag offset why) = (terminate_word_lem _, tt)
+final_words (ends.NoBuffer msn) = (terminate_word_lem _, tt)
+final_words (ends.Terminated reason) = tt
+final_words ends.Memory = tt
 
-calls-words : (opened : LinkParameters) (msn : ℕ) (os : List OutstandingCall) → CallsShort opened os → AreFrom Fpdu (call_sends opened msn os)
-calls-words opened msn [] h = tt
-calls-words opened msn (o ∷ os) h =
-    from-append (message_outputs msn (message_of_call opened o)) (call_sends opened (msn + 1) os) (message-words msn (message_of_call opened o) h.0) (calls-words opened (msn + 1) os h.1)
+calls_words : (opened : LinkParameters) (msn : ℕ) (os : List OutstandingCall) → CallsShort opened os → AreFrom Fpdu (call_sends opened msn os)
+calls_words opened msn [] h = tt
+calls_words opened msn (o ∷ os) h =
+    from_append (message_outputs msn (message_of_call opened o)) (call_sends opened (msn + 1) os) (message_words msn (message_of_call opened o) h.0) (calls_words opened (msn + 1) os h.1)
 
 -- some outputs that bring no message
 record IsQuiet (outs : List Output) : Type 0 where
@@ -57,31 +57,31 @@ record IsQuiet (outs : List Output) : Type 0 where
   words : AreFrom Fpdu outs
   completes : Completes outs []
 
-quiet-none : IsQuiet []
-quiet-none = record { messages_are = refl; words = tt; completes = completes-none }
+quiet_none : IsQuiet []
+quiet_none = record { messages_are = refl; words = tt; completes = completes_none }
 
-quiet-final : (end : Stop) → IsQuiet (final_outputs end)
-quiet-final end = record { messages_are = messages-final end; words = final-words end; completes = completes-final end }
+quiet_final : (end : Stop) → IsQuiet (final_outputs end)
+quiet_final end = record { messages_are = messages_final end; words = final_words end; completes = completes_final end }
 
-quiet-response : (k : ClientState) (place : ℕ) (o : Option ReadRequest) → ((q : ReadRequest) → o ≡ Some q → AreFrom Fpdu (response_outputs k place (Some q))) → IsQuiet (response_outputs k place o)
-quiet-response k place None h = quiet-none
-quiet-response k place (Some q) h =
-    let held : List ℕ = take q.size (drop q.to (memory_at k place q.stag)) in
-    let tagged = tagged-response q.sink q.sink_to held in
-    record { messages_are = messages-tagged (response_segments q.sink q.sink_to held) tagged; words = h q refl; completes = completes-tagged (response_segments q.sink q.sink_to held) tagged }
+quiet_response : (k : ClientState) (place : ℕ) (o : Option ReadRequest) → ((q : ReadRequest) → o ≡ Some q → AreFrom Fpdu (response_outputs k place (Some q))) → IsQuiet (response_outputs k place o)
+quiet_response k place None h = quiet_none
+quiet_response k place (Some q) h =
+    let held : List ℕ = take q.size (drop q.to (client_memory_at k place q.stag)) in
+    let tagged = tagged_response q.sink q.sink_to held in
+    record { messages_are = messages_tagged (response_segments q.sink q.sink_to held) tagged; words = h q refl; completes = completes_tagged (response_segments q.sink q.sink_to held) tagged }
 
-segment-quiet : (k : ClientState) (f : Frame) → IsBytes f.bytes → is_hello f ≡ false → client_end k (FrameReceived f) ≡ None → IsQuiet (response_outputs k f.end (segment_request (frame_segment f)))
+segment_quiet : (k : ClientState) (f : Frame) → IsBytes f.bytes → is_hello f ≡ false → client_end k (FrameReceived f) ≡ None → IsQuiet (response_outputs k f.end (segment_request (frame_segment f)))
 unfolding frame_segment
-segment-quiet k f bytes behind stays = by (frame_segment f) refl
+segment_quiet k f bytes behind stays = by (frame_segment f) refl
   where
     by : (r : Result Segment ℕ) → frame_segment f ≡ r → IsQuiet (response_outputs k f.end (segment_request r))
-    by (Err reason) is = quiet-none
+    by (Err reason) is = quiet_none
     by (Ok segment) is =
-        quiet-response k f.end (read_request_of segment)
-        (λ q own. response-words k f.end segment (payload-bytes f.bytes segment bytes is) q own
+        quiet_response k f.end (read_request_of segment)
+        (λ q own. response_words k f.end segment (payload_bytes_lem f.bytes segment bytes is) q own
         (λ last opcode w queue msn offset payload same.
-        formed (readiness k (missing_access (region_grants f.end k.regions) f segment)) last opcode w queue msn offset payload
-        (subst (λ (s : Segment). segment_fault (readiness k (missing_access (region_grants f.end k.regions) f segment)) s ≡ None) same (client-unharmed k f segment behind is stays))))
+        formed (client_readiness k (missing_access (region_grants f.end k.regions) f segment)) last opcode w queue msn offset payload
+        (subst (λ (s : Segment). segment_reason (client_readiness k (missing_access (region_grants f.end k.regions) f segment)) s ≡ None) same (client_has_no_fault k f segment behind is stays))))
 
 -- ---- A step that accepts no call and hears no hello
 
@@ -93,13 +93,13 @@ record Step (opened : LinkParameters) (place : ℕ) (k after : ClientState) (end
   greeted : ended ≡ None → HasHello place after.has_hello
   waits : k.has_hello ≡ false → map as_submitted after.outstanding ≡ map as_submitted k.outstanding
 
-pub same-asked : (opened : LinkParameters) (es : List Event) (e : Event) → accepted_in (e ∷ []) ≡ [] → accepted_in (es ++ e ∷ []) ≡ accepted_in es
-same-asked opened es e none = accepted-append es (e ∷ []) ∙ ap (λ (xs : List AcceptedCall). accepted_in es ++ xs) none ∙ append-nil (accepted_in es)
+pub same_asked : (opened : LinkParameters) (es : List RunEvent) (e : RunEvent) → accepted_in (e ∷ []) ≡ [] → accepted_in (es ++ e ∷ []) ≡ accepted_in es
+same_asked opened es e none = accepted_append es (e ∷ []) ∙ ap (λ (xs : List AcceptedCall). accepted_in es ++ xs) none ∙ append-nil (accepted_in es)
 
-quiet-step : (opened : LinkParameters) (es : List Event) (e : Event) (place later : ℕ) (k after : ClientState) (ended now : Option Stop) (outs more : List Output) → accepted_in (e ∷ []) ≡ []
+quiet_step : (opened : LinkParameters) (es : List RunEvent) (e : RunEvent) (place later : ℕ) (k after : ClientState) (ended now : Option Stop) (outs more : List Output) → accepted_in (e ∷ []) ≡ []
     → Step opened later k after now → IsQuiet more → ClientSays opened es place k ended outs → ClientSays opened (es ++ e ∷ []) later after now (outs ++ more)
-quiet-step opened es e place later k after ended now outs more none s q p =
-    let same : accepted_in (es ++ e ∷ []) ≡ accepted_in es = same-asked opened es e none in
+quiet_step opened es e place later k after ended now outs more none s q p =
+    let same : accepted_in (es ++ e ∷ []) ≡ accepted_in es = same_asked opened es e none in
     record {
       short = s.short p.short;
       stag = s.stag ∙ p.stag ∙ ap (λ (xs : List AcceptedCall). stag_behind (start opened) opened.first_stag xs) (sym same);
@@ -107,45 +107,45 @@ quiet-step opened es e place later k after ended now outs more none s q p =
       greeted = s.greeted;
       waits = λ no_hello. (let was : k.has_hello ≡ false = sym s.hello ∙ no_hello in
           s.waits was ∙ p.waits was ∙ ap (λ (xs : List AcceptedCall). outstanding_from (start opened) opened.first_stag xs) (sym same));
-      said = λ fits. messages-append outs more ∙ ap (λ (ms : List (List ℕ)). messages outs ++ ms) q.messages_are ∙ append-nil (messages outs)
+      said = λ fits. messages_append outs more ∙ ap (λ (ms : List (List ℕ)). messages outs ++ ms) q.messages_are ∙ append-nil (messages outs)
           ∙ p.said fits ∙ (λ i. cond (sym s.hello i) (map (message_of_call opened) (outstanding_from (start opened) opened.first_stag (sym same i))) []);
-      words = from-append outs more p.words q.words;
+      words = from_append outs more p.words q.words;
       completes = subst (λ (ms : List (List ℕ)). Completes (outs ++ more) ms)
           (append-nil (cond k.has_hello (map (message_of_call opened) (asked opened es)) [])
           ∙ (λ i. cond (sym s.hello i) (map (message_of_call opened) (outstanding_from (start opened) opened.first_stag (sym same i))) []))
-          (completes-append outs more (cond k.has_hello (map (message_of_call opened) (asked opened es)) []) [] p.completes q.completes);
+          (completes_append outs more (cond k.has_hello (map (message_of_call opened) (asked opened es)) []) [] p.completes q.completes);
     }
 
-stays-step : (opened : LinkParameters) (place : ℕ) (k : ClientState) (end : Stop) → Step opened place k k (Some end)
-stays-step opened place k end = record { short = λ h. h; stag = refl; count = refl; hello = refl; greeted = λ e. absurd cc; waits = λ h. refl }
+stays_step : (opened : LinkParameters) (place : ℕ) (k : ClientState) (end : Stop) → Step opened place k k (Some end)
+stays_step opened place k end = record { short = λ h. h; stag = refl; count = refl; hello = refl; greeted = λ e. absurd cc; waits = λ h. refl }
 
 -- ---- Frames
 
-request-fields : (opened : LinkParameters) (k m : ClientState) (due : ℕ) (o : Option ReadRequest) → (CallsShort opened k.outstanding → CallsShort opened m.outstanding) × (m.stag ≡ k.stag) × (m.calls_accepted ≡ k.calls_accepted) × (m.has_hello ≡ k.has_hello)
+request_fields : (opened : LinkParameters) (k m : ClientState) (due : ℕ) (o : Option ReadRequest) → (CallsShort opened k.outstanding → CallsShort opened m.outstanding) × (m.stag ≡ k.stag) × (m.calls_accepted ≡ k.calls_accepted) × (m.has_hello ≡ k.has_hello)
     → (CallsShort opened k.outstanding → CallsShort opened (with_request m due o).outstanding) × ((with_request m due o).stag ≡ k.stag) × ((with_request m due o).calls_accepted ≡ k.calls_accepted) × ((with_request m due o).has_hello ≡ k.has_hello)
-request-fields opened k m due None h = h
-request-fields opened k m due (Some q) h = h
+request_fields opened k m due None h = h
+request_fields opened k m due (Some q) h = h
 
-message-fields : (opened : LinkParameters) (k : ClientState) (place : ℕ) (o : Option (List ℕ)) → (CallsShort opened k.outstanding → CallsShort opened (with_message k place o).outstanding) × ((with_message k place o).stag ≡ k.stag) × ((with_message k place o).calls_accepted ≡ k.calls_accepted) × ((with_message k place o).has_hello ≡ k.has_hello)
-message-fields opened k place None = ((λ h. h), refl, refl, refl)
-message-fields opened k place (Some message) = ((λ h. each-kept (CallShort opened) _ k.outstanding h), refl, refl, refl)
+message_fields : (opened : LinkParameters) (k : ClientState) (place : ℕ) (o : Option (List ℕ)) → (CallsShort opened k.outstanding → CallsShort opened (with_message k place o).outstanding) × ((with_message k place o).stag ≡ k.stag) × ((with_message k place o).calls_accepted ≡ k.calls_accepted) × ((with_message k place o).has_hello ≡ k.has_hello)
+message_fields opened k place None = ((λ h. h), refl, refl, refl)
+message_fields opened k place (Some message) = ((λ h. each_kept (CallShort opened) _ k.outstanding h), refl, refl, refl)
 
-segment-fields : (opened : LinkParameters) (k : ClientState) (f : Frame) (r : Result Segment ℕ) → (CallsShort opened k.outstanding → CallsShort opened (with_segment k f r).outstanding) × ((with_segment k f r).stag ≡ k.stag) × ((with_segment k f r).calls_accepted ≡ k.calls_accepted) × ((with_segment k f r).has_hello ≡ k.has_hello)
-segment-fields opened k f (Err reason) = ((λ h. h), refl, refl, refl)
-segment-fields opened k f (Ok segment) = request-fields opened k (with_message k f.end (message_completed k.received segment)) (due_with_response k f segment) (read_request_of segment) (message-fields opened k f.end (message_completed k.received segment))
+segment_fields : (opened : LinkParameters) (k : ClientState) (f : Frame) (r : Result Segment ℕ) → (CallsShort opened k.outstanding → CallsShort opened (with_segment k f r).outstanding) × ((with_segment k f r).stag ≡ k.stag) × ((with_segment k f r).calls_accepted ≡ k.calls_accepted) × ((with_segment k f r).has_hello ≡ k.has_hello)
+segment_fields opened k f (Err reason) = ((λ h. h), refl, refl, refl)
+segment_fields opened k f (Ok segment) = request_fields opened k (with_message k f.end (message_completed k.received segment)) (due_with_response k f segment) (read_request_of segment) (message_fields opened k f.end (message_completed k.received segment))
 
-behind-greeted : (place : ℕ) (b : Bool) → 0 < place → HasHello place b → b ≡ true
-behind-greeted place b some (inl h) = absurd (let z = h.0 in omega (arith, z, some))
-behind-greeted place b some (inr h) = h.1
+behind_greeted : (place : ℕ) (b : Bool) → 0 < place → HasHello place b → b ≡ true
+behind_greeted place b some (inl h) = absurd (let z = h.0 in omega (arith, z, some))
+behind_greeted place b some (inr h) = h.1
 
-first-greeted : (place : ℕ) (b : Bool) → place ≡ 0 → HasHello place b → b ≡ false
-first-greeted place b none (inl h) = h.1
-first-greeted place b none (inr h) = absurd (let z = h.0 in omega (arith, z, none))
+first_greeted : (place : ℕ) (b : Bool) → place ≡ 0 → HasHello place b → b ≡ false
+first_greeted place b none (inl h) = h.1
+first_greeted place b none (inr h) = absurd (let z = h.0 in omega (arith, z, none))
 
-segment-step : (opened : LinkParameters) (place : ℕ) (k : ClientState) (f : Frame) → 0 < f.at → f.at ≡ place → place < f.end → HasHello place k.has_hello → Step opened f.end k (with_segment k f (frame_segment f)) None
-segment-step opened place k f behind at goes greeted =
-    let h = segment-fields opened k f (frame_segment f) in
-    let has : k.has_hello ≡ true = behind-greeted place k.has_hello (omega (arith, behind, at)) greeted in
+segment_step : (opened : LinkParameters) (place : ℕ) (k : ClientState) (f : Frame) → 0 < f.at → f.at ≡ place → place < f.end → HasHello place k.has_hello → Step opened f.end k (with_segment k f (frame_segment f)) None
+segment_step opened place k f behind at goes greeted =
+    let h = segment_fields opened k f (frame_segment f) in
+    let has : k.has_hello ≡ true = behind_greeted place k.has_hello (omega (arith, behind, at)) greeted in
     record {
       short = h.0;
       stag = h.1;
@@ -155,64 +155,64 @@ segment-step opened place k f behind at goes greeted =
       waits = λ no_hello. absurd (let t : true ≡ false = sym has ∙ no_hello in cc);
     }
 
-hello-step : (opened : LinkParameters) (es : List Event) (place : ℕ) (k : ClientState) (outs : List Output) (f : Frame) → f.at ≡ 0 → f.at ≡ place → place < f.end → ClientSays opened es place k None outs
+hello_step : (opened : LinkParameters) (es : List RunEvent) (place : ℕ) (k : ClientState) (outs : List Output) (f : Frame) → f.at ≡ 0 → f.at ≡ place → place < f.end → ClientSays opened es place k None outs
     → ClientSays opened (es ++ FrameReceived f ∷ []) f.end (with_hello opened k) None (outs ++ call_sends opened 1 k.outstanding)
-hello-step opened es place k outs f first at goes p =
-    let no_hello : k.has_hello ≡ false = first-greeted place k.has_hello (sym at ∙ first) (p.greeted refl) in
-    let same : accepted_in (es ++ FrameReceived f ∷ []) ≡ accepted_in es = same-asked opened es (FrameReceived f) refl in
+hello_step opened es place k outs f first at goes p =
+    let no_hello : k.has_hello ≡ false = first_greeted place k.has_hello (sym at ∙ first) (p.greeted refl) in
+    let same : accepted_in (es ++ FrameReceived f ∷ []) ≡ accepted_in es = same_asked opened es (FrameReceived f) refl in
     record {
       short = p.short;
       stag = p.stag ∙ ap (λ (xs : List AcceptedCall). stag_behind (start opened) opened.first_stag xs) (sym same);
       count = p.count ∙ ap (λ (xs : List AcceptedCall). length xs) (sym same);
       greeted = λ e. inr (omega (arith, goes), refl);
       waits = λ e. absurd cc;
-      said = λ fits. messages-append outs (call_sends opened 1 k.outstanding)
+      said = λ fits. messages_append outs (call_sends opened 1 k.outstanding)
           ∙ ap (λ (ms : List (List ℕ)). ms ++ messages (call_sends opened 1 k.outstanding)) (p.said fits ∙ ap (λ (b : Bool). cond b (map (message_of_call opened) (asked opened es)) []) no_hello)
-          ∙ messages-calls fits opened 1 k.outstanding p.short
-          ∙ sym (submitted-messages opened k.outstanding)
+          ∙ messages_calls fits opened 1 k.outstanding p.short
+          ∙ sym (submitted_messages opened k.outstanding)
           ∙ ap (λ (os : List OutstandingCall). map (message_of_call opened) os) (p.waits no_hello)
           ∙ ap (λ (xs : List AcceptedCall). map (message_of_call opened) (outstanding_from (start opened) opened.first_stag xs)) (sym same);
-      words = from-append outs (call_sends opened 1 k.outstanding) p.words (calls-words opened 1 k.outstanding p.short);
+      words = from_append outs (call_sends opened 1 k.outstanding) p.words (calls_words opened 1 k.outstanding p.short);
       completes = subst (λ (ms : List (List ℕ)). Completes (outs ++ call_sends opened 1 k.outstanding) ms)
-          (sym (submitted-messages opened k.outstanding)
+          (sym (submitted_messages opened k.outstanding)
           ∙ ap (λ (os : List OutstandingCall). map (message_of_call opened) os) (p.waits no_hello)
           ∙ ap (λ (xs : List AcceptedCall). map (message_of_call opened) (outstanding_from (start opened) opened.first_stag xs)) (sym same))
-          (completes-append outs (call_sends opened 1 k.outstanding) [] (map (message_of_call opened) k.outstanding)
-          (subst (λ (b : Bool). Completes outs (cond b (map (message_of_call opened) (asked opened es)) [])) no_hello p.completes) (completes-calls opened 1 k.outstanding));
+          (completes_append outs (call_sends opened 1 k.outstanding) [] (map (message_of_call opened) k.outstanding)
+          (subst (λ (b : Bool). Completes outs (cond b (map (message_of_call opened) (asked opened es)) [])) no_hello p.completes) (completes_calls opened 1 k.outstanding));
     }
 
 -- ---- A call
 
-pub short-call : (opened : LinkParameters) (k : ClientState) (a : AcceptedCall) (plan : Plan) → plan_for k a.xid a.call a.form ≡ Ok plan → ClientLimits k → IsShort (message_of_call opened (outstanding_of k a))
+pub short_call : (opened : LinkParameters) (k : ClientState) (a : AcceptedCall) (plan : Plan) → plan_for k a.xid a.call a.form ≡ Ok plan → ClientLimits k → IsShort (message_of_call opened (outstanding_of k a))
 unfolding plan_for
-short-call opened k a plan planned l =
+short_call opened k a plan planned l =
     let is_plan : (outstanding_of k a).plan ≡ plan = ap (λ (r : Result Plan TooLarge). plan_or (call_payload a.xid a.call) r) planned in
     subst (λ (q : Plan). IsShort (Rattle.nr_reduce.specs.Plans.call_message a.xid opened.wished k.stag q)) (sym is_plan)
     (let m = (message_size (call_payload a.xid a.call) a.form k.up_max k.down_max a.xid opened.wished k.stag plan planned).1 in let up = l.up in omega (arith, m, up))
 
-call-step : (opened : LinkParameters) (es : List Event) (place p : ℕ) (k : ClientState) (outs : List Output) (a : AcceptedCall) (plan : Plan) → plan_for k a.xid a.call a.form ≡ Ok plan → ClientLimits k → ClientSays opened es place k None outs
+call_step : (opened : LinkParameters) (es : List RunEvent) (place p : ℕ) (k : ClientState) (outs : List Output) (a : AcceptedCall) (plan : Plan) → plan_for k a.xid a.call a.form ≡ Ok plan → ClientLimits k → ClientSays opened es place k None outs
     → ClientSays opened (es ++ CallSubmitted p a ∷ []) place (client_state_after opened k (CallSubmitted p a)) None
     (outs ++ cond k.has_hello (message_outputs (k.calls_accepted + 1) (message_of_call opened (outstanding_of k a))) [])
 unfolding client_state_after plan_for
-call-step opened es place p k outs a plan planned l h =
+call_step opened es place p k outs a plan planned l h =
     let own : OutstandingCall = outstanding_of k a in
     let before : List AcceptedCall = accepted_in es in
     let next : ℕ = stag_behind (start opened) opened.first_stag before in
-    let more : accepted_in (es ++ CallSubmitted p a ∷ []) ≡ before ++ a ∷ [] = accepted-append es (CallSubmitted p a ∷ []) in
+    let more : accepted_in (es ++ CallSubmitted p a ∷ []) ≡ before ++ a ∷ [] = accepted_append es (CallSubmitted p a ∷ []) in
     let same : own ≡ outstanding_of (record (start opened) { stag = next }) a = (λ i. outstanding_of (record (start opened) { stag = h.stag i; up_max = l.up i; down_max = l.down i }) a) in
     let all : asked opened (es ++ CallSubmitted p a ∷ []) ≡ asked opened es ++ own ∷ [] =
     ap (λ (xs : List AcceptedCall). outstanding_from (start opened) opened.first_stag xs) more ∙ from-more (start opened) opened.first_stag before a
     ∙ ap (λ (o : OutstandingCall). asked opened es ++ o ∷ []) (sym same) in
-    let short : IsShort (message_of_call opened own) = short-call opened k a plan planned l in
+    let short : IsShort (message_of_call opened own) = short_call opened k a plan planned l in
     record {
-      short = each-append (CallShort opened) k.outstanding (own ∷ []) h.short (short, tt);
+      short = each_append (CallShort opened) k.outstanding (own ∷ []) h.short (short, tt);
       stag = (λ i. h.stag i + regions_needed (outstanding_of (record (start opened) { stag = h.stag i; up_max = l.up i; down_max = l.down i }) a).plan)
-          ∙ sym (behind-append (start opened) opened.first_stag before a) ∙ ap (λ (xs : List AcceptedCall). stag_behind (start opened) opened.first_stag xs) (sym more);
+          ∙ sym (behind_append (start opened) opened.first_stag before a) ∙ ap (λ (xs : List AcceptedCall). stag_behind (start opened) opened.first_stag xs) (sym more);
       count = (let c = h.count in let l = ap (λ (xs : List AcceptedCall). length xs) more in let n = length-append before (a ∷ []) in omega (arith, c, l, n));
       greeted = h.greeted;
-      waits = λ no_hello. submitted-append k.outstanding (own ∷ []) ∙ ap (λ (os : List OutstandingCall). os ++ own ∷ []) (h.waits no_hello) ∙ sym all;
-      said = λ fits. messages-append outs (says k.has_hello) ∙ by k.has_hello refl fits short own all;
-      words = from-append outs (says k.has_hello) h.words (words_by k.has_hello short);
+      waits = λ no_hello. submitted_append k.outstanding (own ∷ []) ∙ ap (λ (os : List OutstandingCall). os ++ own ∷ []) (h.waits no_hello) ∙ sym all;
+      said = λ fits. messages_append outs (says k.has_hello) ∙ by k.has_hello refl fits short own all;
+      words = from_append outs (says k.has_hello) h.words (words_by k.has_hello short);
       completes = completes_by k.has_hello refl all;
     }
   where
@@ -220,87 +220,87 @@ call-step opened es place p k outs a plan planned l h =
     says b = cond b (message_outputs (k.calls_accepted + 1) (message_of_call opened (outstanding_of k a))) []
 
     words_by : (b : Bool) → IsShort (message_of_call opened (outstanding_of k a)) → AreFrom Fpdu (says b)
-    words_by true s = message-words (k.calls_accepted + 1) (message_of_call opened (outstanding_of k a)) s
+    words_by true s = message_words (k.calls_accepted + 1) (message_of_call opened (outstanding_of k a)) s
     words_by false s = tt
 
     completes_by : (b : Bool) → k.has_hello ≡ b → asked opened (es ++ CallSubmitted p a ∷ []) ≡ asked opened es ++ outstanding_of k a ∷ []
         → Completes (outs ++ says b) (cond b (map (message_of_call opened) (asked opened (es ++ CallSubmitted p a ∷ []))) [])
     completes_by true is all =
         subst (λ (ms : List (List ℕ)). Completes (outs ++ says true) ms)
-        (sym (map-more opened (asked opened es) (outstanding_of k a ∷ [])) ∙ ap (λ (os : List OutstandingCall). map (message_of_call opened) os) (sym all))
-        (completes-append outs (says true) (map (message_of_call opened) (asked opened es)) (message_of_call opened (outstanding_of k a) ∷ [])
-        (subst (λ (c : Bool). Completes outs (cond c (map (message_of_call opened) (asked opened es)) [])) is h.completes) (completes-message (k.calls_accepted + 1) (message_of_call opened (outstanding_of k a))))
+        (sym (map_more opened (asked opened es) (outstanding_of k a ∷ [])) ∙ ap (λ (os : List OutstandingCall). map (message_of_call opened) os) (sym all))
+        (completes_append outs (says true) (map (message_of_call opened) (asked opened es)) (message_of_call opened (outstanding_of k a) ∷ [])
+        (subst (λ (c : Bool). Completes outs (cond c (map (message_of_call opened) (asked opened es)) [])) is h.completes) (completes_message (k.calls_accepted + 1) (message_of_call opened (outstanding_of k a))))
     completes_by false is all =
-        completes-append outs [] [] [] (subst (λ (c : Bool). Completes outs (cond c (map (message_of_call opened) (asked opened es)) [])) is h.completes) completes-none
+        completes_append outs [] [] [] (subst (λ (c : Bool). Completes outs (cond c (map (message_of_call opened) (asked opened es)) [])) is h.completes) completes_none
 
     by : (b : Bool) → k.has_hello ≡ b → FitsSegment → IsShort (message_of_call opened (outstanding_of k a)) → (own : OutstandingCall) → asked opened (es ++ CallSubmitted p a ∷ []) ≡ asked opened es ++ outstanding_of k a ∷ []
         → messages outs ++ messages (says b) ≡ cond b (map (message_of_call opened) (asked opened (es ++ CallSubmitted p a ∷ []))) []
     by true is fits s own all =
         ap (λ (ms : List (List ℕ)). ms ++ messages (says true)) (h.said fits ∙ ap (λ (b : Bool). cond b (map (message_of_call opened) (asked opened es)) []) is)
-        ∙ ap (λ (ms : List (List ℕ)). map (message_of_call opened) (asked opened es) ++ ms) (messages-message (k.calls_accepted + 1) (message_of_call opened (outstanding_of k a)) (fits (message_of_call opened (outstanding_of k a)) s))
-        ∙ sym (map-more opened (asked opened es) (outstanding_of k a ∷ []))
+        ∙ ap (λ (ms : List (List ℕ)). map (message_of_call opened) (asked opened es) ++ ms) (messages_message (k.calls_accepted + 1) (message_of_call opened (outstanding_of k a)) (fits (message_of_call opened (outstanding_of k a)) s))
+        ∙ sym (map_more opened (asked opened es) (outstanding_of k a ∷ []))
         ∙ ap (λ (os : List OutstandingCall). map (message_of_call opened) os) (sym all)
     by false is fits s own all = append-nil (messages outs) ∙ h.said fits ∙ ap (λ (b : Bool). cond b (map (message_of_call opened) (asked opened es)) []) is
 
 -- ---- Each event
 
-abbrev Next : LinkParameters → List Event → ℕ → ClientState → Option Stop → List Output → Event → Type 0
+abbrev Next : LinkParameters → List RunEvent → ℕ → ClientState → Option Stop → List Output → RunEvent → Type 0
 Next opened es place k ended outs e =
     ClientSays opened (es ++ e ∷ []) (place_after place e) (next_end_state_in (client_rules opened) k e ended).state (next_end_state_in (client_rules opened) k e ended).ended
     (outs ++ outputs_in (client_rules opened) (client_says opened) final_outputs k e ended)
 
-frame-says : (opened : LinkParameters) (es : List Event) (place : ℕ) (k : ClientState) (outs : List Output) (f : Frame) → IsNext place (FrameReceived f) → ClientSays opened es place k None outs → Next opened es place k None outs (FrameReceived f)
+frame_says : (opened : LinkParameters) (es : List RunEvent) (place : ℕ) (k : ClientState) (outs : List Output) (f : Frame) → IsNext place (FrameReceived f) → ClientSays opened es place k None outs → Next opened es place k None outs (FrameReceived f)
 unfolding client_state_after client_says
-frame-says opened es place k outs f next p = by_end (client_end k (FrameReceived f)) refl
+frame_says opened es place k outs f next p = by_end (client_end k (FrameReceived f)) refl
   where
     by_hello : (b : Bool) → is_hello f ≡ b → client_end k (FrameReceived f) ≡ None
         → ClientSays opened (es ++ FrameReceived f ∷ []) f.end (cond b (with_hello opened k) (with_segment k f (frame_segment f))) None
         (outs ++ cond b (call_sends opened 1 k.outstanding) (response_outputs k f.end (segment_request (frame_segment f))))
-    by_hello true is stays = hello-step opened es place k outs f (eqb-true f.at 0 is) next.0 next.1 p
+    by_hello true is stays = hello_step opened es place k outs f (eqb-true f.at 0 is) next.0 next.1 p
     by_hello false is stays =
-        quiet-step opened es (FrameReceived f) place f.end k (with_segment k f (frame_segment f)) None None outs _ refl
-        (segment-step opened place k f (above-zero f.at is) next.0 next.1 (p.greeted refl)) (segment-quiet k f next.2 is stays) p
+        quiet_step opened es (FrameReceived f) place f.end k (with_segment k f (frame_segment f)) None None outs _ refl
+        (segment_step opened place k f (above_zero f.at is) next.0 next.1 (p.greeted refl)) (segment_quiet k f next.2 is stays) p
 
     by_end : (o : Option Stop) → client_end k (FrameReceived f) ≡ o
         → ClientSays opened (es ++ FrameReceived f ∷ []) f.end (next_end_state_by (client_rules opened) k (FrameReceived f) o).state (next_end_state_by (client_rules opened) k (FrameReceived f) o).ended
         (outs ++ outputs_by (client_rules opened) (client_says opened) final_outputs k (FrameReceived f) o)
     by_end None stays = by_hello (is_hello f) refl stays
-    by_end (Some end) stays = quiet-step opened es (FrameReceived f) place f.end k k None (Some end) outs (final_outputs end) refl (stays-step opened f.end k end) (quiet-final end) p
+    by_end (Some end) stays = quiet_step opened es (FrameReceived f) place f.end k k None (Some end) outs (final_outputs end) refl (stays_step opened f.end k end) (quiet_final end) p
 
-revoke-says : (opened : LinkParameters) (es : List Event) (place : ℕ) (k : ClientState) (outs : List Output) (q xid : ℕ) → ClientSays opened es place k None outs → Next opened es place k None outs (MemoryRevoked q xid)
+revoke_says : (opened : LinkParameters) (es : List RunEvent) (place : ℕ) (k : ClientState) (outs : List Output) (q xid : ℕ) → ClientSays opened es place k None outs → Next opened es place k None outs (MemoryRevoked q xid)
 unfolding client_state_after client_says client_end
-revoke-says opened es place k outs q xid p =
-    quiet-step opened es (MemoryRevoked q xid) place place k (client_state_after opened k (MemoryRevoked q xid)) None None outs [] refl
-    (record { short = λ h. short-revoked opened xid k.outstanding h; stag = refl; count = refl; hello = refl; greeted = p.greeted; waits = λ h. revoked-same xid k.outstanding }) quiet-none p
+revoke_says opened es place k outs q xid p =
+    quiet_step opened es (MemoryRevoked q xid) place place k (client_state_after opened k (MemoryRevoked q xid)) None None outs [] refl
+    (record { short = λ h. short_revoked opened xid k.outstanding h; stag = refl; count = refl; hello = refl; greeted = p.greeted; waits = λ h. revoked_same xid k.outstanding }) quiet_none p
 
-written-says : (taken : ℕ) (opened : LinkParameters) (es : List Event) (place : ℕ) (k : ClientState) (outs : List Output) → ClientSays opened es place k None outs → Next opened es place k None outs (QueueWritten taken)
+written_says : (taken : ℕ) (opened : LinkParameters) (es : List RunEvent) (place : ℕ) (k : ClientState) (outs : List Output) → ClientSays opened es place k None outs → Next opened es place k None outs (QueueWritten taken)
 unfolding client_state_after client_says client_end
-written-says taken opened es place k outs p =
-    quiet-step opened es (QueueWritten taken) place place k (client_state_after opened k (QueueWritten taken)) None None outs [] refl
-    (record { short = λ h. h; stag = refl; count = refl; hello = refl; greeted = p.greeted; waits = λ h. refl }) quiet-none p
+written_says taken opened es place k outs p =
+    quiet_step opened es (QueueWritten taken) place place k (client_state_after opened k (QueueWritten taken)) None None outs [] refl
+    (record { short = λ h. h; stag = refl; count = refl; hello = refl; greeted = p.greeted; waits = λ h. refl }) quiet_none p
 
-executed-says : (opened : LinkParameters) (es : List Event) (place : ℕ) (k : ClientState) (outs : List Output) (x : Rattle.nr_reduce.specs.History.ExecutedCall) → ClientSays opened es place k None outs → Next opened es place k None outs (CallExecuted x)
+executed_says : (opened : LinkParameters) (es : List RunEvent) (place : ℕ) (k : ClientState) (outs : List Output) (x : Rattle.nr_reduce.specs.History.ExecutedCall) → ClientSays opened es place k None outs → Next opened es place k None outs (CallExecuted x)
 unfolding client_state_after client_says client_end
-executed-says opened es place k outs x p =
-    quiet-step opened es (CallExecuted x) place place k k None None outs [] refl
-    (record { short = λ h. h; stag = refl; count = refl; hello = refl; greeted = p.greeted; waits = λ h. refl }) quiet-none p
+executed_says opened es place k outs x p =
+    quiet_step opened es (CallExecuted x) place place k k None None outs [] refl
+    (record { short = λ h. h; stag = refl; count = refl; hello = refl; greeted = p.greeted; waits = λ h. refl }) quiet_none p
 
-submitted-says : (opened : LinkParameters) (es : List Event) (place : ℕ) (k : ClientState) (outs : List Output) (q : ℕ) (a : AcceptedCall) → IsGoodCall opened (record { state = k; ended = None }) a → ClientSays opened es place k None outs → Next opened es place k None outs (CallSubmitted q a)
+submitted_says : (opened : LinkParameters) (es : List RunEvent) (place : ℕ) (k : ClientState) (outs : List Output) (q : ℕ) (a : AcceptedCall) → IsGoodCall opened (record { state = k; ended = None }) a → ClientSays opened es place k None outs → Next opened es place k None outs (CallSubmitted q a)
 unfolding client_says client_end
-submitted-says opened es place k outs q a good p = call-step opened es place q k outs a good.plan good.planned good.limits p
+submitted_says opened es place k outs q a good p = call_step opened es place q k outs a good.plan good.planned good.limits p
 
-ended-says : (opened : LinkParameters) (es : List Event) (place later : ℕ) (k : ClientState) (outs : List Output) (e : Event) (end : Stop) → accepted_in (e ∷ []) ≡ [] → ClientSays opened es place k (Some end) outs → ClientSays opened (es ++ e ∷ []) later k (Some end) (outs ++ [])
-ended-says opened es place later k outs e end none p = quiet-step opened es e place later k k (Some end) (Some end) outs [] none (stays-step opened later k end) quiet-none p
+ended_says : (opened : LinkParameters) (es : List RunEvent) (place later : ℕ) (k : ClientState) (outs : List Output) (e : RunEvent) (end : Stop) → accepted_in (e ∷ []) ≡ [] → ClientSays opened es place k (Some end) outs → ClientSays opened (es ++ e ∷ []) later k (Some end) (outs ++ [])
+ended_says opened es place later k outs e end none p = quiet_step opened es e place later k k (Some end) (Some end) outs [] none (stays_step opened later k end) quiet_none p
 
-pub client-step : (opened : LinkParameters) (es : List Event) (place : ℕ) (k : ClientState) (ended : Option Stop) (outs : List Output) (e : Event) → IsNext place e → ClientGood opened (record { state = k; ended = ended }) e
+pub client_step : (opened : LinkParameters) (es : List RunEvent) (place : ℕ) (k : ClientState) (ended : Option Stop) (outs : List Output) (e : RunEvent) → IsNext place e → ClientGood opened (record { state = k; ended = ended }) e
     → ClientSays opened es place k ended outs → Next opened es place k ended outs e
-client-step opened es place k None outs (FrameReceived f) next good p = frame-says opened es place k outs f next p
-client-step opened es place k None outs (CallSubmitted q a) next good p = submitted-says opened es place k outs q a good p
-client-step opened es place k None outs (MemoryRevoked q xid) next good p = revoke-says opened es place k outs q xid p
-client-step opened es place k None outs (CallExecuted x) next good p = executed-says opened es place k outs x p
-client-step opened es place k None outs (QueueWritten taken) next good p = written-says taken opened es place k outs p
-client-step opened es place k (Some end) outs (FrameReceived f) next good p = ended-says opened es place f.end k outs (FrameReceived f) end refl p
-client-step opened es place k (Some end) outs (CallSubmitted q a) next good p = absurd (let s = good.stays in cc)
-client-step opened es place k (Some end) outs (MemoryRevoked q xid) next good p = ended-says opened es place place k outs (MemoryRevoked q xid) end refl p
-client-step opened es place k (Some end) outs (CallExecuted x) next good p = ended-says opened es place place k outs (CallExecuted x) end refl p
-client-step opened es place k (Some end) outs (QueueWritten taken) next good p = ended-says opened es place place k outs (QueueWritten taken) end refl p
+client_step opened es place k None outs (FrameReceived f) next good p = frame_says opened es place k outs f next p
+client_step opened es place k None outs (CallSubmitted q a) next good p = submitted_says opened es place k outs q a good p
+client_step opened es place k None outs (MemoryRevoked q xid) next good p = revoke_says opened es place k outs q xid p
+client_step opened es place k None outs (CallExecuted x) next good p = executed_says opened es place k outs x p
+client_step opened es place k None outs (QueueWritten taken) next good p = written_says taken opened es place k outs p
+client_step opened es place k (Some end) outs (FrameReceived f) next good p = ended_says opened es place f.end k outs (FrameReceived f) end refl p
+client_step opened es place k (Some end) outs (CallSubmitted q a) next good p = absurd (let s = good.stays in cc)
+client_step opened es place k (Some end) outs (MemoryRevoked q xid) next good p = ended_says opened es place place k outs (MemoryRevoked q xid) end refl p
+client_step opened es place k (Some end) outs (CallExecuted x) next good p = ended_says opened es place place k outs (CallExecuted x) end refl p
+client_step opened es place k (Some end) outs (QueueWritten taken) next good p = ended_says opened es place place k outs (QueueWritten taken) end refl p

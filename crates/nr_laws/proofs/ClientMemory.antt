@@ -12,8 +12,8 @@ use Rattle.nr_link.specs.Ending.{frame_segment, tagged_access, missing_access}
 use Rattle.nr_reduce.proofs.OwnLimits.{ClientLimits}
 use Rattle.nr_reduce.specs.declared.mark.LinkParameters.{LinkParameters}
 use Rattle.nr_reduce.specs.History.{AcceptedCall}
-use Rattle.nr_reduce.specs.Events.{Event}
-use Rattle.nr_reduce.specs.Events.Event.{FrameReceived, CallSubmitted, MemoryRevoked, CallExecuted, QueueWritten}
+use Rattle.nr_reduce.specs.Events.{RunEvent}
+use Rattle.nr_reduce.specs.Events.RunEvent.{FrameReceived, CallSubmitted, MemoryRevoked, CallExecuted, QueueWritten}
 use Rattle.nr_reduce.specs.EndRules.{EndState, next_end_state, next_end_state_by, next_end_state_in, end_state_after}
 use Rattle.nr_reduce.specs.OfferedRegions.{Region, region_grants, closed_if, regions_closed}
 use Rattle.nr_reduce.specs.Plans.{Buffer, buffers}
@@ -22,13 +22,13 @@ use Rattle.nr_reduce.specs.Client.{client_rules, client_end, client_state_after,
 use Rattle.nr_reduce.specs.Server.{tagged_accesses}
 use Rattle.nr_reduce.specs.RunLaws.{outstanding_from}
 use Rattle.nr_reduce.proofs.Touches.{client_touched}
-use Rattle.nr_reduce.proofs.OwnStags.{AreNumbered, numbered-buffers, ClientNumbers, client-numbers}
-use Rattle.nr_laws.proofs.Along.{IsNext, GoesOn, along, place_after, places_after}
-use Rattle.nr_reduce.proofs.Steps.{end_state_after-append}
-use Rattle.nr_laws.proofs.ClientSays.{ClientGood, accepted_in, accepted-append, asked}
-use Rattle.nr_laws.proofs.Memory.{Gathering, Settled, settled-later, settled-closed, settled-append, settled-more, revoked-settled}
-use Rattle.nr_laws.proofs.ClientAlong.{same-asked}
-use Rattle.nr_reduce.proofs.Waiting.{start, stag_behind, from-append}
+use Rattle.nr_reduce.proofs.OwnStags.{AreNumbered, numbered_buffers, ClientNumbers, client_numbers}
+use Rattle.nr_laws.proofs.EventOutputs.{IsNext, GoesOn, along, place_after, places_after}
+use Rattle.nr_reduce.proofs.Steps.{end_state_after_append}
+use Rattle.nr_laws.proofs.ClientSays.{ClientGood, accepted_in, accepted_append, asked}
+use Rattle.nr_laws.proofs.Memory.{Gathering, Settled, settled_later, settled_closed, settled_append, settled_more, revoked_settled}
+use Rattle.nr_laws.proofs.ClientAlong.{same_asked}
+use Rattle.nr_reduce.proofs.Waiting.{start, stag_behind, from_append}
 
 -- ---- Regions
 
@@ -46,26 +46,26 @@ abbrev pub AllBacked : List Region → List OutstandingCall → Type 0
 AllBacked regions [] = Unit {0}
 AllBacked regions (o ∷ os) = HasBuffers regions (buffers o.stag o.plan) × AllBacked regions os
 
-pub find-left : (stag : ℕ) (xs ys : List Region) (r : Region) → find (λ x. eqb x.stag stag) xs ≡ Some r → find (λ x. eqb x.stag stag) (xs ++ ys) ≡ Some r
-find-left stag [] ys r e = absurd cc
-find-left stag (x ∷ xs) ys r e = by (eqb x.stag stag) e (λ h. find-left stag xs ys r h)
+pub find_left : (stag : ℕ) (xs ys : List Region) (r : Region) → find (λ x. eqb x.stag stag) xs ≡ Some r → find (λ x. eqb x.stag stag) (xs ++ ys) ≡ Some r
+find_left stag [] ys r e = absurd cc
+find_left stag (x ∷ xs) ys r e = by (eqb x.stag stag) e (λ h. find_left stag xs ys r h)
   where
     by : (b : Bool) → cond b (Some x) (find (λ x. eqb x.stag stag) xs) ≡ Some r → (find (λ x. eqb x.stag stag) xs ≡ Some r → find (λ x. eqb x.stag stag) (xs ++ ys) ≡ Some r) → cond b (Some x) (find (λ x. eqb x.stag stag) (xs ++ ys)) ≡ Some r
     by true e rest = e
     by false e rest = rest e
 
-pub find-right : (stag : ℕ) (xs ys : List Region) → find (λ x. eqb x.stag stag) xs ≡ None → find (λ x. eqb x.stag stag) (xs ++ ys) ≡ find (λ x. eqb x.stag stag) ys
-find-right stag [] ys e = refl
-find-right stag (x ∷ xs) ys e = by (eqb x.stag stag) e (λ h. find-right stag xs ys h)
+pub find_right : (stag : ℕ) (xs ys : List Region) → find (λ x. eqb x.stag stag) xs ≡ None → find (λ x. eqb x.stag stag) (xs ++ ys) ≡ find (λ x. eqb x.stag stag) ys
+find_right stag [] ys e = refl
+find_right stag (x ∷ xs) ys e = by (eqb x.stag stag) e (λ h. find_right stag xs ys h)
   where
     by : (b : Bool) → cond b (Some x) (find (λ x. eqb x.stag stag) xs) ≡ None → (find (λ x. eqb x.stag stag) xs ≡ None → find (λ x. eqb x.stag stag) (xs ++ ys) ≡ find (λ x. eqb x.stag stag) ys) → cond b (Some x) (find (λ x. eqb x.stag stag) (xs ++ ys)) ≡ find (λ x. eqb x.stag stag) ys
     by true e rest = absurd cc
     by false e rest = rest e
 
-pub find-closed : (test : Region → Bool) (place stag : ℕ) (regions : List Region) (r : Region) → find (λ x. eqb x.stag stag) regions ≡ Some r → find (λ x. eqb x.stag stag) (regions_closed test place regions) ≡ Some (closed_if (test r) place r)
+pub find_closed : (test : Region → Bool) (place stag : ℕ) (regions : List Region) (r : Region) → find (λ x. eqb x.stag stag) regions ≡ Some r → find (λ x. eqb x.stag stag) (regions_closed test place regions) ≡ Some (closed_if (test r) place r)
 unfolding regions_closed
-find-closed test place stag [] r e = absurd cc
-find-closed test place stag (x ∷ regions) r e = ap (λ (n : ℕ). cond (eqb n stag) (Some (closed_if (test x) place x)) (find (λ x. eqb x.stag stag) (map (λ r. closed_if (test r) place r) regions))) (same (test x)) ∙ by (eqb x.stag stag) e (λ h. find-closed test place stag regions r h)
+find_closed test place stag [] r e = absurd cc
+find_closed test place stag (x ∷ regions) r e = ap (λ (n : ℕ). cond (eqb n stag) (Some (closed_if (test x) place x)) (find (λ x. eqb x.stag stag) (map (λ r. closed_if (test r) place r) regions))) (same (test x)) ∙ by (eqb x.stag stag) e (λ h. find_closed test place stag regions r h)
   where
     same : (b : Bool) → (closed_if b place x).stag ≡ x.stag
     same true = refl
@@ -76,60 +76,60 @@ find-closed test place stag (x ∷ regions) r e = ap (λ (n : ℕ). cond (eqb n 
     by true e rest = (let s : x ≡ r = (let t : Some x ≡ Some r = e in cc) in ap (λ (q : Region). Some (closed_if (test q) place q)) s)
     by false e rest = rest e
 
-closed-fields : (b : Bool) (place : ℕ) (r : Region) → ((closed_if b place r).stag ≡ r.stag) × ((closed_if b place r).bytes ≡ r.bytes)
-closed-fields true place r = (refl, refl)
-closed-fields false place r = (refl, refl)
+closed_fields : (b : Bool) (place : ℕ) (r : Region) → ((closed_if b place r).stag ≡ r.stag) × ((closed_if b place r).bytes ≡ r.bytes)
+closed_fields true place r = (refl, refl)
+closed_fields false place r = (refl, refl)
 
-pub has-closed : (test : Region → Bool) (place : ℕ) (regions : List Region) (stag : ℕ) (bytes : List ℕ) → HasRegion regions stag bytes → HasRegion (regions_closed test place regions) stag bytes
-has-closed test place regions stag bytes h =
-    let f = closed-fields (test h.region) place h.region in
-    record { region = closed_if (test h.region) place h.region; there = find-closed test place stag regions h.region h.there; own = f.0 ∙ h.own; holds = f.1 ∙ h.holds }
+pub has_closed : (test : Region → Bool) (place : ℕ) (regions : List Region) (stag : ℕ) (bytes : List ℕ) → HasRegion regions stag bytes → HasRegion (regions_closed test place regions) stag bytes
+has_closed test place regions stag bytes h =
+    let f = closed_fields (test h.region) place h.region in
+    record { region = closed_if (test h.region) place h.region; there = find_closed test place stag regions h.region h.there; own = f.0 ∙ h.own; holds = f.1 ∙ h.holds }
 
-buffers-closed : (test : Region → Bool) (place : ℕ) (regions : List Region) (bs : List Buffer) → HasBuffers regions bs → HasBuffers (regions_closed test place regions) bs
-buffers-closed test place regions [] h = tt
-buffers-closed test place regions (b ∷ bs) h = (has-closed test place regions b.stag b.bytes h.0, buffers-closed test place regions bs h.1)
+buffers_closed : (test : Region → Bool) (place : ℕ) (regions : List Region) (bs : List Buffer) → HasBuffers regions bs → HasBuffers (regions_closed test place regions) bs
+buffers_closed test place regions [] h = tt
+buffers_closed test place regions (b ∷ bs) h = (has_closed test place regions b.stag b.bytes h.0, buffers_closed test place regions bs h.1)
 
-backed-closed : (test : Region → Bool) (place : ℕ) (regions : List Region) (os : List OutstandingCall) → AllBacked regions os → AllBacked (regions_closed test place regions) os
-backed-closed test place regions [] h = tt
-backed-closed test place regions (o ∷ os) h = (buffers-closed test place regions (buffers o.stag o.plan) h.0, backed-closed test place regions os h.1)
+backed_closed : (test : Region → Bool) (place : ℕ) (regions : List Region) (os : List OutstandingCall) → AllBacked regions os → AllBacked (regions_closed test place regions) os
+backed_closed test place regions [] h = tt
+backed_closed test place regions (o ∷ os) h = (buffers_closed test place regions (buffers o.stag o.plan) h.0, backed_closed test place regions os h.1)
 
-pub buffers-left : (xs ys : List Region) (bs : List Buffer) → HasBuffers xs bs → HasBuffers (xs ++ ys) bs
-buffers-left xs ys [] h = tt
-buffers-left xs ys (b ∷ bs) h = (record { region = h.0.region; there = find-left b.stag xs ys h.0.region h.0.there; own = h.0.own; holds = h.0.holds }, buffers-left xs ys bs h.1)
+pub buffers_left : (xs ys : List Region) (bs : List Buffer) → HasBuffers xs bs → HasBuffers (xs ++ ys) bs
+buffers_left xs ys [] h = tt
+buffers_left xs ys (b ∷ bs) h = (record { region = h.0.region; there = find_left b.stag xs ys h.0.region h.0.there; own = h.0.own; holds = h.0.holds }, buffers_left xs ys bs h.1)
 
-backed-left : (xs ys : List Region) (os : List OutstandingCall) → AllBacked xs os → AllBacked (xs ++ ys) os
-backed-left xs ys [] h = tt
-backed-left xs ys (o ∷ os) h = (buffers-left xs ys (buffers o.stag o.plan) h.0, backed-left xs ys os h.1)
+backed_left : (xs ys : List Region) (os : List OutstandingCall) → AllBacked xs os → AllBacked (xs ++ ys) os
+backed_left xs ys [] h = tt
+backed_left xs ys (o ∷ os) h = (buffers_left xs ys (buffers o.stag o.plan) h.0, backed_left xs ys os h.1)
 
-backed-append : (regions : List Region) (xs ys : List OutstandingCall) → AllBacked regions xs → AllBacked regions ys → AllBacked regions (xs ++ ys)
-backed-append regions [] ys h g = g
-backed-append regions (x ∷ xs) ys h g = (h.0, backed-append regions xs ys h.1 g)
+backed_append : (regions : List Region) (xs ys : List OutstandingCall) → AllBacked regions xs → AllBacked regions ys → AllBacked regions (xs ++ ys)
+backed_append regions [] ys h g = g
+backed_append regions (x ∷ xs) ys h g = (h.0, backed_append regions xs ys h.1 g)
 
-pub backed-at : (regions : List Region) (xs : List OutstandingCall) (o : OutstandingCall) (ys : List OutstandingCall) → AllBacked regions (xs ++ o ∷ ys) → HasBuffers regions (buffers o.stag o.plan)
-backed-at regions [] o ys h = h.0
-backed-at regions (x ∷ xs) o ys h = backed-at regions xs o ys h.1
+pub backed_at : (regions : List Region) (xs : List OutstandingCall) (o : OutstandingCall) (ys : List OutstandingCall) → AllBacked regions (xs ++ o ∷ ys) → HasBuffers regions (buffers o.stag o.plan)
+backed_at regions [] o ys h = h.0
+backed_at regions (x ∷ xs) o ys h = backed_at regions xs o ys h.1
 
-pub none-from : (n stag : ℕ) (regions : List Region) → n + length regions ≤ stag → AreNumbered n regions → find (λ x. eqb x.stag stag) regions ≡ None
-none-from n stag [] le h = refl
-none-from n stag (r ∷ regions) le h =
+pub none_from : (n stag : ℕ) (regions : List Region) → n + length regions ≤ stag → AreNumbered n regions → find (λ x. eqb x.stag stag) regions ≡ None
+none_from n stag [] le h = refl
+none_from n stag (r ∷ regions) le h =
     ap (λ (b : Bool). cond b (Some r) (find (λ x. eqb x.stag stag) regions)) (ne_eqb r.stag stag (λ e. let s = h.0 in omega (arith, s, e, le)))
-    ∙ none-from (n + 1) stag regions (omega (arith, le)) h.1
+    ∙ none_from (n + 1) stag regions (omega (arith, le)) h.1
 
-new-buffers : (xid place n : ℕ) (front : List Region) (bs : List Buffer) → ((s : ℕ) → n ≤ s → find (λ x. eqb x.stag s) front ≡ None) → AreNumbered n (map (region_of xid place) bs) → HasBuffers (front ++ map (region_of xid place) bs) bs
-new-buffers xid place n front [] none h = tt
-new-buffers xid place n front (b ∷ bs) none h =
+new_buffers : (xid place n : ℕ) (front : List Region) (bs : List Buffer) → ((s : ℕ) → n ≤ s → find (λ x. eqb x.stag s) front ≡ None) → AreNumbered n (map (region_of xid place) bs) → HasBuffers (front ++ map (region_of xid place) bs) bs
+new_buffers xid place n front [] none h = tt
+new_buffers xid place n front (b ∷ bs) none h =
     let r : Region = region_of xid place b in
     let here : find (λ x. eqb x.stag b.stag) (front ++ r ∷ map (region_of xid place) bs) ≡ Some r =
-    find-right b.stag front (r ∷ map (region_of xid place) bs) (none b.stag (let s = h.0 in omega (arith, s)))
+    find_right b.stag front (r ∷ map (region_of xid place) bs) (none b.stag (let s = h.0 in omega (arith, s)))
     ∙ ap (λ (c : Bool). cond c (Some r) (find (λ x. eqb x.stag b.stag) (map (region_of xid place) bs))) (eq-eqb b.stag b.stag refl) in
     let later : (s : ℕ) → n + 1 ≤ s → find (λ x. eqb x.stag s) (front ++ r ∷ []) ≡ None = λ s le.
-    find-right s front (r ∷ []) (none s (omega (arith, le))) ∙ ap (λ (c : Bool). cond c (Some r) None) (ne_eqb b.stag s (λ e. let q = h.0 in omega (arith, q, e, le))) in
-    let rest = new-buffers xid place (n + 1) (front ++ r ∷ []) bs later h.1 in
+    find_right s front (r ∷ []) (none s (omega (arith, le))) ∙ ap (λ (c : Bool). cond c (Some r) None) (ne_eqb b.stag s (λ e. let q = h.0 in omega (arith, q, e, le))) in
+    let rest = new_buffers xid place (n + 1) (front ++ r ∷ []) bs later h.1 in
     (record { region = r; there = here; own = refl; holds = refl }, subst (λ (rs : List Region). HasBuffers rs bs) (append_assoc front (r ∷ []) (map (region_of xid place) bs)) rest)
 
 -- ---- Outstanding calls
 
-pub record IsAsked (opened : LinkParameters) (es : List Event) (o : OutstandingCall) : Type 0 where
+pub record IsAsked (opened : LinkParameters) (es : List RunEvent) (o : OutstandingCall) : Type 0 where
   pub front : List OutstandingCall
   pub own : OutstandingCall
   pub back : List OutstandingCall
@@ -139,42 +139,42 @@ pub record IsAsked (opened : LinkParameters) (es : List Event) (o : OutstandingC
   pub own_plan : o.plan ≡ own.plan
   pub own_stag : o.stag ≡ own.stag
 
-abbrev EachAsked : LinkParameters → List Event → List OutstandingCall → Type 0
+abbrev EachAsked : LinkParameters → List RunEvent → List OutstandingCall → Type 0
 EachAsked opened es [] = Unit {0}
 EachAsked opened es (o ∷ os) = IsAsked opened es o × EachAsked opened es os
 
-pub asked-found : (opened : LinkParameters) (es : List Event) (p : OutstandingCall → Bool) (os : List OutstandingCall) (o : OutstandingCall) → EachAsked opened es os → find p os ≡ Some o → IsAsked opened es o
-asked-found opened es p [] o h e = absurd cc
-asked-found opened es p (x ∷ os) o h e = by (p x) e (λ g. asked-found opened es p os o h.1 g)
+pub asked_found : (opened : LinkParameters) (es : List RunEvent) (p : OutstandingCall → Bool) (os : List OutstandingCall) (o : OutstandingCall) → EachAsked opened es os → find p os ≡ Some o → IsAsked opened es o
+asked_found opened es p [] o h e = absurd cc
+asked_found opened es p (x ∷ os) o h e = by (p x) e (λ g. asked_found opened es p os o h.1 g)
   where
     by : (b : Bool) → cond b (Some x) (find p os) ≡ Some o → (find p os ≡ Some o → IsAsked opened es o) → IsAsked opened es o
     by true e rest = subst (λ (q : OutstandingCall). IsAsked opened es q) (let s : Some x ≡ Some o = e in cc) h.0
     by false e rest = rest e
 
-asked-filter : (opened : LinkParameters) (es : List Event) (p : OutstandingCall → Bool) (os : List OutstandingCall) → EachAsked opened es os → EachAsked opened es (filter p os)
-asked-filter opened es p [] h = tt
-asked-filter opened es p (o ∷ os) h = by (p o) (asked-filter opened es p os h.1)
+asked_filter : (opened : LinkParameters) (es : List RunEvent) (p : OutstandingCall → Bool) (os : List OutstandingCall) → EachAsked opened es os → EachAsked opened es (filter p os)
+asked_filter opened es p [] h = tt
+asked_filter opened es p (o ∷ os) h = by (p o) (asked_filter opened es p os h.1)
   where
     by : (b : Bool) → EachAsked opened es (filter p os) → EachAsked opened es (cond b (o ∷ filter p os) (filter p os))
     by true rest = (h.0, rest)
     by false rest = rest
 
-asked-revoked : (opened : LinkParameters) (es : List Event) (xid : ℕ) (os : List OutstandingCall) → EachAsked opened es os → EachAsked opened es (map (revoked_call xid) os)
-asked-revoked opened es xid [] h = tt
-asked-revoked opened es xid (o ∷ os) h = (by (eqb o.xid xid), asked-revoked opened es xid os h.1)
+asked_revoked : (opened : LinkParameters) (es : List RunEvent) (xid : ℕ) (os : List OutstandingCall) → EachAsked opened es os → EachAsked opened es (map (revoked_call xid) os)
+asked_revoked opened es xid [] h = tt
+asked_revoked opened es xid (o ∷ os) h = (by (eqb o.xid xid), asked_revoked opened es xid os h.1)
   where
     by : (b : Bool) → IsAsked opened es (cond b (record o { is_revoked = true }) o)
     by true = record { front = h.0.front; own = h.0.own; back = h.0.back; is = h.0.is; own_xid = h.0.own_xid; own_call = h.0.own_call; own_plan = h.0.own_plan; own_stag = h.0.own_stag }
     by false = h.0
 
-asked-same : (opened : LinkParameters) (es later : List Event) (os : List OutstandingCall) → asked opened later ≡ asked opened es → EachAsked opened es os → EachAsked opened later os
-asked-same opened es later [] e h = tt
-asked-same opened es later (o ∷ os) e h =
-    (record { front = h.0.front; own = h.0.own; back = h.0.back; is = e ∙ h.0.is; own_xid = h.0.own_xid; own_call = h.0.own_call; own_plan = h.0.own_plan; own_stag = h.0.own_stag }, asked-same opened es later os e h.1)
+asked_same : (opened : LinkParameters) (es later : List RunEvent) (os : List OutstandingCall) → asked opened later ≡ asked opened es → EachAsked opened es os → EachAsked opened later os
+asked_same opened es later [] e h = tt
+asked_same opened es later (o ∷ os) e h =
+    (record { front = h.0.front; own = h.0.own; back = h.0.back; is = e ∙ h.0.is; own_xid = h.0.own_xid; own_call = h.0.own_call; own_plan = h.0.own_plan; own_stag = h.0.own_stag }, asked_same opened es later os e h.1)
 
-asked-longer : (opened : LinkParameters) (es later : List Event) (new : OutstandingCall) (os : List OutstandingCall) → asked opened later ≡ asked opened es ++ new ∷ [] → EachAsked opened es os → EachAsked opened later os
-asked-longer opened es later new [] e h = tt
-asked-longer opened es later new (o ∷ os) e h = (
+asked_longer : (opened : LinkParameters) (es later : List RunEvent) (new : OutstandingCall) (os : List OutstandingCall) → asked opened later ≡ asked opened es ++ new ∷ [] → EachAsked opened es os → EachAsked opened later os
+asked_longer opened es later new [] e h = tt
+asked_longer opened es later new (o ∷ os) e h = (
   record {
     front = h.0.front;
     own = h.0.own;
@@ -185,165 +185,165 @@ asked-longer opened es later new (o ∷ os) e h = (
     own_plan = h.0.own_plan;
     own_stag = h.0.own_stag;
   },
-  asked-longer opened es later new os e h.1,
+  asked_longer opened es later new os e h.1,
 )
 
-asked-append : (opened : LinkParameters) (es : List Event) (xs ys : List OutstandingCall) → EachAsked opened es xs → EachAsked opened es ys → EachAsked opened es (xs ++ ys)
-asked-append opened es [] ys h g = g
-asked-append opened es (x ∷ xs) ys h g = (h.0, asked-append opened es xs ys h.1 g)
+asked_append : (opened : LinkParameters) (es : List RunEvent) (xs ys : List OutstandingCall) → EachAsked opened es xs → EachAsked opened es ys → EachAsked opened es (xs ++ ys)
+asked_append opened es [] ys h g = g
+asked_append opened es (x ∷ xs) ys h g = (h.0, asked_append opened es xs ys h.1 g)
 
 -- ---- What is kept
 
-pub record ClientKeeps (opened : LinkParameters) (es : List Event) (place : ℕ) (k : ClientState) : Type 0 where
+pub record ClientKeeps (opened : LinkParameters) (es : List RunEvent) (place : ℕ) (k : ClientState) : Type 0 where
   pub settled : Settled place k.regions k.accesses_received
   pub owns : EachAsked opened es k.outstanding
   pub backed : AllBacked k.regions (asked opened es)
   pub stag : k.stag ≡ stag_behind (start opened) opened.first_stag (accepted_in es)
 
 -- a step that accepts no call
-quiet-keeps : (opened : LinkParameters) (es : List Event) (e : Event) (place later : ℕ) (k after : ClientState) → accepted_in (e ∷ []) ≡ [] → Settled later after.regions after.accesses_received → (EachAsked opened es k.outstanding → EachAsked opened es after.outstanding)
+quiet_keeps : (opened : LinkParameters) (es : List RunEvent) (e : RunEvent) (place later : ℕ) (k after : ClientState) → accepted_in (e ∷ []) ≡ [] → Settled later after.regions after.accesses_received → (EachAsked opened es k.outstanding → EachAsked opened es after.outstanding)
     → (AllBacked k.regions (asked opened es) → AllBacked after.regions (asked opened es)) → after.stag ≡ k.stag
     → ClientKeeps opened es place k → ClientKeeps opened (es ++ e ∷ []) later after
-quiet-keeps opened es e place later k after none settled owns backed stag p =
-    let same = same-asked opened es e none in
+quiet_keeps opened es e place later k after none settled owns backed stag p =
+    let same = same_asked opened es e none in
     let calls : asked opened (es ++ e ∷ []) ≡ asked opened es = ap (λ (xs : List AcceptedCall). outstanding_from (start opened) opened.first_stag xs) same in
     record {
       settled = settled;
-      owns = asked-same opened es (es ++ e ∷ []) after.outstanding calls (owns p.owns);
+      owns = asked_same opened es (es ++ e ∷ []) after.outstanding calls (owns p.owns);
       backed = subst (λ (os : List OutstandingCall). AllBacked after.regions os) (sym calls) (backed p.backed);
       stag = stag ∙ p.stag ∙ ap (λ (xs : List AcceptedCall). stag_behind (start opened) opened.first_stag xs) (sym same);
     }
 
 -- ---- Each event
 
-request-fields : (m : ClientState) (due : ℕ) (o : Option ReadRequest) → ((with_request m due o).regions ≡ m.regions) × ((with_request m due o).outstanding ≡ m.outstanding) × ((with_request m due o).stag ≡ m.stag)
-request-fields m due None = (refl, refl, refl)
-request-fields m due (Some q) = (refl, refl, refl)
+request_fields : (m : ClientState) (due : ℕ) (o : Option ReadRequest) → ((with_request m due o).regions ≡ m.regions) × ((with_request m due o).outstanding ≡ m.outstanding) × ((with_request m due o).stag ≡ m.stag)
+request_fields m due None = (refl, refl, refl)
+request_fields m due (Some q) = (refl, refl, refl)
 
-record MessageKeeps (opened : LinkParameters) (es : List Event) (place : ℕ) (k after : ClientState) : Type 0 where
+record MessageKeeps (opened : LinkParameters) (es : List RunEvent) (place : ℕ) (k after : ClientState) : Type 0 where
   settled : (accesses : List TaggedSegment) → Settled place k.regions accesses → Settled place after.regions accesses
   owns : EachAsked opened es k.outstanding → EachAsked opened es after.outstanding
   backed : (os : List OutstandingCall) → AllBacked k.regions os → AllBacked after.regions os
   stag : after.stag ≡ k.stag
 
-message-keeps : (opened : LinkParameters) (es : List Event) (k : ClientState) (place : ℕ) (o : Option (List ℕ)) → MessageKeeps opened es place k (with_message k place o)
-message-keeps opened es k place None = record { settled = λ a h. h; owns = λ h. h; backed = λ os h. h; stag = refl }
-message-keeps opened es k place (Some message) = record {
-  settled = λ a h. settled-closed (λ r. eqb r.call (Rattle.nr_xdr.specs.Fields.word_at 0 message)) place place k.regions a (omega arith) h;
-  owns = λ h. asked-filter opened es (λ o. not (eqb o.xid (Rattle.nr_xdr.specs.Fields.word_at 0 message))) k.outstanding h;
-  backed = λ os h. backed-closed (λ r. eqb r.call (Rattle.nr_xdr.specs.Fields.word_at 0 message)) place k.regions os h;
+message_keeps : (opened : LinkParameters) (es : List RunEvent) (k : ClientState) (place : ℕ) (o : Option (List ℕ)) → MessageKeeps opened es place k (with_message k place o)
+message_keeps opened es k place None = record { settled = λ a h. h; owns = λ h. h; backed = λ os h. h; stag = refl }
+message_keeps opened es k place (Some message) = record {
+  settled = λ a h. settled_closed (λ r. eqb r.call (Rattle.nr_xdr.specs.Fields.word_at 0 message)) place place k.regions a (omega arith) h;
+  owns = λ h. asked_filter opened es (λ o. not (eqb o.xid (Rattle.nr_xdr.specs.Fields.word_at 0 message))) k.outstanding h;
+  backed = λ os h. backed_closed (λ r. eqb r.call (Rattle.nr_xdr.specs.Fields.word_at 0 message)) place k.regions os h;
   stag = refl;
 }
 
 -- the access of a frame that doesn't end the client
-access-settled : (k : ClientState) (f : Frame) (s : Segment) → is_hello f ≡ false → frame_segment f ≡ Ok s → client_end k (FrameReceived f) ≡ None → Settled f.end k.regions (tagged_access f s)
-access-settled k f (Tagged last opcode stag to payload) behind is stays =
+access_settled : (k : ClientState) (f : Frame) (s : Segment) → is_hello f ≡ false → frame_segment f ≡ Ok s → client_end k (FrameReceived f) ≡ None → Settled f.end k.regions (tagged_access f s)
+access_settled k f (Tagged last opcode stag to payload) behind is stays =
     let none : missing_access (region_grants f.end k.regions) f (Tagged last opcode stag to payload) ≡ None = client_touched k f (Tagged last opcode stag to payload) behind is stays in
     (omega arith, none, tt)
-access-settled k f (Untagged last opcode w queue msn offset payload) behind is stays = tt
+access_settled k f (Untagged last opcode w queue msn offset payload) behind is stays = tt
 
-segment-keeps : (opened : LinkParameters) (es : List Event) (place : ℕ) (k : ClientState) (f : Frame) → IsNext place (FrameReceived f) → is_hello f ≡ false → client_end k (FrameReceived f) ≡ None → (r : Result Segment ℕ) → frame_segment f ≡ r
+segment_keeps : (opened : LinkParameters) (es : List RunEvent) (place : ℕ) (k : ClientState) (f : Frame) → IsNext place (FrameReceived f) → is_hello f ≡ false → client_end k (FrameReceived f) ≡ None → (r : Result Segment ℕ) → frame_segment f ≡ r
     → ClientKeeps opened es place k → ClientKeeps opened (es ++ FrameReceived f ∷ []) f.end (with_segment k f r)
-segment-keeps opened es place k f next behind stays (Err reason) is p =
-    quiet-keeps opened es (FrameReceived f) place f.end k k refl (settled-later place f.end k.regions k.accesses_received (let l = next.1 in omega (arith, l)) p.settled) (λ h. h) (λ h. h) refl p
-segment-keeps opened es place k f next behind stays (Ok s) is p =
+segment_keeps opened es place k f next behind stays (Err reason) is p =
+    quiet_keeps opened es (FrameReceived f) place f.end k k refl (settled_later place f.end k.regions k.accesses_received (let l = next.1 in omega (arith, l)) p.settled) (λ h. h) (λ h. h) refl p
+segment_keeps opened es place k f next behind stays (Ok s) is p =
     let m : ClientState = with_message k f.end (message_completed k.received s) in
-    let g = message-keeps opened es k f.end (message_completed k.received s) in
-    let q = request-fields m (due_with_response k f s) (read_request_of s) in
-    let old : Settled f.end k.regions k.accesses_received = settled-later place f.end k.regions k.accesses_received (let l = next.1 in omega (arith, l)) p.settled in
-    let all : Settled f.end k.regions (k.accesses_received ++ tagged_access f s) = settled-more f.end k.regions k.accesses_received (tagged_access f s) old (access-settled k f s behind is stays) in
-    quiet-keeps opened es (FrameReceived f) place f.end k (with_segment k f (Ok s)) refl
+    let g = message_keeps opened es k f.end (message_completed k.received s) in
+    let q = request_fields m (due_with_response k f s) (read_request_of s) in
+    let old : Settled f.end k.regions k.accesses_received = settled_later place f.end k.regions k.accesses_received (let l = next.1 in omega (arith, l)) p.settled in
+    let all : Settled f.end k.regions (k.accesses_received ++ tagged_access f s) = settled_more f.end k.regions k.accesses_received (tagged_access f s) old (access_settled k f s behind is stays) in
+    quiet_keeps opened es (FrameReceived f) place f.end k (with_segment k f (Ok s)) refl
     (subst (λ (rs : List Region). Settled f.end rs (k.accesses_received ++ tagged_access f s)) (sym q.0) (g.settled (k.accesses_received ++ tagged_access f s) all))
     (λ h. subst (λ (os : List OutstandingCall). EachAsked opened es os) (sym q.1) (g.owns h))
     (λ h. subst (λ (rs : List Region). AllBacked rs (asked opened es)) (sym q.0) (g.backed (asked opened es) h))
     (q.2 ∙ g.stag) p
 
-call-keeps : (opened : LinkParameters) (es : List Event) (place q : ℕ) (k : ClientState) (a : AcceptedCall) → AreNumbered opened.first_stag k.regions → k.stag ≡ opened.first_stag + length k.regions → ClientLimits k → ClientKeeps opened es place k
+call_keeps : (opened : LinkParameters) (es : List RunEvent) (place q : ℕ) (k : ClientState) (a : AcceptedCall) → AreNumbered opened.first_stag k.regions → k.stag ≡ opened.first_stag + length k.regions → ClientLimits k → ClientKeeps opened es place k
     → ClientKeeps opened (es ++ CallSubmitted q a ∷ []) place (client_state_after opened k (CallSubmitted q a))
 unfolding client_state_after plan_for
-call-keeps opened es place q k a numbers next l p =
+call_keeps opened es place q k a numbers next l p =
     let own : OutstandingCall = outstanding_of k a in
     let before : List AcceptedCall = accepted_in es in
     let after : ℕ = stag_behind (start opened) opened.first_stag before in
-    let more : accepted_in (es ++ CallSubmitted q a ∷ []) ≡ before ++ a ∷ [] = accepted-append es (CallSubmitted q a ∷ []) in
+    let more : accepted_in (es ++ CallSubmitted q a ∷ []) ≡ before ++ a ∷ [] = accepted_append es (CallSubmitted q a ∷ []) in
     let same : own ≡ outstanding_of (record (start opened) { stag = after }) a = (λ i. outstanding_of (record (start opened) { stag = p.stag i; up_max = l.up i; down_max = l.down i }) a) in
     let all : asked opened (es ++ CallSubmitted q a ∷ []) ≡ asked opened es ++ own ∷ [] =
-    ap (λ (xs : List AcceptedCall). outstanding_from (start opened) opened.first_stag xs) more ∙ from-append (start opened) opened.first_stag before a
+    ap (λ (xs : List AcceptedCall). outstanding_from (start opened) opened.first_stag xs) more ∙ from_append (start opened) opened.first_stag before a
     ∙ ap (λ (o : OutstandingCall). asked opened es ++ o ∷ []) (sym same) in
     let new : List Region = map (region_of a.xid q) (buffers k.stag own.plan) in
-    let none : (s : ℕ) → k.stag ≤ s → find (λ x. eqb x.stag s) k.regions ≡ None = λ s le. none-from opened.first_stag s k.regions (omega (arith, next, le)) numbers in
-    let there : HasBuffers (k.regions ++ new) (buffers k.stag own.plan) = new-buffers a.xid q k.stag k.regions (buffers k.stag own.plan) none (numbered-buffers a.xid q k.stag own.plan) in
+    let none : (s : ℕ) → k.stag ≤ s → find (λ x. eqb x.stag s) k.regions ≡ None = λ s le. none_from opened.first_stag s k.regions (omega (arith, next, le)) numbers in
+    let there : HasBuffers (k.regions ++ new) (buffers k.stag own.plan) = new_buffers a.xid q k.stag k.regions (buffers k.stag own.plan) none (numbered_buffers a.xid q k.stag own.plan) in
     record {
-      settled = settled-append place k.regions new k.accesses_received p.settled;
-      owns = asked-append opened (es ++ CallSubmitted q a ∷ []) k.outstanding (own ∷ []) (asked-longer opened es (es ++ CallSubmitted q a ∷ []) own k.outstanding all p.owns)
+      settled = settled_append place k.regions new k.accesses_received p.settled;
+      owns = asked_append opened (es ++ CallSubmitted q a ∷ []) k.outstanding (own ∷ []) (asked_longer opened es (es ++ CallSubmitted q a ∷ []) own k.outstanding all p.owns)
           (record { front = asked opened es; own = own; back = []; is = all; own_xid = refl; own_call = refl; own_plan = refl; own_stag = refl }, tt);
       backed = subst (λ (os : List OutstandingCall). AllBacked (k.regions ++ new) os) (sym all)
-          (backed-append (k.regions ++ new) (asked opened es) (own ∷ []) (backed-left k.regions new (asked opened es) p.backed) (there, tt));
+          (backed_append (k.regions ++ new) (asked opened es) (own ∷ []) (backed_left k.regions new (asked opened es) p.backed) (there, tt));
       stag = (λ i. p.stag i + Rattle.nr_reduce.specs.Plans.regions_needed (outstanding_of (record (start opened) { stag = p.stag i; up_max = l.up i; down_max = l.down i }) a).plan)
-          ∙ sym (Rattle.nr_reduce.proofs.Waiting.behind-append (start opened) opened.first_stag before a) ∙ ap (λ (xs : List AcceptedCall). stag_behind (start opened) opened.first_stag xs) (sym more);
+          ∙ sym (Rattle.nr_reduce.proofs.Waiting.behind_append (start opened) opened.first_stag before a) ∙ ap (λ (xs : List AcceptedCall). stag_behind (start opened) opened.first_stag xs) (sym more);
     }
 
 -- a state among those of a client's events
-pub record KeepsAt (opened : LinkParameters) (es : List Event) (place : ℕ) (r : EndState ClientState) : Type 0 where
+pub record KeepsAt (opened : LinkParameters) (es : List RunEvent) (place : ℕ) (r : EndState ClientState) : Type 0 where
   pub state : r ≡ end_state_after (client_rules opened) (initial_client opened) es
   pub keeps : ClientKeeps opened es place r.state
 
-keeps-same : (opened : LinkParameters) (es : List Event) (e : Event) (place later : ℕ) (k : ClientState) → accepted_in (e ∷ []) ≡ [] → place ≤ later → ClientKeeps opened es place k → ClientKeeps opened (es ++ e ∷ []) later k
-keeps-same opened es e place later k none le p = quiet-keeps opened es e place later k k none (settled-later place later k.regions k.accesses_received le p.settled) (λ h. h) (λ h. h) refl p
+keeps_same_lem : (opened : LinkParameters) (es : List RunEvent) (e : RunEvent) (place later : ℕ) (k : ClientState) → accepted_in (e ∷ []) ≡ [] → place ≤ later → ClientKeeps opened es place k → ClientKeeps opened (es ++ e ∷ []) later k
+keeps_same_lem opened es e place later k none le p = quiet_keeps opened es e place later k k none (settled_later place later k.regions k.accesses_received le p.settled) (λ h. h) (λ h. h) refl p
 
-frame-keeps : (opened : LinkParameters) (es : List Event) (place : ℕ) (k : ClientState) (f : Frame) → IsNext place (FrameReceived f) → ClientKeeps opened es place k
+frame_keeps : (opened : LinkParameters) (es : List RunEvent) (place : ℕ) (k : ClientState) (f : Frame) → IsNext place (FrameReceived f) → ClientKeeps opened es place k
     → (o : Option Stop) → client_end k (FrameReceived f) ≡ o → ClientKeeps opened (es ++ FrameReceived f ∷ []) f.end (next_end_state_by (client_rules opened) k (FrameReceived f) o).state
 unfolding client_state_after
-frame-keeps opened es place k f next p (Some end) is = keeps-same opened es (FrameReceived f) place f.end k refl (let l = next.1 in omega (arith, l)) p
-frame-keeps opened es place k f next p None is = by (is_hello f) refl
+frame_keeps opened es place k f next p (Some end) is = keeps_same_lem opened es (FrameReceived f) place f.end k refl (let l = next.1 in omega (arith, l)) p
+frame_keeps opened es place k f next p None is = by (is_hello f) refl
   where
     by : (b : Bool) → is_hello f ≡ b → ClientKeeps opened (es ++ FrameReceived f ∷ []) f.end (cond b (with_hello opened k) (with_segment k f (frame_segment f)))
-    by true first = quiet-keeps opened es (FrameReceived f) place f.end k (with_hello opened k) refl (settled-later place f.end k.regions k.accesses_received (let l = next.1 in omega (arith, l)) p.settled) (λ h. h) (λ h. h) refl p
-    by false behind = segment-keeps opened es place k f next behind is (frame_segment f) refl p
+    by true first = quiet_keeps opened es (FrameReceived f) place f.end k (with_hello opened k) refl (settled_later place f.end k.regions k.accesses_received (let l = next.1 in omega (arith, l)) p.settled) (λ h. h) (λ h. h) refl p
+    by false behind = segment_keeps opened es place k f next behind is (frame_segment f) refl p
 
-pub keeps-step : (opened : LinkParameters) (es : List Event) (place : ℕ) (k : ClientState) (ended : Option Stop) (e : Event) → IsNext place e → ClientGood opened (record { state = k; ended = ended }) e
+pub keeps_step : (opened : LinkParameters) (es : List RunEvent) (place : ℕ) (k : ClientState) (ended : Option Stop) (e : RunEvent) → IsNext place e → ClientGood opened (record { state = k; ended = ended }) e
     → AreNumbered opened.first_stag k.regions → k.stag ≡ opened.first_stag + length k.regions → ClientKeeps opened es place k
     → ClientKeeps opened (es ++ e ∷ []) (place_after place e) (next_end_state_in (client_rules opened) k e ended).state
 unfolding client_end client_state_after
-keeps-step opened es place k None (FrameReceived f) next good numbers after p = frame-keeps opened es place k f next p (client_end k (FrameReceived f)) refl
-keeps-step opened es place k None (CallSubmitted q a) next good numbers after p = call-keeps opened es place q k a numbers after good.limits p
-keeps-step opened es place k None (MemoryRevoked q xid) next good numbers after p =
-    quiet-keeps opened es (MemoryRevoked q xid) place place k (client_state_after opened k (MemoryRevoked q xid)) refl
-    (revoked-settled place q k.regions k.accesses_received (λ r. eqb r.call xid) next p.settled) (λ h. asked-revoked opened es xid k.outstanding h) (λ h. backed-closed (λ r. eqb r.call xid) q k.regions (asked opened es) h) refl p
-keeps-step opened es place k None (CallExecuted x) next good numbers after p = keeps-same opened es (CallExecuted x) place place k refl (omega arith) p
-keeps-step opened es place k None (QueueWritten taken) next good numbers after p =
-    quiet-keeps opened es (QueueWritten taken) place place k (client_state_after opened k (QueueWritten taken)) refl p.settled (λ h. h) (λ h. h) refl p
-keeps-step opened es place k (Some end) (FrameReceived f) next good numbers after p = keeps-same opened es (FrameReceived f) place f.end k refl (let l = next.1 in omega (arith, l)) p
-keeps-step opened es place k (Some end) (CallSubmitted q a) next good numbers after p = absurd (let s = good.stays in cc)
-keeps-step opened es place k (Some end) (MemoryRevoked q xid) next good numbers after p = keeps-same opened es (MemoryRevoked q xid) place place k refl (omega arith) p
-keeps-step opened es place k (Some end) (CallExecuted x) next good numbers after p = keeps-same opened es (CallExecuted x) place place k refl (omega arith) p
-keeps-step opened es place k (Some end) (QueueWritten taken) next good numbers after p = keeps-same opened es (QueueWritten taken) place place k refl (omega arith) p
+keeps_step opened es place k None (FrameReceived f) next good numbers after p = frame_keeps opened es place k f next p (client_end k (FrameReceived f)) refl
+keeps_step opened es place k None (CallSubmitted q a) next good numbers after p = call_keeps opened es place q k a numbers after good.limits p
+keeps_step opened es place k None (MemoryRevoked q xid) next good numbers after p =
+    quiet_keeps opened es (MemoryRevoked q xid) place place k (client_state_after opened k (MemoryRevoked q xid)) refl
+    (revoked_settled place q k.regions k.accesses_received (λ r. eqb r.call xid) next p.settled) (λ h. asked_revoked opened es xid k.outstanding h) (λ h. backed_closed (λ r. eqb r.call xid) q k.regions (asked opened es) h) refl p
+keeps_step opened es place k None (CallExecuted x) next good numbers after p = keeps_same_lem opened es (CallExecuted x) place place k refl (omega arith) p
+keeps_step opened es place k None (QueueWritten taken) next good numbers after p =
+    quiet_keeps opened es (QueueWritten taken) place place k (client_state_after opened k (QueueWritten taken)) refl p.settled (λ h. h) (λ h. h) refl p
+keeps_step opened es place k (Some end) (FrameReceived f) next good numbers after p = keeps_same_lem opened es (FrameReceived f) place f.end k refl (let l = next.1 in omega (arith, l)) p
+keeps_step opened es place k (Some end) (CallSubmitted q a) next good numbers after p = absurd (let s = good.stays in cc)
+keeps_step opened es place k (Some end) (MemoryRevoked q xid) next good numbers after p = keeps_same_lem opened es (MemoryRevoked q xid) place place k refl (omega arith) p
+keeps_step opened es place k (Some end) (CallExecuted x) next good numbers after p = keeps_same_lem opened es (CallExecuted x) place place k refl (omega arith) p
+keeps_step opened es place k (Some end) (QueueWritten taken) next good numbers after p = keeps_same_lem opened es (QueueWritten taken) place place k refl (omega arith) p
 
-pub client-gathers : (opened : LinkParameters) → Gathering (client_rules opened) (λ (k : ClientState). k.accesses_received)
+pub client_gathers : (opened : LinkParameters) → Gathering (client_rules opened) (λ (k : ClientState). k.accesses_received)
 unfolding client_state_after
-client-gathers opened k (FrameReceived f) = by (is_hello f) (frame_segment f)
+client_gathers opened k (FrameReceived f) = by (is_hello f) (frame_segment f)
   where
     by : (b : Bool) (r : Result Segment ℕ) → (cond b (with_hello opened k) (with_segment k f r)).accesses_received ≡ cond b k.accesses_received (k.accesses_received ++ tagged_accesses f r)
     by true r = refl
     by false (Ok s) = refl
     by false (Err reason) = sym (append-nil k.accesses_received)
-client-gathers opened k (CallSubmitted p a) = refl
-client-gathers opened k (MemoryRevoked p xid) = refl
-client-gathers opened k (CallExecuted e) = refl
-client-gathers opened k (QueueWritten taken) = refl
+client_gathers opened k (CallSubmitted p a) = refl
+client_gathers opened k (MemoryRevoked p xid) = refl
+client_gathers opened k (CallExecuted e) = refl
+client_gathers opened k (QueueWritten taken) = refl
 
-pub keeps-nothing : (opened : LinkParameters) → ClientKeeps opened [] 0 (start opened)
-keeps-nothing opened = record { settled = tt; owns = tt; backed = tt; stag = refl }
+pub keeps_nothing : (opened : LinkParameters) → ClientKeeps opened [] 0 (start opened)
+keeps_nothing opened = record { settled = tt; owns = tt; backed = tt; stag = refl }
 
 -- ---- After the events of a client
 
-pub keeps-along : (opened : LinkParameters) (es : List Event) → GoesOn (client_rules opened) (ClientGood opened) 0 (initial_client opened) es → KeepsAt opened es (places_after 0 es) (end_state_after (client_rules opened) (initial_client opened) es)
-keeps-along opened es g =
+pub keeps_along : (opened : LinkParameters) (es : List RunEvent) → GoesOn (client_rules opened) (ClientGood opened) 0 (initial_client opened) es → KeepsAt opened es (places_after 0 es) (end_state_after (client_rules opened) (initial_client opened) es)
+keeps_along opened es g =
     along (client_rules opened) (λ k e. []) (λ end. []) (ClientGood opened) (λ es place r outs. KeepsAt opened es place r)
     (λ es place r outs e next good p.
-    let numbers : ClientNumbers opened r.state = subst (λ (x : EndState ClientState). ClientNumbers opened x.state) (sym p.state) (client-numbers opened es) in
+    let numbers : ClientNumbers opened r.state = subst (λ (x : EndState ClientState). ClientNumbers opened x.state) (sym p.state) (client_numbers opened es) in
     record {
-      state = ap (λ (x : EndState ClientState). next_end_state (client_rules opened) x e) p.state ∙ sym (end_state_after-append (client_rules opened) (initial_client opened) es (e ∷ []));
-      keeps = keeps-step opened es place r.state r.ended e next good numbers.regions numbers.next p.keeps;
+      state = ap (λ (x : EndState ClientState). next_end_state (client_rules opened) x e) p.state ∙ sym (end_state_after_append (client_rules opened) (initial_client opened) es (e ∷ []));
+      keeps = keeps_step opened es place r.state r.ended e next good numbers.regions numbers.next p.keeps;
     })
-    [] 0 (initial_client opened) [] es g (record { state = refl; keeps = keeps-nothing opened })
+    [] 0 (initial_client opened) [] es g (record { state = refl; keeps = keeps_nothing opened })

@@ -4,7 +4,7 @@ use Rattle.nr_wire.specs.declared.hello.Side.TheVariants.{Initiator, Responder}
 use Rattle.nr_link.specs.declared.end.End.{End as Stop}
 use Rattle.nr_link.specs.Frames.{Frame, frames_completed}
 use Rattle.nr_link.specs.Output.{own_hello}
-use Rattle.nr_reduce.proofs.OwnLimits.{client-limits-of, limited-plan}
+use Rattle.nr_reduce.proofs.OwnLimits.{client_limits_of, limited_plan}
 use Rattle.nr_reduce.specs.declared.call.Call.{Call}
 use Rattle.nr_reduce.specs.declared.call.Form.{Form}
 use Rattle.nr_reduce.specs.declared.call.Submission.TheVariants as submissions
@@ -15,8 +15,8 @@ use Rattle.nr_reduce.specs.declared.outline.Plan.{Plan}
 use Rattle.nr_reduce.specs.History.{AcceptedCall, bytes_received, same_side}
 use Rattle.nr_reduce.specs.AtEachMark.{AtEachMark}
 use Rattle.nr_reduce.specs.Matched.{IsPrefixOf}
-use Rattle.nr_reduce.specs.Events.{Event, events, events_at, if_own}
-use Rattle.nr_reduce.specs.Events.Event.{FrameReceived, CallSubmitted, MemoryRevoked, CallExecuted, QueueWritten}
+use Rattle.nr_reduce.specs.Events.{RunEvent, events, events_at, if_own}
+use Rattle.nr_reduce.specs.Events.RunEvent.{FrameReceived, CallSubmitted, MemoryRevoked, CallExecuted, QueueWritten}
 use Rattle.nr_reduce.specs.EndRules.{EndState, next_end_state, end_state_after, output_for, output_for_by, output_for_in, output_for_all}
 use Rattle.nr_reduce.specs.Plans.{TooLarge, call_message}
 use Rattle.nr_reduce.specs.ClientState.{ClientState, OutstandingCall, call_payload, plan_for}
@@ -24,29 +24,29 @@ use Rattle.nr_reduce.specs.Client.{client_rules, client_end, initial_client, out
 use Rattle.nr_reduce.specs.Run.{client, output_due}
 use Rattle.nr_reduce.specs.RunLaws.{outstanding_from}
 use Rattle.nr_reduce.specs.Asked.{AskedMark, AskedSoFar, IsAccepted}
-use Rattle.nr_reduce.proofs.Steps.{events-one, output_for_all-append, end_state_after-append}
-use Rattle.nr_reduce.proofs.Standing.{AtEachMark-more}
+use Rattle.nr_reduce.proofs.Steps.{events_one, output_for_all_append, end_state_after_append}
+use Rattle.nr_reduce.proofs.Standing.{AtEachMark_more}
 use Rattle.nr_laws.specs.Typed.{TypedMark, IsTyped}
 use Rattle.nr_wire.specs.declared.stream.Awaited.TheVariants.{Fpdu}
 use Rattle.nr_laws.proofs.Brought.{AreFrom}
 use Rattle.nr_laws.proofs.Messages.{messages}
-use Rattle.nr_laws.proofs.Completions.{completed_from, completes-none}
-use Rattle.nr_laws.proofs.Along.{IsNext, Goes, goes-from, goes-nothing, FirstGood, along, outputs_by, outputs_in, outputs_for, outputs_all, place_after, places_after, whole_bytes}
-use Rattle.nr_laws.proofs.Outputs.{Output, fits-segment, bytes_of_all, bytes-append, message_of_call, client_says, client-said, final_outputs, final-said}
-use Rattle.nr_laws.proofs.ClientSays.{ClientGood, accepted_in, accepted-append, asked, HasHello, ClientSays, Says}
-use Rattle.nr_laws.proofs.ClientAlong.{client-step}
-use Rattle.nr_reduce.proofs.Waiting.{start, stag_behind, from-append}
-use Rattle.nr_laws.proofs.Basics.{first-is}
+use Rattle.nr_laws.proofs.Completions.{completed_from, completes_none}
+use Rattle.nr_laws.proofs.EventOutputs.{IsNext, Goes, goes_from, goes_nothing, FirstGood, along, outputs_by, outputs_in, outputs_for, outputs_all, place_after, places_after, whole_bytes}
+use Rattle.nr_laws.proofs.Outputs.{Output, fits_segment, bytes_of_all, bytes_append, message_of_call, client_says, client_said, final_outputs, final_said}
+use Rattle.nr_laws.proofs.ClientSays.{ClientGood, accepted_in, accepted_append, asked, HasHello, ClientSays, Says}
+use Rattle.nr_laws.proofs.ClientAlong.{client_step}
+use Rattle.nr_reduce.proofs.Waiting.{start, stag_behind, from_append}
+use Rattle.nr_laws.proofs.Basics.{first_is_lem}
 
-pub each-both : (P Q : List Mark → Mark → Type 0) (before run : List Mark) → AtEachMark P before run → AtEachMark Q before run → AtEachMark (λ b m. P b m × Q b m) before run
-each-both P Q before [] h g = tt
-each-both P Q before (m ∷ run) h g = ((h.0, g.0), each-both P Q (before ++ m ∷ []) run h.1 g.1)
+pub each_both : (P Q : List Mark → Mark → Type 0) (before run : List Mark) → AtEachMark P before run → AtEachMark Q before run → AtEachMark (λ b m. P b m × Q b m) before run
+each_both P Q before [] h g = tt
+each_both P Q before (m ∷ run) h g = ((h.0, g.0), each_both P Q (before ++ m ∷ []) run h.1 g.1)
 
 abbrev ClientMark : LinkParameters → ℕ → List Mark → Mark → Type 0
 ClientMark opened link before mark = AskedMark IsPrefixOf opened link before mark × TypedMark before mark
 
-first-good : (opened : LinkParameters) (link : ℕ) (before : List Mark) (mark : Mark) → ClientMark opened link before mark → FirstGood (ClientGood opened) (client opened link before) (events_at link Initiator before mark)
-first-good opened link before (marks.Submit l call form (submissions.Accepted xid)) h = by (eqb l link) refl
+first_good : (opened : LinkParameters) (link : ℕ) (before : List Mark) (mark : Mark) → ClientMark opened link before mark → FirstGood (ClientGood opened) (client opened link before) (events_at link Initiator before mark)
+first_good opened link before (marks.Submit l call form (submissions.Accepted xid)) h = by (eqb l link) refl
   where
     a : AcceptedCall
     a = record { xid = xid; call = call; form = form }
@@ -55,75 +55,75 @@ first-good opened link before (marks.Submit l call form (submissions.Accepted xi
     by false is = tt
     by true is =
         let goes = h.0 (eqb-true l link is) in
-        record { stays = goes.stays; next = goes.next; plan = goes.plan; planned = goes.planned; xids = goes.xids; stags = goes.stags; writable = goes.writable; bytes = h.1.0; form = h.1.1; limits = client-limits-of opened link before }
-first-good opened link before (marks.Submit l call form (submissions.Refused why)) h = tt
-first-good opened link before (marks.Submit l call form submissions.Dropped) h = tt
-first-good opened link before (marks.Fed l s bytes) h = by (eqb l link && same_side s Initiator) (frames_completed Responder (bytes_received link Initiator before) bytes)
+        record { stays = goes.stays; next = goes.next; plan = goes.plan; planned = goes.planned; xids = goes.xids; stags = goes.stags; writable = goes.writable; bytes = h.1.0; form = h.1.1; limits = client_limits_of opened link before }
+first_good opened link before (marks.Submit l call form (submissions.Refused why)) h = tt
+first_good opened link before (marks.Submit l call form submissions.Dropped) h = tt
+first_good opened link before (marks.Fed l s bytes) h = by (eqb l link && same_side s Initiator) (frames_completed Responder (bytes_received link Initiator before) bytes)
   where
     by : (b : Bool) (fs : List Frame) → FirstGood (ClientGood opened) (client opened link before) (if_own b (map FrameReceived fs))
     by true [] = tt
     by true (f ∷ fs) = tt
     by false fs = tt
-first-good opened link before (marks.Wrote l s bytes) h = by (eqb l link && same_side s Initiator)
+first_good opened link before (marks.Wrote l s bytes) h = by (eqb l link && same_side s Initiator)
   where
     by : (b : Bool) → FirstGood (ClientGood opened) (client opened link before) (if_own b (QueueWritten (length bytes) ∷ []))
     by true = tt
     by false = tt
-first-good opened link before (marks.Execute l xid moment payload place reply) h = by (eqb l link && false)
+first_good opened link before (marks.Execute l xid moment payload place reply) h = by (eqb l link && false)
   where
     by : (b : Bool) → FirstGood (ClientGood opened) (client opened link before) (if_own b (CallExecuted (record { xid = xid; moment = moment; payload = payload; place = place; reply = reply }) ∷ []))
     by true = tt
     by false = tt
-first-good opened link before (marks.Revoke l xid bytes) h = by (eqb l link && true)
+first_good opened link before (marks.Revoke l xid bytes) h = by (eqb l link && true)
   where
     by : (b : Bool) → FirstGood (ClientGood opened) (client opened link before) (if_own b (MemoryRevoked (length (bytes_received link Initiator before)) xid ∷ []))
     by true = tt
     by false = tt
-first-good opened link before (marks.Done l xid outcome) h = tt
-first-good opened link before (marks.Lost l xid) h = tt
-first-good opened link before (marks.Forget l xid) h = tt
-first-good opened link before (marks.Drop l) h = tt
+first_good opened link before (marks.Done l xid outcome) h = tt
+first_good opened link before (marks.Lost l xid) h = tt
+first_good opened link before (marks.Forget l xid) h = tt
+first_good opened link before (marks.Drop l) h = tt
 
-pub client-goes : (opened : LinkParameters) (link : ℕ) (run : List Mark) → IsTyped run → AskedSoFar opened link run → Goes (client_rules opened) (ClientGood opened) (initial_client opened) link Initiator run
+pub client_goes : (opened : LinkParameters) (link : ℕ) (run : List Mark) → IsTyped run → AskedSoFar opened link run → Goes (client_rules opened) (ClientGood opened) (initial_client opened) link Initiator run
 unfolding client
-client-goes opened link run typed asked =
-    goes-from (client_rules opened) (ClientGood opened) (λ r f h. tt) (initial_client opened) link Initiator (ClientMark opened link) (first-good opened link) [] run typed
-    (each-both (AskedMark IsPrefixOf opened link) TypedMark [] run asked typed) (goes-nothing (client_rules opened) (ClientGood opened) (initial_client opened) link Initiator)
+client_goes opened link run typed asked =
+    goes_from (client_rules opened) (ClientGood opened) (λ r f h. tt) (initial_client opened) link Initiator (ClientMark opened link) (first_good opened link) [] run typed
+    (each_both (AskedMark IsPrefixOf opened link) TypedMark [] run asked typed) (goes_nothing (client_rules opened) (ClientGood opened) (initial_client opened) link Initiator)
 
 -- ---- The output of a run
 
 unfoldable pub client_outs : LinkParameters → ℕ → List Mark → List Output
 client_outs opened link run = outputs_all (client_rules opened) (client_says opened) final_outputs (initial_client opened) (events link Initiator run)
 
-record Tells (opened : LinkParameters) (es : List Event) (place : ℕ) (r : EndState ClientState) (outs : List Output) : Type 0 where
+record Tells (opened : LinkParameters) (es : List RunEvent) (place : ℕ) (r : EndState ClientState) (outs : List Output) : Type 0 where
   says : Says opened es place r outs
   state : r ≡ end_state_after (client_rules opened) (initial_client opened) es
   bytes : output_for_all (client_rules opened) (initial_client opened) es ≡ bytes_of_all outs
 
-bytes-by : (opened : LinkParameters) (k : ClientState) (ended : Option Stop) (e : Event) → output_for_in (client_rules opened) k e ended ≡ bytes_of_all (outputs_in (client_rules opened) (client_says opened) final_outputs k e ended)
-bytes-by opened k (Some end) e = refl
-bytes-by opened k None e = by (client_end k e)
+bytes_by_lem : (opened : LinkParameters) (k : ClientState) (ended : Option Stop) (e : RunEvent) → output_for_in (client_rules opened) k e ended ≡ bytes_of_all (outputs_in (client_rules opened) (client_says opened) final_outputs k e ended)
+bytes_by_lem opened k (Some end) e = refl
+bytes_by_lem opened k None e = by (client_end k e)
   where
     by : (o : Option Stop) → output_for_by (client_rules opened) k e o ≡ bytes_of_all (outputs_by (client_rules opened) (client_says opened) final_outputs k e o)
-    by None = client-said opened k e
-    by (Some end) = final-said end
+    by None = client_said opened k e
+    by (Some end) = final_said end
 
-tells-step : (opened : LinkParameters) (es : List Event) (place : ℕ) (r : EndState ClientState) (outs : List Output) (e : Event) → IsNext place e → ClientGood opened r e → Tells opened es place r outs
+tells_step : (opened : LinkParameters) (es : List RunEvent) (place : ℕ) (r : EndState ClientState) (outs : List Output) (e : RunEvent) → IsNext place e → ClientGood opened r e → Tells opened es place r outs
     → Tells opened (es ++ e ∷ []) (place_after place e) (next_end_state (client_rules opened) r e) (outs ++ outputs_for (client_rules opened) (client_says opened) final_outputs r e)
-tells-step opened es place r outs e next good t =
+tells_step opened es place r outs e next good t =
     let rules = client_rules opened in
     record {
-      says = client-step opened es place r.state r.ended outs e next good t.says;
-      state = ap (λ (x : EndState ClientState). next_end_state rules x e) t.state ∙ sym (end_state_after-append rules (initial_client opened) es (e ∷ []));
-      bytes = output_for_all-append rules (initial_client opened) es (e ∷ [])
+      says = client_step opened es place r.state r.ended outs e next good t.says;
+      state = ap (λ (x : EndState ClientState). next_end_state rules x e) t.state ∙ sym (end_state_after_append rules (initial_client opened) es (e ∷ []));
+      bytes = output_for_all_append rules (initial_client opened) es (e ∷ [])
           ∙ (λ i. t.bytes i ++ (append-nil (output_for rules (sym t.state i) e) i))
-          ∙ ap (λ (xs : List ℕ). bytes_of_all outs ++ xs) (bytes-by opened r.state r.ended e)
-          ∙ sym (bytes-append outs (outputs_for rules (client_says opened) final_outputs r e));
+          ∙ ap (λ (xs : List ℕ). bytes_of_all outs ++ xs) (bytes_by_lem opened r.state r.ended e)
+          ∙ sym (bytes_append outs (outputs_for rules (client_says opened) final_outputs r e));
     }
 
-tells-nothing : (opened : LinkParameters) → Tells opened [] 0 (initial_client opened) []
-tells-nothing opened = record {
-  says = record { short = tt; stag = refl; count = refl; greeted = λ e. inl (refl, refl); waits = λ e. refl; said = λ fits. refl; words = tt; completes = completes-none };
+tells_nothing : (opened : LinkParameters) → Tells opened [] 0 (initial_client opened) []
+tells_nothing opened = record {
+  says = record { short = tt; stag = refl; count = refl; greeted = λ e. inl (refl, refl); waits = λ e. refl; said = λ fits. refl; words = tt; completes = completes_none };
   state = refl;
   bytes = refl;
 }
@@ -132,13 +132,13 @@ pub record ClientTells (opened : LinkParameters) (link : ℕ) (run : List Mark) 
   pub says : ClientSays opened (events link Initiator run) (whole_bytes link Initiator run) (client opened link run).state (client opened link run).ended (client_outs opened link run)
   pub bytes : output_due opened link Initiator run ≡ own_hello Initiator ++ bytes_of_all (client_outs opened link run)
 
-pub client-outputs : (opened : LinkParameters) (link : ℕ) (run : List Mark) → IsTyped run → AskedSoFar opened link run → ClientTells opened link run
+pub client_outputs : (opened : LinkParameters) (link : ℕ) (run : List Mark) → IsTyped run → AskedSoFar opened link run → ClientTells opened link run
 unfolding client output_due client_outs
-client-outputs opened link run typed asked =
-    let g = client-goes opened link run typed asked in
+client_outputs opened link run typed asked =
+    let g = client_goes opened link run typed asked in
     let es = events link Initiator run in
     let t : Tells opened es (places_after 0 es) (end_state_after (client_rules opened) (initial_client opened) es) (client_outs opened link run) =
-    along (client_rules opened) (client_says opened) final_outputs (ClientGood opened) (Tells opened) (tells-step opened) [] 0 (initial_client opened) [] es g.goes (tells-nothing opened) in
+    along (client_rules opened) (client_says opened) final_outputs (ClientGood opened) (Tells opened) (tells_step opened) [] 0 (initial_client opened) [] es g.goes (tells_nothing opened) in
     record {
       says = subst (λ (p : ℕ). ClientSays opened es p (client opened link run).state (client opened link run).ended (client_outs opened link run)) g.place t.says;
       bytes = ap (λ (xs : List ℕ). own_hello Initiator ++ xs) t.bytes;
@@ -155,11 +155,11 @@ pub record TellsSends (opened : LinkParameters) (link : ℕ) (run : List Mark) :
   pub says : SaysSends opened link run
   pub bytes : output_due opened link Initiator run ≡ own_hello Initiator ++ bytes_of_all (client_outs opened link run)
 
-pub client-tells : (opened : LinkParameters) (link : ℕ) (run : List Mark) → IsTyped run → AskedSoFar opened link run → TellsSends opened link run
-client-tells opened link run typed asked =
-    let t = client-outputs opened link run typed asked in
+pub client_tells : (opened : LinkParameters) (link : ℕ) (run : List Mark) → IsTyped run → AskedSoFar opened link run → TellsSends opened link run
+client_tells opened link run typed asked =
+    let t = client_outputs opened link run typed asked in
     record {
-      says = record { count = t.says.count; greeted = t.says.greeted; said = t.says.said fits-segment; words = t.says.words };
+      says = record { count = t.says.count; greeted = t.says.greeted; said = t.says.said fits_segment; words = t.says.words };
       bytes = t.bytes;
     }
 
@@ -190,8 +190,8 @@ pub record WasSubmitted (opened : LinkParameters) (link : ℕ) (run : List Mark)
   pub counted : (client opened link earlier).state.calls_accepted ≡ index
   pub message_is : message ≡ call_message xid opened.wished (client opened link earlier).state.stag accepted.plan
 
-submitted-later : (opened : LinkParameters) (link : ℕ) (run : List Mark) (mark : Mark) (index : ℕ) (o : OutstandingCall) → SubmittedCall opened link run index o → SubmittedCall opened link (run ++ mark ∷ []) index o
-submitted-later opened link run mark index o w = record {
+submitted_later : (opened : LinkParameters) (link : ℕ) (run : List Mark) (mark : Mark) (index : ℕ) (o : OutstandingCall) → SubmittedCall opened link run index o → SubmittedCall opened link (run ++ mark ∷ []) index o
+submitted_later opened link run mark index o w = record {
   earlier = w.earlier;
   later = w.later ++ mark ∷ [];
   call = w.call;
@@ -211,15 +211,15 @@ pub data Parted {X : Type 0} (xs : List X) (y : X) (pre : List X) (m : X) (post 
   Within : (more : List X) → xs ≡ pre ++ m ∷ more → Parted xs y pre m post
   Last : xs ≡ pre → m ≡ y → Parted xs y pre m post
 
-parted-more : {X : Type 0} (x z : X) (xs : List X) (y : X) (pre : List X) (m : X) (post : List X) → x ≡ z → Parted xs y pre m post → Parted (x ∷ xs) y (z ∷ pre) m post
-parted-more x z xs y pre m post e (Within more is) = Within more (λ i. e i ∷ is i)
-parted-more x z xs y pre m post e (Last is same) = Last (λ i. e i ∷ is i) same
+parted_more : {X : Type 0} (x z : X) (xs : List X) (y : X) (pre : List X) (m : X) (post : List X) → x ≡ z → Parted xs y pre m post → Parted (x ∷ xs) y (z ∷ pre) m post
+parted_more x z xs y pre m post e (Within more is) = Within more (λ i. e i ∷ is i)
+parted_more x z xs y pre m post e (Last is same) = Last (λ i. e i ∷ is i) same
 
 pub parted : {X : Type 0} (xs : List X) (y : X) (pre : List X) (m : X) (post : List X) → xs ++ y ∷ [] ≡ pre ++ m ∷ post → Parted xs y pre m post
-parted [] y [] m post e = Last refl (first-is m y post [] (sym e))
+parted [] y [] m post e = Last refl (first_is_lem m y post [] (sym e))
 parted [] y (p ∷ pre) m post e = absurd (let l = ap (λ (zs : List _). length zs) e in let n = length-append pre (m ∷ post) in omega (arith, l, n))
-parted (x ∷ xs) y [] m post e = Within xs (λ i. first-is x m (xs ++ y ∷ []) post e i ∷ xs)
-parted (x ∷ xs) y (p ∷ pre) m post e = parted-more x p xs y pre m post (first-is x p (xs ++ y ∷ []) (pre ++ m ∷ post) e) (parted xs y pre m post (ap (λ (zs : List _). drop 1 zs) e))
+parted (x ∷ xs) y [] m post e = Within xs (λ i. first_is_lem x m (xs ++ y ∷ []) post e i ∷ xs)
+parted (x ∷ xs) y (p ∷ pre) m post e = parted_more x p xs y pre m post (first_is_lem x p (xs ++ y ∷ []) (pre ++ m ∷ post) e) (parted xs y pre m post (ap (λ (zs : List _). drop 1 zs) e))
 
 abbrev pub asked_calls : LinkParameters → ℕ → List Mark → List OutstandingCall
 asked_calls opened link run = asked opened (events link Initiator run)
@@ -227,38 +227,38 @@ asked_calls opened link run = asked opened (events link Initiator run)
 abbrev EachSubmitted : LinkParameters → ℕ → List Mark → Type 0
 EachSubmitted opened link run = (pre : List OutstandingCall) (o : OutstandingCall) (post : List OutstandingCall) → asked_calls opened link run ≡ pre ++ o ∷ post → SubmittedCall opened link run (length pre) o
 
-quiet-mark : (opened : LinkParameters) (link : ℕ) (before : List Mark) (mark : Mark) → accepted_in (events_at link Initiator before mark) ≡ [] → EachSubmitted opened link before → EachSubmitted opened link (before ++ mark ∷ [])
-quiet-mark opened link before mark none each pre o post e =
+quiet_mark : (opened : LinkParameters) (link : ℕ) (before : List Mark) (mark : Mark) → accepted_in (events_at link Initiator before mark) ≡ [] → EachSubmitted opened link before → EachSubmitted opened link (before ++ mark ∷ [])
+quiet_mark opened link before mark none each pre o post e =
     let same : accepted_in (events link Initiator (before ++ mark ∷ [])) ≡ accepted_in (events link Initiator before) =
-    ap accepted_in (events-one link Initiator before mark) ∙ accepted-append (events link Initiator before) (events_at link Initiator before mark)
+    ap accepted_in (events_one link Initiator before mark) ∙ accepted_append (events link Initiator before) (events_at link Initiator before mark)
     ∙ ap (λ (xs : List AcceptedCall). accepted_in (events link Initiator before) ++ xs) none ∙ append-nil (accepted_in (events link Initiator before)) in
-    submitted-later opened link before mark (length pre) o
+    submitted_later opened link before mark (length pre) o
     (each pre o post (ap (λ (xs : List AcceptedCall). outstanding_from (start opened) opened.first_stag xs) (sym same) ∙ e))
 
-none-if : (b : Bool) (e : Event) → accepted_in (e ∷ []) ≡ [] → accepted_in (if_own b (e ∷ [])) ≡ []
-none-if true e h = h
-none-if false e h = refl
+none_if : (b : Bool) (e : RunEvent) → accepted_in (e ∷ []) ≡ [] → accepted_in (if_own b (e ∷ [])) ≡ []
+none_if true e h = h
+none_if false e h = refl
 
-none-frames : (fs : List Frame) → accepted_in (map FrameReceived fs) ≡ []
-none-frames [] = refl
-none-frames (f ∷ fs) = none-frames fs
+none_frames : (fs : List Frame) → accepted_in (map FrameReceived fs) ≡ []
+none_frames [] = refl
+none_frames (f ∷ fs) = none_frames fs
 
-none-fed : (b : Bool) (fs : List Frame) → accepted_in (if_own b (map FrameReceived fs)) ≡ []
-none-fed true fs = none-frames fs
-none-fed false fs = refl
+none_fed : (b : Bool) (fs : List Frame) → accepted_in (if_own b (map FrameReceived fs)) ≡ []
+none_fed true fs = none_frames fs
+none_fed false fs = refl
 
-count-from : (k : ClientState) (stag : ℕ) (xs : List AcceptedCall) → length (outstanding_from k stag xs) ≡ length xs
-count-from k stag [] = refl
-count-from k stag (x ∷ xs) = ap (λ (n : ℕ). suc n) (count-from k (stag + Rattle.nr_reduce.specs.Plans.regions_needed (outstanding_of (record k { stag = stag }) x).plan) xs)
+count_from : (k : ClientState) (stag : ℕ) (xs : List AcceptedCall) → length (outstanding_from k stag xs) ≡ length xs
+count_from k stag [] = refl
+count_from k stag (x ∷ xs) = ap (λ (n : ℕ). suc n) (count_from k (stag + Rattle.nr_reduce.specs.Plans.regions_needed (outstanding_of (record k { stag = stag }) x).plan) xs)
 
 pub by_part : {X W : Type 0} {xs : List X} {y : X} {pre : List X} {m : X} {post : List X} → Parted xs y pre m post → ((more : List X) → xs ≡ pre ++ m ∷ more → W) → (xs ≡ pre → m ≡ y → W) → W
 by_part (Within more is) f g = f more is
 by_part (Last is same) f g = g is same
 
-submit-mark : (opened : LinkParameters) (link : ℕ) (before : List Mark) (call : Call) (form : Form) (xid : ℕ) → ClientTells opened link before → IsAccepted opened link before call form xid → EachSubmitted opened link before
+submit_mark : (opened : LinkParameters) (link : ℕ) (before : List Mark) (call : Call) (form : Form) (xid : ℕ) → ClientTells opened link before → IsAccepted opened link before call form xid → EachSubmitted opened link before
     → EachSubmitted opened link (before ++ marks.Submit link call form (submissions.Accepted xid) ∷ [])
 unfolding plan_for
-submit-mark opened link before call form xid tells h each pre o post e =
+submit_mark opened link before call form xid tells h each pre o post e =
     let mark = marks.Submit link call form (submissions.Accepted xid) in
     let a : AcceptedCall = record { xid = xid; call = call; form = form } in
     let k : ClientState = (client opened link before).state in
@@ -268,14 +268,14 @@ submit-mark opened link before call form xid tells h each pre o post e =
     let here : accepted_in (events_at link Initiator before mark) ≡ a ∷ [] =
     ap (λ (b : Bool). accepted_in (if_own (b && true) (CallSubmitted (length (bytes_received link Initiator before)) a ∷ []))) (Rattle.std.proofs.Common.eq-eqb link link refl) in
     let all : accepted_in (events link Initiator (before ++ mark ∷ [])) ≡ old ++ a ∷ [] =
-    ap accepted_in (events-one link Initiator before mark) ∙ accepted-append (events link Initiator before) (events_at link Initiator before mark) ∙ ap (λ (xs : List AcceptedCall). old ++ xs) here in
+    ap accepted_in (events_one link Initiator before mark) ∙ accepted_append (events link Initiator before) (events_at link Initiator before mark) ∙ ap (λ (xs : List AcceptedCall). old ++ xs) here in
     let whole : asked_calls opened link before ++ own ∷ [] ≡ pre ++ o ∷ post =
-    sym (from-append (start opened) opened.first_stag old a)
+    sym (from_append (start opened) opened.first_stag old a)
     ∙ ap (λ (xs : List AcceptedCall). outstanding_from (start opened) opened.first_stag xs) (sym all) ∙ e in
     let stag : k.stag ≡ next = tells.says.stag in
-    let same : own.plan ≡ h.plan = ap (λ (r : Result Plan TooLarge). plan_or (call_payload xid call) r) (limited-plan k xid call form (Ok h.plan) (client-limits-of opened link before) h.planned) in
+    let same : own.plan ≡ h.plan = ap (λ (r : Result Plan TooLarge). plan_or (call_payload xid call) r) (limited_plan k xid call form (Ok h.plan) (client_limits_of opened link before) h.planned) in
     by_part (parted (asked_calls opened link before) own pre o post whole)
-    (λ more is. submitted-later opened link before mark (length pre) o (each pre o more is))
+    (λ more is. submitted_later opened link before mark (length pre) o (each pre o more is))
     (λ is last. record {
       earlier = before;
       later = [];
@@ -284,15 +284,15 @@ submit-mark opened link before call form xid tells h each pre o post e =
       xid = xid;
       is = refl;
       accepted = h;
-      counted = tells.says.count ∙ sym (count-from (start opened) opened.first_stag old) ∙ ap (λ (os : List OutstandingCall). length os) is;
+      counted = tells.says.count ∙ sym (count_from (start opened) opened.first_stag old) ∙ ap (λ (os : List OutstandingCall). length os) is;
       own_xid = ap (λ (x : OutstandingCall). x.xid) last;
       own_call = ap (λ (x : OutstandingCall). x.call) last;
       own_plan = ap (λ (x : OutstandingCall). x.plan) last ∙ same;
       own_stag = ap (λ (x : OutstandingCall). x.stag) last ∙ sym stag;
     })
 
-each-mark : (opened : LinkParameters) (link : ℕ) (before : List Mark) (mark : Mark) → ClientTells opened link before → AskedMark IsPrefixOf opened link before mark → EachSubmitted opened link before → EachSubmitted opened link (before ++ mark ∷ [])
-each-mark opened link before (marks.Submit l call form (submissions.Accepted xid)) tells h each = by (eqb l link) refl
+each_mark : (opened : LinkParameters) (link : ℕ) (before : List Mark) (mark : Mark) → ClientTells opened link before → AskedMark IsPrefixOf opened link before mark → EachSubmitted opened link before → EachSubmitted opened link (before ++ mark ∷ [])
+each_mark opened link before (marks.Submit l call form (submissions.Accepted xid)) tells h each = by (eqb l link) refl
   where
     a : AcceptedCall
     a = record { xid = xid; call = call; form = form }
@@ -300,40 +300,40 @@ each-mark opened link before (marks.Submit l call form (submissions.Accepted xid
     by : (b : Bool) → eqb l link ≡ b → EachSubmitted opened link (before ++ marks.Submit l call form (submissions.Accepted xid) ∷ [])
     by true is =
         let same : l ≡ link = eqb-true l link is in
-        subst (λ (n : ℕ). EachSubmitted opened link (before ++ marks.Submit n call form (submissions.Accepted xid) ∷ [])) (sym same) (submit-mark opened link before call form xid tells (h same) each)
-    by false is = quiet-mark opened link before (marks.Submit l call form (submissions.Accepted xid))
+        subst (λ (n : ℕ). EachSubmitted opened link (before ++ marks.Submit n call form (submissions.Accepted xid) ∷ [])) (sym same) (submit_mark opened link before call form xid tells (h same) each)
+    by false is = quiet_mark opened link before (marks.Submit l call form (submissions.Accepted xid))
         (ap (λ (b : Bool). accepted_in (if_own (b && true) (CallSubmitted (length (bytes_received link Initiator before)) a ∷ []))) is) each
-each-mark opened link before (marks.Submit l call form (submissions.Refused why)) tells h each = quiet-mark opened link before (marks.Submit l call form (submissions.Refused why)) refl each
-each-mark opened link before (marks.Submit l call form submissions.Dropped) tells h each = quiet-mark opened link before (marks.Submit l call form submissions.Dropped) refl each
-each-mark opened link before (marks.Fed l s bytes) tells h each = quiet-mark opened link before (marks.Fed l s bytes) (none-fed (eqb l link && same_side s Initiator) (frames_completed Responder (bytes_received link Initiator before) bytes)) each
-each-mark opened link before (marks.Wrote l s bytes) tells h each = quiet-mark opened link before (marks.Wrote l s bytes) (none-if (eqb l link && same_side s Initiator) (QueueWritten (length bytes)) refl) each
-each-mark opened link before (marks.Execute l xid moment payload place reply) tells h each = quiet-mark opened link before (marks.Execute l xid moment payload place reply)
-    (none-if (eqb l link && false) (CallExecuted (record { xid = xid; moment = moment; payload = payload; place = place; reply = reply })) refl) each
-each-mark opened link before (marks.Revoke l xid bytes) tells h each = quiet-mark opened link before (marks.Revoke l xid bytes) (none-if (eqb l link && true) (MemoryRevoked (length (bytes_received link Initiator before)) xid) refl) each
-each-mark opened link before (marks.Done l xid outcome) tells h each = quiet-mark opened link before (marks.Done l xid outcome) refl each
-each-mark opened link before (marks.Lost l xid) tells h each = quiet-mark opened link before (marks.Lost l xid) refl each
-each-mark opened link before (marks.Forget l xid) tells h each = quiet-mark opened link before (marks.Forget l xid) refl each
-each-mark opened link before (marks.Drop l) tells h each = quiet-mark opened link before (marks.Drop l) refl each
+each_mark opened link before (marks.Submit l call form (submissions.Refused why)) tells h each = quiet_mark opened link before (marks.Submit l call form (submissions.Refused why)) refl each
+each_mark opened link before (marks.Submit l call form submissions.Dropped) tells h each = quiet_mark opened link before (marks.Submit l call form submissions.Dropped) refl each
+each_mark opened link before (marks.Fed l s bytes) tells h each = quiet_mark opened link before (marks.Fed l s bytes) (none_fed (eqb l link && same_side s Initiator) (frames_completed Responder (bytes_received link Initiator before) bytes)) each
+each_mark opened link before (marks.Wrote l s bytes) tells h each = quiet_mark opened link before (marks.Wrote l s bytes) (none_if (eqb l link && same_side s Initiator) (QueueWritten (length bytes)) refl) each
+each_mark opened link before (marks.Execute l xid moment payload place reply) tells h each = quiet_mark opened link before (marks.Execute l xid moment payload place reply)
+    (none_if (eqb l link && false) (CallExecuted (record { xid = xid; moment = moment; payload = payload; place = place; reply = reply })) refl) each
+each_mark opened link before (marks.Revoke l xid bytes) tells h each = quiet_mark opened link before (marks.Revoke l xid bytes) (none_if (eqb l link && true) (MemoryRevoked (length (bytes_received link Initiator before)) xid) refl) each
+each_mark opened link before (marks.Done l xid outcome) tells h each = quiet_mark opened link before (marks.Done l xid outcome) refl each
+each_mark opened link before (marks.Lost l xid) tells h each = quiet_mark opened link before (marks.Lost l xid) refl each
+each_mark opened link before (marks.Forget l xid) tells h each = quiet_mark opened link before (marks.Forget l xid) refl each
+each_mark opened link before (marks.Drop l) tells h each = quiet_mark opened link before (marks.Drop l) refl each
 
-each-from : (opened : LinkParameters) (link : ℕ) (before run : List Mark) → IsTyped before → AskedSoFar opened link before → AtEachMark (ClientMark opened link) before run → EachSubmitted opened link before → EachSubmitted opened link (before ++ run)
-each-from opened link before [] typed asked all each = subst (λ (b : List Mark). EachSubmitted opened link b) (sym (append-nil before)) each
-each-from opened link before (mark ∷ run) typed asked all each =
+each_from : (opened : LinkParameters) (link : ℕ) (before run : List Mark) → IsTyped before → AskedSoFar opened link before → AtEachMark (ClientMark opened link) before run → EachSubmitted opened link before → EachSubmitted opened link (before ++ run)
+each_from opened link before [] typed asked all each = subst (λ (b : List Mark). EachSubmitted opened link b) (sym (append-nil before)) each
+each_from opened link before (mark ∷ run) typed asked all each =
     subst (λ (b : List Mark). EachSubmitted opened link b) (append_assoc before (mark ∷ []) run)
-    (each-from opened link (before ++ mark ∷ []) run (AtEachMark-more TypedMark [] before mark typed all.0.1) (AtEachMark-more (AskedMark IsPrefixOf opened link) [] before mark asked all.0.0) all.1
-    (each-mark opened link before mark (client-outputs opened link before typed asked) all.0.0 each))
+    (each_from opened link (before ++ mark ∷ []) run (AtEachMark_more TypedMark [] before mark typed all.0.1) (AtEachMark_more (AskedMark IsPrefixOf opened link) [] before mark asked all.0.0) all.1
+    (each_mark opened link before mark (client_outputs opened link before typed asked) all.0.0 each))
 
-none-before : {X : Type 0} (pre : List X) (m : X) (post : List X) → [] ≡ pre ++ m ∷ post → ⊥
-none-before [] m post e = absurd cc
-none-before (x ∷ pre) m post e = absurd cc
+none_before : {X : Type 0} (pre : List X) (m : X) (post : List X) → [] ≡ pre ++ m ∷ post → ⊥
+none_before [] m post e = absurd cc
+none_before (x ∷ pre) m post e = absurd cc
 
-pub each-submitted : (opened : LinkParameters) (link : ℕ) (run : List Mark) → IsTyped run → AskedSoFar opened link run → (pre : List OutstandingCall) (o : OutstandingCall) (post : List OutstandingCall) → asked_calls opened link run ≡ pre ++ o ∷ post → SubmittedCall opened link run (length pre) o
+pub each_submitted : (opened : LinkParameters) (link : ℕ) (run : List Mark) → IsTyped run → AskedSoFar opened link run → (pre : List OutstandingCall) (o : OutstandingCall) (post : List OutstandingCall) → asked_calls opened link run ≡ pre ++ o ∷ post → SubmittedCall opened link run (length pre) o
 unfolding events
-each-submitted opened link run typed asked =
-    each-from opened link [] run tt tt (each-both (AskedMark IsPrefixOf opened link) TypedMark [] run asked typed) (λ pre o post e. absurd (none-before pre o post e))
+each_submitted opened link run typed asked =
+    each_from opened link [] run tt tt (each_both (AskedMark IsPrefixOf opened link) TypedMark [] run asked typed) (λ pre o post e. absurd (none_before pre o post e))
 
-if-messages : (b : Bool) (ms : List (List ℕ)) (pre : List (List ℕ)) (m : List ℕ) (post : List (List ℕ)) → cond b ms [] ≡ pre ++ m ∷ post → ms ≡ pre ++ m ∷ post
-if-messages true ms pre m post e = e
-if-messages false ms pre m post e = absurd (none-before pre m post e)
+if_messages : (b : Bool) (ms : List (List ℕ)) (pre : List (List ℕ)) (m : List ℕ) (post : List (List ℕ)) → cond b ms [] ≡ pre ++ m ∷ post → ms ≡ pre ++ m ∷ post
+if_messages true ms pre m post e = e
+if_messages false ms pre m post e = absurd (none_before pre m post e)
 
 record MappedAt (opened : LinkParameters) (os : List OutstandingCall) (pre : List (List ℕ)) (m : List ℕ) : Type 0 where
   front : List OutstandingCall
@@ -343,23 +343,23 @@ record MappedAt (opened : LinkParameters) (os : List OutstandingCall) (pre : Lis
   as_long : length front ≡ length pre
   message : m ≡ message_of_call opened own
 
-head-same : (a b : List ℕ) (xs ys : List (List ℕ)) → a ∷ xs ≡ b ∷ ys → b ≡ a
-head-same a b xs ys e = (let s : a ≡ b = cc in sym s)
+head_same : (a b : List ℕ) (xs ys : List (List ℕ)) → a ∷ xs ≡ b ∷ ys → b ≡ a
+head_same a b xs ys e = (let s : a ≡ b = cc in sym s)
 
-mapped-at : (opened : LinkParameters) (os : List OutstandingCall) (pre : List (List ℕ)) (m : List ℕ) (post : List (List ℕ)) → map (message_of_call opened) os ≡ pre ++ m ∷ post → MappedAt opened os pre m
-mapped-at opened [] pre m post e = absurd (none-before pre m post e)
-mapped-at opened (o ∷ os) [] m post e = record { front = []; own = o; back = os; is = refl; as_long = refl; message = head-same (message_of_call opened o) m (map (message_of_call opened) os) post e }
-mapped-at opened (o ∷ os) (p ∷ pre) m post e =
-    let r = mapped-at opened os pre m post (ap (λ (xs : List (List ℕ)). Rattle.std.proofs.Common.drop 1 xs) e) in
+mapped_at : (opened : LinkParameters) (os : List OutstandingCall) (pre : List (List ℕ)) (m : List ℕ) (post : List (List ℕ)) → map (message_of_call opened) os ≡ pre ++ m ∷ post → MappedAt opened os pre m
+mapped_at opened [] pre m post e = absurd (none_before pre m post e)
+mapped_at opened (o ∷ os) [] m post e = record { front = []; own = o; back = os; is = refl; as_long = refl; message = head_same (message_of_call opened o) m (map (message_of_call opened) os) post e }
+mapped_at opened (o ∷ os) (p ∷ pre) m post e =
+    let r = mapped_at opened os pre m post (ap (λ (xs : List (List ℕ)). Rattle.std.proofs.Common.drop 1 xs) e) in
     record { front = o ∷ r.front; own = r.own; back = r.back; is = ap (λ (xs : List OutstandingCall). o ∷ xs) r.is; as_long = ap (λ (n : ℕ). suc n) r.as_long; message = r.message }
 
 -- each message that a client wrote is that of a call that it accepted, counted from 0
-pub message-submitted : (opened : LinkParameters) (link : ℕ) (run : List Mark) → IsTyped run → AskedSoFar opened link run → (pre : List (List ℕ)) (m : List ℕ) (post : List (List ℕ)) → completed_from None (client_outs opened link run) ≡ pre ++ m ∷ post
+pub message_submitted : (opened : LinkParameters) (link : ℕ) (run : List Mark) → IsTyped run → AskedSoFar opened link run → (pre : List (List ℕ)) (m : List ℕ) (post : List (List ℕ)) → completed_from None (client_outs opened link run) ≡ pre ++ m ∷ post
     → WasSubmitted opened link run (length pre) m
-message-submitted opened link run typed asked pre m post e =
-    let t = client-outputs opened link run typed asked in
-    let at = mapped-at opened (asked_calls opened link run) pre m post (if-messages (client opened link run).state.has_hello (map (message_of_call opened) (asked_calls opened link run)) pre m post (sym t.says.completes.completed ∙ e)) in
-    let w = each-submitted opened link run typed asked at.front at.own at.back at.is in
+message_submitted opened link run typed asked pre m post e =
+    let t = client_outputs opened link run typed asked in
+    let at = mapped_at opened (asked_calls opened link run) pre m post (if_messages (client opened link run).state.has_hello (map (message_of_call opened) (asked_calls opened link run)) pre m post (sym t.says.completes.completed ∙ e)) in
+    let w = each_submitted opened link run typed asked at.front at.own at.back at.is in
     record {
       earlier = w.earlier;
       later = w.later;

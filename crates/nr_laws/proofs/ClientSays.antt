@@ -15,7 +15,7 @@ use Rattle.nr_regions.specs.declared.denied.Denied.{Denied}
 use Rattle.nr_link.specs.declared.end.End.{End as Stop}
 use Rattle.nr_link.specs.Frames.{Frame, is_hello}
 use Rattle.nr_link.specs.Reasons.{REASON_MSN, REASON_OFFSET, REASON_FORM, REASON_REQUESTS, REASON_SHORT, REASON_LONG}
-use Rattle.nr_link.specs.SegmentFaults.{Readiness, SegmentFault, segment_fault, reason_if, next_msn, next_offset, no_buffer, is_malformed, missing_fault, is_too_many, has_length, terminate_fault}
+use Rattle.nr_link.specs.SegmentFaults.{Readiness, SegmentReason, segment_reason, reason_if, next_msn, next_offset, no_buffer, is_malformed, missing_fault, is_too_many, message_length_is, terminate_fault}
 use Rattle.nr_link.specs.ReceiveState.{ReadRequest, read_request_in, read_request_of, message_completed, is_send}
 use Rattle.nr_link.specs.Ending.{frame_segment, frame_end, frame_end_by, end_of_fault, hello_end, missing_access}
 use Rattle.nr_reduce.proofs.OwnLimits.{ClientLimits}
@@ -23,19 +23,19 @@ use Rattle.nr_reduce.specs.declared.mark.LinkParameters.{LinkParameters}
 use Rattle.nr_reduce.specs.declared.outline.Plan.{Plan}
 use Rattle.nr_reduce.specs.Limits.{numbers_end}
 use Rattle.nr_reduce.specs.History.{AcceptedCall}
-use Rattle.nr_reduce.specs.Events.{Event}
-use Rattle.nr_reduce.specs.Events.Event.{FrameReceived, CallSubmitted, MemoryRevoked, CallExecuted, QueueWritten}
+use Rattle.nr_reduce.specs.Events.{RunEvent}
+use Rattle.nr_reduce.specs.Events.RunEvent.{FrameReceived, CallSubmitted, MemoryRevoked, CallExecuted, QueueWritten}
 use Rattle.nr_reduce.specs.EndRules.{EndState}
 use Rattle.nr_reduce.specs.OfferedRegions.{region_grants}
 use Rattle.nr_reduce.specs.Plans.{regions_needed}
-use Rattle.nr_reduce.specs.ClientState.{ClientState, OutstandingCall, call_payload, plan_for, memory_at}
-use Rattle.nr_reduce.specs.Client.{client_end, readiness, or_message_end, revoked_call}
+use Rattle.nr_reduce.specs.ClientState.{ClientState, OutstandingCall, call_payload, plan_for, client_memory_at}
+use Rattle.nr_reduce.specs.Client.{client_end, client_readiness, or_message_end, revoked_call}
 use Rattle.nr_reduce.specs.SubmitAnswer.{next_xid}
 use Rattle.nr_reduce.specs.RunLaws.{outstanding_from, as_submitted}
 use Rattle.nr_laws.specs.Typed.{IsTypedForm}
 use Rattle.nr_laws.proofs.Outputs.{Output, IsShort, FitsSegment, CallsShort, message_of_call, response_outputs}
 use Rattle.nr_laws.proofs.Brought.{AreFrom}
-use Rattle.nr_laws.proofs.Words.{responses-words, RangeEnds, word-below, hyper-below, payload_by}
+use Rattle.nr_laws.proofs.Words.{responses_words, RangeEnds, word_below_lem, hyper_below_lem, payload_by}
 use Rattle.nr_laws.proofs.Messages.{messages}
 use Rattle.nr_laws.proofs.Completions.{Completes}
 use Rattle.nr_reduce.proofs.Waiting.{start, stag_behind}
@@ -55,7 +55,7 @@ pub record IsGoodCall (opened : LinkParameters) (r : EndState ClientState) (a : 
   pub form : IsTypedForm a.form
   pub limits : ClientLimits r.state
 
-abbrev pub ClientGood : LinkParameters → EndState ClientState → Event → Type 0
+abbrev pub ClientGood : LinkParameters → EndState ClientState → RunEvent → Type 0
 ClientGood opened r (FrameReceived f) = Unit {0}
 ClientGood opened r (CallSubmitted p a) = IsGoodCall opened r a
 ClientGood opened r (MemoryRevoked p xid) = Unit {0}
@@ -64,7 +64,7 @@ ClientGood opened r (QueueWritten taken) = Unit {0}
 
 -- ---- The calls that were accepted
 
-abbrev pub accepted_in : List Event → List AcceptedCall
+abbrev pub accepted_in : List RunEvent → List AcceptedCall
 accepted_in [] = []
 accepted_in (FrameReceived f ∷ es) = accepted_in es
 accepted_in (CallSubmitted p a ∷ es) = a ∷ accepted_in es
@@ -72,19 +72,19 @@ accepted_in (MemoryRevoked p xid ∷ es) = accepted_in es
 accepted_in (CallExecuted e ∷ es) = accepted_in es
 accepted_in (QueueWritten taken ∷ es) = accepted_in es
 
-pub accepted-append : (es more : List Event) → accepted_in (es ++ more) ≡ accepted_in es ++ accepted_in more
-accepted-append [] more = refl
-accepted-append (FrameReceived f ∷ es) more = accepted-append es more
-accepted-append (CallSubmitted p a ∷ es) more = ap (λ (cs : List AcceptedCall). a ∷ cs) (accepted-append es more)
-accepted-append (MemoryRevoked p xid ∷ es) more = accepted-append es more
-accepted-append (CallExecuted e ∷ es) more = accepted-append es more
-accepted-append (QueueWritten taken ∷ es) more = accepted-append es more
+pub accepted_append : (es more : List RunEvent) → accepted_in (es ++ more) ≡ accepted_in es ++ accepted_in more
+accepted_append [] more = refl
+accepted_append (FrameReceived f ∷ es) more = accepted_append es more
+accepted_append (CallSubmitted p a ∷ es) more = ap (λ (cs : List AcceptedCall). a ∷ cs) (accepted_append es more)
+accepted_append (MemoryRevoked p xid ∷ es) more = accepted_append es more
+accepted_append (CallExecuted e ∷ es) more = accepted_append es more
+accepted_append (QueueWritten taken ∷ es) more = accepted_append es more
 
 -- the calls that were accepted, as they go out
-abbrev pub asked : LinkParameters → List Event → List OutstandingCall
+abbrev pub asked : LinkParameters → List RunEvent → List OutstandingCall
 asked opened es = outstanding_from (start opened) opened.first_stag (accepted_in es)
 
-abbrev next_stag_of : LinkParameters → List Event → ℕ
+abbrev next_stag_of : LinkParameters → List RunEvent → ℕ
 next_stag_of opened es = stag_behind (start opened) opened.first_stag (accepted_in es)
 
 -- ---- What a client says
@@ -92,7 +92,7 @@ next_stag_of opened es = stag_behind (start opened) opened.first_stag (accepted_
 abbrev pub HasHello : ℕ → Bool → Type 0
 HasHello place hello = ((place ≡ 0) × (hello ≡ false)) ⊎ ((0 < place) × (hello ≡ true))
 
-pub record ClientSays (opened : LinkParameters) (es : List Event) (place : ℕ) (k : ClientState) (ended : Option Stop) (outs : List Output) : Type 0 where
+pub record ClientSays (opened : LinkParameters) (es : List RunEvent) (place : ℕ) (k : ClientState) (ended : Option Stop) (outs : List Output) : Type 0 where
   pub short : CallsShort opened k.outstanding
   pub stag : k.stag ≡ next_stag_of opened es
   pub count : k.calls_accepted ≡ length (accepted_in es)
@@ -103,29 +103,29 @@ pub record ClientSays (opened : LinkParameters) (es : List Event) (place : ℕ) 
   pub words : AreFrom Fpdu outs
   pub completes : Completes outs (cond k.has_hello (map (message_of_call opened) (asked opened es)) [])
 
-abbrev pub Says : LinkParameters → List Event → ℕ → EndState ClientState → List Output → Type 0
+abbrev pub Says : LinkParameters → List RunEvent → ℕ → EndState ClientState → List Output → Type 0
 Says opened es place r outs = ClientSays opened es place r.state r.ended outs
 
 -- ---- Calls in lists
 
-revoked-message : (opened : LinkParameters) (xid : ℕ) (o : OutstandingCall) → message_of_call opened (revoked_call xid o) ≡ message_of_call opened o
-revoked-message opened xid o = by (eqb o.xid xid)
+revoked_message : (opened : LinkParameters) (xid : ℕ) (o : OutstandingCall) → message_of_call opened (revoked_call xid o) ≡ message_of_call opened o
+revoked_message opened xid o = by (eqb o.xid xid)
   where
     by : (b : Bool) → message_of_call opened (cond b (record o { is_revoked = true }) o) ≡ message_of_call opened o
     by true = refl
     by false = refl
 
-pub short-revoked : (opened : LinkParameters) (xid : ℕ) (xs : List OutstandingCall) → CallsShort opened xs → CallsShort opened (map (revoked_call xid) xs)
-short-revoked opened xid [] h = tt
-short-revoked opened xid (x ∷ xs) h = (subst IsShort (sym (revoked-message opened xid x)) h.0, short-revoked opened xid xs h.1)
+pub short_revoked : (opened : LinkParameters) (xid : ℕ) (xs : List OutstandingCall) → CallsShort opened xs → CallsShort opened (map (revoked_call xid) xs)
+short_revoked opened xid [] h = tt
+short_revoked opened xid (x ∷ xs) h = (subst IsShort (sym (revoked_message opened xid x)) h.0, short_revoked opened xid xs h.1)
 
-pub submitted-messages : (opened : LinkParameters) (xs : List OutstandingCall) → map (message_of_call opened) (map as_submitted xs) ≡ map (message_of_call opened) xs
-submitted-messages opened [] = refl
-submitted-messages opened (x ∷ xs) = ap (λ (ms : List (List ℕ)). message_of_call opened x ∷ ms) (submitted-messages opened xs)
+pub submitted_messages : (opened : LinkParameters) (xs : List OutstandingCall) → map (message_of_call opened) (map as_submitted xs) ≡ map (message_of_call opened) xs
+submitted_messages opened [] = refl
+submitted_messages opened (x ∷ xs) = ap (λ (ms : List (List ℕ)). message_of_call opened x ∷ ms) (submitted_messages opened xs)
 
-pub map-more : (opened : LinkParameters) (xs ys : List OutstandingCall) → map (message_of_call opened) (xs ++ ys) ≡ map (message_of_call opened) xs ++ map (message_of_call opened) ys
-map-more opened [] ys = refl
-map-more opened (x ∷ xs) ys = ap (λ (ms : List (List ℕ)). message_of_call opened x ∷ ms) (map-more opened xs ys)
+pub map_more : (opened : LinkParameters) (xs ys : List OutstandingCall) → map (message_of_call opened) (xs ++ ys) ≡ map (message_of_call opened) xs ++ map (message_of_call opened) ys
+map_more opened [] ys = refl
+map_more opened (x ∷ xs) ys = ap (λ (ms : List (List ℕ)). message_of_call opened x ∷ ms) (map_more opened xs ys)
 
 -- ---- A Read Request that is answered
 
@@ -134,41 +134,41 @@ no_reason reason true e = absurd cc
 no_reason reason false e = refl
 
 -- an untagged segment that breaks no rule is well formed
-pub formed : (r : Readiness Denied) (last : Bool) (opcode w queue msn offset : ℕ) (payload : List ℕ) → segment_fault r (Untagged last opcode w queue msn offset payload) ≡ None → is_malformed opcode last payload ≡ false
-unfolding segment_fault
+pub formed : (r : Readiness Denied) (last : Bool) (opcode w queue msn offset : ℕ) (payload : List ℕ) → segment_reason r (Untagged last opcode w queue msn offset payload) ≡ None → is_malformed opcode last payload ≡ false
+unfolding segment_reason
 formed r last opcode w queue msn offset payload e =
     let message : Option (List ℕ) = message_completed r.received (Untagged last opcode w queue msn offset payload) in
-    let flaws : List (Option (SegmentFault Denied)) =
+    let flaws : List (Option (SegmentReason Denied)) =
     reason_if REASON_MSN (not (eqb msn (next_msn r.received queue)))
     ∷ reason_if REASON_OFFSET (not (eqb offset (next_offset r.received queue)))
     ∷ no_buffer r (is_send opcode) msn
     ∷ reason_if REASON_FORM (is_malformed opcode last payload)
     ∷ missing_fault r.missing
     ∷ reason_if REASON_REQUESTS (is_too_many r opcode)
-    ∷ reason_if REASON_LONG (has_length (ltb r.message_max) message)
-    ∷ reason_if REASON_SHORT (has_length (λ n. ltb n 16) message)
+    ∷ reason_if REASON_LONG (message_length_is (ltb r.message_max) message)
+    ∷ reason_if REASON_SHORT (message_length_is (λ n. ltb n 16) message)
     ∷ terminate_fault opcode payload
     ∷ [] in
     let all : AreNone flaws = all_none flaws e in
     no_reason REASON_FORM (is_malformed opcode last payload) all.1.1.1.0
 
-request-ends : (last : Bool) (payload : List ℕ) → IsBytes payload → is_malformed OPCODE_READ_REQUEST last payload ≡ false → RangeEnds (read_request_in payload).sink_to (read_request_in payload).size
-request-ends last payload bytes e =
+request_ends : (last : Bool) (payload : List ℕ) → IsBytes payload → is_malformed OPCODE_READ_REQUEST last payload ≡ false → RangeEnds (read_request_in payload).sink_to (read_request_in payload).size
+request_ends last payload bytes e =
     let a = or_parts (not last) (not (eqb (length payload) 28) || ltb (2 ^ 64) ((read_request_in payload).sink_to + (read_request_in payload).size)) e in
     let b = or_parts (not (eqb (length payload) 28)) (ltb (2 ^ 64) ((read_request_in payload).sink_to + (read_request_in payload).size)) a.1 in
     let c = ltb-false (2 ^ 64) ((read_request_in payload).sink_to + (read_request_in payload).size) b.1 in
-    (hyper-below 4 payload bytes, c)
+    (hyper_below_lem 4 payload bytes, c)
 
 -- why a frame that isn't the hello doesn't end a client: no fault of its segment
-pub client-unharmed : (k : ClientState) (f : Frame) (segment : Segment) → is_hello f ≡ false → frame_segment f ≡ Ok segment → client_end k (FrameReceived f) ≡ None
-    → segment_fault (readiness k (missing_access (region_grants f.end k.regions) f segment)) segment ≡ None
+pub client_has_no_fault : (k : ClientState) (f : Frame) (segment : Segment) → is_hello f ≡ false → frame_segment f ≡ Ok segment → client_end k (FrameReceived f) ≡ None
+    → segment_reason (client_readiness k (missing_access (region_grants f.end k.regions) f segment)) segment ≡ None
 unfolding client_end frame_end
-client-unharmed k f segment behind is e =
-    let others : or_message_end k f (frame_end (readiness k) (region_grants f.end k.regions) f) ≡ None =
-    ap (λ (b : Bool). cond b (hello_end (hello_of Responder f.bytes)) (or_message_end k f (frame_end (readiness k) (region_grants f.end k.regions) f))) (sym behind) ∙ e in
-    let none : frame_end (readiness k) (region_grants f.end k.regions) f ≡ None = by_end (frame_end (readiness k) (region_grants f.end k.regions) f) others in
-    let by_segment : end_of_fault f segment (segment_fault (readiness k (missing_access (region_grants f.end k.regions) f segment)) segment) ≡ None =
-    ap (λ (r : Result Segment ℕ). frame_end_by (readiness k) (region_grants f.end k.regions) f r) (sym is) ∙ none in
+client_has_no_fault k f segment behind is e =
+    let others : or_message_end k f (frame_end (client_readiness k) (region_grants f.end k.regions) f) ≡ None =
+    ap (λ (b : Bool). cond b (hello_end (hello_of Responder f.bytes)) (or_message_end k f (frame_end (client_readiness k) (region_grants f.end k.regions) f))) (sym behind) ∙ e in
+    let none : frame_end (client_readiness k) (region_grants f.end k.regions) f ≡ None = by_end (frame_end (client_readiness k) (region_grants f.end k.regions) f) others in
+    let by_segment : end_of_fault f segment (segment_reason (client_readiness k (missing_access (region_grants f.end k.regions) f segment)) segment) ≡ None =
+    ap (λ (r : Result Segment ℕ). frame_end_by (client_readiness k) (region_grants f.end k.regions) f r) (sym is) ∙ none in
     no_flaw f segment _ by_segment
   where
     by_end : (o : Option Stop) → or_message_end k f o ≡ None → o ≡ None
@@ -176,18 +176,18 @@ client-unharmed k f segment behind is e =
     by_end (Some end) e = absurd cc
 
 -- the segments of a response have numbers in range
-pub response-words : (k : ClientState) (place : ℕ) (segment : Segment) → IsBytes (payload_by segment) → (q : ReadRequest) → read_request_of segment ≡ Some q
+pub response_words : (k : ClientState) (place : ℕ) (segment : Segment) → IsBytes (payload_by segment) → (q : ReadRequest) → read_request_of segment ≡ Some q
     → ((last : Bool) (opcode w queue msn offset : ℕ) (payload : List ℕ) → segment ≡ Untagged last opcode w queue msn offset payload → is_malformed opcode last payload ≡ false)
     → AreFrom Fpdu (response_outputs k place (Some q))
-response-words k place (Tagged last opcode stag to payload) bytes q is sound = absurd cc
-response-words k place (Untagged last opcode w queue msn offset payload) bytes q is sound = by (eqb opcode OPCODE_READ_REQUEST) refl is
+response_words k place (Tagged last opcode stag to payload) bytes q is sound = absurd cc
+response_words k place (Untagged last opcode w queue msn offset payload) bytes q is sound = by (eqb opcode OPCODE_READ_REQUEST) refl is
   where
     by : (b : Bool) → eqb opcode OPCODE_READ_REQUEST ≡ b → cond b (Some (read_request_in payload)) None ≡ Some q → AreFrom Fpdu (response_outputs k place (Some q))
     by true own e =
         let same : read_request_in payload ≡ q = (let s : Some (read_request_in payload) ≡ Some q = e in cc) in
-        let ends = request-ends last payload bytes (subst (λ (n : ℕ). is_malformed n last payload ≡ false) (eqb-true opcode OPCODE_READ_REQUEST own) (sound last opcode w queue msn offset payload refl)) in
+        let ends = request_ends last payload bytes (subst (λ (n : ℕ). is_malformed n last payload ≡ false) (eqb-true opcode OPCODE_READ_REQUEST own) (sound last opcode w queue msn offset payload refl)) in
         subst (λ (x : ReadRequest). AreFrom Fpdu (response_outputs k place (Some x))) same
         (let x = read_request_in payload in
-        let held : List ℕ = take x.size (drop x.to (memory_at k place x.stag)) in
-        responses-words x.sink x.sink_to x.size held (word-below 0 payload bytes) (let l = length-take x.size (drop x.to (memory_at k place x.stag)) in omega (arith, l)) ends)
+        let held : List ℕ = take x.size (drop x.to (client_memory_at k place x.stag)) in
+        responses_words x.sink x.sink_to x.size held (word_below_lem 0 payload bytes) (let l = length-take x.size (drop x.to (client_memory_at k place x.stag)) in omega (arith, l)) ends)
     by false own e = absurd cc

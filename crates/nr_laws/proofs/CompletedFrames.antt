@@ -6,13 +6,13 @@ use Rattle.nr_wire.specs.declared.hello.Side.{Side}
 use Rattle.nr_wire.specs.declared.stream.Awaited.TheVariants.{Hello as HelloFrom, Fpdu}
 use Rattle.nr_wire.specs.Segment.{Segment, segment_of}
 use Rattle.nr_wire.specs.Stream.{Split, split, awaited_after}
-use Rattle.nr_wire.proofs.Splits.{split-append}
+use Rattle.nr_wire.proofs.Splits.{split_append}
 use Rattle.nr_link.specs.Frames.{Frame, frames_from, frames_of, frames_completed}
 use Rattle.nr_link.specs.Ending.{frame_segment}
 use Rattle.nr_laws.proofs.FrameContents.{FrameContent, numbered_segment, frame_bytes, output_bytes, total_of, sends_in, requests_in, Carries}
-use Rattle.nr_laws.proofs.StreamFrames.{AreWritableFrom, IsWritableAs, frames_at, frames-append, length-frames, front}
-use Rattle.nr_laws.proofs.Brought.{encoding-is}
-use Rattle.nr_link.proofs.Streams.{frames_from-append}
+use Rattle.nr_laws.proofs.StreamFrames.{AreWritableFrom, IsWritableAs, frames_at, frames_append, length_frames, front}
+use Rattle.nr_laws.proofs.Brought.{encoding_is}
+use Rattle.nr_link.proofs.Streams.{frames_from_append}
 
 -- of two beginnings of a list the longer one goes on
 record Longer (xs ys zs ws : List FrameContent) : Type 0 where
@@ -45,9 +45,9 @@ fed side got bytes rest came way proper before sent =
     let a = HelloFrom side in
     let f = front side a 0 0 (came ++ way) (got ++ bytes) rest refl proper sent in
     let later = (split (awaited_after a (split a got).frames) ((split a got).rest ++ bytes)).frames in
-    let goes_on : frames_at side 0 0 f.came ≡ (split a got).frames ++ later = sym f.frames ∙ ap (λ (s : Split). s.frames) (split-append a got bytes) in
+    let goes_on : frames_at side 0 0 f.came ≡ (split a got).frames ++ later = sym f.frames ∙ ap (λ (s : Split). s.frames) (split_append a got bytes) in
     let as_many : length came ≤ length f.came =
-    omega (arith, length-frames side 0 0 came, length-frames side 0 0 f.came, ap (λ (fs : List (List ℕ)). length fs) goes_on, length-append (split a got).frames later, ap (λ (fs : List (List ℕ)). length fs) before) in
+    omega (arith, length_frames side 0 0 came, length_frames side 0 0 f.came, ap (λ (fs : List (List ℕ)). length fs) goes_on, length-append (split a got).frames later, ap (λ (fs : List (List ℕ)). length fs) before) in
     let l = longer came way f.came f.left (sym f.parts) as_many in
     let all : (split a (got ++ bytes)).frames ≡ frames_at side 0 0 (came ++ l.new) = f.frames ∙ ap (λ (ps : List FrameContent). frames_at side 0 0 ps) l.longer in
     let old = frames_at side 0 0 came in
@@ -57,18 +57,18 @@ fed side got bytes rest came way proper before sent =
       left = f.left;
       parts = l.left;
       frames =
-          (λ i. drop (length (frames_from 0 (before i))) (frames_from 0 ((all ∙ frames-append side 0 0 came l.new) i)))
-          ∙ ap (λ (fs : List Frame). drop (length (frames_from 0 old)) fs) (frames_from-append 0 old news)
+          (λ i. drop (length (frames_from 0 (before i))) (frames_from 0 ((all ∙ frames_append side 0 0 came l.new) i)))
+          ∙ ap (λ (fs : List Frame). drop (length (frames_from 0 old)) fs) (frames_from_append 0 old news)
           ∙ drop-append_seam (frames_from 0 old) (frames_from (0 + length (concat old)) news)
           ∙ ap (λ (n : ℕ). frames_from n news) (omega arith);
       all = all;
     }
 
 -- behind the hello each of them is a frame as it was sent
-pub is-piece : (side : Side) (n r place : ℕ) (p : FrameContent) → IsWritableAs Fpdu (numbered_segment n r p) → 0 < place
+pub is_piece : (side : Side) (n r place : ℕ) (p : FrameContent) → IsWritableAs Fpdu (numbered_segment n r p) → 0 < place
     → Carries n r (record { at = place; end = place + length (frame_bytes side (numbered_segment n r p)); bytes = frame_bytes side (numbered_segment n r p) }) p
 unfolding frame_segment
-is-piece side n r place p proper some = by (numbered_segment n r p) refl proper
+is_piece side n r place p proper some = by (numbered_segment n r p) refl proper
   where
     behind : eqb place 0 ≡ false
     behind = ne_eqb place 0 (λ e. omega (arith, e, some))
@@ -80,5 +80,5 @@ is-piece side n r place p proper some = by (numbered_segment n r p) refl proper
       behind = behind;
       segment = segment;
       is_segment = is;
-      reads = ap (λ (o : Option Segment). segment_of (frame_bytes side o)) is ∙ (encoding-is segment h).says;
+      reads = ap (λ (o : Option Segment). segment_of (frame_bytes side o)) is ∙ (encoding_is segment h).says;
     }

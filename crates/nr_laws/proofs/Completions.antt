@@ -36,22 +36,22 @@ begun_from b [] = b
 begun_from b (AHello bytes ∷ outs) = begun_from b outs
 begun_from b (ASegment s ∷ outs) = begun_from (begun_by b s) outs
 
-pub begun-append : (b : Option (List ℕ)) (xs ys : List Output) → begun_from b (xs ++ ys) ≡ begun_from (begun_from b xs) ys
-begun-append b [] ys = refl
-begun-append b (AHello bytes ∷ xs) ys = begun-append b xs ys
-begun-append b (ASegment s ∷ xs) ys = begun-append (begun_by b s) xs ys
+pub begun_append : (b : Option (List ℕ)) (xs ys : List Output) → begun_from b (xs ++ ys) ≡ begun_from (begun_from b xs) ys
+begun_append b [] ys = refl
+begun_append b (AHello bytes ∷ xs) ys = begun_append b xs ys
+begun_append b (ASegment s ∷ xs) ys = begun_append (begun_by b s) xs ys
 
-pub completed-append : (b : Option (List ℕ)) (xs ys : List Output) → completed_from b (xs ++ ys) ≡ completed_from b xs ++ completed_from (begun_from b xs) ys
-completed-append b [] ys = refl
-completed-append b (AHello bytes ∷ xs) ys = completed-append b xs ys
-completed-append b (ASegment s ∷ xs) ys =
-    ap (λ (ms : List (List ℕ)). completed_by b s ++ ms) (completed-append (begun_by b s) xs ys)
+pub completed_append : (b : Option (List ℕ)) (xs ys : List Output) → completed_from b (xs ++ ys) ≡ completed_from b xs ++ completed_from (begun_from b xs) ys
+completed_append b [] ys = refl
+completed_append b (AHello bytes ∷ xs) ys = completed_append b xs ys
+completed_append b (ASegment s ∷ xs) ys =
+    ap (λ (ms : List (List ℕ)). completed_by b s ++ ms) (completed_append (begun_by b s) xs ys)
     ∙ sym (append_assoc (completed_by b s) (completed_from (begun_by b s) xs) (completed_from (begun_from (begun_by b s) xs) ys))
 
 -- after the last segment of a Send none has begun
-pub none-begun : (b : Option (List ℕ)) (s : Segment) (m : List ℕ) → completed_by b s ≡ m ∷ [] → begun_by b s ≡ None
-none-begun b (Tagged last opcode stag to payload) m e = absurd cc
-none-begun b (Untagged last opcode w queue msn offset payload) m e = by (is_send opcode) last e
+pub none_begun_lem : (b : Option (List ℕ)) (s : Segment) (m : List ℕ) → completed_by b s ≡ m ∷ [] → begun_by b s ≡ None
+none_begun_lem b (Tagged last opcode stag to payload) m e = absurd cc
+none_begun_lem b (Untagged last opcode w queue msn offset payload) m e = by (is_send opcode) last e
   where
     by : (c d : Bool) → cond (c && d) ((begun_bytes b ++ payload) ∷ []) [] ≡ m ∷ [] → cond c (cond d None (Some (begun_bytes b ++ payload))) b ≡ None
     by true true e = refl
@@ -59,17 +59,17 @@ none-begun b (Untagged last opcode w queue msn offset payload) m e = by (is_send
     by false d e = absurd cc
 
 -- the messages of outputs, at the segment that completes one of them
-pub completed-at : (pre : List Output) (s : Segment) (post : List Output) (m : List ℕ) → completed_by (begun_from None pre) s ≡ m ∷ []
+pub completed_at_lem : (pre : List Output) (s : Segment) (post : List Output) (m : List ℕ) → completed_by (begun_from None pre) s ≡ m ∷ []
     → completed_from None (pre ++ ASegment s ∷ post) ≡ completed_from None pre ++ m ∷ completed_from None post
-completed-at pre s post m one =
-    completed-append None pre (ASegment s ∷ post)
-    ∙ (λ i. completed_from None pre ++ (one i ++ completed_from (none-begun (begun_from None pre) s m one i) post))
+completed_at_lem pre s post m one =
+    completed_append None pre (ASegment s ∷ post)
+    ∙ (λ i. completed_from None pre ++ (one i ++ completed_from (none_begun_lem (begun_from None pre) s m one i) post))
 
 -- ---- As a side receives them
 
-pub begun-is : (h : ReceiveState) (s : Segment) → (received_after h s).begun ≡ begun_by h.begun s
-begun-is h (Tagged last opcode stag to payload) = refl
-begun-is h (Untagged last opcode w queue msn offset payload) = by (is_send opcode) last (eqb opcode OPCODE_READ_REQUEST)
+pub begun_is : (h : ReceiveState) (s : Segment) → (received_after h s).begun ≡ begun_by h.begun s
+begun_is h (Tagged last opcode stag to payload) = refl
+begun_is h (Untagged last opcode w queue msn offset payload) = by (is_send opcode) last (eqb opcode OPCODE_READ_REQUEST)
   where
     by : (c d r : Bool) → (cond c (send_continued h d payload) (cond r (record { sends = h.sends; begun = h.begun; requests = h.requests + 1 }) h)).begun ≡ cond c (cond d None (Some (begun_bytes h.begun ++ payload))) h.begun
     by true true r = refl
@@ -77,17 +77,17 @@ begun-is h (Untagged last opcode w queue msn offset payload) = by (is_send opcod
     by false d true = refl
     by false d false = refl
 
-pub completed-is : (h : ReceiveState) (s : Segment) → option_to_list (message_completed h s) ≡ completed_by h.begun s
-completed-is h (Tagged last opcode stag to payload) = refl
-completed-is h (Untagged last opcode w queue msn offset payload) = by (is_send opcode && last)
+pub completed_is : (h : ReceiveState) (s : Segment) → option_to_list (message_completed h s) ≡ completed_by h.begun s
+completed_is h (Tagged last opcode stag to payload) = refl
+completed_is h (Untagged last opcode w queue msn offset payload) = by (is_send opcode && last)
   where
     by : (c : Bool) → option_to_list (cond c (Some (begun_bytes h.begun ++ payload)) None) ≡ cond c ((begun_bytes h.begun ++ payload) ∷ []) []
     by true = refl
     by false = refl
 
-pub sends-is : (h : ReceiveState) (s : Segment) → (received_after h s).sends ≡ h.sends + length (completed_by h.begun s)
-sends-is h (Tagged last opcode stag to payload) = omega arith
-sends-is h (Untagged last opcode w queue msn offset payload) = by (is_send opcode) last (eqb opcode OPCODE_READ_REQUEST)
+pub sends_is : (h : ReceiveState) (s : Segment) → (received_after h s).sends ≡ h.sends + length (completed_by h.begun s)
+sends_is h (Tagged last opcode stag to payload) = omega arith
+sends_is h (Untagged last opcode w queue msn offset payload) = by (is_send opcode) last (eqb opcode OPCODE_READ_REQUEST)
   where
     by : (c d r : Bool) → (cond c (send_continued h d payload) (cond r (record { sends = h.sends; begun = h.begun; requests = h.requests + 1 }) h)).sends ≡ h.sends + length (cond (c && d) ((begun_bytes h.begun ++ payload) ∷ []) [])
     by true true r = refl
@@ -95,15 +95,15 @@ sends-is h (Untagged last opcode w queue msn offset payload) = by (is_send opcod
     by false d true = omega arith
     by false d false = omega arith
 
-segments-completed : (h : ReceiveState) (segments : List Segment) → completed_from h.begun (map ASegment segments) ≡ messages_completed h segments
-segments-completed h [] = refl
-segments-completed h (s ∷ segments) =
-    (λ i. sym (completed-is h s) i ++ completed_from (sym (begun-is h s) i) (map ASegment segments))
-    ∙ ap (λ (ms : List (List ℕ)). option_to_list (message_completed h s) ++ ms) (segments-completed (received_after h s) segments)
+segments_completed : (h : ReceiveState) (segments : List Segment) → completed_from h.begun (map ASegment segments) ≡ messages_completed h segments
+segments_completed h [] = refl
+segments_completed h (s ∷ segments) =
+    (λ i. sym (completed_is h s) i ++ completed_from (sym (begun_is h s) i) (map ASegment segments))
+    ∙ ap (λ (ms : List (List ℕ)). option_to_list (message_completed h s) ++ ms) (segments_completed (received_after h s) segments)
 
-segments-begun : (h : ReceiveState) (segments : List Segment) → begun_from h.begun (map ASegment segments) ≡ (received_after_all h segments).begun
-segments-begun h [] = refl
-segments-begun h (s ∷ segments) = ap (λ (b : Option (List ℕ)). begun_from b (map ASegment segments)) (sym (begun-is h s)) ∙ segments-begun (received_after h s) segments
+segments_begun : (h : ReceiveState) (segments : List Segment) → begun_from h.begun (map ASegment segments) ≡ (received_after_all h segments).begun
+segments_begun h [] = refl
+segments_begun h (s ∷ segments) = ap (λ (b : Option (List ℕ)). begun_from b (map ASegment segments)) (sym (begun_is h s)) ∙ segments_begun (received_after h s) segments
 
 -- ---- Outputs that complete messages, and leave none begun
 
@@ -111,49 +111,49 @@ pub record Completes (outs : List Output) (ms : List (List ℕ)) : Type 0 where
   pub completed : completed_from None outs ≡ ms
   pub begun : begun_from None outs ≡ None
 
-pub completes-none : Completes [] []
-completes-none = record { completed = refl; begun = refl }
+pub completes_none : Completes [] []
+completes_none = record { completed = refl; begun = refl }
 
-pub completes-append : (xs ys : List Output) (ms ns : List (List ℕ)) → Completes xs ms → Completes ys ns → Completes (xs ++ ys) (ms ++ ns)
-completes-append xs ys ms ns p q = record {
-  completed = completed-append None xs ys ∙ (λ i. p.completed i ++ completed_from (p.begun i) ys) ∙ ap (λ (zs : List (List ℕ)). ms ++ zs) q.completed;
-  begun = begun-append None xs ys ∙ ap (λ (b : Option (List ℕ)). begun_from b ys) p.begun ∙ q.begun;
+pub completes_append : (xs ys : List Output) (ms ns : List (List ℕ)) → Completes xs ms → Completes ys ns → Completes (xs ++ ys) (ms ++ ns)
+completes_append xs ys ms ns p q = record {
+  completed = completed_append None xs ys ∙ (λ i. p.completed i ++ completed_from (p.begun i) ys) ∙ ap (λ (zs : List (List ℕ)). ms ++ zs) q.completed;
+  begun = begun_append None xs ys ∙ ap (λ (b : Option (List ℕ)). begun_from b ys) p.begun ∙ q.begun;
 }
 
-pub completes-message : (msn : ℕ) (message : List ℕ) → Completes (message_outputs msn message) (message ∷ [])
-completes-message msn message =
+pub completes_message : (msn : ℕ) (message : List ℕ) → Completes (message_outputs msn message) (message ∷ [])
+completes_message msn message =
     let r = message_is_received nothing_received msn message refl in
     record {
-      completed = segments-completed nothing_received (message_segments msn message) ∙ r.messages;
-      begun = segments-begun nothing_received (message_segments msn message) ∙ ap (λ (h : ReceiveState). h.begun) r.state;
+      completed = segments_completed nothing_received (message_segments msn message) ∙ r.messages;
+      begun = segments_begun nothing_received (message_segments msn message) ∙ ap (λ (h : ReceiveState). h.begun) r.state;
     }
 
-pub completes-calls : (opened : LinkParameters) (msn : ℕ) (os : List OutstandingCall) → Completes (call_sends opened msn os) (map (message_of_call opened) os)
-completes-calls opened msn [] = completes-none
-completes-calls opened msn (o ∷ os) =
-    completes-append (message_outputs msn (message_of_call opened o)) (call_sends opened (msn + 1) os) (message_of_call opened o ∷ []) (map (message_of_call opened) os)
-    (completes-message msn (message_of_call opened o)) (completes-calls opened (msn + 1) os)
+pub completes_calls : (opened : LinkParameters) (msn : ℕ) (os : List OutstandingCall) → Completes (call_sends opened msn os) (map (message_of_call opened) os)
+completes_calls opened msn [] = completes_none
+completes_calls opened msn (o ∷ os) =
+    completes_append (message_outputs msn (message_of_call opened o)) (call_sends opened (msn + 1) os) (message_of_call opened o ∷ []) (map (message_of_call opened) os)
+    (completes_message msn (message_of_call opened o)) (completes_calls opened (msn + 1) os)
 
-pub completes-sends : (msn : ℕ) (ms : List (List ℕ)) → Completes (message_sends msn ms) ms
-completes-sends msn [] = completes-none
-completes-sends msn (m ∷ ms) = completes-append (message_outputs msn m) (message_sends (msn + 1) ms) (m ∷ []) ms (completes-message msn m) (completes-sends (msn + 1) ms)
+pub completes_sends : (msn : ℕ) (ms : List (List ℕ)) → Completes (message_sends msn ms) ms
+completes_sends msn [] = completes_none
+completes_sends msn (m ∷ ms) = completes_append (message_outputs msn m) (message_sends (msn + 1) ms) (m ∷ []) ms (completes_message msn m) (completes_sends (msn + 1) ms)
 
-pub completes-requests : (msn : ℕ) (reads : List PendingRead) → Completes (request_outputs msn reads) []
-completes-requests msn [] = completes-none
-completes-requests msn (r ∷ reads) = (let q = completes-requests (msn + 1) reads in record { completed = q.completed; begun = q.begun })
+pub completes_requests : (msn : ℕ) (reads : List PendingRead) → Completes (request_outputs msn reads) []
+completes_requests msn [] = completes_none
+completes_requests msn (r ∷ reads) = (let q = completes_requests (msn + 1) reads in record { completed = q.completed; begun = q.begun })
 
-pub completes-tagged : (segments : List Segment) → AreTagged segments → Completes (map ASegment segments) []
-completes-tagged [] h = completes-none
-completes-tagged (Tagged last opcode stag to payload ∷ segments) h = (let q = completes-tagged segments h in record { completed = q.completed; begun = q.begun })
-completes-tagged (Untagged last opcode w queue msn offset payload ∷ segments) h = absurd h
+pub completes_tagged : (segments : List Segment) → AreTagged segments → Completes (map ASegment segments) []
+completes_tagged [] h = completes_none
+completes_tagged (Tagged last opcode stag to payload ∷ segments) h = (let q = completes_tagged segments h in record { completed = q.completed; begun = q.begun })
+completes_tagged (Untagged last opcode w queue msn offset payload ∷ segments) h = absurd h
 
-pub completes-final : (end : Stop) → Completes (final_outputs end) []
-completes-final (ends.Bad at reason) = by (is_hello_reason reason)
+pub completes_final : (end : Stop) → Completes (final_outputs end) []
+completes_final (ends.Bad at reason) = by (is_hello_reason reason)
   where
     by : (b : Bool) → Completes (cond b [] (ASegment (terminate_segment reason) ∷ [])) []
-    by true = completes-none
+    by true = completes_none
     by false = record { completed = refl; begun = refl }
-completes-final (ends.Denied stag offset why) = record { completed = refl; begun = refl }
-completes-final (ends.NoBuffer msn) = record { completed = refl; begun = refl }
-completes-final (ends.Terminated reason) = completes-none
-completes-final ends.Memory = completes-none
+completes_final (ends.Denied stag offset why) = record { completed = refl; begun = refl }
+completes_final (ends.NoBuffer msn) = record { completed = refl; begun = refl }
+completes_final (ends.Terminated reason) = completes_none
+completes_final ends.Memory = completes_none

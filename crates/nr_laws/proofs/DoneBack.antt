@@ -14,81 +14,81 @@ use Rattle.nr_reduce.specs.declared.mark.Mark.TheVariants as marks
 use Rattle.nr_reduce.specs.declared.mark.LinkParameters.{LinkParameters}
 use Rattle.nr_reduce.specs.History.{CompletedCall, is_abandoned}
 use Rattle.nr_reduce.specs.Plans.{Buffer, buffers}
-use Rattle.nr_reduce.specs.Events.{Event, events}
-use Rattle.nr_reduce.specs.Events.Event.{FrameReceived, CallSubmitted, MemoryRevoked, CallExecuted, QueueWritten}
+use Rattle.nr_reduce.specs.Events.{RunEvent, events}
+use Rattle.nr_reduce.specs.Events.RunEvent.{FrameReceived, CallSubmitted, MemoryRevoked, CallExecuted, QueueWritten}
 use Rattle.nr_reduce.specs.EndRules.{EndState, next_end_state, next_end_state_by, next_end_state_in, end_state_after}
 use Rattle.nr_reduce.specs.OfferedRegions.{Region, until_at, closed_if, regions_closed}
-use Rattle.nr_reduce.specs.ClientState.{ClientState, OutstandingCall, memory_at}
+use Rattle.nr_reduce.specs.ClientState.{ClientState, OutstandingCall, client_memory_at}
 use Rattle.nr_reduce.specs.Client.{client_rules, client_end, client_state_after, initial_client, outstanding_of, region_of, revoked_call, with_message, with_segment, with_hello, due_with_response}
 use Rattle.nr_reduce.specs.SubmitAnswer.{next_xid}
 use Rattle.nr_reduce.specs.Matched.{IsPrefixOf}
 use Rattle.nr_reduce.specs.Asked.{AskedMark, AskedSoFar, IsCompleted}
 use Rattle.nr_reduce.specs.Run.{client, placed_bytes}
-use Rattle.nr_reduce.proofs.Placing.{segment-accepted}
-use Rattle.nr_reduce.proofs.Steps.{end_state_after-append}
+use Rattle.nr_reduce.proofs.Placing.{segment_accepted}
+use Rattle.nr_reduce.proofs.Steps.{end_state_after_append}
 use Rattle.nr_laws.specs.Typed.{TypedMark, IsTyped}
 use Rattle.nr_laws.specs.ClientRegions.{IsMessageOf, IsClosedForCall}
 use Rattle.nr_laws.specs.HandedBack.{Stands, DoneHandsBack}
-use Rattle.nr_laws.proofs.Along.{GoesOn, goes-first, goes-behind}
+use Rattle.nr_laws.proofs.EventOutputs.{GoesOn, goes_first, goes_behind}
 use Rattle.nr_laws.proofs.ClientSays.{ClientGood}
-use Rattle.nr_laws.proofs.ClientRun.{client-goes}
-use Rattle.nr_laws.proofs.DoneCalls.{GivesBy, gives-by, verdict-xid}
+use Rattle.nr_laws.proofs.ClientRun.{client_goes}
+use Rattle.nr_laws.proofs.DoneCalls.{GivesBy, gives_by, verdict_xid}
 use Rattle.nr_laws.proofs.ClosedForCalls.{client_regions_close_with_calls}
 use Rattle.nr_laws.proofs.HandedBack.{closed_regions_stand, closed_regions_hold_what_stood}
 use Rattle.nr_laws.proofs.LinkInvariants.{IsUnused, AreDistinct, AreAtMost}
-use Rattle.nr_laws.proofs.OnceByXid.{at-mark, before-mark}
-use Rattle.nr_laws.proofs.Outcomes.{client_by, WasGiven, outcome-given}
-use Rattle.nr_laws.proofs.OwnXids.{OwnXids, own_xids-came, own_xids-accepts, own_xids-writes}
-use Rattle.nr_laws.proofs.RevokedEvents.{NoRevoke, no-revoke, revoke-at}
-use Rattle.nr_laws.proofs.Revoked.{frame-regions, request-regions}
+use Rattle.nr_laws.proofs.OnceByXid.{at_mark, before_mark}
+use Rattle.nr_laws.proofs.Outcomes.{client_by, WasGiven, outcome_given}
+use Rattle.nr_laws.proofs.OwnXids.{OwnXids, own_xids_came, own_xids_accepts, own_xids_writes}
+use Rattle.nr_laws.proofs.RevokedEvents.{NoRevoke, no_revoke, revoke_at}
+use Rattle.nr_laws.proofs.Revoked.{frame_regions, request_regions}
 
 -- ---- The xids of outstanding calls are below the one that is given next
 
-xid-revoked : (w : ℕ) (o : OutstandingCall) → (revoked_call w o).xid ≡ o.xid
-xid-revoked w o = by (eqb o.xid w)
+xid_revoked : (w : ℕ) (o : OutstandingCall) → (revoked_call w o).xid ≡ o.xid
+xid_revoked w o = by (eqb o.xid w)
   where
     by : (b : Bool) → (cond b (record o { is_revoked = true }) o).xid ≡ o.xid
     by true = refl
     by false = refl
 
-absent-revoked : (w n : ℕ) (os : List OutstandingCall) → IsUnused (λ (o : OutstandingCall). o.xid) n os → IsUnused (λ (o : OutstandingCall). o.xid) n (map (revoked_call w) os)
-absent-revoked w n [] h = tt
-absent-revoked w n (o ∷ os) h = ((λ e. h.0 (sym (xid-revoked w o) ∙ e)), absent-revoked w n os h.1)
+absent_revoked : (w n : ℕ) (os : List OutstandingCall) → IsUnused (λ (o : OutstandingCall). o.xid) n os → IsUnused (λ (o : OutstandingCall). o.xid) n (map (revoked_call w) os)
+absent_revoked w n [] h = tt
+absent_revoked w n (o ∷ os) h = ((λ e. h.0 (sym (xid_revoked w o) ∙ e)), absent_revoked w n os h.1)
 
-apart-revoked : (w : ℕ) (os : List OutstandingCall) → AreDistinct (λ (o : OutstandingCall). o.xid) os → AreDistinct (λ (o : OutstandingCall). o.xid) (map (revoked_call w) os)
-apart-revoked w [] h = tt
-apart-revoked w (o ∷ os) h = (subst (λ (n : ℕ). IsUnused (λ (x : OutstandingCall). x.xid) n (map (revoked_call w) os)) (sym (xid-revoked w o)) (absent-revoked w o.xid os h.0), apart-revoked w os h.1)
+apart_revoked : (w : ℕ) (os : List OutstandingCall) → AreDistinct (λ (o : OutstandingCall). o.xid) os → AreDistinct (λ (o : OutstandingCall). o.xid) (map (revoked_call w) os)
+apart_revoked w [] h = tt
+apart_revoked w (o ∷ os) h = (subst (λ (n : ℕ). IsUnused (λ (x : OutstandingCall). x.xid) n (map (revoked_call w) os)) (sym (xid_revoked w o)) (absent_revoked w o.xid os h.0), apart_revoked w os h.1)
 
-below-revoked : (w n : ℕ) (os : List OutstandingCall) → AreAtMost (λ (o : OutstandingCall). o.xid + 1) n os → AreAtMost (λ (o : OutstandingCall). o.xid + 1) n (map (revoked_call w) os)
-below-revoked w n [] h = tt
-below-revoked w n (o ∷ os) h = (let same = xid-revoked w o in let low = h.0 in (omega (arith, same, low), below-revoked w n os h.1))
+below_revoked : (w n : ℕ) (os : List OutstandingCall) → AreAtMost (λ (o : OutstandingCall). o.xid + 1) n os → AreAtMost (λ (o : OutstandingCall). o.xid + 1) n (map (revoked_call w) os)
+below_revoked w n [] h = tt
+below_revoked w n (o ∷ os) h = (let same = xid_revoked w o in let low = h.0 in (omega (arith, same, low), below_revoked w n os h.1))
 
-own-event : (opened : LinkParameters) (k : ClientState) (ended : Option Stop) (e : Event) → ClientGood opened (record { state = k; ended = ended }) e → OwnXids opened k → OwnXids opened (client_state_after opened k e)
+own_event : (opened : LinkParameters) (k : ClientState) (ended : Option Stop) (e : RunEvent) → ClientGood opened (record { state = k; ended = ended }) e → OwnXids opened k → OwnXids opened (client_state_after opened k e)
 unfolding client_state_after
-own-event opened k ended (FrameReceived f) good h = own_xids-came opened k f h
-own-event opened k ended (CallSubmitted p a) good h = own_xids-accepts opened k p a good.next h
-own-event opened k ended (MemoryRevoked p xid) good h = record { apart = apart-revoked xid k.outstanding h.apart; below = below-revoked xid (next_xid opened k) k.outstanding h.below }
-own-event opened k ended (CallExecuted e) good h = h
-own-event opened k ended (QueueWritten taken) good h = own_xids-writes taken opened k h
+own_event opened k ended (FrameReceived f) good h = own_xids_came opened k f h
+own_event opened k ended (CallSubmitted p a) good h = own_xids_accepts opened k p a good.next h
+own_event opened k ended (MemoryRevoked p xid) good h = record { apart = apart_revoked xid k.outstanding h.apart; below = below_revoked xid (next_xid opened k) k.outstanding h.below }
+own_event opened k ended (CallExecuted e) good h = h
+own_event opened k ended (QueueWritten taken) good h = own_xids_writes taken opened k h
 
 -- a fact that each event keeps
-keeps-next : (opened : LinkParameters) (P : ClientState → Type 0) → ((k : ClientState) (ended : Option Stop) (e : Event) → ClientGood opened (record { state = k; ended = ended }) e → P k → P (client_state_after opened k e))
-    → (k : ClientState) (ended : Option Stop) (e : Event) → ClientGood opened (record { state = k; ended = ended }) e → P k → P (next_end_state_in (client_rules opened) k e ended).state
-keeps-next opened P step k (Some end) e good h = h
-keeps-next opened P step k None e good h = by_why (client_end k e)
+keeps_next : (opened : LinkParameters) (P : ClientState → Type 0) → ((k : ClientState) (ended : Option Stop) (e : RunEvent) → ClientGood opened (record { state = k; ended = ended }) e → P k → P (client_state_after opened k e))
+    → (k : ClientState) (ended : Option Stop) (e : RunEvent) → ClientGood opened (record { state = k; ended = ended }) e → P k → P (next_end_state_in (client_rules opened) k e ended).state
+keeps_next opened P step k (Some end) e good h = h
+keeps_next opened P step k None e good h = by_why (client_end k e)
   where
     by_why : (o : Option Stop) → P (next_end_state_by (client_rules opened) k e o).state
     by_why None = step k None e good h
     by_why (Some end) = h
 
-keeps-all : (opened : LinkParameters) (P : ClientState → Type 0) → ((k : ClientState) (ended : Option Stop) (e : Event) → ClientGood opened (record { state = k; ended = ended }) e → P k → P (client_state_after opened k e))
-    → (place : ℕ) (r : EndState ClientState) (es : List Event) → GoesOn (client_rules opened) (ClientGood opened) place r es → P r.state → P (end_state_after (client_rules opened) r es).state
-keeps-all opened P step place r [] g h = h
-keeps-all opened P step place r (e ∷ es) g h = keeps-all opened P step _ (next_end_state (client_rules opened) r e) es g.2 (keeps-next opened P step r.state r.ended e g.1 h)
+keeps_all : (opened : LinkParameters) (P : ClientState → Type 0) → ((k : ClientState) (ended : Option Stop) (e : RunEvent) → ClientGood opened (record { state = k; ended = ended }) e → P k → P (client_state_after opened k e))
+    → (place : ℕ) (r : EndState ClientState) (es : List RunEvent) → GoesOn (client_rules opened) (ClientGood opened) place r es → P r.state → P (end_state_after (client_rules opened) r es).state
+keeps_all opened P step place r [] g h = h
+keeps_all opened P step place r (e ∷ es) g h = keeps_all opened P step _ (next_end_state (client_rules opened) r e) es g.2 (keeps_next opened P step r.state r.ended e g.1 h)
 
-found-below : (p : OutstandingCall → Bool) (n : ℕ) (os : List OutstandingCall) (o : OutstandingCall) → find p os ≡ Some o → AreAtMost (λ (x : OutstandingCall). x.xid + 1) n os → o.xid + 1 ≤ n
-found-below p n [] o e h = absurd (let wrong : None ≡ Some o = e in cc)
-found-below p n (x ∷ os) o e h = by (p x) e (λ g. found-below p n os o g h.1)
+found_below : (p : OutstandingCall → Bool) (n : ℕ) (os : List OutstandingCall) (o : OutstandingCall) → find p os ≡ Some o → AreAtMost (λ (x : OutstandingCall). x.xid + 1) n os → o.xid + 1 ≤ n
+found_below p n [] o e h = absurd (let wrong : None ≡ Some o = e in cc)
+found_below p n (x ∷ os) o e h = by (p x) e (λ g. found_below p n os o g h.1)
   where
     by : (b : Bool) → cond b (Some x) (find p os) ≡ Some o → (find p os ≡ Some o → o.xid + 1 ≤ n) → o.xid + 1 ≤ n
     by true e later = (let same : x ≡ o = (let s : Some x ≡ Some o = e in cc) in subst (λ (q : OutstandingCall). q.xid + 1 ≤ n) same h.0)
@@ -100,24 +100,24 @@ abbrev AreClosed : ℕ → List Region → Type 0
 AreClosed x [] = Unit {0}
 AreClosed x (r ∷ regions) = (r.call ≡ x → (place : ℕ) × (r.until ≡ Some place)) × AreClosed x regions
 
-closed-at : (x k : ℕ) (regions : List Region) (r : Region) → AreClosed x regions → k < length regions → slice_index_or regions k r ≡ r → r.call ≡ x → (place : ℕ) × (r.until ≡ Some place)
-closed-at x k [] r h lt is own = absurd (omega (arith, lt))
-closed-at x zero (y ∷ regions) r h lt is own = (let c = h.0 (ap (λ (q : Region). q.call) is ∙ own) in (c.0, ap (λ (q : Region). q.until) (sym is) ∙ c.1))
-closed-at x (suc k) (y ∷ regions) r h lt is own = closed-at x k regions r h.1 (omega (arith, lt)) is own
+closed_at : (x k : ℕ) (regions : List Region) (r : Region) → AreClosed x regions → k < length regions → slice_index_or regions k r ≡ r → r.call ≡ x → (place : ℕ) × (r.until ≡ Some place)
+closed_at x k [] r h lt is own = absurd (omega (arith, lt))
+closed_at x zero (y ∷ regions) r h lt is own = (let c = h.0 (ap (λ (q : Region). q.call) is ∙ own) in (c.0, ap (λ (q : Region). q.until) (sym is) ∙ c.1))
+closed_at x (suc k) (y ∷ regions) r h lt is own = closed_at x k regions r h.1 (omega (arith, lt)) is own
 
-closed-again : (test : Region → Bool) (place x : ℕ) (regions : List Region) → AreClosed x regions → AreClosed x (regions_closed test place regions)
+closed_again : (test : Region → Bool) (place x : ℕ) (regions : List Region) → AreClosed x regions → AreClosed x (regions_closed test place regions)
 unfolding regions_closed
-closed-again test place x [] h = tt
-closed-again test place x (r ∷ regions) h = (by (test r), closed-again test place x regions h.1)
+closed_again test place x [] h = tt
+closed_again test place x (r ∷ regions) h = (by (test r), closed_again test place x regions h.1)
   where
     by : (b : Bool) → (closed_if b place r).call ≡ x → (p : ℕ) × ((closed_if b place r).until ≡ Some p)
     by true own = (let c = h.0 own in (c.0, ap (λ (o : Option ℕ). until_at place o) c.1))
     by false own = h.0 own
 
-closed-now : (place x : ℕ) (regions : List Region) → AreClosed x (regions_closed (λ r. eqb r.call x) place regions)
+closed_now : (place x : ℕ) (regions : List Region) → AreClosed x (regions_closed (λ r. eqb r.call x) place regions)
 unfolding regions_closed
-closed-now place x [] = tt
-closed-now place x (r ∷ regions) = (by (eqb r.call x) refl, closed-now place x regions)
+closed_now place x [] = tt
+closed_now place x (r ∷ regions) = (by (eqb r.call x) refl, closed_now place x regions)
   where
     some : (o : Option ℕ) → (p : ℕ) × (until_at place o ≡ Some p)
     some None = (place, refl)
@@ -127,109 +127,109 @@ closed-now place x (r ∷ regions) = (by (eqb r.call x) refl, closed-now place x
     by true is own = some r.until
     by false is own = absurd (let wrong : false ≡ true = sym is ∙ eq-eqb r.call x own in cc)
 
-closed-append : (x : ℕ) (rs ss : List Region) → AreClosed x rs → AreClosed x ss → AreClosed x (rs ++ ss)
-closed-append x [] ss h g = g
-closed-append x (r ∷ rs) ss h g = (h.0, closed-append x rs ss h.1 g)
+closed_append : (x : ℕ) (rs ss : List Region) → AreClosed x rs → AreClosed x ss → AreClosed x (rs ++ ss)
+closed_append x [] ss h g = g
+closed_append x (r ∷ rs) ss h g = (h.0, closed_append x rs ss h.1 g)
 
-closed-new : (x xid place : ℕ) (bs : List Buffer) → x < xid → AreClosed x (map (region_of xid place) bs)
-closed-new x xid place [] lt = tt
-closed-new x xid place (b ∷ bs) lt = ((λ own. absurd (omega (arith, own, lt))), closed-new x xid place bs lt)
+closed_new : (x xid place : ℕ) (bs : List Buffer) → x < xid → AreClosed x (map (region_of xid place) bs)
+closed_new x xid place [] lt = tt
+closed_new x xid place (b ∷ bs) lt = ((λ own. absurd (omega (arith, own, lt))), closed_new x xid place bs lt)
 
 record HasClosedRegions (opened : LinkParameters) (x : ℕ) (k : ClientState) : Type 0 where
   regions : AreClosed x k.regions
   low : x < next_xid opened k
 
-closed-event : (opened : LinkParameters) (x : ℕ) (k : ClientState) (ended : Option Stop) (e : Event) → ClientGood opened (record { state = k; ended = ended }) e → HasClosedRegions opened x k → HasClosedRegions opened x (client_state_after opened k e)
+closed_event : (opened : LinkParameters) (x : ℕ) (k : ClientState) (ended : Option Stop) (e : RunEvent) → ClientGood opened (record { state = k; ended = ended }) e → HasClosedRegions opened x k → HasClosedRegions opened x (client_state_after opened k e)
 unfolding client_state_after
-closed-event opened x k ended (FrameReceived f) good h = by (is_hello f)
+closed_event opened x k ended (FrameReceived f) good h = by (is_hello f)
   where
     by : (b : Bool) → HasClosedRegions opened x (cond b (with_hello opened k) (with_segment k f (frame_segment f)))
     by true = record { regions = h.regions; low = h.low }
-    by false = (let same = segment-accepted k f (frame_segment f) in let low = h.low in record {
-      regions = frame-regions (λ (rs : List Region). AreClosed x rs) k f (λ test. closed-again test f.end x k.regions) h.regions (frame_segment f);
+    by false = (let same = segment_accepted k f (frame_segment f) in let low = h.low in record {
+      regions = frame_regions (λ (rs : List Region). AreClosed x rs) k f (λ test. closed_again test f.end x k.regions) h.regions (frame_segment f);
       low = omega (arith, same, low);
     })
-closed-event opened x k ended (CallSubmitted p a) good h =
+closed_event opened x k ended (CallSubmitted p a) good h =
     let low = h.low in
     let next = good.next in
     record {
-      regions = closed-append x k.regions (map (region_of a.xid p) (buffers k.stag (outstanding_of k a).plan)) h.regions (closed-new x a.xid p (buffers k.stag (outstanding_of k a).plan) (omega (arith, low, next)));
+      regions = closed_append x k.regions (map (region_of a.xid p) (buffers k.stag (outstanding_of k a).plan)) h.regions (closed_new x a.xid p (buffers k.stag (outstanding_of k a).plan) (omega (arith, low, next)));
       low = omega (arith, low);
     }
-closed-event opened x k ended (MemoryRevoked p xid) good h = record { regions = closed-again (λ r. eqb r.call xid) p x k.regions h.regions; low = h.low }
-closed-event opened x k ended (CallExecuted e) good h = h
-closed-event opened x k ended (QueueWritten taken) good h = record { regions = h.regions; low = h.low }
+closed_event opened x k ended (MemoryRevoked p xid) good h = record { regions = closed_again (λ r. eqb r.call xid) p x k.regions h.regions; low = h.low }
+closed_event opened x k ended (CallExecuted e) good h = h
+closed_event opened x k ended (QueueWritten taken) good h = record { regions = h.regions; low = h.low }
 
-closed-message : (k : ClientState) (f : Frame) (s : Segment) (message : List ℕ) (x : ℕ) → message_completed k.received s ≡ Some message → x ≡ word_at 0 message → AreClosed x (with_segment k f (Ok s)).regions
-closed-message k f s message x whole own =
-    subst (λ (rs : List Region). AreClosed x rs) (sym (request-regions (with_message k f.end (message_completed k.received s)) (due_with_response k f s) (read_request_of s)))
+closed_message : (k : ClientState) (f : Frame) (s : Segment) (message : List ℕ) (x : ℕ) → message_completed k.received s ≡ Some message → x ≡ word_at 0 message → AreClosed x (with_segment k f (Ok s)).regions
+closed_message k f s message x whole own =
+    subst (λ (rs : List Region). AreClosed x rs) (sym (request_regions (with_message k f.end (message_completed k.received s)) (due_with_response k f s) (read_request_of s)))
     (subst (λ (o : Option (List ℕ)). AreClosed x (with_message k f.end o).regions) (sym whole)
-    (subst (λ (n : ℕ). AreClosed x (regions_closed (λ r. eqb r.call n) f.end k.regions)) own (closed-now f.end x k.regions)))
+    (subst (λ (n : ℕ). AreClosed x (regions_closed (λ r. eqb r.call n) f.end k.regions)) own (closed_now f.end x k.regions)))
 
-closed-frame : (opened : LinkParameters) (k : ClientState) (f : Frame) (s : Segment) (message : List ℕ) (x : ℕ) → is_hello f ≡ false → frame_segment f ≡ Ok s → message_completed k.received s ≡ Some message → x ≡ word_at 0 message → x < next_xid opened k
+closed_frame : (opened : LinkParameters) (k : ClientState) (f : Frame) (s : Segment) (message : List ℕ) (x : ℕ) → is_hello f ≡ false → frame_segment f ≡ Ok s → message_completed k.received s ≡ Some message → x ≡ word_at 0 message → x < next_xid opened k
     → HasClosedRegions opened x (client_state_after opened k (FrameReceived f))
 unfolding client_state_after
-closed-frame opened k f s message x behind is whole own low =
+closed_frame opened k f s message x behind is whole own low =
     subst (λ (b : Bool). HasClosedRegions opened x (cond b (with_hello opened k) (with_segment k f (frame_segment f)))) (sym behind)
     (subst (λ (r : Result Segment ℕ). HasClosedRegions opened x (with_segment k f r)) (sym is)
-    (let same = segment-accepted k f (Ok s) in record { regions = closed-message k f s message x whole own; low = omega (arith, same, low) }))
+    (let same = segment_accepted k f (Ok s) in record { regions = closed_message k f s message x whole own; low = omega (arith, same, low) }))
 
-start-own : (opened : LinkParameters) → OwnXids opened (initial_client opened).state
-start-own opened = record { apart = tt; below = tt }
+start_own : (opened : LinkParameters) → OwnXids opened (initial_client opened).state
+start_own opened = record { apart = tt; below = tt }
 
-closed-by-outcome : (opened : LinkParameters) (link : ℕ) (run : List Mark) (c : CompletedCall) → IsTyped run → AskedSoFar opened link run → WasGiven opened (events link Initiator run) c → HasClosedRegions opened c.xid (client opened link run).state
+closed_by_outcome : (opened : LinkParameters) (link : ℕ) (run : List Mark) (c : CompletedCall) → IsTyped run → AskedSoFar opened link run → WasGiven opened (events link Initiator run) c → HasClosedRegions opened c.xid (client opened link run).state
 unfolding client
-closed-by-outcome opened link run c typed asked w =
+closed_by_outcome opened link run c typed asked w =
     let rules = client_rules opened in
     let before : EndState ClientState = client_by opened w.earlier in
     let k : ClientState = before.state in
-    let g = client-goes opened link run typed asked in
-    let all : GoesOn rules (ClientGood opened) 0 (initial_client opened) (w.earlier ++ FrameReceived w.frame ∷ w.later) = subst (λ (es : List Event). GoesOn rules (ClientGood opened) 0 (initial_client opened) es) w.is g.goes in
-    let rest = goes-behind rules (ClientGood opened) 0 (initial_client opened) w.earlier (FrameReceived w.frame ∷ w.later) all in
-    let numbers : OwnXids opened k = keeps-all opened (λ (t : ClientState). OwnXids opened t) (own-event opened) 0 (initial_client opened) w.earlier (goes-first rules (ClientGood opened) 0 (initial_client opened) w.earlier (FrameReceived w.frame ∷ w.later) all) (start-own opened) in
-    let by : GivesBy k w.frame.end w.message c.xid (Some c.outcome) = gives-by k w.frame.end w.message c.xid (Some c.outcome) w.given in
-    let under = found-below _ (next_xid opened k) k.outstanding by.call by.is_call numbers.below in
+    let g = client_goes opened link run typed asked in
+    let all : GoesOn rules (ClientGood opened) 0 (initial_client opened) (w.earlier ++ FrameReceived w.frame ∷ w.later) = subst (λ (es : List RunEvent). GoesOn rules (ClientGood opened) 0 (initial_client opened) es) w.is g.goes in
+    let rest = goes_behind rules (ClientGood opened) 0 (initial_client opened) w.earlier (FrameReceived w.frame ∷ w.later) all in
+    let numbers : OwnXids opened k = keeps_all opened (λ (t : ClientState). OwnXids opened t) (own_event opened) 0 (initial_client opened) w.earlier (goes_first rules (ClientGood opened) 0 (initial_client opened) w.earlier (FrameReceived w.frame ∷ w.later) all) (start_own opened) in
+    let by : GivesBy k w.frame.end w.message c.xid (Some c.outcome) = gives_by k w.frame.end w.message c.xid (Some c.outcome) w.given in
+    let under = found_below _ (next_xid opened k) k.outstanding by.call by.is_call numbers.below in
     let same = by.call_xid in
     let now : HasClosedRegions opened c.xid (client_state_after opened k (FrameReceived w.frame)) =
-    closed-frame opened k w.frame w.segment w.message c.xid w.behind w.is_segment w.whole (verdict-xid k w.frame.end w.message c.xid (Some c.outcome) w.given) (omega (arith, under, same)) in
+    closed_frame opened k w.frame w.segment w.message c.xid w.behind w.is_segment w.whole (verdict_xid k w.frame.end w.message c.xid (Some c.outcome) w.given) (omega (arith, under, same)) in
     let after : EndState ClientState = next_end_state rules before (FrameReceived w.frame) in
     let is_after : after ≡ record { state = client_state_after opened k (FrameReceived w.frame); ended = None } =
     ap (λ (o : Option Stop). next_end_state_in rules k (FrameReceived w.frame) o) w.live ∙ ap (λ (o : Option Stop). next_end_state_by rules k (FrameReceived w.frame) o) w.stays in
-    let final : client_by opened (events link Initiator run) ≡ end_state_after rules after w.later = ap (λ (es : List Event). client_by opened es) w.is ∙ end_state_after-append rules (initial_client opened) w.earlier (FrameReceived w.frame ∷ w.later) in
+    let final : client_by opened (events link Initiator run) ≡ end_state_after rules after w.later = ap (λ (es : List RunEvent). client_by opened es) w.is ∙ end_state_after_append rules (initial_client opened) w.earlier (FrameReceived w.frame ∷ w.later) in
     subst (λ (r : EndState ClientState). HasClosedRegions opened c.xid r.state) (sym final)
-    (keeps-all opened (λ (t : ClientState). HasClosedRegions opened c.xid t) (closed-event opened c.xid) w.frame.end after w.later rest.2 (subst (λ (r : EndState ClientState). HasClosedRegions opened c.xid r.state) (sym is_after) now))
+    (keeps_all opened (λ (t : ClientState). HasClosedRegions opened c.xid t) (closed_event opened c.xid) w.frame.end after w.later rest.2 (subst (λ (r : EndState ClientState). HasClosedRegions opened c.xid r.state) (sym is_after) now))
 
 -- A region of a call that wasn't given up was closed by the call's message, and holds what it held at the end of that frame.
-closing-message : (opened : LinkParameters) (link : ℕ) (run : List Mark) (r : Region) (place : ℕ) → is_abandoned link r.call run ≡ false → (c : IsClosedForCall opened (events link Initiator run) r place)
+closing_message : (opened : LinkParameters) (link : ℕ) (run : List Mark) (r : Region) (place : ℕ) → is_abandoned link r.call run ≡ false → (c : IsClosedForCall opened (events link Initiator run) r place)
     → IsMessageOf (client_by opened c.earlier).state c.event r.call place
-closing-message opened link run r place kept c = by c.why
+closing_message opened link run r place kept c = by c.why
   where
     by : IsMessageOf (client_by opened c.earlier).state c.event r.call place ⊎ (c.event ≡ MemoryRevoked place r.call) → IsMessageOf (client_by opened c.earlier).state c.event r.call place
     by (inl m) = m
     by (inr revoked) =
-        absurd (revoke-at r.call place c.earlier c.later (subst (NoRevoke r.call) (c.is_received ∙ ap (λ (e : Event). c.earlier ++ e ∷ c.later) revoked) (no-revoke link r.call run kept)))
+        absurd (revoke_at r.call place c.earlier c.later (subst (NoRevoke r.call) (c.is_received ∙ ap (λ (e : RunEvent). c.earlier ++ e ∷ c.later) revoked) (no_revoke link r.call run kept)))
 
-held-at-message : (opened : LinkParameters) (link : ℕ) (run : List Mark) (r : Region) (place : ℕ) → IsTyped run → AskedSoFar opened link run → (c : IsClosedForCall opened (events link Initiator run) r place)
-    → IsMessageOf (client_by opened c.earlier).state c.event r.call place → placed_bytes opened link Initiator run r.stag ≡ memory_at (client_by opened c.earlier).state place r.stag
-held-at-message opened link run r place typed asked c m =
+held_at_message : (opened : LinkParameters) (link : ℕ) (run : List Mark) (r : Region) (place : ℕ) → IsTyped run → AskedSoFar opened link run → (c : IsClosedForCall opened (events link Initiator run) r place)
+    → IsMessageOf (client_by opened c.earlier).state c.event r.call place → placed_bytes opened link Initiator run r.stag ≡ client_memory_at (client_by opened c.earlier).state place r.stag
+held_at_message opened link run r place typed asked c m =
     closed_regions_hold_what_stood opened link run c.earlier c.later m.frame m.segment m.message (record r { until = None }) typed asked
-    (c.is_received ∙ ap (λ (e : Event). c.earlier ++ e ∷ c.later) m.is)
-    (subst (λ (e : Event). (next_end_state (client_rules opened) (client_by opened c.earlier) e).ended ≡ None) m.is c.stays)
+    (c.is_received ∙ ap (λ (e : RunEvent). c.earlier ++ e ∷ c.later) m.is)
+    (subst (λ (e : RunEvent). (next_end_state (client_rules opened) (client_by opened c.earlier) e).ended ≡ None) m.is c.stays)
     m.behind_hello m.is_segment m.whole m.own c.was_live refl
-    ∙ ap (λ (n : ℕ). memory_at (client_by opened c.earlier).state n r.stag) m.ends_there
+    ∙ ap (λ (n : ℕ). client_memory_at (client_by opened c.earlier).state n r.stag) m.ends_there
 
 pub done_hands_back : DoneHandsBack
 done_hands_back opened link run before xid outcome r typed asked at there own =
     let mark : Mark = marks.Done link xid outcome in
-    let done : IsCompleted opened link before xid outcome = at-mark (AskedMark IsPrefixOf opened link) run before mark at.after at.is asked refl in
+    let done : IsCompleted opened link before xid outcome = at_mark (AskedMark IsPrefixOf opened link) run before mark at.after at.is asked refl in
     let c : CompletedCall = record { xid = xid; outcome = outcome } in
-    let all_closed = closed-by-outcome opened link before c (before-mark TypedMark run before mark at.after at.is typed) (before-mark (AskedMark IsPrefixOf opened link) run before mark at.after at.is asked)
-    (outcome-given opened link before c done.is_received) in
-    let closed = closed-at xid there.0 (client opened link before).state.regions r all_closed.regions there.1 there.2 own in
-    let typed_before = before-mark TypedMark run before mark at.after at.is typed in
-    let asked_before = before-mark (AskedMark IsPrefixOf opened link) run before mark at.after at.is asked in
+    let all_closed = closed_by_outcome opened link before c (before_mark TypedMark run before mark at.after at.is typed) (before_mark (AskedMark IsPrefixOf opened link) run before mark at.after at.is asked)
+    (outcome_given opened link before c done.is_received) in
+    let closed = closed_at xid there.0 (client opened link before).state.regions r all_closed.regions there.1 there.2 own in
+    let typed_before = before_mark TypedMark run before mark at.after at.is typed in
+    let asked_before = before_mark (AskedMark IsPrefixOf opened link) run before mark at.after at.is asked in
     let c : IsClosedForCall opened (events link Initiator before) r closed.0 = client_regions_close_with_calls opened link before r closed.0 there closed.1 in
-    let m = closing-message opened link before r closed.0 (ap (λ (n : ℕ). is_abandoned link n before) own ∙ done.awaited.kept) c in
+    let m = closing_message opened link before r closed.0 (ap (λ (n : ℕ). is_abandoned link n before) own ∙ done.awaited.kept) c in
     let still : Stands opened link run before r = subst (λ (whole : List Mark). Stands opened link whole before r) (sym at.is)
     (closed_regions_stand opened link before (mark ∷ at.after) r closed.0 (subst IsTyped at.is typed) (subst (λ (whole : List Mark). AskedSoFar opened link whole) at.is asked) there closed.1) in
     record {
@@ -237,6 +237,6 @@ done_hands_back opened link run before xid outcome r typed asked at there own =
       closed = closed.1;
       closes = c;
       message = m;
-      stood = still ∙ held-at-message opened link before r closed.0 typed_before asked_before c m;
+      stood = still ∙ held_at_message opened link before r closed.0 typed_before asked_before c m;
       stands = still;
     }

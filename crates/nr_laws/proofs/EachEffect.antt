@@ -35,35 +35,35 @@ pub record VerdictRule (P : Verdict → Type 0) : Type 0 where
   pub chunks : P BadChunks
   pub pending : (c : PendingCall) → P (MakesPending c)
 
-verdict-if : (P : Verdict → Type 0) (b : Bool) (v w : Verdict) → P v → P w → P (cond b v w)
-verdict-if P true v w h g = h
-verdict-if P false v w h g = g
+verdict_if : (P : Verdict → Type 0) (b : Bool) (v w : Verdict) → P v → P w → P (cond b v w)
+verdict_if P true v w h g = h
+verdict_if P false v w h g = g
 
-need-rule : (P : Verdict → Type 0) → VerdictRule P → (k : ServerState) (c : PendingCall) → P (by_need k c)
-need-rule P h k c = verdict-if P (ltb 4294967296 (next_stag k + length (chunks_of c.lists))) (EndsLink 30) (MakesPending c) h.stags (h.pending c)
+need_rule : (P : Verdict → Type 0) → VerdictRule P → (k : ServerState) (c : PendingCall) → P (by_need k c)
+need_rule P h k c = verdict_if P (ltb 4294967296 (next_stag k + length (chunks_of c.lists))) (EndsLink 30) (MakesPending c) h.stags (h.pending c)
 
-stream-rule : (P : Verdict → Type 0) → VerdictRule P → (k : ServerState) (lists : ChunkLists) (xid : ℕ) (o : Option (List ℕ)) → P (by_stream k lists xid o)
-stream-rule P h k lists xid None = need-rule P h k (record { number = k.received.sends + 1; xid = xid; lists = lists; inline = None })
-stream-rule P h k lists xid (Some stream) =
-    verdict-if P (is_read_chunk_of_item stream lists.read) (by_need k (record { number = k.received.sends + 1; xid = xid; lists = lists; inline = Some stream })) BadChunks
-    (need-rule P h k (record { number = k.received.sends + 1; xid = xid; lists = lists; inline = Some stream })) h.chunks
+stream_rule : (P : Verdict → Type 0) → VerdictRule P → (k : ServerState) (lists : ChunkLists) (xid : ℕ) (o : Option (List ℕ)) → P (by_stream k lists xid o)
+stream_rule P h k lists xid None = need_rule P h k (record { number = k.received.sends + 1; xid = xid; lists = lists; inline = None })
+stream_rule P h k lists xid (Some stream) =
+    verdict_if P (is_read_chunk_of_item stream lists.read) (by_need k (record { number = k.received.sends + 1; xid = xid; lists = lists; inline = Some stream })) BadChunks
+    (need_rule P h k (record { number = k.received.sends + 1; xid = xid; lists = lists; inline = Some stream })) h.chunks
 
-header-rule : (P : Verdict → Type 0) → VerdictRule P → (k : ServerState) (message : List ℕ) (r : Result Header HeaderFault) → P (by_header k message r)
-header-rule P h k message (Err fault) = h.chunks
-header-rule P h k message (Ok header) = by header.xid header.body
+header_rule : (P : Verdict → Type 0) → VerdictRule P → (k : ServerState) (message : List ℕ) (r : Result Header HeaderFault) → P (by_header k message r)
+header_rule P h k message (Err fault) = h.chunks
+header_rule P h k message (Ok header) = by header.xid header.body
   where
     by : (xid : ℕ) (b : Body) → P (by_body k xid message b)
-    by xid (Msg lists at) = stream-rule P h k lists xid (Some (drop at message))
-    by xid (Nomsg lists) = verdict-if P (has_position lists.read) (by_stream k lists xid (no_stream lists.read)) BadChunks (stream-rule P h k lists xid (no_stream lists.read)) h.chunks
+    by xid (Msg lists at) = stream_rule P h k lists xid (Some (drop at message))
+    by xid (Nomsg lists) = verdict_if P (has_position lists.read) (by_stream k lists xid (no_stream lists.read)) BadChunks (stream_rule P h k lists xid (no_stream lists.read)) h.chunks
     by xid (ErrVers version low high) = h.chunks
     by xid (ErrChunk version) = h.chunks
 
-pub each-verdict : (P : Verdict → Type 0) → VerdictRule P → (k : ServerState) (message : List ℕ) → P (verdict k message)
+pub each_verdict : (P : Verdict → Type 0) → VerdictRule P → (k : ServerState) (message : List ℕ) → P (verdict k message)
 unfolding verdict
-each-verdict P h k message =
-    verdict-if P (not (eqb (word_at 4 message) 1)) OtherVersion _ h.version
-    (verdict-if P (eqb (word_at 12 message) 3 || eqb (word_at 12 message) 4) (EndsLink 17) _ h.kind
-    (verdict-if P (is_pending k (word_at 0 message)) (EndsLink 20) (by_header k message (header_of message)) h.again (header-rule P h k message (header_of message))))
+each_verdict P h k message =
+    verdict_if P (not (eqb (word_at 4 message) 1)) OtherVersion _ h.version
+    (verdict_if P (eqb (word_at 12 message) 3 || eqb (word_at 12 message) 4) (EndsLink 17) _ h.kind
+    (verdict_if P (is_pending k (word_at 0 message)) (EndsLink 20) (by_header k message (header_of message)) h.again (header_rule P h k message (header_of message))))
 
 -- ---- The effect of a frame
 
@@ -84,9 +84,9 @@ pub data EffectCase (k : ServerState) (f : Frame) (segment : Segment) (e : Frame
   OfCall : (r : PendingRead) (reads : List PendingRead) (c : PendingCall) → ends_response segment ≡ true → k.reads ≡ r ∷ reads → call_of_number k r.number ≡ Some c → e ≡ ready_if_whole (with_access k f segment) f.end c (read_over k reads)
       → EffectCase k f segment e
 
-response-case : (k : ServerState) (f : Frame) (segment : Segment) → ends_response segment ≡ true → (reads : List PendingRead) → k.reads ≡ reads → EffectCase k f segment (response_effect (with_access k f segment) f.end reads)
-response-case k f segment last [] is = Unchanged refl
-response-case k f segment last (r ∷ reads) is = by_call (call_of_number k r.number) refl
+response_case : (k : ServerState) (f : Frame) (segment : Segment) → ends_response segment ≡ true → (reads : List PendingRead) → k.reads ≡ reads → EffectCase k f segment (response_effect (with_access k f segment) f.end reads)
+response_case k f segment last [] is = Unchanged refl
+response_case k f segment last (r ∷ reads) is = by_call (call_of_number k r.number) refl
   where
     t : ServerState
     t = with_access k f segment
@@ -99,9 +99,9 @@ response-case k f segment last (r ∷ reads) is = by_call (call_of_number k r.nu
     by_call None found = OfRead r reads last is refl
     by_call (Some c) found = by_test c found (stream_refused k f segment r reads c) refl
 
-pub effect-case : (k : ServerState) (f : Frame) (segment : Segment) → frame_segment f ≡ Ok segment → EffectCase k f segment (frame_effect k f)
+pub effect_case : (k : ServerState) (f : Frame) (segment : Segment) → frame_segment f ≡ Ok segment → EffectCase k f segment (frame_effect k f)
 unfolding frame_effect
-effect-case k f segment is = subst (λ (r : Result Segment ℕ). EffectCase k f segment (effect_in k f r)) (sym is) (by segment)
+effect_case k f segment is = subst (λ (r : Result Segment ℕ). EffectCase k f segment (effect_in k f r)) (sym is) (by segment)
   where
     of_message : (s : Segment) (o : Option (List ℕ)) → message_completed k.received s ≡ o → EffectCase k f s (by_message k f.end o)
     of_message s None whole = Unchanged refl
@@ -114,7 +114,7 @@ effect-case k f segment is = subst (λ (r : Result Segment ℕ). EffectCase k f 
         s = Tagged last opcode stag to payload
 
         tagged : (b : Bool) → (eqb opcode OPCODE_READ_RESPONSE && last) ≡ b → EffectCase k f s (cond b (response_effect (with_access k f s) f.end k.reads) (no_effect (with_access k f s)))
-        tagged true own = response-case k f s own k.reads refl
+        tagged true own = response_case k f s own k.reads refl
         tagged false own = Unchanged refl
     by (Untagged last opcode w queue msn offset payload) = of_message (Untagged last opcode w queue msn offset payload) (message_completed k.received (Untagged last opcode w queue msn offset payload)) refl
 
@@ -134,75 +134,75 @@ pub record ResponseRule (k : ServerState) (P : FrameEffect → Type 0) : Type 0 
   pub read : (r : PendingRead) (reads : List PendingRead) → k.reads ≡ r ∷ reads → P (record (no_effect k) { reads = reads; kept = length (open_reads k) - 1 })
   pub refused : (r : PendingRead) (reads : List PendingRead) (c : PendingCall) → k.reads ≡ r ∷ reads → call_of_number k r.number ≡ Some c → P (with_refused_call k c (record (no_effect k) { reads = reads; kept = length (open_reads k) - 1 }))
 
-pub whole-rule : (P : FrameEffect → Type 0) (t : ServerState) (place : ℕ) (c : PendingCall) (s : FrameEffect) → (P s → P (with_verdict (by_payload c (payload_of t place c)) s)) → P s → P (ready_if_whole t place c s)
-whole-rule P t place c s judged h = by (is_read s.reads c.number)
+pub whole_rule : (P : FrameEffect → Type 0) (t : ServerState) (place : ℕ) (c : PendingCall) (s : FrameEffect) → (P s → P (with_verdict (by_payload c (payload_of t place c)) s)) → P s → P (ready_if_whole t place c s)
+whole_rule P t place c s judged h = by (is_read s.reads c.number)
   where
     by : (b : Bool) → P (cond b (with_verdict (by_payload c (payload_of t place c)) s) s)
     by true = judged h
     by false = h
 
-message-rule : (k : ServerState) (Good : List ℕ → Type 0) (P : FrameEffect → Type 0) → MessageRule k Good P → (place : ℕ) (message : List ℕ) (v : Verdict) → Good message → verdict k message ≡ v → P (message_effect k place message v)
-message-rule k Good P h place message (EndsLink reason) good is = h.ends message reason good is
-message-rule k Good P h place message OtherVersion good is = h.version message good
-message-rule k Good P h place message BadChunks good is = h.chunks message good
-message-rule k Good P h place message (MakesPending c) good is =
-    whole-rule P k place c (record (no_effect k) { calls = k.calls ++ c ∷ []; reads = k.reads ++ reads_of (k.regions ++ regions_of k place c) c; regions = k.regions ++ regions_of k place c }) (h.judged k place c _) (h.pending place message c good is)
+message_rule : (k : ServerState) (Good : List ℕ → Type 0) (P : FrameEffect → Type 0) → MessageRule k Good P → (place : ℕ) (message : List ℕ) (v : Verdict) → Good message → verdict k message ≡ v → P (message_effect k place message v)
+message_rule k Good P h place message (EndsLink reason) good is = h.ends message reason good is
+message_rule k Good P h place message OtherVersion good is = h.version message good
+message_rule k Good P h place message BadChunks good is = h.chunks message good
+message_rule k Good P h place message (MakesPending c) good is =
+    whole_rule P k place c (record (no_effect k) { calls = k.calls ++ c ∷ []; reads = k.reads ++ reads_of (k.regions ++ regions_of k place c) c; regions = k.regions ++ regions_of k place c }) (h.judged k place c _) (h.pending place message c good is)
 
 -- a tagged segment
-response-rule : (k : ServerState) (P : FrameEffect → Type 0) → ResponseRule k P → (f : Frame) (segment : Segment) (e : FrameEffect) → ((message : List ℕ) → message_completed k.received segment ≡ Some message → e ≡ message_effect k f.end message (verdict k message) → P e)
+response_rule : (k : ServerState) (P : FrameEffect → Type 0) → ResponseRule k P → (f : Frame) (segment : Segment) (e : FrameEffect) → ((message : List ℕ) → message_completed k.received segment ≡ Some message → e ≡ message_effect k f.end message (verdict k message) → P e)
     → EffectCase k f segment e → P e
-response-rule k P h f segment e of_message (Unchanged is) = subst P (sym is) h.unchanged
-response-rule k P h f segment e of_message (OfMessage message whole is) = of_message message whole is
-response-rule k P h f segment e of_message (OfRead r reads last own is) = subst P (sym is) (h.read r reads own)
-response-rule k P h f segment e of_message (OfRefusal r reads c last own found test is) = subst P (sym is) (h.refused r reads c own found)
-response-rule k P h f segment e of_message (OfCall r reads c last own found is) = subst P (sym is) (whole-rule P (with_access k f segment) f.end c (read_over k reads) (h.judged (with_access k f segment) f.end c (read_over k reads)) (h.read r reads own))
+response_rule k P h f segment e of_message (Unchanged is) = subst P (sym is) h.unchanged
+response_rule k P h f segment e of_message (OfMessage message whole is) = of_message message whole is
+response_rule k P h f segment e of_message (OfRead r reads last own is) = subst P (sym is) (h.read r reads own)
+response_rule k P h f segment e of_message (OfRefusal r reads c last own found test is) = subst P (sym is) (h.refused r reads c own found)
+response_rule k P h f segment e of_message (OfCall r reads c last own found is) = subst P (sym is) (whole_rule P (with_access k f segment) f.end c (read_over k reads) (h.judged (with_access k f segment) f.end c (read_over k reads)) (h.read r reads own))
 
-pub tagged-effect : (k : ServerState) (P : FrameEffect → Type 0) → ResponseRule k P → (f : Frame) (last : Bool) (opcode stag to : ℕ) (payload : List ℕ) → frame_segment f ≡ Ok (Tagged last opcode stag to payload) → P (frame_effect k f)
-tagged-effect k P h f last opcode stag to payload is = (let segment = Tagged last opcode stag to payload in response-rule k P h f segment (frame_effect k f) (λ message whole e. absurd cc) (effect-case k f segment is))
+pub tagged_effect_lem : (k : ServerState) (P : FrameEffect → Type 0) → ResponseRule k P → (f : Frame) (last : Bool) (opcode stag to : ℕ) (payload : List ℕ) → frame_segment f ≡ Ok (Tagged last opcode stag to payload) → P (frame_effect k f)
+tagged_effect_lem k P h f last opcode stag to payload is = (let segment = Tagged last opcode stag to payload in response_rule k P h f segment (frame_effect k f) (λ message whole e. absurd cc) (effect_case k f segment is))
 
 -- a Send of one segment
-pub send-effect : (k : ServerState) (Good : List ℕ → Type 0) (P : FrameEffect → Type 0) → MessageRule k Good P → (f : Frame) (message : List ℕ) → k.received.begun ≡ None → Good message
+pub send_effect : (k : ServerState) (Good : List ℕ → Type 0) (P : FrameEffect → Type 0) → MessageRule k Good P → (f : Frame) (message : List ℕ) → k.received.begun ≡ None → Good message
     → frame_segment f ≡ Ok (Untagged true OPCODE_SEND 0 QUEUE_SEND (msn_word (k.received.sends + 1)) 0 message) → P (frame_effect k f)
 unfolding frame_effect
-send-effect k Good P h f message none good is =
+send_effect k Good P h f message none good is =
     let whole : List ℕ = begun_bytes k.received.begun ++ message in
     let same : message ≡ whole = ap (λ (b : Option (List ℕ)). begun_bytes b ++ message) (sym none) in
-    subst (λ (r : Result Segment ℕ). P (effect_in k f r)) (sym is) (message-rule k Good P h f.end whole (verdict k whole) (subst Good same good) refl)
+    subst (λ (r : Result Segment ℕ). P (effect_in k f r)) (sym is) (message_rule k Good P h f.end whole (verdict k whole) (subst Good same good) refl)
 
-pub each-effect : (k : ServerState) (Good : List ℕ → Type 0) (P : FrameEffect → Type 0) → MessageRule k Good P → ResponseRule k P → (f : Frame)
+pub each_effect : (k : ServerState) (Good : List ℕ → Type 0) (P : FrameEffect → Type 0) → MessageRule k Good P → ResponseRule k P → (f : Frame)
     → ((s : Segment) (m : List ℕ) → frame_segment f ≡ Ok s → message_completed k.received s ≡ Some m → Good m) → P (frame_effect k f)
 unfolding frame_effect
-each-effect k Good P h g f good = by (frame_segment f) refl
+each_effect k Good P h g f good = by (frame_segment f) refl
   where
     by : (r : Result Segment ℕ) → frame_segment f ≡ r → P (effect_in k f r)
     by (Err reason) is = g.unchanged
     by (Ok segment) is =
         subst (λ (r : Result Segment ℕ). P (effect_in k f r)) is
-        (response-rule k P g f segment (effect_in k f (frame_segment f)) (λ message whole e. subst P (sym e) (message-rule k Good P h f.end message (verdict k message) (good segment message is whole) refl)) (effect-case k f segment is))
+        (response_rule k P g f segment (effect_in k f (frame_segment f)) (λ message whole e. subst P (sym e) (message_rule k Good P h f.end message (verdict k message) (good segment message is whole) refl)) (effect_case k f segment is))
 
 -- ---- Rules over what a server holds alone, which no verdict on a call changes
 
-judged-held : (Q : List PendingCall → List PendingRead → List Region → Type 0) (o : CallVerdict) (s : FrameEffect) → Q s.calls s.reads s.regions → Q (with_verdict o s).calls (with_verdict o s).reads (with_verdict o s).regions
-judged-held Q (Refuses reason) s h = h
-judged-held Q (IsReady r) s h = h
+judged_held : (Q : List PendingCall → List PendingRead → List Region → Type 0) (o : CallVerdict) (s : FrameEffect) → Q s.calls s.reads s.regions → Q (with_verdict o s).calls (with_verdict o s).reads (with_verdict o s).regions
+judged_held Q (Refuses reason) s h = h
+judged_held Q (IsReady r) s h = h
 
-pub held-messages : (k : ServerState) (Good : List ℕ → Type 0) (Q : List PendingCall → List PendingRead → List Region → Type 0) → Q k.calls k.reads k.regions
+pub held_messages : (k : ServerState) (Good : List ℕ → Type 0) (Q : List PendingCall → List PendingRead → List Region → Type 0) → Q k.calls k.reads k.regions
     → ((place : ℕ) (message : List ℕ) (c : PendingCall) → Good message → verdict k message ≡ MakesPending c → Q (k.calls ++ c ∷ []) (k.reads ++ reads_of (k.regions ++ regions_of k place c) c) (k.regions ++ regions_of k place c))
     → MessageRule k Good (λ s. Q s.calls s.reads s.regions)
-held-messages k Good Q same pending = record {
-  judged = λ t place c s h. judged-held Q (by_payload c (payload_of t place c)) s h;
+held_messages k Good Q same pending = record {
+  judged = λ t place c s h. judged_held Q (by_payload c (payload_of t place c)) s h;
   ends = λ message reason good is. same;
   version = λ message good. same;
   chunks = λ message good. same;
   pending = pending;
 }
 
-pub held-responses : (k : ServerState) (Q : List PendingCall → List PendingRead → List Region → Type 0) → Q k.calls k.reads k.regions
+pub held_responses : (k : ServerState) (Q : List PendingCall → List PendingRead → List Region → Type 0) → Q k.calls k.reads k.regions
     → ((c : PendingCall) (s : FrameEffect) → Q s.calls s.reads s.regions → Q (with_refused_call k c s).calls (with_refused_call k c s).reads s.regions) → ((r : PendingRead) (reads : List PendingRead) → k.reads ≡ r ∷ reads → Q k.calls reads k.regions)
     → ResponseRule k (λ s. Q s.calls s.reads s.regions)
-held-responses k Q same refused read = record {
+held_responses k Q same refused read = record {
   unchanged = same;
-  judged = λ t place c s h. judged-held Q (by_payload c (payload_of t place c)) s h;
+  judged = λ t place c s h. judged_held Q (by_payload c (payload_of t place c)) s h;
   read = read;
   refused = λ r reads c is found. refused c (record (no_effect k) { reads = reads; kept = length (open_reads k) - 1 }) (read r reads is);
 }

@@ -8,9 +8,9 @@ use Rattle.nr_reduce.specs.declared.mark.Mark.{Mark}
 use Rattle.nr_reduce.specs.declared.mark.Mark.TheVariants as marks
 use Rattle.nr_reduce.specs.declared.mark.LinkParameters.{LinkParameters}
 use Rattle.nr_reduce.specs.History.{bytes_sent, bytes_received}
-use Rattle.nr_reduce.specs.Events.{Event, if_own, events_at, events}
-use Rattle.nr_reduce.specs.EndRules.{EndState, Rules, end_state_after}
-use Rattle.nr_reduce.specs.ClientState.{initial_state as client_initial_state}
+use Rattle.nr_reduce.specs.Events.{RunEvent, if_own, events_at, events}
+use Rattle.nr_reduce.specs.EndRules.{EndState, EndMachine, end_state_after}
+use Rattle.nr_reduce.specs.ClientState.{initial_client_state as client_initial_state}
 use Rattle.nr_reduce.specs.ServerState.{initial_state as server_initial_state}
 use Rattle.nr_reduce.specs.Client.{client_rules}
 use Rattle.nr_reduce.specs.Server.{server_rules}
@@ -19,31 +19,31 @@ use Rattle.nr_reduce.specs.AtEachMark.{AtEachMark}
 use Rattle.nr_reduce.specs.Matched.{MatchedMark}
 use Rattle.nr_reduce.specs.Asked.{AskedMark, IsAll}
 use Rattle.nr_reduce.specs.Served.{ServedMark}
-use Rattle.nr_reduce.proofs.Steps.{client-one, server-one}
+use Rattle.nr_reduce.proofs.Steps.{client_one, server_one}
 use Rattle.nr_laws.specs.Typed.{TypedMark}
 use Rattle.nr_laws.proofs.FrameContents.FrameContent.{HelloFrame}
-use Rattle.nr_laws.proofs.TotalsAtClient.{totals-first}
+use Rattle.nr_laws.proofs.TotalsAtClient.{totals_first}
 use Rattle.nr_reduce.specs.Opening.{IsOpened}
 use Rattle.nr_laws.proofs.Guards.{Guards}
 use Rattle.nr_laws.proofs.OfferedAccesses.{AccessesAgree}
-use Rattle.nr_laws.proofs.AgreeingRuns.{place_of, RunAgrees, MarkAgrees, goes-on, goes-none, goes-fed_up, goes-fed_down}
-use Rattle.nr_laws.proofs.AgreeingMarks.{goes-submit, goes-wrote_up, goes-wrote_down, goes-execute, goes-revoke}
-use Rattle.nr_laws.proofs.Hears.{was-live}
+use Rattle.nr_laws.proofs.AgreeingRuns.{place_of, RunAgrees, MarkAgrees, goes_on_lem, goes_none, goes_fed_up, goes_fed_down}
+use Rattle.nr_laws.proofs.AgreeingMarks.{goes_submit, goes_wrote_up, goes_wrote_down, goes_execute, goes_revoke}
+use Rattle.nr_laws.proofs.ReceivedMessages.{was_live_lem}
 
 -- ---- A side that has ended stays so
 
-unended : {S : Type 0} (rules : Rules S) (state : List Mark → EndState S) (added : List Mark → Mark → List Event) → ((before : List Mark) (m : Mark) → state (before ++ m ∷ []) ≡ end_state_after rules (state before) (added before m)) → (before more : List Mark)
+unended : {S : Type 0} (rules : EndMachine S) (state : List Mark → EndState S) (added : List Mark → Mark → List RunEvent) → ((before : List Mark) (m : Mark) → state (before ++ m ∷ []) ≡ end_state_after rules (state before) (added before m)) → (before more : List Mark)
     → (state (before ++ more)).ended ≡ None → (state before).ended ≡ None
 unended rules state added one before [] e = ap (λ (run : List Mark). (state run).ended) (sym (append-nil before)) ∙ e
 unended {S} rules state added one before (m ∷ more) e =
     let later = unended rules state added one (before ++ m ∷ []) more (ap (λ (run : List Mark). (state run).ended) (append_assoc before (m ∷ []) more) ∙ e) in
-    was-live rules (state before) (added before m) (ap (λ (x : EndState S). x.ended) (sym (one before m)) ∙ later)
+    was_live_lem rules (state before) (added before m) (ap (λ (x : EndState S). x.ended) (sym (one before m)) ∙ later)
 
-pub client-unended : (opened : LinkParameters) (link : ℕ) (before more : List Mark) → (client opened link (before ++ more)).ended ≡ None → (client opened link before).ended ≡ None
-client-unended opened link before more e = unended (client_rules opened) (λ run. client opened link run) (λ earlier m. events_at link Initiator earlier m) (λ earlier m. client-one opened link earlier m) before more e
+pub client_unended : (opened : LinkParameters) (link : ℕ) (before more : List Mark) → (client opened link (before ++ more)).ended ≡ None → (client opened link before).ended ≡ None
+client_unended opened link before more e = unended (client_rules opened) (λ run. client opened link run) (λ earlier m. events_at link Initiator earlier m) (λ earlier m. client_one opened link earlier m) before more e
 
-pub server-unended : (opened : LinkParameters) (link : ℕ) (before more : List Mark) → (server opened link (before ++ more)).ended ≡ None → (server opened link before).ended ≡ None
-server-unended opened link before more e = unended (server_rules opened) (λ run. server opened link run) (λ earlier m. events_at link Responder earlier m) (λ earlier m. server-one opened link earlier m) before more e
+pub server_unended : (opened : LinkParameters) (link : ℕ) (before more : List Mark) → (server opened link (before ++ more)).ended ≡ None → (server opened link before).ended ≡ None
+server_unended opened link before more e = unended (server_rules opened) (λ run. server opened link run) (λ earlier m. events_at link Responder earlier m) (λ earlier m. server_one opened link earlier m) before more e
 
 -- ---- At the beginning
 
@@ -69,7 +69,7 @@ starts opened link = record {
     linked = record {
       parts_up = refl;
       parts_down = refl;
-      counts = totals-first opened;
+      counts = totals_first opened;
       waits = record { numbers = tt; xids = tt; calls_below = tt; reads_below = tt; ready_apart = tt; ready_calls = tt; whole_calls = tt };
       outs = record { apart = tt; below = tt };
       fits = tt;
@@ -96,7 +96,7 @@ starts opened link = record {
   };
   guards = λ o. record {
     server = record {
-      counts = totals-first opened;
+      counts = totals_first opened;
       reads = record { answered = []; asked = []; parts = refl; answers = (refl, refl); requests = refl };
       waits = record { numbers = tt; xids = tt; calls_below = tt; reads_below = tt; ready_apart = tt; ready_calls = tt; whole_calls = tt };
       sinks = tt;
@@ -111,7 +111,7 @@ starts opened link = record {
     within = record { fit = tt; few = lit< tt; small = tt };
     sinks = omega arith;
     xids = tt;
-    unsaid = λ e. tt;
+    no_hello-numbered = λ e. tt;
     numbers = tt;
     answered = record { once = λ x. omega arith; later = λ x le. omega arith; earlier = λ x lt. omega arith; open_calls = λ x le lt. absurd (omega (arith, le, lt)); room = omega (arith, o.xid_fits) };
     reached = ([], refl);
@@ -121,85 +121,85 @@ starts opened link = record {
 
 -- ---- Each mark
 
-pub no-events : (b c : Bool) (es : List Event) → b ≡ false → if_own (b && c) es ≡ []
-no-events true c es e = absurd cc
-no-events false c es e = refl
+pub no_events_lem : (b c : Bool) (es : List RunEvent) → b ≡ false → if_own (b && c) es ≡ []
+no_events_lem true c es e = absurd cc
+no_events_lem false c es e = refl
 
-no-bytes : (b c : Bool) (bytes : List ℕ) → b ≡ false → cond (b && c) bytes [] ≡ []
-no-bytes true c bytes e = absurd cc
-no-bytes false c bytes e = refl
+no_bytes_lem : (b c : Bool) (bytes : List ℕ) → b ≡ false → cond (b && c) bytes [] ≡ []
+no_bytes_lem true c bytes e = absurd cc
+no_bytes_lem false c bytes e = refl
 
-pub goes-mark : (opened : LinkParameters) (link : ℕ) (run : List Mark) (mark : Mark) (j : RunAgrees opened link run) → AskedMark IsAll opened link run mark → ServedMark IsAll opened link run mark → MatchedMark link run mark → TypedMark run mark
+pub goes_mark : (opened : LinkParameters) (link : ℕ) (run : List Mark) (mark : Mark) (j : RunAgrees opened link run) → AskedMark IsAll opened link run mark → ServedMark IsAll opened link run mark → MatchedMark link run mark → TypedMark run mark
     → (client opened link (run ++ mark ∷ [])).ended ≡ None → (server opened link (run ++ mark ∷ [])).ended ≡ None → MarkAgrees opened link run mark j
-goes-mark opened link run (marks.Submit l call form (submissions.Accepted xid)) j asked served matched typed up down = by (eqb l link) refl
+goes_mark opened link run (marks.Submit l call form (submissions.Accepted xid)) j asked served matched typed up down = by (eqb l link) refl
   where
     by : (b : Bool) → eqb l link ≡ b → MarkAgrees opened link run (marks.Submit l call form (submissions.Accepted xid)) j
     by true e =
         let same = eqb-true l link e in
-        subst (λ (n : ℕ). MarkAgrees opened link run (marks.Submit n call form (submissions.Accepted xid)) j) (sym same) (goes-submit opened link run call form xid j (asked same))
-    by false e = goes-none opened link run (marks.Submit l call form (submissions.Accepted xid)) j (no-events (eqb l link) true _ e) (no-events (eqb l link) false _ e) refl refl refl refl
-goes-mark opened link run (marks.Submit l call form (submissions.Refused why)) j asked served matched typed up down = goes-none opened link run (marks.Submit l call form (submissions.Refused why)) j refl refl refl refl refl refl
-goes-mark opened link run (marks.Submit l call form submissions.Dropped) j asked served matched typed up down = goes-none opened link run (marks.Submit l call form submissions.Dropped) j refl refl refl refl refl refl
-goes-mark opened link run (marks.Wrote l Initiator bytes) j asked served matched typed up down = by (eqb l link) refl
+        subst (λ (n : ℕ). MarkAgrees opened link run (marks.Submit n call form (submissions.Accepted xid)) j) (sym same) (goes_submit opened link run call form xid j (asked same))
+    by false e = goes_none opened link run (marks.Submit l call form (submissions.Accepted xid)) j (no_events_lem (eqb l link) true _ e) (no_events_lem (eqb l link) false _ e) refl refl refl refl
+goes_mark opened link run (marks.Submit l call form (submissions.Refused why)) j asked served matched typed up down = goes_none opened link run (marks.Submit l call form (submissions.Refused why)) j refl refl refl refl refl refl
+goes_mark opened link run (marks.Submit l call form submissions.Dropped) j asked served matched typed up down = goes_none opened link run (marks.Submit l call form submissions.Dropped) j refl refl refl refl refl refl
+goes_mark opened link run (marks.Wrote l Initiator bytes) j asked served matched typed up down = by (eqb l link) refl
   where
     by : (b : Bool) → eqb l link ≡ b → MarkAgrees opened link run (marks.Wrote l Initiator bytes) j
     by true e =
         let same = eqb-true l link e in
-        subst (λ (n : ℕ). MarkAgrees opened link run (marks.Wrote n Initiator bytes) j) (sym same) (goes-wrote_up opened link run bytes j (asked same))
-    by false e = goes-none opened link run (marks.Wrote l Initiator bytes) j (no-events (eqb l link) true _ e) (no-events (eqb l link) false _ e) refl refl (no-bytes (eqb l link) true bytes e) (no-bytes (eqb l link) false bytes e)
-goes-mark opened link run (marks.Wrote l Responder bytes) j asked served matched typed up down = by (eqb l link) refl
+        subst (λ (n : ℕ). MarkAgrees opened link run (marks.Wrote n Initiator bytes) j) (sym same) (goes_wrote_up opened link run bytes j (asked same))
+    by false e = goes_none opened link run (marks.Wrote l Initiator bytes) j (no_events_lem (eqb l link) true _ e) (no_events_lem (eqb l link) false _ e) refl refl (no_bytes_lem (eqb l link) true bytes e) (no_bytes_lem (eqb l link) false bytes e)
+goes_mark opened link run (marks.Wrote l Responder bytes) j asked served matched typed up down = by (eqb l link) refl
   where
     by : (b : Bool) → eqb l link ≡ b → MarkAgrees opened link run (marks.Wrote l Responder bytes) j
     by true e =
         let same = eqb-true l link e in
-        subst (λ (n : ℕ). MarkAgrees opened link run (marks.Wrote n Responder bytes) j) (sym same) (goes-wrote_down opened link run bytes j (served same))
-    by false e = goes-none opened link run (marks.Wrote l Responder bytes) j (no-events (eqb l link) false _ e) (no-events (eqb l link) true _ e) refl refl (no-bytes (eqb l link) false bytes e) (no-bytes (eqb l link) true bytes e)
-goes-mark opened link run (marks.Fed l Initiator bytes) j asked served matched typed up down = by (eqb l link) refl
+        subst (λ (n : ℕ). MarkAgrees opened link run (marks.Wrote n Responder bytes) j) (sym same) (goes_wrote_down opened link run bytes j (served same))
+    by false e = goes_none opened link run (marks.Wrote l Responder bytes) j (no_events_lem (eqb l link) false _ e) (no_events_lem (eqb l link) true _ e) refl refl (no_bytes_lem (eqb l link) false bytes e) (no_bytes_lem (eqb l link) true bytes e)
+goes_mark opened link run (marks.Fed l Initiator bytes) j asked served matched typed up down = by (eqb l link) refl
   where
     by : (b : Bool) → eqb l link ≡ b → MarkAgrees opened link run (marks.Fed l Initiator bytes) j
     by true e =
         let same = eqb-true l link e in
         subst (λ (n : ℕ). MarkAgrees opened link run (marks.Fed n Initiator bytes) j) (sym same)
-        (goes-fed_down opened link run bytes j (matched same) typed (ap (λ (n : ℕ). (client opened link (run ++ marks.Fed n Initiator bytes ∷ [])).ended) (sym same) ∙ up))
-    by false e = goes-none opened link run (marks.Fed l Initiator bytes) j (no-events (eqb l link) true _ e) (no-events (eqb l link) false _ e) (no-bytes (eqb l link) true bytes e) (no-bytes (eqb l link) false bytes e) refl refl
-goes-mark opened link run (marks.Fed l Responder bytes) j asked served matched typed up down = by (eqb l link) refl
+        (goes_fed_down opened link run bytes j (matched same) typed (ap (λ (n : ℕ). (client opened link (run ++ marks.Fed n Initiator bytes ∷ [])).ended) (sym same) ∙ up))
+    by false e = goes_none opened link run (marks.Fed l Initiator bytes) j (no_events_lem (eqb l link) true _ e) (no_events_lem (eqb l link) false _ e) (no_bytes_lem (eqb l link) true bytes e) (no_bytes_lem (eqb l link) false bytes e) refl refl
+goes_mark opened link run (marks.Fed l Responder bytes) j asked served matched typed up down = by (eqb l link) refl
   where
     by : (b : Bool) → eqb l link ≡ b → MarkAgrees opened link run (marks.Fed l Responder bytes) j
     by true e =
         let same = eqb-true l link e in
         subst (λ (n : ℕ). MarkAgrees opened link run (marks.Fed n Responder bytes) j) (sym same)
-        (goes-fed_up opened link run bytes j (matched same) typed (ap (λ (n : ℕ). (server opened link (run ++ marks.Fed n Responder bytes ∷ [])).ended) (sym same) ∙ down))
-    by false e = goes-none opened link run (marks.Fed l Responder bytes) j (no-events (eqb l link) false _ e) (no-events (eqb l link) true _ e) (no-bytes (eqb l link) false bytes e) (no-bytes (eqb l link) true bytes e) refl refl
-goes-mark opened link run (marks.Execute l xid moment payload place reply) j asked served matched typed up down = by (eqb l link) refl
+        (goes_fed_up opened link run bytes j (matched same) typed (ap (λ (n : ℕ). (server opened link (run ++ marks.Fed n Responder bytes ∷ [])).ended) (sym same) ∙ down))
+    by false e = goes_none opened link run (marks.Fed l Responder bytes) j (no_events_lem (eqb l link) false _ e) (no_events_lem (eqb l link) true _ e) (no_bytes_lem (eqb l link) false bytes e) (no_bytes_lem (eqb l link) true bytes e) refl refl
+goes_mark opened link run (marks.Execute l xid moment payload place reply) j asked served matched typed up down = by (eqb l link) refl
   where
     by : (b : Bool) → eqb l link ≡ b → MarkAgrees opened link run (marks.Execute l xid moment payload place reply) j
     by true e =
         let same = eqb-true l link e in
-        subst (λ (n : ℕ). MarkAgrees opened link run (marks.Execute n xid moment payload place reply) j) (sym same) (goes-execute opened link run xid moment payload place reply j (served same))
-    by false e = goes-none opened link run (marks.Execute l xid moment payload place reply) j (no-events (eqb l link) false _ e) (no-events (eqb l link) true _ e) refl refl refl refl
-goes-mark opened link run (marks.Done l xid outcome) j asked served matched typed up down = goes-none opened link run (marks.Done l xid outcome) j refl refl refl refl refl refl
-goes-mark opened link run (marks.Lost l xid) j asked served matched typed up down = goes-none opened link run (marks.Lost l xid) j refl refl refl refl refl refl
-goes-mark opened link run (marks.Forget l xid) j asked served matched typed up down = goes-none opened link run (marks.Forget l xid) j refl refl refl refl refl refl
-goes-mark opened link run (marks.Revoke l xid bytes) j asked served matched typed up down = by (eqb l link) refl
+        subst (λ (n : ℕ). MarkAgrees opened link run (marks.Execute n xid moment payload place reply) j) (sym same) (goes_execute opened link run xid moment payload place reply j (served same))
+    by false e = goes_none opened link run (marks.Execute l xid moment payload place reply) j (no_events_lem (eqb l link) false _ e) (no_events_lem (eqb l link) true _ e) refl refl refl refl
+goes_mark opened link run (marks.Done l xid outcome) j asked served matched typed up down = goes_none opened link run (marks.Done l xid outcome) j refl refl refl refl refl refl
+goes_mark opened link run (marks.Lost l xid) j asked served matched typed up down = goes_none opened link run (marks.Lost l xid) j refl refl refl refl refl refl
+goes_mark opened link run (marks.Forget l xid) j asked served matched typed up down = goes_none opened link run (marks.Forget l xid) j refl refl refl refl refl refl
+goes_mark opened link run (marks.Revoke l xid bytes) j asked served matched typed up down = by (eqb l link) refl
   where
     by : (b : Bool) → eqb l link ≡ b → MarkAgrees opened link run (marks.Revoke l xid bytes) j
-    by true e = subst (λ (n : ℕ). MarkAgrees opened link run (marks.Revoke n xid bytes) j) (sym (eqb-true l link e)) (goes-revoke opened link run xid bytes j)
-    by false e = goes-none opened link run (marks.Revoke l xid bytes) j (no-events (eqb l link) true _ e) (no-events (eqb l link) false _ e) refl refl refl refl
-goes-mark opened link run (marks.Drop l) j asked served matched typed up down = goes-none opened link run (marks.Drop l) j refl refl refl refl refl refl
+    by true e = subst (λ (n : ℕ). MarkAgrees opened link run (marks.Revoke n xid bytes) j) (sym (eqb-true l link e)) (goes_revoke opened link run xid bytes j)
+    by false e = goes_none opened link run (marks.Revoke l xid bytes) j (no_events_lem (eqb l link) true _ e) (no_events_lem (eqb l link) false _ e) refl refl refl refl
+goes_mark opened link run (marks.Drop l) j asked served matched typed up down = goes_none opened link run (marks.Drop l) j refl refl refl refl refl refl
 
 -- ---- Each run
 
-joins-from : (opened : LinkParameters) (link : ℕ) (run before : List Mark) → RunAgrees opened link before → AtEachMark (AskedMark IsAll opened link) before run → AtEachMark (ServedMark IsAll opened link) before run → AtEachMark (MatchedMark link) before run
+joins_from : (opened : LinkParameters) (link : ℕ) (run before : List Mark) → RunAgrees opened link before → AtEachMark (AskedMark IsAll opened link) before run → AtEachMark (ServedMark IsAll opened link) before run → AtEachMark (MatchedMark link) before run
     → AtEachMark TypedMark before run → (client opened link (before ++ run)).ended ≡ None → (server opened link (before ++ run)).ended ≡ None → RunAgrees opened link (before ++ run)
-joins-from opened link [] before j asked served matched typed up down = subst (RunAgrees opened link) (sym (append-nil before)) j
-joins-from opened link (m ∷ run) before j asked served matched typed up down =
+joins_from opened link [] before j asked served matched typed up down = subst (RunAgrees opened link) (sym (append-nil before)) j
+joins_from opened link (m ∷ run) before j asked served matched typed up down =
     let assoc : (before ++ m ∷ []) ++ run ≡ before ++ m ∷ run = append_assoc before (m ∷ []) run in
     let up_all : (client opened link ((before ++ m ∷ []) ++ run)).ended ≡ None = ap (λ (r : List Mark). (client opened link r).ended) assoc ∙ up in
     let down_all : (server opened link ((before ++ m ∷ []) ++ run)).ended ≡ None = ap (λ (r : List Mark). (server opened link r).ended) assoc ∙ down in
-    let g = goes-mark opened link before m j asked.0 served.0 matched.0 typed.0 (client-unended opened link (before ++ m ∷ []) run up_all) (server-unended opened link (before ++ m ∷ []) run down_all) in
+    let g = goes_mark opened link before m j asked.0 served.0 matched.0 typed.0 (client_unended opened link (before ++ m ∷ []) run up_all) (server_unended opened link (before ++ m ∷ []) run down_all) in
     subst (RunAgrees opened link) assoc
-    (joins-from opened link run (before ++ m ∷ []) (goes-on opened link before m j g) asked.1 served.1 matched.1 typed.1 up_all down_all)
+    (joins_from opened link run (before ++ m ∷ []) (goes_on_lem opened link before m j g) asked.1 served.1 matched.1 typed.1 up_all down_all)
 
 pub joins : (opened : LinkParameters) (link : ℕ) (run : List Mark) → AtEachMark (AskedMark IsAll opened link) [] run → AtEachMark (ServedMark IsAll opened link) [] run → AtEachMark (MatchedMark link) [] run
     → AtEachMark TypedMark [] run → (client opened link run).ended ≡ None → (server opened link run).ended ≡ None → RunAgrees opened link run
-joins opened link run asked served matched typed up down = joins-from opened link run [] (starts opened link).joined asked served matched typed up down
+joins opened link run asked served matched typed up down = joins_from opened link run [] (starts opened link).joined asked served matched typed up down

@@ -18,49 +18,49 @@ use Rattle.nr_reduce.specs.ServerMessages.CallVerdict.{Refuses, IsReady}
 use Rattle.nr_reduce.specs.ServerMessages.Verdict.{MakesPending}
 use Rattle.nr_reduce.specs.ServerFrames.{FrameEffect, no_effect, with_verdict, with_refused_call, frame_effect}
 use Rattle.nr_laws.proofs.FrameContents.FrameContent.{SendFrame}
-use Rattle.nr_laws.proofs.PendingSends.{verdict-new}
-use Rattle.nr_laws.proofs.ServerReadsOfRuns.{verdict-lists}
+use Rattle.nr_laws.proofs.PendingSends.{verdict_new}
+use Rattle.nr_laws.proofs.ServerReadsOfRuns.{verdict_lists}
 use Rattle.nr_laws.proofs.OfferedAccesses.{EntryOffered, ListsOffered, CallOffered, MessageOffered, ReadOffered}
-use Rattle.nr_laws.proofs.Basics.{each-append, each-drop, each-all, each-filter, each-kept}
-use Rattle.nr_laws.proofs.EachEffect.{send-effect, tagged-effect}
+use Rattle.nr_laws.proofs.Basics.{each_append, each_drop, each_all, each_filter, each_kept}
+use Rattle.nr_laws.proofs.EachEffect.{send_effect, tagged_effect_lem}
 
 -- ---- Lists
 
-drop-taken : {X : Type 0} (n : ℕ) (xs : List X) → drop (length (take n xs)) xs ≡ drop n xs
-drop-taken zero xs = refl
-drop-taken (suc n) [] = refl
-drop-taken (suc n) (x ∷ xs) = drop-taken n xs
+drop_taken : {X : Type 0} (n : ℕ) (xs : List X) → drop (length (take n xs)) xs ≡ drop n xs
+drop_taken zero xs = refl
+drop_taken (suc n) [] = refl
+drop_taken (suc n) (x ∷ xs) = drop_taken n xs
 
-each-dropped : {X : Type 0} (P : X → Type 0) (n : ℕ) (xs ys : List X) → AllByRecursion P (drop n xs) → AllByRecursion P ys → AllByRecursion P (drop n (xs ++ ys))
-each-dropped P zero xs ys h k = each-append P xs ys h k
-each-dropped P (suc n) [] ys h k = each-drop P (suc n) ys k
-each-dropped P (suc n) (x ∷ xs) ys h k = each-dropped P n xs ys h k
+each_dropped : {X : Type 0} (P : X → Type 0) (n : ℕ) (xs ys : List X) → AllByRecursion P (drop n xs) → AllByRecursion P ys → AllByRecursion P (drop n (xs ++ ys))
+each_dropped P zero xs ys h k = each_append P xs ys h k
+each_dropped P (suc n) [] ys h k = each_drop P (suc n) ys k
+each_dropped P (suc n) (x ∷ xs) ys h k = each_dropped P n xs ys h k
 
-none-behind : {X : Type 0} (P : X → Type 0) (n : ℕ) (xs : List X) → AllByRecursion P (drop n (take n xs))
-none-behind P zero xs = tt
-none-behind P (suc n) [] = tt
-none-behind P (suc n) (x ∷ xs) = none-behind P n xs
+none_behind_lem : {X : Type 0} (P : X → Type 0) (n : ℕ) (xs : List X) → AllByRecursion P (drop n (take n xs))
+none_behind_lem P zero xs = tt
+none_behind_lem P (suc n) [] = tt
+none_behind_lem P (suc n) (x ∷ xs) = none_behind_lem P n xs
 
 -- ---- Reads of pending calls
 
-pub read-left : (regions : List Region) (calls more : List PendingCall) (r : PendingRead) → ReadOffered regions calls r → ReadOffered regions (calls ++ more) r
-read-left regions [] more r h = absurd h
-read-left regions (c ∷ calls) more r (inl h) = inl h
-read-left regions (c ∷ calls) more r (inr h) = inr (read-left regions calls more r h)
+pub read_left : (regions : List Region) (calls more : List PendingCall) (r : PendingRead) → ReadOffered regions calls r → ReadOffered regions (calls ++ more) r
+read_left regions [] more r h = absurd h
+read_left regions (c ∷ calls) more r (inl h) = inl h
+read_left regions (c ∷ calls) more r (inr h) = inr (read_left regions calls more r h)
 
-read-right : (regions : List Region) (calls more : List PendingCall) (r : PendingRead) → ReadOffered regions more r → ReadOffered regions (calls ++ more) r
-read-right regions [] more r h = h
-read-right regions (c ∷ calls) more r h = inr (read-right regions calls more r h)
+read_right : (regions : List Region) (calls more : List PendingCall) (r : PendingRead) → ReadOffered regions more r → ReadOffered regions (calls ++ more) r
+read_right regions [] more r h = h
+read_right regions (c ∷ calls) more r h = inr (read_right regions calls more r h)
 
-pub read-kept : (regions : List Region) (Q : PendingCall → Type 0) (p : PendingCall → Bool) (calls : List PendingCall) (r : PendingRead) → AllByRecursion Q calls → ((c : PendingCall) → Q c → c.number ≡ r.number → p c ≡ true) → ReadOffered regions calls r
+pub read_kept : (regions : List Region) (Q : PendingCall → Type 0) (p : PendingCall → Bool) (calls : List PendingCall) (r : PendingRead) → AllByRecursion Q calls → ((c : PendingCall) → Q c → c.number ≡ r.number → p c ≡ true) → ReadOffered regions calls r
     → ReadOffered regions (filter p calls) r
-read-kept regions Q p [] r each own h = absurd h
-read-kept regions Q p (c ∷ calls) r each own (inl h) = by (p c) (own c each.0 h.0)
+read_kept regions Q p [] r each own h = absurd h
+read_kept regions Q p (c ∷ calls) r each own (inl h) = by (p c) (own c each.0 h.0)
   where
     by : (b : Bool) → b ≡ true → ReadOffered regions (cond b (c ∷ filter p calls) (filter p calls)) r
     by true e = inl h
     by false e = absurd cc
-read-kept regions Q p (c ∷ calls) r each own (inr h) = by (p c) (read-kept regions Q p calls r each.1 own h)
+read_kept regions Q p (c ∷ calls) r each own (inr h) = by (p c) (read_kept regions Q p calls r each.1 own h)
   where
     by : (b : Bool) → ReadOffered regions (filter p calls) r → ReadOffered regions (cond b (c ∷ filter p calls) (filter p calls)) r
     by true rest = inr rest
@@ -73,21 +73,21 @@ pub record EffectOffered (regions : List Region) (s : FrameEffect) : Type 0 wher
   pub waiting : AllByRecursion (ReadOffered regions s.calls) (drop s.kept s.reads)
   pub few : s.kept ≤ open_reads_max
 
-none-more : (regions : List Region) (k : ServerState) (calls : AllByRecursion (CallOffered regions) k.calls) (waiting : AllByRecursion (ReadOffered regions k.calls) (drop open_reads_max k.reads)) → EffectOffered regions (no_effect k)
-none-more regions k calls waiting = record {
+none_more : (regions : List Region) (k : ServerState) (calls : AllByRecursion (CallOffered regions) k.calls) (waiting : AllByRecursion (ReadOffered regions k.calls) (drop open_reads_max k.reads)) → EffectOffered regions (no_effect k)
+none_more regions k calls waiting = record {
   calls = calls;
-  waiting = subst (AllByRecursion (ReadOffered regions k.calls)) (sym (drop-taken open_reads_max k.reads)) waiting;
+  waiting = subst (AllByRecursion (ReadOffered regions k.calls)) (sym (drop_taken open_reads_max k.reads)) waiting;
   few = omega (arith, length-take open_reads_max k.reads);
 }
 
-judged-more : (regions : List Region) (v : CallVerdict) (s : FrameEffect) → EffectOffered regions s → EffectOffered regions (with_verdict v s)
-judged-more regions (Refuses reason) s h = record { calls = h.calls; waiting = h.waiting; few = h.few }
-judged-more regions (IsReady r) s h = record { calls = h.calls; waiting = h.waiting; few = h.few }
+judged_more : (regions : List Region) (v : CallVerdict) (s : FrameEffect) → EffectOffered regions s → EffectOffered regions (with_verdict v s)
+judged_more regions (Refuses reason) s h = record { calls = h.calls; waiting = h.waiting; few = h.few }
+judged_more regions (IsReady r) s h = record { calls = h.calls; waiting = h.waiting; few = h.few }
 
 -- the reads of a new call
-new-reads : (regions : List Region) (sinks : List Region) (c : PendingCall) (before read : List ReadSegment) → AllByRecursion (EntryOffered regions c.xid) read → AllByRecursion (ReadOffered regions (c ∷ [])) (reads_from sinks c.number before read)
-new-reads regions sinks c before [] h = tt
-new-reads regions sinks c before (r ∷ read) h = by (eqb r.length 0) (new-reads regions sinks c (before ++ r ∷ []) read h.1)
+new_reads : (regions : List Region) (sinks : List Region) (c : PendingCall) (before read : List ReadSegment) → AllByRecursion (EntryOffered regions c.xid) read → AllByRecursion (ReadOffered regions (c ∷ [])) (reads_from sinks c.number before read)
+new_reads regions sinks c before [] h = tt
+new_reads regions sinks c before (r ∷ read) h = by (eqb r.length 0) (new_reads regions sinks c (before ++ r ∷ []) read h.1)
   where
     rest : List PendingRead
     rest = reads_from sinks c.number (before ++ r ∷ []) read
@@ -97,23 +97,23 @@ new-reads regions sinks c before (r ∷ read) h = by (eqb r.length 0) (new-reads
     by false others = (inl (refl, h.0), others)
 
 -- a call that is refused, and its reads that wait
-refused-more : (regions : List Region) (k : ServerState) (c : PendingCall) (s : FrameEffect) → EffectOffered regions s → EffectOffered regions (with_refused_call k c s)
-refused-more regions k c s h =
+refused_more : (regions : List Region) (k : ServerState) (c : PendingCall) (s : FrameEffect) → EffectOffered regions s → EffectOffered regions (with_refused_call k c s)
+refused_more regions k c s h =
     let other = λ (x : PendingCall). not (eqb x.number c.number) in
     let left = λ (r : PendingRead). not (eqb r.number c.number) in
     record {
-      calls = each-kept (CallOffered regions) other s.calls h.calls;
-      waiting = each-dropped (ReadOffered regions (filter other s.calls)) s.kept (take s.kept s.reads) (filter left (drop s.kept s.reads)) (none-behind (ReadOffered regions (filter other s.calls)) s.kept s.reads)
-          (each-filter (ReadOffered regions s.calls) (ReadOffered regions (filter other s.calls)) left (drop s.kept s.reads)
-          (λ r e x. read-kept regions (CallOffered regions) other s.calls r h.calls (λ y own same. ap (λ (n : ℕ). not (eqb n c.number)) same ∙ e) x) h.waiting);
+      calls = each_kept (CallOffered regions) other s.calls h.calls;
+      waiting = each_dropped (ReadOffered regions (filter other s.calls)) s.kept (take s.kept s.reads) (filter left (drop s.kept s.reads)) (none_behind_lem (ReadOffered regions (filter other s.calls)) s.kept s.reads)
+          (each_filter (ReadOffered regions s.calls) (ReadOffered regions (filter other s.calls)) left (drop s.kept s.reads)
+          (λ r e x. read_kept regions (CallOffered regions) other s.calls r h.calls (λ y own same. ap (λ (n : ℕ). not (eqb n c.number)) same ∙ e) x) h.waiting);
       few = h.few;
     }
 
-pub effect-send : (regions : List Region) (k : ServerState) (f : Frame) (message : List ℕ) → k.received.begun ≡ None → MessageOffered regions (SendFrame message) → AllByRecursion (CallOffered regions) k.calls → AllByRecursion (ReadOffered regions k.calls) (drop open_reads_max k.reads)
+pub effect_send : (regions : List Region) (k : ServerState) (f : Frame) (message : List ℕ) → k.received.begun ≡ None → MessageOffered regions (SendFrame message) → AllByRecursion (CallOffered regions) k.calls → AllByRecursion (ReadOffered regions k.calls) (drop open_reads_max k.reads)
     → frame_segment f ≡ Ok (Untagged true OPCODE_SEND 0 QUEUE_SEND (msn_word (k.received.sends + 1)) 0 message) → EffectOffered regions (frame_effect k f)
-effect-send regions k f message none own calls waiting is =
-    send-effect k (λ m. MessageOffered regions (SendFrame m)) (EffectOffered regions) (record {
-      judged = λ t place c s g. judged-more regions (by_payload c (payload_of t place c)) s g;
+effect_send regions k f message none own calls waiting is =
+    send_effect k (λ m. MessageOffered regions (SendFrame m)) (EffectOffered regions) (record {
+      judged = λ t place c s g. judged_more regions (by_payload c (payload_of t place c)) s g;
       ends = λ message reason own is. record { calls = h.calls; waiting = h.waiting; few = h.few };
       version = λ message own. record { calls = h.calls; waiting = h.waiting; few = h.few };
       chunks = λ message own. record { calls = h.calls; waiting = h.waiting; few = h.few };
@@ -121,29 +121,29 @@ effect-send regions k f message none own calls waiting is =
     }) f message none own is
   where
     h : EffectOffered regions (no_effect k)
-    h = none-more regions k calls waiting
+    h = none_more regions k calls waiting
 
     pending : (place : ℕ) (message : List ℕ) (c : PendingCall) → MessageOffered regions (SendFrame message) → verdict k message ≡ MakesPending c
         → EffectOffered regions (record (no_effect k) { calls = k.calls ++ c ∷ []; reads = k.reads ++ reads_of (k.regions ++ regions_of k place c) c; regions = k.regions ++ regions_of k place c })
     pending place message c own is =
         let sinks = k.regions ++ regions_of k place c in
-        let new = verdict-new k message c is in
-        let l = verdict-lists k message c is in
+        let new = verdict_new k message c is in
+        let l = verdict_lists k message c is in
         let one : CallOffered regions c =
         subst (λ (n : ℕ). ListsOffered regions n c.lists) (sym new.0.own) (subst (ListsOffered regions (word_at 0 message)) (sym l.lists) (own l.header l.is)) in
         record {
-          calls = each-append (CallOffered regions) k.calls (c ∷ []) calls (one, tt);
-          waiting = each-dropped (ReadOffered regions (k.calls ++ c ∷ [])) (length (open_reads k)) k.reads (reads_of sinks c)
-              (each-all (ReadOffered regions k.calls) (ReadOffered regions (k.calls ++ c ∷ [])) (drop (length (open_reads k)) k.reads) (read-left regions k.calls (c ∷ [])) h.waiting)
-              (each-all (ReadOffered regions (c ∷ [])) (ReadOffered regions (k.calls ++ c ∷ [])) (reads_of sinks c) (read-right regions k.calls (c ∷ [])) (new-reads regions sinks c [] c.lists.read one.read));
+          calls = each_append (CallOffered regions) k.calls (c ∷ []) calls (one, tt);
+          waiting = each_dropped (ReadOffered regions (k.calls ++ c ∷ [])) (length (open_reads k)) k.reads (reads_of sinks c)
+              (each_all (ReadOffered regions k.calls) (ReadOffered regions (k.calls ++ c ∷ [])) (drop (length (open_reads k)) k.reads) (read_left regions k.calls (c ∷ [])) h.waiting)
+              (each_all (ReadOffered regions (c ∷ [])) (ReadOffered regions (k.calls ++ c ∷ [])) (reads_of sinks c) (read_right regions k.calls (c ∷ [])) (new_reads regions sinks c [] c.lists.read one.read));
           few = h.few;
         }
 
-pub effect-tagged : (regions : List Region) (k : ServerState) (f : Frame) (last : Bool) (opcode stag to : ℕ) (payload : List ℕ) → AllByRecursion (CallOffered regions) k.calls → AllByRecursion (ReadOffered regions k.calls) (drop open_reads_max k.reads)
+pub effect_tagged : (regions : List Region) (k : ServerState) (f : Frame) (last : Bool) (opcode stag to : ℕ) (payload : List ℕ) → AllByRecursion (CallOffered regions) k.calls → AllByRecursion (ReadOffered regions k.calls) (drop open_reads_max k.reads)
     → frame_segment f ≡ Ok (Tagged last opcode stag to payload) → EffectOffered regions (frame_effect k f)
-effect-tagged regions k f last opcode stag to payload calls waiting is =
-    tagged-effect k (EffectOffered regions)
-    (record { unchanged = none-more regions k calls waiting; judged = λ t place c s g. judged-more regions (by_payload c (payload_of t place c)) s g; read = read; refused = λ r reads c is found. refused-more regions k c _ (read r reads is) }) f last opcode stag to payload is
+effect_tagged regions k f last opcode stag to payload calls waiting is =
+    tagged_effect_lem k (EffectOffered regions)
+    (record { unchanged = none_more regions k calls waiting; judged = λ t place c s g. judged_more regions (by_payload c (payload_of t place c)) s g; read = read; refused = λ r reads c is found. refused_more regions k c _ (read r reads is) }) f last opcode stag to payload is
   where
     read : (r : PendingRead) (reads : List PendingRead) → k.reads ≡ r ∷ reads → EffectOffered regions (record (no_effect k) { reads = reads; kept = length (open_reads k) - 1 })
     read r reads is =
@@ -151,6 +151,6 @@ effect-tagged regions k f last opcode stag to payload calls waiting is =
         record {
           calls = calls;
           waiting = subst (λ (n : ℕ). AllByRecursion (ReadOffered regions k.calls) (drop n reads)) (sym kept)
-              (subst (AllByRecursion (ReadOffered regions k.calls)) (ap (λ (xs : List PendingRead). drop open_reads_max xs) is ∙ sym (drop-taken 7 reads)) waiting);
+              (subst (AllByRecursion (ReadOffered regions k.calls)) (ap (λ (xs : List PendingRead). drop open_reads_max xs) is ∙ sym (drop_taken 7 reads)) waiting);
           few = omega (arith, length-take open_reads_max k.reads);
         }

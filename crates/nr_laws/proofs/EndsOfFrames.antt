@@ -12,12 +12,12 @@ use Rattle.nr_reduce.specs.declared.mark.LinkParameters.{LinkParameters}
 use Rattle.nr_reduce.specs.Limits.{send_max}
 use Rattle.nr_link.specs.Limits.{open_reads_max}
 use Rattle.nr_link.specs.Frames.{Frame, is_hello}
-use Rattle.nr_link.specs.SegmentFaults.{SegmentFault, first_fault, missing_fault}
+use Rattle.nr_link.specs.SegmentFaults.{SegmentReason, first_fault, missing_fault}
 use Rattle.nr_link.specs.Ending.{frame_end, frame_end_by, missing_access, end_of_fault, frame_segment, hello_end}
 use Rattle.nr_reduce.specs.OfferedRegions.{region_grants}
-use Rattle.nr_reduce.specs.Events.Event.{FrameReceived}
+use Rattle.nr_reduce.specs.Events.RunEvent.{FrameReceived}
 use Rattle.nr_reduce.specs.ClientState.{ClientState}
-use Rattle.nr_reduce.specs.Client.{readiness as client_readiness, client_end, or_message_end, message_end, segment_message}
+use Rattle.nr_reduce.specs.Client.{client_readiness as client_readiness, client_end, or_message_end, client_message_end, segment_message}
 use Rattle.nr_reduce.specs.ServerState.{ServerState, PendingRead, receives_in_use}
 use Rattle.nr_reduce.specs.Server.{readiness, server_end, or_refusal, refusal_end}
 use Rattle.nr_reduce.specs.ServerFrames.{frame_effect}
@@ -25,59 +25,59 @@ use Rattle.nr_laws.proofs.FrameContents.{FrameContent, Carries, total_of, sends_
 use Rattle.nr_laws.proofs.FrameContents.FrameContent.{SendFrame, TaggedFrame}
 use Rattle.nr_laws.proofs.LinkInvariants.{Transit, TotalsAgree, ReadsAgree, AreResponses, WithinWindow}
 use Rattle.nr_laws.proofs.FreeReceives.{receives}
-use Rattle.nr_laws.proofs.FaultlessSegments.{send-frame, response-flaw}
-use Rattle.nr_laws.proofs.TotalsAtServer.{segment-is}
-use Rattle.nr_laws.proofs.ExpectedResponses.{is-expected}
+use Rattle.nr_laws.proofs.FaultlessSegments.{send_frame, response_flaw}
+use Rattle.nr_laws.proofs.TotalsAtServer.{segment_is}
+use Rattle.nr_laws.proofs.ExpectedResponses.{is_expected_lem}
 
 -- ---- The server
 
-server-by : (opened : LinkParameters) (s : ServerState) (f : Frame) (first_fault : Option End) → is_hello f ≡ false → frame_end (readiness opened s) (region_grants f.end s.regions) f ≡ first_fault → server_end opened s (FrameReceived f) ≡ or_refusal s f first_fault
+server_by_lem : (opened : LinkParameters) (s : ServerState) (f : Frame) (first_fault : Option End) → is_hello f ≡ false → frame_end (readiness opened s) (region_grants f.end s.regions) f ≡ first_fault → server_end opened s (FrameReceived f) ≡ or_refusal s f first_fault
 unfolding server_end
-server-by opened s f first_fault behind is = λ i. cond (behind i) (hello_end (hello_of Initiator f.bytes)) (or_refusal s f (is i))
+server_by_lem opened s f first_fault behind is = λ i. cond (behind i) (hello_end (hello_of Initiator f.bytes)) (or_refusal s f (is i))
 
 -- a Send: none of the link's reasons, and never for want of a receive
-pub server-send : (opened : LinkParameters) (k : ClientState) (s : ServerState) (w : Transit) (f : Frame) (message : List ℕ) (rest : List FrameContent) → TotalsAgree k s w → WithinWindow opened k → w.up ≡ SendFrame message ∷ rest
+pub server_send : (opened : LinkParameters) (k : ClientState) (s : ServerState) (w : Transit) (f : Frame) (message : List ℕ) (rest : List FrameContent) → TotalsAgree k s w → WithinWindow opened k → w.up ≡ SendFrame message ∷ rest
     → Carries s.received.sends s.received.requests f (SendFrame message) → 16 ≤ length message → length message ≤ send_max → ServerLimits s → server_end opened s (FrameReceived f) ≡ refusal_end f (frame_effect s f).refusal
-server-send opened k s w f message rest c g head p long short limits =
+server_send opened k s w f message rest c g head p long short limits =
     let up = limits.up in
     let some : 0 < total_of sends_in w.up = omega (arith, ap (total_of sends_in) head) in
-    server-by opened s f None p.behind
-    (send-frame (readiness opened s) (region_grants f.end s.regions) s.received.sends s.received.requests f message p refl c.whole_up (lt-ltb (receives_in_use s) opened.granted (receives opened k s w c g some)) refl long (omega (arith, short, up)))
+    server_by_lem opened s f None p.behind
+    (send_frame (readiness opened s) (region_grants f.end s.regions) s.received.sends s.received.requests f message p refl c.whole_up (lt-ltb (receives_in_use s) opened.granted (receives opened k s w c g some)) refl long (omega (arith, short, up)))
 
 -- a segment of a Response: only what its access lacks
-lacks-none : (f : Frame) (segment : Segment) (lack : Option Denied) → lack ≡ None → end_of_fault f segment (first_fault (missing_fault lack ∷ [])) ≡ None
-lacks-none f segment lack e = ap (λ (l : Option Denied). end_of_fault f segment (first_fault (missing_fault l ∷ []))) e
+lacks_none : (f : Frame) (segment : Segment) (lack : Option Denied) → lack ≡ None → end_of_fault f segment (first_fault (missing_fault lack ∷ [])) ≡ None
+lacks_none f segment lack e = ap (λ (l : Option Denied). end_of_fault f segment (first_fault (missing_fault l ∷ []))) e
 
-pub server-response : (opened : LinkParameters) (s : ServerState) (w : Transit) (f : Frame) (last : Bool) (stag to : ℕ) (payload : List ℕ) (rest : List FrameContent) → ReadsAgree s w → w.up ≡ TaggedFrame last OPCODE_READ_RESPONSE stag to payload ∷ rest
+pub server_response : (opened : LinkParameters) (s : ServerState) (w : Transit) (f : Frame) (last : Bool) (stag to : ℕ) (payload : List ℕ) (rest : List FrameContent) → ReadsAgree s w → w.up ≡ TaggedFrame last OPCODE_READ_RESPONSE stag to payload ∷ rest
     → Carries s.received.sends s.received.requests f (TaggedFrame last OPCODE_READ_RESPONSE stag to payload) → missing_access (region_grants f.end s.regions) f (Tagged last OPCODE_READ_RESPONSE stag to payload) ≡ None
     → server_end opened s (FrameReceived f) ≡ refusal_end f (frame_effect s f).refusal
 unfolding frame_end
-server-response opened s w f last stag to payload rest c head p allowed =
+server_response opened s w f last stag to payload rest c head p allowed =
     let segment : Segment = Tagged last OPCODE_READ_RESPONSE stag to payload in
     let grants = region_grants f.end s.regions in
-    let is : frame_segment f ≡ Ok segment = segment-is s.received.sends s.received.requests f (TaggedFrame last OPCODE_READ_RESPONSE stag to payload) segment p refl in
+    let is : frame_segment f ≡ Ok segment = segment_is s.received.sends s.received.requests f (TaggedFrame last OPCODE_READ_RESPONSE stag to payload) segment p refl in
     let answers = subst (λ (ps : List FrameContent). AreResponses s.response_bytes c.answered (ps ++ w.queued_up)) head c.answers in
     let reads = all-reads s.reads c.answered c.asked c.parts in
-    let expected = is-expected s c.answered last OPCODE_READ_RESPONSE stag to payload (rest ++ w.queued_up) (c.asked ++ drop open_reads_max s.reads) reads answers in
-    let flaw = response-flaw (readiness opened s (missing_access grants f segment)) last stag to payload expected in
-    server-by opened s f None p.behind
+    let expected = is_expected_lem s c.answered last OPCODE_READ_RESPONSE stag to payload (rest ++ w.queued_up) (c.asked ++ drop open_reads_max s.reads) reads answers in
+    let flaw = response_flaw (readiness opened s (missing_access grants f segment)) last stag to payload expected in
+    server_by_lem opened s f None p.behind
     (ap (λ (r : Result Segment ℕ). frame_end_by (readiness opened s) grants f r) is
-    ∙ ap (λ (x : Option (SegmentFault Denied)). end_of_fault f segment x) flaw
-    ∙ lacks-none f segment (missing_access grants f segment) allowed)
+    ∙ ap (λ (x : Option (SegmentReason Denied)). end_of_fault f segment x) flaw
+    ∙ lacks_none f segment (missing_access grants f segment) allowed)
   where
     all-reads : (reads answered asked : List PendingRead) → take open_reads_max reads ≡ answered ++ asked → reads ≡ answered ++ (asked ++ drop open_reads_max reads)
     all-reads reads answered asked e = sym (take-append-drop open_reads_max reads) ∙ ap (λ (xs : List PendingRead). xs ++ drop open_reads_max reads) e ∙ append_assoc answered asked (drop open_reads_max reads)
 
 -- ---- The client
 
-pub client-by : (k : ClientState) (f : Frame) (found : Option End) → is_hello f ≡ false → frame_end (client_readiness k) (region_grants f.end k.regions) f ≡ found → client_end k (FrameReceived f) ≡ or_message_end k f found
+pub client_by_lem : (k : ClientState) (f : Frame) (found : Option End) → is_hello f ≡ false → frame_end (client_readiness k) (region_grants f.end k.regions) f ≡ found → client_end k (FrameReceived f) ≡ or_message_end k f found
 unfolding client_end
-client-by k f found behind is = λ i. cond (behind i) (hello_end (hello_of Responder f.bytes)) (or_message_end k f (is i))
+client_by_lem k f found behind is = λ i. cond (behind i) (hello_end (hello_of Responder f.bytes)) (or_message_end k f (is i))
 
 -- a message: its verdict alone
-pub client-send : (opened : LinkParameters) (k : ClientState) (s : ServerState) (w : Transit) (f : Frame) (message : List ℕ) → TotalsAgree k s w
-    → Carries k.received.sends k.received.requests f (SendFrame message) → 16 ≤ length message → length message ≤ send_max → ClientLimits k → client_end k (FrameReceived f) ≡ message_end k f (segment_message k (frame_segment f))
-client-send opened k s w f message c p long short limits =
+pub client_send : (opened : LinkParameters) (k : ClientState) (s : ServerState) (w : Transit) (f : Frame) (message : List ℕ) → TotalsAgree k s w
+    → Carries k.received.sends k.received.requests f (SendFrame message) → 16 ≤ length message → length message ≤ send_max → ClientLimits k → client_end k (FrameReceived f) ≡ client_message_end k f (segment_message k (frame_segment f))
+client_send opened k s w f message c p long short limits =
     let down = limits.down in
-    client-by k f None p.behind
-    (send-frame (client_readiness k) (region_grants f.end k.regions) k.received.sends k.received.requests f message p refl c.whole_down refl refl long (omega (arith, short, down)))
+    client_by_lem k f None p.behind
+    (send_frame (client_readiness k) (region_grants f.end k.regions) k.received.sends k.received.requests f message p refl c.whole_down refl refl long (omega (arith, short, down)))

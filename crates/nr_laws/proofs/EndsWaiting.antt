@@ -21,26 +21,26 @@ abbrev pub AreAbove : ℕ → List ℕ → Type 0
 AreAbove n [] = Unit {0}
 AreAbove n (end ∷ ends) = (n < end) × AreAbove n ends
 
-pub waiting-append : (n : ℕ) (xs ys : List ℕ) → ends_waiting n (xs ++ ys) ≡ ends_waiting n xs + ends_waiting n ys
-waiting-append n [] ys = omega arith
-waiting-append n (x ∷ xs) ys = by (ltb n x) (waiting-append n xs ys)
+pub waiting_append : (n : ℕ) (xs ys : List ℕ) → ends_waiting n (xs ++ ys) ≡ ends_waiting n xs + ends_waiting n ys
+waiting_append n [] ys = omega arith
+waiting_append n (x ∷ xs) ys = by (ltb n x) (waiting_append n xs ys)
   where
     by : (b : Bool) → ends_waiting n (xs ++ ys) ≡ ends_waiting n xs + ends_waiting n ys
         → length (cond b (x ∷ filter (ltb n) (xs ++ ys)) (filter (ltb n) (xs ++ ys))) ≡ length (cond b (x ∷ filter (ltb n) xs) (filter (ltb n) xs)) + ends_waiting n ys
     by true h = omega (arith, h)
     by false h = h
 
-pub all-waiting : (n : ℕ) (ends : List ℕ) → AreAbove n ends → ends_waiting n ends ≡ length ends
-all-waiting n [] h = refl
-all-waiting n (e ∷ ends) h =
-    ap (λ (b : Bool). length (cond b (e ∷ filter (ltb n) ends) (filter (ltb n) ends))) (lt-ltb n e h.0) ∙ ap (λ (m : ℕ). suc m) (all-waiting n ends h.1)
+pub all_waiting_lem : (n : ℕ) (ends : List ℕ) → AreAbove n ends → ends_waiting n ends ≡ length ends
+all_waiting_lem n [] h = refl
+all_waiting_lem n (e ∷ ends) h =
+    ap (λ (b : Bool). length (cond b (e ∷ filter (ltb n) ends) (filter (ltb n) ends))) (lt-ltb n e h.0) ∙ ap (λ (m : ℕ). suc m) (all_waiting_lem n ends h.1)
 
-pub one-waiting : (n end : ℕ) → n < end → ends_waiting n (end ∷ []) ≡ 1
-one-waiting n end lt = all-waiting n (end ∷ []) (lt, tt)
+pub one_waiting : (n end : ℕ) → n < end → ends_waiting n (end ∷ []) ≡ 1
+one_waiting n end lt = all_waiting_lem n (end ∷ []) (lt, tt)
 
-pub left-waiting : (n : ℕ) (ends : List ℕ) → ends_left n ends + ends_waiting n ends ≡ length ends
-left-waiting n [] = refl
-left-waiting n (e ∷ ends) = by (cases_lt n e) (left-waiting n ends)
+pub left_waiting : (n : ℕ) (ends : List ℕ) → ends_left n ends + ends_waiting n ends ≡ length ends
+left_waiting n [] = refl
+left_waiting n (e ∷ ends) = by (cases_lt n e) (left_waiting n ends)
   where
     left : List ℕ
     left = filter (λ end. leb end n) ends
@@ -54,56 +54,56 @@ left-waiting n (e ∷ ends) = by (cases_lt n e) (left-waiting n ends)
 
 -- ---- A message and a Read Response have bytes
 
-encoding-some : (segment : Segment) → 0 < length (encoding segment)
+encoding_some : (segment : Segment) → 0 < length (encoding segment)
 unfolding encoding half_word
-encoding-some segment = omega arith
+encoding_some segment = omega arith
 
-flat-some : (f : ℕ → List ℕ) (n : ℕ) → 0 < n → 0 < length (f 0) → 0 < length (flat_map f (range_with_len 0 n))
-flat-some f zero some first = absurd (omega (arith, some))
-flat-some f (suc n) some first = omega (arith, first, length-append (f 0) (flat_map f (range_with_len (0 + 1) n)))
+flat_some : (f : ℕ → List ℕ) (n : ℕ) → 0 < n → 0 < length (f 0) → 0 < length (flat_map f (range_with_len 0 n))
+flat_some f zero some first = absurd (omega (arith, some))
+flat_some f (suc n) some first = omega (arith, first, length-append (f 0) (flat_map f (range_with_len (0 + 1) n)))
 
-cut-some : (segment : Bool → ℕ → List ℕ → Segment) (bytes : List ℕ) → 0 < length (cut segment bytes)
+cut_some_lem : (segment : Bool → ℕ → List ℕ → Segment) (bytes : List ℕ) → 0 < length (cut segment bytes)
 unfolding cut
-cut-some segment bytes = flat-some _ (segment_count bytes) (omega arith) (encoding-some _)
+cut_some_lem segment bytes = flat_some _ (segment_count bytes) (omega arith) (encoding_some _)
 
-pub send-some : (msn : ℕ) (message : List ℕ) → 0 < length (send msn message)
+pub send_some : (msn : ℕ) (message : List ℕ) → 0 < length (send msn message)
 unfolding send
-send-some msn message = cut-some _ message
+send_some msn message = cut_some_lem _ message
 
-response-some : (stag to : ℕ) (bytes : List ℕ) → 0 < length (read_response stag to bytes)
+response_some : (stag to : ℕ) (bytes : List ℕ) → 0 < length (read_response stag to bytes)
 unfolding read_response
-response-some stag to bytes = cut-some _ bytes
+response_some stag to bytes = cut_some_lem _ bytes
 
-pub output-some : (k : ClientState) (place : ℕ) (r : ReadRequest) → 0 < length (response_output k place (Some r))
-output-some k place r = response-some _ _ _
+pub output_some : (k : ClientState) (place : ℕ) (r : ReadRequest) → 0 < length (response_output k place (Some r))
+output_some k place r = response_some _ _ _
 
-pub execution-some : (k : ServerState) (e : ExecutedCall) → 0 < length (execution_output k e)
+pub execution_some : (k : ServerState) (e : ExecutedCall) → 0 < length (execution_output k e)
 unfolding execution_output
-execution-some k e = by (offer_of k e.xid) (answer_of_target (offer_of k e.xid) k.down_max e.reply (target_of (call_of e.payload)))
+execution_some k e = by (offer_of k e.xid) (answer_of_target (offer_of k e.xid) k.down_max e.reply (target_of (call_of e.payload)))
   where
     by : (offer : ChunkLists) (a : Option Answer) → 0 < length (answer_output k e.xid offer a)
-    by offer None = send-some _ _
+    by offer None = send_some _ _
     by offer (Some a) =
-        omega (arith, send-some (k.messages_queued + 1) (answer_message e.xid (credit_word k) offer a), length-append (answer_writes offer a) (send (k.messages_queued + 1) (answer_message e.xid (credit_word k) offer a)))
+        omega (arith, send_some (k.messages_queued + 1) (answer_message e.xid (credit_word k) offer a), length-append (answer_writes offer a) (send (k.messages_queued + 1) (answer_message e.xid (credit_word k) offer a)))
 
 -- ---- The ends of what is added
 
-pub calls-above : (opened : LinkParameters) (n due msn : ℕ) (os : List OutstandingCall) → n ≤ due → AreAbove n (call_ends opened due msn os)
-calls-above opened n due msn [] le = tt
-calls-above opened n due msn (o ∷ os) le =
-    let some : 0 < length (call_output opened msn o) = send-some _ _ in
-    ((omega (arith, le, some)), calls-above opened n (due + length (call_output opened msn o)) (msn + 1) os (omega (arith, le)))
+pub calls_above : (opened : LinkParameters) (n due msn : ℕ) (os : List OutstandingCall) → n ≤ due → AreAbove n (call_ends opened due msn os)
+calls_above opened n due msn [] le = tt
+calls_above opened n due msn (o ∷ os) le =
+    let some : 0 < length (call_output opened msn o) = send_some _ _ in
+    ((omega (arith, le, some)), calls_above opened n (due + length (call_output opened msn o)) (msn + 1) os (omega (arith, le)))
 
-pub calls-length : (opened : LinkParameters) (due msn : ℕ) (os : List OutstandingCall) → length (call_ends opened due msn os) ≡ length os
-calls-length opened due msn [] = refl
-calls-length opened due msn (o ∷ os) = ap (λ (m : ℕ). suc m) (calls-length opened (due + length (call_output opened msn o)) (msn + 1) os)
+pub calls_length : (opened : LinkParameters) (due msn : ℕ) (os : List OutstandingCall) → length (call_ends opened due msn os) ≡ length os
+calls_length opened due msn [] = refl
+calls_length opened due msn (o ∷ os) = ap (λ (m : ℕ). suc m) (calls_length opened (due + length (call_output opened msn o)) (msn + 1) os)
 
-pub sends-above : (n due msn : ℕ) (ms : List (List ℕ)) → n ≤ due → AreAbove n (send_ends_from due msn ms)
-sends-above n due msn [] le = tt
-sends-above n due msn (m ∷ ms) le =
-    let some = send-some msn m in
-    ((omega (arith, le, some)), sends-above n (due + length (send msn m)) (msn + 1) ms (omega (arith, le)))
+pub sends_above : (n due msn : ℕ) (ms : List (List ℕ)) → n ≤ due → AreAbove n (send_ends_from due msn ms)
+sends_above n due msn [] le = tt
+sends_above n due msn (m ∷ ms) le =
+    let some = send_some msn m in
+    ((omega (arith, le, some)), sends_above n (due + length (send msn m)) (msn + 1) ms (omega (arith, le)))
 
-pub sends-length : (due msn : ℕ) (ms : List (List ℕ)) → length (send_ends_from due msn ms) ≡ length ms
-sends-length due msn [] = refl
-sends-length due msn (m ∷ ms) = ap (λ (k : ℕ). suc k) (sends-length (due + length (send msn m)) (msn + 1) ms)
+pub sends_length : (due msn : ℕ) (ms : List (List ℕ)) → length (send_ends_from due msn ms) ≡ length ms
+sends_length due msn [] = refl
+sends_length due msn (m ∷ ms) = ap (λ (k : ℕ). suc k) (sends_length (due + length (send msn m)) (msn + 1) ms)

@@ -3,40 +3,40 @@ use Rattle.std.proofs.Common.{◌≡◌, ℕ, ◌+◌, List, [], ◌∷◌, ◌+
 use Rattle.nr_rpc.specs.Reading.{call_of, target_of}
 use Rattle.nr_reduce.specs.declared.mark.LinkParameters.{LinkParameters}
 use Rattle.nr_reduce.specs.History.{ExecutedCall}
-use Rattle.nr_reduce.specs.Events.Event.{CallExecuted, QueueWritten}
+use Rattle.nr_reduce.specs.Events.RunEvent.{CallExecuted, QueueWritten}
 use Rattle.nr_reduce.specs.ClientState.{ClientState}
 use Rattle.nr_reduce.specs.ServerState.{ServerState, ReadyCall}
 use Rattle.nr_reduce.specs.Server.{offer_of, answer_of_target, server_state_after}
 use Rattle.nr_laws.proofs.FrameContents.{server_frames}
 use Rattle.nr_laws.proofs.LinkInvariants.{Transit}
-use Rattle.nr_laws.proofs.TotalsAtServer.{totals-executes, totals-writes_down}
-use Rattle.nr_laws.proofs.ReadsAtClient.{reads-says_down, reads-writes_down, none-answered}
-use Rattle.nr_laws.proofs.PendingExecuted.{pending_agree-executes, executed-there}
+use Rattle.nr_laws.proofs.TotalsAtServer.{totals_executes, totals_writes_down}
+use Rattle.nr_laws.proofs.ReadsAtClient.{reads_says_down, reads_writes_down, none_answered}
+use Rattle.nr_laws.proofs.PendingExecuted.{pending_agree_executes, executed_there}
 use Rattle.nr_laws.proofs.ServerInvariant.{ServerAgrees}
 use Rattle.nr_reduce.proofs.WholeWrotes.{ServerEnds}
 
 -- the call that waits first is executed
-pub server-executes : (opened : LinkParameters) (k : ClientState) (s : ServerState) (w : Transit) (place : ℕ) (e : ExecutedCall) (r : ReadyCall) (rest : List ReadyCall) → ServerAgrees opened k s w place → s.ready ≡ r ∷ rest → e.xid ≡ r.xid
+pub server_executes : (opened : LinkParameters) (k : ClientState) (s : ServerState) (w : Transit) (place : ℕ) (e : ExecutedCall) (r : ReadyCall) (rest : List ReadyCall) → ServerAgrees opened k s w place → s.ready ≡ r ∷ rest → e.xid ≡ r.xid
     → ServerAgrees opened k (server_state_after opened s (CallExecuted e)) (record { queued_up = w.queued_up; up = w.up; queued_down = w.queued_down ++ server_frames opened s (CallExecuted e); down = w.down }) place
 unfolding server_state_after server_frames
-server-executes opened k s w place e r rest j first own =
+server_executes opened k s w place e r rest j first own =
     let t = server_state_after opened s (CallExecuted e) in
     record {
-      counts = totals-executes opened k s w e j.counts j.waits.xids (executed-there s e.xid r rest j.waits first own);
-      reads = reads-says_down s t w (server_frames opened s (CallExecuted e)) j.reads refl refl (none-answered s e.xid (offer_of s e.xid) (answer_of_target (offer_of s e.xid) s.down_max e.reply (target_of (call_of e.payload))));
-      waits = pending_agree-executes opened s e r rest j.waits first own;
+      counts = totals_executes opened k s w e j.counts j.waits.xids (executed_there s e.xid r rest j.waits first own);
+      reads = reads_says_down s t w (server_frames opened s (CallExecuted e)) j.reads refl refl (none_answered s e.xid (offer_of s e.xid) (answer_of_target (offer_of s e.xid) s.down_max e.reply (target_of (call_of e.payload))));
+      waits = pending_agree_executes opened s e r rest j.waits first own;
       sinks = j.sinks;
       regions = record { stags = j.regions.stags; calls = j.regions.calls };
       limits = record { up = j.limits.up; down = j.limits.down };
     }
 
-pub server-writes : (opened : LinkParameters) (k : ClientState) (s : ServerState) (w : Transit) (place taken : ℕ) → s.written + taken ≡ s.due → ServerEnds s → ServerAgrees opened k s w place
+pub server_writes : (opened : LinkParameters) (k : ClientState) (s : ServerState) (w : Transit) (place taken : ℕ) → s.written + taken ≡ s.due → ServerEnds s → ServerAgrees opened k s w place
     → ServerAgrees opened k (server_state_after opened s (QueueWritten taken)) (record { queued_up = w.queued_up; up = w.up; queued_down = []; down = w.down ++ w.queued_down }) place
 unfolding server_state_after
-server-writes opened k s w place taken all ends j =
-    let moved = reads-writes_down s w j.reads in
+server_writes opened k s w place taken all ends j =
+    let moved = reads_writes_down s w j.reads in
     record {
-      counts = totals-writes_down opened k s w taken all ends j.counts;
+      counts = totals_writes_down opened k s w taken all ends j.counts;
       reads = record { answered = moved.answered; asked = moved.asked; parts = moved.parts; answers = moved.answers; requests = moved.requests };
       waits = record { numbers = j.waits.numbers; xids = j.waits.xids; calls_below = j.waits.calls_below; reads_below = j.waits.reads_below; ready_apart = j.waits.ready_apart; ready_calls = j.waits.ready_calls; whole_calls = j.waits.whole_calls };
       sinks = j.sinks;

@@ -1,6 +1,6 @@
 -- On a matched link a call that is executed was accepted, and goes out by a plan.
 use Rattle.std.proofs.Common.{◌≡◌, ℕ, List, Ok, subst}
-use Rattle.nr_reduce.proofs.OwnLimits.{client-limits-of, limited-plan}
+use Rattle.nr_reduce.proofs.OwnLimits.{client_limits_of, limited_plan}
 use Rattle.nr_reduce.specs.declared.call.Call.{Call}
 use Rattle.nr_reduce.specs.declared.call.Form.{Form}
 use Rattle.nr_reduce.specs.declared.mark.Mark.{Mark}
@@ -13,7 +13,7 @@ use Rattle.nr_reduce.specs.ServerState.{PendingCall}
 use Rattle.nr_reduce.specs.Run.{client}
 use Rattle.nr_laws.specs.Payloads.{HasPlan, ExecutesHavePlans}
 use Rattle.nr_laws.proofs.PlanLists.{stream_known}
-use Rattle.nr_laws.proofs.OnceByXid.{executed-at}
+use Rattle.nr_laws.proofs.OnceByXid.{executed_at_lem}
 
 -- ---- A call that was received has the lists and the stream of its plan
 
@@ -21,13 +21,13 @@ pub record IsOfPlan (stag : ℕ) (p : Plan) (c : PendingCall) : Type 0 where
   pub lists : c.lists ≡ lists_of stag p
   pub stream : c.inline ≡ stream_known p.read_at p.inline (lists_of stag p).read
 
-pub planned-by : (opened : LinkParameters) (link : ℕ) (before : List Mark) (xid : ℕ) (call : Call) (form : Form) (p : Plan) → plan_for (client opened link before).state xid call form ≡ Ok p → plan_of (call_payload xid call) form send_max send_max ≡ Ok p
+pub planned_by : (opened : LinkParameters) (link : ℕ) (before : List Mark) (xid : ℕ) (call : Call) (form : Form) (p : Plan) → plan_for (client opened link before).state xid call form ≡ Ok p → plan_of (call_payload xid call) form send_max send_max ≡ Ok p
 unfolding plan_for
-planned-by opened link before xid call form p e = limited-plan (client opened link before).state xid call form (Ok p) (client-limits-of opened link before) e
+planned_by opened link before xid call form p e = limited_plan (client opened link before).state xid call form (Ok p) (client_limits_of opened link before) e
 
 pub executes_have_plans : ExecutesHavePlans
 executes_have_plans opened link run before xid moment payload place reply typed far h =
-    let a = executed-at opened link run before h.after xid moment payload place reply typed far h.is in
+    let a = executed_at_lem opened link run before h.after xid moment payload place reply typed far h.is in
     let w = a.submit.submitted in (
       w.accepted.plan,
       subst (λ (x : ℕ). HasPlan opened link before x w.accepted.plan) a.submit.own_xid

@@ -11,9 +11,9 @@ use Rattle.nr_link.specs.Limits.{open_reads_max}
 use Rattle.nr_link.specs.Reasons.{REASON_MSN, REASON_OFFSET, REASON_FORM, REASON_RESPONSE, REASON_REQUESTS, REASON_SHORT, REASON_LONG}
 use Rattle.nr_link.specs.Output.{msn_word}
 use Rattle.nr_link.specs.Frames.{Frame}
-use Rattle.nr_link.specs.SegmentFaults.{Readiness, SegmentFault, segment_fault, first_fault, reason_if, missing_fault, is_begun, is_expected}
+use Rattle.nr_link.specs.SegmentFaults.{Readiness, SegmentReason, segment_reason, first_fault, reason_if, missing_fault, is_begun, is_expected}
 use Rattle.nr_link.specs.ReceiveState.{begun_bytes, read_request_in}
-use Rattle.nr_link.specs.SegmentFaults.SegmentFault.{NoBuffer}
+use Rattle.nr_link.specs.SegmentFaults.SegmentReason.{NoBuffer}
 use Rattle.nr_link.specs.Ending.{frame_end, frame_end_by, end_of_fault, frame_segment}
 use Rattle.nr_laws.proofs.FrameContents.{Carries}
 use Rattle.nr_laws.proofs.FrameContents.FrameContent.{SendFrame}
@@ -21,10 +21,10 @@ use Rattle.nr_laws.proofs.FrameContents.FrameContent.{SendFrame}
 itself : (n : ℕ) → eqb n n ≡ true
 itself n = eq-eqb n n refl
 
-pub send-flaw : {D : Type 0} (r : Readiness D) (m : List ℕ) → r.received.begun ≡ None → r.has_receive ≡ true → r.missing ≡ None → 16 ≤ length m → length m ≤ r.message_max
-    → segment_fault r (Untagged true OPCODE_SEND 0 QUEUE_SEND (msn_word (r.received.sends + 1)) 0 m) ≡ None
-unfolding segment_fault
-send-flaw r m b h l long short =
+pub send_flaw : {D : Type 0} (r : Readiness D) (m : List ℕ) → r.received.begun ≡ None → r.has_receive ≡ true → r.missing ≡ None → 16 ≤ length m → length m ≤ r.message_max
+    → segment_reason r (Untagged true OPCODE_SEND 0 QUEUE_SEND (msn_word (r.received.sends + 1)) 0 m) ≡ None
+unfolding segment_reason
+send_flaw r m b h l long short =
     (λ i. first_fault (reason_if REASON_MSN (not (itself (msn_word (r.received.sends + 1)) i))
     ∷ reason_if REASON_OFFSET (not (eqb 0 (length (begun_bytes (b i)))))
     ∷ cond (is_begun (b i) || h i) None (Some (NoBuffer (msn_word (r.received.sends + 1))))
@@ -48,10 +48,10 @@ skip_six None = refl
 skip_six (Some why) = refl
 
 -- a Read Request: what its access lacks alone
-pub request-flaw : {D : Type 0} (r : Readiness D) (payload : List ℕ) → length payload ≡ 28 → (read_request_in payload).sink_to + (read_request_in payload).size ≤ 2 ^ 64 → r.responses < open_reads_max
-    → segment_fault r (Untagged true OPCODE_READ_REQUEST 0 QUEUE_READ_REQUEST (msn_word (r.received.requests + 1)) 0 payload) ≡ first_fault (missing_fault r.missing ∷ [])
-unfolding segment_fault
-request-flaw r payload len fits few =
+pub request_flaw : {D : Type 0} (r : Readiness D) (payload : List ℕ) → length payload ≡ 28 → (read_request_in payload).sink_to + (read_request_in payload).size ≤ 2 ^ 64 → r.responses < open_reads_max
+    → segment_reason r (Untagged true OPCODE_READ_REQUEST 0 QUEUE_READ_REQUEST (msn_word (r.received.requests + 1)) 0 payload) ≡ first_fault (missing_fault r.missing ∷ [])
+unfolding segment_reason
+request_flaw r payload len fits few =
     (λ i. first_fault (reason_if REASON_MSN (not (itself (msn_word (r.received.requests + 1)) i))
     ∷ None
     ∷ None
@@ -62,25 +62,25 @@ request-flaw r payload len fits few =
     ∙ skip_six r.missing
 
 -- a Write likewise
-pub write-flaw : {D : Type 0} (r : Readiness D) (last : Bool) (stag to : ℕ) (payload : List ℕ) → segment_fault r (Tagged last OPCODE_WRITE stag to payload) ≡ first_fault (missing_fault r.missing ∷ [])
-unfolding segment_fault
-write-flaw r last stag to payload = skip_one r.missing
+pub write_flaw : {D : Type 0} (r : Readiness D) (last : Bool) (stag to : ℕ) (payload : List ℕ) → segment_reason r (Tagged last OPCODE_WRITE stag to payload) ≡ first_fault (missing_fault r.missing ∷ [])
+unfolding segment_reason
+write_flaw r last stag to payload = skip_one r.missing
 
 -- and a Response that is expected
-pub response-flaw : {D : Type 0} (r : Readiness D) (last : Bool) (stag to : ℕ) (payload : List ℕ) → is_expected r.expected last stag to (length payload) ≡ true
-    → segment_fault r (Tagged last OPCODE_READ_RESPONSE stag to payload) ≡ first_fault (missing_fault r.missing ∷ [])
-unfolding segment_fault
-response-flaw r last stag to payload e =
+pub response_flaw : {D : Type 0} (r : Readiness D) (last : Bool) (stag to : ℕ) (payload : List ℕ) → is_expected r.expected last stag to (length payload) ≡ true
+    → segment_reason r (Tagged last OPCODE_READ_RESPONSE stag to payload) ≡ first_fault (missing_fault r.missing ∷ [])
+unfolding segment_reason
+response_flaw r last stag to payload e =
     (λ i. first_fault (missing_fault r.missing ∷ reason_if REASON_RESPONSE (not (e i)) ∷ [])) ∙ skip_one r.missing
 
 -- a frame of a Send ends no side whose receive is there
-pub send-frame : (ready : Option Denied → Readiness Denied) (grants : List Grant) (n req : ℕ) (f : Frame) (m : List ℕ) → Carries n req f (SendFrame m)
+pub send_frame : (ready : Option Denied → Readiness Denied) (grants : List Grant) (n req : ℕ) (f : Frame) (m : List ℕ) → Carries n req f (SendFrame m)
     → (ready None).received.sends ≡ n → (ready None).received.begun ≡ None → (ready None).has_receive ≡ true → (ready None).missing ≡ None → 16 ≤ length m → length m ≤ (ready None).message_max
     → frame_end ready grants f ≡ None
 unfolding frame_end
-send-frame ready grants n req f m p same b h l long short =
+send_frame ready grants n req f m p same b h l long short =
     let segment : Segment = Untagged true OPCODE_SEND 0 QUEUE_SEND (msn_word ((ready None).received.sends + 1)) 0 m in
     let is : frame_segment f ≡ Ok segment =
     p.reads ∙ ap (λ (s : Segment). Ok s) (same_Some _ _ (sym p.is_segment)) ∙ ap (λ (k : ℕ). Ok (Untagged true OPCODE_SEND 0 QUEUE_SEND (msn_word (k + 1)) 0 m)) (sym same) in
     ap (λ (r : Result Segment ℕ). frame_end_by ready grants f r) is
-    ∙ ap (λ (x : Option (SegmentFault Denied)). end_of_fault f segment x) (send-flaw (ready None) m b h l long short)
+    ∙ ap (λ (x : Option (SegmentReason Denied)). end_of_fault f segment x) (send_flaw (ready None) m b h l long short)

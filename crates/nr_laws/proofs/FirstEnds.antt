@@ -13,9 +13,9 @@ use Rattle.nr_reduce.specs.declared.mark.LinkParameters.{LinkParameters}
 use Rattle.nr_reduce.specs.Opening.{IsOpened}
 use Rattle.nr_reduce.specs.Credits.{WithinGrant}
 use Rattle.nr_reduce.specs.History.{bytes_sent, bytes_received}
-use Rattle.nr_reduce.specs.Events.{Event, if_own, events_at}
-use Rattle.nr_reduce.specs.Events.Event.{FrameReceived, CallSubmitted, MemoryRevoked, CallExecuted, QueueWritten}
-use Rattle.nr_reduce.specs.EndRules.{EndState, Rules, live, end_state_after}
+use Rattle.nr_reduce.specs.Events.{RunEvent, if_own, events_at}
+use Rattle.nr_reduce.specs.Events.RunEvent.{FrameReceived, CallSubmitted, MemoryRevoked, CallExecuted, QueueWritten}
+use Rattle.nr_reduce.specs.EndRules.{EndState, EndMachine, live, end_state_after}
 use Rattle.nr_reduce.specs.ClientState.{ClientState}
 use Rattle.nr_reduce.specs.ServerState.{ServerState}
 use Rattle.nr_reduce.specs.Client.{client_rules}
@@ -25,7 +25,7 @@ use Rattle.nr_reduce.specs.AtEachMark.{AtEachMark}
 use Rattle.nr_reduce.specs.Matched.{MatchedMark, IsPrefixOf}
 use Rattle.nr_reduce.specs.Asked.{AskedMark, IsAll}
 use Rattle.nr_reduce.specs.Served.{ServedMark}
-use Rattle.nr_reduce.proofs.Steps.{client-one, server-one, ended-stays}
+use Rattle.nr_reduce.proofs.Steps.{client_one, server_one, ended_stays}
 use Rattle.nr_laws.specs.Typed.{TypedMark}
 use Rattle.nr_laws.specs.EndCauses.{IsDenied}
 use Rattle.nr_laws.proofs.EndReasons.{EndsForCall, EndsForMessage, FirstServerEnd, FirstClientEnd}
@@ -34,11 +34,11 @@ use Rattle.nr_laws.proofs.Bytes.{bytes_both}
 use Rattle.nr_laws.proofs.StreamFrames.{frames_at}
 use Rattle.nr_laws.proofs.Writable.{IsOutput}
 use Rattle.nr_laws.proofs.Guards.{Guards}
-use Rattle.nr_laws.proofs.ServerFrames.{events_of, server-ends}
-use Rattle.nr_laws.proofs.ClientFrames.{client-ends}
-use Rattle.nr_laws.proofs.AgreeingRuns.{RunAgrees, MarkAgrees, place_of, goes-on, arrives, other-events}
-use Rattle.nr_laws.proofs.AgreeingMarks.{client-event, server-event}
-use Rattle.nr_laws.proofs.EachRun.{starts, goes-mark, no-events, client-unended, server-unended}
+use Rattle.nr_laws.proofs.ServerFrames.{events_of, server_ends}
+use Rattle.nr_laws.proofs.ClientFrames.{client_ends}
+use Rattle.nr_laws.proofs.AgreeingRuns.{RunAgrees, MarkAgrees, place_of, goes_on_lem, arrives, other_events}
+use Rattle.nr_laws.proofs.AgreeingMarks.{client_event, server_event}
+use Rattle.nr_laws.proofs.EachRun.{starts, goes_mark, no_events_lem, client_unended, server_unended}
 
 -- ---- With guards, from mark to mark
 
@@ -46,38 +46,38 @@ pub record Guarded (opened : LinkParameters) (link : ℕ) (run : List Mark) : Ty
   pub joined : RunAgrees opened link run
   pub guards : Guards opened joined.k joined.s joined.u joined.d joined.all_up joined.all_down joined.w (place_of joined.u)
 
-guarded-more : (opened : LinkParameters) (link : ℕ) (run : List Mark) (mark : Mark) (j : RunAgrees opened link run) → MarkAgrees opened link run mark j → IsOpened opened → WithinGrant opened link run mark
+guarded_more : (opened : LinkParameters) (link : ℕ) (run : List Mark) (mark : Mark) (j : RunAgrees opened link run) → MarkAgrees opened link run mark j → IsOpened opened → WithinGrant opened link run mark
     → Guards opened j.k j.s j.u j.d j.all_up j.all_down j.w (place_of j.u) → Guarded opened link (run ++ mark ∷ [])
-unfolding goes-on
-guarded-more opened link run mark j g o within guards = record { joined = goes-on opened link run mark j g; guards = g.guarded o within guards }
+unfolding goes_on_lem
+guarded_more opened link run mark j g o within guards = record { joined = goes_on_lem opened link run mark j g; guards = g.guarded o within guards }
 
 -- ---- The server
 
-lasts : {S : Type 0} (rules : Rules S) (state : List Mark → EndState S) (added : List Mark → Mark → List Event) → ((before : List Mark) (m : Mark) → state (before ++ m ∷ []) ≡ end_state_after rules (state before) (added before m)) → (before more : List Mark) (end : End)
+lasts : {S : Type 0} (rules : EndMachine S) (state : List Mark → EndState S) (added : List Mark → Mark → List RunEvent) → ((before : List Mark) (m : Mark) → state (before ++ m ∷ []) ≡ end_state_after rules (state before) (added before m)) → (before more : List Mark) (end : End)
     → (state before).ended ≡ Some end → (state (before ++ more)).ended ≡ Some end
 lasts rules state added one before [] end e = ap (λ (run : List Mark). (state run).ended) (append-nil before) ∙ e
 lasts {S} rules state added one before (m ∷ more) end e =
     let r = state before in
     let same : r ≡ record { state = r.state; ended = Some end } = λ i. record { state = r.state; ended = e i } in
     let next : (state (before ++ m ∷ [])).ended ≡ Some end =
-    ap (λ (x : EndState S). x.ended) (one before m) ∙ ap (λ (x : EndState S). (end_state_after rules x (added before m)).ended) same ∙ ap (λ (x : EndState S). x.ended) (ended-stays rules r.state end (added before m)).0 in
+    ap (λ (x : EndState S). x.ended) (one before m) ∙ ap (λ (x : EndState S). (end_state_after rules x (added before m)).ended) same ∙ ap (λ (x : EndState S). x.ended) (ended_stays rules r.state end (added before m)).0 in
     ap (λ (run : List Mark). (state run).ended) (sym (append_assoc before (m ∷ []) more)) ∙ lasts rules state added one (before ++ m ∷ []) more end next
 
-server-last : (opened : LinkParameters) (link : ℕ) (before more : List Mark) (end : End) → (server opened link before).ended ≡ Some end → (server opened link (before ++ more)).ended ≡ Some end
-server-last opened link before more end e = lasts (server_rules opened) (λ run. server opened link run) (λ earlier m. events_at link Responder earlier m) (λ earlier m. server-one opened link earlier m) before more end e
+server_last : (opened : LinkParameters) (link : ℕ) (before more : List Mark) (end : End) → (server opened link before).ended ≡ Some end → (server opened link (before ++ more)).ended ≡ Some end
+server_last opened link before more end e = lasts (server_rules opened) (λ run. server opened link run) (λ earlier m. events_at link Responder earlier m) (λ earlier m. server_one opened link earlier m) before more end e
 
 -- no event, or one that is no frame, ends it
-not-by-none : (opened : LinkParameters) (s : ServerState) (es : List Event) (end : End) → es ≡ [] → (end_state_after (server_rules opened) (live s) es).ended ≡ Some end → EndsForCall end
-not-by-none opened s es end none e = absurd (let wrong : None ≡ Some end = ap (λ (xs : List Event). (end_state_after (server_rules opened) (live s) xs).ended) (sym none) ∙ e in cc)
+not_by_none : (opened : LinkParameters) (s : ServerState) (es : List RunEvent) (end : End) → es ≡ [] → (end_state_after (server_rules opened) (live s) es).ended ≡ Some end → EndsForCall end
+not_by_none opened s es end none e = absurd (let wrong : None ≡ Some end = ap (λ (xs : List RunEvent). (end_state_after (server_rules opened) (live s) xs).ended) (sym none) ∙ e in cc)
 
-not-by-one : (opened : LinkParameters) (s : ServerState) (es : List Event) (event : Event) (b : Bool) (end : End) → ((f : Frame) → event ≢ FrameReceived f) → es ≡ if_own b (event ∷ []) → (end_state_after (server_rules opened) (live s) es).ended ≡ Some end → EndsForCall end
-not-by-one opened s es event true end other is e =
-    absurd (let wrong : None ≡ Some end = sym (ap (λ (xs : List Event). (end_state_after (server_rules opened) (live s) xs).ended) is ∙ ap (λ (x : EndState ServerState). x.ended) (server-event opened s event other).state) ∙ e in cc)
-not-by-one opened s es event false end other is e = not-by-none opened s es end is e
+not_by_one : (opened : LinkParameters) (s : ServerState) (es : List RunEvent) (event : RunEvent) (b : Bool) (end : End) → ((f : Frame) → event ≢ FrameReceived f) → es ≡ if_own b (event ∷ []) → (end_state_after (server_rules opened) (live s) es).ended ≡ Some end → EndsForCall end
+not_by_one opened s es event true end other is e =
+    absurd (let wrong : None ≡ Some end = sym (ap (λ (xs : List RunEvent). (end_state_after (server_rules opened) (live s) xs).ended) is ∙ ap (λ (x : EndState ServerState). x.ended) (server_event opened s event other).state) ∙ e in cc)
+not_by_one opened s es event false end other is e = not_by_none opened s es end is e
 
-by-fed : (opened : LinkParameters) (link : ℕ) (run : List Mark) (bytes : List ℕ) (g : Guarded opened link run) → IsOpened opened → IsPrefixOf (bytes_received link Responder run ++ bytes) (bytes_sent link Initiator run) → IsBytes bytes
+by_fed : (opened : LinkParameters) (link : ℕ) (run : List Mark) (bytes : List ℕ) (g : Guarded opened link run) → IsOpened opened → IsPrefixOf (bytes_received link Responder run ++ bytes) (bytes_sent link Initiator run) → IsBytes bytes
     → (end : End) → (end_state_after (server_rules opened) (live g.joined.s) (map FrameReceived (frames_completed Initiator (bytes_received link Responder run) bytes))).ended ≡ Some end → EndsForCall end
-by-fed opened link run bytes g o prefix typed end e =
+by_fed opened link run bytes g o prefix typed end e =
     let j = g.joined in
     let got = bytes_received link Responder run in
     let stream : IsOutput (j.u ++ (j.w.up ++ j.w.queued_up)) = subst IsOutput (sym j.linked.parts_up) j.linked.stream_up in
@@ -86,39 +86,39 @@ by-fed opened link run bytes g o prefix typed end e =
     let r = 0 + total_of requests_in j.u in
     let es = events_of (place_of j.u) (frames_at Initiator n r a.new) in
     let same : map FrameReceived (frames_completed Initiator got bytes) ≡ es = ap (λ (fs : List Frame). map FrameReceived fs) a.frames in
-    server-ends opened j.k j.d j.all_up a.left o end a.new j.s j.u j.all_down j.w n r (place_of j.u) j.linked g.guards a.parts (omega arith) (omega arith) a.place a.bytes_are a.some
-    (ap (λ (xs : List Event). (end_state_after (server_rules opened) (live j.s) xs).ended) (sym same) ∙ e)
+    server_ends opened j.k j.d j.all_up a.left o end a.new j.s j.u j.all_down j.w n r (place_of j.u) j.linked g.guards a.parts (omega arith) (omega arith) a.place a.bytes_are a.some
+    (ap (λ (xs : List RunEvent). (end_state_after (server_rules opened) (live j.s) xs).ended) (sym same) ∙ e)
 
-server-mark : (opened : LinkParameters) (link : ℕ) (run : List Mark) (mark : Mark) (g : Guarded opened link run) → IsOpened opened → MatchedMark link run mark → TypedMark run mark → (end : End)
+server_mark : (opened : LinkParameters) (link : ℕ) (run : List Mark) (mark : Mark) (g : Guarded opened link run) → IsOpened opened → MatchedMark link run mark → TypedMark run mark → (end : End)
     → (end_state_after (server_rules opened) (live g.joined.s) (events_at link Responder run mark)).ended ≡ Some end → EndsForCall end
-server-mark opened link run (marks.Submit l call form (submissions.Accepted xid)) g o matched typed end e = not-by-none opened g.joined.s _ end (other-events (eqb l link) _) e
-server-mark opened link run (marks.Submit l call form (submissions.Refused why)) g o matched typed end e = not-by-none opened g.joined.s _ end refl e
-server-mark opened link run (marks.Submit l call form submissions.Dropped) g o matched typed end e = not-by-none opened g.joined.s _ end refl e
-server-mark opened link run (marks.Wrote l Initiator bytes) g o matched typed end e = not-by-none opened g.joined.s _ end (other-events (eqb l link) _) e
-server-mark opened link run (marks.Wrote l Responder bytes) g o matched typed end e = not-by-one opened g.joined.s _ (QueueWritten (length bytes)) (eqb l link && true) end (λ f x. absurd cc) refl e
-server-mark opened link run (marks.Fed l Initiator bytes) g o matched typed end e = not-by-none opened g.joined.s _ end (other-events (eqb l link) _) e
-server-mark opened link run (marks.Fed l Responder bytes) g o matched typed end e = by (eqb l link) refl
+server_mark opened link run (marks.Submit l call form (submissions.Accepted xid)) g o matched typed end e = not_by_none opened g.joined.s _ end (other_events (eqb l link) _) e
+server_mark opened link run (marks.Submit l call form (submissions.Refused why)) g o matched typed end e = not_by_none opened g.joined.s _ end refl e
+server_mark opened link run (marks.Submit l call form submissions.Dropped) g o matched typed end e = not_by_none opened g.joined.s _ end refl e
+server_mark opened link run (marks.Wrote l Initiator bytes) g o matched typed end e = not_by_none opened g.joined.s _ end (other_events (eqb l link) _) e
+server_mark opened link run (marks.Wrote l Responder bytes) g o matched typed end e = not_by_one opened g.joined.s _ (QueueWritten (length bytes)) (eqb l link && true) end (λ f x. absurd cc) refl e
+server_mark opened link run (marks.Fed l Initiator bytes) g o matched typed end e = not_by_none opened g.joined.s _ end (other_events (eqb l link) _) e
+server_mark opened link run (marks.Fed l Responder bytes) g o matched typed end e = by (eqb l link) refl
   where
     fs : List Frame
     fs = frames_completed Initiator (bytes_received link Responder run) bytes
 
     by : (b : Bool) → eqb l link ≡ b → EndsForCall end
-    by true is = by-fed opened link run bytes g o (matched (eqb-true l link is)) typed end (ap (λ (b : Bool). (end_state_after (server_rules opened) (live g.joined.s) (if_own (b && true) (map FrameReceived fs))).ended) (sym is) ∙ e)
-    by false is = not-by-none opened g.joined.s _ end (no-events (eqb l link) true (map FrameReceived fs) is) e
-server-mark opened link run (marks.Execute l xid moment payload place reply) g o matched typed end e =
-    not-by-one opened g.joined.s _ (CallExecuted (record { xid = xid; moment = moment; payload = payload; place = place; reply = reply })) (eqb l link && true) end (λ f x. absurd cc) refl e
-server-mark opened link run (marks.Done l xid outcome) g o matched typed end e = not-by-none opened g.joined.s _ end refl e
-server-mark opened link run (marks.Lost l xid) g o matched typed end e = not-by-none opened g.joined.s _ end refl e
-server-mark opened link run (marks.Forget l xid) g o matched typed end e = not-by-none opened g.joined.s _ end refl e
-server-mark opened link run (marks.Revoke l xid bytes) g o matched typed end e = not-by-none opened g.joined.s _ end (other-events (eqb l link) _) e
-server-mark opened link run (marks.Drop l) g o matched typed end e = not-by-none opened g.joined.s _ end refl e
+    by true is = by_fed opened link run bytes g o (matched (eqb-true l link is)) typed end (ap (λ (b : Bool). (end_state_after (server_rules opened) (live g.joined.s) (if_own (b && true) (map FrameReceived fs))).ended) (sym is) ∙ e)
+    by false is = not_by_none opened g.joined.s _ end (no_events_lem (eqb l link) true (map FrameReceived fs) is) e
+server_mark opened link run (marks.Execute l xid moment payload place reply) g o matched typed end e =
+    not_by_one opened g.joined.s _ (CallExecuted (record { xid = xid; moment = moment; payload = payload; place = place; reply = reply })) (eqb l link && true) end (λ f x. absurd cc) refl e
+server_mark opened link run (marks.Done l xid outcome) g o matched typed end e = not_by_none opened g.joined.s _ end refl e
+server_mark opened link run (marks.Lost l xid) g o matched typed end e = not_by_none opened g.joined.s _ end refl e
+server_mark opened link run (marks.Forget l xid) g o matched typed end e = not_by_none opened g.joined.s _ end refl e
+server_mark opened link run (marks.Revoke l xid bytes) g o matched typed end e = not_by_none opened g.joined.s _ end (other_events (eqb l link) _) e
+server_mark opened link run (marks.Drop l) g o matched typed end e = not_by_none opened g.joined.s _ end refl e
 
-server-from : (opened : LinkParameters) (link : ℕ) (o : IsOpened opened) (end : End) (run before : List Mark) → Guarded opened link before → AtEachMark (AskedMark IsAll opened link) before run → AtEachMark (ServedMark IsAll opened link) before run → AtEachMark (MatchedMark link) before run
+server_from : (opened : LinkParameters) (link : ℕ) (o : IsOpened opened) (end : End) (run before : List Mark) → Guarded opened link before → AtEachMark (AskedMark IsAll opened link) before run → AtEachMark (ServedMark IsAll opened link) before run → AtEachMark (MatchedMark link) before run
     → AtEachMark (WithinGrant opened link) before run → AtEachMark TypedMark before run → (client opened link (before ++ run)).ended ≡ None → (server opened link (before ++ run)).ended ≡ Some end → EndsForCall end
-server-from opened link o end [] before g asked served matched grant typed up down =
+server_from opened link o end [] before g asked served matched grant typed up down =
     absurd (let wrong : None ≡ Some end = sym (ap (λ (r : List Mark). (server opened link r).ended) (append-nil before) ∙ ap (λ (x : EndState ServerState). x.ended) g.joined.server_is) ∙ down in cc)
-server-from opened link o end (m ∷ run) before g asked served matched grant typed up down =
-    by (server opened link (before ++ m ∷ [])).ended refl (λ next. server-from opened link o end run (before ++ m ∷ []) next asked.1 served.1 matched.1 grant.1 typed.1 up_all down_all)
+server_from opened link o end (m ∷ run) before g asked served matched grant typed up down =
+    by (server opened link (before ++ m ∷ [])).ended refl (λ next. server_from opened link o end run (before ++ m ∷ []) next asked.1 served.1 matched.1 grant.1 typed.1 up_all down_all)
   where
     assoc : (before ++ m ∷ []) ++ run ≡ before ++ m ∷ run
     assoc = append_assoc before (m ∷ []) run
@@ -130,69 +130,69 @@ server-from opened link o end (m ∷ run) before g asked served matched grant ty
     down_all = ap (λ (r : List Mark). (server opened link r).ended) assoc ∙ down
 
     one : server opened link (before ++ m ∷ []) ≡ end_state_after (server_rules opened) (live g.joined.s) (events_at link Responder before m)
-    one = server-one opened link before m ∙ ap (λ (r : EndState ServerState). end_state_after (server_rules opened) r (events_at link Responder before m)) g.joined.server_is
+    one = server_one opened link before m ∙ ap (λ (r : EndState ServerState). end_state_after (server_rules opened) r (events_at link Responder before m)) g.joined.server_is
 
     by : (x : Option End) → (server opened link (before ++ m ∷ [])).ended ≡ x → (Guarded opened link (before ++ m ∷ []) → EndsForCall end) → EndsForCall end
     by None is later =
-        later (guarded-more opened link before m g.joined (goes-mark opened link before m g.joined asked.0 served.0 matched.0 typed.0 (client-unended opened link (before ++ m ∷ []) run up_all) is) o grant.0 g.guards)
+        later (guarded_more opened link before m g.joined (goes_mark opened link before m g.joined asked.0 served.0 matched.0 typed.0 (client_unended opened link (before ++ m ∷ []) run up_all) is) o grant.0 g.guards)
     by (Some x) is later =
-        let same : Some x ≡ Some end = sym (server-last opened link (before ++ m ∷ []) run x is) ∙ down_all in
-        server-mark opened link before m g o matched.0 typed.0 end (ap (λ (r : EndState ServerState). r.ended) (sym one) ∙ is ∙ same)
+        let same : Some x ≡ Some end = sym (server_last opened link (before ++ m ∷ []) run x is) ∙ down_all in
+        server_mark opened link before m g o matched.0 typed.0 end (ap (λ (r : EndState ServerState). r.ended) (sym one) ∙ is ∙ same)
 
-pub first-server-end : FirstServerEnd
+pub first_server_end : FirstServerEnd
 unfolding end_of_side
-first-server-end opened link run o typed laws up end down =
+first_server_end opened link run o typed laws up end down =
     let start = starts opened link in
-    server-from opened link o end run [] (record { joined = start.joined; guards = start.guards o }) laws.client laws.server laws.matched laws.grant typed up down
+    server_from opened link o end run [] (record { joined = start.joined; guards = start.guards o }) laws.client laws.server laws.matched laws.grant typed up down
 
 -- ---- The client
 
-pub client-last : (opened : LinkParameters) (link : ℕ) (before more : List Mark) (end : End) → (client opened link before).ended ≡ Some end → (client opened link (before ++ more)).ended ≡ Some end
-client-last opened link before more end e = lasts (client_rules opened) (λ run. client opened link run) (λ earlier m. events_at link Initiator earlier m) (λ earlier m. client-one opened link earlier m) before more end e
+pub client_last : (opened : LinkParameters) (link : ℕ) (before more : List Mark) (end : End) → (client opened link before).ended ≡ Some end → (client opened link (before ++ more)).ended ≡ Some end
+client_last opened link before more end e = lasts (client_rules opened) (λ run. client opened link run) (λ earlier m. events_at link Initiator earlier m) (λ earlier m. client_one opened link earlier m) before more end e
 
 abbrev IsClientEnd : End → Type 0
 IsClientEnd end = EndsForMessage end ⊎ IsDenied end
 
 -- an event that is no frame ends no client
-none-ends : (opened : LinkParameters) (k : ClientState) (es : List Event) (end : End) → es ≡ [] → (end_state_after (client_rules opened) (live k) es).ended ≡ Some end → ⊥
-none-ends opened k es end none e = absurd (let wrong : None ≡ Some end = ap (λ (xs : List Event). (end_state_after (client_rules opened) (live k) xs).ended) (sym none) ∙ e in cc)
+none_ends : (opened : LinkParameters) (k : ClientState) (es : List RunEvent) (end : End) → es ≡ [] → (end_state_after (client_rules opened) (live k) es).ended ≡ Some end → ⊥
+none_ends opened k es end none e = absurd (let wrong : None ≡ Some end = ap (λ (xs : List RunEvent). (end_state_after (client_rules opened) (live k) xs).ended) (sym none) ∙ e in cc)
 
-one-ends : (opened : LinkParameters) (k : ClientState) (es : List Event) (event : Event) (b : Bool) (end : End) → ((f : Frame) → event ≢ FrameReceived f) → es ≡ if_own b (event ∷ []) → (end_state_after (client_rules opened) (live k) es).ended ≡ Some end → ⊥
-one-ends opened k es event true end other is e =
-    absurd (let wrong : None ≡ Some end = sym (ap (λ (xs : List Event). (end_state_after (client_rules opened) (live k) xs).ended) is ∙ ap (λ (x : EndState ClientState). x.ended) (client-event opened k event other).state) ∙ e in cc)
-one-ends opened k es event false end other is e = none-ends opened k es end is e
+one_ends : (opened : LinkParameters) (k : ClientState) (es : List RunEvent) (event : RunEvent) (b : Bool) (end : End) → ((f : Frame) → event ≢ FrameReceived f) → es ≡ if_own b (event ∷ []) → (end_state_after (client_rules opened) (live k) es).ended ≡ Some end → ⊥
+one_ends opened k es event true end other is e =
+    absurd (let wrong : None ≡ Some end = sym (ap (λ (xs : List RunEvent). (end_state_after (client_rules opened) (live k) xs).ended) is ∙ ap (λ (x : EndState ClientState). x.ended) (client_event opened k event other).state) ∙ e in cc)
+one_ends opened k es event false end other is e = none_ends opened k es end is e
 
 -- so a client ends where it is fed bytes
-pub fed-ends : (opened : LinkParameters) (link : ℕ) (run : List Mark) (mark : Mark) (k : ClientState) (end : End) (Lasting : Type 0) → MatchedMark link run mark → TypedMark run mark
+pub fed_ends : (opened : LinkParameters) (link : ℕ) (run : List Mark) (mark : Mark) (k : ClientState) (end : End) (Lasting : Type 0) → MatchedMark link run mark → TypedMark run mark
     → ((bytes : List ℕ) → IsPrefixOf (bytes_received link Initiator run ++ bytes) (bytes_sent link Responder run) → IsBytes bytes
     → (end_state_after (client_rules opened) (live k) (map FrameReceived (frames_completed Responder (bytes_received link Initiator run) bytes))).ended ≡ Some end → Lasting)
     → (end_state_after (client_rules opened) (live k) (events_at link Initiator run mark)).ended ≡ Some end → Lasting
-fed-ends opened link run (marks.Submit l call form (submissions.Accepted xid)) k end Lasting matched typed fed e =
-    absurd (one-ends opened k _ (CallSubmitted (length (bytes_received link Initiator run)) (record { xid = xid; call = call; form = form })) (eqb l link && true) end (λ f x. absurd cc) refl e)
-fed-ends opened link run (marks.Submit l call form (submissions.Refused why)) k end Lasting matched typed fed e = absurd (none-ends opened k _ end refl e)
-fed-ends opened link run (marks.Submit l call form submissions.Dropped) k end Lasting matched typed fed e = absurd (none-ends opened k _ end refl e)
-fed-ends opened link run (marks.Wrote l Initiator bytes) k end Lasting matched typed fed e = absurd (one-ends opened k _ (QueueWritten (length bytes)) (eqb l link && true) end (λ f x. absurd cc) refl e)
-fed-ends opened link run (marks.Wrote l Responder bytes) k end Lasting matched typed fed e = absurd (none-ends opened k _ end (other-events (eqb l link) _) e)
-fed-ends opened link run (marks.Fed l Initiator bytes) k end Lasting matched typed fed e = by (eqb l link) refl
+fed_ends opened link run (marks.Submit l call form (submissions.Accepted xid)) k end Lasting matched typed fed e =
+    absurd (one_ends opened k _ (CallSubmitted (length (bytes_received link Initiator run)) (record { xid = xid; call = call; form = form })) (eqb l link && true) end (λ f x. absurd cc) refl e)
+fed_ends opened link run (marks.Submit l call form (submissions.Refused why)) k end Lasting matched typed fed e = absurd (none_ends opened k _ end refl e)
+fed_ends opened link run (marks.Submit l call form submissions.Dropped) k end Lasting matched typed fed e = absurd (none_ends opened k _ end refl e)
+fed_ends opened link run (marks.Wrote l Initiator bytes) k end Lasting matched typed fed e = absurd (one_ends opened k _ (QueueWritten (length bytes)) (eqb l link && true) end (λ f x. absurd cc) refl e)
+fed_ends opened link run (marks.Wrote l Responder bytes) k end Lasting matched typed fed e = absurd (none_ends opened k _ end (other_events (eqb l link) _) e)
+fed_ends opened link run (marks.Fed l Initiator bytes) k end Lasting matched typed fed e = by (eqb l link) refl
   where
     fs : List Frame
     fs = frames_completed Responder (bytes_received link Initiator run) bytes
 
     by : (b : Bool) → eqb l link ≡ b → Lasting
     by true is = fed bytes (matched (eqb-true l link is)) typed (ap (λ (b : Bool). (end_state_after (client_rules opened) (live k) (if_own (b && true) (map FrameReceived fs))).ended) (sym is) ∙ e)
-    by false is = absurd (none-ends opened k _ end (no-events (eqb l link) true (map FrameReceived fs) is) e)
-fed-ends opened link run (marks.Fed l Responder bytes) k end Lasting matched typed fed e = absurd (none-ends opened k _ end (other-events (eqb l link) _) e)
-fed-ends opened link run (marks.Execute l xid moment payload place reply) k end Lasting matched typed fed e = absurd (none-ends opened k _ end (other-events (eqb l link) _) e)
-fed-ends opened link run (marks.Done l xid outcome) k end Lasting matched typed fed e = absurd (none-ends opened k _ end refl e)
-fed-ends opened link run (marks.Lost l xid) k end Lasting matched typed fed e = absurd (none-ends opened k _ end refl e)
-fed-ends opened link run (marks.Forget l xid) k end Lasting matched typed fed e = absurd (none-ends opened k _ end refl e)
-fed-ends opened link run (marks.Revoke l xid bytes) k end Lasting matched typed fed e =
-    absurd (one-ends opened k _ (MemoryRevoked (length (bytes_received link Initiator run)) xid) (eqb l link && true) end (λ f x. absurd cc) refl e)
-fed-ends opened link run (marks.Drop l) k end Lasting matched typed fed e = absurd (none-ends opened k _ end refl e)
+    by false is = absurd (none_ends opened k _ end (no_events_lem (eqb l link) true (map FrameReceived fs) is) e)
+fed_ends opened link run (marks.Fed l Responder bytes) k end Lasting matched typed fed e = absurd (none_ends opened k _ end (other_events (eqb l link) _) e)
+fed_ends opened link run (marks.Execute l xid moment payload place reply) k end Lasting matched typed fed e = absurd (none_ends opened k _ end (other_events (eqb l link) _) e)
+fed_ends opened link run (marks.Done l xid outcome) k end Lasting matched typed fed e = absurd (none_ends opened k _ end refl e)
+fed_ends opened link run (marks.Lost l xid) k end Lasting matched typed fed e = absurd (none_ends opened k _ end refl e)
+fed_ends opened link run (marks.Forget l xid) k end Lasting matched typed fed e = absurd (none_ends opened k _ end refl e)
+fed_ends opened link run (marks.Revoke l xid bytes) k end Lasting matched typed fed e =
+    absurd (one_ends opened k _ (MemoryRevoked (length (bytes_received link Initiator run)) xid) (eqb l link && true) end (λ f x. absurd cc) refl e)
+fed_ends opened link run (marks.Drop l) k end Lasting matched typed fed e = absurd (none_ends opened k _ end refl e)
 
-client-fed : (opened : LinkParameters) (link : ℕ) (run : List Mark) (bytes : List ℕ) (g : Guarded opened link run) → IsOpened opened → IsPrefixOf (bytes_received link Initiator run ++ bytes) (bytes_sent link Responder run) → IsBytes bytes
+client_fed : (opened : LinkParameters) (link : ℕ) (run : List Mark) (bytes : List ℕ) (g : Guarded opened link run) → IsOpened opened → IsPrefixOf (bytes_received link Initiator run ++ bytes) (bytes_sent link Responder run) → IsBytes bytes
     → (end : End) → (end_state_after (client_rules opened) (live g.joined.k) (map FrameReceived (frames_completed Responder (bytes_received link Initiator run) bytes))).ended ≡ Some end → IsClientEnd end
-client-fed opened link run bytes g o prefix typed end e =
+client_fed opened link run bytes g o prefix typed end e =
     let j = g.joined in
     let got = bytes_received link Initiator run in
     let stream : IsOutput (j.d ++ (j.w.down ++ j.w.queued_down)) = subst IsOutput (sym j.linked.parts_down) j.linked.stream_down in
@@ -202,20 +202,20 @@ client-fed opened link run bytes g o prefix typed end e =
     let place = length (concat (frames_at Responder 0 0 j.d)) in
     let es = events_of place (frames_at Responder n r a.new) in
     let same : map FrameReceived (frames_completed Responder got bytes) ≡ es = ap (λ (fs : List Frame). map FrameReceived fs) a.frames in
-    client-ends opened j.s j.u j.all_down a.left o end (place_of j.u) a.new j.k j.d j.all_up j.w n r place j.linked g.guards a.parts (omega arith) (omega arith) a.place a.bytes_are a.some
-    (ap (λ (xs : List Event). (end_state_after (client_rules opened) (live j.k) xs).ended) (sym same) ∙ e)
+    client_ends opened j.s j.u j.all_down a.left o end (place_of j.u) a.new j.k j.d j.all_up j.w n r place j.linked g.guards a.parts (omega arith) (omega arith) a.place a.bytes_are a.some
+    (ap (λ (xs : List RunEvent). (end_state_after (client_rules opened) (live j.k) xs).ended) (sym same) ∙ e)
 
 -- along a run, what is kept while neither side ends decides why the client ends
-pub client-first : (opened : LinkParameters) (link : ℕ) (State : List Mark → Type 0) (joined : (before : List Mark) → State before → RunAgrees opened link before) (Kept : List Mark → Mark → Type 0) (end : End) (Lasting : Type 0)
+pub client_first : (opened : LinkParameters) (link : ℕ) (State : List Mark → Type 0) (joined : (before : List Mark) → State before → RunAgrees opened link before) (Kept : List Mark → Mark → Type 0) (end : End) (Lasting : Type 0)
     → ((before : List Mark) (m : Mark) (a : State before) → MarkAgrees opened link before m (joined before a) → TypedMark before m → Kept before m → State (before ++ m ∷ []))
     → ((before : List Mark) (bytes : List ℕ) (a : State before) → IsPrefixOf (bytes_received link Initiator before ++ bytes) (bytes_sent link Responder before) → IsBytes bytes
     → (end_state_after (client_rules opened) (live (joined before a).k) (map FrameReceived (frames_completed Responder (bytes_received link Initiator before) bytes))).ended ≡ Some end → Lasting)
     → (run before : List Mark) → State before → AtEachMark (AskedMark IsAll opened link) before run → AtEachMark (ServedMark IsAll opened link) before run → AtEachMark (MatchedMark link) before run → AtEachMark Kept before run → AtEachMark TypedMark before run
     → (server opened link (before ++ run)).ended ≡ None → (client opened link (before ++ run)).ended ≡ Some end → Lasting
-client-first opened link State joined Kept end Lasting more fed [] before a asked served matched kept typed down up =
+client_first opened link State joined Kept end Lasting more fed [] before a asked served matched kept typed down up =
     absurd (let wrong : None ≡ Some end = sym (ap (λ (r : List Mark). (client opened link r).ended) (append-nil before) ∙ ap (λ (x : EndState ClientState). x.ended) (joined before a).client_is) ∙ up in cc)
-client-first opened link State joined Kept end Lasting more fed (m ∷ run) before a asked served matched kept typed down up =
-    by (client opened link (before ++ m ∷ [])).ended refl (λ next. client-first opened link State joined Kept end Lasting more fed run (before ++ m ∷ []) next asked.1 served.1 matched.1 kept.1 typed.1 down_all up_all)
+client_first opened link State joined Kept end Lasting more fed (m ∷ run) before a asked served matched kept typed down up =
+    by (client opened link (before ++ m ∷ [])).ended refl (λ next. client_first opened link State joined Kept end Lasting more fed run (before ++ m ∷ []) next asked.1 served.1 matched.1 kept.1 typed.1 down_all up_all)
   where
     j : RunAgrees opened link before
     j = joined before a
@@ -230,18 +230,18 @@ client-first opened link State joined Kept end Lasting more fed (m ∷ run) befo
     up_all = ap (λ (r : List Mark). (client opened link r).ended) assoc ∙ up
 
     one : client opened link (before ++ m ∷ []) ≡ end_state_after (client_rules opened) (live j.k) (events_at link Initiator before m)
-    one = client-one opened link before m ∙ ap (λ (r : EndState ClientState). end_state_after (client_rules opened) r (events_at link Initiator before m)) j.client_is
+    one = client_one opened link before m ∙ ap (λ (r : EndState ClientState). end_state_after (client_rules opened) r (events_at link Initiator before m)) j.client_is
 
     by : (x : Option End) → (client opened link (before ++ m ∷ [])).ended ≡ x → (State (before ++ m ∷ []) → Lasting) → Lasting
     by None is next =
-        next (more before m a (goes-mark opened link before m j asked.0 served.0 matched.0 typed.0 is (server-unended opened link (before ++ m ∷ []) run down_all)) typed.0 kept.0)
+        next (more before m a (goes_mark opened link before m j asked.0 served.0 matched.0 typed.0 is (server_unended opened link (before ++ m ∷ []) run down_all)) typed.0 kept.0)
     by (Some x) is next =
-        let same : Some x ≡ Some end = sym (client-last opened link (before ++ m ∷ []) run x is) ∙ up_all in
-        fed-ends opened link before m j.k end Lasting matched.0 typed.0 (λ bytes prefix typed e. fed before bytes a prefix typed e) (ap (λ (r : EndState ClientState). r.ended) (sym one) ∙ is ∙ same)
+        let same : Some x ≡ Some end = sym (client_last opened link (before ++ m ∷ []) run x is) ∙ up_all in
+        fed_ends opened link before m j.k end Lasting matched.0 typed.0 (λ bytes prefix typed e. fed before bytes a prefix typed e) (ap (λ (r : EndState ClientState). r.ended) (sym one) ∙ is ∙ same)
 
-pub first-client-end : FirstClientEnd
+pub first_client_end : FirstClientEnd
 unfolding end_of_side
-first-client-end opened link run o typed laws down end up =
+first_client_end opened link run o typed laws down end up =
     let start = starts opened link in
-    client-first opened link (Guarded opened link) (λ before g. g.joined) (WithinGrant opened link) end (IsClientEnd end) (λ before m g agrees typed within. guarded-more opened link before m g.joined agrees o within g.guards)
-    (λ before bytes g prefix typed e. client-fed opened link before bytes g o prefix typed end e) run [] (record { joined = start.joined; guards = start.guards o }) laws.client laws.server laws.matched laws.grant typed down up
+    client_first opened link (Guarded opened link) (λ before g. g.joined) (WithinGrant opened link) end (IsClientEnd end) (λ before m g agrees typed within. guarded_more opened link before m g.joined agrees o within g.guards)
+    (λ before bytes g prefix typed e. client_fed opened link before bytes g o prefix typed end e) run [] (record { joined = start.joined; guards = start.guards o }) laws.client laws.server laws.matched laws.grant typed down up

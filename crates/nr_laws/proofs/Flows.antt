@@ -16,14 +16,14 @@ use Rattle.nr_reduce.specs.Server.{server_rules}
 use Rattle.nr_reduce.specs.Run.{client, server, output_due}
 use Rattle.nr_reduce.specs.Asked.{AskedMark, AskedSoFar}
 use Rattle.nr_reduce.specs.Served.{ServedMark, ServedSoFar}
-use Rattle.nr_reduce.proofs.Steps.{output_due_up-one, output_due_down-one}
-use Rattle.nr_reduce.proofs.Standing.{received-one, sent-one}
+use Rattle.nr_reduce.proofs.Steps.{output_due_up_one, output_due_down_one}
+use Rattle.nr_reduce.proofs.Standing.{received_one, sent_one}
 
-pub prefix-through : (xs ys zs : List ℕ) → IsPrefixOf xs ys → IsPrefixOf ys zs → IsPrefixOf xs zs
-prefix-through xs ys zs p q = (p.0 ++ q.0, sym (append_assoc xs p.0 q.0) ∙ ap (λ (s : List ℕ). s ++ q.0) p.1 ∙ q.1)
+pub prefix_through : (xs ys zs : List ℕ) → IsPrefixOf xs ys → IsPrefixOf ys zs → IsPrefixOf xs zs
+prefix_through xs ys zs p q = (p.0 ++ q.0, sym (append_assoc xs p.0 q.0) ∙ ap (λ (s : List ℕ). s ++ q.0) p.1 ∙ q.1)
 
-prefix-more : (xs ys more : List ℕ) → IsPrefixOf xs ys → IsPrefixOf xs (ys ++ more)
-prefix-more xs ys more p = prefix-through xs ys (ys ++ more) p (more, refl)
+prefix_more : (xs ys more : List ℕ) → IsPrefixOf xs ys → IsPrefixOf xs (ys ++ more)
+prefix_more xs ys more p = prefix_through xs ys (ys ++ more) p (more, refl)
 
 -- what grows with each mark keeps within what grows too, where each growth of it does
 record Keeps (P : List Mark → Mark → Type 0) (X Y : List Mark → List ℕ) : Type 0 where
@@ -42,7 +42,7 @@ keeps P X Y k before (mark ∷ run) h p =
     ] in
     let next : IsPrefixOf (X (before ++ mark ∷ [])) (Y (before ++ mark ∷ [])) =
     subst (λ (xs : List ℕ). IsPrefixOf xs (Y (before ++ mark ∷ []))) (sym (k.adds before mark))
-    (subst (λ (ys : List ℕ). IsPrefixOf (X before ++ k.add mark) ys) (sym (k.mores before mark)) (prefix-more (X before ++ k.add mark) (Y before) (k.more before mark) within)) in
+    (subst (λ (ys : List ℕ). IsPrefixOf (X before ++ k.add mark) ys) (sym (k.mores before mark)) (prefix_more (X before ++ k.add mark) (Y before) (k.more before mark) within)) in
     subst (λ (b : List Mark). IsPrefixOf (X b) (Y b)) (append_assoc before (mark ∷ []) run) (keeps P X Y k (before ++ mark ∷ []) run h.1 next)
 
 -- bytes that count on one link alone
@@ -116,9 +116,9 @@ pub sent_up : (opened : LinkParameters) (link : ℕ) (run : List Mark) → Asked
 sent_up opened link run h =
     keeps (AskedMark IsPrefixOf opened link) (bytes_sent link Initiator) (output_due opened link Initiator) (record {
       add = written_at link Initiator;
-      adds = sent-one link Initiator;
+      adds = sent_one link Initiator;
       more = λ before mark. output_for_all (client_rules opened) (client opened link before) (events_at link Initiator before mark);
-      mores = output_due_up-one opened link;
+      mores = output_due_up_one opened link;
       right = asks_right opened link;
     }) [] run h (from_nothing _ _ (nothing_sent link Initiator))
 
@@ -126,9 +126,9 @@ pub sent_down : (opened : LinkParameters) (link : ℕ) (run : List Mark) → Ser
 sent_down opened link run h =
     keeps (ServedMark IsPrefixOf opened link) (bytes_sent link Responder) (output_due opened link Responder) (record {
       add = written_at link Responder;
-      adds = sent-one link Responder;
+      adds = sent_one link Responder;
       more = λ before mark. output_for_all (server_rules opened) (server opened link before) (events_at link Responder before mark);
-      mores = output_due_down-one opened link;
+      mores = output_due_down_one opened link;
       right = serves_right opened link;
     }) [] run h (from_nothing _ _ (nothing_sent link Responder))
 
@@ -136,15 +136,15 @@ pub got_sent : (link : ℕ) (side : Side) (run : List Mark) → Matched link run
 got_sent link side run h =
     keeps (MatchedMark link) (bytes_received link side) (bytes_sent link (other side)) (record {
       add = fed_at link side;
-      adds = received-one link side;
+      adds = received_one link side;
       more = λ before mark. written_at link (other side) mark;
-      mores = sent-one link (other side);
+      mores = sent_one link (other side);
       right = feeds_right link side;
     }) [] run h (from_nothing _ _ (nothing_got link side))
 
 -- what the server got is the first of what the client owes, and the other way
 pub flows_up : (opened : LinkParameters) (link : ℕ) (run : List Mark) → Matched link run → AskedSoFar opened link run → IsPrefixOf (bytes_received link Responder run) (output_due opened link Initiator run)
-flows_up opened link run matched asked = prefix-through _ _ _ (got_sent link Responder run matched) (sent_up opened link run asked)
+flows_up opened link run matched asked = prefix_through _ _ _ (got_sent link Responder run matched) (sent_up opened link run asked)
 
 pub flows_down : (opened : LinkParameters) (link : ℕ) (run : List Mark) → Matched link run → ServedSoFar opened link run → IsPrefixOf (bytes_received link Initiator run) (output_due opened link Responder run)
-flows_down opened link run matched served = prefix-through _ _ _ (got_sent link Initiator run matched) (sent_down opened link run served)
+flows_down opened link run matched served = prefix_through _ _ _ (got_sent link Initiator run matched) (sent_down opened link run served)

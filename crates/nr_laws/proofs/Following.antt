@@ -13,35 +13,35 @@ use Rattle.nr_reduce.specs.declared.mark.LinkParameters.{LinkParameters}
 use Rattle.nr_reduce.specs.PlainJournal.{any_that_adds}
 use Rattle.nr_reduce.specs.History.{ExecutedCall}
 use Rattle.nr_reduce.specs.Matched.{MatchedMark, IsPrefixOf}
-use Rattle.nr_reduce.specs.Events.{Event, events}
-use Rattle.nr_reduce.specs.Events.Event.{FrameReceived, CallExecuted}
+use Rattle.nr_reduce.specs.Events.{RunEvent, events}
+use Rattle.nr_reduce.specs.Events.RunEvent.{FrameReceived, CallExecuted}
 use Rattle.nr_reduce.specs.Asked.{AskedMark, IsCompleted}
 use Rattle.nr_reduce.specs.Served.{ServedMark}
 use Rattle.nr_laws.specs.MatchedSoFar.{MatchedSoFar}
 use Rattle.nr_reduce.specs.RunLaws.{server_by}
 use Rattle.nr_reduce.specs.Server.{offer_of}
 use Rattle.nr_reduce.specs.ServerState.{credit_word}
-use Rattle.nr_reduce.proofs.Refusals.{refused-never}
+use Rattle.nr_reduce.proofs.Refusals.{refused_never}
 use Rattle.nr_reduce.proofs.Placing.{places_rise, xids_differ}
-use Rattle.nr_reduce.proofs.Steps.{events-one}
+use Rattle.nr_reduce.proofs.Steps.{events_one}
 use Rattle.nr_laws.specs.Typed.{TypedMark, IsTyped}
 use Rattle.nr_laws.specs.Places.{PlacesFollow}
-use Rattle.nr_laws.proofs.HeaderXid.{answer-xid, chunk-error-xid}
+use Rattle.nr_laws.proofs.HeaderXid.{answer_xid, chunk_error_xid}
 use Rattle.nr_laws.proofs.ServerAlong.{Said}
 use Rattle.nr_laws.proofs.ServerAlong.Said.{IsRefusal, IsAnswer, IsNoAnswer}
-use Rattle.nr_laws.proofs.Outcomes.{client_by, OutcomeSaid, outcome-said}
+use Rattle.nr_laws.proofs.Outcomes.{client_by, OutcomeSaid, outcome_said}
 use Rattle.nr_laws.proofs.ExecuteMarks.{execute_mark}
-use Rattle.nr_laws.proofs.OnceByXid.{at-mark, before-mark, executed-at, no_xid_twice}
-use Rattle.nr_laws.proofs.RefusedCalls.{refused-submit}
-use Rattle.nr_laws.proofs.DoneCalls.{AnsweredBy, answered-by, verdict-xid}
+use Rattle.nr_laws.proofs.OnceByXid.{at_mark, before_mark, executed_at_lem, no_xid_twice}
+use Rattle.nr_laws.proofs.RefusedCalls.{refused_submit}
+use Rattle.nr_laws.proofs.DoneCalls.{AnsweredBy, answered_by_lem, verdict_xid}
 use Rattle.nr_laws.proofs.Ordered.{Order, order}
 use Rattle.nr_laws.proofs.Ordered.Order.{Behind, Here, Before}
 
-pub far-before : (opened : LinkParameters) (link : ℕ) (run before : List Mark) (mark : Mark) (after : List Mark) → run ≡ before ++ mark ∷ after → MatchedSoFar opened link run → MatchedSoFar opened link before
-far-before opened link run before mark after is far = record {
-  asked = before-mark (AskedMark IsPrefixOf opened link) run before mark after is far.asked;
-  served = before-mark (ServedMark IsPrefixOf opened link) run before mark after is far.served;
-  matched = before-mark (MatchedMark link) run before mark after is far.matched;
+pub far_before : (opened : LinkParameters) (link : ℕ) (run before : List Mark) (mark : Mark) (after : List Mark) → run ≡ before ++ mark ∷ after → MatchedSoFar opened link run → MatchedSoFar opened link before
+far_before opened link run before mark after is far = record {
+  asked = before_mark (AskedMark IsPrefixOf opened link) run before mark after is far.asked;
+  served = before_mark (ServedMark IsPrefixOf opened link) run before mark after is far.served;
+  matched = before_mark (MatchedMark link) run before mark after is far.matched;
 }
 
 -- a completed call at its Done, with what the server said
@@ -51,29 +51,29 @@ pub record DoneAt (opened : LinkParameters) (link : ℕ) (before : List Mark) (x
   pub completed : IsCompleted opened link before xid outcome
   pub said : OutcomeSaid opened link before (record { xid = xid; outcome = outcome })
 
-pub done-at : (opened : LinkParameters) (link : ℕ) (run before after : List Mark) (xid : ℕ) (outcome : Outcome) → IsTyped run → MatchedSoFar opened link run → run ≡ before ++ marks.Done link xid outcome ∷ after → DoneAt opened link before xid outcome
-done-at opened link run before after xid outcome typed far is =
+pub done_at : (opened : LinkParameters) (link : ℕ) (run before after : List Mark) (xid : ℕ) (outcome : Outcome) → IsTyped run → MatchedSoFar opened link run → run ≡ before ++ marks.Done link xid outcome ∷ after → DoneAt opened link before xid outcome
+done_at opened link run before after xid outcome typed far is =
     let mark = marks.Done link xid outcome in
-    let first = far-before opened link run before mark after is far in
-    let own = before-mark TypedMark run before mark after is typed in
-    let done : IsCompleted opened link before xid outcome = at-mark (AskedMark IsPrefixOf opened link) run before mark after is far.asked refl in
-    record { typed = own; far = first; completed = done; said = outcome-said opened link before own first.asked first.served first.matched (record { xid = xid; outcome = outcome }) done.is_received }
+    let first = far_before opened link run before mark after is far in
+    let own = before_mark TypedMark run before mark after is typed in
+    let done : IsCompleted opened link before xid outcome = at_mark (AskedMark IsPrefixOf opened link) run before mark after is far.asked refl in
+    record { typed = own; far = first; completed = done; said = outcome_said opened link before own first.asked first.served first.matched (record { xid = xid; outcome = outcome }) done.is_received }
 
 -- events of a run that goes on
-pub events-more : (link : ℕ) (side : Rattle.nr_wire.specs.declared.hello.Side.Side) (run more : List Mark) → (rest : List Event) × (events link side (run ++ more) ≡ events link side run ++ rest)
-events-more link side run [] = ([], ap (λ (r : List Mark). events link side r) (Rattle.std.proofs.Common.append-nil run) ∙ sym (Rattle.std.proofs.Common.append-nil (events link side run)))
-events-more link side run (mark ∷ more) =
-    let next = events-more link side (run ++ mark ∷ []) more in
+pub events_more : (link : ℕ) (side : Rattle.nr_wire.specs.declared.hello.Side.Side) (run more : List Mark) → (rest : List RunEvent) × (events link side (run ++ more) ≡ events link side run ++ rest)
+events_more link side run [] = ([], ap (λ (r : List Mark). events link side r) (Rattle.std.proofs.Common.append-nil run) ∙ sym (Rattle.std.proofs.Common.append-nil (events link side run)))
+events_more link side run (mark ∷ more) =
+    let next = events_more link side (run ++ mark ∷ []) more in
     let one = Rattle.nr_reduce.specs.Events.events_at link side run mark in (
       one ++ next.0,
       ap (λ (r : List Mark). events link side r) (sym (append_assoc run (mark ∷ []) more)) ∙ next.1
-          ∙ ap (λ (es : List Event). es ++ next.0) (events-one link side run mark) ∙ append_assoc (events link side run) one next.0,
+          ∙ ap (λ (es : List RunEvent). es ++ next.0) (events_one link side run mark) ∙ append_assoc (events link side run) one next.0,
     )
 
 -- A call whose outcome was handed over isn't executed after that.
-not-after : (opened : LinkParameters) (link : ℕ) (run before after mid rest : List Mark) (xid : ℕ) (outcome : Outcome) (moment : Moment) (payload : List ℕ) (place : ℕ) (reply : List ℕ) → IsTyped run → MatchedSoFar opened link run
+not_after : (opened : LinkParameters) (link : ℕ) (run before after mid rest : List Mark) (xid : ℕ) (outcome : Outcome) (moment : Moment) (payload : List ℕ) (place : ℕ) (reply : List ℕ) → IsTyped run → MatchedSoFar opened link run
     → run ≡ before ++ marks.Done link xid outcome ∷ (mid ++ marks.Execute link xid moment payload place reply ∷ rest) → ⊥
-not-after opened link run before after mid rest xid outcome moment payload place reply typed far is =
+not_after opened link run before after mid rest xid outcome moment payload place reply typed far is =
     by d.said.said
   where
     done : Mark
@@ -83,15 +83,15 @@ not-after opened link run before after mid rest xid outcome moment payload place
     execute = marks.Execute link xid moment payload place reply
 
     d : DoneAt opened link before xid outcome
-    d = done-at opened link run before (mid ++ execute ∷ rest) xid outcome typed far is
+    d = done_at opened link run before (mid ++ execute ∷ rest) xid outcome typed far is
 
     own_xid : xid ≡ word_at 0 d.said.given.message
-    own_xid = verdict-xid (client_by opened d.said.given.earlier).state d.said.given.frame.end d.said.given.message xid (Some outcome) d.said.given.given
+    own_xid = verdict_xid (client_by opened d.said.given.earlier).state d.said.given.frame.end d.said.given.message xid (Some outcome) d.said.given.given
 
     whole : run ≡ (before ++ done ∷ mid) ++ execute ∷ rest
     whole = is ∙ sym (append_assoc before (done ∷ mid) (execute ∷ rest))
 
-    again : (es : List Event) (e : ExecutedCall) → AnsweredBy opened link before e es → e.xid ≡ xid → ⊥
+    again : (es : List RunEvent) (e : ExecutedCall) → AnsweredBy opened link before e es → e.xid ≡ xid → ⊥
     again es e a same =
         let m = a.mark in
         let all : run ≡ (m.earlier ++ execute_mark link e ∷ (m.later ++ done ∷ mid)) ++ execute ∷ rest =
@@ -100,20 +100,20 @@ not-after opened link run before after mid rest xid outcome moment payload place
 
     by : Said opened (events link Responder before) d.said.before d.said.given.message → ⊥
     by (IsAnswer s) =
-        let a = answered-by opened link before d.typed d.far s.earlier s.call s.later s.is in
+        let a = answered_by_lem opened link before d.typed d.far s.earlier s.call s.later s.is in
         let f = a.fits in
-        again s.earlier s.call a (sym (answer-xid s.call.xid (credit_word (server_by opened s.earlier)) (offer_of (server_by opened s.earlier) s.call.xid) s.answer (omega (arith, f)))
+        again s.earlier s.call a (sym (answer_xid s.call.xid (credit_word (server_by opened s.earlier)) (offer_of (server_by opened s.earlier) s.call.xid) s.answer (omega (arith, f)))
         ∙ ap (λ (x : List ℕ). word_at 0 x) (sym s.message) ∙ sym own_xid)
     by (IsNoAnswer s) =
-        let a = answered-by opened link before d.typed d.far s.earlier s.call s.later s.is in
+        let a = answered_by_lem opened link before d.typed d.far s.earlier s.call s.later s.is in
         let f = a.fits in
-        again s.earlier s.call a (sym (chunk-error-xid s.call.xid (credit_word (server_by opened s.earlier)) (omega (arith, f))) ∙ ap (λ (x : List ℕ). word_at 0 x) (sym s.message) ∙ sym own_xid)
+        again s.earlier s.call a (sym (chunk_error_xid s.call.xid (credit_word (server_by opened s.earlier)) (omega (arith, f))) ∙ ap (λ (x : List ℕ). word_at 0 x) (sym s.message) ∙ sym own_xid)
     by (IsRefusal s) =
-        let r = refused-submit opened link before d.typed d.far.asked d.far.matched d.said.given.message s in
-        let x = executed-at opened link run (before ++ done ∷ mid) rest xid moment payload place reply typed far whole in
-        let more = events-more link Responder before (done ∷ mid) in
+        let r = refused_submit opened link before d.typed d.far.asked d.far.matched d.said.given.message s in
+        let x = executed_at_lem opened link run (before ++ done ∷ mid) rest xid moment payload place reply typed far whole in
+        let more = events_more link Responder before (done ∷ mid) in
         let all : events link Responder (before ++ done ∷ mid) ≡ s.earlier ++ FrameReceived s.frame ∷ (s.later ++ more.0) =
-        more.1 ∙ ap (λ (es : List Event). es ++ more.0) s.is ∙ append_assoc s.earlier (FrameReceived s.frame ∷ s.later) more.0 in
+        more.1 ∙ ap (λ (es : List RunEvent). es ++ more.0) s.is ∙ append_assoc s.earlier (FrameReceived s.frame ∷ s.later) more.0 in
         let p = r.submitted.accepted.next in
         let q = x.submit.submitted.accepted.next in
         let m = r.submitted.counted in
@@ -121,23 +121,23 @@ not-after opened link run before after mid rest xid outcome moment payload place
         let u = r.xid in
         let v = x.submit.own_xid in
         let equal : x.executed.call.number ≡ r.index + 1 = omega (arith, p, q, m, n, u, v, own_xid) in
-        refused-never opened link (before ++ done ∷ mid) s.earlier (s.later ++ more.0) s.frame s.segment (r.index + 1) all s.behind s.is_segment r.refuses xid payload x.executed equal
+        refused_never opened link (before ++ done ∷ mid) s.earlier (s.later ++ more.0) s.frame s.segment (r.index + 1) all s.behind s.is_segment r.refuses xid payload x.executed equal
 
-pub executed-before : (opened : LinkParameters) (link : ℕ) (run before after first last : List Mark) (xid : ℕ) (outcome : Outcome) (moment : Moment) (payload : List ℕ) (place : ℕ) (reply : List ℕ) → IsTyped run → MatchedSoFar opened link run
+pub executed_before : (opened : LinkParameters) (link : ℕ) (run before after first last : List Mark) (xid : ℕ) (outcome : Outcome) (moment : Moment) (payload : List ℕ) (place : ℕ) (reply : List ℕ) → IsTyped run → MatchedSoFar opened link run
     → run ≡ before ++ marks.Done link xid outcome ∷ after → run ≡ first ++ marks.Execute link xid moment payload place reply ∷ last
     → (mid : List Mark) × (before ≡ first ++ marks.Execute link xid moment payload place reply ∷ mid)
-executed-before opened link run before after first last xid outcome moment payload place reply typed far here there =
+executed_before opened link run before after first last xid outcome moment payload place reply typed far here there =
     by (order before (marks.Done link xid outcome) after first (marks.Execute link xid moment payload place reply) last (sym here ∙ there))
   where
     by : Order before (marks.Done link xid outcome) after first (marks.Execute link xid moment payload place reply) last → (mid : List Mark) × (before ≡ first ++ marks.Execute link xid moment payload place reply ∷ mid)
-    by (Behind between is then) = absurd (not-after opened link run before after between last xid outcome moment payload place reply typed far (here ∙ ap (λ (t : List Mark). before ++ marks.Done link xid outcome ∷ t) then))
+    by (Behind between is then) = absurd (not_after opened link run before after between last xid outcome moment payload place reply typed far (here ∙ ap (λ (t : List Mark). before ++ marks.Done link xid outcome ∷ t) then))
     by (Here same wrong) = absurd (let e = wrong in cc)
     by (Before between is then) = (between, is)
 
 -- of two Submits under one xid there is one
-pub one-submit : (opened : LinkParameters) (link : ℕ) (run early late rest others : List Mark) (call other : Call) (form way : Form) (xid yid : ℕ) → MatchedSoFar opened link run → xid ≡ yid
+pub one_submit : (opened : LinkParameters) (link : ℕ) (run early late rest others : List Mark) (call other : Call) (form way : Form) (xid yid : ℕ) → MatchedSoFar opened link run → xid ≡ yid
     → run ≡ early ++ marks.Submit link call form (submissions.Accepted xid) ∷ rest → run ≡ late ++ marks.Submit link other way (submissions.Accepted yid) ∷ others → early ≡ late
-one-submit opened link run early late rest others call other form way xid yid far same here again =
+one_submit opened link run early late rest others call other form way xid yid far same here again =
     by (order early (marks.Submit link call form (submissions.Accepted xid)) rest late (marks.Submit link other way (submissions.Accepted yid)) others (sym here ∙ again))
   where
     by : Order early (marks.Submit link call form (submissions.Accepted xid)) rest late (marks.Submit link other way (submissions.Accepted yid)) others → early ≡ late
@@ -155,12 +155,12 @@ places_follow adds J one two link other run before between first second call for
     let e1 = marks.Execute link xid moment payload place reply in
     let e2 = marks.Execute other yid now asked later answer in
     let done_is : run ≡ before ++ done ∷ (between ++ sub ∷ submit.after) = submit.is ∙ append_assoc before (done ∷ between) (sub ∷ submit.after) in
-    let early = executed-before one link run before (between ++ sub ∷ submit.after) first h.after xid outcome moment payload place reply typed far done_is h.is in
-    let x = executed-at two other run second g.after yid now asked later answer typed away g.is in
+    let early = executed_before one link run before (between ++ sub ∷ submit.after) first h.after xid outcome moment payload place reply typed far done_is h.is in
+    let x = executed_at_lem two other run second g.after yid now asked later answer typed away g.is in
     let w = x.submit.submitted in
     let own = marks.Submit other w.call w.form (submissions.Accepted w.xid) in
     let whole : run ≡ w.earlier ++ own ∷ (w.later ++ e2 ∷ g.after) = g.is ∙ ap (λ (b : List Mark). b ++ e2 ∷ g.after) w.is ∙ append_assoc w.earlier (own ∷ w.later) (e2 ∷ g.after) in
-    let same : before ++ done ∷ between ≡ w.earlier = one-submit two other run (before ++ done ∷ between) w.earlier submit.after (w.later ++ e2 ∷ g.after) call w.call form w.form yid w.xid away (sym x.submit.own_xid) submit.is whole in
+    let same : before ++ done ∷ between ≡ w.earlier = one_submit two other run (before ++ done ∷ between) w.earlier submit.after (w.later ++ e2 ∷ g.after) call w.call form w.form yid w.xid away (sym x.submit.own_xid) submit.is whole in
     let start : w.earlier ≡ first ++ e1 ∷ (early.0 ++ done ∷ between) = sym same ∙ ap (λ (b : List Mark). b ++ done ∷ between) early.1 ∙ append_assoc first (e1 ∷ early.0) (done ∷ between) in
     let gap : List Mark = (early.0 ++ done ∷ between) ++ own ∷ w.later in
     let all : run ≡ first ++ e1 ∷ (gap ++ e2 ∷ g.after) =

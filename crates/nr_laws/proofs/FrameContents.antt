@@ -17,9 +17,9 @@ use Rattle.nr_link.specs.ReceiveState.{ReadRequest}
 use Rattle.nr_link.specs.Ending.{frame_segment}
 use Rattle.nr_reduce.specs.Holds.{Answer, answer_message, chunk_error, first_chunk, no_segments}
 use Rattle.nr_reduce.specs.Plans.{call_message}
-use Rattle.nr_reduce.specs.Events.{Event}
-use Rattle.nr_reduce.specs.Events.Event.{FrameReceived, CallSubmitted, MemoryRevoked, CallExecuted, QueueWritten}
-use Rattle.nr_reduce.specs.ClientState.{ClientState, OutstandingCall, memory_at}
+use Rattle.nr_reduce.specs.Events.{RunEvent}
+use Rattle.nr_reduce.specs.Events.RunEvent.{FrameReceived, CallSubmitted, MemoryRevoked, CallExecuted, QueueWritten}
+use Rattle.nr_reduce.specs.ClientState.{ClientState, OutstandingCall, client_memory_at}
 use Rattle.nr_reduce.specs.Client.{outstanding_of, segment_request}
 use Rattle.nr_reduce.specs.ServerState.{ServerState, PendingRead, credit_word}
 use Rattle.nr_reduce.specs.ServerFrames.{FrameEffect, frame_effect}
@@ -106,9 +106,9 @@ call_frame opened o = SendFrame (call_message o.xid opened.wished o.stag o.plan)
 
 abbrev pub response_frames : ClientState → ℕ → Option ReadRequest → List FrameContent
 response_frames k place None = []
-response_frames k place (Some r) = tagged_frames OPCODE_READ_RESPONSE r.sink r.sink_to (take r.size (drop r.to (memory_at k place r.stag)))
+response_frames k place (Some r) = tagged_frames OPCODE_READ_RESPONSE r.sink r.sink_to (take r.size (drop r.to (client_memory_at k place r.stag)))
 
-unfoldable pub client_frames : LinkParameters → ClientState → Event → List FrameContent
+unfoldable pub client_frames : LinkParameters → ClientState → RunEvent → List FrameContent
 client_frames opened k (FrameReceived f) = if is_hello f then map (call_frame opened) k.outstanding else response_frames k f.end (segment_request (frame_segment f))
 client_frames opened k (CallSubmitted place a) = if k.has_hello then call_frame opened (outstanding_of k a) ∷ [] else []
 client_frames opened k (MemoryRevoked place xid) = []
@@ -132,7 +132,7 @@ answer_frames k xid offer (Some a) =
     write_frames (first_chunk offer.write) a.moved ++ ((if a.long then write_frames (no_segments offer.reply) a.stream else [])
     ++ (SendFrame (answer_message xid (credit_word k) offer a) ∷ []))
 
-unfoldable pub server_frames : LinkParameters → ServerState → Event → List FrameContent
+unfoldable pub server_frames : LinkParameters → ServerState → RunEvent → List FrameContent
 server_frames opened k (FrameReceived f) = if is_hello f then HelloFrame ∷ [] else effect_frames (frame_effect k f)
 server_frames opened k (CallSubmitted place a) = []
 server_frames opened k (MemoryRevoked place xid) = []

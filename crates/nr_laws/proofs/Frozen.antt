@@ -5,7 +5,7 @@ use Rattle.nr_wire.specs.declared.hello.Side.TheVariants.{Initiator, Responder}
 use Rattle.nr_wire.specs.Segment.{Segment}
 use Rattle.nr_wire.specs.Segment.Segment.{Tagged, Untagged}
 use Rattle.nr_regions.specs.declared.denied.Denied.TheVariants.{NoStag}
-use Rattle.nr_regions.specs.Access.{Grant, TaggedSegment, grant_at, grant_offer, grant_denial, access_of}
+use Rattle.nr_regions.specs.Access.{Grant, TaggedSegment, grant_at, grant_offer, grant_denial, access_of_tagged}
 use Rattle.nr_regions.specs.RegisteredMemory.{denial_in}
 use Rattle.nr_link.specs.declared.end.End.{End as Stop}
 use Rattle.nr_link.specs.Frames.{Frame, is_hello, frames_completed}
@@ -16,8 +16,8 @@ use Rattle.nr_reduce.specs.declared.mark.Mark.{Mark}
 use Rattle.nr_reduce.specs.declared.mark.Mark.TheVariants as marks
 use Rattle.nr_reduce.specs.declared.mark.LinkParameters.{LinkParameters}
 use Rattle.nr_reduce.specs.History.{bytes_received, same_side, fed_at}
-use Rattle.nr_reduce.specs.Events.{Event, events, events_at, if_own}
-use Rattle.nr_reduce.specs.Events.Event.{FrameReceived, CallSubmitted, MemoryRevoked, CallExecuted, QueueWritten}
+use Rattle.nr_reduce.specs.Events.{RunEvent, events, events_at, if_own}
+use Rattle.nr_reduce.specs.Events.RunEvent.{FrameReceived, CallSubmitted, MemoryRevoked, CallExecuted, QueueWritten}
 use Rattle.nr_reduce.specs.EndRules.{EndState, next_end_state, next_end_state_by, next_end_state_in, end_state_after}
 use Rattle.nr_reduce.specs.OfferedRegions.{Region, region_grant, region_grants, closed_if, regions_closed}
 use Rattle.nr_reduce.specs.Plans.{buffers}
@@ -26,23 +26,23 @@ use Rattle.nr_reduce.specs.Client.{client_rules, client_end, client_state_after,
 use Rattle.nr_reduce.specs.Asked.{AskedSoFar}
 use Rattle.nr_reduce.specs.Run.{client, grants_of, placed_bytes}
 use Rattle.nr_reduce.proofs.Touches.{client_touched}
-use Rattle.nr_reduce.proofs.OwnStags.{AreNumbered, numbered-buffers, client-known}
-use Rattle.nr_reduce.proofs.Steps.{client-one, ended-stays}
+use Rattle.nr_reduce.proofs.OwnStags.{AreNumbered, numbered_buffers, client_known}
+use Rattle.nr_reduce.proofs.Steps.{client_one, ended_stays}
 use Rattle.nr_laws.specs.Typed.{IsTyped}
-use Rattle.nr_laws.specs.Touches.{RevokeStands}
+use Rattle.nr_laws.specs.Touches.{RevokedMemoryIsFinal}
 use Rattle.nr_reduce.specs.Matched.{IsPrefixOf}
 use Rattle.nr_laws.specs.Typed.{TypedMark}
 use Rattle.nr_reduce.specs.Asked.{AskedMark}
 use Rattle.std.specs.Prelude.{slice_index_or}
-use Rattle.nr_laws.proofs.OnceByXid.{at-mark, before-mark}
-use Rattle.nr_laws.proofs.Along.{places_after, whole-within}
-use Rattle.nr_laws.proofs.ClientRun.{client-goes}
-use Rattle.nr_laws.proofs.ClientMemory.{HasRegion, has-closed, find-left, keeps-along}
-use Rattle.nr_laws.proofs.Memory.{Part, parts_of, after_parts, after-append, parts-append, Settled, settled-later, held-parts}
-use Rattle.nr_laws.proofs.Beyond.{EndBehind, frames-behind}
-use Rattle.nr_laws.proofs.Revoked.{IsClosedBy, OnlyClosed, closed-none, only-closed, only-append, only-above, frame-regions, UntilBy, until-run}
-use Rattle.nr_reduce.proofs.Standing.{received-one}
-use Rattle.nr_reduce.proofs.StagsLeft.{request-stag, message-stag}
+use Rattle.nr_laws.proofs.OnceByXid.{at_mark, before_mark}
+use Rattle.nr_laws.proofs.EventOutputs.{places_after, whole_within}
+use Rattle.nr_laws.proofs.ClientRun.{client_goes}
+use Rattle.nr_laws.proofs.ClientMemory.{HasRegion, has_closed, find_left, keeps_along}
+use Rattle.nr_laws.proofs.Memory.{Part, parts_of, after_parts, after_append, parts_append, Settled, settled_later, held_parts}
+use Rattle.nr_laws.proofs.LaterFrames.{EndBehind, frames_behind}
+use Rattle.nr_laws.proofs.Revoked.{IsClosedBy, OnlyClosed, closed_none, only_closed, only_append, only_above, frame_regions, UntilBy, until_run}
+use Rattle.nr_reduce.proofs.Standing.{received_one}
+use Rattle.nr_reduce.proofs.StagsLeft.{request_stag, message_stag}
 
 -- ---- Accesses to other memory
 
@@ -50,15 +50,15 @@ abbrev pub NotTo : ℕ → List TaggedSegment → Type 0
 NotTo stag [] = Unit {0}
 NotTo stag (a ∷ accesses) = (a.stag ≢ stag) × NotTo stag accesses
 
-not-append : (stag : ℕ) (xs ys : List TaggedSegment) → NotTo stag xs → NotTo stag ys → NotTo stag (xs ++ ys)
-not-append stag [] ys h g = g
-not-append stag (x ∷ xs) ys h g = (h.0, not-append stag xs ys h.1 g)
+not_append : (stag : ℕ) (xs ys : List TaggedSegment) → NotTo stag xs → NotTo stag ys → NotTo stag (xs ++ ys)
+not_append stag [] ys h g = g
+not_append stag (x ∷ xs) ys h g = (h.0, not_append stag xs ys h.1 g)
 
-pub not-parts : (stag : ℕ) (bytes : List ℕ) (accesses : List TaggedSegment) → NotTo stag accesses → after_parts stag bytes (parts_of accesses) ≡ bytes
-not-parts stag bytes [] h = refl
-not-parts stag bytes (a ∷ accesses) h =
+pub not_parts : (stag : ℕ) (bytes : List ℕ) (accesses : List TaggedSegment) → NotTo stag accesses → after_parts stag bytes (parts_of accesses) ≡ bytes
+not_parts stag bytes [] h = refl
+not_parts stag bytes (a ∷ accesses) h =
     ap (λ (b : Bool). after_parts stag (cond b (Rattle.nr_regions.specs.RegisteredMemory.bytes_after_write bytes a.to a.payload) bytes) (parts_of accesses)) (ne_eqb a.stag stag h.0)
-    ∙ not-parts stag bytes accesses h.1
+    ∙ not_parts stag bytes accesses h.1
 
 -- ---- What stays
 
@@ -71,131 +71,131 @@ pub record Frozen (stag p : ℕ) (bytes : List ℕ) (old : List TaggedSegment) (
   pub none : NotTo stag more
 
 -- an access to the STag by a frame that ends later is refused
-no-access : (stag p : ℕ) (k : ClientState) (f : Frame) (s : Segment) → OnlyClosed stag p k.regions → p < f.end → is_hello f ≡ false → frame_segment f ≡ Ok s → client_end k (FrameReceived f) ≡ None → NotTo stag (tagged_access f s)
+no_access : (stag p : ℕ) (k : ClientState) (f : Frame) (s : Segment) → OnlyClosed stag p k.regions → p < f.end → is_hello f ≡ false → frame_segment f ≡ Ok s → client_end k (FrameReceived f) ≡ None → NotTo stag (tagged_access f s)
 unfolding grant_denial grant_at region_grants
-no-access stag p k f (Tagged last opcode own to payload) only lt behind is stays = (
+no_access stag p k f (Tagged last opcode own to payload) only lt behind is stays = (
   (λ e.
       let fine = client_touched k f (Tagged last opcode own to payload) behind is stays in
-      let none = ap (λ (n : ℕ). find (Rattle.nr_regions.specs.Access.applies n f.end) (map (region_grant f.end) k.regions)) e ∙ closed-none f.end stag p f.end k.regions lt only in
-      let a = access_of (record { kind = Rattle.nr_link.specs.Ending.kind_of opcode; stag = own; to = to; payload = payload; end = f.end }) in
+      let none = ap (λ (n : ℕ). find (Rattle.nr_regions.specs.Access.applies n f.end) (map (region_grant f.end) k.regions)) e ∙ closed_none f.end stag p f.end k.regions lt only in
+      let a = access_of_tagged (record { kind = Rattle.nr_link.specs.Ending.kind_of opcode; stag = own; to = to; payload = payload; end = f.end }) in
       let wrong : Some NoStag ≡ None = sym (ap (λ (o : Option Grant). denial_in (grant_offer o) a) none) ∙ fine in cc),
   tt,
 )
-no-access stag p k f (Untagged last opcode w queue msn offset payload) only lt behind is stays = tt
+no_access stag p k f (Untagged last opcode w queue msn offset payload) only lt behind is stays = tt
 
-has-left : (xs ys : List Region) (stag : ℕ) (bytes : List ℕ) → HasRegion xs stag bytes → HasRegion (xs ++ ys) stag bytes
-has-left xs ys stag bytes h = record { region = h.region; there = find-left stag xs ys h.region h.there; own = h.own; holds = h.holds }
+has_left : (xs ys : List Region) (stag : ℕ) (bytes : List ℕ) → HasRegion xs stag bytes → HasRegion (xs ++ ys) stag bytes
+has_left xs ys stag bytes h = record { region = h.region; there = find_left stag xs ys h.region h.there; own = h.own; holds = h.holds }
 
-frozen-segment : (stag p : ℕ) (bytes : List ℕ) (old : List TaggedSegment) (k : ClientState) (f : Frame) → p < f.end → is_hello f ≡ false → client_end k (FrameReceived f) ≡ None → (r : Result Segment ℕ) → frame_segment f ≡ r → Frozen stag p bytes old k → Frozen stag p bytes old (with_segment k f r)
-frozen-segment stag p bytes old k f lt behind stays (Err reason) is h = h
-frozen-segment stag p bytes old k f lt behind stays (Ok s) is h =
-    let own : (with_segment k f (Ok s)).stag ≡ k.stag = request-stag (with_message k f.end (message_completed k.received s)) (due_with_response k f s) (read_request_of s) ∙ message-stag k f.end (message_completed k.received s) in
+frozen_segment : (stag p : ℕ) (bytes : List ℕ) (old : List TaggedSegment) (k : ClientState) (f : Frame) → p < f.end → is_hello f ≡ false → client_end k (FrameReceived f) ≡ None → (r : Result Segment ℕ) → frame_segment f ≡ r → Frozen stag p bytes old k → Frozen stag p bytes old (with_segment k f r)
+frozen_segment stag p bytes old k f lt behind stays (Err reason) is h = h
+frozen_segment stag p bytes old k f lt behind stays (Ok s) is h =
+    let own : (with_segment k f (Ok s)).stag ≡ k.stag = request_stag (with_message k f.end (message_completed k.received s)) (due_with_response k f s) (read_request_of s) ∙ message_stag k f.end (message_completed k.received s) in
     let low = h.low in
     record {
-      only = frame-regions (OnlyClosed stag p) k f (λ test. only-closed test f.end stag p k.regions) h.only (Ok s);
+      only = frame_regions (OnlyClosed stag p) k f (λ test. only_closed test f.end stag p k.regions) h.only (Ok s);
       low = omega (arith, own, low);
-      has = frame-regions (λ (rs : List Region). HasRegion rs stag bytes) k f (λ test. has-closed test f.end k.regions stag bytes) h.has (Ok s);
+      has = frame_regions (λ (rs : List Region). HasRegion rs stag bytes) k f (λ test. has_closed test f.end k.regions stag bytes) h.has (Ok s);
       more = h.more ++ tagged_access f s;
       accesses = ap (λ (xs : List TaggedSegment). xs ++ tagged_access f s) h.accesses ∙ append_assoc old h.more (tagged_access f s);
-      none = not-append stag h.more (tagged_access f s) h.none (no-access stag p k f s h.only lt behind is stays);
+      none = not_append stag h.more (tagged_access f s) h.none (no_access stag p k f s h.only lt behind is stays);
     }
 
 -- ---- Events
 
-abbrev pub EventBehind : ℕ → Event → Type 0
+abbrev pub EventBehind : ℕ → RunEvent → Type 0
 EventBehind p (FrameReceived f) = p < f.end
 EventBehind p (CallSubmitted q a) = Unit {0}
 EventBehind p (MemoryRevoked q xid) = Unit {0}
 EventBehind p (CallExecuted e) = Unit {0}
 EventBehind p (QueueWritten taken) = Unit {0}
 
-abbrev pub EventsBehind : ℕ → List Event → Type 0
+abbrev pub EventsBehind : ℕ → List RunEvent → Type 0
 EventsBehind p [] = Unit {0}
 EventsBehind p (e ∷ es) = EventBehind p e × EventsBehind p es
 
-frozen-event : (opened : LinkParameters) (stag p : ℕ) (bytes : List ℕ) (old : List TaggedSegment) (k : ClientState) (e : Event) → EventBehind p e → client_end k e ≡ None → Frozen stag p bytes old k → Frozen stag p bytes old (client_state_after opened k e)
+frozen_event : (opened : LinkParameters) (stag p : ℕ) (bytes : List ℕ) (old : List TaggedSegment) (k : ClientState) (e : RunEvent) → EventBehind p e → client_end k e ≡ None → Frozen stag p bytes old k → Frozen stag p bytes old (client_state_after opened k e)
 unfolding client_state_after
-frozen-event opened stag p bytes old k (FrameReceived f) by stays h = by_hello (is_hello f) refl
+frozen_event opened stag p bytes old k (FrameReceived f) by stays h = by_hello (is_hello f) refl
   where
     by_hello : (b : Bool) → is_hello f ≡ b → Frozen stag p bytes old (cond b (with_hello opened k) (with_segment k f (frame_segment f)))
     by_hello true is = record { only = h.only; low = h.low; has = h.has; more = h.more; accesses = h.accesses; none = h.none }
-    by_hello false is = frozen-segment stag p bytes old k f by is stays (frame_segment f) refl h
-frozen-event opened stag p bytes old k (CallSubmitted q a) by stays h =
+    by_hello false is = frozen_segment stag p bytes old k f by is stays (frame_segment f) refl h
+frozen_event opened stag p bytes old k (CallSubmitted q a) by stays h =
     let plan = (outstanding_of k a).plan in
     let new : List Region = map (region_of a.xid q) (buffers k.stag plan) in
     let low = h.low in
     record {
-      only = only-append stag p k.regions new h.only (only-above stag k.stag p new h.low (numbered-buffers a.xid q k.stag plan));
+      only = only_append stag p k.regions new h.only (only_above stag k.stag p new h.low (numbered_buffers a.xid q k.stag plan));
       low = omega (arith, low);
-      has = has-left k.regions new stag bytes h.has;
+      has = has_left k.regions new stag bytes h.has;
       more = h.more;
       accesses = h.accesses;
       none = h.none;
     }
-frozen-event opened stag p bytes old k (MemoryRevoked q xid) by stays h =
-    record { only = only-closed (λ r. eqb r.call xid) q stag p k.regions h.only; low = h.low; has = has-closed (λ r. eqb r.call xid) q k.regions stag bytes h.has; more = h.more; accesses = h.accesses; none = h.none }
-frozen-event opened stag p bytes old k (CallExecuted e) by stays h = h
-frozen-event opened stag p bytes old k (QueueWritten taken) by stays h = record { only = h.only; low = h.low; has = h.has; more = h.more; accesses = h.accesses; none = h.none }
+frozen_event opened stag p bytes old k (MemoryRevoked q xid) by stays h =
+    record { only = only_closed (λ r. eqb r.call xid) q stag p k.regions h.only; low = h.low; has = has_closed (λ r. eqb r.call xid) q k.regions stag bytes h.has; more = h.more; accesses = h.accesses; none = h.none }
+frozen_event opened stag p bytes old k (CallExecuted e) by stays h = h
+frozen_event opened stag p bytes old k (QueueWritten taken) by stays h = record { only = h.only; low = h.low; has = h.has; more = h.more; accesses = h.accesses; none = h.none }
 
-frozen-next : (opened : LinkParameters) (stag p : ℕ) (bytes : List ℕ) (old : List TaggedSegment) (k : ClientState) (ended : Option Stop) (e : Event) → EventBehind p e → Frozen stag p bytes old k → Frozen stag p bytes old (next_end_state_in (client_rules opened) k e ended).state
-frozen-next opened stag p bytes old k (Some end) e by h = h
-frozen-next opened stag p bytes old k None e by h = by_why (client_end k e) refl
+frozen_next : (opened : LinkParameters) (stag p : ℕ) (bytes : List ℕ) (old : List TaggedSegment) (k : ClientState) (ended : Option Stop) (e : RunEvent) → EventBehind p e → Frozen stag p bytes old k → Frozen stag p bytes old (next_end_state_in (client_rules opened) k e ended).state
+frozen_next opened stag p bytes old k (Some end) e by h = h
+frozen_next opened stag p bytes old k None e by h = by_why (client_end k e) refl
   where
     by_why : (o : Option Stop) → client_end k e ≡ o → Frozen stag p bytes old (next_end_state_by (client_rules opened) k e o).state
-    by_why None is = frozen-event opened stag p bytes old k e by is h
+    by_why None is = frozen_event opened stag p bytes old k e by is h
     by_why (Some end) is = h
 
-pub frozen-all : (opened : LinkParameters) (stag p : ℕ) (bytes : List ℕ) (old : List TaggedSegment) (r : EndState ClientState) (es : List Event) → EventsBehind p es → Frozen stag p bytes old r.state → Frozen stag p bytes old (end_state_after (client_rules opened) r es).state
-frozen-all opened stag p bytes old r [] by h = h
-frozen-all opened stag p bytes old r (e ∷ es) by h = frozen-all opened stag p bytes old (next_end_state (client_rules opened) r e) es by.1 (frozen-next opened stag p bytes old r.state r.ended e by.0 h)
+pub frozen_all : (opened : LinkParameters) (stag p : ℕ) (bytes : List ℕ) (old : List TaggedSegment) (r : EndState ClientState) (es : List RunEvent) → EventsBehind p es → Frozen stag p bytes old r.state → Frozen stag p bytes old (end_state_after (client_rules opened) r es).state
+frozen_all opened stag p bytes old r [] by h = h
+frozen_all opened stag p bytes old r (e ∷ es) by h = frozen_all opened stag p bytes old (next_end_state (client_rules opened) r e) es by.1 (frozen_next opened stag p bytes old r.state r.ended e by.0 h)
 
 -- ---- Marks
 
-events-behind : (p n : ℕ) (fs : List Frame) → p ≤ n → EndBehind n fs → EventsBehind p (map FrameReceived fs)
-events-behind p n [] le h = tt
-events-behind p n (f ∷ fs) le h = (let l = h.0 in omega (arith, l, le), events-behind p n fs le h.1)
+events_behind : (p n : ℕ) (fs : List Frame) → p ≤ n → EndBehind n fs → EventsBehind p (map FrameReceived fs)
+events_behind p n [] le h = tt
+events_behind p n (f ∷ fs) le h = (let l = h.0 in omega (arith, l, le), events_behind p n fs le h.1)
 
-if-behind : (p : ℕ) (b : Bool) (es : List Event) → EventsBehind p es → EventsBehind p (if_own b es)
-if-behind p true es h = h
-if-behind p false es h = tt
+if_behind : (p : ℕ) (b : Bool) (es : List RunEvent) → EventsBehind p es → EventsBehind p (if_own b es)
+if_behind p true es h = h
+if_behind p false es h = tt
 
-mark-behind : (p link : ℕ) (before : List Mark) (mark : Mark) → p ≤ length (bytes_received link Initiator before) → EventsBehind p (events_at link Initiator before mark)
-mark-behind p link before (marks.Fed l s bytes) le =
+mark_behind : (p link : ℕ) (before : List Mark) (mark : Mark) → p ≤ length (bytes_received link Initiator before) → EventsBehind p (events_at link Initiator before mark)
+mark_behind p link before (marks.Fed l s bytes) le =
     let got = bytes_received link Initiator before in
-    if-behind p (eqb l link && same_side s Initiator) (map FrameReceived (frames_completed Responder got bytes)) (events-behind p (length got) (frames_completed Responder got bytes) le (frames-behind Responder got bytes))
-mark-behind p link before (marks.Wrote l s bytes) le = if-behind p (eqb l link && same_side s Initiator) (QueueWritten (length bytes) ∷ []) (tt, tt)
-mark-behind p link before (marks.Submit l call form (submissions.Accepted xid)) le =
-    if-behind p (eqb l link && true) (CallSubmitted (length (bytes_received link Initiator before)) (record { xid = xid; call = call; form = form }) ∷ []) (tt, tt)
-mark-behind p link before (marks.Submit l call form (submissions.Refused why)) le = tt
-mark-behind p link before (marks.Submit l call form submissions.Dropped) le = tt
-mark-behind p link before (marks.Execute l xid moment payload at reply) le =
-    if-behind p (eqb l link && false) (CallExecuted (record { xid = xid; moment = moment; payload = payload; place = at; reply = reply }) ∷ []) (tt, tt)
-mark-behind p link before (marks.Revoke l xid bytes) le = if-behind p (eqb l link && true) (MemoryRevoked (length (bytes_received link Initiator before)) xid ∷ []) (tt, tt)
-mark-behind p link before (marks.Done l xid outcome) le = tt
-mark-behind p link before (marks.Lost l xid) le = tt
-mark-behind p link before (marks.Forget l xid) le = tt
-mark-behind p link before (marks.Drop l) le = tt
+    if_behind p (eqb l link && same_side s Initiator) (map FrameReceived (frames_completed Responder got bytes)) (events_behind p (length got) (frames_completed Responder got bytes) le (frames_behind Responder got bytes))
+mark_behind p link before (marks.Wrote l s bytes) le = if_behind p (eqb l link && same_side s Initiator) (QueueWritten (length bytes) ∷ []) (tt, tt)
+mark_behind p link before (marks.Submit l call form (submissions.Accepted xid)) le =
+    if_behind p (eqb l link && true) (CallSubmitted (length (bytes_received link Initiator before)) (record { xid = xid; call = call; form = form }) ∷ []) (tt, tt)
+mark_behind p link before (marks.Submit l call form (submissions.Refused why)) le = tt
+mark_behind p link before (marks.Submit l call form submissions.Dropped) le = tt
+mark_behind p link before (marks.Execute l xid moment payload at reply) le =
+    if_behind p (eqb l link && false) (CallExecuted (record { xid = xid; moment = moment; payload = payload; place = at; reply = reply }) ∷ []) (tt, tt)
+mark_behind p link before (marks.Revoke l xid bytes) le = if_behind p (eqb l link && true) (MemoryRevoked (length (bytes_received link Initiator before)) xid ∷ []) (tt, tt)
+mark_behind p link before (marks.Done l xid outcome) le = tt
+mark_behind p link before (marks.Lost l xid) le = tt
+mark_behind p link before (marks.Forget l xid) le = tt
+mark_behind p link before (marks.Drop l) le = tt
 
-pub frozen-from : (opened : LinkParameters) (link stag p : ℕ) (bytes : List ℕ) (old : List TaggedSegment) (before run : List Mark) → p ≤ length (bytes_received link Initiator before)
+pub frozen_from : (opened : LinkParameters) (link stag p : ℕ) (bytes : List ℕ) (old : List TaggedSegment) (before run : List Mark) → p ≤ length (bytes_received link Initiator before)
     → Frozen stag p bytes old (client opened link before).state → Frozen stag p bytes old (client opened link (before ++ run)).state
-frozen-from opened link stag p bytes old before [] le h = subst (λ (b : List Mark). Frozen stag p bytes old (client opened link b).state) (sym (append-nil before)) h
-frozen-from opened link stag p bytes old before (mark ∷ run) le h =
-    let grows = ap (λ (xs : List ℕ). length xs) (received-one link Initiator before mark) ∙ length-append (bytes_received link Initiator before) (fed_at link Initiator mark) in
+frozen_from opened link stag p bytes old before [] le h = subst (λ (b : List Mark). Frozen stag p bytes old (client opened link b).state) (sym (append-nil before)) h
+frozen_from opened link stag p bytes old before (mark ∷ run) le h =
+    let grows = ap (λ (xs : List ℕ). length xs) (received_one link Initiator before mark) ∙ length-append (bytes_received link Initiator before) (fed_at link Initiator mark) in
     let next : Frozen stag p bytes old (client opened link (before ++ mark ∷ [])).state =
-    subst (λ (r : EndState ClientState). Frozen stag p bytes old r.state) (sym (client-one opened link before mark)) (frozen-all opened stag p bytes old (client opened link before) (events_at link Initiator before mark) (mark-behind p link before mark le) h) in
-    subst (λ (b : List Mark). Frozen stag p bytes old (client opened link b).state) (append_assoc before (mark ∷ []) run) (frozen-from opened link stag p bytes old (before ++ mark ∷ []) run (omega (arith, grows, le)) next)
+    subst (λ (r : EndState ClientState). Frozen stag p bytes old r.state) (sym (client_one opened link before mark)) (frozen_all opened stag p bytes old (client opened link before) (events_at link Initiator before mark) (mark_behind p link before mark le) h) in
+    subst (λ (b : List Mark). Frozen stag p bytes old (client opened link b).state) (append_assoc before (mark ∷ []) run) (frozen_from opened link stag p bytes old (before ++ mark ∷ []) run (omega (arith, grows, le)) next)
 
 -- ---- At a Revoke
 
-until-closed-by : (p : ℕ) (u : Option ℕ) → IfSome u (λ n. n ≤ p) → IsClosedBy p (Rattle.nr_reduce.specs.OfferedRegions.until_at p u)
-until-closed-by p None h = omega arith
-until-closed-by p (Some n) h = h
+until_closed_by : (p : ℕ) (u : Option ℕ) → IfSome u (λ n. n ≤ p) → IsClosedBy p (Rattle.nr_reduce.specs.OfferedRegions.until_at p u)
+until_closed_by p None h = omega arith
+until_closed_by p (Some n) h = h
 
 -- the region under the STag is closed, and no other has it
-only-revoked : (xid stag p n : ℕ) (regions : List Region) (r : Region) → AreNumbered n regions → UntilBy p regions → find (λ x. eqb x.stag stag) regions ≡ Some r → r.call ≡ xid → OnlyClosed stag p (regions_closed (λ r. eqb r.call xid) p regions)
+only_revoked : (xid stag p n : ℕ) (regions : List Region) (r : Region) → AreNumbered n regions → UntilBy p regions → find (λ x. eqb x.stag stag) regions ≡ Some r → r.call ≡ xid → OnlyClosed stag p (regions_closed (λ r. eqb r.call xid) p regions)
 unfolding regions_closed
-only-revoked xid stag p n [] r numbers low there own = tt
-only-revoked xid stag p n (x ∷ regions) r numbers low there own = by (eqb x.stag stag) refl there (λ h. only-revoked xid stag p (n + 1) regions r numbers.1 low.1 h own)
+only_revoked xid stag p n [] r numbers low there own = tt
+only_revoked xid stag p n (x ∷ regions) r numbers low there own = by (eqb x.stag stag) refl there (λ h. only_revoked xid stag p (n + 1) regions r numbers.1 low.1 h own)
   where
     rest : List Region
     rest = map (λ r. closed_if (eqb r.call xid) p r) regions
@@ -212,13 +212,13 @@ only-revoked xid stag p n (x ∷ regions) r numbers low there own = by (eqb x.st
         let calls : eqb x.call xid ≡ true = eq-eqb x.call xid (ap (λ (q : Region). q.call) found ∙ own) in
         let first = numbers.0 in
         let here = eqb-true x.stag stag is in (
-          (λ h. subst (λ (b : Bool). IsClosedBy p (closed_if b p x).until) (sym calls) (until-closed-by p x.until low.0)),
-          only-closed (λ r. eqb r.call xid) p stag p regions (only-above stag (n + 1) p regions (omega (arith, first, here)) numbers.1),
+          (λ h. subst (λ (b : Bool). IsClosedBy p (closed_if b p x).until) (sym calls) (until_closed_by p x.until low.0)),
+          only_closed (λ r. eqb r.call xid) p stag p regions (only_above stag (n + 1) p regions (omega (arith, first, here)) numbers.1),
         )
 
-pub low-found : (n stag : ℕ) (regions : List Region) (r : Region) → AreNumbered n regions → find (λ x. eqb x.stag stag) regions ≡ Some r → (stag < n + length regions) × (r.stag ≡ stag)
-low-found n stag [] r numbers e = absurd cc
-low-found n stag (x ∷ regions) r numbers e = by (eqb x.stag stag) refl e (λ h. low-found (n + 1) stag regions r numbers.1 h)
+pub low_found : (n stag : ℕ) (regions : List Region) (r : Region) → AreNumbered n regions → find (λ x. eqb x.stag stag) regions ≡ Some r → (stag < n + length regions) × (r.stag ≡ stag)
+low_found n stag [] r numbers e = absurd cc
+low_found n stag (x ∷ regions) r numbers e = by (eqb x.stag stag) refl e (λ h. low_found (n + 1) stag regions r numbers.1 h)
   where
     by : (b : Bool) → eqb x.stag stag ≡ b → cond b (Some x) (find (λ x. eqb x.stag stag) regions) ≡ Some r → (find (λ x. eqb x.stag stag) regions ≡ Some r → (stag < n + 1 + length regions) × (r.stag ≡ stag)) → (stag < n + suc (length regions)) × (r.stag ≡ stag)
     by false is e later = (let l = (later e).0 in omega (arith, l), (later e).1)
@@ -230,30 +230,30 @@ low-found n stag (x ∷ regions) r numbers e = by (eqb x.stag stag) refl e (λ h
 
 -- ---- What memory holds after a run
 
-run-settled : (opened : LinkParameters) (link : ℕ) (run : List Mark) → IsTyped run → AskedSoFar opened link run → Settled (length (bytes_received link Initiator run)) (client opened link run).state.regions (client opened link run).state.accesses_received
+run_settled : (opened : LinkParameters) (link : ℕ) (run : List Mark) → IsTyped run → AskedSoFar opened link run → Settled (length (bytes_received link Initiator run)) (client opened link run).state.regions (client opened link run).state.accesses_received
 unfolding client
-run-settled opened link run typed asked =
-    let g = client-goes opened link run typed asked in
-    let k = keeps-along opened (events link Initiator run) g.goes in
+run_settled opened link run typed asked =
+    let g = client_goes opened link run typed asked in
+    let k = keeps_along opened (events link Initiator run) g.goes in
     let at = g.place in
-    let within = whole-within link Initiator run in
-    settled-later (places_after 0 (events link Initiator run)) (length (bytes_received link Initiator run)) (client opened link run).state.regions (client opened link run).state.accesses_received
+    let within = whole_within link Initiator run in
+    settled_later (places_after 0 (events link Initiator run)) (length (bytes_received link Initiator run)) (client opened link run).state.regions (client opened link run).state.accesses_received
     (omega (arith, at, within)) k.keeps.settled
 
-pub run-holds : (opened : LinkParameters) (link stag : ℕ) (bytes : List ℕ) (run : List Mark) → IsTyped run → AskedSoFar opened link run → HasRegion (client opened link run).state.regions stag bytes
+pub run_holds : (opened : LinkParameters) (link stag : ℕ) (bytes : List ℕ) (run : List Mark) → IsTyped run → AskedSoFar opened link run → HasRegion (client opened link run).state.regions stag bytes
     → placed_bytes opened link Initiator run stag ≡ after_parts stag bytes (parts_of (client opened link run).state.accesses_received)
 unfolding placed_bytes grants_of
-run-holds opened link stag bytes run typed asked h =
+run_holds opened link stag bytes run typed asked h =
     let k = (client opened link run).state in
-    held-parts (length (bytes_received link Initiator run)) stag k.regions k.accesses_received h.region (run-settled opened link run typed asked) h.there h.own
+    held_parts (length (bytes_received link Initiator run)) stag k.regions k.accesses_received h.region (run_settled opened link run typed asked) h.there h.own
     ∙ ap (λ (b : List ℕ). after_parts stag b (parts_of k.accesses_received)) h.holds
 
-pub found-at : (n k : ℕ) (regions : List Region) (r : Region) → AreNumbered n regions → k < length regions → slice_index_or regions k r ≡ r → find (λ x. eqb x.stag r.stag) regions ≡ Some r
-found-at n k [] r numbers lt is = absurd (omega (arith, lt))
-found-at n zero (x ∷ regions) r numbers lt is =
+pub found_at_lem : (n k : ℕ) (regions : List Region) (r : Region) → AreNumbered n regions → k < length regions → slice_index_or regions k r ≡ r → find (λ x. eqb x.stag r.stag) regions ≡ Some r
+found_at_lem n k [] r numbers lt is = absurd (omega (arith, lt))
+found_at_lem n zero (x ∷ regions) r numbers lt is =
     ap (λ (b : Bool). cond b (Some x) (find (λ x. eqb x.stag r.stag) regions)) (eq-eqb x.stag r.stag (ap (λ (q : Region). q.stag) is)) ∙ ap (λ (q : Region). Some q) is
-found-at n (suc k) (x ∷ regions) r numbers lt is =
-    let later = found-at (n + 1) k regions r numbers.1 (omega (arith, lt)) is in
+found_at_lem n (suc k) (x ∷ regions) r numbers lt is =
+    let later = found_at_lem (n + 1) k regions r numbers.1 (omega (arith, lt)) is in
     let above = above-found (n + 1) r.stag regions r numbers.1 later in
     let first = numbers.0 in
     ap (λ (b : Bool). cond b (Some x) (find (λ x. eqb x.stag r.stag) regions)) (ne_eqb x.stag r.stag (λ e. omega (arith, first, e, above))) ∙ later
@@ -268,50 +268,50 @@ found-at n (suc k) (x ∷ regions) r numbers lt is =
 
 -- ---- From the Revoke on
 
-stays-by : (opened : LinkParameters) (r : EndState ClientState) (es : List Event) (end : Stop) → r.ended ≡ Some end → end_state_after (client_rules opened) r es ≡ r
-stays-by opened r es end is =
+stays_by : (opened : LinkParameters) (r : EndState ClientState) (es : List RunEvent) (end : Stop) → r.ended ≡ Some end → end_state_after (client_rules opened) r es ≡ r
+stays_by opened r es end is =
     ap (λ (o : Option Stop). end_state_after (client_rules opened) (record { state = r.state; ended = o }) es) is
-    ∙ (ended-stays (client_rules opened) r.state end es).0 ∙ ap (λ (o : Option Stop). record { state = r.state; ended = o }) (sym is)
+    ∙ (ended_stays (client_rules opened) r.state end es).0 ∙ ap (λ (o : Option Stop). record { state = r.state; ended = o }) (sym is)
 
-pub ended-run : (opened : LinkParameters) (link : ℕ) (before run : List Mark) (end : Stop) → (client opened link before).ended ≡ Some end → client opened link (before ++ run) ≡ client opened link before
-ended-run opened link before [] end is = ap (λ (b : List Mark). client opened link b) (append-nil before)
-ended-run opened link before (mark ∷ run) end is =
-    let one : client opened link (before ++ mark ∷ []) ≡ client opened link before = client-one opened link before mark ∙ stays-by opened (client opened link before) (events_at link Initiator before mark) end is in
+pub ended_run : (opened : LinkParameters) (link : ℕ) (before run : List Mark) (end : Stop) → (client opened link before).ended ≡ Some end → client opened link (before ++ run) ≡ client opened link before
+ended_run opened link before [] end is = ap (λ (b : List Mark). client opened link b) (append-nil before)
+ended_run opened link before (mark ∷ run) end is =
+    let one : client opened link (before ++ mark ∷ []) ≡ client opened link before = client_one opened link before mark ∙ stays_by opened (client opened link before) (events_at link Initiator before mark) end is in
     ap (λ (b : List Mark). client opened link b) (sym (append_assoc before (mark ∷ []) run))
-    ∙ ended-run opened link (before ++ mark ∷ []) run end (ap (λ (r : EndState ClientState). r.ended) one ∙ is) ∙ one
+    ∙ ended_run opened link (before ++ mark ∷ []) run end (ap (λ (r : EndState ClientState). r.ended) one ∙ is) ∙ one
 
-frozen-state : (opened : LinkParameters) (link : ℕ) (before : List Mark) (xid stag : ℕ) (r : Region) → find (λ x. eqb x.stag stag) (client opened link before).state.regions ≡ Some r → r.call ≡ xid
+frozen_state : (opened : LinkParameters) (link : ℕ) (before : List Mark) (xid stag : ℕ) (r : Region) → find (λ x. eqb x.stag stag) (client opened link before).state.regions ≡ Some r → r.call ≡ xid
     → Frozen stag (length (bytes_received link Initiator before)) r.bytes (client opened link before).state.accesses_received
     (client_state_after opened (client opened link before).state (MemoryRevoked (length (bytes_received link Initiator before)) xid))
 unfolding client_state_after
-frozen-state opened link before xid stag r there own =
+frozen_state opened link before xid stag r there own =
     let k = (client opened link before).state in
     let p = length (bytes_received link Initiator before) in
-    let numbers = client-known opened link before in
-    let low = low-found opened.first_stag stag k.regions r numbers.regions there in
+    let numbers = client_known opened link before in
+    let low = low_found opened.first_stag stag k.regions r numbers.regions there in
     let under = low.0 in
     let next = numbers.next in
     record {
-      only = only-revoked xid stag p opened.first_stag k.regions r numbers.regions (until-run opened link before) there own;
+      only = only_revoked xid stag p opened.first_stag k.regions r numbers.regions (until_run opened link before) there own;
       low = omega (arith, under, next);
-      has = has-closed (λ r. eqb r.call xid) p k.regions stag r.bytes (record { region = r; there = there; own = low.1; holds = refl });
+      has = has_closed (λ r. eqb r.call xid) p k.regions stag r.bytes (record { region = r; there = there; own = low.1; holds = refl });
       more = [];
       accesses = sym (append-nil k.accesses_received);
       none = tt;
     }
 
-frozen-mark : (opened : LinkParameters) (link : ℕ) (before : List Mark) (xid stag : ℕ) (given : List ℕ) (r : Region) → find (λ x. eqb x.stag stag) (client opened link before).state.regions ≡ Some r → r.call ≡ xid
+frozen_mark : (opened : LinkParameters) (link : ℕ) (before : List Mark) (xid stag : ℕ) (given : List ℕ) (r : Region) → find (λ x. eqb x.stag stag) (client opened link before).state.regions ≡ Some r → r.call ≡ xid
     → (client opened link before).ended ≡ None
     → Frozen stag (length (bytes_received link Initiator before)) r.bytes (client opened link before).state.accesses_received (client opened link (before ++ marks.Revoke link xid given ∷ [])).state
 unfolding client_end
-frozen-mark opened link before xid stag given r there own live =
+frozen_mark opened link before xid stag given r there own live =
     let c = client opened link before in
     let p = length (bytes_received link Initiator before) in
     let one : client opened link (before ++ marks.Revoke link xid given ∷ []) ≡ next_end_state_in (client_rules opened) c.state (MemoryRevoked p xid) None =
-    client-one opened link before (marks.Revoke link xid given)
+    client_one opened link before (marks.Revoke link xid given)
     ∙ ap (λ (b : Bool). end_state_after (client_rules opened) c (if_own (b && true) (MemoryRevoked p xid ∷ []))) (eq-eqb link link refl)
     ∙ ap (λ (o : Option Stop). next_end_state_in (client_rules opened) c.state (MemoryRevoked p xid) o) live in
-    subst (λ (x : EndState ClientState). Frozen stag p r.bytes c.state.accesses_received x.state) (sym one) (frozen-state opened link before xid stag r there own)
+    subst (λ (x : EndState ClientState). Frozen stag p r.bytes c.state.accesses_received x.state) (sym one) (frozen_state opened link before xid stag r there own)
 
 record Kept (opened : LinkParameters) (link : ℕ) (before run : List Mark) (stag : ℕ) (bytes : List ℕ) : Type 0 where
   has : HasRegion (client opened link run).state.regions stag bytes
@@ -320,9 +320,9 @@ record Kept (opened : LinkParameters) (link : ℕ) (before run : List Mark) (sta
 kept : (opened : LinkParameters) (link : ℕ) (before after : List Mark) (xid stag : ℕ) (given : List ℕ) (r : Region) → find (λ x. eqb x.stag stag) (client opened link before).state.regions ≡ Some r → r.call ≡ xid
     → (o : Option Stop) → (client opened link before).ended ≡ o → Kept opened link before (before ++ marks.Revoke link xid given ∷ after) stag r.bytes
 kept opened link before after xid stag given r there own (Some end) is =
-    let all = ended-run opened link before (marks.Revoke link xid given ∷ after) end is in
-    let numbers = client-known opened link before in
-    let low = low-found opened.first_stag stag (client opened link before).state.regions r numbers.regions there in
+    let all = ended_run opened link before (marks.Revoke link xid given ∷ after) end is in
+    let numbers = client_known opened link before in
+    let low = low_found opened.first_stag stag (client opened link before).state.regions r numbers.regions there in
     record {
       has = subst (λ (x : EndState ClientState). HasRegion x.state.regions stag r.bytes) (sym all) (record { region = r; there = there; own = low.1; holds = refl });
       same = ap (λ (x : EndState ClientState). after_parts stag r.bytes (parts_of x.state.accesses_received)) all;
@@ -331,32 +331,32 @@ kept opened link before after xid stag given r there own None is =
     let at : Mark = marks.Revoke link xid given in
     let old = (client opened link before).state.accesses_received in
     let p = length (bytes_received link Initiator before) in
-    let grows = ap (λ (xs : List ℕ). length xs) (received-one link Initiator before at) ∙ length-append (bytes_received link Initiator before) (fed_at link Initiator at) in
+    let grows = ap (λ (xs : List ℕ). length xs) (received_one link Initiator before at) ∙ length-append (bytes_received link Initiator before) (fed_at link Initiator at) in
     let f : Frozen stag p r.bytes old (client opened link (before ++ at ∷ after)).state =
     subst (λ (b : List Mark). Frozen stag p r.bytes old (client opened link b).state) (append_assoc before (at ∷ []) after)
-    (frozen-from opened link stag p r.bytes old (before ++ at ∷ []) after (omega (arith, grows)) (frozen-mark opened link before xid stag given r there own is)) in
+    (frozen_from opened link stag p r.bytes old (before ++ at ∷ []) after (omega (arith, grows)) (frozen_mark opened link before xid stag given r there own is)) in
     record {
       has = f.has;
       same = ap (λ (a : List TaggedSegment). after_parts stag r.bytes (parts_of a)) f.accesses
-          ∙ ap (λ (ps : List Part). after_parts stag r.bytes ps) (parts-append old f.more)
-          ∙ after-append stag r.bytes (parts_of old) (parts_of f.more)
-          ∙ not-parts stag (after_parts stag r.bytes (parts_of old)) f.more f.none;
+          ∙ ap (λ (ps : List Part). after_parts stag r.bytes ps) (parts_append old f.more)
+          ∙ after_append stag r.bytes (parts_of old) (parts_of f.more)
+          ∙ not_parts stag (after_parts stag r.bytes (parts_of old)) f.more f.none;
     }
 
-pub revoke_stands : RevokeStands
+pub revoke_stands : RevokedMemoryIsFinal
 revoke_stands opened link run before xid bytes typed asked at =
-    let typed_before : IsTyped before = before-mark TypedMark run before (marks.Revoke link xid bytes) at.after at.is typed in
-    let asked_before : AskedSoFar opened link before = before-mark (AskedMark IsPrefixOf opened link) run before (marks.Revoke link xid bytes) at.after at.is asked in
-    let revoked = at-mark (AskedMark IsPrefixOf opened link) run before (marks.Revoke link xid bytes) at.after at.is asked refl in
+    let typed_before : IsTyped before = before_mark TypedMark run before (marks.Revoke link xid bytes) at.after at.is typed in
+    let asked_before : AskedSoFar opened link before = before_mark (AskedMark IsPrefixOf opened link) run before (marks.Revoke link xid bytes) at.after at.is asked in
+    let revoked = at_mark (AskedMark IsPrefixOf opened link) run before (marks.Revoke link xid bytes) at.after at.is asked refl in
     let k = (client opened link before).state in
     record {
       what_stood = revoked.bytes_are;
       stands = λ r there own.
-          let numbers = client-known opened link before in
-          let found = found-at opened.first_stag there.0 k.regions r numbers.regions there.1 there.2 in
-          let low = low-found opened.first_stag r.stag k.regions r numbers.regions found in
+          let numbers = client_known opened link before in
+          let found = found_at_lem opened.first_stag there.0 k.regions r numbers.regions there.1 there.2 in
+          let low = low_found opened.first_stag r.stag k.regions r numbers.regions found in
           let s : Kept opened link before run r.stag r.bytes =
           subst (λ (b : List Mark). Kept opened link before b r.stag r.bytes) (sym at.is) (kept opened link before at.after xid r.stag bytes r found own (client opened link before).ended refl) in
-          run-holds opened link r.stag r.bytes run typed asked s.has ∙ s.same
-          ∙ sym (run-holds opened link r.stag r.bytes before typed_before asked_before (record { region = r; there = found; own = refl; holds = refl }));
+          run_holds opened link r.stag r.bytes run typed asked s.has ∙ s.same
+          ∙ sym (run_holds opened link r.stag r.bytes before typed_before asked_before (record { region = r; there = found; own = refl; holds = refl }));
     }

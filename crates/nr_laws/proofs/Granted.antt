@@ -21,9 +21,9 @@ use Rattle.nr_reduce.specs.Run.{client}
 use Rattle.nr_reduce.specs.SubmitAnswer.{next_xid, unless_spent, by_plan, answer_by, submit_answer, submit_answer_after, unless_dropped}
 use Rattle.nr_laws.specs.Grant.{AcceptedMark, SubmitsWithinGrant}
 
-not-dropped : (b : Bool) (answer : Submission) (xid : ℕ) → unless_dropped b answer ≡ submissions.Accepted xid → answer ≡ submissions.Accepted xid
-not-dropped true answer xid e = absurd cc
-not-dropped false answer xid e = e
+not_dropped_lem : (b : Bool) (answer : Submission) (xid : ℕ) → unless_dropped b answer ≡ submissions.Accepted xid → answer ≡ submissions.Accepted xid
+not_dropped_lem true answer xid e = absurd cc
+not_dropped_lem false answer xid e = e
 
 -- an accepted call found a credit
 granted : (opened : LinkParameters) (k : ClientState) (call : Call) (form : Form) (ended : Option Stop) (xid : ℕ) → answer_by opened k call form ended ≡ submissions.Accepted xid → length k.outstanding < k.grant
@@ -43,24 +43,24 @@ within : (opened : LinkParameters) (link : ℕ) (before : List Mark) (call : Cal
 unfolding submit_answer calls_outstanding credits_granted
 within opened link before call form xid e = granted opened (client opened link before).state call form (client opened link before).ended xid e
 
-mark-within : (opened : LinkParameters) (link : ℕ) (before : List Mark) (mark : Mark) → AcceptedMark opened link before mark → WithinGrant opened link before mark
+mark_within : (opened : LinkParameters) (link : ℕ) (before : List Mark) (mark : Mark) → AcceptedMark opened link before mark → WithinGrant opened link before mark
 unfolding submit_answer_after
-mark-within opened link before (marks.Submit l call form (submissions.Accepted xid)) a = λ same.
-    within opened link before call form xid (not-dropped (is_dropped link before) (submit_answer opened (client opened link before) call form) xid (a same))
-mark-within opened link before (marks.Submit l call form (submissions.Refused why)) a = tt
-mark-within opened link before (marks.Submit l call form submissions.Dropped) a = tt
-mark-within opened link before (marks.Fed l s bytes) a = tt
-mark-within opened link before (marks.Wrote l s bytes) a = tt
-mark-within opened link before (marks.Execute l xid moment payload place reply) a = tt
-mark-within opened link before (marks.Done l xid outcome) a = tt
-mark-within opened link before (marks.Lost l xid) a = tt
-mark-within opened link before (marks.Forget l xid) a = tt
-mark-within opened link before (marks.Revoke l xid bytes) a = tt
-mark-within opened link before (marks.Drop l) a = tt
+mark_within opened link before (marks.Submit l call form (submissions.Accepted xid)) a = λ same.
+    within opened link before call form xid (not_dropped_lem (is_dropped link before) (submit_answer opened (client opened link before) call form) xid (a same))
+mark_within opened link before (marks.Submit l call form (submissions.Refused why)) a = tt
+mark_within opened link before (marks.Submit l call form submissions.Dropped) a = tt
+mark_within opened link before (marks.Fed l s bytes) a = tt
+mark_within opened link before (marks.Wrote l s bytes) a = tt
+mark_within opened link before (marks.Execute l xid moment payload place reply) a = tt
+mark_within opened link before (marks.Done l xid outcome) a = tt
+mark_within opened link before (marks.Lost l xid) a = tt
+mark_within opened link before (marks.Forget l xid) a = tt
+mark_within opened link before (marks.Revoke l xid bytes) a = tt
+mark_within opened link before (marks.Drop l) a = tt
 
-within-from : (opened : LinkParameters) (link : ℕ) (before run : List Mark) → AtEachMark (AcceptedMark opened link) before run → AtEachMark (WithinGrant opened link) before run
-within-from opened link before [] a = tt
-within-from opened link before (mark ∷ run) a = (mark-within opened link before mark a.0, within-from opened link (before ++ mark ∷ []) run a.1)
+within_from : (opened : LinkParameters) (link : ℕ) (before run : List Mark) → AtEachMark (AcceptedMark opened link) before run → AtEachMark (WithinGrant opened link) before run
+within_from opened link before [] a = tt
+within_from opened link before (mark ∷ run) a = (mark_within opened link before mark a.0, within_from opened link (before ++ mark ∷ []) run a.1)
 
 pub submits_within : SubmitsWithinGrant
-submits_within opened link run accepts = within-from opened link [] run accepts
+submits_within opened link run accepts = within_from opened link [] run accepts

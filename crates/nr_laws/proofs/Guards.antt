@@ -14,7 +14,7 @@ use Rattle.nr_reduce.specs.declared.mark.LinkParameters.{LinkParameters}
 use Rattle.nr_reduce.specs.Limits.{send_max}
 use Rattle.nr_reduce.specs.Holds.{Answer, answer_message, first_chunk, no_segments}
 use Rattle.nr_reduce.specs.History.{ExecutedCall}
-use Rattle.nr_reduce.specs.Events.{Event}
+use Rattle.nr_reduce.specs.Events.{RunEvent}
 use Rattle.nr_reduce.specs.EndRules.{live, end_state_after}
 use Rattle.nr_reduce.specs.ClientState.{ClientState, OutstandingCall}
 use Rattle.nr_reduce.specs.Client.{client_rules, initial_client}
@@ -25,14 +25,14 @@ use Rattle.nr_laws.proofs.FrameContents.{FrameContent, request_frame, effect_fra
 use Rattle.nr_laws.proofs.FrameContents.FrameContent.{HelloFrame, SendFrame, RequestFrame, TaggedFrame}
 use Rattle.nr_laws.proofs.LinkInvariants.{Transit, WithinWindow}
 use Rattle.nr_laws.proofs.ServerInvariant.{ServerAgrees}
-use Rattle.nr_laws.proofs.Replies.{IsReply, AreReplies, answer-reply, chunk_error-reply}
+use Rattle.nr_laws.proofs.Replies.{IsReply, AreReplies, answer_reply, chunk_error_reply}
 use Rattle.nr_laws.proofs.ReadLimits.{AreWithin}
 use Rattle.nr_laws.proofs.CallNumbers.{XidsFrom, NumberedCalls, HasOwnXid, IsNumbered}
 use Rattle.nr_laws.proofs.AnsweredSteps.{Answered}
 use Rattle.nr_laws.proofs.WritableOffers.{OfferFits}
-use Rattle.nr_laws.proofs.ServerOutputs.{CallsFit, for_target, found-fits}
+use Rattle.nr_laws.proofs.ServerOutputs.{CallsFit, for_target, found_fits}
 use Rattle.nr_laws.proofs.ServerOutput.{execution_frames}
-use Rattle.nr_laws.proofs.Basics.{each-append}
+use Rattle.nr_laws.proofs.Basics.{each_append}
 
 -- a message of a client has the size of one, version 1, a kind that a client sends, and at most one read chunk
 abbrev pub ClientContent : FrameContent → Type 0
@@ -65,52 +65,52 @@ pub record Guards (opened : LinkParameters) (k : ClientState) (s : ServerState) 
   pub within : AreWithin s.reads s.regions
   pub sinks : length s.regions ≤ s.received.sends
   pub xids : XidsFrom opened.first_xid all_up
-  pub unsaid : k.has_hello ≡ false → NumberedCalls opened.first_xid k.outstanding
+  pub no_hello-numbered : k.has_hello ≡ false → NumberedCalls opened.first_xid k.outstanding
   pub numbers : AllByRecursion (IsNumbered opened.first_xid) s.calls
   pub answered : Answered opened.first_xid k s u d all_down w
-  pub reached : (es : List Event) × (end_state_after (client_rules opened) (initial_client opened) es ≡ live k)
+  pub reached : (es : List RunEvent) × (end_state_after (client_rules opened) (initial_client opened) es ≡ live k)
 
 -- ---- What is sent
 
-sends-down : (credit : ℕ) (messages : List (List ℕ)) → AreReplies credit messages → AllByRecursion (ServerContent credit) (map SendFrame messages)
-sends-down credit [] h = tt
-sends-down credit (m ∷ messages) h = (h.0, sends-down credit messages h.1)
+sends_down_lem : (credit : ℕ) (messages : List (List ℕ)) → AreReplies credit messages → AllByRecursion (ServerContent credit) (map SendFrame messages)
+sends_down_lem credit [] h = tt
+sends_down_lem credit (m ∷ messages) h = (h.0, sends_down_lem credit messages h.1)
 
-reads-down : (credit : ℕ) (reads : List PendingRead) → AllByRecursion (ServerContent credit) (map request_frame reads)
-reads-down credit [] = tt
-reads-down credit (r ∷ reads) = (tt, reads-down credit reads)
+reads_down : (credit : ℕ) (reads : List PendingRead) → AllByRecursion (ServerContent credit) (map request_frame reads)
+reads_down credit [] = tt
+reads_down credit (r ∷ reads) = (tt, reads_down credit reads)
 
-pub step-down : (credit : ℕ) (s : FrameEffect) → AreReplies credit s.errors → AllByRecursion (ServerContent credit) (effect_frames s)
-step-down credit s h = each-append (ServerContent credit) (map SendFrame s.errors) (map request_frame (newly_open_reads s)) (sends-down credit s.errors h) (reads-down credit (newly_open_reads s))
+pub step_down : (credit : ℕ) (s : FrameEffect) → AreReplies credit s.errors → AllByRecursion (ServerContent credit) (effect_frames s)
+step_down credit s h = each_append (ServerContent credit) (map SendFrame s.errors) (map request_frame (newly_open_reads s)) (sends_down_lem credit s.errors h) (reads_down credit (newly_open_reads s))
 
-cuts-down : (credit stag : ℕ) (last : ℕ → Bool) (at : ℕ → ℕ) (payload : ℕ → List ℕ) (is : List ℕ) → AllByRecursion (ServerContent credit) (map (λ i. TaggedFrame (last i) OPCODE_WRITE stag (at i) (payload i)) is)
-cuts-down credit stag last at payload [] = tt
-cuts-down credit stag last at payload (i ∷ is) = (refl, cuts-down credit stag last at payload is)
+cuts_down : (credit stag : ℕ) (last : ℕ → Bool) (at : ℕ → ℕ) (payload : ℕ → List ℕ) (is : List ℕ) → AllByRecursion (ServerContent credit) (map (λ i. TaggedFrame (last i) OPCODE_WRITE stag (at i) (payload i)) is)
+cuts_down credit stag last at payload [] = tt
+cuts_down credit stag last at payload (i ∷ is) = (refl, cuts_down credit stag last at payload is)
 
-fills-down : (credit : ℕ) (chunk : List RdmaSegment) (bytes : List ℕ) → AllByRecursion (ServerContent credit) (write_frames chunk bytes)
+fills_down : (credit : ℕ) (chunk : List RdmaSegment) (bytes : List ℕ) → AllByRecursion (ServerContent credit) (write_frames chunk bytes)
 unfolding tagged_frames
-fills-down credit [] bytes = tt
-fills-down credit (p ∷ chunk) bytes =
-    each-append (ServerContent credit) (cond (eqb (min p.length (length bytes)) 0) [] (tagged_frames OPCODE_WRITE p.handle p.offset (take p.length bytes))) (write_frames chunk (drop p.length bytes))
-    (by (eqb (min p.length (length bytes)) 0)) (fills-down credit chunk (drop p.length bytes))
+fills_down credit [] bytes = tt
+fills_down credit (p ∷ chunk) bytes =
+    each_append (ServerContent credit) (cond (eqb (min p.length (length bytes)) 0) [] (tagged_frames OPCODE_WRITE p.handle p.offset (take p.length bytes))) (write_frames chunk (drop p.length bytes))
+    (by (eqb (min p.length (length bytes)) 0)) (fills_down credit chunk (drop p.length bytes))
   where
     by : (b : Bool) → AllByRecursion (ServerContent credit) (cond b [] (tagged_frames OPCODE_WRITE p.handle p.offset (take p.length bytes)))
     by true = tt
-    by false = cuts-down credit p.handle _ _ _ (range_with_len 0 (segment_count (take p.length bytes)))
+    by false = cuts_down credit p.handle _ _ _ (range_with_len 0 (segment_count (take p.length bytes)))
 
-answer-down : (k : ServerState) → ServerLimits k → (xid : ℕ) (offer : ChunkLists) (reply : List ℕ) (t : Option CallTarget) (o : Option Answer) → xid < 2 ^ 32 → k.credit < 2 ^ 32 → answer_of_target offer k.down_max reply t ≡ o → OfferFits offer → AllByRecursion (ServerContent k.credit) (answer_frames k xid offer o)
-answer-down k l xid offer reply t None word lt e fits = (chunk_error-reply xid k.credit word lt, tt)
-answer-down k l xid offer reply t (Some a) word lt e fits =
+answer_down : (k : ServerState) → ServerLimits k → (xid : ℕ) (offer : ChunkLists) (reply : List ℕ) (t : Option CallTarget) (o : Option Answer) → xid < 2 ^ 32 → k.credit < 2 ^ 32 → answer_of_target offer k.down_max reply t ≡ o → OfferFits offer → AllByRecursion (ServerContent k.credit) (answer_frames k xid offer o)
+answer_down k l xid offer reply t None word lt e fits = (chunk_error_reply xid k.credit word lt, tt)
+answer_down k l xid offer reply t (Some a) word lt e fits =
     let down = l.down in
     let target = for_target offer k.down_max reply t a e in
-    let one = answer-reply offer k.down_max target.0 target.1 target.2 xid k.credit reply a (omega (arith, down)) word lt fits target.3 in
-    each-append (ServerContent k.credit) (write_frames (first_chunk offer.write) a.moved) (cond a.long (write_frames (no_segments offer.reply) a.stream) [] ++ (SendFrame (answer_message xid k.credit offer a) ∷ []))
-    (fills-down k.credit (first_chunk offer.write) a.moved)
-    (each-append (ServerContent k.credit) (cond a.long (write_frames (no_segments offer.reply) a.stream) []) (SendFrame (answer_message xid k.credit offer a) ∷ []) (by a.long) (one, tt))
+    let one = answer_reply offer k.down_max target.0 target.1 target.2 xid k.credit reply a (omega (arith, down)) word lt fits target.3 in
+    each_append (ServerContent k.credit) (write_frames (first_chunk offer.write) a.moved) (cond a.long (write_frames (no_segments offer.reply) a.stream) [] ++ (SendFrame (answer_message xid k.credit offer a) ∷ []))
+    (fills_down k.credit (first_chunk offer.write) a.moved)
+    (each_append (ServerContent k.credit) (cond a.long (write_frames (no_segments offer.reply) a.stream) []) (SendFrame (answer_message xid k.credit offer a) ∷ []) (by a.long) (one, tt))
   where
     by : (b : Bool) → AllByRecursion (ServerContent k.credit) (cond b (write_frames (no_segments offer.reply) a.stream) [])
-    by true = fills-down k.credit (no_segments offer.reply) a.stream
+    by true = fills_down k.credit (no_segments offer.reply) a.stream
     by false = tt
 
-pub execution-down : (k : ServerState) (e : ExecutedCall) → ServerLimits k → e.xid < 2 ^ 32 → k.credit < 2 ^ 32 → CallsFit k.calls → AllByRecursion (ServerContent k.credit) (execution_frames k e)
-execution-down k e l word lt h = answer-down k l e.xid (offer_of k e.xid) e.reply (target_of (call_of e.payload)) _ word lt refl (found-fits e.xid k.calls h)
+pub execution_down : (k : ServerState) (e : ExecutedCall) → ServerLimits k → e.xid < 2 ^ 32 → k.credit < 2 ^ 32 → CallsFit k.calls → AllByRecursion (ServerContent k.credit) (execution_frames k e)
+execution_down k e l word lt h = answer_down k l e.xid (offer_of k e.xid) e.reply (target_of (call_of e.payload)) _ word lt refl (found_fits e.xid k.calls h)

@@ -16,47 +16,47 @@ use Rattle.nr_link.specs.Ending.{frame_segment}
 use Rattle.nr_reduce.specs.declared.mark.LinkParameters.{LinkParameters}
 use Rattle.nr_reduce.specs.Opening.{IsOpened}
 use Rattle.nr_reduce.specs.Limits.{most_credits}
-use Rattle.nr_reduce.specs.Events.{Event}
-use Rattle.nr_reduce.specs.Events.Event.{FrameReceived}
+use Rattle.nr_reduce.specs.Events.{RunEvent}
+use Rattle.nr_reduce.specs.Events.RunEvent.{FrameReceived}
 use Rattle.nr_reduce.specs.EndRules.{EndState, live, next_end_state_by, end_state_after}
 use Rattle.nr_reduce.specs.OfferedRegions.{Region, region_grants}
-use Rattle.nr_reduce.specs.ClientState.{ClientState, OutstandingCall, memory_at}
+use Rattle.nr_reduce.specs.ClientState.{ClientState, OutstandingCall, client_memory_at}
 use Rattle.nr_reduce.specs.Client.{client_rules, client_end, client_state_after, initial_client, credits_of_word, with_segment, with_message, with_request, segment_request, due_with_response}
 use Rattle.nr_reduce.specs.ServerState.{ServerState, PendingRead}
 use Rattle.nr_reduce.specs.ServerReads.{open_reads}
-use Rattle.nr_reduce.proofs.Steps.{end_state_after-append}
-use Rattle.nr_reduce.proofs.OwnStags.{AreNumbered, own-stags, client-numbers}
+use Rattle.nr_reduce.proofs.Steps.{end_state_after_append}
+use Rattle.nr_reduce.proofs.OwnStags.{AreNumbered, own_stags, client_numbers}
 use Rattle.nr_laws.proofs.FrameContents.{FrameContent, total_of, sends_in, hellos_in, request_frame, call_frame, client_frames, tagged_frames, tagged_frame, response_frames, Carries}
 use Rattle.nr_laws.proofs.FrameContents.FrameContent.{HelloFrame, SendFrame, RequestFrame, TaggedFrame}
 use Rattle.nr_laws.proofs.LinkInvariants.{Transit, TotalsAgree, hello_bit, ReadsAgree, WithinWindow, HasSink, HaveSinks, AreAtMost, requests_of}
 use Rattle.nr_laws.proofs.Totals.{others}
-use Rattle.nr_laws.proofs.TotalsAtServer.{segment-is}
-use Rattle.nr_laws.proofs.TotalsAtClient.{down_one, after-is, says-is, request_payload, totals-hello_down, totals-send_down, totals-read_down, totals-tagged_down, bit_of}
-use Rattle.nr_laws.proofs.ReadsAtClient.{AnswersNone, reads-read_down, reads-says_up}
+use Rattle.nr_laws.proofs.TotalsAtServer.{segment_is}
+use Rattle.nr_laws.proofs.TotalsAtClient.{down_one, after_is_lem, says_is, request_payload, totals_hello_down, totals_send_down, totals_read_down, totals_tagged_down, bit_of}
+use Rattle.nr_laws.proofs.ReadsAtClient.{AnswersNone, reads_read_down, reads_says_up}
 use Rattle.nr_laws.proofs.ServerInvariant.{ServerAgrees}
 use Rattle.nr_laws.proofs.Replies.{IsReply}
 use Rattle.nr_laws.proofs.ReadLimits.{AreWithin, ReadFits, IsSmall}
-use Rattle.nr_laws.proofs.RequestFields.{is-there}
-use Rattle.nr_laws.proofs.OwnXids.{segment-out}
+use Rattle.nr_laws.proofs.RequestFields.{is_there_lem}
+use Rattle.nr_laws.proofs.OwnXids.{segment_out}
 use Rattle.nr_laws.proofs.AgreeingEnds.{EndsAgree}
-use Rattle.nr_laws.proofs.ClientFrame.{says-hello, after-hello}
-use Rattle.nr_laws.proofs.CallNumbers.{XidsFrom, HasOwnXid, xids-append, xids-asked}
+use Rattle.nr_laws.proofs.ClientFrame.{says_hello, after_hello}
+use Rattle.nr_laws.proofs.CallNumbers.{XidsFrom, HasOwnXid, xids_append, xids_asked}
 use Rattle.nr_laws.proofs.ClientFrame.{calls_said}
-use Rattle.nr_laws.proofs.AnsweredSteps.{Answered, answered-message, answered-same}
+use Rattle.nr_laws.proofs.AnsweredSteps.{Answered, answered_message_lem, answered_same}
 use Rattle.nr_laws.proofs.Guards.{ClientContent, ServerContent, IsAsked, AreSized, Guards}
-use Rattle.nr_laws.proofs.GuardsAtServer.{each-at}
-use Rattle.nr_laws.proofs.Basics.{each-append, each-right, each-take, each-kept}
-use Rattle.nr_laws.proofs.Sinks.{sinks-taken}
+use Rattle.nr_laws.proofs.GuardsAtServer.{each_at}
+use Rattle.nr_laws.proofs.Basics.{each_append, each_right, each_take, each_kept}
+use Rattle.nr_laws.proofs.Sinks.{sinks_taken}
 
-pub front-down : (opened : LinkParameters) (k : ClientState) (s : ServerState) (u d all_up all_down : List FrameContent) (w : Transit) (place : ℕ) (p : FrameContent) (rest : List FrameContent) → EndsAgree opened k s u d all_up all_down w → Guards opened k s u d all_up all_down w place → w.down ≡ p ∷ rest → ServerContent opened.granted p
-front-down opened k s u d all_up all_down w place p rest l g first =
-    each-at (ServerContent opened.granted) d p (rest ++ w.queued_down) (subst (AllByRecursion (ServerContent opened.granted)) (sym l.parts_down ∙ ap (λ (ps : List FrameContent). d ++ (ps ++ w.queued_down)) first) g.down_said)
+pub front_down : (opened : LinkParameters) (k : ClientState) (s : ServerState) (u d all_up all_down : List FrameContent) (w : Transit) (place : ℕ) (p : FrameContent) (rest : List FrameContent) → EndsAgree opened k s u d all_up all_down w → Guards opened k s u d all_up all_down w place → w.down ≡ p ∷ rest → ServerContent opened.granted p
+front_down opened k s u d all_up all_down w place p rest l g first =
+    each_at (ServerContent opened.granted) d p (rest ++ w.queued_down) (subst (AllByRecursion (ServerContent opened.granted)) (sym l.parts_down ∙ ap (λ (ps : List FrameContent). d ++ (ps ++ w.queued_down)) first) g.down_said)
 
 -- ---- The read of a Read Request
 
-have-right : (place : ℕ) (regions : List Region) (xs ys : List PendingRead) → HaveSinks place regions (xs ++ ys) → HaveSinks place regions ys
-have-right place regions [] ys h = h
-have-right place regions (x ∷ xs) ys h = have-right place regions xs ys h.1
+have_right : (place : ℕ) (regions : List Region) (xs ys : List PendingRead) → HaveSinks place regions (xs ++ ys) → HaveSinks place regions ys
+have_right place regions [] ys h = h
+have_right place regions (x ∷ xs) ys h = have_right place regions xs ys h.1
 
 record SinkBounds (n : ℕ) (r : PendingRead) : Type 0 where
   sink : r.sink ≤ n
@@ -77,24 +77,24 @@ pub record RequestedRead (sink at size stag to : ℕ) : Type 0 where
   pub to_word : to < 2 ^ 64
   pub room : at + size ≤ PAYLOAD_MAX
 
-read-fields : (sink at size stag to : ℕ) (r : PendingRead) → RequestFrame sink at size stag to ≡ request_frame r → (sink ≡ r.sink) × (at ≡ r.at) × (size ≡ r.size) × (stag ≡ r.stag) × (to ≡ r.to)
-read-fields sink at size stag to r e = (cc, cc, cc, cc, cc)
+read_fields : (sink at size stag to : ℕ) (r : PendingRead) → RequestFrame sink at size stag to ≡ request_frame r → (sink ≡ r.sink) × (at ≡ r.at) × (size ≡ r.size) × (stag ≡ r.stag) × (to ≡ r.to)
+read_fields sink at size stag to r e = (cc, cc, cc, cc, cc)
 
-first-piece : (p : FrameContent) (ps : List FrameContent) (reads : List PendingRead) → p ∷ ps ≡ map request_frame reads → (r : PendingRead) × (others : List PendingRead) × (reads ≡ r ∷ others) × (p ≡ request_frame r)
-first-piece p ps [] e = absurd cc
-first-piece p ps (r ∷ others) e = (r, others, refl, cc)
+first_piece_lem : (p : FrameContent) (ps : List FrameContent) (reads : List PendingRead) → p ∷ ps ≡ map request_frame reads → (r : PendingRead) × (others : List PendingRead) × (reads ≡ r ∷ others) × (p ≡ request_frame r)
+first_piece_lem p ps [] e = absurd cc
+first_piece_lem p ps (r ∷ others) e = (r, others, refl, cc)
 
-pub asked-of : (s : ServerState) (w : Transit) (place sink at size stag to : ℕ) (rest : List FrameContent) → ReadsAgree s w → w.down ≡ RequestFrame sink at size stag to ∷ rest → HaveSinks place s.regions s.reads → AreAtMost (λ (g : Region). g.stag) (length s.regions) s.regions → AreWithin s.reads s.regions
+pub asked_of : (s : ServerState) (w : Transit) (place sink at size stag to : ℕ) (rest : List FrameContent) → ReadsAgree s w → w.down ≡ RequestFrame sink at size stag to ∷ rest → HaveSinks place s.regions s.reads → AreAtMost (λ (g : Region). g.stag) (length s.regions) s.regions → AreWithin s.reads s.regions
     → RequestedRead sink at size stag to
-asked-of s w place sink at size stag to rest c first sinks stags within =
+asked_of s w place sink at size stag to rest c first sinks stags within =
     let asked : RequestFrame sink at size stag to ∷ requests_of (rest ++ w.queued_down) ≡ map request_frame c.asked = ap (λ (ps : List FrameContent). requests_of (ps ++ w.queued_down)) (sym first) ∙ c.requests in
-    let a = first-piece (RequestFrame sink at size stag to) (requests_of (rest ++ w.queued_down)) c.asked asked in
+    let a = first_piece_lem (RequestFrame sink at size stag to) (requests_of (rest ++ w.queued_down)) c.asked asked in
     let r = a.0 in
     let parts : open_reads s ≡ c.answered ++ r ∷ a.1 = c.parts ∙ ap (λ (xs : List PendingRead). c.answered ++ xs) a.2 in
-    let fits = (each-right ReadFits c.answered (r ∷ a.1) (subst (AllByRecursion ReadFits) parts (each-take ReadFits 8 s.reads within.fit))).0 in
-    let sink_of = (have-right place s.regions c.answered (r ∷ a.1) (subst (HaveSinks place s.regions) parts (sinks-taken place 8 s.regions s.reads sinks))).0 in
+    let fits = (each_right ReadFits c.answered (r ∷ a.1) (subst (AllByRecursion ReadFits) parts (each_take ReadFits 8 s.reads within.fit))).0 in
+    let sink_of = (have_right place s.regions c.answered (r ∷ a.1) (subst (HaveSinks place s.regions) parts (sinks_taken place 8 s.regions s.reads sinks))).0 in
     let b = bounds place (length s.regions) r s.regions sink_of stags within.small in
-    let same = read-fields sink at size stag to r a.3 in
+    let same = read_fields sink at size stag to r a.3 in
     record {
       some = omega (arith, same.2, fits.0);
       sink_word = omega (arith, same.0, b.sink, within.few);
@@ -107,44 +107,44 @@ asked-of s w place sink at size stag to rest c first sinks stags within =
 
 -- ---- What is kept
 
-guards-down : (opened : LinkParameters) (k t : ClientState) (s : ServerState) (u d all_up all_down : List FrameContent) (w : Transit) (place : ℕ) (p : FrameContent) (rest said : List FrameContent) (event : Event) → Guards opened k s u d all_up all_down w place
+guards_down : (opened : LinkParameters) (k t : ClientState) (s : ServerState) (u d all_up all_down : List FrameContent) (w : Transit) (place : ℕ) (p : FrameContent) (rest said : List FrameContent) (event : RunEvent) → Guards opened k s u d all_up all_down w place
     → ServerAgrees opened t s (down_one w said rest) place → WithinWindow opened t → AllByRecursion ClientContent said → AreSized opened t.outstanding → XidsFrom (opened.first_xid + total_of sends_in all_up) said → t.has_hello ≡ true → Answered opened.first_xid t s u (d ++ p ∷ []) all_down (down_one w said rest) → client_end k event ≡ None → t ≡ client_state_after opened k event
     → Guards opened t s u (d ++ p ∷ []) (all_up ++ said) all_down (down_one w said rest) place
-guards-down opened k t s u d all_up all_down w place p rest said event g server window up calls xids hello answered stays is = record {
+guards_down opened k t s u d all_up all_down w place p rest said event g server window up calls xids hello answered stays is = record {
   server = server;
   window = window;
-  up_said = each-append ClientContent all_up said g.up_said up;
+  up_said = each_append ClientContent all_up said g.up_said up;
   down_said = g.down_said;
   credit = g.credit;
   calls = calls;
   within = g.within;
   sinks = g.sinks;
-  xids = xids-append opened.first_xid all_up said g.xids xids;
-  unsaid = λ e. absurd (let wrong : true ≡ false = sym hello ∙ e in cc);
+  xids = xids_append opened.first_xid all_up said g.xids xids;
+  no_hello-numbered = λ e. absurd (let wrong : true ≡ false = sym hello ∙ e in cc);
   numbers = g.numbers;
   answered = answered;
   reached = (
     g.reached.0 ++ event ∷ [],
-    end_state_after-append (client_rules opened) (initial_client opened) g.reached.0 (event ∷ [])
+    end_state_after_append (client_rules opened) (initial_client opened) g.reached.0 (event ∷ [])
         ∙ ap (λ (r : EndState ClientState). end_state_after (client_rules opened) r (event ∷ [])) g.reached.1
         ∙ ap (λ (x : Option End). next_end_state_by (client_rules opened) k event x) stays ∙ ap (λ (x : ClientState). live x) (sym is),
   );
 }
 
-sized-frame : (opened : LinkParameters) (k t : ClientState) (f : Frame) (r : Result Segment ℕ) → t ≡ with_segment k f r → AreSized opened k.outstanding → AreSized opened t.outstanding
-sized-frame opened k t f r is h = subst (λ (x : ClientState). AreSized opened x.outstanding) (sym is) (by (segment-out k f r))
+sized_frame : (opened : LinkParameters) (k t : ClientState) (f : Frame) (r : Result Segment ℕ) → t ≡ with_segment k f r → AreSized opened k.outstanding → AreSized opened t.outstanding
+sized_frame opened k t f r is h = subst (λ (x : ClientState). AreSized opened x.outstanding) (sym is) (by (segment_out k f r))
   where
     by : ((with_segment k f r).outstanding ≡ k.outstanding) ⊎ ((p : OutstandingCall → Bool) × ((with_segment k f r).outstanding ≡ filter p k.outstanding)) → AreSized opened (with_segment k f r).outstanding
     by (inl same) = subst (AreSized opened) (sym same) h
-    by (inr left) = subst (AreSized opened) (sym left.1) (each-kept (IsAsked opened) left.0 k.outstanding h)
+    by (inr left) = subst (AreSized opened) (sym left.1) (each_kept (IsAsked opened) left.0 k.outstanding h)
 
-own-xids : (opened : LinkParameters) (os : List OutstandingCall) → AreSized opened os → AllByRecursion (HasOwnXid opened) os
-own-xids opened [] h = tt
-own-xids opened (o ∷ os) h = (h.0.1, own-xids opened os h.1)
+own_xids : (opened : LinkParameters) (os : List OutstandingCall) → AreSized opened os → AllByRecursion (HasOwnXid opened) os
+own_xids opened [] h = tt
+own_xids opened (o ∷ os) h = (h.0.1, own_xids opened os h.1)
 
 -- a frame behind the hello leaves the client with it
-behind-hello : (opened : LinkParameters) (k t : ClientState) (s : ServerState) (u d all_up all_down : List FrameContent) (w : Transit) (f : Frame) (r : Result Segment ℕ) → t ≡ with_segment k f r → k.has_hello ≡ true → t.has_hello ≡ true
-behind-hello opened k t s u d all_up all_down w f r is hello = ap (λ (x : ClientState). x.has_hello) is ∙ by r
+behind_hello_lem : (opened : LinkParameters) (k t : ClientState) (s : ServerState) (u d all_up all_down : List FrameContent) (w : Transit) (f : Frame) (r : Result Segment ℕ) → t ≡ with_segment k f r → k.has_hello ≡ true → t.has_hello ≡ true
+behind_hello_lem opened k t s u d all_up all_down w f r is hello = ap (λ (x : ClientState). x.has_hello) is ∙ by r
   where
     with : (m : Option (List ℕ)) (place : ℕ) (q : Option ReadRequest) → (with_request (with_message k f.end m) place q).has_hello ≡ true
     with None place None = hello
@@ -156,74 +156,74 @@ behind-hello opened k t s u d all_up all_down w f r is hello = ap (λ (x : Clien
     by (Err reason) = hello
     by (Ok segment) = with (message_completed k.received segment) (due_with_response k f segment) (read_request_of segment)
 
-credits-same : (n : ℕ) → 0 < n → n ≤ most_credits → credits_of_word n ≤ n
-credits-same n some most =
+credits_same : (n : ℕ) → 0 < n → n ≤ most_credits → credits_of_word n ≤ n
+credits_same n some most =
     let same : credits_of_word n ≡ n = (λ i. cond (ne_eqb n 0 (λ e. omega (arith, e, some)) i) 1 (cond (le-ltb most_credits n most i) most_credits n)) in
     omega (arith, same)
 
-asks-up : (opened : LinkParameters) (os : List OutstandingCall) → AreSized opened os → AllByRecursion ClientContent (map (call_frame opened) os)
-asks-up opened [] h = tt
-asks-up opened (o ∷ os) h = (h.0.0, asks-up opened os h.1)
+asks_up : (opened : LinkParameters) (os : List OutstandingCall) → AreSized opened os → AllByRecursion ClientContent (map (call_frame opened) os)
+asks_up opened [] h = tt
+asks_up opened (o ∷ os) h = (h.0.0, asks_up opened os h.1)
 
-none-asks : (opened : LinkParameters) (os : List OutstandingCall) → AnswersNone (map (call_frame opened) os)
-none-asks opened [] = (refl, refl)
-none-asks opened (o ∷ os) = none-asks opened os
+none_asks : (opened : LinkParameters) (os : List OutstandingCall) → AnswersNone (map (call_frame opened) os)
+none_asks opened [] = (refl, refl)
+none_asks opened (o ∷ os) = none_asks opened os
 
-pub guards-hello_down : (opened : LinkParameters) (k : ClientState) (s : ServerState) (u d all_up all_down : List FrameContent) (w : Transit) (place : ℕ) (rest : List FrameContent) (f : Frame) → EndsAgree opened k s u d all_up all_down w → Guards opened k s u d all_up all_down w place → w.down ≡ HelloFrame ∷ rest → is_hello f ≡ true
+pub guards_hello_down : (opened : LinkParameters) (k : ClientState) (s : ServerState) (u d all_up all_down : List FrameContent) (w : Transit) (place : ℕ) (rest : List FrameContent) (f : Frame) → EndsAgree opened k s u d all_up all_down w → Guards opened k s u d all_up all_down w place → w.down ≡ HelloFrame ∷ rest → is_hello f ≡ true
     → client_end k (FrameReceived f) ≡ None
     → Guards opened (client_state_after opened k (FrameReceived f)) s u (d ++ HelloFrame ∷ []) (all_up ++ client_frames opened k (FrameReceived f)) all_down (down_one w (client_frames opened k (FrameReceived f)) rest) place
-guards-hello_down opened k s u d all_up all_down w place rest f l g first is stays =
+guards_hello_down opened k s u d all_up all_down w place rest f l g first is stays =
     let t = client_state_after opened k (FrameReceived f) in
     let said = map (call_frame opened) k.outstanding in
-    let says = says-hello opened k f is in
-    let after = after-hello opened k f is in
+    let says = says_hello opened k f is in
+    let after = after_hello opened k f is in
     let none : hello_bit k.has_hello ≡ 0 = omega (arith, l.counts.hello, ap (total_of hellos_in) first) in
-    let unsaid : k.has_hello ≡ false = bit_of k.has_hello none in
-    let sends : total_of sends_in all_up ≡ 0 = calls_said opened k s u d all_up all_down w l ∙ ap (λ (b : Bool). cond b k.calls_accepted 0) unsaid in
+    let no_hello-numbered : k.has_hello ≡ false = bit_of k.has_hello none in
+    let sends : total_of sends_in all_up ≡ 0 = calls_said opened k s u d all_up all_down w l ∙ ap (λ (b : Bool). cond b k.calls_accepted 0) no_hello-numbered in
     let asked : XidsFrom (opened.first_xid + total_of sends_in all_up) said =
     subst (λ (n : ℕ). XidsFrom n said) (let same : opened.first_xid ≡ opened.first_xid + total_of sends_in all_up = omega (arith, sends) in same)
-    (xids-asked opened opened.first_xid k.outstanding (g.unsaid unsaid) (own-xids opened k.outstanding g.calls)) in
+    (xids_asked opened opened.first_xid k.outstanding (g.no_hello-numbered no_hello-numbered) (own_xids opened k.outstanding g.calls)) in
     let server : ServerAgrees opened t s (down_one w said rest) place = record {
-      counts = subst (λ (ps : List FrameContent). TotalsAgree t s (down_one w ps rest)) says (totals-hello_down opened k s w f rest g.server.counts first is);
-      reads = reads-says_up s w said rest g.server.reads (none-asks opened k.outstanding) (ap requests_of first);
+      counts = subst (λ (ps : List FrameContent). TotalsAgree t s (down_one w ps rest)) says (totals_hello_down opened k s w f rest g.server.counts first is);
+      reads = reads_says_up s w said rest g.server.reads (none_asks opened k.outstanding) (ap requests_of first);
       waits = g.server.waits;
       sinks = g.server.sinks;
       regions = g.server.regions;
       limits = g.server.limits;
     } in
     subst (λ (ps : List FrameContent). Guards opened t s u (d ++ HelloFrame ∷ []) (all_up ++ ps) all_down (down_one w ps rest) place) (sym says)
-    (guards-down opened k t s u d all_up all_down w place HelloFrame rest said (FrameReceived f) g server (subst (WithinWindow opened) (sym after) (record { window = g.window.window; grant = g.window.grant })) (asks-up opened k.outstanding g.calls) (subst (λ (x : ClientState). AreSized opened x.outstanding) (sym after) g.calls) asked (ap (λ (x : ClientState). x.has_hello) after)
-    (answered-same opened.first_xid k t s u d all_down w (down_one w said rest) HelloFrame (ap (λ (x : ClientState). x.outstanding) after) (ap (λ (x : ClientState). x.calls_accepted) after) refl g.answered) stays refl)
+    (guards_down opened k t s u d all_up all_down w place HelloFrame rest said (FrameReceived f) g server (subst (WithinWindow opened) (sym after) (record { window = g.window.window; grant = g.window.grant })) (asks_up opened k.outstanding g.calls) (subst (λ (x : ClientState). AreSized opened x.outstanding) (sym after) g.calls) asked (ap (λ (x : ClientState). x.has_hello) after)
+    (answered_same opened.first_xid k t s u d all_down w (down_one w said rest) HelloFrame (ap (λ (x : ClientState). x.outstanding) after) (ap (λ (x : ClientState). x.calls_accepted) after) refl g.answered) stays refl)
 
-pub guards-send_down : (opened : LinkParameters) (k : ClientState) (s : ServerState) (u d all_up all_down : List FrameContent) (w : Transit) (place : ℕ) (message : List ℕ) (rest : List FrameContent) (f : Frame) → IsOpened opened → EndsAgree opened k s u d all_up all_down w → Guards opened k s u d all_up all_down w place → w.down ≡ SendFrame message ∷ rest
+pub guards_send_down : (opened : LinkParameters) (k : ClientState) (s : ServerState) (u d all_up all_down : List FrameContent) (w : Transit) (place : ℕ) (message : List ℕ) (rest : List FrameContent) (f : Frame) → IsOpened opened → EndsAgree opened k s u d all_up all_down w → Guards opened k s u d all_up all_down w place → w.down ≡ SendFrame message ∷ rest
     → Carries k.received.sends k.received.requests f (SendFrame message) → k.has_hello ≡ true → client_end k (FrameReceived f) ≡ None
     → Guards opened (client_state_after opened k (FrameReceived f)) s u (d ++ SendFrame message ∷ []) (all_up ++ client_frames opened k (FrameReceived f)) all_down (down_one w (client_frames opened k (FrameReceived f)) rest) place
-guards-send_down opened k s u d all_up all_down w place message rest f o l g first piece hello stays =
+guards_send_down opened k s u d all_up all_down w place message rest f o l g first piece hello stays =
     let segment : Segment = Untagged true OPCODE_SEND 0 QUEUE_SEND (msn_word (k.received.sends + 1)) 0 message in
-    let reads : frame_segment f ≡ Ok segment = segment-is k.received.sends k.received.requests f (SendFrame message) segment piece refl in
+    let reads : frame_segment f ≡ Ok segment = segment_is k.received.sends k.received.requests f (SendFrame message) segment piece refl in
     let t = client_state_after opened k (FrameReceived f) in
-    let says : client_frames opened k (FrameReceived f) ≡ [] = says-is opened k f (Ok segment) piece.behind reads in
-    let after : t ≡ with_segment k f (Ok segment) = after-is opened k f (Ok segment) piece.behind reads in
+    let says : client_frames opened k (FrameReceived f) ≡ [] = says_is opened k f (Ok segment) piece.behind reads in
+    let after : t ≡ with_segment k f (Ok segment) = after_is_lem opened k f (Ok segment) piece.behind reads in
     let whole : List ℕ = begun_bytes k.received.begun ++ message in
     let same : whole ≡ message = ap (λ (b : Option (List ℕ)). begun_bytes b ++ message) l.counts.whole_down in
-    let reply : IsReply opened.granted message = front-down opened k s u d all_up all_down w place (SendFrame message) rest l g first in
+    let reply : IsReply opened.granted message = front_down opened k s u d all_up all_down w place (SendFrame message) rest l g first in
     let fewer : length (filter (λ (x : OutstandingCall). not (eqb x.xid (word_at 0 whole))) k.outstanding) ≤ length k.outstanding = filter-less (λ (x : OutstandingCall). not (eqb x.xid (word_at 0 whole))) k.outstanding in
     let grant : credits_of_word (word_at 8 whole) ≡ credits_of_word opened.granted = ap credits_of_word (ap (λ (xs : List ℕ). word_at 8 xs) same ∙ reply.credits) in
     let window : WithinWindow opened (with_segment k f (Ok segment)) = record {
       window = omega (arith, fewer, g.window.window);
-      grant = omega (arith, grant, credits-same opened.granted o.granted o.granted_fits);
+      grant = omega (arith, grant, credits_same opened.granted o.granted o.granted_fits);
     } in
     let server : ServerAgrees opened t s (down_one w [] rest) place = record {
-      counts = subst (λ (ps : List FrameContent). TotalsAgree t s (down_one w ps rest)) says (totals-send_down opened k s w f message rest g.server.counts first piece stays l.outs.apart);
-      reads = reads-says_up s w [] rest g.server.reads (refl, refl) (ap requests_of first);
+      counts = subst (λ (ps : List FrameContent). TotalsAgree t s (down_one w ps rest)) says (totals_send_down opened k s w f message rest g.server.counts first piece stays l.outs.apart);
+      reads = reads_says_up s w [] rest g.server.reads (refl, refl) (ap requests_of first);
       waits = g.server.waits;
       sinks = g.server.sinks;
       regions = g.server.regions;
       limits = g.server.limits;
     } in
     subst (λ (ps : List FrameContent). Guards opened t s u (d ++ SendFrame message ∷ []) (all_up ++ ps) all_down (down_one w ps rest) place) (sym says)
-    (guards-down opened k t s u d all_up all_down w place (SendFrame message) rest [] (FrameReceived f) g server (subst (WithinWindow opened) (sym after) window) tt (sized-frame opened k t f (Ok segment) after g.calls) tt (behind-hello opened k t s u d all_up all_down w f (Ok segment) after hello)
-    (answered-message opened.first_xid k t s u d all_down w (down_one w [] rest) message
+    (guards_down opened k t s u d all_up all_down w place (SendFrame message) rest [] (FrameReceived f) g server (subst (WithinWindow opened) (sym after) window) tt (sized_frame opened k t f (Ok segment) after g.calls) tt (behind_hello_lem opened k t s u d all_up all_down w f (Ok segment) after hello)
+    (answered_message_lem opened.first_xid k t s u d all_down w (down_one w [] rest) message
     (ap (λ (x : ClientState). x.outstanding) after ∙ ap (λ (xs : List ℕ). filter (λ (o : OutstandingCall). not (eqb o.xid (word_at 0 xs))) k.outstanding) same) (ap (λ (x : ClientState). x.calls_accepted) after) g.answered) stays refl)
   where
     filter-less : (p : OutstandingCall → Bool) (os : List OutstandingCall) → length (filter p os) ≤ length os
@@ -235,9 +235,9 @@ guards-send_down opened k s u d all_up all_down w place message rest f o l g fir
         by false le = omega (arith, le)
 
 -- what the client answers to a Read Request has no message
-tagged-up : (opened : LinkParameters) (k : ClientState) (f : Frame) (r : Result Segment ℕ) → is_hello f ≡ false → frame_segment f ≡ r → AllByRecursion ClientContent (client_frames opened k (FrameReceived f))
+tagged_up : (opened : LinkParameters) (k : ClientState) (f : Frame) (r : Result Segment ℕ) → is_hello f ≡ false → frame_segment f ≡ r → AllByRecursion ClientContent (client_frames opened k (FrameReceived f))
 unfolding tagged_frames
-tagged-up opened k f r behind is = subst (AllByRecursion ClientContent) (sym (says-is opened k f r behind is)) (by (segment_request r))
+tagged_up opened k f r behind is = subst (AllByRecursion ClientContent) (sym (says_is opened k f r behind is)) (by (segment_request r))
   where
     cuts : (opcode stag to : ℕ) (bytes : List ℕ) (is : List ℕ) → AllByRecursion ClientContent (map (tagged_frame opcode stag to bytes) is)
     cuts opcode stag to bytes [] = tt
@@ -247,9 +247,9 @@ tagged-up opened k f r behind is = subst (AllByRecursion ClientContent) (sym (sa
     by None = tt
     by (Some q) = cuts _ q.sink q.sink_to _ _
 
-tagged-xids : (x : ℕ) (opened : LinkParameters) (k : ClientState) (f : Frame) (r : Result Segment ℕ) → is_hello f ≡ false → frame_segment f ≡ r → XidsFrom x (client_frames opened k (FrameReceived f))
+tagged_xids : (x : ℕ) (opened : LinkParameters) (k : ClientState) (f : Frame) (r : Result Segment ℕ) → is_hello f ≡ false → frame_segment f ≡ r → XidsFrom x (client_frames opened k (FrameReceived f))
 unfolding tagged_frames
-tagged-xids x opened k f r behind is = subst (XidsFrom x) (sym (says-is opened k f r behind is)) (by (segment_request r))
+tagged_xids x opened k f r behind is = subst (XidsFrom x) (sym (says_is opened k f r behind is)) (by (segment_request r))
   where
     cuts : (opcode stag to : ℕ) (bytes : List ℕ) (is : List ℕ) → XidsFrom x (map (tagged_frame opcode stag to bytes) is)
     cuts opcode stag to bytes [] = tt
@@ -258,56 +258,56 @@ tagged-xids x opened k f r behind is = subst (XidsFrom x) (sym (says-is opened k
     by : (q : Option ReadRequest) → XidsFrom x (response_frames k f.end q)
     by None = tt
     by (Some q) =
-        let bytes = take q.size (drop q.to (memory_at k f.end q.stag)) in
+        let bytes = take q.size (drop q.to (client_memory_at k f.end q.stag)) in
         cuts OPCODE_READ_RESPONSE q.sink q.sink_to bytes (range_with_len 0 (segment_count bytes))
 
-pub guards-read_down : (opened : LinkParameters) (k : ClientState) (s : ServerState) (u d all_up all_down : List FrameContent) (w : Transit) (place sink at size stag to : ℕ) (rest : List FrameContent) (f : Frame) → EndsAgree opened k s u d all_up all_down w → Guards opened k s u d all_up all_down w place → w.down ≡ RequestFrame sink at size stag to ∷ rest
+pub guards_read_down : (opened : LinkParameters) (k : ClientState) (s : ServerState) (u d all_up all_down : List FrameContent) (w : Transit) (place sink at size stag to : ℕ) (rest : List FrameContent) (f : Frame) → EndsAgree opened k s u d all_up all_down w → Guards opened k s u d all_up all_down w place → w.down ≡ RequestFrame sink at size stag to ∷ rest
     → Carries k.received.sends k.received.requests f (RequestFrame sink at size stag to) → k.has_hello ≡ true → client_end k (FrameReceived f) ≡ None
     → Guards opened (client_state_after opened k (FrameReceived f)) s u (d ++ RequestFrame sink at size stag to ∷ []) (all_up ++ client_frames opened k (FrameReceived f)) all_down (down_one w (client_frames opened k (FrameReceived f)) rest) place
-guards-read_down opened k s u d all_up all_down w place sink at size stag to rest f l g first piece hello stays =
+guards_read_down opened k s u d all_up all_down w place sink at size stag to rest f l g first piece hello stays =
     let segment : Segment = Untagged true OPCODE_READ_REQUEST 0 QUEUE_READ_REQUEST (msn_word (k.received.requests + 1)) 0 (request_payload sink at size stag to) in
-    let reads : frame_segment f ≡ Ok segment = segment-is k.received.sends k.received.requests f (RequestFrame sink at size stag to) segment piece refl in
+    let reads : frame_segment f ≡ Ok segment = segment_is k.received.sends k.received.requests f (RequestFrame sink at size stag to) segment piece refl in
     let t = client_state_after opened k (FrameReceived f) in
     let said = client_frames opened k (FrameReceived f) in
-    let after : t ≡ with_segment k f (Ok segment) = after-is opened k f (Ok segment) piece.behind reads in
-    let a = asked-of s w place sink at size stag to rest g.server.reads first g.server.sinks g.server.regions.stags g.within in
-    let numbers = client-numbers opened g.reached.0 in
+    let after : t ≡ with_segment k f (Ok segment) = after_is_lem opened k f (Ok segment) piece.behind reads in
+    let a = asked_of s w place sink at size stag to rest g.server.reads first g.server.sinks g.server.regions.stags g.within in
+    let numbers = client_numbers opened g.reached.0 in
     let own : HaveOwnStags (region_grants f.end k.regions) =
-    own-stags f.end opened.first_stag k.regions (ap-regions opened k g.reached.0 g.reached.1 numbers.regions) in
-    let there = is-there k f (msn_word (k.received.requests + 1)) sink at size stag to own piece.behind reads stays a.some a.sink_word a.at_word a.size_word a.stag_word a.to_word in
+    own_stags f.end opened.first_stag k.regions (ap-regions opened k g.reached.0 g.reached.1 numbers.regions) in
+    let there = is_there_lem k f (msn_word (k.received.requests + 1)) sink at size stag to own piece.behind reads stays a.some a.sink_word a.at_word a.size_word a.stag_word a.to_word in
     let server : ServerAgrees opened t s (down_one w said rest) place = record {
-      counts = totals-read_down opened k s w f sink at size stag to rest g.server.counts first piece;
-      reads = reads-read_down opened k s w f sink at size stag to rest g.server.reads first piece there;
+      counts = totals_read_down opened k s w f sink at size stag to rest g.server.counts first piece;
+      reads = reads_read_down opened k s w f sink at size stag to rest g.server.reads first piece there;
       waits = g.server.waits;
       sinks = g.server.sinks;
       regions = g.server.regions;
       limits = g.server.limits;
     } in
-    guards-down opened k t s u d all_up all_down w place (RequestFrame sink at size stag to) rest said (FrameReceived f) g server (subst (WithinWindow opened) (sym after) (record { window = g.window.window; grant = g.window.grant }))
-    (tagged-up opened k f (Ok segment) piece.behind reads) (sized-frame opened k t f (Ok segment) after g.calls) (tagged-xids (opened.first_xid + total_of sends_in all_up) opened k f (Ok segment) piece.behind reads) (behind-hello opened k t s u d all_up all_down w f (Ok segment) after hello)
-    (answered-same opened.first_xid k t s u d all_down w (down_one w said rest) (RequestFrame sink at size stag to) (ap (λ (x : ClientState). x.outstanding) after) (ap (λ (x : ClientState). x.calls_accepted) after) refl g.answered) stays refl
+    guards_down opened k t s u d all_up all_down w place (RequestFrame sink at size stag to) rest said (FrameReceived f) g server (subst (WithinWindow opened) (sym after) (record { window = g.window.window; grant = g.window.grant }))
+    (tagged_up opened k f (Ok segment) piece.behind reads) (sized_frame opened k t f (Ok segment) after g.calls) (tagged_xids (opened.first_xid + total_of sends_in all_up) opened k f (Ok segment) piece.behind reads) (behind_hello_lem opened k t s u d all_up all_down w f (Ok segment) after hello)
+    (answered_same opened.first_xid k t s u d all_down w (down_one w said rest) (RequestFrame sink at size stag to) (ap (λ (x : ClientState). x.outstanding) after) (ap (λ (x : ClientState). x.calls_accepted) after) refl g.answered) stays refl
   where
-    ap-regions : (opened : LinkParameters) (k : ClientState) (es : List Event) → end_state_after (client_rules opened) (initial_client opened) es ≡ live k
+    ap-regions : (opened : LinkParameters) (k : ClientState) (es : List RunEvent) → end_state_after (client_rules opened) (initial_client opened) es ≡ live k
         → AreNumbered opened.first_stag (end_state_after (client_rules opened) (initial_client opened) es).state.regions → AreNumbered opened.first_stag k.regions
     ap-regions opened k es is h = subst (λ (r : EndState ClientState). AreNumbered opened.first_stag r.state.regions) is h
 
-pub guards-tagged_down : (opened : LinkParameters) (k : ClientState) (s : ServerState) (u d all_up all_down : List FrameContent) (w : Transit) (place : ℕ) (last : Bool) (opcode stag to : ℕ) (payload : List ℕ) (rest : List FrameContent) (f : Frame) → Guards opened k s u d all_up all_down w place
+pub guards_tagged_down : (opened : LinkParameters) (k : ClientState) (s : ServerState) (u d all_up all_down : List FrameContent) (w : Transit) (place : ℕ) (last : Bool) (opcode stag to : ℕ) (payload : List ℕ) (rest : List FrameContent) (f : Frame) → Guards opened k s u d all_up all_down w place
     → w.down ≡ TaggedFrame last opcode stag to payload ∷ rest → Carries k.received.sends k.received.requests f (TaggedFrame last opcode stag to payload) → k.has_hello ≡ true → client_end k (FrameReceived f) ≡ None
     → Guards opened (client_state_after opened k (FrameReceived f)) s u (d ++ TaggedFrame last opcode stag to payload ∷ []) (all_up ++ client_frames opened k (FrameReceived f)) all_down (down_one w (client_frames opened k (FrameReceived f)) rest) place
-guards-tagged_down opened k s u d all_up all_down w place last opcode stag to payload rest f g first piece hello stays =
+guards_tagged_down opened k s u d all_up all_down w place last opcode stag to payload rest f g first piece hello stays =
     let segment : Segment = Tagged last opcode stag to payload in
-    let reads : frame_segment f ≡ Ok segment = segment-is k.received.sends k.received.requests f (TaggedFrame last opcode stag to payload) segment piece refl in
+    let reads : frame_segment f ≡ Ok segment = segment_is k.received.sends k.received.requests f (TaggedFrame last opcode stag to payload) segment piece refl in
     let t = client_state_after opened k (FrameReceived f) in
-    let says : client_frames opened k (FrameReceived f) ≡ [] = says-is opened k f (Ok segment) piece.behind reads in
-    let after : t ≡ with_segment k f (Ok segment) = after-is opened k f (Ok segment) piece.behind reads in
+    let says : client_frames opened k (FrameReceived f) ≡ [] = says_is opened k f (Ok segment) piece.behind reads in
+    let after : t ≡ with_segment k f (Ok segment) = after_is_lem opened k f (Ok segment) piece.behind reads in
     let server : ServerAgrees opened t s (down_one w [] rest) place = record {
-      counts = subst (λ (ps : List FrameContent). TotalsAgree t s (down_one w ps rest)) says (totals-tagged_down opened k s w f last opcode stag to payload rest g.server.counts first piece);
-      reads = reads-says_up s w [] rest g.server.reads (refl, refl) (ap requests_of first);
+      counts = subst (λ (ps : List FrameContent). TotalsAgree t s (down_one w ps rest)) says (totals_tagged_down opened k s w f last opcode stag to payload rest g.server.counts first piece);
+      reads = reads_says_up s w [] rest g.server.reads (refl, refl) (ap requests_of first);
       waits = g.server.waits;
       sinks = g.server.sinks;
       regions = g.server.regions;
       limits = g.server.limits;
     } in
     subst (λ (ps : List FrameContent). Guards opened t s u (d ++ TaggedFrame last opcode stag to payload ∷ []) (all_up ++ ps) all_down (down_one w ps rest) place) (sym says)
-    (guards-down opened k t s u d all_up all_down w place (TaggedFrame last opcode stag to payload) rest [] (FrameReceived f) g server (subst (WithinWindow opened) (sym after) (record { window = g.window.window; grant = g.window.grant })) tt (sized-frame opened k t f (Ok segment) after g.calls) tt (behind-hello opened k t s u d all_up all_down w f (Ok segment) after hello)
-    (answered-same opened.first_xid k t s u d all_down w (down_one w [] rest) (TaggedFrame last opcode stag to payload) (ap (λ (x : ClientState). x.outstanding) after) (ap (λ (x : ClientState). x.calls_accepted) after) refl g.answered) stays refl)
+    (guards_down opened k t s u d all_up all_down w place (TaggedFrame last opcode stag to payload) rest [] (FrameReceived f) g server (subst (WithinWindow opened) (sym after) (record { window = g.window.window; grant = g.window.grant })) tt (sized_frame opened k t f (Ok segment) after g.calls) tt (behind_hello_lem opened k t s u d all_up all_down w f (Ok segment) after hello)
+    (answered_same opened.first_xid k t s u d all_down w (down_one w [] rest) (TaggedFrame last opcode stag to payload) (ap (λ (x : ClientState). x.outstanding) after) (ap (λ (x : ClientState). x.calls_accepted) after) refl g.answered) stays refl)

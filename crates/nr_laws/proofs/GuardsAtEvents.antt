@@ -1,5 +1,5 @@
 -- The guards of both ends are kept where a call is submitted or executed, memory is revoked, and a queue is written.
-use Rattle.nr_laws.proofs.OneChunk.{one-chunk}
+use Rattle.nr_laws.proofs.OneChunk.{one_chunk}
 use Rattle.std.proofs.Common.{◌≡◌, ℕ, ◌+◌, ◌≤◌, ◌<◌, ◌^◌, Bool, true, false, cond, not, eqb, List, [], ◌∷◌, ◌++◌, length, map, Option, None, Ok, refl, sym, ap, subst, ◌∙◌, arith, length-append, append-nil}
 use Rattle.nr_rpc.specs.Reading.{call_of, target_of}
 use Rattle.std.specs.List.{AllByRecursion}
@@ -12,97 +12,97 @@ use Rattle.nr_reduce.specs.Opening.{IsOpened}
 use Rattle.nr_reduce.specs.Limits.{send_max, numbers_end}
 use Rattle.nr_reduce.specs.Plans.{plan_size, call_message}
 use Rattle.nr_reduce.specs.History.{AcceptedCall, ExecutedCall}
-use Rattle.nr_reduce.specs.Events.{Event}
-use Rattle.nr_reduce.specs.Events.Event.{CallSubmitted, MemoryRevoked, CallExecuted, QueueWritten}
+use Rattle.nr_reduce.specs.Events.{RunEvent}
+use Rattle.nr_reduce.specs.Events.RunEvent.{CallSubmitted, MemoryRevoked, CallExecuted, QueueWritten}
 use Rattle.nr_reduce.specs.EndRules.{EndState, live, next_end_state_by, end_state_after}
 use Rattle.nr_reduce.specs.ClientState.{ClientState, OutstandingCall, call_payload, plan_for}
 use Rattle.nr_reduce.specs.ServerState.{ServerState, ReadyCall}
 use Rattle.nr_reduce.specs.Client.{client_rules, client_end, client_state_after, initial_client, outstanding_of, revoked_call}
 use Rattle.nr_reduce.specs.Server.{server_state_after}
-use Rattle.nr_reduce.proofs.Steps.{end_state_after-append}
+use Rattle.nr_reduce.proofs.Steps.{end_state_after_append}
 use Rattle.nr_reduce.proofs.Sizes.{message_size}
 use Rattle.nr_laws.proofs.FrameContents.{FrameContent, call_frame, client_frames, server_frames}
 use Rattle.nr_laws.proofs.FrameContents.FrameContent.{SendFrame}
 use Rattle.nr_laws.proofs.LinkInvariants.{Transit}
-use Rattle.nr_laws.proofs.TotalsAtClient.{up_more, totals-accepts, totals-writes_up}
-use Rattle.nr_laws.proofs.ReadsAtClient.{AnswersNone, reads-says_up, reads-writes_up}
-use Rattle.nr_laws.proofs.EventsAtServer.{server-executes, server-writes}
+use Rattle.nr_laws.proofs.TotalsAtClient.{up_more, totals_accepts, totals_writes_up}
+use Rattle.nr_laws.proofs.ReadsAtClient.{AnswersNone, reads_says_up, reads_writes_up}
+use Rattle.nr_laws.proofs.EventsAtServer.{server_executes, server_writes}
 use Rattle.nr_laws.proofs.ServerOutputs.{CallsFit}
-use Rattle.nr_laws.proofs.OwnEvents.{planned, totals-revoked, xid-revoked}
+use Rattle.nr_laws.proofs.OwnEvents.{planned, totals_revoked, xid_revoked}
 use Rattle.nr_laws.proofs.AgreeingEnds.{EndsAgree}
 use Rattle.nr_reduce.specs.SubmitAnswer.{next_xid}
 use Rattle.nr_laws.proofs.FrameContents.{total_of, sends_in}
-use Rattle.nr_laws.proofs.CallWords.{call-words}
-use Rattle.nr_laws.proofs.CallNumbers.{XidsFrom, xids-append, own_xids-push, own_xids-map, IsNumbered}
+use Rattle.nr_laws.proofs.CallWords.{call_words_lem}
+use Rattle.nr_laws.proofs.CallNumbers.{XidsFrom, xids_append, own_xids_push, own_xids_map, IsNumbered}
 use Rattle.nr_laws.proofs.ClientFrame.{calls_said}
 use Rattle.nr_reduce.specs.Server.{offer_of, answer_of_target}
-use Rattle.nr_laws.proofs.PendingExecuted.{executed-there}
-use Rattle.nr_laws.proofs.AnsweredCalls.{times, answer-xids, executed-less}
-use Rattle.nr_laws.proofs.AnsweredSteps.{Answered, answered-submit, answered-map, answered-server}
-use Rattle.nr_laws.proofs.GuardsAtServer.{pending-word}
-use Rattle.nr_laws.proofs.Guards.{ClientContent, ServerContent, IsAsked, AreSized, Guards, execution-down}
-use Rattle.nr_laws.proofs.Basics.{each-append, each-kept}
+use Rattle.nr_laws.proofs.PendingExecuted.{executed_there}
+use Rattle.nr_laws.proofs.AnsweredCalls.{times, answer_xids, executed_less}
+use Rattle.nr_laws.proofs.AnsweredSteps.{Answered, answered_submit, answered_map, answered_server}
+use Rattle.nr_laws.proofs.GuardsAtServer.{pending_word}
+use Rattle.nr_laws.proofs.Guards.{ClientContent, ServerContent, IsAsked, AreSized, Guards, execution_down}
+use Rattle.nr_laws.proofs.Basics.{each_append, each_kept}
 use Rattle.nr_reduce.proofs.WholeWrotes.{ClientEnds, ServerEnds}
 
 -- an event of the client that is no frame
-reached-more : (opened : LinkParameters) (k : ClientState) (event : Event) → client_end k event ≡ None → (es : List Event) × (end_state_after (client_rules opened) (initial_client opened) es ≡ live k)
-    → (es : List Event) × (end_state_after (client_rules opened) (initial_client opened) es ≡ live (client_state_after opened k event))
-reached-more opened k event stays r = (
+reached_more : (opened : LinkParameters) (k : ClientState) (event : RunEvent) → client_end k event ≡ None → (es : List RunEvent) × (end_state_after (client_rules opened) (initial_client opened) es ≡ live k)
+    → (es : List RunEvent) × (end_state_after (client_rules opened) (initial_client opened) es ≡ live (client_state_after opened k event))
+reached_more opened k event stays r = (
   r.0 ++ event ∷ [],
-  end_state_after-append (client_rules opened) (initial_client opened) r.0 (event ∷ [])
+  end_state_after_append (client_rules opened) (initial_client opened) r.0 (event ∷ [])
       ∙ ap (λ (x : EndState ClientState). end_state_after (client_rules opened) x (event ∷ [])) r.1
       ∙ ap (λ (x : Option End). next_end_state_by (client_rules opened) k event x) stays,
 )
 
 -- ---- A call is submitted
 
-sized-call : (opened : LinkParameters) (k : ClientState) (a : AcceptedCall) (plan : Plan) → plan_for k a.xid a.call a.form ≡ Ok plan → a.xid < numbers_end → ClientLimits k → IsAsked opened (outstanding_of k a)
+sized_call : (opened : LinkParameters) (k : ClientState) (a : AcceptedCall) (plan : Plan) → plan_for k a.xid a.call a.form ≡ Ok plan → a.xid < numbers_end → ClientLimits k → IsAsked opened (outstanding_of k a)
 unfolding plan_for plan_size
-sized-call opened k a plan is lt limits =
+sized_call opened k a plan is lt limits =
     let up = limits.up in
     let size = message_size (call_payload a.xid a.call) a.form k.up_max k.down_max a.xid opened.wished k.stag plan is in
-    let words = call-words a.xid opened.wished k.stag (outstanding_of k a).plan lt in
+    let words = call_words_lem a.xid opened.wished k.stag (outstanding_of k a).plan lt in
     let fits = subst (λ (p : Plan). (16 ≤ length (call_message a.xid opened.wished k.stag p)) × (length (call_message a.xid opened.wished k.stag p) ≤ send_max))
     (sym (planned (call_payload a.xid a.call) (plan_for k a.xid a.call a.form) plan is)) (omega (arith, size.0), omega (arith, size.1, up)) in
-    ((fits.0, fits.1, words.version, words.kind, one-chunk a.xid opened.wished k.stag (outstanding_of k a).plan), words.xid_is)
+    ((fits.0, fits.1, words.version, words.kind, one_chunk a.xid opened.wished k.stag (outstanding_of k a).plan), words.xid_is)
 
-none-says : (b : Bool) (message : List ℕ) → AnswersNone (cond b (SendFrame message ∷ []) [])
-none-says true message = (refl, refl)
-none-says false message = (refl, refl)
+none_says : (b : Bool) (message : List ℕ) → AnswersNone (cond b (SendFrame message ∷ []) [])
+none_says true message = (refl, refl)
+none_says false message = (refl, refl)
 
-up-says : (b : Bool) (message : List ℕ) → ClientContent (SendFrame message) → AllByRecursion ClientContent (cond b (SendFrame message ∷ []) [])
-up-says true message h = (h, tt)
-up-says false message h = tt
+up_says : (b : Bool) (message : List ℕ) → ClientContent (SendFrame message) → AllByRecursion ClientContent (cond b (SendFrame message ∷ []) [])
+up_says true message h = (h, tt)
+up_says false message h = tt
 
-pub guards-submit : (opened : LinkParameters) (k : ClientState) (s : ServerState) (u d all_up all_down : List FrameContent) (w : Transit) (up place : ℕ) (a : AcceptedCall) (plan : Plan) → EndsAgree opened k s u d all_up all_down w → Guards opened k s u d all_up all_down w up → plan_for k a.xid a.call a.form ≡ Ok plan → a.xid ≡ next_xid opened k → a.xid < numbers_end → ClientLimits k → length k.outstanding < k.grant
+pub guards_submit : (opened : LinkParameters) (k : ClientState) (s : ServerState) (u d all_up all_down : List FrameContent) (w : Transit) (up place : ℕ) (a : AcceptedCall) (plan : Plan) → EndsAgree opened k s u d all_up all_down w → Guards opened k s u d all_up all_down w up → plan_for k a.xid a.call a.form ≡ Ok plan → a.xid ≡ next_xid opened k → a.xid < numbers_end → ClientLimits k → length k.outstanding < k.grant
     → Guards opened (client_state_after opened k (CallSubmitted place a)) s u d (all_up ++ client_frames opened k (CallSubmitted place a)) all_down (up_more w (client_frames opened k (CallSubmitted place a))) up
 unfolding client_state_after client_frames client_end
-guards-submit opened k s u d all_up all_down w up place a plan l g is own lt limits room =
+guards_submit opened k s u d all_up all_down w up place a plan l g is own lt limits room =
     let t = client_state_after opened k (CallSubmitted place a) in
     let said = client_frames opened k (CallSubmitted place a) in
     let message = call_message a.xid opened.wished k.stag (outstanding_of k a).plan in
-    let one = sized-call opened k a plan is lt limits in
+    let one = sized_call opened k a plan is lt limits in
     record {
       server = record {
-        counts = totals-accepts opened k s w place a g.server.counts;
-        reads = reads-says_up s w said w.down g.server.reads (none-says k.has_hello message) refl;
+        counts = totals_accepts opened k s w place a g.server.counts;
+        reads = reads_says_up s w said w.down g.server.reads (none_says k.has_hello message) refl;
         waits = g.server.waits;
         sinks = g.server.sinks;
         regions = g.server.regions;
         limits = g.server.limits;
       };
       window = record { window = omega (arith, g.window.grant, room, length-append k.outstanding (outstanding_of k a ∷ [])); grant = g.window.grant };
-      up_said = each-append ClientContent all_up said g.up_said (up-says k.has_hello message one.0);
+      up_said = each_append ClientContent all_up said g.up_said (up_says k.has_hello message one.0);
       down_said = g.down_said;
       credit = g.credit;
-      calls = each-append (IsAsked opened) k.outstanding (outstanding_of k a ∷ []) g.calls (one, tt);
+      calls = each_append (IsAsked opened) k.outstanding (outstanding_of k a ∷ []) g.calls (one, tt);
       within = g.within;
       sinks = g.sinks;
-      xids = xids-append opened.first_xid all_up said g.xids (new-xid k.has_hello refl);
-      unsaid = λ e. own_xids-push opened.first_xid k.outstanding (outstanding_of k a) (g.unsaid e) (omega (arith, own, all-waiting e));
+      xids = xids_append opened.first_xid all_up said g.xids (new-xid k.has_hello refl);
+      no_hello-numbered = λ e. own_xids_push opened.first_xid k.outstanding (outstanding_of k a) (g.no_hello-numbered e) (omega (arith, own, all-waiting e));
       numbers = g.numbers;
-      answered = answered-submit opened.first_xid k t s u d all_down w (up_more w said) (outstanding_of k a) refl refl own lt g.answered;
-      reached = reached-more opened k (CallSubmitted place a) refl g.reached;
+      answered = answered_submit opened.first_xid k t s u d all_down w (up_more w said) (outstanding_of k a) refl refl own lt g.answered;
+      reached = reached_more opened k (CallSubmitted place a) refl g.reached;
     }
   where
     -- before the hello all accepted calls are outstanding
@@ -115,43 +115,43 @@ guards-submit opened k s u d all_up all_down w up place a plan l g is own lt lim
     new-xid true e =
         let sends : total_of sends_in all_up ≡ k.calls_accepted = calls_said opened k s u d all_up all_down w l ∙ ap (λ (b : Bool). cond b k.calls_accepted 0) e in
         subst (λ (b : Bool). XidsFrom (opened.first_xid + total_of sends_in all_up) (cond b (call_frame opened (outstanding_of k a) ∷ []) [])) (sym e)
-        ((sized-call opened k a plan is lt limits).1 ∙ omega (arith, own, sends), tt)
+        ((sized_call opened k a plan is lt limits).1 ∙ omega (arith, own, sends), tt)
     new-xid false e = subst (λ (b : Bool). XidsFrom (opened.first_xid + total_of sends_in all_up) (cond b (call_frame opened (outstanding_of k a) ∷ []) [])) (sym e) tt
 
 -- ---- Memory is revoked, and a queue is written
 
-sized-revoked : (opened : LinkParameters) (xid : ℕ) (os : List OutstandingCall) → AreSized opened os → AreSized opened (map (revoked_call xid) os)
-sized-revoked opened xid [] h = tt
-sized-revoked opened xid (o ∷ os) h = (by (eqb o.xid xid), sized-revoked opened xid os h.1)
+sized_revoked : (opened : LinkParameters) (xid : ℕ) (os : List OutstandingCall) → AreSized opened os → AreSized opened (map (revoked_call xid) os)
+sized_revoked opened xid [] h = tt
+sized_revoked opened xid (o ∷ os) h = (by (eqb o.xid xid), sized_revoked opened xid os h.1)
   where
     by : (b : Bool) → IsAsked opened (cond b (record o { is_revoked = true }) o)
     by true = h.0
     by false = h.0
 
-pub guards-revoke : (opened : LinkParameters) (k : ClientState) (s : ServerState) (u d all_up all_down : List FrameContent) (w : Transit) (up place xid : ℕ) → Guards opened k s u d all_up all_down w up
+pub guards_revoke : (opened : LinkParameters) (k : ClientState) (s : ServerState) (u d all_up all_down : List FrameContent) (w : Transit) (up place xid : ℕ) → Guards opened k s u d all_up all_down w up
     → Guards opened (client_state_after opened k (MemoryRevoked place xid)) s u d all_up all_down w up
 unfolding client_state_after client_end
-guards-revoke opened k s u d all_up all_down w up place xid g = record {
-  server = record { counts = totals-revoked opened k s w place xid g.server.counts; reads = g.server.reads; waits = g.server.waits; sinks = g.server.sinks; regions = g.server.regions; limits = g.server.limits };
+guards_revoke opened k s u d all_up all_down w up place xid g = record {
+  server = record { counts = totals_revoked opened k s w place xid g.server.counts; reads = g.server.reads; waits = g.server.waits; sinks = g.server.sinks; regions = g.server.regions; limits = g.server.limits };
   window = record { window = omega (arith, g.window.window, length-map k.outstanding (revoked_call xid)); grant = g.window.grant };
   up_said = g.up_said;
   down_said = g.down_said;
   credit = g.credit;
-  calls = sized-revoked opened xid k.outstanding g.calls;
+  calls = sized_revoked opened xid k.outstanding g.calls;
   within = g.within;
   sinks = g.sinks;
   xids = g.xids;
-  unsaid = λ e. own_xids-map (revoked_call xid) opened.first_xid k.outstanding (xid-revoked xid) (g.unsaid e);
+  no_hello-numbered = λ e. own_xids_map (revoked_call xid) opened.first_xid k.outstanding (xid_revoked xid) (g.no_hello-numbered e);
   numbers = g.numbers;
-  answered = answered-map opened.first_xid (revoked_call xid) k (client_state_after opened k (MemoryRevoked place xid)) s u d all_down w w refl (xid-revoked xid) refl g.answered;
-  reached = reached-more opened k (MemoryRevoked place xid) refl g.reached;
+  answered = answered_map opened.first_xid (revoked_call xid) k (client_state_after opened k (MemoryRevoked place xid)) s u d all_down w w refl (xid_revoked xid) refl g.answered;
+  reached = reached_more opened k (MemoryRevoked place xid) refl g.reached;
 }
 
-pub guards-written_up : (opened : LinkParameters) (k : ClientState) (s : ServerState) (u d all_up all_down : List FrameContent) (w : Transit) (up taken : ℕ) → k.written + taken ≡ k.due → ClientEnds k → Guards opened k s u d all_up all_down w up
+pub guards_written_up : (opened : LinkParameters) (k : ClientState) (s : ServerState) (u d all_up all_down : List FrameContent) (w : Transit) (up taken : ℕ) → k.written + taken ≡ k.due → ClientEnds k → Guards opened k s u d all_up all_down w up
     → Guards opened (client_state_after opened k (QueueWritten taken)) s u d all_up all_down (record { queued_up = []; up = w.up ++ w.queued_up; queued_down = w.queued_down; down = w.down }) up
 unfolding client_state_after client_end
-guards-written_up opened k s u d all_up all_down w up taken all ends g = record {
-  server = record { counts = totals-writes_up opened k s w taken all ends g.server.counts; reads = reads-writes_up s w g.server.reads; waits = g.server.waits; sinks = g.server.sinks; regions = g.server.regions; limits = g.server.limits };
+guards_written_up opened k s u d all_up all_down w up taken all ends g = record {
+  server = record { counts = totals_writes_up opened k s w taken all ends g.server.counts; reads = reads_writes_up s w g.server.reads; waits = g.server.waits; sinks = g.server.sinks; regions = g.server.regions; limits = g.server.limits };
   window = record { window = g.window.window; grant = g.window.grant };
   up_said = g.up_said;
   down_said = g.down_said;
@@ -160,44 +160,44 @@ guards-written_up opened k s u d all_up all_down w up taken all ends g = record 
   within = g.within;
   sinks = g.sinks;
   xids = g.xids;
-  unsaid = g.unsaid;
+  no_hello-numbered = g.no_hello-numbered;
   numbers = g.numbers;
   answered = record { once = g.answered.once; later = g.answered.later; earlier = g.answered.earlier; open_calls = g.answered.open_calls; room = g.answered.room };
-  reached = reached-more opened k (QueueWritten taken) refl g.reached;
+  reached = reached_more opened k (QueueWritten taken) refl g.reached;
 }
 
 -- ---- The server
 
-pub guards-execute : (opened : LinkParameters) (k : ClientState) (s : ServerState) (u d all_up all_down : List FrameContent) (w : Transit) (up : ℕ) (e : ExecutedCall) (r : ReadyCall) (rest : List ReadyCall) → IsOpened opened → EndsAgree opened k s u d all_up all_down w → Guards opened k s u d all_up all_down w up → CallsFit s.calls → s.ready ≡ r ∷ rest → e.xid ≡ r.xid
+pub guards_execute : (opened : LinkParameters) (k : ClientState) (s : ServerState) (u d all_up all_down : List FrameContent) (w : Transit) (up : ℕ) (e : ExecutedCall) (r : ReadyCall) (rest : List ReadyCall) → IsOpened opened → EndsAgree opened k s u d all_up all_down w → Guards opened k s u d all_up all_down w up → CallsFit s.calls → s.ready ≡ r ∷ rest → e.xid ≡ r.xid
     → Guards opened k (server_state_after opened s (CallExecuted e)) u d all_up (all_down ++ server_frames opened s (CallExecuted e)) (record { queued_up = w.queued_up; up = w.up; queued_down = w.queued_down ++ server_frames opened s (CallExecuted e); down = w.down }) up
 unfolding server_state_after server_frames
-guards-execute opened k s u d all_up all_down w up e r rest o l g fits first own =
+guards_execute opened k s u d all_up all_down w up e r rest o l g fits first own =
     let small : s.credit < 2 ^ 32 = omega (arith, g.credit, o.granted_fits) in
-    let there = executed-there s e.xid r rest l.waits first own in
-    let xid_word = pending-word opened k s u d all_up all_down w up e.xid l g there in
+    let there = executed_there s e.xid r rest l.waits first own in
+    let xid_word = pending_word opened k s u d all_up all_down w up e.xid l g there in
     record {
-      server = server-executes opened k s w up e r rest g.server first own;
+      server = server_executes opened k s w up e r rest g.server first own;
       window = g.window;
       up_said = g.up_said;
-      down_said = each-append (ServerContent opened.granted) all_down (server_frames opened s (CallExecuted e)) g.down_said
-          (subst (λ (n : ℕ). AllByRecursion (ServerContent n) (server_frames opened s (CallExecuted e))) g.credit (execution-down s e g.server.limits xid_word small fits));
+      down_said = each_append (ServerContent opened.granted) all_down (server_frames opened s (CallExecuted e)) g.down_said
+          (subst (λ (n : ℕ). AllByRecursion (ServerContent n) (server_frames opened s (CallExecuted e))) g.credit (execution_down s e g.server.limits xid_word small fits));
       credit = g.credit;
       calls = g.calls;
       within = g.within;
       sinks = g.sinks;
       xids = g.xids;
-      unsaid = g.unsaid;
-      answered = answered-server opened.first_xid k s (server_state_after opened s (CallExecuted e)) u d all_down w (record { queued_up = w.queued_up; up = w.up; queued_down = w.queued_down ++ server_frames opened s (CallExecuted e); down = w.down }) (server_frames opened s (CallExecuted e)) refl
-          (λ x. omega (arith, executed-less x e.xid s.calls there, ap (λ (xs : List ℕ). times x xs) (answer-xids s e.xid (offer_of s e.xid) (answer_of_target (offer_of s e.xid) s.down_max e.reply (target_of (call_of e.payload))) xid_word))) g.answered;
-      numbers = each-kept (IsNumbered opened.first_xid) (λ c. not (eqb c.xid e.xid)) s.calls g.numbers;
+      no_hello-numbered = g.no_hello-numbered;
+      answered = answered_server opened.first_xid k s (server_state_after opened s (CallExecuted e)) u d all_down w (record { queued_up = w.queued_up; up = w.up; queued_down = w.queued_down ++ server_frames opened s (CallExecuted e); down = w.down }) (server_frames opened s (CallExecuted e)) refl
+          (λ x. omega (arith, executed_less x e.xid s.calls there, ap (λ (xs : List ℕ). times x xs) (answer_xids s e.xid (offer_of s e.xid) (answer_of_target (offer_of s e.xid) s.down_max e.reply (target_of (call_of e.payload))) xid_word))) g.answered;
+      numbers = each_kept (IsNumbered opened.first_xid) (λ c. not (eqb c.xid e.xid)) s.calls g.numbers;
       reached = g.reached;
     }
 
-pub guards-written_down : (opened : LinkParameters) (k : ClientState) (s : ServerState) (u d all_up all_down : List FrameContent) (w : Transit) (up taken : ℕ) → s.written + taken ≡ s.due → ServerEnds s → Guards opened k s u d all_up all_down w up
+pub guards_written_down : (opened : LinkParameters) (k : ClientState) (s : ServerState) (u d all_up all_down : List FrameContent) (w : Transit) (up taken : ℕ) → s.written + taken ≡ s.due → ServerEnds s → Guards opened k s u d all_up all_down w up
     → Guards opened k (server_state_after opened s (QueueWritten taken)) u d all_up all_down (record { queued_up = w.queued_up; up = w.up; queued_down = []; down = w.down ++ w.queued_down }) up
 unfolding server_state_after
-guards-written_down opened k s u d all_up all_down w up taken all ends g = record {
-  server = server-writes opened k s w up taken all ends g.server;
+guards_written_down opened k s u d all_up all_down w up taken all ends g = record {
+  server = server_writes opened k s w up taken all ends g.server;
   window = g.window;
   up_said = g.up_said;
   down_said = g.down_said;
@@ -206,9 +206,9 @@ guards-written_down opened k s u d all_up all_down w up taken all ends g = recor
   within = g.within;
   sinks = g.sinks;
   xids = g.xids;
-  unsaid = g.unsaid;
+  no_hello-numbered = g.no_hello-numbered;
   numbers = g.numbers;
   answered = subst (λ (ps : List FrameContent). Answered opened.first_xid k (server_state_after opened s (QueueWritten taken)) u d ps (record { queued_up = w.queued_up; up = w.up; queued_down = []; down = w.down ++ w.queued_down })) (append-nil all_down)
-      (answered-server opened.first_xid k s (server_state_after opened s (QueueWritten taken)) u d all_down w (record { queued_up = w.queued_up; up = w.up; queued_down = []; down = w.down ++ w.queued_down }) [] refl (λ x. omega arith) g.answered);
+      (answered_server opened.first_xid k s (server_state_after opened s (QueueWritten taken)) u d all_down w (record { queued_up = w.queued_up; up = w.up; queued_down = []; down = w.down ++ w.queued_down }) [] refl (λ x. omega arith) g.answered);
   reached = g.reached;
 }

@@ -1,6 +1,6 @@
 -- A server of a matched link ends at a frame only by a refusal of the frame's effect; else the guards are kept.
 use Rattle.std.specs.Prelude.{length}
-use Rattle.nr_laws.proofs.SinkCount.{count-send, count-tagged}
+use Rattle.nr_laws.proofs.SinkCount.{count_send, count_tagged}
 use Rattle.std.proofs.Common.{◌≡◌, ℕ, ◌+◌, ◌≤◌, ◌<◌, ◌^◌, Bool, true, List, [], ◌∷◌, ◌++◌, None, Result, Ok, refl, sym, ap, subst, ◌∙◌, arith, cond, eqb, ◌||◌, false, Some, ◌⊎◌, inl, inr}
 use Rattle.std.specs.List.{AllByRecursion}
 use Rattle.nr_xdr.specs.Item.{IsBytes}
@@ -14,7 +14,7 @@ use Rattle.nr_link.specs.Output.{msn_word}
 use Rattle.nr_link.specs.Ending.{frame_segment}
 use Rattle.nr_reduce.specs.declared.mark.LinkParameters.{LinkParameters}
 use Rattle.nr_reduce.specs.Opening.{IsOpened}
-use Rattle.nr_reduce.specs.Events.Event.{FrameReceived}
+use Rattle.nr_reduce.specs.Events.RunEvent.{FrameReceived}
 use Rattle.nr_reduce.specs.ClientState.{ClientState}
 use Rattle.nr_reduce.specs.ServerState.{ServerState}
 use Rattle.nr_reduce.specs.ServerReads.{is_over}
@@ -23,58 +23,58 @@ use Rattle.nr_reduce.specs.Server.{server_end, server_state_after, refusal_end, 
 use Rattle.nr_laws.proofs.FrameContents.{FrameContent, numbered_segment, frame_bytes, effect_frames, server_frames, Carries}
 use Rattle.nr_laws.proofs.FrameContents.FrameContent.{HelloFrame, SendFrame, TaggedFrame}
 use Rattle.nr_laws.proofs.LinkInvariants.{Transit, TotalsAgree, ReadsAgree, AreResponses}
-use Rattle.nr_laws.proofs.TotalsAtServer.{totals-hello_up, after-is, step-is, segment-is, with_by}
-use Rattle.nr_laws.proofs.ReadsAtClient.{reads-says_down}
-use Rattle.nr_laws.proofs.ServerInvariant.{ServerAgrees, server-takes_send, server-takes_response}
-use Rattle.nr_laws.proofs.Replies.{replies-send, replies-tagged}
-use Rattle.nr_laws.proofs.ReadLimits.{AreWithin, within-send, within-tagged, within-closed}
-use Rattle.nr_laws.proofs.AgreeingEnds.{EndsAgree, taken_up, not-refused, says-hello, says-frame, after-hello, waits-greeted, payload_bytes}
-use Rattle.nr_laws.proofs.CallNumbers.{XidsFrom, IsNumbered, xids-at, numbered-send, numbered-tagged}
+use Rattle.nr_laws.proofs.TotalsAtServer.{totals_hello_up, after_is_lem, step_is, segment_is, with_by}
+use Rattle.nr_laws.proofs.ReadsAtClient.{reads_says_down}
+use Rattle.nr_laws.proofs.ServerInvariant.{ServerAgrees, server_takes_send, server_takes_response}
+use Rattle.nr_laws.proofs.Replies.{replies_send, replies_tagged}
+use Rattle.nr_laws.proofs.ReadLimits.{AreWithin, within_send, within_tagged, within_closed}
+use Rattle.nr_laws.proofs.AgreeingEnds.{EndsAgree, taken_up, not_refused_lem, says_hello, says_frame, after_hello, waits_greeted, payload_bytes}
+use Rattle.nr_laws.proofs.CallNumbers.{XidsFrom, IsNumbered, xids_at, numbered_send, numbered_tagged}
 use Rattle.nr_reduce.specs.Plans.{one_if}
 use Rattle.nr_reduce.specs.ServerState.{PendingCall}
 use Rattle.std.specs.List.{find, list_any}
 use Rattle.std.proofs.lemmas.Bool.{eq-eqb, cases_lt}
 use Rattle.nr_laws.proofs.LinkInvariants.{calls_sent}
 use Rattle.nr_laws.proofs.FrameContents.{total_of, sends_in}
-use Rattle.nr_laws.proofs.Totals.{total-append}
+use Rattle.nr_laws.proofs.Totals.{total_append}
 use Rattle.nr_laws.proofs.ClientFrame.{calls_said}
-use Rattle.nr_laws.proofs.AnsweredCalls.{times, call_xids, effect-xids, pending-send, pending-tagged}
-use Rattle.nr_laws.proofs.AnsweredSteps.{Answered, answered-send, answered-other}
-use Rattle.nr_laws.proofs.Guards.{ClientContent, ServerContent, Guards, step-down}
-use Rattle.nr_laws.proofs.Basics.{each-append}
-use Rattle.nr_laws.proofs.Words.{word-below}
-use Rattle.nr_laws.proofs.PendingFrames.{later-sinks}
-use Rattle.nr_reduce.proofs.OwnStags.{closed-length}
+use Rattle.nr_laws.proofs.AnsweredCalls.{times, call_xids, effect_xids, pending_send, pending_tagged}
+use Rattle.nr_laws.proofs.AnsweredSteps.{Answered, answered_send, answered_other}
+use Rattle.nr_laws.proofs.Guards.{ClientContent, ServerContent, Guards, step_down}
+use Rattle.nr_laws.proofs.Basics.{each_append}
+use Rattle.nr_laws.proofs.Words.{word_below_lem}
+use Rattle.nr_laws.proofs.PendingFrames.{later_sinks}
+use Rattle.nr_reduce.proofs.OwnStags.{closed_length}
 
-pub each-at : {X : Type 0} (P : X → Type 0) (xs : List X) (y : X) (ys : List X) → AllByRecursion P (xs ++ y ∷ ys) → P y
-each-at P [] y ys h = h.0
-each-at P (x ∷ xs) y ys h = each-at P xs y ys h.1
+pub each_at : {X : Type 0} (P : X → Type 0) (xs : List X) (y : X) (ys : List X) → AllByRecursion P (xs ++ y ∷ ys) → P y
+each_at P [] y ys h = h.0
+each_at P (x ∷ xs) y ys h = each_at P xs y ys h.1
 
 -- what the frame at the front is
-pub front-up : (opened : LinkParameters) (k : ClientState) (s : ServerState) (u d all_up all_down : List FrameContent) (w : Transit) (place : ℕ) (p : FrameContent) (rest : List FrameContent) → EndsAgree opened k s u d all_up all_down w → Guards opened k s u d all_up all_down w place → w.up ≡ p ∷ rest → ClientContent p
-front-up opened k s u d all_up all_down w place p rest l g first =
-    each-at ClientContent u p (rest ++ w.queued_up) (subst (AllByRecursion ClientContent) (sym l.parts_up ∙ ap (λ (ps : List FrameContent). u ++ (ps ++ w.queued_up)) first) g.up_said)
+pub front_up : (opened : LinkParameters) (k : ClientState) (s : ServerState) (u d all_up all_down : List FrameContent) (w : Transit) (place : ℕ) (p : FrameContent) (rest : List FrameContent) → EndsAgree opened k s u d all_up all_down w → Guards opened k s u d all_up all_down w place → w.up ≡ p ∷ rest → ClientContent p
+front_up opened k s u d all_up all_down w place p rest l g first =
+    each_at ClientContent u p (rest ++ w.queued_up) (subst (AllByRecursion ClientContent) (sym l.parts_up ∙ ap (λ (ps : List FrameContent). u ++ (ps ++ w.queued_up)) first) g.up_said)
 
 -- and its xid, where it is a message
-pub front-xid : (opened : LinkParameters) (k : ClientState) (s : ServerState) (u d all_up all_down : List FrameContent) (w : Transit) (place : ℕ) (message : List ℕ) (rest : List FrameContent) → EndsAgree opened k s u d all_up all_down w → Guards opened k s u d all_up all_down w place → w.up ≡ SendFrame message ∷ rest → word_at 0 message ≡ opened.first_xid + s.received.sends
-front-xid opened k s u d all_up all_down w place message rest l g first =
-    xids-at opened.first_xid u message (rest ++ w.queued_up) (subst (XidsFrom opened.first_xid) (sym l.parts_up ∙ ap (λ (ps : List FrameContent). u ++ (ps ++ w.queued_up)) first) g.xids)
+pub front_xid : (opened : LinkParameters) (k : ClientState) (s : ServerState) (u d all_up all_down : List FrameContent) (w : Transit) (place : ℕ) (message : List ℕ) (rest : List FrameContent) → EndsAgree opened k s u d all_up all_down w → Guards opened k s u d all_up all_down w place → w.up ≡ SendFrame message ∷ rest → word_at 0 message ≡ opened.first_xid + s.received.sends
+front_xid opened k s u d all_up all_down w place message rest l g first =
+    xids_at opened.first_xid u message (rest ++ w.queued_up) (subst (XidsFrom opened.first_xid) (sym l.parts_up ∙ ap (λ (ps : List FrameContent). u ++ (ps ++ w.queued_up)) first) g.xids)
     ∙ ap (λ (n : ℕ). opened.first_xid + n) (sym l.sends_up)
 
-guards-up : (opened : LinkParameters) (k : ClientState) (s t : ServerState) (u d all_up all_down : List FrameContent) (w : Transit) (place end : ℕ) (p : FrameContent) (rest said : List FrameContent) → Guards opened k s u d all_up all_down w place
+guards_up : (opened : LinkParameters) (k : ClientState) (s t : ServerState) (u d all_up all_down : List FrameContent) (w : Transit) (place end : ℕ) (p : FrameContent) (rest said : List FrameContent) → Guards opened k s u d all_up all_down w place
     → ServerAgrees opened k t (taken_up w rest said) end → AllByRecursion (ServerContent opened.granted) said → t.credit ≡ s.credit → AreWithin t.reads t.regions → length t.regions ≤ t.received.sends → AllByRecursion (IsNumbered opened.first_xid) t.calls → Answered opened.first_xid k t (u ++ p ∷ []) d (all_down ++ said) (taken_up w rest said)
     → Guards opened k t (u ++ p ∷ []) d all_up (all_down ++ said) (taken_up w rest said) end
-guards-up opened k s t u d all_up all_down w place end p rest said g server down credit within sinks numbers answered = record {
+guards_up opened k s t u d all_up all_down w place end p rest said g server down credit within sinks numbers answered = record {
   server = server;
   window = g.window;
   up_said = g.up_said;
-  down_said = each-append (ServerContent opened.granted) all_down said g.down_said down;
+  down_said = each_append (ServerContent opened.granted) all_down said g.down_said down;
   credit = credit ∙ g.credit;
   calls = g.calls;
   within = within;
   sinks = sinks;
   xids = g.xids;
-  unsaid = g.unsaid;
+  no_hello-numbered = g.no_hello-numbered;
   numbers = numbers;
   answered = answered;
   reached = g.reached;
@@ -88,9 +88,9 @@ sent_most k = by k.has_hello
     by true = omega arith
     by false = omega arith
 
-found-times : (n : ℕ) (cs : List PendingCall) (c : PendingCall) → find (λ (y : PendingCall). eqb y.number n) cs ≡ Some c → 1 ≤ times c.xid (call_xids cs)
-found-times n [] c e = absurd cc
-found-times n (y ∷ cs) c e = by (eqb y.number n) e (found-times n cs c)
+found_times : (n : ℕ) (cs : List PendingCall) (c : PendingCall) → find (λ (y : PendingCall). eqb y.number n) cs ≡ Some c → 1 ≤ times c.xid (call_xids cs)
+found_times n [] c e = absurd cc
+found_times n (y ∷ cs) c e = by (eqb y.number n) e (found_times n cs c)
   where
     by : (b : Bool) → cond b (Some y) (find (λ (z : PendingCall). eqb z.number n) cs) ≡ Some c → (find (λ (z : PendingCall). eqb z.number n) cs ≡ Some c → 1 ≤ times c.xid (call_xids cs)) → 1 ≤ times c.xid (call_xids (y ∷ cs))
     by true e later =
@@ -99,117 +99,117 @@ found-times n (y ∷ cs) c e = by (eqb y.number n) e (found-times n cs c)
     by false e later = omega (arith, later e)
 
 -- a number that is among those of the calls of a server is a word
-counted-word : (opened : LinkParameters) (k : ClientState) (s : ServerState) (u d all_up all_down : List FrameContent) (w : Transit) (place xid : ℕ) → EndsAgree opened k s u d all_up all_down w → Guards opened k s u d all_up all_down w place → 1 ≤ times xid (call_xids s.calls)
+counted_word : (opened : LinkParameters) (k : ClientState) (s : ServerState) (u d all_up all_down : List FrameContent) (w : Transit) (place xid : ℕ) → EndsAgree opened k s u d all_up all_down w → Guards opened k s u d all_up all_down w place → 1 ≤ times xid (call_xids s.calls)
     → xid < 2 ^ 32
-counted-word opened k s u d all_up all_down w place xid l g some =
+counted_word opened k s u d all_up all_down w place xid l g some =
     let sent = calls_said opened k s u d all_up all_down w l in
-    by (cases_lt xid (opened.first_xid + s.received.sends)) (omega (arith, sent, sent_most k, l.sends_up, ap (total_of sends_in) l.parts_up, total-append sends_in u (w.up ++ w.queued_up)))
+    by (cases_lt xid (opened.first_xid + s.received.sends)) (omega (arith, sent, sent_most k, l.sends_up, ap (total_of sends_in) l.parts_up, total_append sends_in u (w.up ++ w.queued_up)))
   where
     by : (xid < opened.first_xid + s.received.sends) ⊎ (opened.first_xid + s.received.sends ≤ xid) → s.received.sends ≤ k.calls_accepted → xid < 2 ^ 32
     by (inl lt) few = omega (arith, lt, few, g.answered.room)
     by (inr le) few = absurd (omega (arith, some, g.answered.later xid le))
 
-pub small-xid : (opened : LinkParameters) (k : ClientState) (s : ServerState) (u d all_up all_down : List FrameContent) (w : Transit) (place n : ℕ) (c : PendingCall) → EndsAgree opened k s u d all_up all_down w → Guards opened k s u d all_up all_down w place
+pub small_xid_lem : (opened : LinkParameters) (k : ClientState) (s : ServerState) (u d all_up all_down : List FrameContent) (w : Transit) (place n : ℕ) (c : PendingCall) → EndsAgree opened k s u d all_up all_down w → Guards opened k s u d all_up all_down w place
     → find (λ (y : PendingCall). eqb y.number n) s.calls ≡ Some c → c.xid < 2 ^ 32
-small-xid opened k s u d all_up all_down w place n c l g found = counted-word opened k s u d all_up all_down w place c.xid l g (found-times n s.calls c found)
+small_xid_lem opened k s u d all_up all_down w place n c l g found = counted_word opened k s u d all_up all_down w place c.xid l g (found_times n s.calls c found)
 
-any-times : (xid : ℕ) (cs : List PendingCall) → list_any (λ (c : PendingCall). eqb c.xid xid) cs ≡ true → 1 ≤ times xid (call_xids cs)
-any-times xid [] e = absurd cc
-any-times xid (c ∷ cs) e = by (eqb c.xid xid) e (any-times xid cs)
+any_times : (xid : ℕ) (cs : List PendingCall) → list_any (λ (c : PendingCall). eqb c.xid xid) cs ≡ true → 1 ≤ times xid (call_xids cs)
+any_times xid [] e = absurd cc
+any_times xid (c ∷ cs) e = by (eqb c.xid xid) e (any_times xid cs)
   where
     by : (b : Bool) → (b || list_any (λ (z : PendingCall). eqb z.xid xid) cs) ≡ true → (list_any (λ (z : PendingCall). eqb z.xid xid) cs ≡ true → 1 ≤ times xid (call_xids cs)) → 1 ≤ one_if b + times xid (call_xids cs)
     by true e later = omega arith
     by false e later = omega (arith, later e)
 
-pub pending-word : (opened : LinkParameters) (k : ClientState) (s : ServerState) (u d all_up all_down : List FrameContent) (w : Transit) (place xid : ℕ) → EndsAgree opened k s u d all_up all_down w → Guards opened k s u d all_up all_down w place
+pub pending_word : (opened : LinkParameters) (k : ClientState) (s : ServerState) (u d all_up all_down : List FrameContent) (w : Transit) (place xid : ℕ) → EndsAgree opened k s u d all_up all_down w → Guards opened k s u d all_up all_down w place
     → list_any (λ (c : PendingCall). eqb c.xid xid) s.calls ≡ true → xid < 2 ^ 32
-pending-word opened k s u d all_up all_down w place xid l g there = counted-word opened k s u d all_up all_down w place xid l g (any-times xid s.calls there)
+pending_word opened k s u d all_up all_down w place xid l g there = counted_word opened k s u d all_up all_down w place xid l g (any_times xid s.calls there)
 
 -- the reasons of a server's refusal come from the effect of the frame
 pub record ServerTakes (opened : LinkParameters) (k : ClientState) (s : ServerState) (u d all_up all_down : List FrameContent) (w : Transit) (p : FrameContent) (rest : List FrameContent) (f : Frame) : Type 0 where
   pub ends : server_end opened s (FrameReceived f) ≡ refusal_end f (frame_effect s f).refusal
   pub kept : server_end opened s (FrameReceived f) ≡ None → Guards opened k (server_state_after opened s (FrameReceived f)) (u ++ p ∷ []) d all_up (all_down ++ server_frames opened s (FrameReceived f)) (taken_up w rest (server_frames opened s (FrameReceived f))) f.end
 
-credit-down : (opened : LinkParameters) (credit : ℕ) (ps : List FrameContent) → credit ≡ opened.granted → AllByRecursion (ServerContent credit) ps → AllByRecursion (ServerContent opened.granted) ps
-credit-down opened credit ps is h = subst (λ (n : ℕ). AllByRecursion (ServerContent n) ps) is h
+credit_down : (opened : LinkParameters) (credit : ℕ) (ps : List FrameContent) → credit ≡ opened.granted → AllByRecursion (ServerContent credit) ps → AllByRecursion (ServerContent opened.granted) ps
+credit_down opened credit ps is h = subst (λ (n : ℕ). AllByRecursion (ServerContent n) ps) is h
 
-within-after : (s : ServerState) (f : Frame) (r : Result Segment ℕ) → frame_segment f ≡ r → AreWithin (frame_effect s f).reads (frame_effect s f).regions → AreWithin (with_by s f r (effect_in s f r)).reads (with_by s f r (effect_in s f r)).regions
-within-after s f r is h =
-    let e = subst (λ (x : FrameEffect). AreWithin x.reads x.regions) (step-is s f r is) h in
-    within-closed (is_over (effect_in s f r).calls (effect_in s f r).reads) f.end (effect_in s f r).reads (effect_in s f r).regions e
+within_after : (s : ServerState) (f : Frame) (r : Result Segment ℕ) → frame_segment f ≡ r → AreWithin (frame_effect s f).reads (frame_effect s f).regions → AreWithin (with_by s f r (effect_in s f r)).reads (with_by s f r (effect_in s f r)).regions
+within_after s f r is h =
+    let e = subst (λ (x : FrameEffect). AreWithin x.reads x.regions) (step_is s f r is) h in
+    within_closed (is_over (effect_in s f r).calls (effect_in s f r).reads) f.end (effect_in s f r).reads (effect_in s f r).regions e
 
-sinks-after : (s : ServerState) (f : Frame) (r : Result Segment ℕ) → frame_segment f ≡ r → (n : ℕ) → length (frame_effect s f).regions ≤ n → length (with_by s f r (effect_in s f r)).regions ≤ n
-sinks-after s f r is n h =
-    let e = subst (λ (x : FrameEffect). length x.regions ≤ n) (step-is s f r is) h in
-    omega (arith, e, closed-length (is_over (effect_in s f r).calls (effect_in s f r).reads) f.end (effect_in s f r).regions)
+sinks_after : (s : ServerState) (f : Frame) (r : Result Segment ℕ) → frame_segment f ≡ r → (n : ℕ) → length (frame_effect s f).regions ≤ n → length (with_by s f r (effect_in s f r)).regions ≤ n
+sinks_after s f r is n h =
+    let e = subst (λ (x : FrameEffect). length x.regions ≤ n) (step_is s f r is) h in
+    omega (arith, e, closed_length (is_over (effect_in s f r).calls (effect_in s f r).reads) f.end (effect_in s f r).regions)
 
-pub takes-send : (opened : LinkParameters) (k : ClientState) (s : ServerState) (u d all_up all_down : List FrameContent) (w : Transit) (place : ℕ) (message : List ℕ) (rest : List FrameContent) (f : Frame) → IsOpened opened → EndsAgree opened k s u d all_up all_down w → Guards opened k s u d all_up all_down w place → w.up ≡ SendFrame message ∷ rest
+pub takes_send : (opened : LinkParameters) (k : ClientState) (s : ServerState) (u d all_up all_down : List FrameContent) (w : Transit) (place : ℕ) (message : List ℕ) (rest : List FrameContent) (f : Frame) → IsOpened opened → EndsAgree opened k s u d all_up all_down w → Guards opened k s u d all_up all_down w place → w.up ≡ SendFrame message ∷ rest
     → Carries s.received.sends s.received.requests f (SendFrame message) → IsBytes f.bytes → f.bytes ≡ frame_bytes Initiator (numbered_segment s.received.sends s.received.requests (SendFrame message)) → place < f.end → ServerTakes opened k s u d all_up all_down w (SendFrame message) rest f
-takes-send opened k s u d all_up all_down w place message rest f o l g first piece bytes is lt =
+takes_send opened k s u d all_up all_down w place message rest f o l g first piece bytes is lt =
     let segment : Segment = Untagged true OPCODE_SEND 0 QUEUE_SEND (msn_word (s.received.sends + 1)) 0 message in
-    let reads : frame_segment f ≡ Ok segment = segment-is s.received.sends s.received.requests f (SendFrame message) segment piece refl in
-    let size = front-up opened k s u d all_up all_down w place (SendFrame message) rest l g first in
-    let t = server-takes_send opened k s w place f message rest g.server g.window first piece size.0 size.1 lt in
-    let says = says-frame opened s f piece.behind in
-    let after = after-is opened s f (Ok segment) piece.behind reads in
+    let reads : frame_segment f ≡ Ok segment = segment_is s.received.sends s.received.requests f (SendFrame message) segment piece refl in
+    let size = front_up opened k s u d all_up all_down w place (SendFrame message) rest l g first in
+    let t = server_takes_send opened k s w place f message rest g.server g.window first piece size.0 size.1 lt in
+    let says = says_frame opened s f piece.behind in
+    let after = after_is_lem opened s f (Ok segment) piece.behind reads in
     let small : s.credit < 2 ^ 32 = omega (arith, g.credit, o.granted_fits) in
-    let own = front-xid opened k s u d all_up all_down w place message rest l g first in
+    let own = front_xid opened k s u d all_up all_down w place message rest l g first in
     let some : 0 < total_of sends_in w.up = omega (arith, ap (total_of sends_in) first) in
     let sent = calls_said opened k s u d all_up all_down w l in
     let small_xid : word_at 0 message < 2 ^ 32 =
-    omega (arith, own, g.answered.room, some, sent, sent_most k, l.sends_up, ap (total_of sends_in) l.parts_up, total-append sends_in u (w.up ++ w.queued_up), total-append sends_in w.up w.queued_up) in
-    let pending = pending-send s f message l.counts.whole_up small_xid reads in
-    let effect = step-is s f (Ok segment) reads in
+    omega (arith, own, g.answered.room, some, sent, sent_most k, l.sends_up, ap (total_of sends_in) l.parts_up, total_append sends_in u (w.up ++ w.queued_up), total_append sends_in w.up w.queued_up) in
+    let pending = pending_send s f message l.counts.whole_up small_xid reads in
+    let effect = step_is s f (Ok segment) reads in
     let calls_are : call_xids (server_state_after opened s (FrameReceived f)).calls ≡ call_xids (frame_effect s f).calls = ap (λ (x : ServerState). call_xids x.calls) after ∙ ap (λ (e : FrameEffect). call_xids e.calls) (sym effect) in
-    let answered = answered-send opened.first_xid k s (server_state_after opened s (FrameReceived f)) u d all_down w (SendFrame message) rest (effect_frames (frame_effect s f)) (ap (λ (x : ServerState). x.received.sends) after)
-    (λ x. omega (arith, pending x, ap (λ (xs : List ℕ). times x xs) (effect-xids (frame_effect s f)), ap (λ (xs : List ℕ). times x xs) calls_are, ap (λ (n : ℕ). one_if (eqb n x)) own)) g.answered in
-    let numbered = numbered-send opened.first_xid s f message l.counts.whole_up own g.numbers reads in
-    let numbers = subst (AllByRecursion (IsNumbered opened.first_xid)) (ap (λ (e : FrameEffect). e.calls) (step-is s f (Ok segment) reads) ∙ ap (λ (x : ServerState). x.calls) (sym after)) numbered in
-    let chunk = count-send s f message l.counts.whole_up (payload_bytes segment (subst IsBytes is bytes)) size.4 reads in
-    let sinks = sinks-after s f (Ok segment) reads (s.received.sends + 1) (omega (arith, chunk, g.sinks)) in
-    let within = within-after s f (Ok segment) reads (within-send s f message l.counts.whole_up (payload_bytes segment (subst IsBytes is bytes)) g.within reads) in
+    let answered = answered_send opened.first_xid k s (server_state_after opened s (FrameReceived f)) u d all_down w (SendFrame message) rest (effect_frames (frame_effect s f)) (ap (λ (x : ServerState). x.received.sends) after)
+    (λ x. omega (arith, pending x, ap (λ (xs : List ℕ). times x xs) (effect_xids (frame_effect s f)), ap (λ (xs : List ℕ). times x xs) calls_are, ap (λ (n : ℕ). one_if (eqb n x)) own)) g.answered in
+    let numbered = numbered_send opened.first_xid s f message l.counts.whole_up own g.numbers reads in
+    let numbers = subst (AllByRecursion (IsNumbered opened.first_xid)) (ap (λ (e : FrameEffect). e.calls) (step_is s f (Ok segment) reads) ∙ ap (λ (x : ServerState). x.calls) (sym after)) numbered in
+    let chunk = count_send s f message l.counts.whole_up (payload_bytes segment (subst IsBytes is bytes)) size.4 reads in
+    let sinks = sinks_after s f (Ok segment) reads (s.received.sends + 1) (omega (arith, chunk, g.sinks)) in
+    let within = within_after s f (Ok segment) reads (within_send s f message l.counts.whole_up (payload_bytes segment (subst IsBytes is bytes)) g.within reads) in
     record {
       ends = t.0;
       kept = λ stays.
           subst (λ (said : List FrameContent). Guards opened k (server_state_after opened s (FrameReceived f)) (u ++ SendFrame message ∷ []) d all_up (all_down ++ said) (taken_up w rest said) f.end) (sym says)
-          (guards-up opened k s (server_state_after opened s (FrameReceived f)) u d all_up all_down w place f.end (SendFrame message) rest (effect_frames (frame_effect s f)) g
-          (t.1 (not-refused opened s f piece.behind stays)) (credit-down opened s.credit (effect_frames (frame_effect s f)) g.credit (step-down s.credit (frame_effect s f) (replies-send s f message l.counts.whole_up small_xid (word-below 4 message (payload_bytes segment (subst IsBytes is bytes))) small reads)))
+          (guards_up opened k s (server_state_after opened s (FrameReceived f)) u d all_up all_down w place f.end (SendFrame message) rest (effect_frames (frame_effect s f)) g
+          (t.1 (not_refused_lem opened s f piece.behind stays)) (credit_down opened s.credit (effect_frames (frame_effect s f)) g.credit (step_down s.credit (frame_effect s f) (replies_send s f message l.counts.whole_up small_xid (word_below_lem 4 message (payload_bytes segment (subst IsBytes is bytes))) small reads)))
           (ap (λ (x : ServerState). x.credit) after) (subst (λ (x : ServerState). AreWithin x.reads x.regions) (sym after) within) (subst (λ (x : ServerState). length x.regions ≤ x.received.sends) (sym after) sinks) numbers answered);
     }
 
-pub takes-tagged : (opened : LinkParameters) (k : ClientState) (s : ServerState) (u d all_up all_down : List FrameContent) (w : Transit) (place : ℕ) (last : Bool) (opcode stag to : ℕ) (payload : List ℕ) (rest : List FrameContent) (f : Frame) → IsOpened opened → EndsAgree opened k s u d all_up all_down w → Guards opened k s u d all_up all_down w place
+pub takes_tagged : (opened : LinkParameters) (k : ClientState) (s : ServerState) (u d all_up all_down : List FrameContent) (w : Transit) (place : ℕ) (last : Bool) (opcode stag to : ℕ) (payload : List ℕ) (rest : List FrameContent) (f : Frame) → IsOpened opened → EndsAgree opened k s u d all_up all_down w → Guards opened k s u d all_up all_down w place
     → w.up ≡ TaggedFrame last opcode stag to payload ∷ rest → Carries s.received.sends s.received.requests f (TaggedFrame last opcode stag to payload) → place < f.end → ServerTakes opened k s u d all_up all_down w (TaggedFrame last opcode stag to payload) rest f
-takes-tagged opened k s u d all_up all_down w place last opcode stag to payload rest f o l g first piece lt =
+takes_tagged opened k s u d all_up all_down w place last opcode stag to payload rest f o l g first piece lt =
     let segment : Segment = Tagged last opcode stag to payload in
-    let reads : frame_segment f ≡ Ok segment = segment-is s.received.sends s.received.requests f (TaggedFrame last opcode stag to payload) segment piece refl in
-    let t = server-takes_response opened k s w place f last opcode stag to payload rest g.server first piece lt in
-    let says = says-frame opened s f piece.behind in
-    let after = after-is opened s f (Ok segment) piece.behind reads in
+    let reads : frame_segment f ≡ Ok segment = segment_is s.received.sends s.received.requests f (TaggedFrame last opcode stag to payload) segment piece refl in
+    let t = server_takes_response opened k s w place f last opcode stag to payload rest g.server first piece lt in
+    let says = says_frame opened s f piece.behind in
+    let after = after_is_lem opened s f (Ok segment) piece.behind reads in
     let small : s.credit < 2 ^ 32 = omega (arith, g.credit, o.granted_fits) in
-    let pending = pending-tagged s f last opcode stag to payload (λ n c found. small-xid opened k s u d all_up all_down w place n c l g found) reads in
-    let effect = step-is s f (Ok segment) reads in
+    let pending = pending_tagged s f last opcode stag to payload (λ n c found. small_xid_lem opened k s u d all_up all_down w place n c l g found) reads in
+    let effect = step_is s f (Ok segment) reads in
     let calls_are : call_xids (server_state_after opened s (FrameReceived f)).calls ≡ call_xids (frame_effect s f).calls = ap (λ (x : ServerState). call_xids x.calls) after ∙ ap (λ (e : FrameEffect). call_xids e.calls) (sym effect) in
-    let answered = answered-other opened.first_xid k s (server_state_after opened s (FrameReceived f)) u d all_down w (TaggedFrame last opcode stag to payload) rest (effect_frames (frame_effect s f)) (ap (λ (x : ServerState). x.received.sends) after)
-    (λ x. omega (arith, pending x, ap (λ (xs : List ℕ). times x xs) (effect-xids (frame_effect s f)), ap (λ (xs : List ℕ). times x xs) calls_are)) g.answered in
-    let numbered = numbered-tagged opened.first_xid s f last opcode stag to payload g.numbers reads in
-    let numbers = subst (AllByRecursion (IsNumbered opened.first_xid)) (ap (λ (e : FrameEffect). e.calls) (step-is s f (Ok segment) reads) ∙ ap (λ (x : ServerState). x.calls) (sym after)) numbered in
-    let sinks = sinks-after s f (Ok segment) reads s.received.sends (omega (arith, count-tagged s f last opcode stag to payload reads, g.sinks)) in
-    let within = within-after s f (Ok segment) reads (within-tagged s f last opcode stag to payload g.within reads) in
+    let answered = answered_other opened.first_xid k s (server_state_after opened s (FrameReceived f)) u d all_down w (TaggedFrame last opcode stag to payload) rest (effect_frames (frame_effect s f)) (ap (λ (x : ServerState). x.received.sends) after)
+    (λ x. omega (arith, pending x, ap (λ (xs : List ℕ). times x xs) (effect_xids (frame_effect s f)), ap (λ (xs : List ℕ). times x xs) calls_are)) g.answered in
+    let numbered = numbered_tagged opened.first_xid s f last opcode stag to payload g.numbers reads in
+    let numbers = subst (AllByRecursion (IsNumbered opened.first_xid)) (ap (λ (e : FrameEffect). e.calls) (step_is s f (Ok segment) reads) ∙ ap (λ (x : ServerState). x.calls) (sym after)) numbered in
+    let sinks = sinks_after s f (Ok segment) reads s.received.sends (omega (arith, count_tagged s f last opcode stag to payload reads, g.sinks)) in
+    let within = within_after s f (Ok segment) reads (within_tagged s f last opcode stag to payload g.within reads) in
     record {
       ends = t.0;
       kept = λ stays.
           subst (λ (said : List FrameContent). Guards opened k (server_state_after opened s (FrameReceived f)) (u ++ TaggedFrame last opcode stag to payload ∷ []) d all_up (all_down ++ said) (taken_up w rest said) f.end) (sym says)
-          (guards-up opened k s (server_state_after opened s (FrameReceived f)) u d all_up all_down w place f.end (TaggedFrame last opcode stag to payload) rest (effect_frames (frame_effect s f)) g
-          (t.1 (not-refused opened s f piece.behind stays)) (credit-down opened s.credit (effect_frames (frame_effect s f)) g.credit (step-down s.credit (frame_effect s f) (replies-tagged s f last opcode stag to payload (λ n c found. small-xid opened k s u d all_up all_down w place n c l g found) small reads)))
+          (guards_up opened k s (server_state_after opened s (FrameReceived f)) u d all_up all_down w place f.end (TaggedFrame last opcode stag to payload) rest (effect_frames (frame_effect s f)) g
+          (t.1 (not_refused_lem opened s f piece.behind stays)) (credit_down opened s.credit (effect_frames (frame_effect s f)) g.credit (step_down s.credit (frame_effect s f) (replies_tagged s f last opcode stag to payload (λ n c found. small_xid_lem opened k s u d all_up all_down w place n c l g found) small reads)))
           (ap (λ (x : ServerState). x.credit) after) (subst (λ (x : ServerState). AreWithin x.reads x.regions) (sym after) within) (subst (λ (x : ServerState). length x.regions ≤ x.received.sends) (sym after) sinks) numbers answered);
     }
 
 -- the client's hello
-pub hello-guards : (opened : LinkParameters) (k : ClientState) (s : ServerState) (u d all_up all_down : List FrameContent) (w : Transit) (place : ℕ) (rest : List FrameContent) (f : Frame) → Guards opened k s u d all_up all_down w place → w.up ≡ HelloFrame ∷ rest → is_hello f ≡ true → place ≤ f.end
+pub hello_guards : (opened : LinkParameters) (k : ClientState) (s : ServerState) (u d all_up all_down : List FrameContent) (w : Transit) (place : ℕ) (rest : List FrameContent) (f : Frame) → Guards opened k s u d all_up all_down w place → w.up ≡ HelloFrame ∷ rest → is_hello f ≡ true → place ≤ f.end
     → Guards opened k (server_state_after opened s (FrameReceived f)) (u ++ HelloFrame ∷ []) d all_up (all_down ++ server_frames opened s (FrameReceived f)) (taken_up w rest (server_frames opened s (FrameReceived f))) f.end
-hello-guards opened k s u d all_up all_down w place rest f g first is le =
-    let says = says-hello opened s f is in
-    let after = after-hello opened s f is in
+hello_guards opened k s u d all_up all_down w place rest f g first is le =
+    let says = says_hello opened s f is in
+    let after = after_hello opened s f is in
     let c = g.server.reads in
     let r : ReadsAgree s (record { queued_up = w.queued_up; up = rest; queued_down = w.queued_down; down = w.down }) = record {
       answered = c.answered;
@@ -221,14 +221,14 @@ hello-guards opened k s u d all_up all_down w place rest f g first is le =
     let t = with_own_hello s in
     let server : ServerAgrees opened k t (taken_up w rest (HelloFrame ∷ [])) f.end = record {
       counts = subst (λ (t : ServerState). TotalsAgree k t (taken_up w rest (HelloFrame ∷ []))) after
-          (subst (λ (said : List FrameContent). TotalsAgree k (server_state_after opened s (FrameReceived f)) (taken_up w rest said)) says (totals-hello_up opened k s w f rest g.server.counts first is));
-      reads = reads-says_down s t (record { queued_up = w.queued_up; up = rest; queued_down = w.queued_down; down = w.down }) (HelloFrame ∷ []) r refl refl refl;
-      waits = waits-greeted s g.server.waits;
-      sinks = later-sinks place f.end s.regions s.reads le g.server.sinks;
+          (subst (λ (said : List FrameContent). TotalsAgree k (server_state_after opened s (FrameReceived f)) (taken_up w rest said)) says (totals_hello_up opened k s w f rest g.server.counts first is));
+      reads = reads_says_down s t (record { queued_up = w.queued_up; up = rest; queued_down = w.queued_down; down = w.down }) (HelloFrame ∷ []) r refl refl refl;
+      waits = waits_greeted s g.server.waits;
+      sinks = later_sinks place f.end s.regions s.reads le g.server.sinks;
       regions = record { stags = g.server.regions.stags; calls = g.server.regions.calls };
       limits = record { up = g.server.limits.up; down = g.server.limits.down };
     } in
     subst (λ (said : List FrameContent). Guards opened k (server_state_after opened s (FrameReceived f)) (u ++ HelloFrame ∷ []) d all_up (all_down ++ said) (taken_up w rest said) f.end) (sym says)
     (subst (λ (t : ServerState). Guards opened k t (u ++ HelloFrame ∷ []) d all_up (all_down ++ HelloFrame ∷ []) (taken_up w rest (HelloFrame ∷ [])) f.end) (sym after)
-    (guards-up opened k s t u d all_up all_down w place f.end HelloFrame rest (HelloFrame ∷ []) g server (tt, tt) refl g.within g.sinks g.numbers
-    (answered-other opened.first_xid k s t u d all_down w HelloFrame rest (HelloFrame ∷ []) refl (λ x. omega arith) g.answered)))
+    (guards_up opened k s t u d all_up all_down w place f.end HelloFrame rest (HelloFrame ∷ []) g server (tt, tt) refl g.within g.sinks g.numbers
+    (answered_other opened.first_xid k s t u d all_down w HelloFrame rest (HelloFrame ∷ []) refl (λ x. omega arith) g.answered)))

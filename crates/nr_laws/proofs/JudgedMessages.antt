@@ -12,32 +12,32 @@ use Rattle.nr_link.specs.declared.end.End.TheVariants as ends
 use Rattle.nr_link.specs.Frames.{Frame, is_hello}
 use Rattle.nr_link.specs.Output.{own_hello}
 use Rattle.nr_link.specs.ReceiveState.{message_completed}
-use Rattle.nr_link.specs.SegmentFaults.{Readiness, SegmentFault, segment_fault}
-use Rattle.nr_link.specs.SegmentFaults.SegmentFault.{Reason, NoBuffer, AccessDenied, PeerTerminated}
+use Rattle.nr_link.specs.SegmentFaults.{Readiness, SegmentReason, segment_reason}
+use Rattle.nr_link.specs.SegmentFaults.SegmentReason.{Reason, NoBuffer, AccessDenied, PeerTerminated}
 use Rattle.nr_link.specs.Ending.{frame_segment, frame_end, frame_end_by, end_of_fault, denied_at, access_of, hello_end, missing_access}
 use Rattle.nr_reduce.specs.declared.mark.Mark.{Mark}
 use Rattle.nr_reduce.specs.declared.mark.LinkParameters.{LinkParameters}
 use Rattle.nr_reduce.specs.OfferedRegions.{region_grants}
-use Rattle.nr_reduce.specs.Events.{Event, events}
-use Rattle.nr_reduce.specs.Events.Event.{FrameReceived, CallSubmitted, MemoryRevoked, CallExecuted, QueueWritten}
+use Rattle.nr_reduce.specs.Events.{RunEvent, events}
+use Rattle.nr_reduce.specs.Events.RunEvent.{FrameReceived, CallSubmitted, MemoryRevoked, CallExecuted, QueueWritten}
 use Rattle.nr_reduce.specs.ClientState.{ClientState}
-use Rattle.nr_reduce.specs.ClientMessages.{Verdict, verdict}
-use Rattle.nr_reduce.specs.ClientMessages.Verdict.{EndsLink, GivesOutcome}
-use Rattle.nr_reduce.specs.Client.{client_rules, client_end, initial_client, readiness, or_message_end, message_end, end_of_verdict, segment_message}
+use Rattle.nr_reduce.specs.ClientMessages.{ReplyVerdict, reply_verdict}
+use Rattle.nr_reduce.specs.ClientMessages.ReplyVerdict.{EndsLink, GivesOutcome}
+use Rattle.nr_reduce.specs.Client.{client_rules, client_end, initial_client, client_readiness, or_message_end, client_message_end, end_of_verdict, segment_message}
 use Rattle.nr_reduce.specs.Run.{client}
 use Rattle.nr_laws.proofs.EndReasons.{IsMessageReason}
 use Rattle.nr_laws.specs.MatchedSoFar.{MatchedSoFar}
 use Rattle.nr_laws.specs.Typed.{IsTyped}
 use Rattle.nr_laws.proofs.Outputs.{Output}
 use Rattle.nr_laws.proofs.Outputs.Output.{AHello, ASegment}
-use Rattle.nr_laws.proofs.Brought.{Brings, Brought, AreFrom, hello-is}
+use Rattle.nr_laws.proofs.Brought.{Brings, Brought, AreFrom, hello_is}
 use Rattle.nr_laws.proofs.Completions.{completed_by, begun_from}
-use Rattle.nr_laws.proofs.Hears.{hears, client-receives, brings-at, completed-message}
+use Rattle.nr_laws.proofs.ReceivedMessages.{hears, client_receives, brings_at, completed_message}
 use Rattle.nr_laws.proofs.ServerAlong.{outs_of, Said}
-use Rattle.nr_laws.proofs.ServerSide.{server-tells, client-receives-of}
+use Rattle.nr_laws.proofs.ServerSide.{server_tells, client_receives_of}
 use Rattle.nr_laws.proofs.Outcomes.{client_by}
-use Rattle.nr_laws.proofs.EndingEvents.{EndsAt, ends-at}
-use Rattle.nr_laws.proofs.OtherReasons.{OtherFault, fault-other}
+use Rattle.nr_laws.proofs.EndingEvents.{EndsAt, ends_at_lem}
+use Rattle.nr_laws.proofs.OtherReasons.{OtherFault, fault_other}
 
 -- ---- A segment that ends a client by such a reason
 
@@ -45,80 +45,80 @@ use Rattle.nr_laws.proofs.OtherReasons.{OtherFault, fault-other}
 record JudgesMessage (k : ClientState) (f : Frame) (s : Segment) (reason : ℕ) : Type 0 where
   message : List ℕ
   whole : message_completed k.received s ≡ Some message
-  judged : verdict k f.end message ≡ EndsLink reason
+  judged : reply_verdict k f.end message ≡ EndsLink reason
 
-bad-reason : (at place reason other : ℕ) → ◌≡◌ {A = Option Stop} (Some (ends.Bad at reason)) (Some (ends.Bad place other)) → reason ≡ other
-bad-reason at place reason other e = cc
+bad_reason : (at place reason other : ℕ) → ◌≡◌ {A = Option Stop} (Some (ends.Bad at reason)) (Some (ends.Bad place other)) → reason ≡ other
+bad_reason at place reason other e = cc
 
-pub by-fault : (f : Frame) (s : Segment) (o : Option (SegmentFault Denied)) → OtherFault o → (at reason : ℕ) → IsMessageReason reason → end_of_fault f s o ≡ Some (ends.Bad at reason) → ⊥
-by-fault f s None h at reason is e = cc
-by-fault f s (Some (Reason x)) h at reason is e = h (subst IsMessageReason (sym (bad-reason f.at at x reason e)) is)
-by-fault f s (Some (NoBuffer msn)) h at reason is e = cc
-by-fault f s (Some (AccessDenied why)) h at reason is e = by (access_of s) e
+pub by_fault_lem : (f : Frame) (s : Segment) (o : Option (SegmentReason Denied)) → OtherFault o → (at reason : ℕ) → IsMessageReason reason → end_of_fault f s o ≡ Some (ends.Bad at reason) → ⊥
+by_fault_lem f s None h at reason is e = cc
+by_fault_lem f s (Some (Reason x)) h at reason is e = h (subst IsMessageReason (sym (bad_reason f.at at x reason e)) is)
+by_fault_lem f s (Some (NoBuffer msn)) h at reason is e = cc
+by_fault_lem f s (Some (AccessDenied why)) h at reason is e = by (access_of s) e
   where
     by : (o : Option Access) → Some (denied_at o why) ≡ Some (ends.Bad at reason) → ⊥
     by None e = cc
     by (Some access) e = cc
-by-fault f s (Some (PeerTerminated word)) h at reason is e = cc
+by_fault_lem f s (Some (PeerTerminated word)) h at reason is e = cc
 
-by-verdict : (f : Frame) (v : Verdict) (at reason : ℕ) → end_of_verdict f v ≡ Some (ends.Bad at reason) → v ≡ EndsLink reason
-by-verdict f (EndsLink x) at reason e = ap EndsLink (bad-reason f.at at x reason e)
-by-verdict f (GivesOutcome xid outcome) at reason e = absurd cc
+by_verdict_lem : (f : Frame) (v : ReplyVerdict) (at reason : ℕ) → end_of_verdict f v ≡ Some (ends.Bad at reason) → v ≡ EndsLink reason
+by_verdict_lem f (EndsLink x) at reason e = ap EndsLink (bad_reason f.at at x reason e)
+by_verdict_lem f (GivesOutcome xid outcome) at reason e = absurd cc
 
-by-message : (k : ClientState) (f : Frame) (s : Segment) (at reason : ℕ) (o : Option (List ℕ)) → message_completed k.received s ≡ o → message_end k f o ≡ Some (ends.Bad at reason) → JudgesMessage k f s reason
-by-message k f s at reason None whole e = absurd cc
-by-message k f s at reason (Some message) whole e = record { message = message; whole = whole; judged = by-verdict f (verdict k f.end message) at reason e }
+by_message_lem : (k : ClientState) (f : Frame) (s : Segment) (at reason : ℕ) (o : Option (List ℕ)) → message_completed k.received s ≡ o → client_message_end k f o ≡ Some (ends.Bad at reason) → JudgesMessage k f s reason
+by_message_lem k f s at reason None whole e = absurd cc
+by_message_lem k f s at reason (Some message) whole e = record { message = message; whole = whole; judged = by_verdict_lem f (reply_verdict k f.end message) at reason e }
 
-segment-judges : (k : ClientState) (f : Frame) (s : Segment) (at reason : ℕ) → IsMessageReason reason → is_hello f ≡ false → frame_segment f ≡ Ok s → client_end k (FrameReceived f) ≡ Some (ends.Bad at reason) → JudgesMessage k f s reason
+segment_judges : (k : ClientState) (f : Frame) (s : Segment) (at reason : ℕ) → IsMessageReason reason → is_hello f ≡ false → frame_segment f ≡ Ok s → client_end k (FrameReceived f) ≡ Some (ends.Bad at reason) → JudgesMessage k f s reason
 unfolding client_end frame_end
-segment-judges k f s at reason is behind own e =
-    by (end_of_fault f s (segment_fault ready s)) (by-fault f s (segment_fault ready s) (fault-other ready s) at reason is)
-    (sym (λ i. cond (behind i) (hello_end (hello_of Responder f.bytes)) (or_message_end k f (frame_end_by (readiness k) grants f (own i)))) ∙ e)
+segment_judges k f s at reason is behind own e =
+    by (end_of_fault f s (segment_reason ready s)) (by_fault_lem f s (segment_reason ready s) (fault_other ready s) at reason is)
+    (sym (λ i. cond (behind i) (hello_end (hello_of Responder f.bytes)) (or_message_end k f (frame_end_by (client_readiness k) grants f (own i)))) ∙ e)
   where
     grants : List Grant
     grants = region_grants f.end k.regions
 
     ready : Readiness Denied
-    ready = readiness k (missing_access grants f s)
+    ready = client_readiness k (missing_access grants f s)
 
     by : (o : Option Stop) → (o ≡ Some (ends.Bad at reason) → ⊥) → or_message_end k f o ≡ Some (ends.Bad at reason) → JudgesMessage k f s reason
     by (Some end) none e = absurd (none e)
-    by None none e = by-message k f s at reason (message_completed k.received s) refl (ap (λ (r : Result Segment ℕ). message_end k f (segment_message k r)) (sym own) ∙ e)
+    by None none e = by_message_lem k f s at reason (message_completed k.received s) refl (ap (λ (r : Result Segment ℕ). client_message_end k f (segment_message k r)) (sym own) ∙ e)
 
 -- the hello of the other side ends no client
-hello-stays : (k : ClientState) (f : Frame) → is_hello f ≡ true → f.bytes ≡ own_hello Responder → client_end k (FrameReceived f) ≡ None
+hello_stays : (k : ClientState) (f : Frame) → is_hello f ≡ true → f.bytes ≡ own_hello Responder → client_end k (FrameReceived f) ≡ None
 unfolding client_end
-hello-stays k f first bytes =
-    ap (λ (b : Bool). cond b (hello_end (hello_of Responder f.bytes)) (or_message_end k f (frame_end (readiness k) (region_grants f.end k.regions) f))) first
-    ∙ ap (λ (xs : List ℕ). hello_end (hello_of Responder xs)) bytes ∙ ap hello_end (hello-is Responder).says
+hello_stays k f first bytes =
+    ap (λ (b : Bool). cond b (hello_end (hello_of Responder f.bytes)) (or_message_end k f (frame_end (client_readiness k) (region_grants f.end k.regions) f))) first
+    ∙ ap (λ (xs : List ℕ). hello_end (hello_of Responder xs)) bytes ∙ ap hello_end (hello_is Responder).says
 
 -- ---- The event that ends a client
 
-abbrev NoFrame : Event → Type 0
+abbrev NoFrame : RunEvent → Type 0
 NoFrame (FrameReceived f) = ⊥
 NoFrame (CallSubmitted place a) = Unit {0}
 NoFrame (MemoryRevoked place xid) = Unit {0}
 NoFrame (CallExecuted call) = Unit {0}
 NoFrame (QueueWritten taken) = Unit {0}
 
-only-frames : (k : ClientState) (e : Event) → NoFrame e → client_end k e ≡ None
+only_frames : (k : ClientState) (e : RunEvent) → NoFrame e → client_end k e ≡ None
 unfolding client_end
-only-frames k (FrameReceived f) h = absurd h
-only-frames k (CallSubmitted place a) h = refl
-only-frames k (MemoryRevoked place xid) h = refl
-only-frames k (CallExecuted call) h = refl
-only-frames k (QueueWritten taken) h = refl
+only_frames k (FrameReceived f) h = absurd h
+only_frames k (CallSubmitted place a) h = refl
+only_frames k (MemoryRevoked place xid) h = refl
+only_frames k (CallExecuted call) h = refl
+only_frames k (QueueWritten taken) h = refl
 
-none-some : {o : Option Stop} (end : Stop) → o ≡ None → o ≡ Some end → ⊥
-none-some end none some = (let wrong : None ≡ Some end = sym none ∙ some in cc)
+none_some_lem : {o : Option Stop} (end : Stop) → o ≡ None → o ≡ Some end → ⊥
+none_some_lem end none some = (let wrong : None ≡ Some end = sym none ∙ some in cc)
 
 -- ---- On a matched link
 
 -- what the server writes first is its hello
-first-hello : (xs ys : List Output) (o : Output) (f : Frame) → AreFrom (HelloFrom Responder) (xs ++ o ∷ ys) → Brought o f → is_hello f ≡ true → f.bytes ≡ own_hello Responder
-first-hello [] ys (AHello bytes) f from b is = b.1 ∙ from.0
-first-hello [] ys (ASegment s) f from b is = absurd from
-first-hello (AHello bytes ∷ xs) ys o f from b is = absurd (later xs from.1)
+first_hello_lem : (xs ys : List Output) (o : Output) (f : Frame) → AreFrom (HelloFrom Responder) (xs ++ o ∷ ys) → Brought o f → is_hello f ≡ true → f.bytes ≡ own_hello Responder
+first_hello_lem [] ys (AHello bytes) f from b is = b.1 ∙ from.0
+first_hello_lem [] ys (ASegment s) f from b is = absurd from
+first_hello_lem (AHello bytes ∷ xs) ys o f from b is = absurd (later xs from.1)
   where
     later : (zs : List Output) → AreFrom Fpdu (zs ++ o ∷ ys) → ⊥
     later [] h = here o b h
@@ -128,46 +128,46 @@ first-hello (AHello bytes ∷ xs) ys o f from b is = absurd (later xs from.1)
         here (ASegment s) b h = (let wrong : false ≡ true = sym b.0 ∙ is in cc)
     later (AHello bytes ∷ zs) h = h
     later (ASegment s ∷ zs) h = later zs h.1
-first-hello (ASegment s ∷ xs) ys o f from b is = absurd from
+first_hello_lem (ASegment s ∷ xs) ys o f from b is = absurd from
 
 -- the message for which the client ends, with what came before it, and why the server said it
 pub record EndsFor (opened : LinkParameters) (link : ℕ) (run : List Mark) (reason : ℕ) : Type 0 where
-  pub earlier : List Event
+  pub earlier : List RunEvent
   pub frame : Frame
-  pub later : List Event
+  pub later : List RunEvent
   pub is : events link Initiator run ≡ earlier ++ FrameReceived frame ∷ later
   pub live : (client_by opened earlier).ended ≡ None
   pub segment : Segment
   pub is_segment : frame_segment frame ≡ Ok segment
   pub message : List ℕ
-  pub judged : verdict (client_by opened earlier).state frame.end message ≡ EndsLink reason
+  pub judged : reply_verdict (client_by opened earlier).state frame.end message ≡ EndsLink reason
   pub before : List Output
   pub brings : Brings earlier before
   pub said : Said opened (events link Responder run) before message
 
-pub ends-for : (opened : LinkParameters) (link : ℕ) (run : List Mark) (at reason : ℕ) → IsTyped run → MatchedSoFar opened link run → IsMessageReason reason → (client opened link run).ended ≡ Some (ends.Bad at reason) → EndsFor opened link run reason
+pub ends_for : (opened : LinkParameters) (link : ℕ) (run : List Mark) (at reason : ℕ) → IsTyped run → MatchedSoFar opened link run → IsMessageReason reason → (client opened link run).ended ≡ Some (ends.Bad at reason) → EndsFor opened link run reason
 unfolding client
-ends-for opened link run at reason typed far bad e = by a.event a.is a.ends
+ends_for opened link run at reason typed far bad e = by a.event a.is a.ends
   where
     a : EndsAt (client_rules opened) (initial_client opened) (events link Initiator run) (ends.Bad at reason)
-    a = ends-at (client_rules opened) (initial_client opened) (events link Initiator run) (ends.Bad at reason) refl e
+    a = ends_at_lem (client_rules opened) (initial_client opened) (events link Initiator run) (ends.Bad at reason) refl e
 
     k : ClientState
     k = (client_by opened a.earlier).state
 
     by-frame : (f : Frame) → events link Initiator run ≡ a.earlier ++ FrameReceived f ∷ a.later → client_end k (FrameReceived f) ≡ Some (ends.Bad at reason) → EndsFor opened link run reason
     by-frame f is why =
-        let r = client-receives-of opened link run typed far.asked far.served far.matched in
-        let t = server-tells opened link run typed far.asked far.served far.matched in
-        let b = brings-at a.earlier f a.later r.came (subst (λ (xs : List Event). Brings xs r.came) is r.brings) in
-        let counted = hears (client_rules opened) (λ (x : ClientState). x.received) (client-receives opened) (initial_client opened) a.earlier b.earlier b.brings a.live in
+        let r = client_receives_of opened link run typed far.asked far.served far.matched in
+        let t = server_tells opened link run typed far.asked far.served far.matched in
+        let b = brings_at a.earlier f a.later r.came (subst (λ (xs : List RunEvent). Brings xs r.came) is r.brings) in
+        let counted = hears (client_rules opened) (λ (x : ClientState). x.received) (client_receives opened) (initial_client opened) a.earlier b.earlier b.brings a.live in
         let from : AreFrom (HelloFrom Responder) (b.earlier ++ b.own ∷ b.later) = subst (λ (xs : List Output). AreFrom (HelloFrom Responder) xs) b.parts r.from in
         let parts : outs_of opened (events link Responder run) ≡ b.earlier ++ b.own ∷ (b.later ++ r.left) =
         sym r.parts ∙ ap (λ (xs : List Output). xs ++ r.left) b.parts ∙ append_assoc b.earlier (b.own ∷ b.later) r.left in
-        own b.own b.brought (λ first. absurd (none-some (ends.Bad at reason) (hello-stays k f first (first-hello b.earlier b.later b.own f from b.brought first)) why))
+        own b.own b.brought (λ first. absurd (none_some_lem (ends.Bad at reason) (hello_stays k f first (first_hello_lem b.earlier b.later b.own f from b.brought first)) why))
         (λ s behind reads same.
-        let j = segment-judges k f s at reason bad behind reads why in
-        let one : completed_by (begun_from None b.earlier) s ≡ j.message ∷ [] = completed-message k.received (begun_from None b.earlier) s j.message counted.begun j.whole in
+        let j = segment_judges k f s at reason bad behind reads why in
+        let one : completed_by (begun_from None b.earlier) s ≡ j.message ∷ [] = completed_message k.received (begun_from None b.earlier) s j.message counted.begun j.whole in
         record {
           earlier = a.earlier;
           frame = f;
@@ -187,9 +187,9 @@ ends-for opened link run at reason typed far bad e = by a.event a.is a.ends
         own (AHello bytes) h hello segment = hello h.0
         own (ASegment s) h hello segment = segment s h.0 h.1 refl
 
-    by : (x : Event) → events link Initiator run ≡ a.earlier ++ x ∷ a.later → client_end k x ≡ Some (ends.Bad at reason) → EndsFor opened link run reason
+    by : (x : RunEvent) → events link Initiator run ≡ a.earlier ++ x ∷ a.later → client_end k x ≡ Some (ends.Bad at reason) → EndsFor opened link run reason
     by (FrameReceived f) is why = by-frame f is why
-    by (CallSubmitted place call) is why = absurd (none-some (ends.Bad at reason) (only-frames k (CallSubmitted place call) tt) why)
-    by (MemoryRevoked place xid) is why = absurd (none-some (ends.Bad at reason) (only-frames k (MemoryRevoked place xid) tt) why)
-    by (CallExecuted call) is why = absurd (none-some (ends.Bad at reason) (only-frames k (CallExecuted call) tt) why)
-    by (QueueWritten taken) is why = absurd (none-some (ends.Bad at reason) (only-frames k (QueueWritten taken) tt) why)
+    by (CallSubmitted place call) is why = absurd (none_some_lem (ends.Bad at reason) (only_frames k (CallSubmitted place call) tt) why)
+    by (MemoryRevoked place xid) is why = absurd (none_some_lem (ends.Bad at reason) (only_frames k (MemoryRevoked place xid) tt) why)
+    by (CallExecuted call) is why = absurd (none_some_lem (ends.Bad at reason) (only_frames k (CallExecuted call) tt) why)
+    by (QueueWritten taken) is why = absurd (none_some_lem (ends.Bad at reason) (only_frames k (QueueWritten taken) tt) why)

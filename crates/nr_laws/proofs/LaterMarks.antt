@@ -8,17 +8,17 @@ use Rattle.nr_reduce.specs.declared.outline.Plan.{Plan}
 use Rattle.nr_laws.specs.MarkAt.{MarkAt}
 use Rattle.nr_laws.specs.Payloads.{HasPlan}
 
-pub mark-later : (run before : List Mark) (mark : Mark) (after earlier : List Mark) (own : Mark) → run ≡ before ++ mark ∷ after → MarkAt before earlier own → MarkAt run earlier own
-mark-later run before mark after earlier own is at = record {
+pub mark_later : (run before : List Mark) (mark : Mark) (after earlier : List Mark) (own : Mark) → run ≡ before ++ mark ∷ after → MarkAt before earlier own → MarkAt run earlier own
+mark_later run before mark after earlier own is at = record {
   after = at.after ++ mark ∷ after;
   is = is ∙ ap (λ (b : List Mark). b ++ mark ∷ after) at.is ∙ append_assoc earlier (own ∷ at.after) (mark ∷ after);
 }
 
-abbrev pub plan-later : (opened : LinkParameters) (link : ℕ) (run before : List Mark) (mark : Mark) (after : List Mark) (xid : ℕ) (plan : Plan) → run ≡ before ++ mark ∷ after → HasPlan opened link before xid plan → HasPlan opened link run xid plan
-plan-later opened link run before mark after xid plan is has = record {
+abbrev pub plan_later : (opened : LinkParameters) (link : ℕ) (run before : List Mark) (mark : Mark) (after : List Mark) (xid : ℕ) (plan : Plan) → run ≡ before ++ mark ∷ after → HasPlan opened link before xid plan → HasPlan opened link run xid plan
+plan_later opened link run before mark after xid plan is has = record {
   call = has.call;
   form = has.form;
   before = has.before;
-  at = mark-later run before mark after has.before (marks.Submit link has.call has.form (submissions.Accepted xid)) is has.at;
+  at = mark_later run before mark after has.before (marks.Submit link has.call has.form (submissions.Accepted xid)) is has.at;
   planned = has.planned;
 }

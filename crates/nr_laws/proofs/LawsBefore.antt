@@ -4,13 +4,13 @@ use Rattle.nr_reduce.specs.Credits.{WithinGrant}
 use Rattle.nr_reduce.specs.Matched.{MatchedMark}
 use Rattle.nr_reduce.specs.Asked.{AskedMark, IsAll}
 use Rattle.nr_reduce.specs.Served.{ServedMark}
-use Rattle.nr_reduce.proofs.Steps.{AtEachMark-first}
+use Rattle.nr_reduce.proofs.Steps.{AtEachMark_first}
 use Rattle.nr_laws.specs.EndCauses.{LawsKeptBefore}
 
-pub laws-kept-before : LawsKeptBefore
-laws-kept-before opened link run more laws = record {
-  client = AtEachMark-first (AskedMark IsAll opened link) [] run more laws.client;
-  server = AtEachMark-first (ServedMark IsAll opened link) [] run more laws.server;
-  matched = AtEachMark-first (MatchedMark link) [] run more laws.matched;
-  grant = AtEachMark-first (WithinGrant opened link) [] run more laws.grant;
+pub laws_kept_before : LawsKeptBefore
+laws_kept_before opened link run more laws = record {
+  client = AtEachMark_first (AskedMark IsAll opened link) [] run more laws.client;
+  server = AtEachMark_first (ServedMark IsAll opened link) [] run more laws.server;
+  matched = AtEachMark_first (MatchedMark link) [] run more laws.matched;
+  grant = AtEachMark_first (WithinGrant opened link) [] run more laws.grant;
 }

@@ -1,7 +1,7 @@
 pub mod FrameContents
 pub mod LinkInvariants
 pub mod EndsWaiting
-pub mod Along
+pub mod EventOutputs
 pub mod Brought
 pub mod ClientRun
 pub mod ClientSays
@@ -9,7 +9,7 @@ pub mod ClientAlong
 pub mod ExecutedCalls
 pub mod HeaderXid
 pub mod Flows
-pub mod Hears
+pub mod ReceivedMessages
 pub mod Outputs
 pub mod Messages
 pub mod OnceByXid
@@ -35,7 +35,7 @@ pub mod PendingSinks
 pub mod SinksKept
 pub mod ReadyCauses
 pub mod ReadsAlong
-pub mod Beyond
+pub mod LaterFrames
 pub mod Revoked
 pub mod RevokedEvents
 pub mod Frozen
@@ -49,16 +49,16 @@ pub mod BoundedSides
 pub mod SegmentedMessages
 pub mod Completions
 pub mod Replied
-pub mod Otherwise
+pub mod ReplyStreams
 pub mod Completed
-pub mod Twice
+pub mod AtMostOnce
 pub mod Words
 pub mod StreamFrames
 pub mod Totals
 pub mod TotalsAtClient
 pub mod TotalsAtServer
 pub mod CompletedFrames
-pub mod Keys
+pub mod DistinctKeys
 pub mod OwnXids
 pub mod NothingLeft
 pub mod OutputFrames

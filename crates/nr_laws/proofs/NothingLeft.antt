@@ -23,9 +23,9 @@ none_waits reads ready (c ∷ calls) free none h =
     no-contradiction : false ≡ true → ⊥
     no-contradiction e = absurd cc
 
-greeted-is : (b : Bool) (n : ℕ) → hello_bit b ≡ 1 → cond b n 0 ≡ n
-greeted-is true n e = refl
-greeted-is false n e = absurd (omega (arith, e))
+greeted_is : (b : Bool) (n : ℕ) → hello_bit b ≡ 1 → cond b n 0 ≡ n
+greeted_is true n e = refl
+greeted_is false n e = absurd (omega (arith, e))
 
 abbrev pub nothing_in_transit : Transit
 nothing_in_transit = record { queued_up = []; up = []; queued_down = []; down = [] }
@@ -34,5 +34,5 @@ pub quiet : (opened : LinkParameters) (k : ClientState) (s : ServerState) → To
 quiet opened k s c h none =
     let no_reads : s.reads ≡ [] = none_open s.reads c.reads in
     let no_calls : length s.calls ≡ 0 = ap (λ (cs : List PendingCall). length cs) (none_waits s.reads s.ready s.calls no_reads none h) in
-    let all : calls_sent k ≡ k.calls_accepted = greeted-is k.has_hello k.calls_accepted (omega (arith, c.hello)) in
+    let all : calls_sent k ≡ k.calls_accepted = greeted_is k.has_hello k.calls_accepted (omega (arith, c.hello)) in
     nothing_left k.outstanding (omega (arith, c.out, c.calls_up, c.messages_down, c.waiting, no_calls, all))

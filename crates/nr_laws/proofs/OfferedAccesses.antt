@@ -14,13 +14,13 @@ use Rattle.nr_link.specs.Limits.{open_reads_max}
 use Rattle.nr_reduce.specs.declared.mark.LinkParameters.{LinkParameters}
 use Rattle.nr_reduce.specs.OfferedRegions.{Region, closed_if, regions_closed}
 use Rattle.nr_reduce.specs.Holds.{first_chunk, no_segments}
-use Rattle.nr_reduce.specs.Undone.{lists_by}
+use Rattle.nr_reduce.specs.ChunkBytes.{lists_by}
 use Rattle.nr_reduce.specs.ClientState.{ClientState, OutstandingCall}
 use Rattle.nr_reduce.specs.ServerState.{ServerState, PendingCall, PendingRead}
 use Rattle.nr_laws.proofs.FrameContents.{FrameContent, call_frame}
 use Rattle.nr_laws.proofs.FrameContents.FrameContent.{HelloFrame, SendFrame, RequestFrame, TaggedFrame}
-use Rattle.nr_laws.proofs.AnsweredCalls.{message_xids, times, xids-append, times-append}
-use Rattle.nr_laws.proofs.Basics.{each-all}
+use Rattle.nr_laws.proofs.AnsweredCalls.{message_xids, times, xids_append, times_append}
+use Rattle.nr_laws.proofs.Basics.{each_all}
 
 -- ---- What is offered
 
@@ -103,88 +103,88 @@ pub record AccessesAgree (opened : LinkParameters) (k : ClientState) (s : Server
 abbrev pub OffersMore : List Region → List Region → Type 0
 OffersMore regions others = (xid stag : ℕ) (right : Right) (n : ℕ) → IsOffered xid stag right n regions → IsOffered xid stag right n others
 
-pub offers-same : (regions : List Region) → OffersMore regions regions
-offers-same regions xid stag right n h = h
+pub offers_same : (regions : List Region) → OffersMore regions regions
+offers_same regions xid stag right n h = h
 
-pub offers-left : (regions more : List Region) → OffersMore regions (regions ++ more)
-offers-left [] more xid stag right n h = absurd h
-offers-left (g ∷ regions) more xid stag right n (inl h) = inl h
-offers-left (g ∷ regions) more xid stag right n (inr h) = inr (offers-left regions more xid stag right n h)
+pub offers_left : (regions more : List Region) → OffersMore regions (regions ++ more)
+offers_left [] more xid stag right n h = absurd h
+offers_left (g ∷ regions) more xid stag right n (inl h) = inl h
+offers_left (g ∷ regions) more xid stag right n (inr h) = inr (offers_left regions more xid stag right n h)
 
-pub offers-right : (regions more : List Region) → OffersMore more (regions ++ more)
-offers-right [] more xid stag right n h = h
-offers-right (g ∷ regions) more xid stag right n h = inr (offers-right regions more xid stag right n h)
+pub offers_right : (regions more : List Region) → OffersMore more (regions ++ more)
+offers_right [] more xid stag right n h = h
+offers_right (g ∷ regions) more xid stag right n h = inr (offers_right regions more xid stag right n h)
 
-pub offers-closed : (test : Region → Bool) (place : ℕ) (regions : List Region) → OffersMore regions (regions_closed test place regions)
+pub offers_closed : (test : Region → Bool) (place : ℕ) (regions : List Region) → OffersMore regions (regions_closed test place regions)
 unfolding regions_closed
-offers-closed test place [] xid stag right n h = absurd h
-offers-closed test place (g ∷ regions) xid stag right n (inr h) = inr (offers-closed test place regions xid stag right n h)
-offers-closed test place (g ∷ regions) xid stag right n (inl h) = inl (by (test g))
+offers_closed test place [] xid stag right n h = absurd h
+offers_closed test place (g ∷ regions) xid stag right n (inr h) = inr (offers_closed test place regions xid stag right n h)
+offers_closed test place (g ∷ regions) xid stag right n (inl h) = inl (by (test g))
   where
     by : (b : Bool) → IsRegionOf xid stag right n (closed_if b place g)
     by true = record { own_stag = h.own_stag; own_call = h.own_call; own_right = h.own_right; room = h.room }
     by false = h
 
-pub lists-more : (regions others : List Region) (xid : ℕ) (lists : ChunkLists) → OffersMore regions others → ListsOffered regions xid lists → ListsOffered others xid lists
-lists-more regions others xid lists f h = record {
-  write = each-all (PartOffered regions xid) (PartOffered others xid) (first_chunk lists.write) (λ p x. f xid p.handle Fill (p.offset + p.length) x) h.write;
-  reply = each-all (PartOffered regions xid) (PartOffered others xid) (no_segments lists.reply) (λ p x. f xid p.handle Fill (p.offset + p.length) x) h.reply;
-  read = each-all (EntryOffered regions xid) (EntryOffered others xid) lists.read (λ r x. f xid r.handle Fetch (r.offset + r.length) x) h.read;
+pub lists_more : (regions others : List Region) (xid : ℕ) (lists : ChunkLists) → OffersMore regions others → ListsOffered regions xid lists → ListsOffered others xid lists
+lists_more regions others xid lists f h = record {
+  write = each_all (PartOffered regions xid) (PartOffered others xid) (first_chunk lists.write) (λ p x. f xid p.handle Fill (p.offset + p.length) x) h.write;
+  reply = each_all (PartOffered regions xid) (PartOffered others xid) (no_segments lists.reply) (λ p x. f xid p.handle Fill (p.offset + p.length) x) h.reply;
+  read = each_all (EntryOffered regions xid) (EntryOffered others xid) lists.read (λ r x. f xid r.handle Fetch (r.offset + r.length) x) h.read;
 }
 
-pub message-more : (regions others : List Region) → OffersMore regions others → (p : FrameContent) → MessageOffered regions p → MessageOffered others p
-message-more regions others f HelloFrame h = tt
-message-more regions others f (SendFrame message) h = λ header is. lists-more regions others (word_at 0 message) (lists_by header.body) f (h header is)
-message-more regions others f (RequestFrame sink at size stag to) h = tt
-message-more regions others f (TaggedFrame last opcode stag to payload) h = tt
+pub message_more : (regions others : List Region) → OffersMore regions others → (p : FrameContent) → MessageOffered regions p → MessageOffered others p
+message_more regions others f HelloFrame h = tt
+message_more regions others f (SendFrame message) h = λ header is. lists_more regions others (word_at 0 message) (lists_by header.body) f (h header is)
+message_more regions others f (RequestFrame sink at size stag to) h = tt
+message_more regions others f (TaggedFrame last opcode stag to payload) h = tt
 
-pub read-more : (regions others : List Region) → OffersMore regions others → (calls : List PendingCall) (r : PendingRead) → ReadOffered regions calls r → ReadOffered others calls r
-read-more regions others f [] r h = absurd h
-read-more regions others f (c ∷ calls) r (inl h) = inl (h.0, f c.xid r.stag Fetch (r.to + r.size) h.1)
-read-more regions others f (c ∷ calls) r (inr h) = inr (read-more regions others f calls r h)
+pub read_more_lem : (regions others : List Region) → OffersMore regions others → (calls : List PendingCall) (r : PendingRead) → ReadOffered regions calls r → ReadOffered others calls r
+read_more_lem regions others f [] r h = absurd h
+read_more_lem regions others f (c ∷ calls) r (inl h) = inl (h.0, f c.xid r.stag Fetch (r.to + r.size) h.1)
+read_more_lem regions others f (c ∷ calls) r (inr h) = inr (read_more_lem regions others f calls r h)
 
-access-more : (regions others : List Region) → OffersMore regions others → (answered : List ℕ) (p : FrameContent) → IsAccess regions answered p → IsAccess others answered p
-access-more regions others f answered HelloFrame h = tt
-access-more regions others f answered (SendFrame message) h = tt
-access-more regions others f answered (RequestFrame sink at size stag to) h = (h.0, h.1, f h.0 stag Fetch (to + size) h.2)
-access-more regions others f answered (TaggedFrame last opcode stag to payload) h = (h.0, h.1, f h.0 stag Fill (to + length payload) h.2)
+access_more : (regions others : List Region) → OffersMore regions others → (answered : List ℕ) (p : FrameContent) → IsAccess regions answered p → IsAccess others answered p
+access_more regions others f answered HelloFrame h = tt
+access_more regions others f answered (SendFrame message) h = tt
+access_more regions others f answered (RequestFrame sink at size stag to) h = (h.0, h.1, f h.0 stag Fetch (to + size) h.2)
+access_more regions others f answered (TaggedFrame last opcode stag to payload) h = (h.0, h.1, f h.0 stag Fill (to + length payload) h.2)
 
-pub accesses-more : (regions others : List Region) → OffersMore regions others → (before ps : List FrameContent) → AreAccesses regions before ps → AreAccesses others before ps
-accesses-more regions others f before [] h = tt
-accesses-more regions others f before (p ∷ ps) h = (access-more regions others f (message_xids before) p h.0, accesses-more regions others f (before ++ p ∷ []) ps h.1)
+pub accesses_more : (regions others : List Region) → OffersMore regions others → (before ps : List FrameContent) → AreAccesses regions before ps → AreAccesses others before ps
+accesses_more regions others f before [] h = tt
+accesses_more regions others f before (p ∷ ps) h = (access_more regions others f (message_xids before) p h.0, accesses_more regions others f (before ++ p ∷ []) ps h.1)
 
-pub offered-less : (xid stag : ℕ) (right : Right) (n m : ℕ) (regions : List Region) → n ≤ m → IsOffered xid stag right m regions → IsOffered xid stag right n regions
-offered-less xid stag right n m [] le h = absurd h
-offered-less xid stag right n m (g ∷ regions) le (inl h) = inl (record { own_stag = h.own_stag; own_call = h.own_call; own_right = h.own_right; room = omega (arith, le, h.room) })
-offered-less xid stag right n m (g ∷ regions) le (inr h) = inr (offered-less xid stag right n m regions le h)
+pub offered_less : (xid stag : ℕ) (right : Right) (n m : ℕ) (regions : List Region) → n ≤ m → IsOffered xid stag right m regions → IsOffered xid stag right n regions
+offered_less xid stag right n m [] le h = absurd h
+offered_less xid stag right n m (g ∷ regions) le (inl h) = inl (record { own_stag = h.own_stag; own_call = h.own_call; own_right = h.own_right; room = omega (arith, le, h.room) })
+offered_less xid stag right n m (g ∷ regions) le (inr h) = inr (offered_less xid stag right n m regions le h)
 
 -- ---- Frames behind others
 
-pub accesses-append : (regions : List Region) (before ps qs : List FrameContent) → AreAccesses regions before ps → AreAccesses regions (before ++ ps) qs → AreAccesses regions before (ps ++ qs)
-accesses-append regions before [] qs h k = subst (λ (xs : List FrameContent). AreAccesses regions xs qs) (append-nil before) k
-accesses-append regions before (p ∷ ps) qs h k =
-    (h.0, accesses-append regions (before ++ p ∷ []) ps qs h.1 (subst (λ (xs : List FrameContent). AreAccesses regions xs qs) (sym (append_assoc before (p ∷ []) ps)) k))
+pub accesses_append : (regions : List Region) (before ps qs : List FrameContent) → AreAccesses regions before ps → AreAccesses regions (before ++ ps) qs → AreAccesses regions before (ps ++ qs)
+accesses_append regions before [] qs h k = subst (λ (xs : List FrameContent). AreAccesses regions xs qs) (append-nil before) k
+accesses_append regions before (p ∷ ps) qs h k =
+    (h.0, accesses_append regions (before ++ p ∷ []) ps qs h.1 (subst (λ (xs : List FrameContent). AreAccesses regions xs qs) (sym (append_assoc before (p ∷ []) ps)) k))
 
-pub access-at : (regions : List Region) (before ps : List FrameContent) (p : FrameContent) (qs : List FrameContent) → AreAccesses regions before (ps ++ p ∷ qs) → IsAccess regions (message_xids (before ++ ps)) p
-access-at regions before [] p qs h = subst (λ (xs : List FrameContent). IsAccess regions (message_xids xs) p) (sym (append-nil before)) h.0
-access-at regions before (x ∷ ps) p qs h = subst (λ (xs : List FrameContent). IsAccess regions (message_xids xs) p) (append_assoc before (x ∷ []) ps) (access-at regions (before ++ x ∷ []) ps p qs h.1)
+pub access_at : (regions : List Region) (before ps : List FrameContent) (p : FrameContent) (qs : List FrameContent) → AreAccesses regions before (ps ++ p ∷ qs) → IsAccess regions (message_xids (before ++ ps)) p
+access_at regions before [] p qs h = subst (λ (xs : List FrameContent). IsAccess regions (message_xids xs) p) (sym (append-nil before)) h.0
+access_at regions before (x ∷ ps) p qs h = subst (λ (xs : List FrameContent). IsAccess regions (message_xids xs) p) (append_assoc before (x ∷ []) ps) (access_at regions (before ++ x ∷ []) ps p qs h.1)
 
 -- what isn't answered by all of some frames isn't by the first of them
-access-earlier : (regions : List Region) (answered later : List ℕ) → ((x : ℕ) → times x answered ≤ times x later) → (p : FrameContent) → IsAccess regions later p → IsAccess regions answered p
-access-earlier regions answered later le HelloFrame h = tt
-access-earlier regions answered later le (SendFrame message) h = tt
-access-earlier regions answered later le (RequestFrame sink at size stag to) h = (h.0, omega (arith, le h.0, h.1), h.2)
-access-earlier regions answered later le (TaggedFrame last opcode stag to payload) h = (h.0, omega (arith, le h.0, h.1), h.2)
+access_earlier : (regions : List Region) (answered later : List ℕ) → ((x : ℕ) → times x answered ≤ times x later) → (p : FrameContent) → IsAccess regions later p → IsAccess regions answered p
+access_earlier regions answered later le HelloFrame h = tt
+access_earlier regions answered later le (SendFrame message) h = tt
+access_earlier regions answered later le (RequestFrame sink at size stag to) h = (h.0, omega (arith, le h.0, h.1), h.2)
+access_earlier regions answered later le (TaggedFrame last opcode stag to payload) h = (h.0, omega (arith, le h.0, h.1), h.2)
 
-pub accesses-each : (regions : List Region) (before ps : List FrameContent) → AllByRecursion (IsAccess regions (message_xids (before ++ ps))) ps → AreAccesses regions before ps
-accesses-each regions before [] h = tt
-accesses-each regions before (p ∷ ps) h = (
-  access-earlier regions (message_xids before) (message_xids (before ++ p ∷ ps))
-      (λ x. omega (arith, ap (λ (xs : List ℕ). times x xs) (xids-append before (p ∷ ps)), times-append x (message_xids before) (message_xids (p ∷ ps)))) p h.0,
-  accesses-each regions (before ++ p ∷ []) ps (subst (λ (xs : List FrameContent). AllByRecursion (IsAccess regions (message_xids xs)) ps) (sym (append_assoc before (p ∷ []) ps)) h.1),
+pub accesses_each : (regions : List Region) (before ps : List FrameContent) → AllByRecursion (IsAccess regions (message_xids (before ++ ps))) ps → AreAccesses regions before ps
+accesses_each regions before [] h = tt
+accesses_each regions before (p ∷ ps) h = (
+  access_earlier regions (message_xids before) (message_xids (before ++ p ∷ ps))
+      (λ x. omega (arith, ap (λ (xs : List ℕ). times x xs) (xids_append before (p ∷ ps)), times_append x (message_xids before) (message_xids (p ∷ ps)))) p h.0,
+  accesses_each regions (before ++ p ∷ []) ps (subst (λ (xs : List FrameContent). AllByRecursion (IsAccess regions (message_xids xs)) ps) (sym (append_assoc before (p ∷ []) ps)) h.1),
 )
 
 -- messages access nothing
-pub accesses-messages : (regions : List Region) (before : List FrameContent) (messages : List (List ℕ)) → AreAccesses regions before (map SendFrame messages)
-accesses-messages regions before [] = tt
-accesses-messages regions before (m ∷ messages) = (tt, accesses-messages regions (before ++ SendFrame m ∷ []) messages)
+pub accesses_messages : (regions : List Region) (before : List FrameContent) (messages : List (List ℕ)) → AreAccesses regions before (map SendFrame messages)
+accesses_messages regions before [] = tt
+accesses_messages regions before (m ∷ messages) = (tt, accesses_messages regions (before ++ SendFrame m ∷ []) messages)

@@ -7,15 +7,15 @@ use Rattle.nr_link.specs.Frames.{Frame, is_hello}
 use Rattle.nr_link.specs.Ending.{frame_segment}
 use Rattle.nr_reduce.specs.declared.mark.LinkParameters.{LinkParameters}
 use Rattle.nr_reduce.specs.Plans.{Buffer, buffers}
-use Rattle.nr_reduce.specs.Events.{Event, events}
-use Rattle.nr_reduce.specs.Events.Event.{FrameReceived, CallSubmitted, MemoryRevoked, CallExecuted, QueueWritten}
+use Rattle.nr_reduce.specs.Events.{RunEvent, events}
+use Rattle.nr_reduce.specs.Events.RunEvent.{FrameReceived, CallSubmitted, MemoryRevoked, CallExecuted, QueueWritten}
 use Rattle.nr_reduce.specs.EndRules.{EndState, next_end_state, next_end_state_by, next_end_state_in, end_state_after}
 use Rattle.nr_reduce.specs.OfferedRegions.{Region, closed_if, regions_closed}
 use Rattle.nr_reduce.specs.ClientState.{ClientState}
 use Rattle.nr_reduce.specs.Client.{client_rules, client_end, client_state_after, initial_client, outstanding_of, region_of, with_segment, with_hello, due_with_response}
 use Rattle.nr_reduce.specs.Run.{client}
-use Rattle.nr_reduce.proofs.Steps.{end_state_after-append}
-use Rattle.nr_reduce.proofs.OwnStags.{kept-after}
+use Rattle.nr_reduce.proofs.Steps.{end_state_after_append}
+use Rattle.nr_reduce.proofs.OwnStags.{kept_after}
 use Rattle.std.proofs.Common.{not, eqb, inl, inr, ◌⊎◌, Result, Ok, Err}
 use Rattle.std.specs.List.{filter}
 use Rattle.nr_xdr.specs.Fields.{word_at}
@@ -25,62 +25,62 @@ use Rattle.nr_reduce.specs.OfferedRegions.{until_at}
 use Rattle.nr_reduce.specs.ClientState.{OutstandingCall}
 use Rattle.nr_reduce.specs.Client.{with_message, with_request, revoked_call}
 use Rattle.nr_laws.specs.ClientRegions.{IsChunkOfCall, ClientRegionsAreChunks, LiveClientRegionsAreOutstanding}
-use Rattle.nr_laws.proofs.Revoked.{frame-regions}
+use Rattle.nr_laws.proofs.Revoked.{frame_regions}
 
 abbrev AllOf : (Region → Type 0) → List Region → Type 0
 AllOf P [] = Unit {0}
 AllOf P (r ∷ regions) = P r × AllOf P regions
 
-all-append : (P : Region → Type 0) (xs ys : List Region) → AllOf P xs → AllOf P ys → AllOf P (xs ++ ys)
-all-append P [] ys h k = k
-all-append P (x ∷ xs) ys h k = (h.0, all-append P xs ys h.1 k)
+all_append : (P : Region → Type 0) (xs ys : List Region) → AllOf P xs → AllOf P ys → AllOf P (xs ++ ys)
+all_append P [] ys h k = k
+all_append P (x ∷ xs) ys h k = (h.0, all_append P xs ys h.1 k)
 
-all-map : (P Q : Region → Type 0) → ((r : Region) → P r → Q r) → (xs : List Region) → AllOf P xs → AllOf Q xs
-all-map P Q f [] h = tt
-all-map P Q f (x ∷ xs) h = (f x h.0, all-map P Q f xs h.1)
+all_map_lem : (P Q : Region → Type 0) → ((r : Region) → P r → Q r) → (xs : List Region) → AllOf P xs → AllOf Q xs
+all_map_lem P Q f [] h = tt
+all_map_lem P Q f (x ∷ xs) h = (f x h.0, all_map_lem P Q f xs h.1)
 
-all-at : (P : Region → Type 0) (k : ℕ) (xs : List Region) (r : Region) → AllOf P xs → k < length xs → slice_index_or xs k r ≡ r → P r
-all-at P k [] r h lt is = absurd (omega (arith, lt))
-all-at P zero (x ∷ xs) r h lt is = subst P is h.0
-all-at P (suc k) (x ∷ xs) r h lt is = all-at P k xs r h.1 (omega (arith, lt)) is
+all_at : (P : Region → Type 0) (k : ℕ) (xs : List Region) (r : Region) → AllOf P xs → k < length xs → slice_index_or xs k r ≡ r → P r
+all_at P k [] r h lt is = absurd (omega (arith, lt))
+all_at P zero (x ∷ xs) r h lt is = subst P is h.0
+all_at P (suc k) (x ∷ xs) r h lt is = all_at P k xs r h.1 (omega (arith, lt)) is
 
-all-closed : (P : Region → Type 0) → ((b : Bool) (place : ℕ) (r : Region) → P r → P (closed_if b place r)) → (test : Region → Bool) (place : ℕ) (xs : List Region) → AllOf P xs → AllOf P (regions_closed test place xs)
+all_closed_lem : (P : Region → Type 0) → ((b : Bool) (place : ℕ) (r : Region) → P r → P (closed_if b place r)) → (test : Region → Bool) (place : ℕ) (xs : List Region) → AllOf P xs → AllOf P (regions_closed test place xs)
 unfolding regions_closed
-all-closed P keeps test place [] h = tt
-all-closed P keeps test place (x ∷ xs) h = (keeps (test x) place x h.0, all-closed P keeps test place xs h.1)
+all_closed_lem P keeps test place [] h = tt
+all_closed_lem P keeps test place (x ∷ xs) h = (keeps (test x) place x h.0, all_closed_lem P keeps test place xs h.1)
 
 middle : (pre : List Region) (x : Region) (post : List Region) → Contains (pre ++ x ∷ post) x
 middle [] x post = (zero, omega (arith), refl)
 middle (p ∷ pre) x post = (let m = middle pre x post in (suc m.0, (let lt = m.1 in omega (arith, lt)), m.2))
 
-new-chunks : (xid place : ℕ) (all pre : List Region) (bs : List Buffer) → all ≡ pre ++ map (region_of xid place) bs → AllOf (λ (r : Region). Contains all (record r { until = None })) (map (region_of xid place) bs)
-new-chunks xid place all pre [] is = tt
-new-chunks xid place all pre (b ∷ bs) is = (
+new_chunks : (xid place : ℕ) (all pre : List Region) (bs : List Buffer) → all ≡ pre ++ map (region_of xid place) bs → AllOf (λ (r : Region). Contains all (record r { until = None })) (map (region_of xid place) bs)
+new_chunks xid place all pre [] is = tt
+new_chunks xid place all pre (b ∷ bs) is = (
   subst (λ (xs : List Region). Contains xs (region_of xid place b)) (sym is) (middle pre (region_of xid place b) (map (region_of xid place) bs)),
-  new-chunks xid place all (pre ++ region_of xid place b ∷ []) bs (is ∙ sym (append_assoc pre (region_of xid place b ∷ []) (map (region_of xid place) bs))),
+  new_chunks xid place all (pre ++ region_of xid place b ∷ []) bs (is ∙ sym (append_assoc pre (region_of xid place b ∷ []) (map (region_of xid place) bs))),
 )
 
-chunk-more : (opened : LinkParameters) (es more : List Event) (r : Region) → IsChunkOfCall opened es r → IsChunkOfCall opened (es ++ more) r
-chunk-more opened es more r h = record {
+chunk_more : (opened : LinkParameters) (es more : List RunEvent) (r : Region) → IsChunkOfCall opened es r → IsChunkOfCall opened (es ++ more) r
+chunk_more opened es more r h = record {
   earlier = h.earlier;
   later = h.later ++ more;
   place = h.place;
   call = h.call;
-  is_submitted = ap (λ (xs : List Event). xs ++ more) h.is_submitted ∙ append_assoc h.earlier (CallSubmitted h.place h.call ∷ h.later) more;
+  is_submitted = ap (λ (xs : List RunEvent). xs ++ more) h.is_submitted ∙ append_assoc h.earlier (CallSubmitted h.place h.call ∷ h.later) more;
   chunk = h.chunk;
 }
 
-chunk-closed : (opened : LinkParameters) (es : List Event) (b : Bool) (place : ℕ) (r : Region) → IsChunkOfCall opened es r → IsChunkOfCall opened es (closed_if b place r)
-chunk-closed opened es false place r h = h
-chunk-closed opened es true place r h = record { earlier = h.earlier; later = h.later; place = h.place; call = h.call; is_submitted = h.is_submitted; chunk = h.chunk }
+chunk_closed : (opened : LinkParameters) (es : List RunEvent) (b : Bool) (place : ℕ) (r : Region) → IsChunkOfCall opened es r → IsChunkOfCall opened es (closed_if b place r)
+chunk_closed opened es false place r h = h
+chunk_closed opened es true place r h = record { earlier = h.earlier; later = h.later; place = h.place; call = h.call; is_submitted = h.is_submitted; chunk = h.chunk }
 
-abbrev state_at : LinkParameters → List Event → EndState ClientState
+abbrev state_at : LinkParameters → List RunEvent → EndState ClientState
 state_at opened es = end_state_after (client_rules opened) (initial_client opened) es
 
-one-event : (opened : LinkParameters) (es : List Event) (e : Event) → AllOf (IsChunkOfCall opened es) (state_at opened es).state.regions
+one_event : (opened : LinkParameters) (es : List RunEvent) (e : RunEvent) → AllOf (IsChunkOfCall opened es) (state_at opened es).state.regions
     → AllOf (IsChunkOfCall opened (es ++ e ∷ [])) (next_end_state (client_rules opened) (state_at opened es) e).state.regions
 unfolding client_state_after
-one-event opened es e h = by_ended (state_at opened es).ended
+one_event opened es e h = by_ended (state_at opened es).ended
   where
     k : ClientState
     k = (state_at opened es).state
@@ -89,21 +89,21 @@ one-event opened es e h = by_ended (state_at opened es).ended
     P = IsChunkOfCall opened (es ++ e ∷ [])
 
     same : AllOf P k.regions
-    same = all-map (IsChunkOfCall opened es) P (chunk-more opened es (e ∷ [])) k.regions h
+    same = all_map_lem (IsChunkOfCall opened es) P (chunk_more opened es (e ∷ [])) k.regions h
 
-    by_event : (x : Event) → e ≡ x → AllOf P (client_state_after opened k x).regions
+    by_event : (x : RunEvent) → e ≡ x → AllOf P (client_state_after opened k x).regions
     by_event (FrameReceived f) is = by_hello (is_hello f)
       where
         by_hello : (b : Bool) → AllOf P (cond b (with_hello opened k) (with_segment k f (frame_segment f))).regions
         by_hello true = same
-        by_hello false = frame-regions (AllOf P) k f (λ test g. all-closed P (chunk-closed opened (es ++ e ∷ [])) test f.end k.regions g) same (frame_segment f)
+        by_hello false = frame_regions (AllOf P) k f (λ test g. all_closed_lem P (chunk_closed opened (es ++ e ∷ [])) test f.end k.regions g) same (frame_segment f)
     by_event (CallSubmitted place a) is =
         let new : List Region = map (region_of a.xid place) (buffers k.stag (outstanding_of k a).plan) in
-        all-append P k.regions new same
-        (all-map (λ (r : Region). Contains new (record r { until = None })) P
-        (λ r c. record { earlier = es; later = []; place = place; call = a; is_submitted = ap (λ (x : Event). es ++ x ∷ []) is; chunk = c })
-        new (new-chunks a.xid place new [] (buffers k.stag (outstanding_of k a).plan) refl))
-    by_event (MemoryRevoked place xid) is = all-closed P (chunk-closed opened (es ++ e ∷ [])) _ place k.regions same
+        all_append P k.regions new same
+        (all_map_lem (λ (r : Region). Contains new (record r { until = None })) P
+        (λ r c. record { earlier = es; later = []; place = place; call = a; is_submitted = ap (λ (x : RunEvent). es ++ x ∷ []) is; chunk = c })
+        new (new_chunks a.xid place new [] (buffers k.stag (outstanding_of k a).plan) refl))
+    by_event (MemoryRevoked place xid) is = all_closed_lem P (chunk_closed opened (es ++ e ∷ [])) _ place k.regions same
     by_event (CallExecuted call) is = same
     by_event (QueueWritten taken) is = same
 
@@ -115,16 +115,16 @@ one-event opened es e h = by_ended (state_at opened es).ended
     by_ended None = by_why (client_end k e)
     by_ended (Some end) = same
 
-all-events : (opened : LinkParameters) (front es : List Event) → AllOf (IsChunkOfCall opened front) (state_at opened front).state.regions → AllOf (IsChunkOfCall opened (front ++ es)) (state_at opened (front ++ es)).state.regions
-all-events opened front [] h = subst (λ (xs : List Event). AllOf (IsChunkOfCall opened xs) (state_at opened xs).state.regions) (sym (append-nil front)) h
-all-events opened front (e ∷ es) h =
-    let one = subst (λ (r : EndState ClientState). AllOf (IsChunkOfCall opened (front ++ e ∷ [])) r.state.regions) (sym (end_state_after-append (client_rules opened) (initial_client opened) front (e ∷ []))) (one-event opened front e h) in
-    subst (λ (xs : List Event). AllOf (IsChunkOfCall opened xs) (state_at opened xs).state.regions) (append_assoc front (e ∷ []) es) (all-events opened (front ++ e ∷ []) es one)
+all_events : (opened : LinkParameters) (front es : List RunEvent) → AllOf (IsChunkOfCall opened front) (state_at opened front).state.regions → AllOf (IsChunkOfCall opened (front ++ es)) (state_at opened (front ++ es)).state.regions
+all_events opened front [] h = subst (λ (xs : List RunEvent). AllOf (IsChunkOfCall opened xs) (state_at opened xs).state.regions) (sym (append-nil front)) h
+all_events opened front (e ∷ es) h =
+    let one = subst (λ (r : EndState ClientState). AllOf (IsChunkOfCall opened (front ++ e ∷ [])) r.state.regions) (sym (end_state_after_append (client_rules opened) (initial_client opened) front (e ∷ []))) (one_event opened front e h) in
+    subst (λ (xs : List RunEvent). AllOf (IsChunkOfCall opened xs) (state_at opened xs).state.regions) (append_assoc front (e ∷ []) es) (all_events opened (front ++ e ∷ []) es one)
 
 pub client_regions_are_chunks : ClientRegionsAreChunks
 unfolding client
 client_regions_are_chunks opened link run r there =
-    all-at (IsChunkOfCall opened (events link Initiator run)) there.0 _ r (all-events opened [] (events link Initiator run) tt) there.1 there.2
+    all_at (IsChunkOfCall opened (events link Initiator run)) there.0 _ r (all_events opened [] (events link Initiator run) tt) there.1 there.2
 
 -- ---- Until when they live
 
@@ -138,41 +138,41 @@ Lives os r = r.until ≡ None → HasCall r.call os
 abbrev AllLive : ClientState → Type 0
 AllLive k = AllOf (Lives k.outstanding) k.regions
 
-has-more : (xid : ℕ) (os more : List OutstandingCall) → HasCall xid os → HasCall xid (os ++ more)
-has-more xid [] more h = absurd h
-has-more xid (o ∷ os) more (inl h) = inl h
-has-more xid (o ∷ os) more (inr h) = inr (has-more xid os more h)
+has_more : (xid : ℕ) (os more : List OutstandingCall) → HasCall xid os → HasCall xid (os ++ more)
+has_more xid [] more h = absurd h
+has_more xid (o ∷ os) more (inl h) = inl h
+has_more xid (o ∷ os) more (inr h) = inr (has_more xid os more h)
 
-has-last : (xid : ℕ) (os : List OutstandingCall) (o : OutstandingCall) → o.xid ≡ xid → o.is_revoked ≡ false → HasCall xid (os ++ o ∷ [])
-has-last xid [] o own kept = inl (own, kept)
-has-last xid (x ∷ os) o own kept = inr (has-last xid os o own kept)
+has_last : (xid : ℕ) (os : List OutstandingCall) (o : OutstandingCall) → o.xid ≡ xid → o.is_revoked ≡ false → HasCall xid (os ++ o ∷ [])
+has_last xid [] o own kept = inl (own, kept)
+has_last xid (x ∷ os) o own kept = inr (has_last xid os o own kept)
 
-has-filtered : (w xid : ℕ) (os : List OutstandingCall) → eqb xid w ≡ false → HasCall xid os → HasCall xid (filter (λ o. not (eqb o.xid w)) os)
-has-filtered w xid [] other h = absurd h
-has-filtered w xid (o ∷ os) other (inl h) = by (eqb o.xid w) (ap (λ (x : ℕ). eqb x w) h.0 ∙ other)
+has_filtered : (w xid : ℕ) (os : List OutstandingCall) → eqb xid w ≡ false → HasCall xid os → HasCall xid (filter (λ o. not (eqb o.xid w)) os)
+has_filtered w xid [] other h = absurd h
+has_filtered w xid (o ∷ os) other (inl h) = by (eqb o.xid w) (ap (λ (x : ℕ). eqb x w) h.0 ∙ other)
   where
     by : (b : Bool) → b ≡ false → HasCall xid (cond (not b) (o ∷ filter (λ o. not (eqb o.xid w)) os) (filter (λ o. not (eqb o.xid w)) os))
     by false e = inl h
     by true e = absurd cc
-has-filtered w xid (o ∷ os) other (inr h) = by (eqb o.xid w) (has-filtered w xid os other h)
+has_filtered w xid (o ∷ os) other (inr h) = by (eqb o.xid w) (has_filtered w xid os other h)
   where
     by : (b : Bool) → HasCall xid (filter (λ o. not (eqb o.xid w)) os) → HasCall xid (cond (not b) (o ∷ filter (λ o. not (eqb o.xid w)) os) (filter (λ o. not (eqb o.xid w)) os))
     by false g = inr g
     by true g = g
 
-has-revoked : (w xid : ℕ) (os : List OutstandingCall) → eqb xid w ≡ false → HasCall xid os → HasCall xid (map (revoked_call w) os)
-has-revoked w xid [] other h = absurd h
-has-revoked w xid (o ∷ os) other (inl h) = inl (by (eqb o.xid w) (ap (λ (x : ℕ). eqb x w) h.0 ∙ other))
+has_revoked : (w xid : ℕ) (os : List OutstandingCall) → eqb xid w ≡ false → HasCall xid os → HasCall xid (map (revoked_call w) os)
+has_revoked w xid [] other h = absurd h
+has_revoked w xid (o ∷ os) other (inl h) = inl (by (eqb o.xid w) (ap (λ (x : ℕ). eqb x w) h.0 ∙ other))
   where
     by : (b : Bool) → b ≡ false → ((cond b (record o { is_revoked = true }) o).xid ≡ xid) × ((cond b (record o { is_revoked = true }) o).is_revoked ≡ false)
     by false e = h
     by true e = absurd cc
-has-revoked w xid (o ∷ os) other (inr h) = inr (has-revoked w xid os other h)
+has_revoked w xid (o ∷ os) other (inr h) = inr (has_revoked w xid os other h)
 
-lives-closed : (os after : List OutstandingCall) (w place : ℕ) → ((xid : ℕ) → eqb xid w ≡ false → HasCall xid os → HasCall xid after) → (xs : List Region) → AllOf (Lives os) xs → AllOf (Lives after) (regions_closed (λ r. eqb r.call w) place xs)
+lives_closed : (os after : List OutstandingCall) (w place : ℕ) → ((xid : ℕ) → eqb xid w ≡ false → HasCall xid os → HasCall xid after) → (xs : List Region) → AllOf (Lives os) xs → AllOf (Lives after) (regions_closed (λ r. eqb r.call w) place xs)
 unfolding regions_closed
-lives-closed os after w place keeps [] h = tt
-lives-closed os after w place keeps (r ∷ xs) h = (by (eqb r.call w) refl, lives-closed os after w place keeps xs h.1)
+lives_closed os after w place keeps [] h = tt
+lives_closed os after w place keeps (r ∷ xs) h = (by (eqb r.call w) refl, lives_closed os after w place keeps xs h.1)
   where
     some : (u : Option ℕ) → until_at place u ≡ None → ⊥
     some None e = (let t : Some place ≡ None = e in cc)
@@ -182,46 +182,46 @@ lives-closed os after w place keeps (r ∷ xs) h = (by (eqb r.call w) refl, live
     by true is = λ none. absurd (some r.until none)
     by false is = λ none. keeps r.call is (h.0 none)
 
-lives-new : (os : List OutstandingCall) (xid place : ℕ) (bs : List Buffer) → HasCall xid os → AllOf (Lives os) (map (region_of xid place) bs)
-lives-new os xid place [] h = tt
-lives-new os xid place (b ∷ bs) h = ((λ none. h), lives-new os xid place bs h)
+lives_new : (os : List OutstandingCall) (xid place : ℕ) (bs : List Buffer) → HasCall xid os → AllOf (Lives os) (map (region_of xid place) bs)
+lives_new os xid place [] h = tt
+lives_new os xid place (b ∷ bs) h = ((λ none. h), lives_new os xid place bs h)
 
-lives-message : (k : ClientState) (place : ℕ) (m : Option (List ℕ)) → AllLive k → AllLive (with_message k place m)
-lives-message k place None h = h
-lives-message k place (Some m) h = lives-closed k.outstanding (filter (λ o. not (eqb o.xid (word_at 0 m))) k.outstanding) (word_at 0 m) place (λ xid other g. has-filtered (word_at 0 m) xid k.outstanding other g) k.regions h
+lives_message : (k : ClientState) (place : ℕ) (m : Option (List ℕ)) → AllLive k → AllLive (with_message k place m)
+lives_message k place None h = h
+lives_message k place (Some m) h = lives_closed k.outstanding (filter (λ o. not (eqb o.xid (word_at 0 m))) k.outstanding) (word_at 0 m) place (λ xid other g. has_filtered (word_at 0 m) xid k.outstanding other g) k.regions h
 
-lives-request : (k : ClientState) (due : ℕ) (q : Option ReadRequest) → AllLive k → AllLive (with_request k due q)
-lives-request k due None h = h
-lives-request k due (Some q) h = h
+lives_request : (k : ClientState) (due : ℕ) (q : Option ReadRequest) → AllLive k → AllLive (with_request k due q)
+lives_request k due None h = h
+lives_request k due (Some q) h = h
 
-lives-segment : (k : ClientState) (f : Frame) (r : Result Segment ℕ) → AllLive k → AllLive (with_segment k f r)
-lives-segment k f (Err reason) h = h
-lives-segment k f (Ok s) h = lives-request (with_message k f.end (message_completed k.received s)) (due_with_response k f s) (read_request_of s) (lives-message k f.end (message_completed k.received s) h)
+lives_segment : (k : ClientState) (f : Frame) (r : Result Segment ℕ) → AllLive k → AllLive (with_segment k f r)
+lives_segment k f (Err reason) h = h
+lives_segment k f (Ok s) h = lives_request (with_message k f.end (message_completed k.received s)) (due_with_response k f s) (read_request_of s) (lives_message k f.end (message_completed k.received s) h)
 
-lives-after : (opened : LinkParameters) (k : ClientState) (e : Event) → AllLive k → AllLive (client_state_after opened k e)
+lives_after : (opened : LinkParameters) (k : ClientState) (e : RunEvent) → AllLive k → AllLive (client_state_after opened k e)
 unfolding client_state_after
-lives-after opened k (FrameReceived f) h = by (is_hello f)
+lives_after opened k (FrameReceived f) h = by (is_hello f)
   where
     by : (b : Bool) → AllLive (cond b (with_hello opened k) (with_segment k f (frame_segment f)))
     by true = h
-    by false = lives-segment k f (frame_segment f) h
-lives-after opened k (CallSubmitted place a) h =
+    by false = lives_segment k f (frame_segment f) h
+lives_after opened k (CallSubmitted place a) h =
     let os : List OutstandingCall = k.outstanding ++ outstanding_of k a ∷ [] in
-    all-append (Lives os) k.regions (map (region_of a.xid place) (buffers k.stag (outstanding_of k a).plan))
-    (all-map (Lives k.outstanding) (Lives os) (λ r g none. has-more r.call k.outstanding (outstanding_of k a ∷ []) (g none)) k.regions h)
-    (lives-new os a.xid place (buffers k.stag (outstanding_of k a).plan) (has-last a.xid k.outstanding (outstanding_of k a) refl refl))
-lives-after opened k (MemoryRevoked place xid) h = lives-closed k.outstanding (map (revoked_call xid) k.outstanding) xid place (λ x other g. has-revoked xid x k.outstanding other g) k.regions h
-lives-after opened k (CallExecuted call) h = h
-lives-after opened k (QueueWritten taken) h = h
+    all_append (Lives os) k.regions (map (region_of a.xid place) (buffers k.stag (outstanding_of k a).plan))
+    (all_map_lem (Lives k.outstanding) (Lives os) (λ r g none. has_more r.call k.outstanding (outstanding_of k a ∷ []) (g none)) k.regions h)
+    (lives_new os a.xid place (buffers k.stag (outstanding_of k a).plan) (has_last a.xid k.outstanding (outstanding_of k a) refl refl))
+lives_after opened k (MemoryRevoked place xid) h = lives_closed k.outstanding (map (revoked_call xid) k.outstanding) xid place (λ x other g. has_revoked xid x k.outstanding other g) k.regions h
+lives_after opened k (CallExecuted call) h = h
+lives_after opened k (QueueWritten taken) h = h
 
-of-outstanding : (xid : ℕ) (os : List OutstandingCall) → HasCall xid os → (o : OutstandingCall) × (Contains os o × ((o.xid ≡ xid) × (o.is_revoked ≡ false)))
-of-outstanding xid [] h = absurd h
-of-outstanding xid (o ∷ os) (inl h) = (o, ((zero, omega (arith), refl), h))
-of-outstanding xid (o ∷ os) (inr h) = (let m = of-outstanding xid os h in (m.0, ((suc m.1.0.0, (let lt = m.1.0.1 in omega (arith, lt)), m.1.0.2), m.1.1)))
+of_outstanding : (xid : ℕ) (os : List OutstandingCall) → HasCall xid os → (o : OutstandingCall) × (Contains os o × ((o.xid ≡ xid) × (o.is_revoked ≡ false)))
+of_outstanding xid [] h = absurd h
+of_outstanding xid (o ∷ os) (inl h) = (o, ((zero, omega (arith), refl), h))
+of_outstanding xid (o ∷ os) (inr h) = (let m = of_outstanding xid os h in (m.0, ((suc m.1.0.0, (let lt = m.1.0.1 in omega (arith, lt)), m.1.0.2), m.1.1)))
 
 pub live_client_regions_are_outstanding : LiveClientRegionsAreOutstanding
 live_client_regions_are_outstanding opened link run earlier later r is there none =
     let k : ClientState = (state_at opened earlier).state in
-    let all : AllLive k = kept-after (client_rules opened) AllLive (lives-after opened) (initial_client opened) earlier tt in
-    let m = of-outstanding r.call k.outstanding (all-at (Lives k.outstanding) there.0 k.regions r all there.1 there.2 none) in
+    let all : AllLive k = kept_after (client_rules opened) AllLive (lives_after opened) (initial_client opened) earlier tt in
+    let m = of_outstanding r.call k.outstanding (all_at (Lives k.outstanding) there.0 k.regions r all there.1 there.2 none) in
     record { call = m.0; there = m.1.0; own = m.1.1.0; kept = m.1.1.1 }

@@ -18,28 +18,28 @@ use Rattle.nr_link.specs.ReceiveState.{ReceiveState, begun_bytes, message_comple
 use Rattle.nr_reduce.specs.declared.mark.Mark.{Mark}
 use Rattle.nr_reduce.specs.declared.mark.LinkParameters.{LinkParameters}
 use Rattle.nr_reduce.specs.Matched.{Matched}
-use Rattle.nr_reduce.specs.Events.{Event, events}
-use Rattle.nr_reduce.specs.Events.Event.{FrameReceived, CallSubmitted, MemoryRevoked, CallExecuted, QueueWritten}
+use Rattle.nr_reduce.specs.Events.{RunEvent, events}
+use Rattle.nr_reduce.specs.Events.RunEvent.{FrameReceived, CallSubmitted, MemoryRevoked, CallExecuted, QueueWritten}
 use Rattle.nr_reduce.specs.EndRules.{EndState, end_state_after, next_end_state}
-use Rattle.nr_reduce.specs.Undone.{IsOffer, lists_by}
+use Rattle.nr_reduce.specs.ChunkBytes.{IsOffer, lists_by}
 use Rattle.nr_reduce.specs.Asked.{AskedSoFar}
 use Rattle.nr_reduce.specs.Served.{ServedSoFar}
 use Rattle.nr_reduce.specs.ServerState.{ServerState}
 use Rattle.nr_reduce.specs.Server.{server_rules, initial_server, received_by}
 use Rattle.nr_reduce.specs.RunLaws.{server_by}
 use Rattle.nr_laws.specs.Typed.{IsTyped}
-use Rattle.nr_laws.proofs.Along.{IsNext, place_after, GoesOn, goes-behind}
-use Rattle.nr_laws.proofs.Words.{payload-bytes}
-use Rattle.nr_laws.proofs.Hears.{received_event, one-step, was-live, server-receives}
-use Rattle.nr_laws.proofs.ServerEvents.{received-bytes as bytes-after, completed-bytes}
+use Rattle.nr_laws.proofs.EventOutputs.{IsNext, place_after, GoesOn, goes_behind}
+use Rattle.nr_laws.proofs.Words.{payload_bytes_lem}
+use Rattle.nr_laws.proofs.ReceivedMessages.{received_event, one_step_lem, was_live_lem, server_receives}
+use Rattle.nr_laws.proofs.ServerEvents.{received_bytes as bytes-after, completed_bytes}
 use Rattle.nr_laws.proofs.ServerAlong.{ServerPlain}
-use Rattle.nr_laws.proofs.ServerSide.{server-goes}
+use Rattle.nr_laws.proofs.ServerSide.{server_goes}
 use Rattle.nr_laws.proofs.InlineReplies.{no_chunks}
 
 -- ---- An offer that was read
 
-pub no-offer : IsOffer no_chunks
-no-offer = record {
+pub no_offer_lem : IsOffer no_chunks
+no_offer_lem = record {
   fits = (tt, (tt, (tt, tt)));
   within = record {
     read_segments = omega arith;
@@ -54,48 +54,48 @@ no-offer = record {
   };
 }
 
-pub read-offer : (message : List ℕ) (h : Header) → IsBytes message → header_of message ≡ Ok h → IsOffer (lists_by h.body)
-read-offer message h bytes is =
+pub read_offer : (message : List ℕ) (h : Header) → IsBytes message → header_of message ≡ Ok h → IsOffer (lists_by h.body)
+read_offer message h bytes is =
     let m = header_take message h bytes is in
     by h.body m.fits m.can
   where
     by : (b : Body) → AllFit (body_items h.xid h.credit b) → CanRead b (header_take message h bytes is).stream → IsOffer (lists_by b)
     by (Msg lists at) fits can = record { fits = fits.1.1.1.1; within = can.0 }
     by (Nomsg lists) fits can = record { fits = fits.1.1.1.1; within = can.1 }
-    by (ErrVers version low high) fits can = no-offer
-    by (ErrChunk version) fits can = no-offer
+    by (ErrVers version low high) fits can = no_offer_lem
+    by (ErrChunk version) fits can = no_offer_lem
 
 -- ---- A message that a server received is of bytes
 
-begun-event : (h : ReceiveState) (place : ℕ) (e : Event) → IsNext place e → IsBytes (begun_bytes h.begun) → IsBytes (begun_bytes (received_event h e).begun)
+begun_event : (h : ReceiveState) (place : ℕ) (e : RunEvent) → IsNext place e → IsBytes (begun_bytes h.begun) → IsBytes (begun_bytes (received_event h e).begun)
 unfolding frame_segment
-begun-event h place (FrameReceived f) next b = by (is_hello f) (frame_segment f) refl
+begun_event h place (FrameReceived f) next b = by (is_hello f) (frame_segment f) refl
   where
     by : (c : Bool) (r : Result Segment ℕ) → frame_segment f ≡ r → IsBytes (begun_bytes (cond c h (received_by h r)).begun)
     by true r is = b
     by false (Err reason) is = b
-    by false (Ok segment) is = bytes-after h segment b (payload-bytes f.bytes segment next.2 is)
-begun-event h place (CallSubmitted p a) next b = b
-begun-event h place (MemoryRevoked p xid) next b = b
-begun-event h place (CallExecuted e) next b = b
-begun-event h place (QueueWritten taken) next b = b
+    by false (Ok segment) is = bytes-after h segment b (payload_bytes_lem f.bytes segment next.2 is)
+begun_event h place (CallSubmitted p a) next b = b
+begun_event h place (MemoryRevoked p xid) next b = b
+begun_event h place (CallExecuted e) next b = b
+begun_event h place (QueueWritten taken) next b = b
 
 -- so are those of a Send that has begun
-begun-along : (opened : LinkParameters) (place : ℕ) (r : EndState ServerState) (es rest : List Event) → GoesOn (server_rules opened) ServerPlain place r (es ++ rest) → (end_state_after (server_rules opened) r es).ended ≡ None
+begun_along : (opened : LinkParameters) (place : ℕ) (r : EndState ServerState) (es rest : List RunEvent) → GoesOn (server_rules opened) ServerPlain place r (es ++ rest) → (end_state_after (server_rules opened) r es).ended ≡ None
     → IsBytes (begun_bytes r.state.received.begun) → IsBytes (begun_bytes (end_state_after (server_rules opened) r es).state.received.begun)
-begun-along opened place r [] rest g live b = b
-begun-along opened place r (e ∷ es) rest g live b =
+begun_along opened place r [] rest g live b = b
+begun_along opened place r (e ∷ es) rest g live b =
     let t = next_end_state (server_rules opened) r e in
-    let same = one-step (server_rules opened) (λ (k : ServerState). k.received) (server-receives opened) r e (was-live (server_rules opened) t es live) in
-    begun-along opened (place_after place e) t es rest g.2 live (subst (λ (h : ReceiveState). IsBytes (begun_bytes h.begun)) (sym same) (begun-event r.state.received place e g.0 b))
+    let same = one_step_lem (server_rules opened) (λ (k : ServerState). k.received) (server_receives opened) r e (was_live_lem (server_rules opened) t es live) in
+    begun_along opened (place_after place e) t es rest g.2 live (subst (λ (h : ReceiveState). IsBytes (begun_bytes h.begun)) (sym same) (begun_event r.state.received place e g.0 b))
 
-pub received-bytes : (opened : LinkParameters) (link : ℕ) (run : List Mark) → IsTyped run → AskedSoFar opened link run → ServedSoFar opened link run → Matched link run
-    → (es : List Event) (f : Frame) (rest : List Event) (s : Segment) (message : List ℕ) → events link Responder run ≡ es ++ FrameReceived f ∷ rest → is_hello f ≡ false → frame_segment f ≡ Ok s
+pub received_bytes : (opened : LinkParameters) (link : ℕ) (run : List Mark) → IsTyped run → AskedSoFar opened link run → ServedSoFar opened link run → Matched link run
+    → (es : List RunEvent) (f : Frame) (rest : List RunEvent) (s : Segment) (message : List ℕ) → events link Responder run ≡ es ++ FrameReceived f ∷ rest → is_hello f ≡ false → frame_segment f ≡ Ok s
     → message_completed (server_by opened es).received s ≡ Some message → (end_state_after (server_rules opened) (initial_server opened) es).ended ≡ None → IsBytes message
 unfolding frame_segment
-received-bytes opened link run typed asked served matched es f rest s message all behind is whole live =
-    let g = server-goes opened link run typed served in
-    let goes = subst (λ (xs : List Event). GoesOn (server_rules opened) ServerPlain 0 (initial_server opened) xs) all g.goes in
-    let next = (goes-behind (server_rules opened) ServerPlain 0 (initial_server opened) es (FrameReceived f ∷ rest) goes).0 in
-    let begun = begun-along opened 0 (initial_server opened) es (FrameReceived f ∷ rest) goes live (λ i. omega arith) in
-    completed-bytes (server_by opened es).received s message begun (payload-bytes f.bytes s next.2 is) whole
+received_bytes opened link run typed asked served matched es f rest s message all behind is whole live =
+    let g = server_goes opened link run typed served in
+    let goes = subst (λ (xs : List RunEvent). GoesOn (server_rules opened) ServerPlain 0 (initial_server opened) xs) all g.goes in
+    let next = (goes_behind (server_rules opened) ServerPlain 0 (initial_server opened) es (FrameReceived f ∷ rest) goes).0 in
+    let begun = begun_along opened 0 (initial_server opened) es (FrameReceived f ∷ rest) goes live (λ i. omega arith) in
+    completed_bytes (server_by opened es).received s message begun (payload_bytes_lem f.bytes s next.2 is) whole

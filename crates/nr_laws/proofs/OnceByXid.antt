@@ -9,34 +9,34 @@ use Rattle.nr_reduce.specs.Matched.{MatchedMark, IsPrefixOf}
 use Rattle.nr_reduce.specs.Asked.{AskedMark}
 use Rattle.nr_reduce.specs.Served.{ServedMark, IsExecuted}
 use Rattle.nr_laws.specs.MatchedSoFar.{MatchedSoFar}
-use Rattle.nr_reduce.proofs.Steps.{AtEachMark-first}
-use Rattle.nr_reduce.proofs.Placing.{AtEachMark-at}
+use Rattle.nr_reduce.proofs.Steps.{AtEachMark_first}
+use Rattle.nr_reduce.proofs.Placing.{AtEachMark_at}
 use Rattle.nr_reduce.proofs.Once.{executes_once}
 use Rattle.nr_laws.specs.Typed.{TypedMark, IsTyped}
 use Rattle.nr_laws.specs.Once.{NoXidTwice}
-use Rattle.nr_laws.proofs.ExecutedCalls.{ExecutedSubmit, executed-submit}
+use Rattle.nr_laws.proofs.ExecutedCalls.{ExecutedSubmit, executed_submit}
 
 -- a mark of a run, with what holds of the marks before it
-pub at-mark : (P : List Mark → Mark → Type 0) (run before : List Mark) (mark : Mark) (after : List Mark) → run ≡ before ++ mark ∷ after → AtEachMark P [] run → P before mark
-at-mark P run before mark after is h = AtEachMark-at P [] before mark after (subst (λ (r : List Mark). AtEachMark P [] r) is h)
+pub at_mark : (P : List Mark → Mark → Type 0) (run before : List Mark) (mark : Mark) (after : List Mark) → run ≡ before ++ mark ∷ after → AtEachMark P [] run → P before mark
+at_mark P run before mark after is h = AtEachMark_at P [] before mark after (subst (λ (r : List Mark). AtEachMark P [] r) is h)
 
-pub before-mark : (P : List Mark → Mark → Type 0) (run before : List Mark) (mark : Mark) (after : List Mark) → run ≡ before ++ mark ∷ after → AtEachMark P [] run → AtEachMark P [] before
-before-mark P run before mark after is h = AtEachMark-first P [] before (mark ∷ after) (subst (λ (r : List Mark). AtEachMark P [] r) is h)
+pub before_mark : (P : List Mark → Mark → Type 0) (run before : List Mark) (mark : Mark) (after : List Mark) → run ≡ before ++ mark ∷ after → AtEachMark P [] run → AtEachMark P [] before
+before_mark P run before mark after is h = AtEachMark_first P [] before (mark ∷ after) (subst (λ (r : List Mark). AtEachMark P [] r) is h)
 
 -- an executed call with its Submit
 pub record ExecutedAt (opened : LinkParameters) (link : ℕ) (before : List Mark) (xid : ℕ) (payload : List ℕ) : Type 0 where
   pub executed : IsExecuted opened link before xid payload
   pub submit : ExecutedSubmit opened link before xid payload executed
 
-pub executed-at : (opened : LinkParameters) (link : ℕ) (run before after : List Mark) (xid : ℕ) (moment : Moment) (payload : List ℕ) (place : ℕ) (reply : List ℕ) → IsTyped run → MatchedSoFar opened link run
+pub executed_at_lem : (opened : LinkParameters) (link : ℕ) (run before after : List Mark) (xid : ℕ) (moment : Moment) (payload : List ℕ) (place : ℕ) (reply : List ℕ) → IsTyped run → MatchedSoFar opened link run
     → run ≡ before ++ marks.Execute link xid moment payload place reply ∷ after → ExecutedAt opened link before xid payload
-executed-at opened link run before after xid moment payload place reply typed far is =
+executed_at_lem opened link run before after xid moment payload place reply typed far is =
     let mark = marks.Execute link xid moment payload place reply in
-    let h : IsExecuted opened link before xid payload = at-mark (ServedMark IsPrefixOf opened link) run before mark after is far.served refl in
+    let h : IsExecuted opened link before xid payload = at_mark (ServedMark IsPrefixOf opened link) run before mark after is far.served refl in
     record {
       executed = h;
-      submit = executed-submit opened link before xid payload (before-mark TypedMark run before mark after is typed) (before-mark (AskedMark IsPrefixOf opened link) run before mark after is far.asked)
-          (before-mark (MatchedMark link) run before mark after is far.matched) h;
+      submit = executed_submit opened link before xid payload (before_mark TypedMark run before mark after is typed) (before_mark (AskedMark IsPrefixOf opened link) run before mark after is far.asked)
+          (before_mark (MatchedMark link) run before mark after is far.matched) h;
     }
 
 pub no_xid_twice : NoXidTwice
@@ -44,8 +44,8 @@ no_xid_twice opened link run before between xid yid moment now payload asked pla
     let first = marks.Execute link xid moment payload place reply in
     let second = marks.Execute link yid now asked later answer in
     let whole : run ≡ before ++ first ∷ (between ++ second ∷ h.after) = h.is ∙ append_assoc before (first ∷ between) (second ∷ h.after) in
-    let a = executed-at opened link run before (between ++ second ∷ h.after) xid moment payload place reply typed far whole in
-    let b = executed-at opened link run (before ++ first ∷ between) h.after yid now asked later answer typed far h.is in
+    let a = executed_at_lem opened link run before (between ++ second ∷ h.after) xid moment payload place reply typed far whole in
+    let b = executed_at_lem opened link run (before ++ first ∷ between) h.after yid now asked later answer typed far h.is in
     let p = a.submit.submitted.accepted.next in
     let q = b.submit.submitted.accepted.next in
     let x = a.submit.own_xid in

@@ -3,9 +3,9 @@ use Rattle.std.proofs.Common.{◌≡◌, ℕ, ◌<◌, Option, arith, ◌⊎◌,
 use Rattle.nr_wire.specs.Segment.{Segment}
 use Rattle.nr_regions.specs.declared.denied.Denied.{Denied}
 use Rattle.nr_link.specs.Reasons.{REASON_MSN, REASON_OFFSET, REASON_FORM, REASON_RESPONSE, REASON_REQUESTS, REASON_SHORT, REASON_LONG}
-use Rattle.nr_link.specs.SegmentFaults.{Readiness, SegmentFault, segment_fault}
+use Rattle.nr_link.specs.SegmentFaults.{Readiness, SegmentReason, segment_reason}
 use Rattle.nr_laws.proofs.EndReasons.{IsMessageReason}
-use Rattle.nr_laws.proofs.EachFault.{OfReason, each-fault}
+use Rattle.nr_laws.proofs.EachFault.{OfReason, each_fault}
 
 -- a reason that is none of a reply's
 abbrev Apart : ℕ → Type 0
@@ -23,12 +23,12 @@ apart reason (inr (inr lt)) (inr (inl e)) = omega (arith, lt, e)
 apart reason (inr (inr lt)) (inr (inr e)) = omega (arith, lt, e)
 
 -- a fault of a segment that has none of these reasons
-abbrev pub OtherFault : Option (SegmentFault Denied) → Type 0
+abbrev pub OtherFault : Option (SegmentReason Denied) → Type 0
 OtherFault o = OfReason Apart o
 
-pub fault-other : (r : Readiness Denied) (s : Segment) → OtherFault (segment_fault r s)
-fault-other r s =
-    each-fault Apart (record {
+pub fault_other : (r : Readiness Denied) (s : Segment) → OtherFault (segment_reason r s)
+fault_other r s =
+    each_fault Apart (record {
       msn = apart REASON_MSN (inl (omega arith));
       offset = apart REASON_OFFSET (inl (omega arith));
       form = apart REASON_FORM (inl (omega arith));

@@ -18,15 +18,15 @@ use Rattle.nr_link.specs.ReceiveState.{ReadRequest}
 use Rattle.nr_link.specs.Ending.{frame_segment, final_output, last_output, is_hello_reason}
 use Rattle.nr_reduce.specs.declared.mark.LinkParameters.{LinkParameters}
 use Rattle.nr_reduce.specs.History.{ExecutedCall}
-use Rattle.nr_reduce.specs.Events.{Event}
-use Rattle.nr_reduce.specs.Events.Event.{FrameReceived, CallSubmitted, MemoryRevoked, CallExecuted, QueueWritten}
+use Rattle.nr_reduce.specs.Events.{RunEvent}
+use Rattle.nr_reduce.specs.Events.RunEvent.{FrameReceived, CallSubmitted, MemoryRevoked, CallExecuted, QueueWritten}
 use Rattle.nr_header.specs.declared.header.ChunkLists.{ChunkLists}
 use Rattle.nr_rpc.specs.Reading.{call_of, target_of}
 use Rattle.nr_reduce.specs.Plans.{call_message}
 use Rattle.nr_reduce.specs.Holds.{Answer, answer_message, chunk_error}
-use Rattle.nr_reduce.specs.Undone.{answer_segments}
+use Rattle.nr_reduce.specs.ChunkBytes.{answer_segments}
 use Rattle.nr_reduce.proofs.Answering.{answer_spells}
-use Rattle.nr_reduce.specs.ClientState.{ClientState, OutstandingCall, memory_at}
+use Rattle.nr_reduce.specs.ClientState.{ClientState, OutstandingCall, client_memory_at}
 use Rattle.nr_reduce.specs.Client.{client_output, calls_output, call_output, response_output, segment_request, outstanding_of}
 use Rattle.nr_reduce.specs.ServerState.{ServerState, PendingRead, credit_word}
 use Rattle.nr_reduce.specs.ServerFrames.{FrameEffect, frame_effect}
@@ -43,12 +43,12 @@ bytes_of (ASegment segment) = encoding segment
 abbrev pub bytes_of_all : List Output → List ℕ
 bytes_of_all outs = flat_map bytes_of outs
 
-pub bytes-append : (xs ys : List Output) → bytes_of_all (xs ++ ys) ≡ bytes_of_all xs ++ bytes_of_all ys
-bytes-append xs ys = flat_map-append bytes_of xs ys
+pub bytes_append : (xs ys : List Output) → bytes_of_all (xs ++ ys) ≡ bytes_of_all xs ++ bytes_of_all ys
+bytes_append xs ys = flat_map-append bytes_of xs ys
 
-pub bytes-segments : (segments : List Segment) → bytes_of_all (map ASegment segments) ≡ flat_map encoding segments
-bytes-segments [] = refl
-bytes-segments (s ∷ segments) = ap (λ (xs : List ℕ). encoding s ++ xs) (bytes-segments segments)
+pub bytes_segments : (segments : List Segment) → bytes_of_all (map ASegment segments) ≡ flat_map encoding segments
+bytes_segments [] = refl
+bytes_segments (s ∷ segments) = ap (λ (xs : List ℕ). encoding s ++ xs) (bytes_segments segments)
 
 -- ---- Messages
 
@@ -63,35 +63,35 @@ IsShort message = length message ≤ send_max
 abbrev pub FitsSegment : Type 0
 FitsSegment = (message : List ℕ) → IsShort message → length message ≤ segment_max
 
-pub fits-segment : FitsSegment
-fits-segment message short = omega (arith, short)
+pub fits_segment : FitsSegment
+fits_segment message short = omega (arith, short)
 
-pub send-one : (msn : ℕ) (message : List ℕ) → IsShort message → send msn message ≡ encoding (send_segment msn message)
+pub send_one : (msn : ℕ) (message : List ℕ) → IsShort message → send msn message ≡ encoding (send_segment msn message)
 unfolding send cut
-send-one msn message le =
-    let fits = fits-segment message le in
+send_one msn message le =
+    let fits = fits_segment message le in
     let one : segment_count message ≡ 1 = omega (arith, fits) in
     (λ j. flat_map (λ i. encoding (Untagged (eqb (i + 1) (one j)) OPCODE_SEND 0 QUEUE_SEND (msn_word msn) (segment_max * i) (segment_payload message i))) (range_with_len 0 (one j)))
     ∙ append-nil (encoding (Untagged true OPCODE_SEND 0 QUEUE_SEND (msn_word msn) 0 (segment_payload message 0)))
-    ∙ ap (λ (xs : List ℕ). encoding (Untagged true OPCODE_SEND 0 QUEUE_SEND (msn_word msn) 0 xs)) (take_all segment_max message (fits-segment message le))
+    ∙ ap (λ (xs : List ℕ). encoding (Untagged true OPCODE_SEND 0 QUEUE_SEND (msn_word msn) 0 xs)) (take_all segment_max message (fits_segment message le))
 
-flat-map : (f : ℕ → Segment) (is : List ℕ) → flat_map (λ i. encoding (f i)) is ≡ flat_map encoding (map f is)
-flat-map f [] = refl
-flat-map f (i ∷ is) = ap (λ (xs : List ℕ). encoding (f i) ++ xs) (flat-map f is)
+flat_map_lem : (f : ℕ → Segment) (is : List ℕ) → flat_map (λ i. encoding (f i)) is ≡ flat_map encoding (map f is)
+flat_map_lem f [] = refl
+flat_map_lem f (i ∷ is) = ap (λ (xs : List ℕ). encoding (f i) ++ xs) (flat_map_lem f is)
 
 -- a message with its cut: its segments, in order
 abbrev pub message_outputs : ℕ → List ℕ → List Output
 message_outputs msn message = map ASegment (message_segments msn message)
 
-pub send-said : (msn : ℕ) (message : List ℕ) → send msn message ≡ bytes_of_all (message_outputs msn message)
+pub send_said : (msn : ℕ) (message : List ℕ) → send msn message ≡ bytes_of_all (message_outputs msn message)
 unfolding send cut
-send-said msn message =
-    flat-map (message_segment msn message) (range_with_len 0 (segment_count message))
-    ∙ sym (bytes-segments (message_segments msn message))
+send_said msn message =
+    flat_map_lem (message_segment msn message) (range_with_len 0 (segment_count message))
+    ∙ sym (bytes_segments (message_segments msn message))
 
 -- a message that fits one segment is one
-pub one-sent : (msn : ℕ) (message : List ℕ) → length message ≤ segment_max → message_outputs msn message ≡ ASegment (send_segment msn message) ∷ []
-one-sent msn message le =
+pub one_sent : (msn : ℕ) (message : List ℕ) → length message ≤ segment_max → message_outputs msn message ≡ ASegment (send_segment msn message) ∷ []
+one_sent msn message le =
     let one : segment_count message ≡ 1 = omega (arith, le) in
     (λ j. map ASegment (map (λ i. Untagged (eqb (i + 1) (one j)) OPCODE_SEND 0 QUEUE_SEND (msn_word msn) (segment_max * i) (segment_payload message i)) (range_with_len 0 (one j))))
     ∙ ap (λ (xs : List ℕ). ASegment (Untagged true OPCODE_SEND 0 QUEUE_SEND (msn_word msn) 0 xs) ∷ []) (take_all segment_max message le)
@@ -117,15 +117,15 @@ abbrev pub AreShort : List (List ℕ) → Type 0
 AreShort [] = Unit {0}
 AreShort (m ∷ messages) = IsShort m × AreShort messages
 
-calls-said : (opened : LinkParameters) (msn : ℕ) (os : List OutstandingCall) → calls_output opened msn os ≡ bytes_of_all (call_sends opened msn os)
-calls-said opened msn [] = refl
-calls-said opened msn (o ∷ os) =
-    (λ i. send-said msn (message_of_call opened o) i ++ calls-said opened (msn + 1) os i)
-    ∙ sym (bytes-append (message_outputs msn (message_of_call opened o)) (call_sends opened (msn + 1) os))
+calls_said_lem : (opened : LinkParameters) (msn : ℕ) (os : List OutstandingCall) → calls_output opened msn os ≡ bytes_of_all (call_sends opened msn os)
+calls_said_lem opened msn [] = refl
+calls_said_lem opened msn (o ∷ os) =
+    (λ i. send_said msn (message_of_call opened o) i ++ calls_said_lem opened (msn + 1) os i)
+    ∙ sym (bytes_append (message_outputs msn (message_of_call opened o)) (call_sends opened (msn + 1) os))
 
-sends-said : (msn : ℕ) (ms : List (List ℕ)) → sends_from msn ms ≡ bytes_of_all (message_sends msn ms)
-sends-said msn [] = refl
-sends-said msn (m ∷ ms) = (λ i. send-said msn m i ++ sends-said (msn + 1) ms i) ∙ sym (bytes-append (message_outputs msn m) (message_sends (msn + 1) ms))
+sends_said : (msn : ℕ) (ms : List (List ℕ)) → sends_from msn ms ≡ bytes_of_all (message_sends msn ms)
+sends_said msn [] = refl
+sends_said msn (m ∷ ms) = (λ i. send_said msn m i ++ sends_said (msn + 1) ms i) ∙ sym (bytes_append (message_outputs msn m) (message_sends (msn + 1) ms))
 
 -- ---- Accesses
 
@@ -135,11 +135,11 @@ one_response stag to bytes i = Tagged (eqb (i + 1) (segment_count bytes)) OPCODE
 abbrev pub response_segments : ℕ → ℕ → List ℕ → List Segment
 response_segments stag to bytes = map (one_response stag to bytes) (range_with_len 0 (segment_count bytes))
 
-response-said : (stag to : ℕ) (bytes : List ℕ) → read_response stag to bytes ≡ bytes_of_all (map ASegment (response_segments stag to bytes))
+response_said : (stag to : ℕ) (bytes : List ℕ) → read_response stag to bytes ≡ bytes_of_all (map ASegment (response_segments stag to bytes))
 unfolding read_response cut
-response-said stag to bytes =
-    flat-map (one_response stag to bytes) (range_with_len 0 (segment_count bytes))
-    ∙ sym (bytes-segments (response_segments stag to bytes))
+response_said stag to bytes =
+    flat_map_lem (one_response stag to bytes) (range_with_len 0 (segment_count bytes))
+    ∙ sym (bytes_segments (response_segments stag to bytes))
 
 abbrev pub request_payload : PendingRead → List ℕ
 request_payload r = word r.sink ++ (hyper r.at ++ (word r.size ++ (word r.stag ++ hyper r.to)))
@@ -151,10 +151,10 @@ abbrev pub request_outputs : ℕ → List PendingRead → List Output
 request_outputs msn [] = []
 request_outputs msn (r ∷ reads) = ASegment (request_segment msn r) ∷ request_outputs (msn + 1) reads
 
-requests-said : (msn : ℕ) (reads : List PendingRead) → requests_from msn reads ≡ bytes_of_all (request_outputs msn reads)
+requests_said : (msn : ℕ) (reads : List PendingRead) → requests_from msn reads ≡ bytes_of_all (request_outputs msn reads)
 unfolding read_request
-requests-said msn [] = refl
-requests-said msn (r ∷ reads) = ap (λ (xs : List ℕ). read_request msn r.sink r.at r.size r.stag r.to ++ xs) (requests-said (msn + 1) reads)
+requests_said msn [] = refl
+requests_said msn (r ∷ reads) = ap (λ (xs : List ℕ). read_request msn r.sink r.at r.size r.stag r.to ++ xs) (requests_said (msn + 1) reads)
 
 -- ---- Last words
 
@@ -168,20 +168,20 @@ final_outputs (ends.NoBuffer msn) = ASegment (terminate_segment NO_BUFFER_WORD) 
 final_outputs (ends.Terminated reason) = []
 final_outputs ends.Memory = []
 
-one-output : (s : Segment) → encoding s ≡ bytes_of_all (ASegment s ∷ [])
-one-output s = sym (append-nil (encoding s))
+one_output : (s : Segment) → encoding s ≡ bytes_of_all (ASegment s ∷ [])
+one_output s = sym (append-nil (encoding s))
 
-pub final-said : (end : Stop) → final_output end ≡ bytes_of_all (final_outputs end)
+pub final_said : (end : Stop) → final_output end ≡ bytes_of_all (final_outputs end)
 unfolding final_output terminate_message
-final-said (ends.Bad at reason) = by (is_hello_reason reason)
+final_said (ends.Bad at reason) = by (is_hello_reason reason)
   where
     by : (b : Bool) → cond b [] (encoding (terminate_segment reason)) ≡ bytes_of_all (cond b [] (ASegment (terminate_segment reason) ∷ []))
     by true = refl
-    by false = one-output (terminate_segment reason)
-final-said (ends.Denied stag offset why) = one-output (terminate_segment (denied_word why))
-final-said (ends.NoBuffer msn) = one-output (terminate_segment NO_BUFFER_WORD)
-final-said (ends.Terminated reason) = refl
-final-said ends.Memory = refl
+    by false = one_output (terminate_segment reason)
+final_said (ends.Denied stag offset why) = one_output (terminate_segment (denied_word why))
+final_said (ends.NoBuffer msn) = one_output (terminate_segment NO_BUFFER_WORD)
+final_said (ends.Terminated reason) = refl
+final_said ends.Memory = refl
 
 abbrev pub server_final_outputs : Stop → List Output
 server_final_outputs (ends.Bad at reason) = cond (eqb reason REASON_FLAGS) (AHello refusing_hello ∷ []) (final_outputs (ends.Bad at reason))
@@ -191,53 +191,53 @@ server_final_outputs (ends.Terminated reason) = []
 server_final_outputs ends.Memory = []
 
 -- a refused hello has no Terminate
-no-terminate : (at reason : ℕ) → eqb reason REASON_FLAGS ≡ true → final_output (ends.Bad at reason) ≡ []
+no_terminate : (at reason : ℕ) → eqb reason REASON_FLAGS ≡ true → final_output (ends.Bad at reason) ≡ []
 unfolding final_output
-no-terminate at reason is = ap (λ (b : Bool). cond b [] (terminate_message reason)) (lt-ltb reason 5 (let e = eqb-true reason REASON_FLAGS is in omega (arith, e)))
+no_terminate at reason is = ap (λ (b : Bool). cond b [] (terminate_message reason)) (lt-ltb reason 5 (let e = eqb-true reason REASON_FLAGS is in omega (arith, e)))
 
-pub server-final-said : (end : Stop) → last_output Responder end ≡ bytes_of_all (server_final_outputs end)
-server-final-said (ends.Bad at reason) = by (eqb reason REASON_FLAGS) refl
+pub server_final_said : (end : Stop) → last_output Responder end ≡ bytes_of_all (server_final_outputs end)
+server_final_said (ends.Bad at reason) = by (eqb reason REASON_FLAGS) refl
   where
     by : (b : Bool) → eqb reason REASON_FLAGS ≡ b → cond b refusing_hello [] ++ final_output (ends.Bad at reason) ≡ bytes_of_all (cond b (AHello refusing_hello ∷ []) (final_outputs (ends.Bad at reason)))
-    by true is = ap (λ (bs : List ℕ). refusing_hello ++ bs) (no-terminate at reason is)
-    by false is = final-said (ends.Bad at reason)
-server-final-said (ends.Denied stag offset why) = final-said (ends.Denied stag offset why)
-server-final-said (ends.NoBuffer msn) = final-said (ends.NoBuffer msn)
-server-final-said (ends.Terminated reason) = final-said (ends.Terminated reason)
-server-final-said ends.Memory = final-said ends.Memory
+    by true is = ap (λ (bs : List ℕ). refusing_hello ++ bs) (no_terminate at reason is)
+    by false is = final_said (ends.Bad at reason)
+server_final_said (ends.Denied stag offset why) = final_said (ends.Denied stag offset why)
+server_final_said (ends.NoBuffer msn) = final_said (ends.NoBuffer msn)
+server_final_said (ends.Terminated reason) = final_said (ends.Terminated reason)
+server_final_said ends.Memory = final_said ends.Memory
 
 -- ---- For each event
 
 abbrev pub response_outputs : ClientState → ℕ → Option ReadRequest → List Output
 response_outputs k place None = []
-response_outputs k place (Some r) = map ASegment (response_segments r.sink r.sink_to (take r.size (drop r.to (memory_at k place r.stag))))
+response_outputs k place (Some r) = map ASegment (response_segments r.sink r.sink_to (take r.size (drop r.to (client_memory_at k place r.stag))))
 
-unfoldable pub client_says : LinkParameters → ClientState → Event → List Output
+unfoldable pub client_says : LinkParameters → ClientState → RunEvent → List Output
 client_says opened k (FrameReceived f) = cond (is_hello f) (call_sends opened 1 k.outstanding) (response_outputs k f.end (segment_request (frame_segment f)))
 client_says opened k (CallSubmitted place a) = cond k.has_hello (message_outputs (k.calls_accepted + 1) (message_of_call opened (outstanding_of k a))) []
 client_says opened k (MemoryRevoked place xid) = []
 client_says opened k (CallExecuted call) = []
 client_says opened k (QueueWritten taken) = []
 
-pub client-said : (opened : LinkParameters) (k : ClientState) (event : Event) → client_output opened k event ≡ bytes_of_all (client_says opened k event)
+pub client_said : (opened : LinkParameters) (k : ClientState) (event : RunEvent) → client_output opened k event ≡ bytes_of_all (client_says opened k event)
 unfolding client_output client_says
-client-said opened k (FrameReceived f) = by (is_hello f) (segment_request (frame_segment f))
+client_said opened k (FrameReceived f) = by (is_hello f) (segment_request (frame_segment f))
   where
     by_request : (o : Option ReadRequest) → response_output k f.end o ≡ bytes_of_all (response_outputs k f.end o)
     by_request None = refl
-    by_request (Some r) = response-said r.sink r.sink_to (take r.size (drop r.to (memory_at k f.end r.stag)))
+    by_request (Some r) = response_said r.sink r.sink_to (take r.size (drop r.to (client_memory_at k f.end r.stag)))
 
     by : (b : Bool) (o : Option ReadRequest) → cond b (calls_output opened 1 k.outstanding) (response_output k f.end o) ≡ bytes_of_all (cond b (call_sends opened 1 k.outstanding) (response_outputs k f.end o))
-    by true o = calls-said opened 1 k.outstanding
+    by true o = calls_said_lem opened 1 k.outstanding
     by false o = by_request o
-client-said opened k (CallSubmitted place a) = by k.has_hello
+client_said opened k (CallSubmitted place a) = by k.has_hello
   where
     by : (b : Bool) → cond b (call_output opened (k.calls_accepted + 1) (outstanding_of k a)) [] ≡ bytes_of_all (cond b (message_outputs (k.calls_accepted + 1) (message_of_call opened (outstanding_of k a))) [])
-    by true = send-said (k.calls_accepted + 1) (message_of_call opened (outstanding_of k a))
+    by true = send_said (k.calls_accepted + 1) (message_of_call opened (outstanding_of k a))
     by false = refl
-client-said opened k (MemoryRevoked place xid) = refl
-client-said opened k (CallExecuted call) = refl
-client-said opened k (QueueWritten taken) = refl
+client_said opened k (MemoryRevoked place xid) = refl
+client_said opened k (CallExecuted call) = refl
+client_said opened k (QueueWritten taken) = refl
 
 abbrev pub effect_outputs : ServerState → FrameEffect → List Output
 effect_outputs k s = message_sends (k.messages_queued + 1) s.errors ++ request_outputs (k.requests_sent + 1) (newly_open_reads s)
@@ -249,7 +249,7 @@ answer_outputs k xid offer (Some a) = map ASegment (answer_segments offer a) ++ 
 abbrev pub answer_of_call : ServerState → ExecutedCall → Option Answer
 answer_of_call k e = answer_of_target (offer_of k e.xid) k.down_max e.reply (target_of (call_of e.payload))
 
-unfoldable pub server_says : LinkParameters → ServerState → Event → List Output
+unfoldable pub server_says : LinkParameters → ServerState → RunEvent → List Output
 server_says opened k (FrameReceived f) = cond (is_hello f) (AHello (own_hello Responder) ∷ []) (effect_outputs k (frame_effect k f))
 server_says opened k (CallSubmitted place a) = []
 server_says opened k (MemoryRevoked place xid) = []
@@ -260,15 +260,15 @@ abbrev pub AnswerShort : ServerState → ℕ → ChunkLists → Option Answer �
 AnswerShort k xid offer None = IsShort (chunk_error xid (credit_word k))
 AnswerShort k xid offer (Some a) = IsShort (answer_message xid (credit_word k) offer a)
 
-answer-said : (k : ServerState) (xid : ℕ) (offer : ChunkLists) (o : Option Answer) → answer_output k xid offer o ≡ bytes_of_all (answer_outputs k xid offer o)
-answer-said k xid offer None = send-said (k.messages_queued + 1) (chunk_error xid (credit_word k))
-answer-said k xid offer (Some a) =
-    (λ i. (answer_spells offer a ∙ sym (bytes-segments (answer_segments offer a))) i ++ send-said (k.messages_queued + 1) (answer_message xid (credit_word k) offer a) i)
-    ∙ sym (bytes-append (map ASegment (answer_segments offer a)) (message_outputs (k.messages_queued + 1) (answer_message xid (credit_word k) offer a)))
+answer_said : (k : ServerState) (xid : ℕ) (offer : ChunkLists) (o : Option Answer) → answer_output k xid offer o ≡ bytes_of_all (answer_outputs k xid offer o)
+answer_said k xid offer None = send_said (k.messages_queued + 1) (chunk_error xid (credit_word k))
+answer_said k xid offer (Some a) =
+    (λ i. (answer_spells offer a ∙ sym (bytes_segments (answer_segments offer a))) i ++ send_said (k.messages_queued + 1) (answer_message xid (credit_word k) offer a) i)
+    ∙ sym (bytes_append (map ASegment (answer_segments offer a)) (message_outputs (k.messages_queued + 1) (answer_message xid (credit_word k) offer a)))
 
-pub server-said : (opened : LinkParameters) (k : ServerState) (event : Event) → server_output opened k event ≡ bytes_of_all (server_says opened k event)
+pub server_said : (opened : LinkParameters) (k : ServerState) (event : RunEvent) → server_output opened k event ≡ bytes_of_all (server_says opened k event)
 unfolding server_output server_says execution_output
-server-said opened k (FrameReceived f) = by (is_hello f)
+server_said opened k (FrameReceived f) = by (is_hello f)
   where
     s : FrameEffect
     s = frame_effect k f
@@ -276,9 +276,9 @@ server-said opened k (FrameReceived f) = by (is_hello f)
     by : (b : Bool) → cond b (own_hello Responder) (effect_output k s) ≡ bytes_of_all (cond b (AHello (own_hello Responder) ∷ []) (effect_outputs k s))
     by true = sym (append-nil (own_hello Responder))
     by false =
-        (λ i. sends-said (k.messages_queued + 1) s.errors i ++ requests-said (k.requests_sent + 1) (newly_open_reads s) i)
-        ∙ sym (bytes-append (message_sends (k.messages_queued + 1) s.errors) (request_outputs (k.requests_sent + 1) (newly_open_reads s)))
-server-said opened k (CallSubmitted place a) = refl
-server-said opened k (MemoryRevoked place xid) = refl
-server-said opened k (CallExecuted e) = answer-said k e.xid (offer_of k e.xid) (answer_of_call k e)
-server-said opened k (QueueWritten taken) = refl
+        (λ i. sends_said (k.messages_queued + 1) s.errors i ++ requests_said (k.requests_sent + 1) (newly_open_reads s) i)
+        ∙ sym (bytes_append (message_sends (k.messages_queued + 1) s.errors) (request_outputs (k.requests_sent + 1) (newly_open_reads s)))
+server_said opened k (CallSubmitted place a) = refl
+server_said opened k (MemoryRevoked place xid) = refl
+server_said opened k (CallExecuted e) = answer_said k e.xid (offer_of k e.xid) (answer_of_call k e)
+server_said opened k (QueueWritten taken) = refl

@@ -14,7 +14,7 @@ use Rattle.nr_reduce.specs.declared.mark.LinkParameters.{LinkParameters}
 use Rattle.nr_reduce.specs.declared.outline.Plan.{Plan}
 use Rattle.nr_reduce.specs.Plans.{TooLarge, call_message}
 use Rattle.nr_reduce.specs.History.{AcceptedCall, ExecutedCall}
-use Rattle.nr_reduce.specs.Events.Event.{CallSubmitted, MemoryRevoked, CallExecuted, QueueWritten}
+use Rattle.nr_reduce.specs.Events.RunEvent.{CallSubmitted, MemoryRevoked, CallExecuted, QueueWritten}
 use Rattle.nr_reduce.specs.SubmitAnswer.{next_xid}
 use Rattle.nr_reduce.specs.ClientState.{ClientState, OutstandingCall, call_payload, plan_for}
 use Rattle.nr_reduce.specs.ServerState.{ServerState, PendingCall, ReadyCall}
@@ -23,28 +23,28 @@ use Rattle.nr_reduce.specs.Server.{server_state_after, server_output, offer_of, 
 use Rattle.nr_reduce.proofs.Sizes.{message_size}
 use Rattle.nr_laws.proofs.FrameContents.{FrameContent, output_bytes, total_of, sends_in, requests_in, hellos_in, call_frame, client_frames, server_frames}
 use Rattle.nr_laws.proofs.LinkInvariants.{Transit, TotalsAgree, AreDistinct, AreAtMost, IsUnused}
-use Rattle.nr_laws.proofs.Totals.{total-append}
-use Rattle.nr_laws.proofs.TotalsAtClient.{totals-accepts, totals-writes_up, up_more}
-use Rattle.nr_laws.proofs.TotalsAtServer.{totals-executes, totals-writes_down, answer-counts}
-use Rattle.nr_laws.proofs.PendingExecuted.{pending_agree-executes, executed-there}
-use Rattle.nr_laws.proofs.OwnXids.{OwnXids, own_xids-accepts, own_xids-writes}
-use Rattle.nr_laws.proofs.Writable.{AreWritable, stream-more}
-use Rattle.nr_laws.proofs.ServerOutput.{execution_frames, execution-proper, execution-said}
+use Rattle.nr_laws.proofs.Totals.{total_append}
+use Rattle.nr_laws.proofs.TotalsAtClient.{totals_accepts, totals_writes_up, up_more}
+use Rattle.nr_laws.proofs.TotalsAtServer.{totals_executes, totals_writes_down, answer_counts}
+use Rattle.nr_laws.proofs.PendingExecuted.{pending_agree_executes, executed_there}
+use Rattle.nr_laws.proofs.OwnXids.{OwnXids, own_xids_accepts, own_xids_writes}
+use Rattle.nr_laws.proofs.Writable.{AreWritable, stream_more}
+use Rattle.nr_laws.proofs.ServerOutput.{execution_frames, execution_proper, execution_said}
 use Rattle.nr_laws.proofs.AgreeingEnds.{EndsAgree, messages_said}
 use Rattle.nr_laws.proofs.ClientFrame.{calls_said}
-use Rattle.nr_laws.proofs.Outputs.{IsShort, send-one, CallsShort, CallShort}
-use Rattle.nr_laws.proofs.ClientSays.{short-revoked}
+use Rattle.nr_laws.proofs.Outputs.{IsShort, send_one, CallsShort, CallShort}
+use Rattle.nr_laws.proofs.ClientSays.{short_revoked}
 use Rattle.nr_reduce.proofs.WholeWrotes.{ClientEnds, ServerEnds}
-use Rattle.nr_laws.proofs.Basics.{each-kept, each-append}
+use Rattle.nr_laws.proofs.Basics.{each_kept, each_append}
 use Rattle.nr_laws.proofs.ServerOutputs.{CallFits}
 
 -- ---- Of a client
 
 -- it sends more, and its calls stay
-up-linked : (opened : LinkParameters) (k t : ClientState) (s : ServerState) (u d all_up all_down : List FrameContent) (w : Transit) (said : List FrameContent) → EndsAgree opened k s u d all_up all_down w
+up_linked : (opened : LinkParameters) (k t : ClientState) (s : ServerState) (u d all_up all_down : List FrameContent) (w : Transit) (said : List FrameContent) → EndsAgree opened k s u d all_up all_down w
     → TotalsAgree t s (up_more w said) → OwnXids opened t → CallsShort opened t.outstanding → t.received ≡ k.received → AreWritable said → total_of hellos_in said ≡ 0 → total_of requests_in said ≡ 0
     → EndsAgree opened t s u d (all_up ++ said) all_down (up_more w said)
-up-linked opened k t s u d all_up all_down w said l counts outs short received proper hellos reads = record {
+up_linked opened k t s u d all_up all_down w said l counts outs short received proper hellos reads = record {
   parts_up =
       ap (λ (ps : List FrameContent). u ++ ps) (sym (append_assoc w.up w.queued_up said)) ∙ sym (append_assoc u (w.up ++ w.queued_up) said) ∙ ap (λ (ps : List FrameContent). ps ++ said) l.parts_up;
   parts_down = l.parts_down;
@@ -53,11 +53,11 @@ up-linked opened k t s u d all_up all_down w said l counts outs short received p
   outs = outs;
   fits = l.fits;
   short = short;
-  stream_up = stream-more all_up said l.stream_up l.begins_up proper;
-  begins_up = omega (arith, l.begins_up, total-append hellos_in all_up said);
+  stream_up = stream_more all_up said l.stream_up l.begins_up proper;
+  begins_up = omega (arith, l.begins_up, total_append hellos_in all_up said);
   stream_down = l.stream_down;
   hellos_down = l.hellos_down;
-  no_reads = omega (arith, l.no_reads, reads, total-append requests_in all_up said);
+  no_reads = omega (arith, l.no_reads, reads, total_append requests_in all_up said);
   sends_up = l.sends_up;
   requests_up = l.requests_up;
   sends_down = ap (λ (h : ReceiveState). h.sends) received ∙ l.sends_down;
@@ -74,9 +74,9 @@ pub record Submitted (opened : LinkParameters) (k : ClientState) (s : ServerStat
   pub output : client_output opened k (CallSubmitted place a) ≡ output_bytes Initiator (total_of sends_in all_up) (total_of requests_in all_up) said
   pub linked : EndsAgree opened (client_state_after opened k (CallSubmitted place a)) s u d (all_up ++ said) all_down (up_more w said)
 
-short-call : (opened : LinkParameters) (k : ClientState) (a : AcceptedCall) (plan : Plan) → plan_for k a.xid a.call a.form ≡ Ok plan → ClientLimits k → IsShort (call_message a.xid opened.wished k.stag (outstanding_of k a).plan)
+short_call : (opened : LinkParameters) (k : ClientState) (a : AcceptedCall) (plan : Plan) → plan_for k a.xid a.call a.form ≡ Ok plan → ClientLimits k → IsShort (call_message a.xid opened.wished k.stag (outstanding_of k a).plan)
 unfolding plan_for
-short-call opened k a plan is limits =
+short_call opened k a plan is limits =
     let up = limits.up in
     let size = message_size (call_payload a.xid a.call) a.form k.up_max k.down_max a.xid opened.wished k.stag plan is in
     subst (λ (p : Plan). IsShort (call_message a.xid opened.wished k.stag p)) (sym (planned (call_payload a.xid a.call) (plan_for k a.xid a.call a.form) plan is)) (omega (arith, size.1, up))
@@ -87,7 +87,7 @@ unfolding client_state_after client_frames client_output
 submitted opened k s u d all_up all_down w place a plan l own is limits = by k.has_hello refl
   where
     short : IsShort (call_message a.xid opened.wished k.stag (outstanding_of k a).plan)
-    short = short-call opened k a plan is limits
+    short = short_call opened k a plan is limits
 
     p : FrameContent
     p = call_frame opened (outstanding_of k a)
@@ -102,16 +102,16 @@ submitted opened k s u d all_up all_down w place a plan l own is limits = by k.h
       said_is = sym says;
       output = output;
       linked =
-          up-linked opened k (client_state_after opened k (CallSubmitted place a)) s u d all_up all_down w said l
-          (subst (λ (ps : List FrameContent). TotalsAgree (client_state_after opened k (CallSubmitted place a)) s (up_more w ps)) says (totals-accepts opened k s w place a l.counts))
-          (own_xids-accepts opened k place a own l.outs) (each-append (CallShort opened) k.outstanding (outstanding_of k a ∷ []) l.short (short, tt)) refl proper hellos reads;
+          up_linked opened k (client_state_after opened k (CallSubmitted place a)) s u d all_up all_down w said l
+          (subst (λ (ps : List FrameContent). TotalsAgree (client_state_after opened k (CallSubmitted place a)) s (up_more w ps)) says (totals_accepts opened k s w place a l.counts))
+          (own_xids_accepts opened k place a own l.outs) (each_append (CallShort opened) k.outstanding (outstanding_of k a ∷ []) l.short (short, tt)) refl proper hellos reads;
     }
 
     by : (b : Bool) → k.has_hello ≡ b → Submitted opened k s u d all_up all_down w place a
     by true e =
         with_said (p ∷ []) (ap (λ (x : Bool). cond x (p ∷ []) []) e)
         (ap (λ (x : Bool). cond x (call_output opened (k.calls_accepted + 1) (outstanding_of k a)) []) e
-        ∙ send-one (k.calls_accepted + 1) (call_message a.xid opened.wished k.stag (outstanding_of k a).plan) short
+        ∙ send_one (k.calls_accepted + 1) (call_message a.xid opened.wished k.stag (outstanding_of k a).plan) short
         ∙ sym (append-nil (encoding (Untagged true OPCODE_SEND 0 QUEUE_SEND (msn_word (k.calls_accepted + 1)) 0 (call_message a.xid opened.wished k.stag (outstanding_of k a).plan))))
         ∙ (λ i. output_bytes Initiator (sym (calls true e) i) (total_of requests_in all_up) (p ∷ [])))
         (short, tt) refl refl
@@ -119,29 +119,29 @@ submitted opened k s u d all_up all_down w place a plan l own is limits = by k.h
         with_said [] (ap (λ (x : Bool). cond x (p ∷ []) []) e) (ap (λ (x : Bool). cond x (call_output opened (k.calls_accepted + 1) (outstanding_of k a)) []) e) tt refl refl
 
 -- the memory of a call is revoked
-pub xid-revoked : (xid : ℕ) (o : OutstandingCall) → (revoked_call xid o).xid ≡ o.xid
-xid-revoked xid o = by (eqb o.xid xid)
+pub xid_revoked : (xid : ℕ) (o : OutstandingCall) → (revoked_call xid o).xid ≡ o.xid
+xid_revoked xid o = by (eqb o.xid xid)
   where
     by : (b : Bool) → (cond b (record o { is_revoked = true }) o).xid ≡ o.xid
     by true = refl
     by false = refl
 
-absent-revoked : (xid n : ℕ) (os : List OutstandingCall) → IsUnused (λ (o : OutstandingCall). o.xid) n os → IsUnused (λ (o : OutstandingCall). o.xid) n (map (revoked_call xid) os)
-absent-revoked xid n [] h = tt
-absent-revoked xid n (o ∷ os) h = ((λ e. h.0 (sym (xid-revoked xid o) ∙ e)), absent-revoked xid n os h.1)
+absent_revoked : (xid n : ℕ) (os : List OutstandingCall) → IsUnused (λ (o : OutstandingCall). o.xid) n os → IsUnused (λ (o : OutstandingCall). o.xid) n (map (revoked_call xid) os)
+absent_revoked xid n [] h = tt
+absent_revoked xid n (o ∷ os) h = ((λ e. h.0 (sym (xid_revoked xid o) ∙ e)), absent_revoked xid n os h.1)
 
-apart-revoked : (xid : ℕ) (os : List OutstandingCall) → AreDistinct (λ (o : OutstandingCall). o.xid) os → AreDistinct (λ (o : OutstandingCall). o.xid) (map (revoked_call xid) os)
-apart-revoked xid [] h = tt
-apart-revoked xid (o ∷ os) h = (subst (λ (n : ℕ). IsUnused (λ (x : OutstandingCall). x.xid) n (map (revoked_call xid) os)) (sym (xid-revoked xid o)) (absent-revoked xid o.xid os h.0), apart-revoked xid os h.1)
+apart_revoked : (xid : ℕ) (os : List OutstandingCall) → AreDistinct (λ (o : OutstandingCall). o.xid) os → AreDistinct (λ (o : OutstandingCall). o.xid) (map (revoked_call xid) os)
+apart_revoked xid [] h = tt
+apart_revoked xid (o ∷ os) h = (subst (λ (n : ℕ). IsUnused (λ (x : OutstandingCall). x.xid) n (map (revoked_call xid) os)) (sym (xid_revoked xid o)) (absent_revoked xid o.xid os h.0), apart_revoked xid os h.1)
 
-below-revoked : (xid n : ℕ) (os : List OutstandingCall) → AreAtMost (λ (o : OutstandingCall). o.xid + 1) n os → AreAtMost (λ (o : OutstandingCall). o.xid + 1) n (map (revoked_call xid) os)
-below-revoked xid n [] h = tt
-below-revoked xid n (o ∷ os) h = (omega (arith, xid-revoked xid o, h.0), below-revoked xid n os h.1)
+below_revoked : (xid n : ℕ) (os : List OutstandingCall) → AreAtMost (λ (o : OutstandingCall). o.xid + 1) n os → AreAtMost (λ (o : OutstandingCall). o.xid + 1) n (map (revoked_call xid) os)
+below_revoked xid n [] h = tt
+below_revoked xid n (o ∷ os) h = (omega (arith, xid_revoked xid o, h.0), below_revoked xid n os h.1)
 
-same-linked : (opened : LinkParameters) (k t : ClientState) (s : ServerState) (u d all_up all_down : List FrameContent) (w v : Transit) → EndsAgree opened k s u d all_up all_down w
+same_linked : (opened : LinkParameters) (k t : ClientState) (s : ServerState) (u d all_up all_down : List FrameContent) (w v : Transit) → EndsAgree opened k s u d all_up all_down w
     → v.up ++ v.queued_up ≡ w.up ++ w.queued_up → v.down ++ v.queued_down ≡ w.down ++ w.queued_down → TotalsAgree t s v → OwnXids opened t → CallsShort opened t.outstanding → t.received ≡ k.received
     → EndsAgree opened t s u d all_up all_down v
-same-linked opened k t s u d all_up all_down w v l up down counts outs short received = record {
+same_linked opened k t s u d all_up all_down w v l up down counts outs short received = record {
   parts_up = ap (λ (ps : List FrameContent). u ++ ps) up ∙ l.parts_up;
   parts_down = ap (λ (ps : List FrameContent). d ++ ps) down ∙ l.parts_down;
   counts = counts;
@@ -161,9 +161,9 @@ same-linked opened k t s u d all_up all_down w v l up down counts outs short rec
   requests_sent = l.requests_sent;
 }
 
-pub totals-revoked : (opened : LinkParameters) (k : ClientState) (s : ServerState) (w : Transit) (place xid : ℕ) → TotalsAgree k s w → TotalsAgree (client_state_after opened k (MemoryRevoked place xid)) s w
+pub totals_revoked : (opened : LinkParameters) (k : ClientState) (s : ServerState) (w : Transit) (place xid : ℕ) → TotalsAgree k s w → TotalsAgree (client_state_after opened k (MemoryRevoked place xid)) s w
 unfolding client_state_after
-totals-revoked opened k s w place xid c = record {
+totals_revoked opened k s w place xid c = record {
   hello = c.hello;
   calls_up = c.calls_up;
   messages_down = c.messages_down;
@@ -184,15 +184,15 @@ pub revoked : (opened : LinkParameters) (k : ClientState) (s : ServerState) (u d
     → EndsAgree opened (client_state_after opened k (MemoryRevoked place xid)) s u d all_up all_down w
 unfolding client_state_after
 revoked opened k s u d all_up all_down w place xid l =
-    same-linked opened k (client_state_after opened k (MemoryRevoked place xid)) s u d all_up all_down w w l refl refl (totals-revoked opened k s w place xid l.counts)
-    (record { apart = apart-revoked xid k.outstanding l.outs.apart; below = below-revoked xid (next_xid opened k) k.outstanding l.outs.below }) (short-revoked opened xid k.outstanding l.short) refl
+    same_linked opened k (client_state_after opened k (MemoryRevoked place xid)) s u d all_up all_down w w l refl refl (totals_revoked opened k s w place xid l.counts)
+    (record { apart = apart_revoked xid k.outstanding l.outs.apart; below = below_revoked xid (next_xid opened k) k.outstanding l.outs.below }) (short_revoked opened xid k.outstanding l.short) refl
 
 pub written_up : (opened : LinkParameters) (k : ClientState) (s : ServerState) (u d all_up all_down : List FrameContent) (w : Transit) (taken : ℕ) → k.written + taken ≡ k.due → ClientEnds k → EndsAgree opened k s u d all_up all_down w
     → EndsAgree opened (client_state_after opened k (QueueWritten taken)) s u d all_up all_down (record { queued_up = []; up = w.up ++ w.queued_up; queued_down = w.queued_down; down = w.down })
 unfolding client_state_after
 written_up opened k s u d all_up all_down w taken all ends l =
-    same-linked opened k (client_state_after opened k (QueueWritten taken)) s u d all_up all_down w (record { queued_up = []; up = w.up ++ w.queued_up; queued_down = w.queued_down; down = w.down }) l
-    (append-nil (w.up ++ w.queued_up)) refl (totals-writes_up opened k s w taken all ends l.counts) (own_xids-writes taken opened k l.outs) l.short refl
+    same_linked opened k (client_state_after opened k (QueueWritten taken)) s u d all_up all_down w (record { queued_up = []; up = w.up ++ w.queued_up; queued_down = w.queued_down; down = w.down }) l
+    (append-nil (w.up ++ w.queued_up)) refl (totals_writes_up opened k s w taken all ends l.counts) (own_xids_writes taken opened k l.outs) l.short refl
 
 -- ---- Of a server
 
@@ -202,9 +202,9 @@ pub record Executed (opened : LinkParameters) (k : ClientState) (s : ServerState
   pub output : server_output opened s (CallExecuted e) ≡ output_bytes Responder (total_of sends_in all_down) (total_of requests_in all_down) said
   pub linked : EndsAgree opened k (server_state_after opened s (CallExecuted e)) u d all_up (all_down ++ said) (record { queued_up = w.queued_up; up = w.up; queued_down = w.queued_down ++ said; down = w.down })
 
-pub some-calls : (xid : ℕ) (calls : List PendingCall) → list_any (λ (c : PendingCall). eqb c.xid xid) calls ≡ true → 0 < length calls
-some-calls xid [] e = absurd cc
-some-calls xid (c ∷ calls) e = omega arith
+pub some_calls : (xid : ℕ) (calls : List PendingCall) → list_any (λ (c : PendingCall). eqb c.xid xid) calls ≡ true → 0 < length calls
+some_calls xid [] e = absurd cc
+some_calls xid (c ∷ calls) e = omega arith
 
 pub executed : (opened : LinkParameters) (k : ClientState) (s : ServerState) (u d all_up all_down : List FrameContent) (w : Transit) (e : ExecutedCall) (r : ReadyCall) (rest : List ReadyCall) → EndsAgree opened k s u d all_up all_down w
     → s.ready ≡ r ∷ rest → e.xid ≡ r.xid → 0 < total_of hellos_in all_down → ServerLimits s → Executed opened k s u d all_up all_down w e
@@ -213,32 +213,32 @@ executed opened k s u d all_up all_down w e r rest l first own begun limits =
     let said = execution_frames s e in
     let t = server_state_after opened s (CallExecuted e) in
     let answer = answer_of_target (offer_of s e.xid) s.down_max e.reply (target_of (call_of e.payload)) in
-    let there = executed-there s e.xid r rest l.waits first own in
-    let hellos : total_of hellos_in said ≡ 0 = answer-counts hellos_in 0 (λ last stag to payload. refl) (λ message. refl) s e.xid (offer_of s e.xid) answer in
-    let reads : total_of requests_in said ≡ 0 = answer-counts requests_in 0 (λ last stag to payload. refl) (λ message. refl) s e.xid (offer_of s e.xid) answer in
+    let there = executed_there s e.xid r rest l.waits first own in
+    let hellos : total_of hellos_in said ≡ 0 = answer_counts hellos_in 0 (λ last stag to payload. refl) (λ message. refl) s e.xid (offer_of s e.xid) answer in
+    let reads : total_of requests_in said ≡ 0 = answer_counts requests_in 0 (λ last stag to payload. refl) (λ message. refl) s e.xid (offer_of s e.xid) answer in
     record {
       said = said;
       said_is = refl;
-      output = execution-said s s.requests_sent e limits l.fits ∙ (λ i. output_bytes Responder (messages_said opened k s u d all_up all_down w l i) (l.requests_sent i) said);
+      output = execution_said s s.requests_sent e limits l.fits ∙ (λ i. output_bytes Responder (messages_said opened k s u d all_up all_down w l i) (l.requests_sent i) said);
       linked = record {
         parts_up = l.parts_up;
         parts_down =
             ap (λ (ps : List FrameContent). d ++ ps) (sym (append_assoc w.down w.queued_down said)) ∙ sym (append_assoc d (w.down ++ w.queued_down) said) ∙ ap (λ (ps : List FrameContent). ps ++ said) l.parts_down;
-        counts = totals-executes opened k s w e l.counts l.waits.xids there;
-        waits = pending_agree-executes opened s e r rest l.waits first own;
+        counts = totals_executes opened k s w e l.counts l.waits.xids there;
+        waits = pending_agree_executes opened s e r rest l.waits first own;
         outs = l.outs;
-        fits = each-kept CallFits (λ c. not (eqb c.xid e.xid)) s.calls l.fits;
+        fits = each_kept CallFits (λ c. not (eqb c.xid e.xid)) s.calls l.fits;
         short = l.short;
         stream_up = l.stream_up;
         begins_up = l.begins_up;
-        stream_down = stream-more all_down said l.stream_down begun (execution-proper s e limits l.fits);
-        hellos_down = omega (arith, l.hellos_down, hellos, total-append hellos_in all_down said);
+        stream_down = stream_more all_down said l.stream_down begun (execution_proper s e limits l.fits);
+        hellos_down = omega (arith, l.hellos_down, hellos, total_append hellos_in all_down said);
         no_reads = l.no_reads;
         sends_up = l.sends_up;
         requests_up = l.requests_up;
         sends_down = l.sends_down;
         requests_down = l.requests_down;
-        requests_sent = omega (arith, l.requests_sent, reads, total-append requests_in all_down said);
+        requests_sent = omega (arith, l.requests_sent, reads, total_append requests_in all_down said);
       };
     }
 
@@ -248,7 +248,7 @@ unfolding server_state_after
 written_down opened k s u d all_up all_down w taken all ends l = record {
   parts_up = l.parts_up;
   parts_down = ap (λ (ps : List FrameContent). d ++ ps) (append-nil (w.down ++ w.queued_down)) ∙ l.parts_down;
-  counts = totals-writes_down opened k s w taken all ends l.counts;
+  counts = totals_writes_down opened k s w taken all ends l.counts;
   waits = record { numbers = l.waits.numbers; xids = l.waits.xids; calls_below = l.waits.calls_below; reads_below = l.waits.reads_below; ready_apart = l.waits.ready_apart; ready_calls = l.waits.ready_calls; whole_calls = l.waits.whole_calls };
   outs = l.outs;
   fits = l.fits;

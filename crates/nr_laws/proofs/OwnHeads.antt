@@ -12,6 +12,6 @@ pub record OwnHead (xid : ℕ) (call : Call) : Type 0 where
   pub args_at : ℕ
   pub is : call_of (call_payload xid call) ≡ Ok (calls.Version2 xid call.prog call.vers call.proc call.cred args_at)
 
-pub own-head : (xid : ℕ) (call : Call) → xid < 2 ^ 32 → IsTypedCall call → CanWriteCred call.cred → OwnHead xid call
+pub own_head_lem : (xid : ℕ) (call : Call) → xid < 2 ^ 32 → IsTypedCall call → CanWriteCred call.cred → OwnHead xid call
 unfolding call_payload
-own-head xid call small typed can = record { args_at = _; is = call_written (calls.Version2 xid call.prog call.vers call.proc call.cred 0) call.args can (small, typed.0, typed.1, typed.2, typed.3) }
+own_head_lem xid call small typed can = record { args_at = _; is = call_written (calls.Version2 xid call.prog call.vers call.proc call.cred 0) call.args can (small, typed.0, typed.1, typed.2, typed.3) }

@@ -15,21 +15,21 @@ use Rattle.nr_reduce.specs.ServerMessages.Verdict.{BadChunks}
 use Rattle.nr_reduce.specs.Server.{initial_server}
 use Rattle.nr_reduce.specs.Run.{client}
 use Rattle.nr_reduce.specs.Asked.{AskedMark, IsAccepted}
-use Rattle.nr_reduce.proofs.BadMessages.{bad-refused}
+use Rattle.nr_reduce.proofs.BadMessages.{bad_refused}
 use Rattle.nr_laws.specs.Typed.{TypedMark}
 use Rattle.nr_laws.specs.Payloads.{HasPlan}
 use Rattle.nr_laws.specs.ChunkOutcomes.{NoOwnPlanIsRefused}
-use Rattle.nr_laws.proofs.WrittenBytes.{WrittenAs, written-as, message-same}
-use Rattle.nr_laws.proofs.CallWords.{CallWords, call-words}
-use Rattle.nr_laws.proofs.OnceByXid.{at-mark}
-use Rattle.nr_laws.proofs.ExecutedPayloads.{planned-by}
-use Rattle.nr_laws.proofs.OwnPlans.{payload-some, plan-suits}
-use Rattle.nr_laws.proofs.RefusedMessages.{long-enough}
-use Rattle.nr_laws.proofs.SubmittedPlans.{plan-is}
+use Rattle.nr_laws.proofs.WrittenBytes.{WrittenAs, written_as_lem, message_same_lem}
+use Rattle.nr_laws.proofs.CallWords.{CallWords, call_words_lem}
+use Rattle.nr_laws.proofs.OnceByXid.{at_mark}
+use Rattle.nr_laws.proofs.ExecutedPayloads.{planned_by}
+use Rattle.nr_laws.proofs.OwnPlans.{payload_some, plan_suits}
+use Rattle.nr_laws.proofs.RefusedMessages.{long_enough}
+use Rattle.nr_laws.proofs.SubmittedPlans.{plan_is_lem}
 
 pub no_own_plan_is_refused : NoOwnPlanIsRefused
 no_own_plan_is_refused opened link run xid typed asked m own =
-    plan-suits k (call_payload xid has.call) has.form xid w.number stag m.plan bytes own (planned-by opened link has.before xid has.call has.form m.plan has.planned) (payload-some xid has.call)
+    plan_suits k (call_payload xid has.call) has.form xid w.number stag m.plan bytes own (planned_by opened link has.before xid has.call has.form m.plan has.planned) (payload_some xid has.call)
     (let fits = accepted.xids in omega (arith, fits)) w.fits (let fit = stags in omega (arith, fit)) (ap (λ (x : List ℕ). verdict k x) (sym same) ∙ bad)
   where
     has : HasPlan opened link run xid m.plan
@@ -42,26 +42,26 @@ no_own_plan_is_refused opened link run xid typed asked m own =
     k = (initial_server opened).state
 
     accepted : IsAccepted opened link has.before has.call has.form xid
-    accepted = at-mark (AskedMark IsPrefixOf opened link) run has.before (marks.Submit link has.call has.form (submissions.Accepted xid)) has.at.after has.at.is asked refl
+    accepted = at_mark (AskedMark IsPrefixOf opened link) run has.before (marks.Submit link has.call has.form (submissions.Accepted xid)) has.at.after has.at.is asked refl
 
     bytes : IsBytes (call_payload xid has.call)
-    bytes = (at-mark TypedMark run has.before (marks.Submit link has.call has.form (submissions.Accepted xid)) has.at.after has.at.is typed).0
+    bytes = (at_mark TypedMark run has.before (marks.Submit link has.call has.form (submissions.Accepted xid)) has.at.after has.at.is typed).0
 
     stags : stag + regions_needed m.plan ≤ numbers_end
-    stags = subst (λ (p : Plan). stag + regions_needed p ≤ numbers_end) (plan-is accepted.plan m.plan (plan_for (client opened link has.before).state xid has.call has.form) accepted.planned has.planned) accepted.stags
+    stags = subst (λ (p : Plan). stag + regions_needed p ≤ numbers_end) (plan_is_lem accepted.plan m.plan (plan_for (client opened link has.before).state xid has.call has.form) accepted.planned has.planned) accepted.stags
 
     message : List ℕ
     message = call_message xid opened.wished stag m.plan
 
     -- the credits of its header are a word, whatever they are
     w : WrittenAs opened.wished
-    w = written-as opened.wished
+    w = written_as_lem opened.wished
 
     same : message ≡ call_message xid w.number stag m.plan
-    same = message-same xid opened.wished w.number stag m.plan w.same
+    same = message_same_lem xid opened.wished w.number stag m.plan w.same
 
     words : CallWords xid message
-    words = (let fits = accepted.xids in call-words xid opened.wished stag m.plan (omega (arith, fits)))
+    words = (let fits = accepted.xids in call_words_lem xid opened.wished stag m.plan (omega (arith, fits)))
 
     done : word_at 12 message ≢ 3
     done e = (let kind = words.kind in omega (arith, e, kind))
@@ -70,4 +70,4 @@ no_own_plan_is_refused opened link run xid typed asked m own =
     error e = (let kind = words.kind in omega (arith, e, kind))
 
     bad : verdict k message ≡ BadChunks
-    bad = (bad-refused k message (long-enough opened (client opened link has.before).state xid has.call has.form m.plan has.planned) words.version done error refl).1 m.refused
+    bad = (bad_refused k message (long_enough opened (client opened link has.before).state xid has.call has.form m.plan has.planned) words.version done error refl).1 m.refused

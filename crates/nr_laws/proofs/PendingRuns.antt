@@ -5,26 +5,26 @@ use Rattle.nr_wire.specs.declared.hello.Side.TheVariants.{Responder}
 use Rattle.nr_reduce.specs.declared.mark.Mark.{Mark}
 use Rattle.nr_reduce.specs.declared.mark.LinkParameters.{LinkParameters}
 use Rattle.nr_reduce.specs.History.{ExecutedCall}
-use Rattle.nr_reduce.specs.Events.{Event, events}
-use Rattle.nr_reduce.specs.Events.Event.{CallExecuted}
+use Rattle.nr_reduce.specs.Events.{RunEvent, events}
+use Rattle.nr_reduce.specs.Events.RunEvent.{CallExecuted}
 use Rattle.nr_reduce.specs.EndRules.{end_state_after}
 use Rattle.nr_reduce.specs.ServerState.{PendingCall}
 use Rattle.nr_reduce.specs.Server.{server_rules, initial_server}
 use Rattle.nr_reduce.specs.Served.{ServedSoFar}
 use Rattle.nr_reduce.specs.RunLaws.{server_by}
 use Rattle.nr_laws.specs.Typed.{IsTyped}
-use Rattle.nr_laws.proofs.Along.{GoesOn, goes-behind}
-use Rattle.nr_laws.proofs.PendingExecuted.{executed-there}
-use Rattle.nr_laws.proofs.KeptAtServer.{kept-at-server}
+use Rattle.nr_laws.proofs.EventOutputs.{GoesOn, goes_behind}
+use Rattle.nr_laws.proofs.PendingExecuted.{executed_there}
+use Rattle.nr_laws.proofs.KeptAtServer.{kept_at_server}
 use Rattle.nr_laws.proofs.ServerAlong.{IsGoodExecution, ServerPlain}
-use Rattle.nr_laws.proofs.ServerSide.{server-goes}
+use Rattle.nr_laws.proofs.ServerSide.{server_goes}
 
-pub executes-pending : (opened : LinkParameters) (link : ℕ) (run : List Mark) → IsTyped run → ServedSoFar opened link run → (es : List Event) (e : ExecutedCall) (more : List Event) → events link Responder run ≡ es ++ CallExecuted e ∷ more
+pub executes_pending : (opened : LinkParameters) (link : ℕ) (run : List Mark) → IsTyped run → ServedSoFar opened link run → (es : List RunEvent) (e : ExecutedCall) (more : List RunEvent) → events link Responder run ≡ es ++ CallExecuted e ∷ more
     → list_any (λ (c : PendingCall). eqb c.xid e.xid) (server_by opened es).calls ≡ true
-executes-pending opened link run typed served es e more is =
+executes_pending opened link run typed served es e more is =
     let rules = server_rules opened in
-    let g = server-goes opened link run typed served in
-    let goes : GoesOn rules ServerPlain 0 (initial_server opened) (es ++ CallExecuted e ∷ more) = subst (λ (xs : List Event). GoesOn rules ServerPlain 0 (initial_server opened) xs) is g.goes in
-    let rest = goes-behind rules ServerPlain 0 (initial_server opened) es (CallExecuted e ∷ more) goes in
+    let g = server_goes opened link run typed served in
+    let goes : GoesOn rules ServerPlain 0 (initial_server opened) (es ++ CallExecuted e ∷ more) = subst (λ (xs : List RunEvent). GoesOn rules ServerPlain 0 (initial_server opened) xs) is g.goes in
+    let rest = goes_behind rules ServerPlain 0 (initial_server opened) es (CallExecuted e ∷ more) goes in
     let x : IsGoodExecution (end_state_after rules (initial_server opened) es) e = rest.1 in
-    executed-there (server_by opened es) e.xid x.call x.others (kept-at-server opened link run typed served es (CallExecuted e ∷ more) is).agree x.is_next x.xid
+    executed_there (server_by opened es) e.xid x.call x.others (kept_at_server opened link run typed served es (CallExecuted e ∷ more) is).agree x.is_next x.xid

@@ -7,59 +7,59 @@ use Rattle.nr_reduce.specs.AtEachMark.{AtEachMark}
 use Rattle.nr_reduce.specs.PlainJournal.{PlainServer, journal}
 use Rattle.nr_reduce.specs.Journal.{Journaled}
 use Rattle.nr_reduce.proofs.Placing.{at_place}
-use Rattle.nr_reduce.proofs.SoFarLaws.{AtEachMark-each}
-use Rattle.nr_laws.specs.PlainLinks.{server_with, PlainOnMark, PlainlyOn, AtPlaceOnMark, AtPlacesOn, PlainReplyMark, JournaledLinksAreAtPlaces, PlacedLinksHavePlainReplies, PlainLinksHavePlainReplies}
-use Rattle.nr_laws.proofs.OnceByXid.{at-mark}
+use Rattle.nr_reduce.proofs.SoFarLaws.{AtEachMark_each}
+use Rattle.nr_laws.specs.PlainLinks.{server_with, PlainOnMark, AnsweredByPlainServerOn, AtPlaceOnMark, AtPlacesOn, PlainReplyMark, JournaledLinksAreAtPlaces, PlacedLinksHavePlainReplies, PlainLinksHavePlainReplies}
+use Rattle.nr_laws.proofs.OnceByXid.{at_mark}
 
 -- what holds at each mark of a run, by what stands before and after it
-each-is : (P : List Mark → Mark → Type 0) (run before : List Mark) → ((b : List Mark) (m : Mark) (after : List Mark) → before ++ run ≡ b ++ m ∷ after → P b m) → AtEachMark P before run
-each-is P [] before h = tt
-each-is P (m ∷ run) before h = (h before m run refl, each-is P run (before ++ m ∷ []) (λ b n after is. h b n after (sym (append_assoc before (m ∷ []) run) ∙ is)))
+each_is : (P : List Mark → Mark → Type 0) (run before : List Mark) → ((b : List Mark) (m : Mark) (after : List Mark) → before ++ run ≡ b ++ m ∷ after → P b m) → AtEachMark P before run
+each_is P [] before h = tt
+each_is P (m ∷ run) before h = (h before m run refl, each_is P run (before ++ m ∷ []) (λ b n after is. h b n after (sym (append_assoc before (m ∷ []) run) ∙ is)))
 
-placed-mark : (plain : PlainServer) (J : List Entry) (link : ℕ) (run before : List Mark) (mark : Mark) (after : List Mark) → Journaled plain J run → run ≡ before ++ mark ∷ after → PlainOnMark plain link before mark → AtPlaceOnMark plain J link before mark
-placed-mark plain J link run before (marks.Submit l call form answer) after journaled is plainly = tt
-placed-mark plain J link run before (marks.Wrote l side bytes) after journaled is plainly = tt
-placed-mark plain J link run before (marks.Fed l side bytes) after journaled is plainly = tt
-placed-mark plain J link run before (marks.Execute l xid moment payload place reply) after journaled is plainly = λ own. at_place plain J run before after l xid moment payload place reply is journaled (plainly own)
-placed-mark plain J link run before (marks.Done l xid outcome) after journaled is plainly = tt
-placed-mark plain J link run before (marks.Lost l xid) after journaled is plainly = tt
-placed-mark plain J link run before (marks.Forget l xid) after journaled is plainly = tt
-placed-mark plain J link run before (marks.Revoke l xid bytes) after journaled is plainly = tt
-placed-mark plain J link run before (marks.Drop l) after journaled is plainly = tt
+placed_mark : (plain : PlainServer) (J : List Entry) (link : ℕ) (run before : List Mark) (mark : Mark) (after : List Mark) → Journaled plain J run → run ≡ before ++ mark ∷ after → PlainOnMark plain link before mark → AtPlaceOnMark plain J link before mark
+placed_mark plain J link run before (marks.Submit l call form answer) after journaled is plainly = tt
+placed_mark plain J link run before (marks.Wrote l side bytes) after journaled is plainly = tt
+placed_mark plain J link run before (marks.Fed l side bytes) after journaled is plainly = tt
+placed_mark plain J link run before (marks.Execute l xid moment payload place reply) after journaled is plainly = λ own. at_place plain J run before after l xid moment payload place reply is journaled (plainly own)
+placed_mark plain J link run before (marks.Done l xid outcome) after journaled is plainly = tt
+placed_mark plain J link run before (marks.Lost l xid) after journaled is plainly = tt
+placed_mark plain J link run before (marks.Forget l xid) after journaled is plainly = tt
+placed_mark plain J link run before (marks.Revoke l xid bytes) after journaled is plainly = tt
+placed_mark plain J link run before (marks.Drop l) after journaled is plainly = tt
 
-pub at-places-on : (plain : PlainServer) (J : List Entry) (link : ℕ) (run : List Mark) → Journaled plain J run → PlainlyOn plain link run → AtPlacesOn plain J link run
-at-places-on plain J link run journaled plainly =
-    each-is (AtPlaceOnMark plain J link) run [] (λ before mark after is. placed-mark plain J link run before mark after journaled is (at-mark (PlainOnMark plain link) run before mark after is plainly))
+pub at_places_on : (plain : PlainServer) (J : List Entry) (link : ℕ) (run : List Mark) → Journaled plain J run → AnsweredByPlainServerOn plain link run → AtPlacesOn plain J link run
+at_places_on plain J link run journaled plainly =
+    each_is (AtPlaceOnMark plain J link) run [] (λ before mark after is. placed_mark plain J link run before mark after journaled is (at_mark (PlainOnMark plain link) run before mark after is plainly))
 
-reply-at-place : (plain : PlainServer) (J : List Entry) (link : ℕ) (before : List Mark) (mark : Mark) → AtPlaceOnMark plain J link before mark → PlainReplyMark plain link before mark
-reply-at-place plain J link before (marks.Submit l call form answer) placed = tt
-reply-at-place plain J link before (marks.Wrote l side bytes) placed = tt
-reply-at-place plain J link before (marks.Fed l side bytes) placed = tt
-reply-at-place plain J link before (marks.Execute l xid moment payload place reply) placed = λ own. (take place J, (placed own).replied)
-reply-at-place plain J link before (marks.Done l xid outcome) placed = tt
-reply-at-place plain J link before (marks.Lost l xid) placed = tt
-reply-at-place plain J link before (marks.Forget l xid) placed = tt
-reply-at-place plain J link before (marks.Revoke l xid bytes) placed = tt
-reply-at-place plain J link before (marks.Drop l) placed = tt
+reply_at_place : (plain : PlainServer) (J : List Entry) (link : ℕ) (before : List Mark) (mark : Mark) → AtPlaceOnMark plain J link before mark → PlainReplyMark plain link before mark
+reply_at_place plain J link before (marks.Submit l call form answer) placed = tt
+reply_at_place plain J link before (marks.Wrote l side bytes) placed = tt
+reply_at_place plain J link before (marks.Fed l side bytes) placed = tt
+reply_at_place plain J link before (marks.Execute l xid moment payload place reply) placed = λ own. (take place J, (placed own).replied)
+reply_at_place plain J link before (marks.Done l xid outcome) placed = tt
+reply_at_place plain J link before (marks.Lost l xid) placed = tt
+reply_at_place plain J link before (marks.Forget l xid) placed = tt
+reply_at_place plain J link before (marks.Revoke l xid bytes) placed = tt
+reply_at_place plain J link before (marks.Drop l) placed = tt
 
-reply-by-journal : (plain : PlainServer) (link : ℕ) (before : List Mark) (mark : Mark) → PlainOnMark plain link before mark → PlainReplyMark plain link before mark
-reply-by-journal plain link before (marks.Submit l call form answer) plainly = tt
-reply-by-journal plain link before (marks.Wrote l side bytes) plainly = tt
-reply-by-journal plain link before (marks.Fed l side bytes) plainly = tt
-reply-by-journal plain link before (marks.Execute l xid moment payload place reply) plainly = λ own. (journal plain before, plainly own)
-reply-by-journal plain link before (marks.Done l xid outcome) plainly = tt
-reply-by-journal plain link before (marks.Lost l xid) plainly = tt
-reply-by-journal plain link before (marks.Forget l xid) plainly = tt
-reply-by-journal plain link before (marks.Revoke l xid bytes) plainly = tt
-reply-by-journal plain link before (marks.Drop l) plainly = tt
+reply_by_journal : (plain : PlainServer) (link : ℕ) (before : List Mark) (mark : Mark) → PlainOnMark plain link before mark → PlainReplyMark plain link before mark
+reply_by_journal plain link before (marks.Submit l call form answer) plainly = tt
+reply_by_journal plain link before (marks.Wrote l side bytes) plainly = tt
+reply_by_journal plain link before (marks.Fed l side bytes) plainly = tt
+reply_by_journal plain link before (marks.Execute l xid moment payload place reply) plainly = λ own. (journal plain before, plainly own)
+reply_by_journal plain link before (marks.Done l xid outcome) plainly = tt
+reply_by_journal plain link before (marks.Lost l xid) plainly = tt
+reply_by_journal plain link before (marks.Forget l xid) plainly = tt
+reply_by_journal plain link before (marks.Revoke l xid bytes) plainly = tt
+reply_by_journal plain link before (marks.Drop l) plainly = tt
 
 pub journaled_links_are_at_places : JournaledLinksAreAtPlaces
-journaled_links_are_at_places reply_to adds = at-places-on (server_with reply_to adds)
+journaled_links_are_at_places reply_to adds = at_places_on (server_with reply_to adds)
 
 pub placed_links_have_plain_replies : PlacedLinksHavePlainReplies
 placed_links_have_plain_replies reply_to adds J link run placed =
-    AtEachMark-each (AtPlaceOnMark (server_with reply_to adds) J link) (PlainReplyMark (server_with reply_to adds) link) [] run (reply-at-place (server_with reply_to adds) J link) placed
+    AtEachMark_each (AtPlaceOnMark (server_with reply_to adds) J link) (PlainReplyMark (server_with reply_to adds) link) [] run (reply_at_place (server_with reply_to adds) J link) placed
 
 pub plain_links_have_plain_replies : PlainLinksHavePlainReplies
 plain_links_have_plain_replies reply_to adds link run plainly =
-    AtEachMark-each (PlainOnMark (server_with reply_to adds) link) (PlainReplyMark (server_with reply_to adds) link) [] run (reply-by-journal (server_with reply_to adds) link) plainly
+    AtEachMark_each (PlainOnMark (server_with reply_to adds) link) (PlainReplyMark (server_with reply_to adds) link) [] run (reply_by_journal (server_with reply_to adds) link) plainly

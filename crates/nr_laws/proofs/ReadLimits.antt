@@ -22,9 +22,9 @@ use Rattle.nr_reduce.specs.ServerMessages.{verdict}
 use Rattle.nr_reduce.specs.ServerMessages.Verdict.{MakesPending}
 use Rattle.nr_reduce.specs.ServerFrames.{FrameEffect, with_refused_call, frame_effect}
 use Rattle.nr_laws.proofs.WritableOffers.{EntriesFit, verdict_fits, verdict_few}
-use Rattle.nr_laws.proofs.ServerInvariant.{length-from}
-use Rattle.nr_laws.proofs.Basics.{above-zero, each-append, each-take, each-drop, each-kept}
-use Rattle.nr_laws.proofs.EachEffect.{held-messages, held-responses, send-effect, tagged-effect}
+use Rattle.nr_laws.proofs.ServerInvariant.{length_from}
+use Rattle.nr_laws.proofs.Basics.{above_zero, each_append, each_take, each_drop, each_kept}
+use Rattle.nr_laws.proofs.EachEffect.{held_messages, held_responses, send_effect, tagged_effect_lem}
 
 abbrev pub ReadFits : PendingRead → Type 0
 ReadFits r = (0 < r.size) × (r.size < 2 ^ 32) × (r.stag < 2 ^ 32) × (r.to < 2 ^ 64)
@@ -39,21 +39,21 @@ pub record AreWithin (reads : List PendingRead) (regions : List Region) : Type 0
 
 -- ---- A call's reads and regions
 
-reads-fit : (regions : List Region) (number : ℕ) (before read : List ReadSegment) → EntriesFit read → AllByRecursion ReadFits (reads_from regions number before read)
-reads-fit regions number before [] h = tt
-reads-fit regions number before (r ∷ read) h = by (eqb r.length 0) refl (reads-fit regions number (before ++ r ∷ []) read h.1)
+reads_fit : (regions : List Region) (number : ℕ) (before read : List ReadSegment) → EntriesFit read → AllByRecursion ReadFits (reads_from regions number before read)
+reads_fit regions number before [] h = tt
+reads_fit regions number before (r ∷ read) h = by (eqb r.length 0) refl (reads_fit regions number (before ++ r ∷ []) read h.1)
   where
     first : PendingRead
     first = read_of regions number (total_at r.position before) r
 
     by : (b : Bool) → eqb r.length 0 ≡ b → AllByRecursion ReadFits (reads_from regions number (before ++ r ∷ []) read) → AllByRecursion ReadFits (cond b [] (first ∷ []) ++ reads_from regions number (before ++ r ∷ []) read)
     by true is k = k
-    by false is k = ((above-zero r.length is, h.0.0, h.0.1, h.0.2), k)
+    by false is k = ((above_zero r.length is, h.0.0, h.0.1, h.0.2), k)
 
-total-below : (p : ℕ) (read : List ReadSegment) → total_at p read ≤ read_total read
+total_below : (p : ℕ) (read : List ReadSegment) → total_at p read ≤ read_total read
 unfolding total_at
-total-below p [] = omega arith
-total-below p (r ∷ read) = by (eqb r.position p) (total-below p read)
+total_below p [] = omega arith
+total_below p (r ∷ read) = by (eqb r.position p) (total_below p read)
   where
     rest : List ReadSegment
     rest = at_position p read
@@ -62,16 +62,16 @@ total-below p (r ∷ read) = by (eqb r.position p) (total-below p read)
     by true le = omega (arith, le, sum_by-cons (λ (x : ReadSegment). x.length) r rest, sum_by-cons (λ (x : ReadSegment). x.length) r read)
     by false le = omega (arith, le, sum_by-cons (λ (x : ReadSegment). x.length) r read)
 
-regions-small : (number place stag : ℕ) (lists : ChunkLists) (ps : List ℕ) → read_total lists.read ≤ PAYLOAD_MAX → AllByRecursion IsSmall (regions_from number place stag lists ps)
-regions-small number place stag lists [] le = tt
-regions-small number place stag lists (p ∷ ps) le =
-    (omega (arith, length-replicate {A = ℕ} (total_at p lists.read) 0, total-below p lists.read, le), regions-small number place (stag + 1) lists ps le)
+regions_small : (number place stag : ℕ) (lists : ChunkLists) (ps : List ℕ) → read_total lists.read ≤ PAYLOAD_MAX → AllByRecursion IsSmall (regions_from number place stag lists ps)
+regions_small number place stag lists [] le = tt
+regions_small number place stag lists (p ∷ ps) le =
+    (omega (arith, length-replicate {A = ℕ} (total_at p lists.read) 0, total_below p lists.read, le), regions_small number place (stag + 1) lists ps le)
 
 -- ---- Effects
 
-pub within-send : (k : ServerState) (f : Frame) (message : List ℕ) → k.received.begun ≡ None → IsBytes message → AreWithin k.reads k.regions → frame_segment f ≡ Ok (Untagged true OPCODE_SEND 0 QUEUE_SEND (msn_word (k.received.sends + 1)) 0 message)
+pub within_send : (k : ServerState) (f : Frame) (message : List ℕ) → k.received.begun ≡ None → IsBytes message → AreWithin k.reads k.regions → frame_segment f ≡ Ok (Untagged true OPCODE_SEND 0 QUEUE_SEND (msn_word (k.received.sends + 1)) 0 message)
     → AreWithin (frame_effect k f).reads (frame_effect k f).regions
-within-send k f message none bytes h is = send-effect k IsBytes (λ s. AreWithin s.reads s.regions) (held-messages k IsBytes (λ calls reads regions. AreWithin reads regions) h pending) f message none bytes is
+within_send k f message none bytes h is = send_effect k IsBytes (λ s. AreWithin s.reads s.regions) (held_messages k IsBytes (λ calls reads regions. AreWithin reads regions) h pending) f message none bytes is
   where
     pending : (place : ℕ) (message : List ℕ) (c : PendingCall) → IsBytes message → verdict k message ≡ MakesPending c → AreWithin (k.reads ++ reads_of (k.regions ++ regions_of k place c) c) (k.regions ++ regions_of k place c)
     pending place message c bytes is =
@@ -79,19 +79,19 @@ within-send k f message none bytes h is = send-effect k IsBytes (λ s. AreWithin
         let few = verdict_few k message c is in
         let regions = k.regions ++ regions_of k place c in
         record {
-          fit = each-append ReadFits k.reads (reads_of regions c) h.fit (reads-fit regions c.number [] c.lists.read fits.reads);
-          few = omega (arith, length-append k.regions (regions_of k place c), length-from c.number place (next_stag k) c.lists (chunks_of c.lists), few);
-          small = each-append IsSmall k.regions (regions_of k place c) h.small (regions-small c.number place (next_stag k) c.lists (chunks_of c.lists) fits.total);
+          fit = each_append ReadFits k.reads (reads_of regions c) h.fit (reads_fit regions c.number [] c.lists.read fits.reads);
+          few = omega (arith, length-append k.regions (regions_of k place c), length_from c.number place (next_stag k) c.lists (chunks_of c.lists), few);
+          small = each_append IsSmall k.regions (regions_of k place c) h.small (regions_small c.number place (next_stag k) c.lists (chunks_of c.lists) fits.total);
         }
 
-pub within-tagged : (k : ServerState) (f : Frame) (last : Bool) (opcode stag to : ℕ) (payload : List ℕ) → AreWithin k.reads k.regions → frame_segment f ≡ Ok (Tagged last opcode stag to payload) → AreWithin (frame_effect k f).reads (frame_effect k f).regions
-within-tagged k f last opcode stag to payload h is =
-    tagged-effect k (λ s. AreWithin s.reads s.regions) (held-responses k (λ calls reads regions. AreWithin reads regions) h refused read) f last opcode stag to payload is
+pub within_tagged : (k : ServerState) (f : Frame) (last : Bool) (opcode stag to : ℕ) (payload : List ℕ) → AreWithin k.reads k.regions → frame_segment f ≡ Ok (Tagged last opcode stag to payload) → AreWithin (frame_effect k f).reads (frame_effect k f).regions
+within_tagged k f last opcode stag to payload h is =
+    tagged_effect_lem k (λ s. AreWithin s.reads s.regions) (held_responses k (λ calls reads regions. AreWithin reads regions) h refused read) f last opcode stag to payload is
   where
     refused : (c : PendingCall) (s : FrameEffect) → AreWithin s.reads s.regions → AreWithin (with_refused_call k c s).reads s.regions
     refused c s g = record {
-      fit = each-append ReadFits (take s.kept s.reads) (filter (λ (x : PendingRead). not (eqb x.number c.number)) (drop s.kept s.reads)) (each-take ReadFits s.kept s.reads g.fit)
-          (each-kept ReadFits (λ (x : PendingRead). not (eqb x.number c.number)) (drop s.kept s.reads) (each-drop ReadFits s.kept s.reads g.fit));
+      fit = each_append ReadFits (take s.kept s.reads) (filter (λ (x : PendingRead). not (eqb x.number c.number)) (drop s.kept s.reads)) (each_take ReadFits s.kept s.reads g.fit)
+          (each_kept ReadFits (λ (x : PendingRead). not (eqb x.number c.number)) (drop s.kept s.reads) (each_drop ReadFits s.kept s.reads g.fit));
       few = g.few;
       small = g.small;
     }
@@ -100,18 +100,18 @@ within-tagged k f last opcode stag to payload h is =
     read r reads is = (let all : AreWithin (r ∷ reads) k.regions = subst (λ (rs : List PendingRead). AreWithin rs k.regions) is h in record { fit = all.fit.1; few = all.few; small = all.small })
 
 -- where regions are closed
-small-closed : (test : Region → Bool) (place : ℕ) (regions : List Region) → AllByRecursion IsSmall regions → AllByRecursion IsSmall (map (λ (g : Region). closed_if (test g) place g) regions)
-small-closed test place [] h = tt
-small-closed test place (g ∷ regions) h = (by (test g), small-closed test place regions h.1)
+small_closed : (test : Region → Bool) (place : ℕ) (regions : List Region) → AllByRecursion IsSmall regions → AllByRecursion IsSmall (map (λ (g : Region). closed_if (test g) place g) regions)
+small_closed test place [] h = tt
+small_closed test place (g ∷ regions) h = (by (test g), small_closed test place regions h.1)
   where
     by : (b : Bool) → IsSmall (closed_if b place g)
     by true = h.0
     by false = h.0
 
-pub within-closed : (test : Region → Bool) (place : ℕ) (reads : List PendingRead) (regions : List Region) → AreWithin reads regions → AreWithin reads (regions_closed test place regions)
+pub within_closed : (test : Region → Bool) (place : ℕ) (reads : List PendingRead) (regions : List Region) → AreWithin reads regions → AreWithin reads (regions_closed test place regions)
 unfolding regions_closed
-within-closed test place reads regions h = record {
+within_closed test place reads regions h = record {
   fit = h.fit;
   few = omega (arith, h.few, length-map regions (λ (g : Region). closed_if (test g) place g));
-  small = small-closed test place regions h.small;
+  small = small_closed test place regions h.small;
 }

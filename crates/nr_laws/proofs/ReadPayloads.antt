@@ -12,89 +12,89 @@ use Rattle.nr_reduce.specs.declared.outline.Plan.{Plan}
 use Rattle.nr_reduce.specs.Limits.{given_max}
 use Rattle.nr_reduce.specs.Plans.{TooLarge, plan_of, plan_size, given_plan, given_read, given_total, total, within, has_segment, one_if, regions_needed, write_stag, reply_stag, buffer_if, buffers}
 use Rattle.nr_reduce.specs.OfferedRegions.{Region}
-use Rattle.nr_reduce.specs.Undone.{IsNotGiven}
+use Rattle.nr_reduce.specs.ChunkBytes.{IsNotGiven}
 use Rattle.nr_reduce.specs.ServerState.{PendingRead}
-use Rattle.nr_reduce.proofs.Laid.{added_up}
-use Rattle.nr_reduce.proofs.Shapes.{MessageKind, offered, shape, is_plan, within-ok}
-use Rattle.nr_reduce.proofs.Shapes.MessageKind.{Short, Chunked, Long}
+use Rattle.nr_reduce.proofs.WrittenChunks.{added_up}
+use Rattle.nr_reduce.proofs.PlanKinds.{MessageKind, offered, shape, is_plan, within_ok_lem}
+use Rattle.nr_reduce.proofs.PlanKinds.MessageKind.{Short, Chunked, Long}
 use Rattle.nr_laws.proofs.ClientMemory.{HasRegion, HasBuffers}
 use Rattle.nr_laws.proofs.FetchedRegions.{IsFetched}
 use Rattle.nr_laws.proofs.SinkReads.{own_reads}
-use Rattle.nr_reduce.proofs.Offers.{region-length}
+use Rattle.nr_reduce.proofs.Offers.{region_length}
 
 -- ---- Regions are small
 
-shape-small : (payload : List ℕ) (kind : MessageKind) (w r : Option (List ℕ)) → length payload ≤ PAYLOAD_MAX → length (shape payload kind w r).region < 2 ^ 32
-shape-small payload Short w r h = omega arith
-shape-small payload (Chunked i) w r h = (let a = length-take i.len (drop i.pos payload) in let b = length-drop i.pos payload in omega (arith, a, b, h))
-shape-small payload Long w r h = omega (arith, h)
+shape_small : (payload : List ℕ) (kind : MessageKind) (w r : Option (List ℕ)) → length payload ≤ PAYLOAD_MAX → length (shape payload kind w r).region < 2 ^ 32
+shape_small payload Short w r h = omega arith
+shape_small payload (Chunked i) w r h = (let a = length-take i.len (drop i.pos payload) in let b = length-drop i.pos payload in omega (arith, a, b, h))
+shape_small payload Long w r h = omega (arith, h)
 
-own-small : (payload : List ℕ) (form : Form) (up down : ℕ) (p : Plan) → IsNotGiven form → plan_of payload form up down ≡ Ok p → length p.region < 2 ^ 32
-own-small payload form up down p own e =
+own_small : (payload : List ℕ) (form : Form) (up down : ℕ) (p : Plan) → IsNotGiven form → plan_of payload form up down ≡ Ok p → length p.region < 2 ^ 32
+own_small payload form up down p own e =
     let is = is_plan payload form up down p own e in
     let s = is.shaped in
-    subst (λ (q : Plan). length q.region < 2 ^ 32) (sym s.is) (shape-small payload s.kind (offered s.write) (offered s.reply) is.payload_fits)
+    subst (λ (q : Plan). length q.region < 2 ^ 32) (sym s.is) (shape_small payload s.kind (offered s.write) (offered s.reply) is.payload_fits)
 
-given-small : (payload : List ℕ) (offer : Offer) (up down : ℕ) (p : Plan) → plan_of payload (forms.Given offer) up down ≡ Ok p → length p.region < 2 ^ 32
+given_small : (payload : List ℕ) (offer : Offer) (up down : ℕ) (p : Plan) → plan_of payload (forms.Given offer) up down ≡ Ok p → length p.region < 2 ^ 32
 unfolding plan_of
-given-small payload offer up down p e =
+given_small payload offer up down p e =
     let q : Plan = given_plan payload offer in
     let sent : Result Plan TooLarge = within (plan_size q) up (Ok q) in
-    let a = within-ok (length payload) PAYLOAD_MAX (within (given_total offer) given_max sent) p e in
-    let b = within-ok (given_total offer) given_max sent p a.1 in
-    let c = within-ok (plan_size q) up (Ok q) p b.1 in
+    let a = within_ok_lem (length payload) PAYLOAD_MAX (within (given_total offer) given_max sent) p e in
+    let b = within_ok_lem (given_total offer) given_max sent p a.1 in
+    let c = within_ok_lem (plan_size q) up (Ok q) p b.1 in
     let same : q ≡ p = (let s : Ok q ≡ Ok p = c.1 in cc) in
     subst (λ (r : Plan). length r.region < 2 ^ 32) same (by offer.read (let s = b.0 in omega (arith, s)))
   where
     by : (o : Option (List ℕ)) → total o ≤ 65536 → length (given_read payload offer.read_at o (record { inline = payload; read_at = None; read = []; region = []; write = offer.write; reply = offer.reply })).region < 2 ^ 32
     by None h = omega arith
-    by (Some ns) h = (let l = region-length payload offer.read_at (sum ns) in omega (arith, l, h))
+    by (Some ns) h = (let l = region_length payload offer.read_at (sum ns) in omega (arith, l, h))
 
-pub region-small : (payload : List ℕ) (form : Form) (up down : ℕ) (p : Plan) → plan_of payload form up down ≡ Ok p → length p.region < 2 ^ 32
-region-small payload forms.Auto up down p e = own-small payload forms.Auto up down p tt e
-region-small payload forms.Inline up down p e = own-small payload forms.Inline up down p tt e
-region-small payload forms.Chunk up down p e = own-small payload forms.Chunk up down p tt e
-region-small payload forms.Long up down p e = own-small payload forms.Long up down p tt e
-region-small payload (forms.Given offer) up down p e = given-small payload offer up down p e
+pub region_small : (payload : List ℕ) (form : Form) (up down : ℕ) (p : Plan) → plan_of payload form up down ≡ Ok p → length p.region < 2 ^ 32
+region_small payload forms.Auto up down p e = own_small payload forms.Auto up down p tt e
+region_small payload forms.Inline up down p e = own_small payload forms.Inline up down p tt e
+region_small payload forms.Chunk up down p e = own_small payload forms.Chunk up down p tt e
+region_small payload forms.Long up down p e = own_small payload forms.Long up down p tt e
+region_small payload (forms.Given offer) up down p e = given_small payload offer up down p e
 
 -- ---- The STag and the region of a read chunk
 
-some-segment : (ns : List ℕ) → 0 < added_up ns → has_segment (Some ns) ≡ true
-some-segment [] h = absurd (omega (arith, h))
-some-segment (n ∷ ns) h = refl
+some_segment : (ns : List ℕ) → 0 < added_up ns → has_segment (Some ns) ≡ true
+some_segment [] h = absurd (omega (arith, h))
+some_segment (n ∷ ns) h = refl
 
-pub stag-small : (stag : ℕ) (p : Plan) → 0 < added_up p.read → stag + regions_needed p ≤ 2 ^ 32 → stag < 2 ^ 32
+pub stag_small : (stag : ℕ) (p : Plan) → 0 < added_up p.read → stag + regions_needed p ≤ 2 ^ 32 → stag < 2 ^ 32
 unfolding regions_needed
-stag-small stag p some room = (let o = ap one_if (some-segment p.read some) in omega (arith, o, room))
+stag_small stag p some room = (let o = ap one_if (some_segment p.read some) in omega (arith, o, room))
 
-pub read-region : (regions : List Region) (stag : ℕ) (p : Plan) → 0 < added_up p.read → HasBuffers regions (buffers stag p) → HasRegion regions stag p.region
+pub read_region : (regions : List Region) (stag : ℕ) (p : Plan) → 0 < added_up p.read → HasBuffers regions (buffers stag p) → HasRegion regions stag p.region
 unfolding buffers
-read-region regions stag p some h = by p.read some h
+read_region regions stag p some h = by p.read some h
   where
     by : (ns : List ℕ) (some : 0 < added_up ns) → HasBuffers regions (buffer_if (has_segment (Some ns)) stag Fetch p.region ++ (buffer_if (has_segment p.write) (write_stag stag p) Fill (replicate (total p.write) 0)
         ++ buffer_if (has_segment p.reply) (reply_stag stag p) Fill (replicate (total p.reply) 0))) → HasRegion regions stag p.region
     by [] some h = absurd (omega (arith, some))
     by (n ∷ ns) some h = h.0
 
-some-same : (x y : Region) → ◌≡◌ {A = Option Region} (Some x) (Some y) → x ≡ y
-some-same x y e = cc
+some_same : (x y : Region) → ◌≡◌ {A = Option Region} (Some x) (Some y) → x ≡ y
+some_same x y e = cc
 
-pub region-holds : (regions : List Region) (stag : ℕ) (bytes : List ℕ) → HasRegion regions stag bytes → (f : IsFetched regions stag) → f.region.bytes ≡ bytes
-region-holds regions stag bytes h f = ap (λ (r : Region). r.bytes) (some-same f.region h.region (sym f.there ∙ h.there)) ∙ h.holds
+pub region_holds : (regions : List Region) (stag : ℕ) (bytes : List ℕ) → HasRegion regions stag bytes → (f : IsFetched regions stag) → f.region.bytes ≡ bytes
+region_holds regions stag bytes h f = ap (λ (r : Region). r.bytes) (some_same f.region h.region (sym f.there ∙ h.there)) ∙ h.holds
 
 -- ---- A call with bytes to be read isn't whole by its message
 
-pub any-right : (number : ℕ) (xs ys : List PendingRead) → list_any (λ r. eqb r.number number) (xs ++ ys) ≡ false → list_any (λ r. eqb r.number number) ys ≡ false
-any-right number [] ys e = e
-any-right number (x ∷ xs) ys e = by (eqb x.number number) e (λ f. any-right number xs ys f)
+pub any_right : (number : ℕ) (xs ys : List PendingRead) → list_any (λ r. eqb r.number number) (xs ++ ys) ≡ false → list_any (λ r. eqb r.number number) ys ≡ false
+any_right number [] ys e = e
+any_right number (x ∷ xs) ys e = by (eqb x.number number) e (λ f. any_right number xs ys f)
   where
     by : (b : Bool) → (b || list_any (λ r. eqb r.number number) (xs ++ ys)) ≡ false → (list_any (λ r. eqb r.number number) (xs ++ ys) ≡ false → list_any (λ r. eqb r.number number) ys ≡ false) → list_any (λ r. eqb r.number number) ys ≡ false
     by true e next = absurd cc
     by false e next = next e
 
-pub own-unread : (number position sink handle at : ℕ) (ns : List ℕ) → list_any (λ r. eqb r.number number) (own_reads number position sink handle at ns) ≡ false → added_up ns ≡ 0
-own-unread number position sink handle at [] e = refl
-own-unread number position sink handle at (n ∷ ns) e = by (eqb n 0) refl e (λ f. own-unread number position sink handle (at + n) ns f)
+pub own_unread : (number position sink handle at : ℕ) (ns : List ℕ) → list_any (λ r. eqb r.number number) (own_reads number position sink handle at ns) ≡ false → added_up ns ≡ 0
+own_unread number position sink handle at [] e = refl
+own_unread number position sink handle at (n ∷ ns) e = by (eqb n 0) refl e (λ f. own_unread number position sink handle (at + n) ns f)
   where
     own : PendingRead
     own = record { number = number; position = position; sink = sink; at = at; size = n; stag = handle; to = at }

@@ -12,16 +12,16 @@ use Rattle.nr_link.specs.Frames.{Frame}
 use Rattle.nr_link.specs.ReceiveState.{ReadRequest, read_request_in}
 use Rattle.nr_link.specs.Ending.{frame_segment}
 use Rattle.nr_reduce.specs.Holds.{Answer, answer_message, first_chunk, no_segments}
-use Rattle.nr_reduce.specs.Events.Event.{FrameReceived}
-use Rattle.nr_reduce.specs.ClientState.{ClientState, memory_at}
+use Rattle.nr_reduce.specs.Events.RunEvent.{FrameReceived}
+use Rattle.nr_reduce.specs.ClientState.{ClientState, client_memory_at}
 use Rattle.nr_reduce.specs.ServerState.{ServerState, PendingRead, credit_word}
 use Rattle.nr_laws.proofs.FrameContents.{FrameContent, Carries, request_frame, client_frames, tagged_frames, write_frames, answer_frames}
 use Rattle.nr_laws.proofs.FrameContents.FrameContent.{SendFrame, RequestFrame, TaggedFrame}
 use Rattle.nr_laws.proofs.LinkInvariants.{Transit, AreResponses, requests_of, ReadsAgree}
-use Rattle.nr_laws.proofs.TotalsAtServer.{segment-is}
-use Rattle.nr_laws.proofs.TotalsAtClient.{says-is, request_payload, down_one}
-use Rattle.nr_laws.proofs.ExpectedResponses.{answers-append, answers-one}
-use Rattle.nr_laws.proofs.ReadsAtServer.{requests-append}
+use Rattle.nr_laws.proofs.TotalsAtServer.{segment_is}
+use Rattle.nr_laws.proofs.TotalsAtClient.{says_is, request_payload, down_one}
+use Rattle.nr_laws.proofs.ExpectedResponses.{answers_append, answers_one}
+use Rattle.nr_laws.proofs.ReadsAtServer.{requests_append}
 use Rattle.nr_link.specs.Limits.{segment_max}
 
 -- ---- The client receives a Read Request, and answers it by as many bytes
@@ -30,32 +30,32 @@ use Rattle.nr_link.specs.Limits.{segment_max}
 pub record IsThere (k : ClientState) (place sink at size stag to : ℕ) : Type 0 where
   pub read : read_request_in (request_payload sink at size stag to) ≡ record { sink = sink; sink_to = at; size = size; stag = stag; to = to }
   pub some : 0 < size
-  pub there : to + size ≤ length (memory_at k place stag)
+  pub there : to + size ≤ length (client_memory_at k place stag)
 
 pub first_asked : (asked : List PendingRead) (sink at size stag to : ℕ) (ps : List FrameContent) → RequestFrame sink at size stag to ∷ ps ≡ map request_frame asked
     → (r : PendingRead) × (others : List PendingRead) × (asked ≡ r ∷ others) × (r.sink ≡ sink) × (r.at ≡ at) × (r.size ≡ size) × (ps ≡ map request_frame others)
 first_asked [] sink at size stag to ps e = absurd cc
 first_asked (r ∷ others) sink at size stag to ps e = (r, others, refl, cc, cc, cc, cc)
 
-pub reads-read_down : (opened : LinkParameters) (k : ClientState) (s : ServerState) (w : Transit) (f : Frame) (sink at size stag to : ℕ) (rest : List FrameContent) → ReadsAgree s w → w.down ≡ RequestFrame sink at size stag to ∷ rest
+pub reads_read_down : (opened : LinkParameters) (k : ClientState) (s : ServerState) (w : Transit) (f : Frame) (sink at size stag to : ℕ) (rest : List FrameContent) → ReadsAgree s w → w.down ≡ RequestFrame sink at size stag to ∷ rest
     → Carries k.received.sends k.received.requests f (RequestFrame sink at size stag to) → IsThere k f.end sink at size stag to
     → ReadsAgree s (down_one w (client_frames opened k (FrameReceived f)) rest)
-reads-read_down opened k s w f sink at size stag to rest c first p there =
+reads_read_down opened k s w f sink at size stag to rest c first p there =
     let segment : Segment = Untagged true OPCODE_READ_REQUEST 0 QUEUE_READ_REQUEST (msn_word (k.received.requests + 1)) 0 (request_payload sink at size stag to) in
-    let is : frame_segment f ≡ Ok segment = segment-is k.received.sends k.received.requests f (RequestFrame sink at size stag to) segment p refl in
-    let bytes = take size (drop to (memory_at k f.end stag)) in
-    let len : length bytes ≡ size = omega (arith, length-take size (drop to (memory_at k f.end stag)), length-drop to (memory_at k f.end stag), there.there) in
+    let is : frame_segment f ≡ Ok segment = segment_is k.received.sends k.received.requests f (RequestFrame sink at size stag to) segment p refl in
+    let bytes = take size (drop to (client_memory_at k f.end stag)) in
+    let len : length bytes ≡ size = omega (arith, length-take size (drop to (client_memory_at k f.end stag)), length-drop to (client_memory_at k f.end stag), there.there) in
     let said : client_frames opened k (FrameReceived f) ≡ tagged_frames OPCODE_READ_RESPONSE sink at bytes =
-    says-is opened k f (Ok segment) p.behind is ∙ ap (λ (r : ReadRequest). tagged_frames OPCODE_READ_RESPONSE r.sink r.sink_to (take r.size (drop r.to (memory_at k f.end r.stag)))) there.read in
+    says_is opened k f (Ok segment) p.behind is ∙ ap (λ (r : ReadRequest). tagged_frames OPCODE_READ_RESPONSE r.sink r.sink_to (take r.size (drop r.to (client_memory_at k f.end r.stag)))) there.read in
     let asked : RequestFrame sink at size stag to ∷ requests_of (rest ++ w.queued_down) ≡ map request_frame c.asked =
     ap (λ (ps : List FrameContent). requests_of (ps ++ w.queued_down)) (sym first) ∙ c.requests in
     let a = first_asked c.asked sink at size stag to (requests_of (rest ++ w.queued_down)) asked in
     let one : AreResponses 0 (a.0 ∷ []) (tagged_frames OPCODE_READ_RESPONSE sink at bytes) =
     subst (λ (n : ℕ). AreResponses 0 (a.0 ∷ []) (tagged_frames OPCODE_READ_RESPONSE n at bytes)) a.3
     (subst (λ (n : ℕ). AreResponses 0 (a.0 ∷ []) (tagged_frames OPCODE_READ_RESPONSE a.0.sink n bytes)) a.4
-    (answers-one a.0 bytes (len ∙ sym a.5) (omega (arith, a.5, there.some)))) in
+    (answers_one a.0 bytes (len ∙ sym a.5) (omega (arith, a.5, there.some)))) in
     let said_one : AreResponses 0 (a.0 ∷ []) (client_frames opened k (FrameReceived f)) = subst (λ (ps : List FrameContent). AreResponses 0 (a.0 ∷ []) ps) (sym said) one in
-    let all = answers-append s.response_bytes c.answered (w.up ++ w.queued_up) (a.0 ∷ []) (client_frames opened k (FrameReceived f)) c.answers said_one in
+    let all = answers_append s.response_bytes c.answered (w.up ++ w.queued_up) (a.0 ∷ []) (client_frames opened k (FrameReceived f)) c.answers said_one in
     record {
       answered = c.answered ++ a.0 ∷ [];
       asked = a.1;
@@ -70,24 +70,24 @@ reads-read_down opened k s w f sink at size stag to rest c first p there =
 abbrev pub AnswersNone : List FrameContent → Type 0
 AnswersNone ps = AreResponses 0 [] ps
 
-pub reads-says_up : (s : ServerState) (w : Transit) (said rest : List FrameContent) → ReadsAgree s w → AnswersNone said → requests_of w.down ≡ requests_of rest → ReadsAgree s (down_one w said rest)
-reads-says_up s w said rest c none same =
-    let all : AreResponses s.response_bytes (c.answered ++ []) ((w.up ++ w.queued_up) ++ said) = answers-append s.response_bytes c.answered (w.up ++ w.queued_up) [] said c.answers none in
+pub reads_says_up : (s : ServerState) (w : Transit) (said rest : List FrameContent) → ReadsAgree s w → AnswersNone said → requests_of w.down ≡ requests_of rest → ReadsAgree s (down_one w said rest)
+reads_says_up s w said rest c none same =
+    let all : AreResponses s.response_bytes (c.answered ++ []) ((w.up ++ w.queued_up) ++ said) = answers_append s.response_bytes c.answered (w.up ++ w.queued_up) [] said c.answers none in
     record {
       answered = c.answered;
       asked = c.asked;
       parts = c.parts;
       answers = subst (λ (ps : List FrameContent). AreResponses s.response_bytes c.answered ps) (append_assoc w.up w.queued_up said) (subst (λ (rs : List PendingRead). AreResponses s.response_bytes rs ((w.up ++ w.queued_up) ++ said)) (append-nil c.answered) all);
-      requests = requests-append rest w.queued_down ∙ ap (λ (ps : List FrameContent). ps ++ requests_of w.queued_down) (sym same) ∙ sym (requests-append w.down w.queued_down) ∙ c.requests;
+      requests = requests_append rest w.queued_down ∙ ap (λ (ps : List FrameContent). ps ++ requests_of w.queued_down) (sym same) ∙ sym (requests_append w.down w.queued_down) ∙ c.requests;
     }
 
 -- what the server sends of an answer asks for nothing
-pub none-filled : (chunk : List Part) (bytes : List ℕ) → requests_of (write_frames chunk bytes) ≡ []
+pub none_filled : (chunk : List Part) (bytes : List ℕ) → requests_of (write_frames chunk bytes) ≡ []
 unfolding tagged_frames
-none-filled [] bytes = refl
-none-filled (p ∷ chunk) bytes =
-    requests-append (cond (eqb (min p.length (length bytes)) 0) [] (tagged_frames OPCODE_WRITE p.handle p.offset (take p.length bytes))) (write_frames chunk (drop p.length bytes))
-    ∙ (λ i. by (eqb (min p.length (length bytes)) 0) i ++ none-filled chunk (drop p.length bytes) i)
+none_filled [] bytes = refl
+none_filled (p ∷ chunk) bytes =
+    requests_append (cond (eqb (min p.length (length bytes)) 0) [] (tagged_frames OPCODE_WRITE p.handle p.offset (take p.length bytes))) (write_frames chunk (drop p.length bytes))
+    ∙ (λ i. by (eqb (min p.length (length bytes)) 0) i ++ none_filled chunk (drop p.length bytes) i)
   where
     none-cut : (f : ℕ → Bool) (g h : ℕ → ℕ) (b : ℕ → List ℕ) (is : List ℕ) → requests_of (map (λ i. TaggedFrame (f i) (g i) p.handle (h i) (b i)) is) ≡ []
     none-cut f g h b [] = refl
@@ -97,36 +97,36 @@ none-filled (p ∷ chunk) bytes =
     by true = refl
     by false = none-cut (λ i. eqb (i + 1) (segment_count (take p.length bytes))) (λ i. OPCODE_WRITE) (λ i. p.offset + segment_max * i) (λ i. segment_payload (take p.length bytes) i) (range_with_len 0 (segment_count (take p.length bytes)))
 
-none-long : (b : Bool) (chunk : List Part) (bytes : List ℕ) → requests_of (cond b (write_frames chunk bytes) []) ≡ []
-none-long true chunk bytes = none-filled chunk bytes
-none-long false chunk bytes = refl
+none_long : (b : Bool) (chunk : List Part) (bytes : List ℕ) → requests_of (cond b (write_frames chunk bytes) []) ≡ []
+none_long true chunk bytes = none_filled chunk bytes
+none_long false chunk bytes = refl
 
-pub none-answered : (s : ServerState) (xid : ℕ) (offer : ChunkLists) (a : Option Answer) → requests_of (answer_frames s xid offer a) ≡ []
-none-answered s xid offer None = refl
-none-answered s xid offer (Some a) =
+pub none_answered : (s : ServerState) (xid : ℕ) (offer : ChunkLists) (a : Option Answer) → requests_of (answer_frames s xid offer a) ≡ []
+none_answered s xid offer None = refl
+none_answered s xid offer (Some a) =
     let moved = write_frames (first_chunk offer.write) a.moved in
     let long = cond a.long (write_frames (no_segments offer.reply) a.stream) [] in
     let last = SendFrame (answer_message xid (credit_word s) offer a) ∷ [] in
-    requests-append moved (long ++ last)
-    ∙ ap (λ (ps : List FrameContent). requests_of moved ++ ps) (requests-append long last)
-    ∙ (λ i. none-filled (first_chunk offer.write) a.moved i ++ (none-long a.long (no_segments offer.reply) a.stream i ++ []))
+    requests_append moved (long ++ last)
+    ∙ ap (λ (ps : List FrameContent). requests_of moved ++ ps) (requests_append long last)
+    ∙ (λ i. none_filled (first_chunk offer.write) a.moved i ++ (none_long a.long (no_segments offer.reply) a.stream i ++ []))
 
 -- it sends more that asks for nothing, and its reads stay
-pub reads-says_down : (s t : ServerState) (w : Transit) (said : List FrameContent) → ReadsAgree s w → t.reads ≡ s.reads → t.response_bytes ≡ s.response_bytes → requests_of said ≡ []
+pub reads_says_down : (s t : ServerState) (w : Transit) (said : List FrameContent) → ReadsAgree s w → t.reads ≡ s.reads → t.response_bytes ≡ s.response_bytes → requests_of said ≡ []
     → ReadsAgree t (record { queued_up = w.queued_up; up = w.up; queued_down = w.queued_down ++ said; down = w.down })
-reads-says_down s t w said c same came none = record {
+reads_says_down s t w said c same came none = record {
   answered = c.answered;
   asked = c.asked;
   parts = ap (λ (rs : List PendingRead). take 8 rs) same ∙ c.parts;
   answers = subst (λ (n : ℕ). AreResponses n c.answered (w.up ++ w.queued_up)) (sym came) c.answers;
   requests =
       ap (λ (ps : List FrameContent). requests_of ps) (sym (append_assoc w.down w.queued_down said))
-      ∙ requests-append (w.down ++ w.queued_down) said ∙ ap (λ (ps : List FrameContent). requests_of (w.down ++ w.queued_down) ++ ps) none ∙ append-nil (requests_of (w.down ++ w.queued_down)) ∙ c.requests;
+      ∙ requests_append (w.down ++ w.queued_down) said ∙ ap (λ (ps : List FrameContent). requests_of (w.down ++ w.queued_down) ++ ps) none ∙ append-nil (requests_of (w.down ++ w.queued_down)) ∙ c.requests;
 }
 
 -- what was queued is in transit
-pub reads-writes_up : (s : ServerState) (w : Transit) → ReadsAgree s w → ReadsAgree s (record { queued_up = []; up = w.up ++ w.queued_up; queued_down = w.queued_down; down = w.down })
-reads-writes_up s w c = record {
+pub reads_writes_up : (s : ServerState) (w : Transit) → ReadsAgree s w → ReadsAgree s (record { queued_up = []; up = w.up ++ w.queued_up; queued_down = w.queued_down; down = w.down })
+reads_writes_up s w c = record {
   answered = c.answered;
   asked = c.asked;
   parts = c.parts;
@@ -134,8 +134,8 @@ reads-writes_up s w c = record {
   requests = c.requests;
 }
 
-pub reads-writes_down : (s : ServerState) (w : Transit) → ReadsAgree s w → ReadsAgree s (record { queued_up = w.queued_up; up = w.up; queued_down = []; down = w.down ++ w.queued_down })
-reads-writes_down s w c = record {
+pub reads_writes_down : (s : ServerState) (w : Transit) → ReadsAgree s w → ReadsAgree s (record { queued_up = w.queued_up; up = w.up; queued_down = []; down = w.down ++ w.queued_down })
+reads_writes_down s w c = record {
   answered = c.answered;
   asked = c.asked;
   parts = c.parts;

@@ -10,8 +10,8 @@ use Rattle.nr_link.specs.ReceiveState.{message_completed}
 use Rattle.nr_link.specs.Ending.{frame_segment}
 use Rattle.nr_reduce.specs.declared.mark.Mark.{Mark}
 use Rattle.nr_reduce.specs.declared.mark.LinkParameters.{LinkParameters}
-use Rattle.nr_reduce.specs.Events.{Event, events}
-use Rattle.nr_reduce.specs.Events.Event.{FrameReceived, CallSubmitted, MemoryRevoked, CallExecuted, QueueWritten}
+use Rattle.nr_reduce.specs.Events.{RunEvent, events}
+use Rattle.nr_reduce.specs.Events.RunEvent.{FrameReceived, CallSubmitted, MemoryRevoked, CallExecuted, QueueWritten}
 use Rattle.nr_reduce.specs.EndRules.{EndState, next_end_state_by, next_end_state_in, end_state_after}
 use Rattle.nr_reduce.specs.ServerState.{ServerState, PendingCall, PendingRead, ReadyCall}
 use Rattle.nr_reduce.specs.ServerReads.{is_read, reads_of, regions_of}
@@ -23,10 +23,10 @@ use Rattle.nr_reduce.specs.Server.{server_rules, server_end, server_state_after,
 use Rattle.nr_reduce.specs.Run.{server}
 use Rattle.nr_reduce.specs.RunLaws.{server_by, ends_response}
 use Rattle.nr_reduce.specs.Served.{IsExecuted, next_call, first_ready}
-use Rattle.nr_reduce.proofs.Conveyed.{Each, each-append, each-drop}
-use Rattle.nr_reduce.proofs.Steps.{end_state_after-append}
-use Rattle.nr_laws.proofs.Basics.{none-one}
-use Rattle.nr_laws.proofs.EachEffect.{each-effect, EffectCase, effect-case, read_over}
+use Rattle.nr_reduce.proofs.Conveyed.{Each, each_append, each_drop}
+use Rattle.nr_reduce.proofs.Steps.{end_state_after_append}
+use Rattle.nr_laws.proofs.Basics.{none_one_lem}
+use Rattle.nr_laws.proofs.EachEffect.{each_effect, EffectCase, effect_case, read_over}
 use Rattle.nr_laws.proofs.EachEffect.EffectCase.{Unchanged, OfMessage, OfRead, OfRefusal, OfCall}
 
 -- the payload that is conveyed to a call that is ready
@@ -43,9 +43,9 @@ record WholeBy (k : ServerState) (place : ℕ) (c : PendingCall) (reads : List P
   read : is_read reads c.number ≡ true
   conveyed : Conveyed k place c r
 
-head-cause : (k : ServerState) (place : ℕ) (c : PendingCall) (payload : List ℕ) (h : Result CallHead ℕ) (s : FrameEffect) (r : ReadyCall) → payload_of k place c ≡ Some payload → s.ready ≡ [] → (with_verdict (by_head c payload h) s).ready ≡ r ∷ [] → Conveyed k place c r
-head-cause k place c payload (Err at) s r is none e = none-one r s.ready none e
-head-cause k place c payload (Ok head) s r is none e = by (eqb (call_xid head) c.xid) e
+head_cause : (k : ServerState) (place : ℕ) (c : PendingCall) (payload : List ℕ) (h : Result CallHead ℕ) (s : FrameEffect) (r : ReadyCall) → payload_of k place c ≡ Some payload → s.ready ≡ [] → (with_verdict (by_head c payload h) s).ready ≡ r ∷ [] → Conveyed k place c r
+head_cause k place c payload (Err at) s r is none e = none_one_lem r s.ready none e
+head_cause k place c payload (Ok head) s r is none e = by (eqb (call_xid head) c.xid) e
   where
     by : (b : Bool) → (with_verdict (cond b (IsReady (record { number = c.number; xid = c.xid; payload = payload })) (Refuses 19)) s).ready ≡ r ∷ [] → Conveyed k place c r
     by true e =
@@ -54,41 +54,41 @@ head-cause k place c payload (Ok head) s r is none e = by (eqb (call_xid head) c
       where
         one : (a b : ReadyCall) → a ∷ [] ≡ b ∷ [] → a ≡ b
         one a b e = cc
-    by false e = none-one r s.ready none e
+    by false e = none_one_lem r s.ready none e
 
-payload-cause : (k : ServerState) (place : ℕ) (c : PendingCall) (o : Option (List ℕ)) (s : FrameEffect) (r : ReadyCall) → payload_of k place c ≡ o → s.ready ≡ [] → (with_verdict (by_payload c o) s).ready ≡ r ∷ [] → Conveyed k place c r
-payload-cause k place c None s r is none e = none-one r s.ready none e
-payload-cause k place c (Some payload) s r is none e = head-cause k place c payload (call_of payload) s r is none e
+payload_cause : (k : ServerState) (place : ℕ) (c : PendingCall) (o : Option (List ℕ)) (s : FrameEffect) (r : ReadyCall) → payload_of k place c ≡ o → s.ready ≡ [] → (with_verdict (by_payload c o) s).ready ≡ r ∷ [] → Conveyed k place c r
+payload_cause k place c None s r is none e = none_one_lem r s.ready none e
+payload_cause k place c (Some payload) s r is none e = head_cause k place c payload (call_of payload) s r is none e
 
-whole-cause : (k : ServerState) (place : ℕ) (c : PendingCall) (s : FrameEffect) (r : ReadyCall) → s.ready ≡ [] → (ready_if_whole k place c s).ready ≡ r ∷ [] → WholeBy k place c s.reads r
-whole-cause k place c s r none e = by (is_read s.reads c.number) refl e
+whole_cause : (k : ServerState) (place : ℕ) (c : PendingCall) (s : FrameEffect) (r : ReadyCall) → s.ready ≡ [] → (ready_if_whole k place c s).ready ≡ r ∷ [] → WholeBy k place c s.reads r
+whole_cause k place c s r none e = by (is_read s.reads c.number) refl e
   where
     by : (b : Bool) → is_read s.reads c.number ≡ b → (cond b (with_verdict (by_payload c (payload_of k place c)) s) s).ready ≡ r ∷ [] → WholeBy k place c s.reads r
-    by true is e = record { read = is; conveyed = payload-cause k place c (payload_of k place c) s r refl none e }
-    by false is e = none-one r s.ready none e
+    by true is e = record { read = is; conveyed = payload_cause k place c (payload_of k place c) s r refl none e }
+    by false is e = none_one_lem r s.ready none e
 
-message-cause : (k : ServerState) (f : Frame) (segment : Segment) (message : List ℕ) (r : ReadyCall) → message_completed k.received segment ≡ Some message → (v : Verdict) → verdict k message ≡ v → (message_effect k f.end message v).ready ≡ r ∷ [] → ReadyBy k f segment r
-message-cause k f segment message r whole (EndsLink reason) is e = none-one r [] refl e
-message-cause k f segment message r whole OtherVersion is e = none-one r [] refl e
-message-cause k f segment message r whole BadChunks is e = none-one r [] refl e
-message-cause k f segment message r whole (MakesPending c) is e =
-    let w = whole-cause k f.end c (record (no_effect k) { calls = k.calls ++ c ∷ []; reads = k.reads ++ reads_of (k.regions ++ regions_of k f.end c) c; regions = k.regions ++ regions_of k f.end c }) r refl e in
+message_cause : (k : ServerState) (f : Frame) (segment : Segment) (message : List ℕ) (r : ReadyCall) → message_completed k.received segment ≡ Some message → (v : Verdict) → verdict k message ≡ v → (message_effect k f.end message v).ready ≡ r ∷ [] → ReadyBy k f segment r
+message_cause k f segment message r whole (EndsLink reason) is e = none_one_lem r [] refl e
+message_cause k f segment message r whole OtherVersion is e = none_one_lem r [] refl e
+message_cause k f segment message r whole BadChunks is e = none_one_lem r [] refl e
+message_cause k f segment message r whole (MakesPending c) is e =
+    let w = whole_cause k f.end c (record (no_effect k) { calls = k.calls ++ c ∷ []; reads = k.reads ++ reads_of (k.regions ++ regions_of k f.end c) c; regions = k.regions ++ regions_of k f.end c }) r refl e in
     AtMessage message c whole is w.read w.conveyed
 
-pub ready-by : (k : ServerState) (f : Frame) (segment : Segment) (r : ReadyCall) → frame_segment f ≡ Ok segment → (frame_effect k f).ready ≡ r ∷ [] → ReadyBy k f segment r
-ready-by k f segment r is e = by (effect-case k f segment is)
+pub ready_by : (k : ServerState) (f : Frame) (segment : Segment) (r : ReadyCall) → frame_segment f ≡ Ok segment → (frame_effect k f).ready ≡ r ∷ [] → ReadyBy k f segment r
+ready_by k f segment r is e = by (effect_case k f segment is)
   where
     made : (s : FrameEffect) → frame_effect k f ≡ s → s.ready ≡ r ∷ []
     made s same = ap (λ (x : FrameEffect). x.ready) (sym same) ∙ e
 
     by : EffectCase k f segment (frame_effect k f) → ReadyBy k f segment r
-    by (Unchanged same) = none-one r [] refl (made (no_effect k) same)
-    by (OfMessage message whole same) = message-cause k f segment message r whole (verdict k message) refl (made (message_effect k f.end message (verdict k message)) same)
-    by (OfRead q reads last own same) = none-one r [] refl (made (read_over k reads) same)
-    by (OfRefusal q reads c last own found test same) = none-one r [] refl (made (with_refused_call k c (read_over k reads)) same)
+    by (Unchanged same) = none_one_lem r [] refl (made (no_effect k) same)
+    by (OfMessage message whole same) = message_cause k f segment message r whole (verdict k message) refl (made (message_effect k f.end message (verdict k message)) same)
+    by (OfRead q reads last own same) = none_one_lem r [] refl (made (read_over k reads) same)
+    by (OfRefusal q reads c last own found test same) = none_one_lem r [] refl (made (with_refused_call k c (read_over k reads)) same)
     by (OfCall q reads c last own found same) =
         let t = with_access k f segment in
-        let w = whole-cause t f.end c (read_over k reads) r refl (made (ready_if_whole t f.end c (read_over k reads)) same) in
+        let w = whole_cause t f.end c (read_over k reads) r refl (made (ready_if_whole t f.end c (read_over k reads)) same) in
         AtRead q reads c last own found w.read w.conveyed
 
 -- at most one call is ready by a frame
@@ -96,97 +96,97 @@ abbrev pub AtMostReady : List ReadyCall → Type 0
 AtMostReady [] = Unit {0}
 AtMostReady (r ∷ rs) = rs ≡ []
 
-few-verdict : (v : CallVerdict) (s : FrameEffect) → AtMostReady s.ready → AtMostReady (with_verdict v s).ready
-few-verdict (Refuses reason) s h = h
-few-verdict (IsReady r) s h = refl
+few_verdict : (v : CallVerdict) (s : FrameEffect) → AtMostReady s.ready → AtMostReady (with_verdict v s).ready
+few_verdict (Refuses reason) s h = h
+few_verdict (IsReady r) s h = refl
 
-few-frame : (k : ServerState) (f : Frame) → AtMostReady (frame_effect k f).ready
-few-frame k f =
-    each-effect k (λ m. Unit {0}) (λ s. AtMostReady s.ready)
+few_frame : (k : ServerState) (f : Frame) → AtMostReady (frame_effect k f).ready
+few_frame k f =
+    each_effect k (λ m. Unit {0}) (λ s. AtMostReady s.ready)
     (record { judged = judged; ends = λ message reason good is. tt; version = λ message good. tt; chunks = λ message good. tt; pending = λ place message c good is. tt })
     (record { unchanged = tt; judged = judged; read = λ r reads is. tt; refused = λ r reads c is found. tt }) f (λ s m is e. tt)
   where
     judged : (t : ServerState) (place : ℕ) (c : PendingCall) (s : FrameEffect) → AtMostReady s.ready → AtMostReady (with_verdict (by_payload c (payload_of t place c)) s).ready
-    judged t place c s h = few-verdict (by_payload c (payload_of t place c)) s h
+    judged t place c s h = few_verdict (by_payload c (payload_of t place c)) s h
 
 -- ---- Along the events of a server
 
-pub record ReadyAt (opened : LinkParameters) (es : List Event) (r : ReadyCall) : Type 0 where
-  pub earlier : List Event
+pub record ReadyAt (opened : LinkParameters) (es : List RunEvent) (r : ReadyCall) : Type 0 where
+  pub earlier : List RunEvent
   pub frame : Frame
-  pub later : List Event
+  pub later : List RunEvent
   pub is : es ≡ earlier ++ FrameReceived frame ∷ later
   pub behind : is_hello frame ≡ false
   pub ready : (frame_effect (server_by opened earlier) frame).ready ≡ r ∷ []
 
-ready-later : (opened : LinkParameters) (es : List Event) (e : Event) (r : ReadyCall) → ReadyAt opened es r → ReadyAt opened (es ++ e ∷ []) r
-ready-later opened es e r h = record {
+ready_later : (opened : LinkParameters) (es : List RunEvent) (e : RunEvent) (r : ReadyCall) → ReadyAt opened es r → ReadyAt opened (es ++ e ∷ []) r
+ready_later opened es e r h = record {
   earlier = h.earlier;
   frame = h.frame;
   later = h.later ++ e ∷ [];
-  is = ap (λ (all : List Event). all ++ e ∷ []) h.is ∙ append_assoc h.earlier (FrameReceived h.frame ∷ h.later) (e ∷ []);
+  is = ap (λ (all : List RunEvent). all ++ e ∷ []) h.is ∙ append_assoc h.earlier (FrameReceived h.frame ∷ h.later) (e ∷ []);
   behind = h.behind;
   ready = h.ready;
 }
 
-each-later : (opened : LinkParameters) (es : List Event) (e : Event) (rs : List ReadyCall) → Each (ReadyAt opened es) rs → Each (ReadyAt opened (es ++ e ∷ [])) rs
-each-later opened es e [] h = tt
-each-later opened es e (r ∷ rs) h = (ready-later opened es e r h.0, each-later opened es e rs h.1)
+each_later : (opened : LinkParameters) (es : List RunEvent) (e : RunEvent) (rs : List ReadyCall) → Each (ReadyAt opened es) rs → Each (ReadyAt opened (es ++ e ∷ [])) rs
+each_later opened es e [] h = tt
+each_later opened es e (r ∷ rs) h = (ready_later opened es e r h.0, each_later opened es e rs h.1)
 
-new-each : (opened : LinkParameters) (es : List Event) (f : Frame) (rs : List ReadyCall) → is_hello f ≡ false → (frame_effect (server_by opened es) f).ready ≡ rs → AtMostReady rs → Each (ReadyAt opened (es ++ FrameReceived f ∷ [])) rs
-new-each opened es f [] behind is few = tt
-new-each opened es f (r ∷ rs) behind is few =
+new_each : (opened : LinkParameters) (es : List RunEvent) (f : Frame) (rs : List ReadyCall) → is_hello f ≡ false → (frame_effect (server_by opened es) f).ready ≡ rs → AtMostReady rs → Each (ReadyAt opened (es ++ FrameReceived f ∷ [])) rs
+new_each opened es f [] behind is few = tt
+new_each opened es f (r ∷ rs) behind is few =
     let none : rs ≡ [] = few in (
       record { earlier = es; frame = f; later = []; is = refl; behind = behind; ready = is ∙ ap (λ (xs : List ReadyCall). r ∷ xs) none },
       subst (λ (xs : List ReadyCall). Each (ReadyAt opened (es ++ FrameReceived f ∷ [])) xs) (sym none) tt,
     )
 
-after-each : (opened : LinkParameters) (es : List Event) (e : Event) → Each (ReadyAt opened es) (server_by opened es).ready → Each (ReadyAt opened (es ++ e ∷ [])) (server_state_after opened (server_by opened es) e).ready
+after_each : (opened : LinkParameters) (es : List RunEvent) (e : RunEvent) → Each (ReadyAt opened es) (server_by opened es).ready → Each (ReadyAt opened (es ++ e ∷ [])) (server_state_after opened (server_by opened es) e).ready
 unfolding server_state_after
-after-each opened es (FrameReceived f) h = by (is_hello f) refl
+after_each opened es (FrameReceived f) h = by (is_hello f) refl
   where
     k : ServerState
     k = server_by opened es
 
     old : Each (ReadyAt opened (es ++ FrameReceived f ∷ [])) k.ready
-    old = each-later opened es (FrameReceived f) k.ready h
+    old = each_later opened es (FrameReceived f) k.ready h
 
     by : (b : Bool) → is_hello f ≡ b → Each (ReadyAt opened (es ++ FrameReceived f ∷ [])) (cond b (with_own_hello k) (with_effect k f (frame_effect k f))).ready
     by true is = old
-    by false is = each-append (ReadyAt opened (es ++ FrameReceived f ∷ [])) k.ready (frame_effect k f).ready old (new-each opened es f (frame_effect k f).ready is refl (few-frame k f))
-after-each opened es (CallSubmitted p a) h = each-later opened es (CallSubmitted p a) (server_by opened es).ready h
-after-each opened es (MemoryRevoked p xid) h = each-later opened es (MemoryRevoked p xid) (server_by opened es).ready h
-after-each opened es (CallExecuted e) h = each-drop (ReadyAt opened (es ++ CallExecuted e ∷ [])) (server_by opened es).ready (each-later opened es (CallExecuted e) (server_by opened es).ready h)
-after-each opened es (QueueWritten taken) h = each-later opened es (QueueWritten taken) (server_by opened es).ready h
+    by false is = each_append (ReadyAt opened (es ++ FrameReceived f ∷ [])) k.ready (frame_effect k f).ready old (new_each opened es f (frame_effect k f).ready is refl (few_frame k f))
+after_each opened es (CallSubmitted p a) h = each_later opened es (CallSubmitted p a) (server_by opened es).ready h
+after_each opened es (MemoryRevoked p xid) h = each_later opened es (MemoryRevoked p xid) (server_by opened es).ready h
+after_each opened es (CallExecuted e) h = each_drop (ReadyAt opened (es ++ CallExecuted e ∷ [])) (server_by opened es).ready (each_later opened es (CallExecuted e) (server_by opened es).ready h)
+after_each opened es (QueueWritten taken) h = each_later opened es (QueueWritten taken) (server_by opened es).ready h
 
-next-each : (opened : LinkParameters) (es : List Event) (e : Event) → Each (ReadyAt opened es) (server_by opened es).ready → Each (ReadyAt opened (es ++ e ∷ [])) (server_by opened (es ++ e ∷ [])).ready
-next-each opened es e h =
-    subst (λ (r : EndState ServerState). Each (ReadyAt opened (es ++ e ∷ [])) r.state.ready) (sym (end_state_after-append (server_rules opened) (initial_server opened) es (e ∷ [])))
+next_each : (opened : LinkParameters) (es : List RunEvent) (e : RunEvent) → Each (ReadyAt opened es) (server_by opened es).ready → Each (ReadyAt opened (es ++ e ∷ [])) (server_by opened (es ++ e ∷ [])).ready
+next_each opened es e h =
+    subst (λ (r : EndState ServerState). Each (ReadyAt opened (es ++ e ∷ [])) r.state.ready) (sym (end_state_after_append (server_rules opened) (initial_server opened) es (e ∷ [])))
     (one (end_state_after (server_rules opened) (initial_server opened) es).ended)
   where
     k : ServerState
     k = server_by opened es
 
     by_why : (o : Option Stop) → Each (ReadyAt opened (es ++ e ∷ [])) (next_end_state_by (server_rules opened) k e o).state.ready
-    by_why None = after-each opened es e h
-    by_why (Some end) = each-later opened es e k.ready h
+    by_why None = after_each opened es e h
+    by_why (Some end) = each_later opened es e k.ready h
 
     one : (ended : Option Stop) → Each (ReadyAt opened (es ++ e ∷ [])) (next_end_state_in (server_rules opened) k e ended).state.ready
     one None = by_why (server_end opened k e)
-    one (Some end) = each-later opened es e k.ready h
+    one (Some end) = each_later opened es e k.ready h
 
-each-from : (opened : LinkParameters) (es more : List Event) → Each (ReadyAt opened es) (server_by opened es).ready → Each (ReadyAt opened (es ++ more)) (server_by opened (es ++ more)).ready
-each-from opened es [] h = subst (λ (all : List Event). Each (ReadyAt opened all) (server_by opened all).ready) (sym (append-nil es)) h
-each-from opened es (e ∷ more) h = subst (λ (all : List Event). Each (ReadyAt opened all) (server_by opened all).ready) (append_assoc es (e ∷ []) more) (each-from opened (es ++ e ∷ []) more (next-each opened es e h))
+each_from : (opened : LinkParameters) (es more : List RunEvent) → Each (ReadyAt opened es) (server_by opened es).ready → Each (ReadyAt opened (es ++ more)) (server_by opened (es ++ more)).ready
+each_from opened es [] h = subst (λ (all : List RunEvent). Each (ReadyAt opened all) (server_by opened all).ready) (sym (append-nil es)) h
+each_from opened es (e ∷ more) h = subst (λ (all : List RunEvent). Each (ReadyAt opened all) (server_by opened all).ready) (append_assoc es (e ∷ []) more) (each_from opened (es ++ e ∷ []) more (next_each opened es e h))
 
-first-at : (opened : LinkParameters) (es : List Event) (ready : List ReadyCall) (ended : Option Stop) (r : ReadyCall) → Each (ReadyAt opened es) ready → first_ready ready ended ≡ Some r → ReadyAt opened es r
-first-at opened es ready (Some end) r h e = absurd cc
-first-at opened es [] None r h e = absurd cc
-first-at opened es (x ∷ ready) None r h e = subst (ReadyAt opened es) (let s : Some x ≡ Some r = e in cc) h.0
+first_at : (opened : LinkParameters) (es : List RunEvent) (ready : List ReadyCall) (ended : Option Stop) (r : ReadyCall) → Each (ReadyAt opened es) ready → first_ready ready ended ≡ Some r → ReadyAt opened es r
+first_at opened es ready (Some end) r h e = absurd cc
+first_at opened es [] None r h e = absurd cc
+first_at opened es (x ∷ ready) None r h e = subst (ReadyAt opened es) (let s : Some x ≡ Some r = e in cc) h.0
 
 -- the frame by which an executed call was ready
-pub executed-ready : (opened : LinkParameters) (link : ℕ) (before : List Mark) (xid : ℕ) (payload : List ℕ) → (h : IsExecuted opened link before xid payload) → ReadyAt opened (events link Responder before) h.call
+pub executed_ready : (opened : LinkParameters) (link : ℕ) (before : List Mark) (xid : ℕ) (payload : List ℕ) → (h : IsExecuted opened link before xid payload) → ReadyAt opened (events link Responder before) h.call
 unfolding next_call server
-executed-ready opened link before xid payload h =
+executed_ready opened link before xid payload h =
     let es = events link Responder before in
-    first-at opened es (server opened link before).state.ready (server opened link before).ended h.call (each-from opened [] es tt) h.is_next
+    first_at opened es (server opened link before).state.ready (server opened link before).ended h.call (each_from opened [] es tt) h.is_next

@@ -3,14 +3,14 @@ use Rattle.std.specs.List.{find}
 use Rattle.nr_wire.specs.Constants.{OPCODE_SEND, QUEUE_SEND}
 use Rattle.nr_header.specs.Constants.{PAYLOAD_MAX}
 use Rattle.nr_link.specs.Output.{msn_word}
-use Rattle.nr_laws.proofs.AnswerLists.{IsRead, read-answer, read-chunk_error, read-version_error}
+use Rattle.nr_laws.proofs.AnswerLists.{IsRead, read_answer, read_chunk_error, read_version_error}
 use Rattle.std.proofs.Common.{◌≡◌, ℕ, ◌+◌, ◌*◌, ◌≤◌, ◌<◌, ◌^◌, Bool, true, false, cond, eqb, List, [], ◌∷◌, ◌++◌, length, take, drop, Some, None, Ok, refl, sym, ap, ◌∙◌, arith, length-append, append_assoc, take_all}
 use Rattle.std.proofs.Math.Seq.{drop-append_seam}
 use Rattle.std.proofs.lemmas.List.{take-append-le}
 use Rattle.nr_xdr.specs.Item.{word, word_of}
 use Rattle.nr_xdr.specs.Items.{encodings}
 use Rattle.nr_xdr.specs.Fields.{word_at}
-use Rattle.nr_xdr.proofs.WordBytes.{length-word, word_of-word}
+use Rattle.nr_xdr.proofs.WordBytes.{length_word, word_of_word}
 use Rattle.nr_wire.specs.Segment.Segment.{Tagged, Untagged}
 use Rattle.nr_header.specs.declared.header.ChunkLists.{ChunkLists}
 use Rattle.nr_header.specs.declared.header.Body.TheVariants.{Msg, Nomsg}
@@ -25,7 +25,7 @@ use Rattle.nr_reduce.specs.ServerMessages.CallVerdict.{Refuses, IsReady}
 use Rattle.nr_reduce.specs.ServerFrames.{FrameEffect, with_verdict, frame_effect}
 use Rattle.nr_reduce.proofs.AnswerMessages.{answer_length}
 use Rattle.nr_laws.proofs.WritableOffers.{OfferFits}
-use Rattle.nr_laws.proofs.EachEffect.{send-effect, tagged-effect}
+use Rattle.nr_laws.proofs.EachEffect.{send_effect, tagged_effect_lem}
 use Rattle.nr_reduce.proofs.Sizes.{word_len}
 
 pub record IsReply (credit : ℕ) (message : List ℕ) : Type 0 where
@@ -41,26 +41,26 @@ AreReplies credit (m ∷ messages) = IsReply credit m × AreReplies credit messa
 third_word : (a b c : ℕ) (rest : List ℕ) → c < 2 ^ 32 → word_at 8 (word a ++ (word b ++ (word c ++ rest))) ≡ c
 third_word a b c rest lt =
     let front = word a ++ word b in
-    let len : length front ≡ 8 = omega (arith, length-append (word a) (word b), length-word a, length-word b) in
+    let len : length front ≡ 8 = omega (arith, length-append (word a) (word b), length_word a, length_word b) in
     let dropped : drop 8 (word a ++ (word b ++ (word c ++ rest))) ≡ word c ++ rest =
     ap (λ (xs : List ℕ). drop 8 xs) (sym (append_assoc (word a) (word b) (word c ++ rest))) ∙ ap (λ (n : ℕ). drop n (front ++ (word c ++ rest))) (sym len) ∙ drop-append_seam front (word c ++ rest) in
     ap (λ (xs : List ℕ). word_of (take 4 xs)) dropped
-    ∙ ap word_of (take-append-le 4 (word c) rest (omega (arith, length-word c)) ∙ take_all 4 (word c) (omega (arith, length-word c)))
-    ∙ word_of-word c lt
+    ∙ ap word_of (take-append-le 4 (word c) rest (omega (arith, length_word c)) ∙ take_all 4 (word c) (omega (arith, length_word c)))
+    ∙ word_of_word c lt
 
-pub chunk_error-reply : (xid credit : ℕ) → xid < 2 ^ 32 → credit < 2 ^ 32 → IsReply credit (chunk_error xid credit)
+pub chunk_error_reply : (xid credit : ℕ) → xid < 2 ^ 32 → credit < 2 ^ 32 → IsReply credit (chunk_error xid credit)
 unfolding chunk_error
-chunk_error-reply xid credit small lt =
+chunk_error_reply xid credit small lt =
     let a = word_len xid (word 1 ++ (word credit ++ (word 4 ++ (word 2 ++ [])))) in
     let b = word_len 1 (word credit ++ (word 4 ++ (word 2 ++ []))) in
     let c = word_len credit (word 4 ++ (word 2 ++ [])) in
     let d = word_len 4 (word 2 ++ []) in
     let e = word_len 2 [] in
-    record { least = omega (arith, a, b, c, d, e); most = omega (arith, a, b, c, d, e); credits = third_word xid 1 credit (word 4 ++ (word 2 ++ [])) lt; read = read-chunk_error xid credit small lt }
+    record { least = omega (arith, a, b, c, d, e); most = omega (arith, a, b, c, d, e); credits = third_word xid 1 credit (word 4 ++ (word 2 ++ [])) lt; read = read_chunk_error xid credit small lt }
 
-version_error-reply : (xid version credit : ℕ) → xid < 2 ^ 32 → version < 2 ^ 32 → credit < 2 ^ 32 → IsReply credit (version_error xid version credit)
+version_error_reply : (xid version credit : ℕ) → xid < 2 ^ 32 → version < 2 ^ 32 → credit < 2 ^ 32 → IsReply credit (version_error xid version credit)
 unfolding version_error
-version_error-reply xid version credit small other lt =
+version_error_reply xid version credit small other lt =
     let rest = word 4 ++ (word 1 ++ (word 1 ++ (word 1 ++ []))) in
     let a = word_len xid (word version ++ (word credit ++ rest)) in
     let b = word_len version (word credit ++ rest) in
@@ -69,60 +69,60 @@ version_error-reply xid version credit small other lt =
     let e = word_len 1 (word 1 ++ (word 1 ++ [])) in
     let f = word_len 1 (word 1 ++ []) in
     let g = word_len 1 [] in
-    record { least = omega (arith, a, b, c, d, e, f, g); most = omega (arith, a, b, c, d, e, f, g); credits = third_word xid version credit rest lt; read = read-version_error xid version credit small other lt }
+    record { least = omega (arith, a, b, c, d, e, f, g); most = omega (arith, a, b, c, d, e, f, g); credits = third_word xid version credit rest lt; read = read_version_error xid version credit small other lt }
 
 -- ---- Of a frame's effect
 
-replies-verdict : (credit : ℕ) (o : CallVerdict) (s : FrameEffect) → AreReplies credit s.errors → AreReplies credit (with_verdict o s).errors
-replies-verdict credit (Refuses reason) s h = h
-replies-verdict credit (IsReady r) s h = h
+replies_verdict : (credit : ℕ) (o : CallVerdict) (s : FrameEffect) → AreReplies credit s.errors → AreReplies credit (with_verdict o s).errors
+replies_verdict credit (Refuses reason) s h = h
+replies_verdict credit (IsReady r) s h = h
 
-pub replies-send : (k : ServerState) (f : Frame) (message : List ℕ) → k.received.begun ≡ None → word_at 0 message < 2 ^ 32 → word_at 4 message < 2 ^ 32 → k.credit < 2 ^ 32
+pub replies_send : (k : ServerState) (f : Frame) (message : List ℕ) → k.received.begun ≡ None → word_at 0 message < 2 ^ 32 → word_at 4 message < 2 ^ 32 → k.credit < 2 ^ 32
     → frame_segment f ≡ Ok (Untagged true OPCODE_SEND 0 QUEUE_SEND (msn_word (k.received.sends + 1)) 0 message) → AreReplies k.credit (frame_effect k f).errors
-replies-send k f message none xid version lt is =
-    send-effect k (λ m. (word_at 0 m < 2 ^ 32) × (word_at 4 m < 2 ^ 32)) (λ s. AreReplies k.credit s.errors) (record {
-      judged = λ t place c s h. replies-verdict k.credit (by_payload c (payload_of t place c)) s h;
+replies_send k f message none xid version lt is =
+    send_effect k (λ m. (word_at 0 m < 2 ^ 32) × (word_at 4 m < 2 ^ 32)) (λ s. AreReplies k.credit s.errors) (record {
+      judged = λ t place c s h. replies_verdict k.credit (by_payload c (payload_of t place c)) s h;
       ends = λ m reason fit is. tt;
-      version = λ m fit. (version_error-reply (word_at 0 m) (word_at 4 m) k.credit fit.0 fit.1 lt, tt);
-      chunks = λ m fit. (chunk_error-reply (word_at 0 m) k.credit fit.0 lt, tt);
+      version = λ m fit. (version_error_reply (word_at 0 m) (word_at 4 m) k.credit fit.0 fit.1 lt, tt);
+      chunks = λ m fit. (chunk_error_reply (word_at 0 m) k.credit fit.0 lt, tt);
       pending = λ place m c fit is. tt;
     }) f message none (xid, version) is
 
-pub replies-tagged : (k : ServerState) (f : Frame) (last : Bool) (opcode stag to : ℕ) (payload : List ℕ) → ((n : ℕ) (c : PendingCall) → find (λ (y : PendingCall). eqb y.number n) k.calls ≡ Some c → c.xid < 2 ^ 32) → k.credit < 2 ^ 32
+pub replies_tagged : (k : ServerState) (f : Frame) (last : Bool) (opcode stag to : ℕ) (payload : List ℕ) → ((n : ℕ) (c : PendingCall) → find (λ (y : PendingCall). eqb y.number n) k.calls ≡ Some c → c.xid < 2 ^ 32) → k.credit < 2 ^ 32
     → frame_segment f ≡ Ok (Tagged last opcode stag to payload) → AreReplies k.credit (frame_effect k f).errors
-replies-tagged k f last opcode stag to payload small lt is =
-    tagged-effect k (λ s. AreReplies k.credit s.errors) (record {
+replies_tagged k f last opcode stag to payload small lt is =
+    tagged_effect_lem k (λ s. AreReplies k.credit s.errors) (record {
       unchanged = tt;
-      judged = λ t place c s h. replies-verdict k.credit (by_payload c (payload_of t place c)) s h;
+      judged = λ t place c s h. replies_verdict k.credit (by_payload c (payload_of t place c)) s h;
       read = λ r reads is. tt;
-      refused = λ r reads c is found. (chunk_error-reply c.xid k.credit (small r.number c found) lt, tt);
+      refused = λ r reads c is found. (chunk_error_reply c.xid k.credit (small r.number c found) lt, tt);
     }) f last opcode stag to payload is
 
 -- ---- Of an executed call
 
-encoding-words : (xid credit : ℕ) (b : Bool) (lists : ChunkLists) (stream : List ℕ) → credit < 2 ^ 32
+encoding_words : (xid credit : ℕ) (b : Bool) (lists : ChunkLists) (stream : List ℕ) → credit < 2 ^ 32
     → word_at 8 (header_encoding (record { xid = xid; credit = credit; body = cond b (Nomsg lists) (Msg lists 0) }) ++ stream) ≡ credit
-encoding-words xid credit true lists stream lt =
+encoding_words xid credit true lists stream lt =
     let rest = encodings (lists_items lists) in
     ap (λ (xs : List ℕ). word_at 8 xs)
     (append_assoc (word xid) (word 1 ++ (word credit ++ (word 1 ++ rest))) stream
     ∙ ap (λ (xs : List ℕ). word xid ++ xs) (append_assoc (word 1) (word credit ++ (word 1 ++ rest)) stream ∙ ap (λ (xs : List ℕ). word 1 ++ xs) (append_assoc (word credit) (word 1 ++ rest) stream)))
     ∙ third_word xid 1 credit ((word 1 ++ rest) ++ stream) lt
-encoding-words xid credit false lists stream lt =
+encoding_words xid credit false lists stream lt =
     let rest = encodings (lists_items lists) in
     ap (λ (xs : List ℕ). word_at 8 xs)
     (append_assoc (word xid) (word 1 ++ (word credit ++ (word 0 ++ rest))) stream
     ∙ ap (λ (xs : List ℕ). word xid ++ xs) (append_assoc (word 1) (word credit ++ (word 0 ++ rest)) stream ∙ ap (λ (xs : List ℕ). word 1 ++ xs) (append_assoc (word credit) (word 0 ++ rest) stream)))
     ∙ third_word xid 1 credit ((word 0 ++ rest) ++ stream) lt
 
-pub answer-reply : (offer : ChunkLists) (down prog vers proc xid credit : ℕ) (reply : List ℕ) (a : Answer) → down ≤ send_max → xid < 2 ^ 32 → credit < 2 ^ 32 → OfferFits offer → answer_for offer down prog vers proc reply ≡ Some a
+pub answer_reply : (offer : ChunkLists) (down prog vers proc xid credit : ℕ) (reply : List ℕ) (a : Answer) → down ≤ send_max → xid < 2 ^ 32 → credit < 2 ^ 32 → OfferFits offer → answer_for offer down prog vers proc reply ≡ Some a
     → IsReply credit (answer_message xid credit offer a)
 unfolding answer_message
-answer-reply offer down prog vers proc xid credit reply a small word lt fits e =
+answer_reply offer down prog vers proc xid credit reply a small word lt fits e =
     let sizes = answer_length offer down prog vers proc xid credit reply a e in
-    let words = encoding-words xid credit a.long (answer_lists offer a) (cond a.long [] a.stream) lt in
+    let words = encoding_words xid credit a.long (answer_lists offer a) (cond a.long [] a.stream) lt in
     let room : a.long ≡ false → length a.stream ≤ PAYLOAD_MAX = λ is. (let short = sizes.0 is in omega (arith, short.0, short.1, small)) in
-    by a.long refl sizes.0 sizes.1 words (read-answer offer xid credit a word lt fits.items fits.within room)
+    by a.long refl sizes.0 sizes.1 words (read_answer offer xid credit a word lt fits.items fits.within room)
   where
     by : (b : Bool) → a.long ≡ b
         → (a.long ≡ false → (length (answer_message xid credit offer a) ≡ answer_size offer.write + length a.stream) × (length (answer_message xid credit offer a) ≤ down))

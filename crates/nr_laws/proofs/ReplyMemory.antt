@@ -15,73 +15,73 @@ use Rattle.nr_reduce.specs.OfferedRegions.{Region, region_grants, region_bytes}
 use Rattle.nr_reduce.specs.Plans.{Buffer, buffer_if, buffers, has_segment, one_if, total, read_stag, write_stag, reply_stag, read_list, segments_from, write_list, reply_chunk, lists_of}
 use Rattle.nr_reduce.specs.Chunks.{Bytes, joined_bytes, filled_chunk, reply_conveyed, reply_stream, reply_moved, some_bytes, whole}
 use Rattle.nr_reduce.specs.Holds.{Answer, answer_for, answer_lists, written_chunks, no_segments}
-use Rattle.nr_reduce.specs.Undone.{RegionsHaveLengths, after, answer_segments, bytes_after_segments, offering}
-use Rattle.nr_reduce.specs.ClientState.{ClientState, memory_at}
+use Rattle.nr_reduce.specs.ChunkBytes.{RegionsHaveLengths, after, answer_segments, bytes_after_segments, offered_lists}
+use Rattle.nr_reduce.specs.ClientState.{ClientState, client_memory_at}
 use Rattle.nr_reduce.proofs.Answering.{conveyed}
 use Rattle.nr_reduce.proofs.OwnStags.{AreNumbered}
 use Rattle.nr_laws.proofs.Outputs.Output.{ASegment}
 use Rattle.nr_laws.proofs.ClientMemory.{HasRegion, HasBuffers}
-use Rattle.nr_laws.proofs.Memory.{Part, parts_of, parts_out, after_parts, after-append, laid-parts, Settled, held-parts}
-use Rattle.nr_laws.proofs.RegionLengths.{parts-length}
+use Rattle.nr_laws.proofs.Memory.{Part, parts_of, parts_out, after_parts, after_append, laid_parts, Settled, held_parts}
+use Rattle.nr_laws.proofs.RegionLengths.{parts_length}
 
 -- ---- Two memories that agree on the regions of an offer
 
-joined-same : (m n : Bytes) (handle offset : ℕ) (ns : List ℕ) (k : ℕ) → m handle ≡ n handle → joined_bytes m (filled_chunk (segments_from handle offset ns) k) ≡ joined_bytes n (filled_chunk (segments_from handle offset ns) k)
+joined_same : (m n : Bytes) (handle offset : ℕ) (ns : List ℕ) (k : ℕ) → m handle ≡ n handle → joined_bytes m (filled_chunk (segments_from handle offset ns) k) ≡ joined_bytes n (filled_chunk (segments_from handle offset ns) k)
 unfolding joined_bytes
-joined-same m n handle offset [] k e = refl
-joined-same m n handle offset (s ∷ ns) k e =
-    let rest = joined-same m n handle (offset + s) ns (k - min s k) e in
+joined_same m n handle offset [] k e = refl
+joined_same m n handle offset (s ∷ ns) k e =
+    let rest = joined_same m n handle (offset + s) ns (k - min s k) e in
     (λ i. Rattle.std.proofs.Common.take (min s k) (Rattle.std.proofs.Common.drop offset (e i)) ++ rest i)
 
-chunk-same : (m n : Bytes) (handle : ℕ) (ns : List ℕ) (k : ℕ) → (has_segment (Some ns) ≡ true → m handle ≡ n handle) → joined_bytes m (filled_chunk (segments_from handle 0 ns) k) ≡ joined_bytes n (filled_chunk (segments_from handle 0 ns) k)
+chunk_same : (m n : Bytes) (handle : ℕ) (ns : List ℕ) (k : ℕ) → (has_segment (Some ns) ≡ true → m handle ≡ n handle) → joined_bytes m (filled_chunk (segments_from handle 0 ns) k) ≡ joined_bytes n (filled_chunk (segments_from handle 0 ns) k)
 unfolding joined_bytes
-chunk-same m n handle [] k e = refl
-chunk-same m n handle (s ∷ ns) k e = joined-same m n handle 0 (s ∷ ns) k (e refl)
+chunk_same m n handle [] k e = refl
+chunk_same m n handle (s ∷ ns) k e = joined_same m n handle 0 (s ∷ ns) k (e refl)
 
-moved-same : (m n : Bytes) (ws : ℕ) (w : Option (List ℕ)) (k : ℕ) → (has_segment w ≡ true → m ws ≡ n ws) → reply_moved m (written_chunks (write_list ws w) k) ≡ reply_moved n (written_chunks (write_list ws w) k)
-moved-same m n ws None k e = refl
-moved-same m n ws (Some ns) k e = ap some_bytes (chunk-same m n ws ns k e)
+moved_same : (m n : Bytes) (ws : ℕ) (w : Option (List ℕ)) (k : ℕ) → (has_segment w ≡ true → m ws ≡ n ws) → reply_moved m (written_chunks (write_list ws w) k) ≡ reply_moved n (written_chunks (write_list ws w) k)
+moved_same m n ws None k e = refl
+moved_same m n ws (Some ns) k e = ap some_bytes (chunk_same m n ws ns k e)
 
-stream-same : (m n : Bytes) (rs : ℕ) (r : Option (List ℕ)) (long : Bool) (stream : List ℕ) (k : ℕ) → (has_segment r ≡ true → m rs ≡ n rs)
+stream_same : (m n : Bytes) (rs : ℕ) (r : Option (List ℕ)) (long : Bool) (stream : List ℕ) (k : ℕ) → (has_segment r ≡ true → m rs ≡ n rs)
     → reply_stream m (cond long None (Some stream)) (cond long (Some (filled_chunk (no_segments (reply_chunk rs r)) k)) None) ≡ reply_stream n (cond long None (Some stream)) (cond long (Some (filled_chunk (no_segments (reply_chunk rs r)) k)) None)
 unfolding joined_bytes
-stream-same m n rs r false stream k e = refl
-stream-same m n rs None true stream k e = refl
-stream-same m n rs (Some ns) true stream k e = chunk-same m n rs ns k e
+stream_same m n rs r false stream k e = refl
+stream_same m n rs None true stream k e = refl
+stream_same m n rs (Some ns) true stream k e = chunk_same m n rs ns k e
 
-pub conveyed-same : (m n : Bytes) (read : List ReadSegment) (ws rs : ℕ) (w r : Option (List ℕ)) (a : Answer) (prog vers proc : ℕ) → (has_segment w ≡ true → m ws ≡ n ws) → (has_segment r ≡ true → m rs ≡ n rs)
-    → reply_conveyed prog vers proc (cond a.long None (Some a.stream)) (answer_lists (offering read ws rs w r) a) m ≡ reply_conveyed prog vers proc (cond a.long None (Some a.stream)) (answer_lists (offering read ws rs w r) a) n
+pub conveyed_same : (m n : Bytes) (read : List ReadSegment) (ws rs : ℕ) (w r : Option (List ℕ)) (a : Answer) (prog vers proc : ℕ) → (has_segment w ≡ true → m ws ≡ n ws) → (has_segment r ≡ true → m rs ≡ n rs)
+    → reply_conveyed prog vers proc (cond a.long None (Some a.stream)) (answer_lists (offered_lists read ws rs w r) a) m ≡ reply_conveyed prog vers proc (cond a.long None (Some a.stream)) (answer_lists (offered_lists read ws rs w r) a) n
 unfolding reply_conveyed
-conveyed-same m n read ws rs w r a prog vers proc one two =
-    (λ i. whole (Reply prog vers proc) (stream-same m n rs r a.long a.stream (length a.stream) two i) (moved-same m n ws w (length a.moved) one i))
+conveyed_same m n read ws rs w r a prog vers proc one two =
+    (λ i. whole (Reply prog vers proc) (stream_same m n rs r a.long a.stream (length a.stream) two i) (moved_same m n ws w (length a.moved) one i))
 
 -- ---- The regions of a call
 
-has-behind : (regions : List Region) (xs ys : List Buffer) → HasBuffers regions (xs ++ ys) → HasBuffers regions ys
-has-behind regions [] ys h = h
-has-behind regions (x ∷ xs) ys h = has-behind regions xs ys h.1
+has_behind : (regions : List Region) (xs ys : List Buffer) → HasBuffers regions (xs ++ ys) → HasBuffers regions ys
+has_behind regions [] ys h = h
+has_behind regions (x ∷ xs) ys h = has_behind regions xs ys h.1
 
-has-first : (regions : List Region) (b : Bool) (stag : ℕ) (right : Right) (bytes : List ℕ) (ys : List Buffer) → HasBuffers regions (buffer_if b stag right bytes ++ ys) → b ≡ true → HasRegion regions stag bytes
-has-first regions true stag right bytes ys h is = h.0
-has-first regions false stag right bytes ys h is = absurd cc
+has_first : (regions : List Region) (b : Bool) (stag : ℕ) (right : Right) (bytes : List ℕ) (ys : List Buffer) → HasBuffers regions (buffer_if b stag right bytes ++ ys) → b ≡ true → HasRegion regions stag bytes
+has_first regions true stag right bytes ys h is = h.0
+has_first regions false stag right bytes ys h is = absurd cc
 
-has-only : (regions : List Region) (b : Bool) (stag : ℕ) (right : Right) (bytes : List ℕ) → HasBuffers regions (buffer_if b stag right bytes) → b ≡ true → HasRegion regions stag bytes
-has-only regions true stag right bytes h is = h.0
-has-only regions false stag right bytes h is = absurd cc
+has_only : (regions : List Region) (b : Bool) (stag : ℕ) (right : Right) (bytes : List ℕ) → HasBuffers regions (buffer_if b stag right bytes) → b ≡ true → HasRegion regions stag bytes
+has_only regions true stag right bytes h is = h.0
+has_only regions false stag right bytes h is = absurd cc
 
 record ReplyRegions (regions : List Region) (stag : ℕ) (p : Plan) : Type 0 where
   write : has_segment p.write ≡ true → HasRegion regions (write_stag stag p) (replicate (total p.write) 0)
   reply : has_segment p.reply ≡ true → HasRegion regions (reply_stag stag p) (replicate (total p.reply) 0)
 
-reply-regions : (regions : List Region) (stag : ℕ) (p : Plan) → HasBuffers regions (buffers stag p) → ReplyRegions regions stag p
+reply_regions : (regions : List Region) (stag : ℕ) (p : Plan) → HasBuffers regions (buffers stag p) → ReplyRegions regions stag p
 unfolding buffers
-reply-regions regions stag p h =
+reply_regions regions stag p h =
     let reply = buffer_if (has_segment p.reply) (reply_stag stag p) Fill (replicate (total p.reply) 0) in
     let write = buffer_if (has_segment p.write) (write_stag stag p) Fill (replicate (total p.write) 0) in
-    let rest = has-behind regions (buffer_if (has_segment (Some p.read)) (read_stag stag p) Fetch p.region) (write ++ reply) h in
+    let rest = has_behind regions (buffer_if (has_segment (Some p.read)) (read_stag stag p) Fetch p.region) (write ++ reply) h in
     record {
-      write = λ is. has-first regions (has_segment p.write) (write_stag stag p) Fill (replicate (total p.write) 0) reply rest is;
-      reply = λ is. has-only regions (has_segment p.reply) (reply_stag stag p) Fill (replicate (total p.reply) 0) (has-behind regions write reply rest) is;
+      write = λ is. has_first regions (has_segment p.write) (write_stag stag p) Fill (replicate (total p.write) 0) reply rest is;
+      reply = λ is. has_only regions (has_segment p.reply) (reply_stag stag p) Fill (replicate (total p.reply) 0) (has_behind regions write reply rest) is;
     }
 
 -- ---- What they hold
@@ -103,25 +103,25 @@ holds : (place first : ℕ) (regions : List Region) (accesses : List TaggedSegme
 holds place first regions accesses stag n parts segments numbers settled are h =
     let under : bytes_under (find (λ x. eqb x.stag stag) regions) ≡ h.region.bytes = ap bytes_under h.there in
     record {
-      bytes = held-parts place stag regions accesses h.region settled h.there h.own
+      bytes = held_parts place stag regions accesses h.region settled h.there h.own
           ∙ (λ i. after_parts stag (sym under i) (are i))
-          ∙ after-append stag (bytes_under (find (λ x. eqb x.stag stag) regions)) parts (parts_out (map ASegment segments))
-          ∙ sym (laid-parts stag (earlier_bytes regions parts stag) segments);
-      length_is = parts-length place first stag regions h.region (bytes_under (find (λ x. eqb x.stag stag) regions)) accesses parts (parts_out (map ASegment segments)) numbers h.there (ap (λ (b : List ℕ). length b) under) settled are
+          ∙ after_append stag (bytes_under (find (λ x. eqb x.stag stag) regions)) parts (parts_out (map ASegment segments))
+          ∙ sym (laid_parts stag (earlier_bytes regions parts stag) segments);
+      length_is = parts_length place first stag regions h.region (bytes_under (find (λ x. eqb x.stag stag) regions)) accesses parts (parts_out (map ASegment segments)) numbers h.there (ap (λ (b : List ℕ). length b) under) settled are
           ∙ ap (λ (b : List ℕ). length b) h.holds ∙ length-replicate {A = ℕ} n 0;
     }
 
-pub memory-conveys : (k : ClientState) (place first stag : ℕ) (p : Plan) (a : Answer) (parts : List Part) (down prog vers proc : ℕ) (reply : List ℕ) → IsBytes reply → AreNumbered first k.regions → Settled place k.regions k.accesses_received → HasBuffers k.regions (buffers stag p)
+pub memory_conveys : (k : ClientState) (place first stag : ℕ) (p : Plan) (a : Answer) (parts : List Part) (down prog vers proc : ℕ) (reply : List ℕ) → IsBytes reply → AreNumbered first k.regions → Settled place k.regions k.accesses_received → HasBuffers k.regions (buffers stag p)
     → parts_of k.accesses_received ≡ parts ++ parts_out (map ASegment (answer_segments (lists_of stag p) a)) → answer_for (lists_of stag p) down prog vers proc reply ≡ Some a
-    → reply_conveyed prog vers proc (cond a.long None (Some a.stream)) (answer_lists (lists_of stag p) a) (memory_at k place) ≡ Some reply
+    → reply_conveyed prog vers proc (cond a.long None (Some a.stream)) (answer_lists (lists_of stag p) a) (client_memory_at k place) ≡ Some reply
 unfolding lists_of
-memory-conveys k place first stag p a parts down prog vers proc reply bytes numbers settled backed are e =
+memory_conveys k place first stag p a parts down prog vers proc reply bytes numbers settled backed are e =
     let read : List ReadSegment = read_list stag p p.read_at in
     let ws : ℕ = write_stag stag p in
     let rs : ℕ = reply_stag stag p in
-    let offer : ChunkLists = offering read ws rs p.write p.reply in
+    let offer : ChunkLists = offered_lists read ws rs p.write p.reply in
     let segments : List Segment = answer_segments offer a in
-    let own = reply-regions k.regions stag p backed in
+    let own = reply_regions k.regions stag p backed in
     let initial : Bytes = earlier_bytes k.regions parts in
     let write = λ (is : has_segment p.write ≡ true). holds place first k.regions k.accesses_received ws (total p.write) parts segments numbers settled are (own.write is) in
     let reply_holds = λ (is : has_segment p.reply ≡ true). holds place first k.regions k.accesses_received rs (total p.reply) parts segments numbers settled are (own.reply is) in
@@ -130,5 +130,5 @@ memory-conveys k place first stag p a parts down prog vers proc reply bytes numb
       reply = λ is. (reply_holds is).length_is;
       apart = λ is same. absurd (let one = ap one_if is in omega (arith, one, same));
     } in
-    conveyed-same (memory_at k place) (after initial offer a) read ws rs p.write p.reply a prog vers proc (λ is. (write is).bytes) (λ is. (reply_holds is).bytes)
+    conveyed_same (client_memory_at k place) (after initial offer a) read ws rs p.write p.reply a prog vers proc (λ is. (write is).bytes) (λ is. (reply_holds is).bytes)
     ∙ conveyed read ws rs p.write p.reply down prog vers proc reply a initial bytes lengths e

@@ -14,8 +14,8 @@ use Rattle.nr_reduce.specs.declared.mark.Mark.{Mark}
 use Rattle.nr_reduce.specs.declared.mark.Mark.TheVariants as marks
 use Rattle.nr_reduce.specs.declared.mark.LinkParameters.{LinkParameters}
 use Rattle.nr_reduce.specs.History.{bytes_received, same_side, fed_at}
-use Rattle.nr_reduce.specs.Events.{Event, events, events_at, if_own}
-use Rattle.nr_reduce.specs.Events.Event.{FrameReceived, CallSubmitted, MemoryRevoked, CallExecuted, QueueWritten}
+use Rattle.nr_reduce.specs.Events.{RunEvent, events, events_at, if_own}
+use Rattle.nr_reduce.specs.Events.RunEvent.{FrameReceived, CallSubmitted, MemoryRevoked, CallExecuted, QueueWritten}
 use Rattle.nr_reduce.specs.EndRules.{EndState, next_end_state, next_end_state_by, next_end_state_in, end_state_after}
 use Rattle.nr_reduce.specs.OfferedRegions.{Region, until_or, until_at, region_grant, closed_if, regions_closed}
 use Rattle.nr_reduce.specs.Plans.{Buffer, buffers}
@@ -23,10 +23,10 @@ use Rattle.nr_reduce.specs.ClientState.{ClientState}
 use Rattle.nr_reduce.specs.Client.{client_rules, client_end, client_state_after, outstanding_of, region_of, with_message, with_request, with_segment, with_hello, due_with_response}
 use Rattle.nr_reduce.specs.Run.{client}
 use Rattle.nr_reduce.proofs.OwnStags.{AreNumbered}
-use Rattle.nr_reduce.proofs.Steps.{client-one}
-use Rattle.nr_laws.proofs.Beyond.{EndBy, frames-by}
-use Rattle.nr_reduce.proofs.Standing.{received-one}
-use Rattle.nr_laws.proofs.Basics.{and-second}
+use Rattle.nr_reduce.proofs.Steps.{client_one}
+use Rattle.nr_laws.proofs.LaterFrames.{EndBy, frames_by_lem}
+use Rattle.nr_reduce.proofs.Standing.{received_one}
+use Rattle.nr_laws.proofs.Basics.{and_second}
 
 -- ---- Regions of an STag that are closed
 
@@ -40,9 +40,9 @@ OnlyClosed stag p [] = Unit {0}
 OnlyClosed stag p (r ∷ regions) = (r.stag ≡ stag → IsClosedBy p r.until) × OnlyClosed stag p regions
 
 -- so no access to it is allowed by a frame that ends later
-pub closed-none : (place stag p end : ℕ) (regions : List Region) → p < end → OnlyClosed stag p regions → find (applies stag end) (map (region_grant place) regions) ≡ None
-closed-none place stag p end [] lt h = refl
-closed-none place stag p end (r ∷ regions) lt h = by (eqb r.stag stag) refl (closed-none place stag p end regions lt h.1)
+pub closed_none : (place stag p end : ℕ) (regions : List Region) → p < end → OnlyClosed stag p regions → find (applies stag end) (map (region_grant place) regions) ≡ None
+closed_none place stag p end [] lt h = refl
+closed_none place stag p end (r ∷ regions) lt h = by (eqb r.stag stag) refl (closed_none place stag p end regions lt h.1)
   where
     by_until : (u : Option ℕ) → r.until ≡ u → IsClosedBy p u → leb end (until_or place r.until) ≡ false
     by_until None is c = absurd c
@@ -51,13 +51,13 @@ closed-none place stag p end (r ∷ regions) lt h = by (eqb r.stag stag) refl (c
     by : (b : Bool) → eqb r.stag stag ≡ b → find (applies stag end) (map (region_grant place) regions) ≡ None → cond (eqb r.stag stag && (ltb r.from end && leb end (until_or place r.until))) (Some (region_grant place r)) (find (applies stag end) (map (region_grant place) regions)) ≡ None
     by true is rest =
         let dead = by_until r.until refl (h.0 (eqb-true r.stag stag is)) in
-        (λ i. cond (is i && (and-second (ltb r.from end) (leb end (until_or place r.until)) dead i)) (Some (region_grant place r)) (find (applies stag end) (map (region_grant place) regions))) ∙ rest
+        (λ i. cond (is i && (and_second (ltb r.from end) (leb end (until_or place r.until)) dead i)) (Some (region_grant place r)) (find (applies stag end) (map (region_grant place) regions))) ∙ rest
     by false is rest = ap (λ (b : Bool). cond (b && (ltb r.from end && leb end (until_or place r.until))) (Some (region_grant place r)) (find (applies stag end) (map (region_grant place) regions))) is ∙ rest
 
-pub only-closed : (test : Region → Bool) (later stag p : ℕ) (regions : List Region) → OnlyClosed stag p regions → OnlyClosed stag p (regions_closed test later regions)
+pub only_closed : (test : Region → Bool) (later stag p : ℕ) (regions : List Region) → OnlyClosed stag p regions → OnlyClosed stag p (regions_closed test later regions)
 unfolding regions_closed
-only-closed test later stag p [] h = tt
-only-closed test later stag p (r ∷ regions) h = (by (test r), only-closed test later stag p regions h.1)
+only_closed test later stag p [] h = tt
+only_closed test later stag p (r ∷ regions) h = (by (test r), only_closed test later stag p regions h.1)
   where
     by_until : (u : Option ℕ) → IsClosedBy p u → IsClosedBy p (until_at later u)
     by_until None c = absurd c
@@ -67,13 +67,13 @@ only-closed test later stag p (r ∷ regions) h = (by (test r), only-closed test
     by true e = by_until r.until (h.0 e)
     by false e = h.0 e
 
-pub only-append : (stag p : ℕ) (xs ys : List Region) → OnlyClosed stag p xs → OnlyClosed stag p ys → OnlyClosed stag p (xs ++ ys)
-only-append stag p [] ys h g = g
-only-append stag p (x ∷ xs) ys h g = (h.0, only-append stag p xs ys h.1 g)
+pub only_append : (stag p : ℕ) (xs ys : List Region) → OnlyClosed stag p xs → OnlyClosed stag p ys → OnlyClosed stag p (xs ++ ys)
+only_append stag p [] ys h g = g
+only_append stag p (x ∷ xs) ys h g = (h.0, only_append stag p xs ys h.1 g)
 
-pub only-above : (stag n p : ℕ) (regions : List Region) → stag < n → AreNumbered n regions → OnlyClosed stag p regions
-only-above stag n p [] lt h = tt
-only-above stag n p (r ∷ regions) lt h = ((λ e. absurd (let s = h.0 in omega (arith, s, e, lt))), only-above stag (n + 1) p regions (omega (arith, lt)) h.1)
+pub only_above : (stag n p : ℕ) (regions : List Region) → stag < n → AreNumbered n regions → OnlyClosed stag p regions
+only_above stag n p [] lt h = tt
+only_above stag n p (r ∷ regions) lt h = ((λ e. absurd (let s = h.0 in omega (arith, s, e, lt))), only_above stag (n + 1) p regions (omega (arith, lt)) h.1)
 
 -- ---- Lifetimes so far
 
@@ -81,18 +81,18 @@ abbrev pub UntilBy : ℕ → List Region → Type 0
 UntilBy n [] = Unit {0}
 UntilBy n (r ∷ regions) = IfSome r.until (λ u. u ≤ n) × UntilBy n regions
 
-some-more : (n m : ℕ) (o : Option ℕ) → n ≤ m → IfSome o (λ u. u ≤ n) → IfSome o (λ u. u ≤ m)
-some-more n m None le h = tt
-some-more n m (Some u) le h = omega (arith, h, le)
+some_more : (n m : ℕ) (o : Option ℕ) → n ≤ m → IfSome o (λ u. u ≤ n) → IfSome o (λ u. u ≤ m)
+some_more n m None le h = tt
+some_more n m (Some u) le h = omega (arith, h, le)
 
-until-more : (n m : ℕ) (regions : List Region) → n ≤ m → UntilBy n regions → UntilBy m regions
-until-more n m [] le h = tt
-until-more n m (r ∷ regions) le h = (some-more n m r.until le h.0, until-more n m regions le h.1)
+until_more : (n m : ℕ) (regions : List Region) → n ≤ m → UntilBy n regions → UntilBy m regions
+until_more n m [] le h = tt
+until_more n m (r ∷ regions) le h = (some_more n m r.until le h.0, until_more n m regions le h.1)
 
-until-closed : (test : Region → Bool) (later n : ℕ) (regions : List Region) → later ≤ n → UntilBy n regions → UntilBy n (regions_closed test later regions)
+until_closed : (test : Region → Bool) (later n : ℕ) (regions : List Region) → later ≤ n → UntilBy n regions → UntilBy n (regions_closed test later regions)
 unfolding regions_closed
-until-closed test later n [] le h = tt
-until-closed test later n (r ∷ regions) le h = (by (test r), until-closed test later n regions le h.1)
+until_closed test later n [] le h = tt
+until_closed test later n (r ∷ regions) le h = (by (test r), until_closed test later n regions le h.1)
   where
     by_until : (u : Option ℕ) → IfSome u (λ u. u ≤ n) → IfSome (until_at later u) (λ u. u ≤ n)
     by_until None c = le
@@ -102,74 +102,74 @@ until-closed test later n (r ∷ regions) le h = (by (test r), until-closed test
     by true = by_until r.until h.0
     by false = h.0
 
-until-append : (n : ℕ) (xs ys : List Region) → UntilBy n xs → UntilBy n ys → UntilBy n (xs ++ ys)
-until-append n [] ys h g = g
-until-append n (x ∷ xs) ys h g = (h.0, until-append n xs ys h.1 g)
+until_append : (n : ℕ) (xs ys : List Region) → UntilBy n xs → UntilBy n ys → UntilBy n (xs ++ ys)
+until_append n [] ys h g = g
+until_append n (x ∷ xs) ys h g = (h.0, until_append n xs ys h.1 g)
 
-until-new : (n xid place : ℕ) (bs : List Buffer) → UntilBy n (map (region_of xid place) bs)
-until-new n xid place [] = tt
-until-new n xid place (b ∷ bs) = (tt, until-new n xid place bs)
+until_new : (n xid place : ℕ) (bs : List Buffer) → UntilBy n (map (region_of xid place) bs)
+until_new n xid place [] = tt
+until_new n xid place (b ∷ bs) = (tt, until_new n xid place bs)
 
-pub request-regions : (m : ClientState) (due : ℕ) (o : Option ReadRequest) → (with_request m due o).regions ≡ m.regions
-request-regions m due None = refl
-request-regions m due (Some q) = refl
+pub request_regions : (m : ClientState) (due : ℕ) (o : Option ReadRequest) → (with_request m due o).regions ≡ m.regions
+request_regions m due None = refl
+request_regions m due (Some q) = refl
 
 -- what a frame does to regions, for a fact that closing keeps
-pub frame-regions : (P : List Region → Type 0) (k : ClientState) (f : Frame) → ((test : Region → Bool) → P k.regions → P (regions_closed test f.end k.regions)) → P k.regions → (r : Result Segment ℕ) → P (with_segment k f r).regions
-frame-regions P k f closes h (Err reason) = h
-frame-regions P k f closes h (Ok s) =
-    subst P (sym (request-regions (with_message k f.end (message_completed k.received s)) (due_with_response k f s) (read_request_of s))) (by (message_completed k.received s))
+pub frame_regions : (P : List Region → Type 0) (k : ClientState) (f : Frame) → ((test : Region → Bool) → P k.regions → P (regions_closed test f.end k.regions)) → P k.regions → (r : Result Segment ℕ) → P (with_segment k f r).regions
+frame_regions P k f closes h (Err reason) = h
+frame_regions P k f closes h (Ok s) =
+    subst P (sym (request_regions (with_message k f.end (message_completed k.received s)) (due_with_response k f s) (read_request_of s))) (by (message_completed k.received s))
   where
     by : (o : Option (List ℕ)) → P (with_message k f.end o).regions
     by None = h
     by (Some m) = closes (λ r. eqb r.call (Rattle.nr_xdr.specs.Fields.word_at 0 m)) h
 
 -- events that close by a place
-abbrev EventBy : ℕ → Event → Type 0
+abbrev EventBy : ℕ → RunEvent → Type 0
 EventBy n (FrameReceived f) = f.end ≤ n
 EventBy n (CallSubmitted q a) = Unit {0}
 EventBy n (MemoryRevoked q xid) = q ≤ n
 EventBy n (CallExecuted e) = Unit {0}
 EventBy n (QueueWritten taken) = Unit {0}
 
-abbrev EventsBy : ℕ → List Event → Type 0
+abbrev EventsBy : ℕ → List RunEvent → Type 0
 EventsBy n [] = Unit {0}
 EventsBy n (e ∷ es) = EventBy n e × EventsBy n es
 
-until-event : (opened : LinkParameters) (n : ℕ) (k : ClientState) (e : Event) → EventBy n e → UntilBy n k.regions → UntilBy n (client_state_after opened k e).regions
+until_event : (opened : LinkParameters) (n : ℕ) (k : ClientState) (e : RunEvent) → EventBy n e → UntilBy n k.regions → UntilBy n (client_state_after opened k e).regions
 unfolding client_state_after
-until-event opened n k (FrameReceived f) by h = by_hello (is_hello f)
+until_event opened n k (FrameReceived f) by h = by_hello (is_hello f)
   where
     by_hello : (b : Bool) → UntilBy n (cond b (with_hello opened k) (with_segment k f (frame_segment f))).regions
     by_hello true = h
-    by_hello false = frame-regions (UntilBy n) k f (λ test g. until-closed test f.end n k.regions by g) h (frame_segment f)
-until-event opened n k (CallSubmitted q a) by h = until-append n k.regions (map (region_of a.xid q) (buffers k.stag (outstanding_of k a).plan)) h (until-new n a.xid q (buffers k.stag (outstanding_of k a).plan))
-until-event opened n k (MemoryRevoked q xid) by h = until-closed (λ r. eqb r.call xid) q n k.regions by h
-until-event opened n k (CallExecuted e) by h = h
-until-event opened n k (QueueWritten taken) by h = h
+    by_hello false = frame_regions (UntilBy n) k f (λ test g. until_closed test f.end n k.regions by g) h (frame_segment f)
+until_event opened n k (CallSubmitted q a) by h = until_append n k.regions (map (region_of a.xid q) (buffers k.stag (outstanding_of k a).plan)) h (until_new n a.xid q (buffers k.stag (outstanding_of k a).plan))
+until_event opened n k (MemoryRevoked q xid) by h = until_closed (λ r. eqb r.call xid) q n k.regions by h
+until_event opened n k (CallExecuted e) by h = h
+until_event opened n k (QueueWritten taken) by h = h
 
-until-next : (opened : LinkParameters) (n : ℕ) (k : ClientState) (ended : Option Stop) (e : Event) → EventBy n e → UntilBy n k.regions → UntilBy n (next_end_state_in (client_rules opened) k e ended).state.regions
-until-next opened n k (Some end) e by h = h
-until-next opened n k None e by h = by_why (client_end k e)
+until_next : (opened : LinkParameters) (n : ℕ) (k : ClientState) (ended : Option Stop) (e : RunEvent) → EventBy n e → UntilBy n k.regions → UntilBy n (next_end_state_in (client_rules opened) k e ended).state.regions
+until_next opened n k (Some end) e by h = h
+until_next opened n k None e by h = by_why (client_end k e)
   where
     by_why : (o : Option Stop) → UntilBy n (next_end_state_by (client_rules opened) k e o).state.regions
-    by_why None = until-event opened n k e by h
+    by_why None = until_event opened n k e by h
     by_why (Some end) = h
 
-until-all : (opened : LinkParameters) (n : ℕ) (r : EndState ClientState) (es : List Event) → EventsBy n es → UntilBy n r.state.regions → UntilBy n (end_state_after (client_rules opened) r es).state.regions
-until-all opened n r [] by h = h
-until-all opened n r (e ∷ es) by h = until-all opened n (next_end_state (client_rules opened) r e) es by.1 (until-next opened n r.state r.ended e by.0 h)
+until_all : (opened : LinkParameters) (n : ℕ) (r : EndState ClientState) (es : List RunEvent) → EventsBy n es → UntilBy n r.state.regions → UntilBy n (end_state_after (client_rules opened) r es).state.regions
+until_all opened n r [] by h = h
+until_all opened n r (e ∷ es) by h = until_all opened n (next_end_state (client_rules opened) r e) es by.1 (until_next opened n r.state r.ended e by.0 h)
 
-events-by : (n : ℕ) (fs : List Frame) → EndBy n fs → EventsBy n (map FrameReceived fs)
-events-by n [] h = tt
-events-by n (f ∷ fs) h = (h.0, events-by n fs h.1)
+events_by : (n : ℕ) (fs : List Frame) → EndBy n fs → EventsBy n (map FrameReceived fs)
+events_by n [] h = tt
+events_by n (f ∷ fs) h = (h.0, events_by n fs h.1)
 
-if-by : (n : ℕ) (b : Bool) (es : List Event) → EventsBy n es → EventsBy n (if_own b es)
-if-by n true es h = h
-if-by n false es h = tt
+if_by : (n : ℕ) (b : Bool) (es : List RunEvent) → EventsBy n es → EventsBy n (if_own b es)
+if_by n true es h = h
+if_by n false es h = tt
 
-mark-by : (link : ℕ) (before : List Mark) (mark : Mark) → EventsBy (length (bytes_received link Initiator (before ++ mark ∷ []))) (events_at link Initiator before mark)
-mark-by link before mark = subst (λ (n : ℕ). EventsBy n (events_at link Initiator before mark)) (ap (λ (xs : List ℕ). length xs) (sym (received-one link Initiator before mark))) (by mark)
+mark_by : (link : ℕ) (before : List Mark) (mark : Mark) → EventsBy (length (bytes_received link Initiator (before ++ mark ∷ []))) (events_at link Initiator before mark)
+mark_by link before mark = subst (λ (n : ℕ). EventsBy n (events_at link Initiator before mark)) (ap (λ (xs : List ℕ). length xs) (sym (received_one link Initiator before mark))) (by mark)
   where
     old : List ℕ
     old = bytes_received link Initiator before
@@ -181,30 +181,30 @@ mark-by link before mark = subst (λ (n : ℕ). EventsBy n (events_at link Initi
     by (marks.Fed l s bytes) = by_own (eqb l link && same_side s Initiator)
       where
         by_own : (b : Bool) → EventsBy (length (old ++ cond b bytes [])) (if_own b (map FrameReceived (frames_completed Responder old bytes)))
-        by_own true = events-by (length (old ++ bytes)) (frames_completed Responder old bytes) (frames-by Responder old bytes)
+        by_own true = events_by (length (old ++ bytes)) (frames_completed Responder old bytes) (frames_by_lem Responder old bytes)
         by_own false = tt
-    by (marks.Wrote l s bytes) = if-by (length (old ++ [])) (eqb l link && same_side s Initiator) (QueueWritten (length bytes) ∷ []) (tt, tt)
-    by (marks.Submit l call form (submissions.Accepted xid)) = if-by (length (old ++ [])) (eqb l link && true) (CallSubmitted (length old) (record { xid = xid; call = call; form = form }) ∷ []) (tt, tt)
+    by (marks.Wrote l s bytes) = if_by (length (old ++ [])) (eqb l link && same_side s Initiator) (QueueWritten (length bytes) ∷ []) (tt, tt)
+    by (marks.Submit l call form (submissions.Accepted xid)) = if_by (length (old ++ [])) (eqb l link && true) (CallSubmitted (length old) (record { xid = xid; call = call; form = form }) ∷ []) (tt, tt)
     by (marks.Submit l call form (submissions.Refused why)) = tt
     by (marks.Submit l call form submissions.Dropped) = tt
-    by (marks.Execute l xid moment payload at reply) = if-by (length (old ++ [])) (eqb l link && false) (CallExecuted (record { xid = xid; moment = moment; payload = payload; place = at; reply = reply }) ∷ []) (tt, tt)
-    by (marks.Revoke l xid bytes) = if-by (length (old ++ [])) (eqb l link && true) (MemoryRevoked (length old) xid ∷ []) (place [], tt)
+    by (marks.Execute l xid moment payload at reply) = if_by (length (old ++ [])) (eqb l link && false) (CallExecuted (record { xid = xid; moment = moment; payload = payload; place = at; reply = reply }) ∷ []) (tt, tt)
+    by (marks.Revoke l xid bytes) = if_by (length (old ++ [])) (eqb l link && true) (MemoryRevoked (length old) xid ∷ []) (place [], tt)
     by (marks.Done l xid outcome) = tt
     by (marks.Lost l xid) = tt
     by (marks.Forget l xid) = tt
     by (marks.Drop l) = tt
 
-until-from : (opened : LinkParameters) (link : ℕ) (before run : List Mark) → UntilBy (length (bytes_received link Initiator before)) (client opened link before).state.regions → UntilBy (length (bytes_received link Initiator (before ++ run))) (client opened link (before ++ run)).state.regions
-until-from opened link before [] h = subst (λ (b : List Mark). UntilBy (length (bytes_received link Initiator b)) (client opened link b).state.regions) (sym (append-nil before)) h
-until-from opened link before (mark ∷ run) h =
+until_from : (opened : LinkParameters) (link : ℕ) (before run : List Mark) → UntilBy (length (bytes_received link Initiator before)) (client opened link before).state.regions → UntilBy (length (bytes_received link Initiator (before ++ run))) (client opened link (before ++ run)).state.regions
+until_from opened link before [] h = subst (λ (b : List Mark). UntilBy (length (bytes_received link Initiator b)) (client opened link b).state.regions) (sym (append-nil before)) h
+until_from opened link before (mark ∷ run) h =
     let n = length (bytes_received link Initiator (before ++ mark ∷ [])) in
-    let grows = ap (λ (xs : List ℕ). length xs) (received-one link Initiator before mark) ∙ length-append (bytes_received link Initiator before) (fed_at link Initiator mark) in
-    let more : UntilBy n (client opened link before).state.regions = until-more (length (bytes_received link Initiator before)) n (client opened link before).state.regions (omega (arith, grows)) h in
+    let grows = ap (λ (xs : List ℕ). length xs) (received_one link Initiator before mark) ∙ length-append (bytes_received link Initiator before) (fed_at link Initiator mark) in
+    let more : UntilBy n (client opened link before).state.regions = until_more (length (bytes_received link Initiator before)) n (client opened link before).state.regions (omega (arith, grows)) h in
     let next : UntilBy n (client opened link (before ++ mark ∷ [])).state.regions =
-    subst (λ (r : EndState ClientState). UntilBy n r.state.regions) (sym (client-one opened link before mark)) (until-all opened n (client opened link before) (events_at link Initiator before mark) (mark-by link before mark) more) in
-    subst (λ (b : List Mark). UntilBy (length (bytes_received link Initiator b)) (client opened link b).state.regions) (append_assoc before (mark ∷ []) run) (until-from opened link (before ++ mark ∷ []) run next)
+    subst (λ (r : EndState ClientState). UntilBy n r.state.regions) (sym (client_one opened link before mark)) (until_all opened n (client opened link before) (events_at link Initiator before mark) (mark_by link before mark) more) in
+    subst (λ (b : List Mark). UntilBy (length (bytes_received link Initiator b)) (client opened link b).state.regions) (append_assoc before (mark ∷ []) run) (until_from opened link (before ++ mark ∷ []) run next)
 
 -- each lifetime that ended had ended by then
-pub until-run : (opened : LinkParameters) (link : ℕ) (run : List Mark) → UntilBy (length (bytes_received link Initiator run)) (client opened link run).state.regions
+pub until_run : (opened : LinkParameters) (link : ℕ) (run : List Mark) → UntilBy (length (bytes_received link Initiator run)) (client opened link run).state.regions
 unfolding client events
-until-run opened link run = until-from opened link [] run tt
+until_run opened link run = until_from opened link [] run tt

@@ -5,7 +5,7 @@ use Rattle.nr_wire.specs.declared.hello.Side.TheVariants.{Initiator}
 use Rattle.nr_link.specs.Output.{own_hello}
 use Rattle.nr_reduce.specs.declared.mark.LinkParameters.{LinkParameters}
 use Rattle.nr_reduce.specs.History.{bytes_sent}
-use Rattle.nr_reduce.specs.Events.{Event, events}
+use Rattle.nr_reduce.specs.Events.{RunEvent, events}
 use Rattle.nr_reduce.specs.EndRules.{EndState, output_for, output_for_all, next_end_state, end_state_after}
 use Rattle.nr_reduce.specs.ClientState.{ClientState}
 use Rattle.nr_reduce.specs.Client.{client_rules, initial_client}
@@ -16,21 +16,21 @@ use Rattle.nr_laws.proofs.Flows.{sent_up, sent_down}
 
 -- ---- Bytes of lists
 
-got-left : (xs ys : List ℕ) (at byte : ℕ) → slice_get xs at ≡ Some byte → slice_get (xs ++ ys) at ≡ Some byte
-got-left [] ys zero byte e = absurd (let wrong : None ≡ Some byte = e in cc)
-got-left [] ys (suc at) byte e = absurd (let wrong : None ≡ Some byte = e in cc)
-got-left (x ∷ xs) ys zero byte e = e
-got-left (x ∷ xs) ys (suc at) byte e = got-left xs ys at byte e
+got_left : (xs ys : List ℕ) (at byte : ℕ) → slice_get xs at ≡ Some byte → slice_get (xs ++ ys) at ≡ Some byte
+got_left [] ys zero byte e = absurd (let wrong : None ≡ Some byte = e in cc)
+got_left [] ys (suc at) byte e = absurd (let wrong : None ≡ Some byte = e in cc)
+got_left (x ∷ xs) ys zero byte e = e
+got_left (x ∷ xs) ys (suc at) byte e = got_left xs ys at byte e
 
 record OfSecond (xs ys : List ℕ) (at byte : ℕ) : Type 0 where
   index : ℕ
   at_is : at ≡ length xs + index
   byte_is : slice_get ys index ≡ Some byte
 
-of-one : (xs ys : List ℕ) (at byte : ℕ) → slice_get (xs ++ ys) at ≡ Some byte → (slice_get xs at ≡ Some byte) ⊎ OfSecond xs ys at byte
-of-one [] ys at byte e = inr (record { index = at; at_is = omega arith; byte_is = e })
-of-one (x ∷ xs) ys zero byte e = inl e
-of-one (x ∷ xs) ys (suc at) byte e = by (of-one xs ys at byte e)
+of_one : (xs ys : List ℕ) (at byte : ℕ) → slice_get (xs ++ ys) at ≡ Some byte → (slice_get xs at ≡ Some byte) ⊎ OfSecond xs ys at byte
+of_one [] ys at byte e = inr (record { index = at; at_is = omega arith; byte_is = e })
+of_one (x ∷ xs) ys zero byte e = inl e
+of_one (x ∷ xs) ys (suc at) byte e = by (of_one xs ys at byte e)
   where
     by : (slice_get xs at ≡ Some byte) ⊎ OfSecond xs ys at byte → (slice_get xs at ≡ Some byte) ⊎ OfSecond (x ∷ xs) ys (suc at) byte
     by (inl h) = inl h
@@ -38,19 +38,19 @@ of-one (x ∷ xs) ys (suc at) byte e = by (of-one xs ys at byte e)
 
 -- ---- The event of a byte
 
-record ForEvent (opened : LinkParameters) (r : EndState ClientState) (es : List Event) (at byte : ℕ) : Type 0 where
-  earlier : List Event
-  event : Event
-  later : List Event
+record ForEvent (opened : LinkParameters) (r : EndState ClientState) (es : List RunEvent) (at byte : ℕ) : Type 0 where
+  earlier : List RunEvent
+  event : RunEvent
+  later : List RunEvent
   is : es ≡ earlier ++ event ∷ later
   index : ℕ
   at_is : at ≡ length (output_for_all (client_rules opened) r earlier) + index
   byte_is : slice_get (output_for (client_rules opened) (end_state_after (client_rules opened) r earlier) event) index ≡ Some byte
 
-for-event : (opened : LinkParameters) (r : EndState ClientState) (es : List Event) (at byte : ℕ) → slice_get (output_for_all (client_rules opened) r es) at ≡ Some byte → ForEvent opened r es at byte
-for-event opened r [] zero byte e = absurd (let wrong : None ≡ Some byte = e in cc)
-for-event opened r [] (suc at) byte e = absurd (let wrong : None ≡ Some byte = e in cc)
-for-event opened r (e ∷ es) at byte is = by (of-one out (output_for_all (client_rules opened) next es) at byte is) (λ index has. for-event opened next es index byte has)
+for_event : (opened : LinkParameters) (r : EndState ClientState) (es : List RunEvent) (at byte : ℕ) → slice_get (output_for_all (client_rules opened) r es) at ≡ Some byte → ForEvent opened r es at byte
+for_event opened r [] zero byte e = absurd (let wrong : None ≡ Some byte = e in cc)
+for_event opened r [] (suc at) byte e = absurd (let wrong : None ≡ Some byte = e in cc)
+for_event opened r (e ∷ es) at byte is = by (of_one out (output_for_all (client_rules opened) next es) at byte is) (λ index has. for_event opened next es index byte has)
   where
     out : List ℕ
     out = output_for (client_rules opened) r e
@@ -70,7 +70,7 @@ for-event opened r (e ∷ es) at byte is = by (of-one out (output_for_all (clien
           earlier = e ∷ more.earlier;
           event = more.event;
           later = more.later;
-          is = ap (λ (xs : List Event). e ∷ xs) more.is;
+          is = ap (λ (xs : List RunEvent). e ∷ xs) more.is;
           index = more.index;
           at_is = omega (arith, one, two, both);
           byte_is = more.byte_is;
@@ -84,9 +84,9 @@ server_sends_what_is_due = sent_down
 
 pub sent_bytes_are_allowed : SentBytesAreAllowed
 unfolding output_due
-sent_bytes_are_allowed opened link run at byte asked e = by (of-one (own_hello Initiator) out at byte due)
+sent_bytes_are_allowed opened link run at byte asked e = by (of_one (own_hello Initiator) out at byte due)
   where
-    es : List Event
+    es : List RunEvent
     es = events link Initiator run
 
     out : List ℕ
@@ -95,12 +95,12 @@ sent_bytes_are_allowed opened link run at byte asked e = by (of-one (own_hello I
     due : slice_get (own_hello Initiator ++ out) at ≡ Some byte
     due =
         let p = sent_up opened link run asked in
-        subst (λ (xs : List ℕ). slice_get xs at ≡ Some byte) p.1 (got-left (bytes_sent link Initiator run) p.0 at byte e)
+        subst (λ (xs : List ℕ). slice_get xs at ≡ Some byte) p.1 (got_left (bytes_sent link Initiator run) p.0 at byte e)
 
     by : (slice_get (own_hello Initiator) at ≡ Some byte) ⊎ OfSecond (own_hello Initiator) out at byte → (slice_get (own_hello Initiator) at ≡ Some byte) ⊎ IsSentFor opened es at byte
     by (inl h) = inl h
     by (inr h) =
-        let f = for-event opened (initial_client opened) es h.index byte h.byte_is in
+        let f = for_event opened (initial_client opened) es h.index byte h.byte_is in
         let one = h.at_is in
         let two = f.at_is in
         inr (record {

@@ -10,26 +10,26 @@ use Rattle.nr_link.specs.ReceiveState.{begun_bytes}
 use Rattle.nr_link.specs.Ending.{frame_segment}
 use Rattle.nr_reduce.specs.declared.mark.LinkParameters.{LinkParameters}
 use Rattle.nr_reduce.specs.History.{ExecutedCall}
-use Rattle.nr_reduce.specs.Events.{Event}
-use Rattle.nr_reduce.specs.Events.Event.{FrameReceived, CallSubmitted, MemoryRevoked, CallExecuted, QueueWritten}
+use Rattle.nr_reduce.specs.Events.{RunEvent}
+use Rattle.nr_reduce.specs.Events.RunEvent.{FrameReceived, CallSubmitted, MemoryRevoked, CallExecuted, QueueWritten}
 use Rattle.nr_reduce.specs.EndRules.{EndState, next_end_state, end_state_after, output_for, output_for_all}
 use Rattle.nr_reduce.specs.Holds.{Answer, answer_message, chunk_error}
-use Rattle.nr_reduce.specs.Undone.{answer_segments}
+use Rattle.nr_reduce.specs.ChunkBytes.{answer_segments}
 use Rattle.nr_reduce.specs.ServerState.{ServerState, ReadyCall, credit_word}
 use Rattle.nr_reduce.specs.ServerFrames.{frame_effect}
 use Rattle.nr_reduce.specs.Server.{server_rules, server_end, offer_of, initial_server}
 use Rattle.nr_reduce.specs.RunLaws.{server_by}
-use Rattle.nr_reduce.proofs.Steps.{output_for_all-append, end_state_after-append}
-use Rattle.nr_laws.proofs.Along.{GoesOn, place_after, outputs_for, outputs_all}
-use Rattle.nr_laws.proofs.Outputs.{Output, bytes_of_all, bytes-append, server_says, server_final_outputs, answer_of_call}
+use Rattle.nr_reduce.proofs.Steps.{output_for_all_append, end_state_after_append}
+use Rattle.nr_laws.proofs.EventOutputs.{GoesOn, place_after, outputs_for, outputs_all}
+use Rattle.nr_laws.proofs.Outputs.{Output, bytes_of_all, bytes_append, server_says, server_final_outputs, answer_of_call}
 use Rattle.nr_laws.proofs.Outputs.Output.{AHello, ASegment}
 use Rattle.nr_laws.proofs.Brought.{AreFrom, Brings}
-use Rattle.nr_laws.proofs.Words.{from-append}
-use Rattle.nr_laws.proofs.Completions.{completed_by, begun_from, begun-append}
+use Rattle.nr_laws.proofs.Words.{from_append}
+use Rattle.nr_laws.proofs.Completions.{completed_by, begun_from, begun_append}
 use Rattle.nr_laws.proofs.Memory.{parts_out}
 use Rattle.nr_laws.proofs.ServerOutputs.{IsError, AtMostOne, CallsFit}
 use Rattle.nr_laws.proofs.ServerOutputs.AtMostOne.{NoError, OneError}
-use Rattle.nr_laws.proofs.Basics.{first-is, PartedTwo, parted-two}
+use Rattle.nr_laws.proofs.Basics.{first_is_lem, PartedTwo, parted_two}
 use Rattle.nr_laws.proofs.Basics.PartedTwo.{InFirst, InSecond}
 
 -- ---- Events of a server on a matched link
@@ -47,7 +47,7 @@ pub record IsGoodExecution (r : EndState ServerState) (e : ExecutedCall) : Type 
 abbrev pub FrameGood : Frame → Type 0
 FrameGood f = ((is_hello f ≡ true) × (f.bytes ≡ own_hello Initiator)) ⊎ ((s : Segment) × (is_hello f ≡ false) × (frame_segment f ≡ Ok s))
 
-abbrev pub ServerGood : EndState ServerState → Event → Type 0
+abbrev pub ServerGood : EndState ServerState → RunEvent → Type 0
 ServerGood r (FrameReceived f) = FrameGood f
 ServerGood r (CallSubmitted p a) = Unit {0}
 ServerGood r (MemoryRevoked p xid) = Unit {0}
@@ -55,46 +55,46 @@ ServerGood r (CallExecuted e) = IsGoodExecution r e
 ServerGood r (QueueWritten taken) = Unit {0}
 
 -- without what is known of frames
-abbrev pub ServerPlain : EndState ServerState → Event → Type 0
+abbrev pub ServerPlain : EndState ServerState → RunEvent → Type 0
 ServerPlain r (FrameReceived f) = Unit {0}
 ServerPlain r (CallSubmitted p a) = Unit {0}
 ServerPlain r (MemoryRevoked p xid) = Unit {0}
 ServerPlain r (CallExecuted e) = IsGoodExecution r e
 ServerPlain r (QueueWritten taken) = Unit {0}
 
-goes-fpdu : (opened : LinkParameters) (place : ℕ) (r : EndState ServerState) (es : List Event) (came : List Output) → GoesOn (server_rules opened) ServerPlain place r es → Brings es came → AreFrom Fpdu came → GoesOn (server_rules opened) ServerGood place r es
-goes-fpdu opened place r [] came g b from = tt
-goes-fpdu opened place r (FrameReceived f ∷ es) [] g b from = absurd b
-goes-fpdu opened place r (FrameReceived f ∷ es) (AHello bytes ∷ came) g b from = absurd from
-goes-fpdu opened place r (FrameReceived f ∷ es) (ASegment s ∷ came) g b from = (g.0, inr (s, b.0.0, b.0.1), goes-fpdu opened f.end (next_end_state (server_rules opened) r (FrameReceived f)) es came g.2 b.1 from.1)
-goes-fpdu opened place r (CallSubmitted p a ∷ es) came g b from = (g.0, g.1, goes-fpdu opened place (next_end_state (server_rules opened) r (CallSubmitted p a)) es came g.2 b from)
-goes-fpdu opened place r (MemoryRevoked p xid ∷ es) came g b from = (g.0, g.1, goes-fpdu opened place (next_end_state (server_rules opened) r (MemoryRevoked p xid)) es came g.2 b from)
-goes-fpdu opened place r (CallExecuted e ∷ es) came g b from = (g.0, g.1, goes-fpdu opened place (next_end_state (server_rules opened) r (CallExecuted e)) es came g.2 b from)
-goes-fpdu opened place r (QueueWritten taken ∷ es) came g b from = (g.0, g.1, goes-fpdu opened place (next_end_state (server_rules opened) r (QueueWritten taken)) es came g.2 b from)
+goes_fpdu : (opened : LinkParameters) (place : ℕ) (r : EndState ServerState) (es : List RunEvent) (came : List Output) → GoesOn (server_rules opened) ServerPlain place r es → Brings es came → AreFrom Fpdu came → GoesOn (server_rules opened) ServerGood place r es
+goes_fpdu opened place r [] came g b from = tt
+goes_fpdu opened place r (FrameReceived f ∷ es) [] g b from = absurd b
+goes_fpdu opened place r (FrameReceived f ∷ es) (AHello bytes ∷ came) g b from = absurd from
+goes_fpdu opened place r (FrameReceived f ∷ es) (ASegment s ∷ came) g b from = (g.0, inr (s, b.0.0, b.0.1), goes_fpdu opened f.end (next_end_state (server_rules opened) r (FrameReceived f)) es came g.2 b.1 from.1)
+goes_fpdu opened place r (CallSubmitted p a ∷ es) came g b from = (g.0, g.1, goes_fpdu opened place (next_end_state (server_rules opened) r (CallSubmitted p a)) es came g.2 b from)
+goes_fpdu opened place r (MemoryRevoked p xid ∷ es) came g b from = (g.0, g.1, goes_fpdu opened place (next_end_state (server_rules opened) r (MemoryRevoked p xid)) es came g.2 b from)
+goes_fpdu opened place r (CallExecuted e ∷ es) came g b from = (g.0, g.1, goes_fpdu opened place (next_end_state (server_rules opened) r (CallExecuted e)) es came g.2 b from)
+goes_fpdu opened place r (QueueWritten taken ∷ es) came g b from = (g.0, g.1, goes_fpdu opened place (next_end_state (server_rules opened) r (QueueWritten taken)) es came g.2 b from)
 
-pub goes-hello : (opened : LinkParameters) (place : ℕ) (r : EndState ServerState) (es : List Event) (came : List Output) → GoesOn (server_rules opened) ServerPlain place r es → Brings es came → AreFrom (HelloFrom Initiator) came → GoesOn (server_rules opened) ServerGood place r es
-goes-hello opened place r [] came g b from = tt
-goes-hello opened place r (FrameReceived f ∷ es) [] g b from = absurd b
-goes-hello opened place r (FrameReceived f ∷ es) (AHello bytes ∷ came) g b from = (g.0, inl (b.0.0, b.0.1 ∙ from.0), goes-fpdu opened f.end (next_end_state (server_rules opened) r (FrameReceived f)) es came g.2 b.1 from.1)
-goes-hello opened place r (FrameReceived f ∷ es) (ASegment s ∷ came) g b from = absurd from
-goes-hello opened place r (CallSubmitted p a ∷ es) came g b from = (g.0, g.1, goes-hello opened place (next_end_state (server_rules opened) r (CallSubmitted p a)) es came g.2 b from)
-goes-hello opened place r (MemoryRevoked p xid ∷ es) came g b from = (g.0, g.1, goes-hello opened place (next_end_state (server_rules opened) r (MemoryRevoked p xid)) es came g.2 b from)
-goes-hello opened place r (CallExecuted e ∷ es) came g b from = (g.0, g.1, goes-hello opened place (next_end_state (server_rules opened) r (CallExecuted e)) es came g.2 b from)
-goes-hello opened place r (QueueWritten taken ∷ es) came g b from = (g.0, g.1, goes-hello opened place (next_end_state (server_rules opened) r (QueueWritten taken)) es came g.2 b from)
+pub goes_hello : (opened : LinkParameters) (place : ℕ) (r : EndState ServerState) (es : List RunEvent) (came : List Output) → GoesOn (server_rules opened) ServerPlain place r es → Brings es came → AreFrom (HelloFrom Initiator) came → GoesOn (server_rules opened) ServerGood place r es
+goes_hello opened place r [] came g b from = tt
+goes_hello opened place r (FrameReceived f ∷ es) [] g b from = absurd b
+goes_hello opened place r (FrameReceived f ∷ es) (AHello bytes ∷ came) g b from = (g.0, inl (b.0.0, b.0.1 ∙ from.0), goes_fpdu opened f.end (next_end_state (server_rules opened) r (FrameReceived f)) es came g.2 b.1 from.1)
+goes_hello opened place r (FrameReceived f ∷ es) (ASegment s ∷ came) g b from = absurd from
+goes_hello opened place r (CallSubmitted p a ∷ es) came g b from = (g.0, g.1, goes_hello opened place (next_end_state (server_rules opened) r (CallSubmitted p a)) es came g.2 b from)
+goes_hello opened place r (MemoryRevoked p xid ∷ es) came g b from = (g.0, g.1, goes_hello opened place (next_end_state (server_rules opened) r (MemoryRevoked p xid)) es came g.2 b from)
+goes_hello opened place r (CallExecuted e ∷ es) came g b from = (g.0, g.1, goes_hello opened place (next_end_state (server_rules opened) r (CallExecuted e)) es came g.2 b from)
+goes_hello opened place r (QueueWritten taken ∷ es) came g b from = (g.0, g.1, goes_hello opened place (next_end_state (server_rules opened) r (QueueWritten taken)) es came g.2 b from)
 
 -- ---- Why a message is said
 
-abbrev pub outs_of : LinkParameters → List Event → List Output
+abbrev pub outs_of : LinkParameters → List RunEvent → List Output
 outs_of opened es = outputs_all (server_rules opened) (server_says opened) server_final_outputs (initial_server opened) es
 
-abbrev pub is_live : LinkParameters → List Event → Type 0
+abbrev pub is_live : LinkParameters → List RunEvent → Type 0
 is_live opened es = (end_state_after (server_rules opened) (initial_server opened) es).ended ≡ None
 
 -- it refuses a Send, at a frame
-pub record SaidError (opened : LinkParameters) (es : List Event) (m : List ℕ) : Type 0 where
-  pub earlier : List Event
+pub record SaidError (opened : LinkParameters) (es : List RunEvent) (m : List ℕ) : Type 0 where
+  pub earlier : List RunEvent
   pub frame : Frame
-  pub later : List Event
+  pub later : List RunEvent
   pub is : es ≡ earlier ++ FrameReceived frame ∷ later
   pub behind : is_hello frame ≡ false
   pub segment : Segment
@@ -105,10 +105,10 @@ pub record SaidError (opened : LinkParameters) (es : List Event) (m : List ℕ) 
   pub kind : IsError m
 
 -- it answers an executed call
-pub record SaidAnswer (opened : LinkParameters) (es : List Event) (xs : List Output) (m : List ℕ) : Type 0 where
-  pub earlier : List Event
+pub record SaidAnswer (opened : LinkParameters) (es : List RunEvent) (xs : List Output) (m : List ℕ) : Type 0 where
+  pub earlier : List RunEvent
   pub call : ExecutedCall
-  pub later : List Event
+  pub later : List RunEvent
   pub is : es ≡ earlier ++ CallExecuted call ∷ later
   pub live : is_live opened earlier
   pub answer : Answer
@@ -118,26 +118,26 @@ pub record SaidAnswer (opened : LinkParameters) (es : List Event) (xs : List Out
   pub before : parts_out xs ≡ parts_out (outs_of opened earlier) ++ parts_out (map ASegment (answer_segments (offer_of (server_by opened earlier) call.xid) answer))
 
 -- or it says that its offer doesn't hold the reply
-pub record SaidNoAnswer (opened : LinkParameters) (es : List Event) (m : List ℕ) : Type 0 where
-  pub earlier : List Event
+pub record SaidNoAnswer (opened : LinkParameters) (es : List RunEvent) (m : List ℕ) : Type 0 where
+  pub earlier : List RunEvent
   pub call : ExecutedCall
-  pub later : List Event
+  pub later : List RunEvent
   pub is : es ≡ earlier ++ CallExecuted call ∷ later
   pub live : is_live opened earlier
   pub none : answer_of_call (server_by opened earlier) call ≡ None
   pub message : m ≡ chunk_error call.xid (credit_word (server_by opened earlier))
 
-pub data Said (opened : LinkParameters) (es : List Event) (xs : List Output) (m : List ℕ) : Type 0 where
+pub data Said (opened : LinkParameters) (es : List RunEvent) (xs : List Output) (m : List ℕ) : Type 0 where
   IsRefusal : SaidError opened es m → Said opened es xs m
   IsAnswer : SaidAnswer opened es xs m → Said opened es xs m
   IsNoAnswer : SaidNoAnswer opened es m → Said opened es xs m
 
-said-later : (opened : LinkParameters) (es : List Event) (e : Event) (xs : List Output) (m : List ℕ) → Said opened es xs m → Said opened (es ++ e ∷ []) xs m
-said-later opened es e xs m (IsRefusal s) = IsRefusal (record {
+said_later : (opened : LinkParameters) (es : List RunEvent) (e : RunEvent) (xs : List Output) (m : List ℕ) → Said opened es xs m → Said opened (es ++ e ∷ []) xs m
+said_later opened es e xs m (IsRefusal s) = IsRefusal (record {
   earlier = s.earlier;
   frame = s.frame;
   later = s.later ++ e ∷ [];
-  is = ap (λ (all : List Event). all ++ e ∷ []) s.is ∙ append_assoc s.earlier (FrameReceived s.frame ∷ s.later) (e ∷ []);
+  is = ap (λ (all : List RunEvent). all ++ e ∷ []) s.is ∙ append_assoc s.earlier (FrameReceived s.frame ∷ s.later) (e ∷ []);
   behind = s.behind;
   segment = s.segment;
   is_segment = s.is_segment;
@@ -146,54 +146,54 @@ said-later opened es e xs m (IsRefusal s) = IsRefusal (record {
   errors = s.errors;
   kind = s.kind;
 })
-said-later opened es e xs m (IsAnswer s) = IsAnswer (record {
+said_later opened es e xs m (IsAnswer s) = IsAnswer (record {
   earlier = s.earlier;
   call = s.call;
   later = s.later ++ e ∷ [];
-  is = ap (λ (all : List Event). all ++ e ∷ []) s.is ∙ append_assoc s.earlier (CallExecuted s.call ∷ s.later) (e ∷ []);
+  is = ap (λ (all : List RunEvent). all ++ e ∷ []) s.is ∙ append_assoc s.earlier (CallExecuted s.call ∷ s.later) (e ∷ []);
   live = s.live;
   answer = s.answer;
   is_answer = s.is_answer;
   message = s.message;
   before = s.before;
 })
-said-later opened es e xs m (IsNoAnswer s) = IsNoAnswer (record {
+said_later opened es e xs m (IsNoAnswer s) = IsNoAnswer (record {
   earlier = s.earlier;
   call = s.call;
   later = s.later ++ e ∷ [];
-  is = ap (λ (all : List Event). all ++ e ∷ []) s.is ∙ append_assoc s.earlier (CallExecuted s.call ∷ s.later) (e ∷ []);
+  is = ap (λ (all : List RunEvent). all ++ e ∷ []) s.is ∙ append_assoc s.earlier (CallExecuted s.call ∷ s.later) (e ∷ []);
   live = s.live;
   none = s.none;
   message = s.message;
 })
 
-abbrev pub EachSaid : LinkParameters → List Event → List Output → Type 0
+abbrev pub EachSaid : LinkParameters → List RunEvent → List Output → Type 0
 EachSaid opened es outs = (xs : List Output) (s : Segment) (ys : List Output) (m : List ℕ) → outs ≡ xs ++ ASegment s ∷ ys → completed_by (begun_from None xs) s ≡ m ∷ [] → Said opened es xs m
 
-each-more : (opened : LinkParameters) (es : List Event) (e : Event) (outs more : List Output) → begun_from None outs ≡ None → EachSaid opened es outs
+each_more : (opened : LinkParameters) (es : List RunEvent) (e : RunEvent) (outs more : List Output) → begun_from None outs ≡ None → EachSaid opened es outs
     → ((pre : List Output) (s : Segment) (post : List Output) (m : List ℕ) → more ≡ pre ++ ASegment s ∷ post → completed_by (begun_from None pre) s ≡ m ∷ [] → Said opened (es ++ e ∷ []) (outs ++ pre) m)
     → EachSaid opened (es ++ e ∷ []) (outs ++ more)
-each-more opened es e outs more none old new xs s ys m is one = by (parted-two outs more xs (ASegment s) ys is)
+each_more opened es e outs more none old new xs s ys m is one = by (parted_two outs more xs (ASegment s) ys is)
   where
     by : PartedTwo outs more xs (ASegment s) ys → Said opened (es ++ e ∷ []) xs m
-    by (InFirst rest same) = said-later opened es e xs m (old xs s rest m same one)
+    by (InFirst rest same) = said_later opened es e xs m (old xs s rest m same one)
     by (InSecond rest same then) = subst (λ (zs : List Output). Said opened (es ++ e ∷ []) zs m) (sym same)
-        (new rest s ys m then (ap (λ (b : Option (List ℕ)). completed_by b s) (sym (ap (λ (zs : List Output). begun_from None zs) same ∙ begun-append None outs rest ∙ ap (λ (b : Option (List ℕ)). begun_from b rest) none)) ∙ one))
+        (new rest s ys m then (ap (λ (b : Option (List ℕ)). completed_by b s) (sym (ap (λ (zs : List Output). begun_from None zs) same ∙ begun_append None outs rest ∙ ap (λ (b : Option (List ℕ)). begun_from b rest) none)) ∙ one))
 
-pub nothing-at : (ms a : List (List ℕ)) (m : List ℕ) (b : List (List ℕ)) → ms ≡ [] → ms ≡ a ++ m ∷ b → ⊥
-nothing-at ms a m b none e = by a (sym none ∙ e)
+pub nothing_at : (ms a : List (List ℕ)) (m : List ℕ) (b : List (List ℕ)) → ms ≡ [] → ms ≡ a ++ m ∷ b → ⊥
+nothing_at ms a m b none e = by a (sym none ∙ e)
   where
     by : (a : List (List ℕ)) → [] ≡ a ++ m ∷ b → ⊥
     by [] e = absurd cc
     by (x ∷ a) e = absurd cc
 
 single : (x : List ℕ) (a : List (List ℕ)) (m : List ℕ) (b : List (List ℕ)) → x ∷ [] ≡ a ++ m ∷ b → x ≡ m
-single x [] m b e = first-is x m [] b e
+single x [] m b e = first_is_lem x m [] b e
 single x (y ∷ a) m b e = absurd (let l = ap (λ (zs : List (List ℕ)). length zs) e in let n = length-append a (m ∷ b) in omega (arith, l, n))
 
-pub at-most : (ms : List (List ℕ)) → AtMostOne ms → (a : List (List ℕ)) (m : List ℕ) (b : List (List ℕ)) → ms ≡ a ++ m ∷ b → (ms ≡ m ∷ []) × IsError m
-at-most ms NoError a m b e = absurd (nothing-at [] a m b refl e)
-at-most ms (OneError x k) a m b e = (let same = single x a m b e in (ap (λ (y : List ℕ). y ∷ []) same, subst IsError same k))
+pub at_most_lem : (ms : List (List ℕ)) → AtMostOne ms → (a : List (List ℕ)) (m : List ℕ) (b : List (List ℕ)) → ms ≡ a ++ m ∷ b → (ms ≡ m ∷ []) × IsError m
+at_most_lem ms NoError a m b e = absurd (nothing_at [] a m b refl e)
+at_most_lem ms (OneError x k) a m b e = (let same = single x a m b e in (ap (λ (y : List ℕ). y ∷ []) same, subst IsError same k))
 
 -- ---- What is kept
 
@@ -203,7 +203,7 @@ Greeted outs = (rest : List Output) × (outs ≡ AHello (own_hello Responder) �
 abbrev pub Shape : ℕ → EndState ServerState → List Output → Type 0
 Shape place r outs = ((place ≡ 0) × (outs ≡ []) × (r.state.ready ≡ []) × (r.ended ≡ None)) ⊎ ((0 < place) × Greeted outs)
 
-pub record ServerTells (opened : LinkParameters) (es : List Event) (place : ℕ) (r : EndState ServerState) (outs : List Output) : Type 0 where
+pub record ServerTells (opened : LinkParameters) (es : List RunEvent) (place : ℕ) (r : EndState ServerState) (outs : List Output) : Type 0 where
   pub state : r ≡ end_state_after (server_rules opened) (initial_server opened) es
   pub outs_are : outs ≡ outs_of opened es
   pub bytes : output_for_all (server_rules opened) (initial_server opened) es ≡ bytes_of_all outs
@@ -213,20 +213,20 @@ pub record ServerTells (opened : LinkParameters) (es : List Event) (place : ℕ)
   pub none_begun : begun_from None outs ≡ None
   pub said : EachSaid opened es outs
 
-pub greeted-more : (outs more : List Output) → Greeted outs → AreFrom Fpdu more → Greeted (outs ++ more)
-greeted-more outs more (rest, is, words) h = (rest ++ more, ap (λ (xs : List Output). xs ++ more) is, from-append rest more words h)
+pub greeted_more : (outs more : List Output) → Greeted outs → AreFrom Fpdu more → Greeted (outs ++ more)
+greeted_more outs more (rest, is, words) h = (rest ++ more, ap (λ (xs : List Output). xs ++ more) is, from_append rest more words h)
 
-outs-append : (opened : LinkParameters) (r : EndState ServerState) (es : List Event) (e : Event) → outputs_all (server_rules opened) (server_says opened) server_final_outputs r (es ++ e ∷ [])
+outs_append : (opened : LinkParameters) (r : EndState ServerState) (es : List RunEvent) (e : RunEvent) → outputs_all (server_rules opened) (server_says opened) server_final_outputs r (es ++ e ∷ [])
     ≡ outputs_all (server_rules opened) (server_says opened) server_final_outputs r es ++ outputs_for (server_rules opened) (server_says opened) server_final_outputs (end_state_after (server_rules opened) r es) e
-outs-append opened r [] e = append-nil (outputs_for (server_rules opened) (server_says opened) server_final_outputs r e)
-outs-append opened r (x ∷ es) e =
+outs_append opened r [] e = append-nil (outputs_for (server_rules opened) (server_says opened) server_final_outputs r e)
+outs_append opened r (x ∷ es) e =
     let o = outputs_for (server_rules opened) (server_says opened) server_final_outputs r x in
-    ap (λ (xs : List Output). o ++ xs) (outs-append opened (next_end_state (server_rules opened) r x) es e)
+    ap (λ (xs : List Output). o ++ xs) (outs_append opened (next_end_state (server_rules opened) r x) es e)
     ∙ sym (append_assoc o (outputs_all (server_rules opened) (server_says opened) server_final_outputs (next_end_state (server_rules opened) r x) es)
     (outputs_for (server_rules opened) (server_says opened) server_final_outputs (end_state_after (server_rules opened) (next_end_state (server_rules opened) r x) es) e))
 
 -- one event more, where its outputs are `more`
-pub record Grows (opened : LinkParameters) (es : List Event) (place : ℕ) (r : EndState ServerState) (outs : List Output) (e : Event) (more : List Output) : Type 0 where
+pub record Grows (opened : LinkParameters) (es : List RunEvent) (place : ℕ) (r : EndState ServerState) (outs : List Output) (e : RunEvent) (more : List Output) : Type 0 where
   pub outputs : outputs_for (server_rules opened) (server_says opened) server_final_outputs r e ≡ more
   pub said : output_for (server_rules opened) r e ≡ bytes_of_all more
   pub begun : IsBytes (begun_bytes (next_end_state (server_rules opened) r e).state.received.begun)
@@ -235,21 +235,21 @@ pub record Grows (opened : LinkParameters) (es : List Event) (place : ℕ) (r : 
   pub none_begun : begun_from None more ≡ None
   pub cause : (pre : List Output) (s : Segment) (post : List Output) (m : List ℕ) → more ≡ pre ++ ASegment s ∷ post → completed_by (begun_from None pre) s ≡ m ∷ [] → Said opened (es ++ e ∷ []) (outs ++ pre) m
 
-pub grown : (opened : LinkParameters) (es : List Event) (place : ℕ) (r : EndState ServerState) (outs : List Output) (e : Event) (more : List Output) → ServerTells opened es place r outs → Grows opened es place r outs e more
+pub grown : (opened : LinkParameters) (es : List RunEvent) (place : ℕ) (r : EndState ServerState) (outs : List Output) (e : RunEvent) (more : List Output) → ServerTells opened es place r outs → Grows opened es place r outs e more
     → ServerTells opened (es ++ e ∷ []) (place_after place e) (next_end_state (server_rules opened) r e) (outs ++ outputs_for (server_rules opened) (server_says opened) server_final_outputs r e)
 grown opened es place r outs e more t g =
     let rules = server_rules opened in
     subst (λ (xs : List Output). ServerTells opened (es ++ e ∷ []) (place_after place e) (next_end_state rules r e) (outs ++ xs)) (sym g.outputs)
     (record {
-      state = ap (λ (x : EndState ServerState). next_end_state rules x e) t.state ∙ sym (end_state_after-append rules (initial_server opened) es (e ∷ []));
-      outs_are = (λ i. t.outs_are i ++ sym g.outputs i) ∙ ap (λ (x : EndState ServerState). outs_of opened es ++ outputs_for rules (server_says opened) server_final_outputs x e) t.state ∙ sym (outs-append opened (initial_server opened) es e);
-      bytes = output_for_all-append rules (initial_server opened) es (e ∷ [])
+      state = ap (λ (x : EndState ServerState). next_end_state rules x e) t.state ∙ sym (end_state_after_append rules (initial_server opened) es (e ∷ []));
+      outs_are = (λ i. t.outs_are i ++ sym g.outputs i) ∙ ap (λ (x : EndState ServerState). outs_of opened es ++ outputs_for rules (server_says opened) server_final_outputs x e) t.state ∙ sym (outs_append opened (initial_server opened) es e);
+      bytes = output_for_all_append rules (initial_server opened) es (e ∷ [])
           ∙ (λ i. t.bytes i ++ (append-nil (output_for rules (sym t.state i) e) i))
           ∙ ap (λ (xs : List ℕ). bytes_of_all outs ++ xs) g.said
-          ∙ sym (bytes-append outs more);
+          ∙ sym (bytes_append outs more);
       begun = g.begun;
       fit = g.fit;
       shape = g.shape;
-      none_begun = begun-append None outs more ∙ ap (λ (b : Option (List ℕ)). begun_from b more) t.none_begun ∙ g.none_begun;
-      said = each-more opened es e outs more t.none_begun t.said g.cause;
+      none_begun = begun_append None outs more ∙ ap (λ (b : Option (List ℕ)). begun_from b more) t.none_begun ∙ g.none_begun;
+      said = each_more opened es e outs more t.none_begun t.said g.cause;
     })

@@ -11,30 +11,30 @@ use Rattle.nr_link.specs.declared.end.End.{End as Stop}
 use Rattle.nr_link.specs.declared.end.End.TheVariants as ends
 use Rattle.nr_link.specs.Frames.{Frame, is_hello}
 use Rattle.nr_link.specs.Output.{own_hello}
-use Rattle.nr_link.specs.SegmentFaults.{Readiness, SegmentFault, segment_fault}
-use Rattle.nr_link.specs.SegmentFaults.SegmentFault.{Reason, NoBuffer, AccessDenied, PeerTerminated}
+use Rattle.nr_link.specs.SegmentFaults.{Readiness, SegmentReason, segment_reason}
+use Rattle.nr_link.specs.SegmentFaults.SegmentReason.{Reason, NoBuffer, AccessDenied, PeerTerminated}
 use Rattle.nr_link.specs.Ending.{access_of, denied_at, frame_segment, frame_end, frame_end_by, end_of_fault, hello_end, missing_access}
 use Rattle.nr_reduce.specs.declared.mark.LinkParameters.{LinkParameters}
 use Rattle.nr_reduce.specs.OfferedRegions.{region_grants}
-use Rattle.nr_reduce.specs.Events.Event.{FrameReceived}
+use Rattle.nr_reduce.specs.Events.RunEvent.{FrameReceived}
 use Rattle.nr_reduce.specs.ServerState.{ServerState, PendingCall}
 use Rattle.nr_reduce.specs.ServerMessages.{Verdict, CallVerdict, verdict, by_head, by_payload, call_xid, payload_of}
 use Rattle.nr_reduce.specs.ServerMessages.Verdict.{EndsLink, OtherVersion, BadChunks, MakesPending}
 use Rattle.nr_reduce.specs.ServerMessages.CallVerdict.{Refuses, IsReady}
 use Rattle.nr_reduce.specs.ServerFrames.{FrameEffect, with_verdict, frame_effect}
 use Rattle.nr_reduce.specs.Server.{server_end, or_refusal, refusal_end, readiness}
-use Rattle.nr_laws.proofs.Brought.{hello-is}
-use Rattle.nr_laws.proofs.EachEffect.{each-verdict, each-effect}
-use Rattle.nr_laws.proofs.EachFault.{OfReason, each-fault}
+use Rattle.nr_laws.proofs.Brought.{hello_is}
+use Rattle.nr_laws.proofs.EachEffect.{each_verdict, each_effect}
+use Rattle.nr_laws.proofs.EachFault.{OfReason, each_fault}
 
 -- ---- Faults of a segment
 
-abbrev Big : Option (SegmentFault Denied) → Type 0
+abbrev Big : Option (SegmentReason Denied) → Type 0
 Big o = OfReason (λ reason. 5 ≤ reason) o
 
-fault-big : (r : Readiness Denied) (s : Segment) → Big (segment_fault r s)
-fault-big r s =
-    each-fault (λ reason. 5 ≤ reason) (record { msn = omega arith; offset = omega arith; form = omega arith; response = omega arith; requests = omega arith; long = omega arith; short = omega arith }) r s
+fault_big : (r : Readiness Denied) (s : Segment) → Big (segment_reason r s)
+fault_big r s =
+    each_fault (λ reason. 5 ≤ reason) (record { msn = omega arith; offset = omega arith; form = omega arith; response = omega arith; requests = omega arith; long = omega arith; short = omega arith }) r s
 
 -- ---- Refusals
 
@@ -52,33 +52,33 @@ abbrev BigCall : CallVerdict → Type 0
 BigCall (Refuses reason) = 5 ≤ reason
 BigCall (IsReady r) = Unit {0}
 
-verdict-big : (k : ServerState) (message : List ℕ) → BigVerdict (verdict k message)
-verdict-big k message = each-verdict BigVerdict (record { kind = omega arith; again = omega arith; stags = omega arith; version = tt; chunks = tt; pending = λ c. tt }) k message
+verdict_big : (k : ServerState) (message : List ℕ) → BigVerdict (verdict k message)
+verdict_big k message = each_verdict BigVerdict (record { kind = omega arith; again = omega arith; stags = omega arith; version = tt; chunks = tt; pending = λ c. tt }) k message
 
-head-big : (c : PendingCall) (payload : List ℕ) (r : Result CallHead ℕ) → BigCall (by_head c payload r)
-head-big c payload (Err at) = omega arith
-head-big c payload (Ok head) = by (eqb (call_xid head) c.xid)
+head_big : (c : PendingCall) (payload : List ℕ) (r : Result CallHead ℕ) → BigCall (by_head c payload r)
+head_big c payload (Err at) = omega arith
+head_big c payload (Ok head) = by (eqb (call_xid head) c.xid)
   where
     by : (b : Bool) → BigCall (cond b (IsReady (record { number = c.number; xid = c.xid; payload = payload })) (Refuses 19))
     by true = tt
     by false = omega arith
 
-payload-big : (c : PendingCall) (o : Option (List ℕ)) → BigCall (by_payload c o)
-payload-big c None = omega arith
-payload-big c (Some payload) = head-big c payload (call_of payload)
+payload_big : (c : PendingCall) (o : Option (List ℕ)) → BigCall (by_payload c o)
+payload_big c None = omega arith
+payload_big c (Some payload) = head_big c payload (call_of payload)
 
-with-big : (v : CallVerdict) (s : FrameEffect) → BigCall v → BigReason s.refusal → BigReason (with_verdict v s).refusal
-with-big (Refuses reason) s h g = h
-with-big (IsReady r) s h g = g
+with_big : (v : CallVerdict) (s : FrameEffect) → BigCall v → BigReason s.refusal → BigReason (with_verdict v s).refusal
+with_big (Refuses reason) s h g = h
+with_big (IsReady r) s h g = g
 
-effect-big : (k : ServerState) (f : Frame) → BigReason (frame_effect k f).refusal
-effect-big k f =
-    each-effect k (λ m. Unit {0}) (λ s. BigReason s.refusal)
-    (record { judged = judged; ends = λ message reason good is. subst BigVerdict is (verdict-big k message); version = λ message good. tt; chunks = λ message good. tt; pending = λ place message c good is. tt })
+effect_big : (k : ServerState) (f : Frame) → BigReason (frame_effect k f).refusal
+effect_big k f =
+    each_effect k (λ m. Unit {0}) (λ s. BigReason s.refusal)
+    (record { judged = judged; ends = λ message reason good is. subst BigVerdict is (verdict_big k message); version = λ message good. tt; chunks = λ message good. tt; pending = λ place message c good is. tt })
     (record { unchanged = tt; judged = judged; read = λ r reads is. tt; refused = λ r reads c is found. tt }) f (λ s m is e. tt)
   where
     judged : (t : ServerState) (place : ℕ) (c : PendingCall) (s : FrameEffect) → BigReason s.refusal → BigReason (with_verdict (by_payload c (payload_of t place c)) s).refusal
-    judged t place c s h = with-big (by_payload c (payload_of t place c)) s (payload-big c (payload_of t place c)) h
+    judged t place c s h = with_big (by_payload c (payload_of t place c)) s (payload_big c (payload_of t place c)) h
 
 -- ---- Ends
 
@@ -90,36 +90,36 @@ BigEnd (Some (ends.NoBuffer msn)) = Unit {0}
 BigEnd (Some (ends.Terminated reason)) = Unit {0}
 BigEnd (Some ends.Memory) = Unit {0}
 
-fault-end : (f : Frame) (s : Segment) (o : Option (SegmentFault Denied)) → Big o → BigEnd (end_of_fault f s o)
-fault-end f s None h = tt
-fault-end f s (Some (Reason reason)) h = h
-fault-end f s (Some (NoBuffer msn)) h = tt
-fault-end f s (Some (AccessDenied why)) h = by (access_of s)
+fault_end : (f : Frame) (s : Segment) (o : Option (SegmentReason Denied)) → Big o → BigEnd (end_of_fault f s o)
+fault_end f s None h = tt
+fault_end f s (Some (Reason reason)) h = h
+fault_end f s (Some (NoBuffer msn)) h = tt
+fault_end f s (Some (AccessDenied why)) h = by (access_of s)
   where
     by : (o : Option Access) → BigEnd (Some (denied_at o why))
     by None = tt
     by (Some access) = tt
-fault-end f s (Some (PeerTerminated word)) h = tt
+fault_end f s (Some (PeerTerminated word)) h = tt
 
-refusal-big : (f : Frame) (o : Option ℕ) → BigReason o → BigEnd (refusal_end f o)
-refusal-big f None h = tt
-refusal-big f (Some reason) h = h
+refusal_big : (f : Frame) (o : Option ℕ) → BigReason o → BigEnd (refusal_end f o)
+refusal_big f None h = tt
+refusal_big f (Some reason) h = h
 
-pub segment-ends : (opened : LinkParameters) (k : ServerState) (f : Frame) (s : Segment) → is_hello f ≡ false → frame_segment f ≡ Ok s → BigEnd (server_end opened k (FrameReceived f))
+pub segment_ends : (opened : LinkParameters) (k : ServerState) (f : Frame) (s : Segment) → is_hello f ≡ false → frame_segment f ≡ Ok s → BigEnd (server_end opened k (FrameReceived f))
 unfolding server_end frame_end
-segment-ends opened k f s behind is =
+segment_ends opened k f s behind is =
     let grants = region_grants f.end k.regions in
-    let whole : server_end opened k (FrameReceived f) ≡ or_refusal k f (end_of_fault f s (segment_fault (readiness opened k (missing_access grants f s)) s)) =
+    let whole : server_end opened k (FrameReceived f) ≡ or_refusal k f (end_of_fault f s (segment_reason (readiness opened k (missing_access grants f s)) s)) =
     (λ i. cond (behind i) (hello_end (hello_of Initiator f.bytes)) (or_refusal k f (frame_end_by (readiness opened k) grants f (is i)))) in
-    subst (λ (o : Option Stop). BigEnd o) (sym whole) (by (end_of_fault f s (segment_fault (readiness opened k (missing_access grants f s)) s)) (fault-end f s _ (fault-big (readiness opened k (missing_access grants f s)) s)))
+    subst (λ (o : Option Stop). BigEnd o) (sym whole) (by (end_of_fault f s (segment_reason (readiness opened k (missing_access grants f s)) s)) (fault_end f s _ (fault_big (readiness opened k (missing_access grants f s)) s)))
   where
     by : (o : Option Stop) → BigEnd o → BigEnd (or_refusal k f o)
-    by None h = refusal-big f (frame_effect k f).refusal (effect-big k f)
+    by None h = refusal_big f (frame_effect k f).refusal (effect_big k f)
     by (Some end) h = h
 
 -- the client's own hello ends no server
-pub hello-goes : (opened : LinkParameters) (k : ServerState) (f : Frame) → is_hello f ≡ true → f.bytes ≡ own_hello Initiator → server_end opened k (FrameReceived f) ≡ None
+pub hello_goes : (opened : LinkParameters) (k : ServerState) (f : Frame) → is_hello f ≡ true → f.bytes ≡ own_hello Initiator → server_end opened k (FrameReceived f) ≡ None
 unfolding server_end
-hello-goes opened k f first bytes =
+hello_goes opened k f first bytes =
     ap (λ (b : Bool). cond b (hello_end (hello_of Initiator f.bytes)) (or_refusal k f (frame_end (readiness opened k) (region_grants f.end k.regions) f))) first
-    ∙ ap (λ (xs : List ℕ). hello_end (hello_of Initiator xs)) bytes ∙ ap hello_end (hello-is Initiator).says
+    ∙ ap (λ (xs : List ℕ). hello_end (hello_of Initiator xs)) bytes ∙ ap hello_end (hello_is Initiator).says

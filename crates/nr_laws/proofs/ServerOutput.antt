@@ -20,14 +20,14 @@ use Rattle.nr_reduce.specs.ServerFrames.{FrameEffect, frame_effect}
 use Rattle.nr_reduce.specs.Server.{newly_open_reads, offer_of, answer_of_target, answer_output, execution_output}
 use Rattle.nr_laws.proofs.FrameContents.{FrameContent, output_bytes, total_of, sends_in, requests_in, request_frame, effect_frames, write_frames, answer_frames, tagged_frames}
 use Rattle.nr_laws.proofs.FrameContents.FrameContent.{SendFrame}
-use Rattle.nr_laws.proofs.TotalsAtServer.{fills-none, long-none}
-use Rattle.nr_laws.proofs.StreamFrames.{spelled-append}
-use Rattle.nr_laws.proofs.OutputFrames.{write-said}
-use Rattle.nr_laws.proofs.Writable.{AreWritable, all_proper-append, tagged-proper}
-use Rattle.nr_laws.proofs.ServerOutputs.{chunk_error-short, CallsFit, answer-short, for_target, found-fits, IsFine, fine-messages, fine-responses, errors-short}
+use Rattle.nr_laws.proofs.TotalsAtServer.{fills_none, long_none}
+use Rattle.nr_laws.proofs.StreamFrames.{spelled_append}
+use Rattle.nr_laws.proofs.OutputFrames.{write_said}
+use Rattle.nr_laws.proofs.Writable.{AreWritable, all_proper_append, tagged_proper}
+use Rattle.nr_laws.proofs.ServerOutputs.{chunk_error_short, CallsFit, answer_short_lem, for_target, found_fits, IsFine, fine_messages, fine_responses, errors_short}
 use Rattle.nr_laws.proofs.WritableOffers.{SegmentsFit, OfferFits}
-use Rattle.nr_laws.proofs.Outputs.{IsShort, send-one, AreShort}
-use Rattle.nr_laws.proofs.EachEffect.{send-effect, tagged-effect}
+use Rattle.nr_laws.proofs.Outputs.{IsShort, send_one, AreShort}
+use Rattle.nr_laws.proofs.EachEffect.{send_effect, tagged_effect_lem}
 
 -- ---- The calls of a server
 
@@ -37,105 +37,105 @@ pub record SaysFine (s : FrameEffect) : Type 0 where
   pub fit : CallsFit s.calls
   pub proper : AreWritable (effect_frames s)
 
-sends-proper : (messages : List (List ℕ)) → AreShort messages → AreWritable (map SendFrame messages)
-sends-proper [] h = tt
-sends-proper (m ∷ messages) h = (h.0, sends-proper messages h.1)
+sends_proper : (messages : List (List ℕ)) → AreShort messages → AreWritable (map SendFrame messages)
+sends_proper [] h = tt
+sends_proper (m ∷ messages) h = (h.0, sends_proper messages h.1)
 
-reads-proper : (reads : List PendingRead) → AreWritable (map request_frame reads)
-reads-proper [] = tt
-reads-proper (r ∷ reads) = (tt, reads-proper reads)
+reads_proper : (reads : List PendingRead) → AreWritable (map request_frame reads)
+reads_proper [] = tt
+reads_proper (r ∷ reads) = (tt, reads_proper reads)
 
 says_fine : (s : FrameEffect) → IsFine s → SaysFine s
 says_fine s h =
-    let short = errors-short s.errors h.errors in
-    record { short = short; fit = h.fit; proper = all_proper-append (map SendFrame s.errors) (map request_frame (newly_open_reads s)) (sends-proper s.errors short) (reads-proper (newly_open_reads s)) }
+    let short = errors_short s.errors h.errors in
+    record { short = short; fit = h.fit; proper = all_proper_append (map SendFrame s.errors) (map request_frame (newly_open_reads s)) (sends_proper s.errors short) (reads_proper (newly_open_reads s)) }
 
-pub fine-send : (k : ServerState) (f : Frame) (message : List ℕ) → k.received.begun ≡ None → IsBytes message → CallsFit k.calls → frame_segment f ≡ Ok (Untagged true OPCODE_SEND 0 QUEUE_SEND (msn_word (k.received.sends + 1)) 0 message) → SaysFine (frame_effect k f)
-fine-send k f message none bytes h is = says_fine (frame_effect k f) (send-effect k IsBytes IsFine (fine-messages k h) f message none bytes is)
+pub fine_send : (k : ServerState) (f : Frame) (message : List ℕ) → k.received.begun ≡ None → IsBytes message → CallsFit k.calls → frame_segment f ≡ Ok (Untagged true OPCODE_SEND 0 QUEUE_SEND (msn_word (k.received.sends + 1)) 0 message) → SaysFine (frame_effect k f)
+fine_send k f message none bytes h is = says_fine (frame_effect k f) (send_effect k IsBytes IsFine (fine_messages k h) f message none bytes is)
 
-pub fine-tagged : (k : ServerState) (f : Frame) (last : Bool) (opcode stag to : ℕ) (payload : List ℕ) → CallsFit k.calls → frame_segment f ≡ Ok (Tagged last opcode stag to payload) → SaysFine (frame_effect k f)
-fine-tagged k f last opcode stag to payload h is = says_fine (frame_effect k f) (tagged-effect k IsFine (fine-responses k h) f last opcode stag to payload is)
+pub fine_tagged : (k : ServerState) (f : Frame) (last : Bool) (opcode stag to : ℕ) (payload : List ℕ) → CallsFit k.calls → frame_segment f ≡ Ok (Tagged last opcode stag to payload) → SaysFine (frame_effect k f)
+fine_tagged k f last opcode stag to payload h is = says_fine (frame_effect k f) (tagged_effect_lem k IsFine (fine_responses k h) f last opcode stag to payload is)
 
 -- ---- Answers
 
-fills-proper : (chunk : List RdmaSegment) (bytes : List ℕ) → SegmentsFit chunk → AreWritable (write_frames chunk bytes)
-fills-proper [] bytes h = tt
-fills-proper (s ∷ chunk) bytes h =
-    all_proper-append (cond (eqb (min s.length (length bytes)) 0) [] (tagged_frames OPCODE_WRITE s.handle s.offset (take s.length bytes))) (write_frames chunk (drop s.length bytes))
-    (by (eqb (min s.length (length bytes)) 0)) (fills-proper chunk (drop s.length bytes) h.1)
+fills_proper : (chunk : List RdmaSegment) (bytes : List ℕ) → SegmentsFit chunk → AreWritable (write_frames chunk bytes)
+fills_proper [] bytes h = tt
+fills_proper (s ∷ chunk) bytes h =
+    all_proper_append (cond (eqb (min s.length (length bytes)) 0) [] (tagged_frames OPCODE_WRITE s.handle s.offset (take s.length bytes))) (write_frames chunk (drop s.length bytes))
+    (by (eqb (min s.length (length bytes)) 0)) (fills_proper chunk (drop s.length bytes) h.1)
   where
     by : (b : Bool) → AreWritable (cond b [] (tagged_frames OPCODE_WRITE s.handle s.offset (take s.length bytes)))
     by true = tt
-    by false = tagged-proper OPCODE_WRITE s.handle s.offset (take s.length bytes) refl (lit< tt) h.0.0 h.0.1 (omega (arith, h.0.2, length-take s.length bytes))
+    by false = tagged_proper OPCODE_WRITE s.handle s.offset (take s.length bytes) refl (lit< tt) h.0.0 h.0.1 (omega (arith, h.0.2, length-take s.length bytes))
 
-answer-proper : (k : ServerState) → ServerLimits k → (xid : ℕ) (offer : ChunkLists) (reply : List ℕ) (t : Option CallTarget) (o : Option Answer) → answer_of_target offer k.down_max reply t ≡ o → OfferFits offer → AreWritable (answer_frames k xid offer o)
-answer-proper k l xid offer reply t None e fits = (chunk_error-short xid (credit_word k), tt)
-answer-proper k l xid offer reply t (Some a) e fits =
+answer_proper : (k : ServerState) → ServerLimits k → (xid : ℕ) (offer : ChunkLists) (reply : List ℕ) (t : Option CallTarget) (o : Option Answer) → answer_of_target offer k.down_max reply t ≡ o → OfferFits offer → AreWritable (answer_frames k xid offer o)
+answer_proper k l xid offer reply t None e fits = (chunk_error_short xid (credit_word k), tt)
+answer_proper k l xid offer reply t (Some a) e fits =
     let down = l.down in
     let target = for_target offer k.down_max reply t a e in
-    let short = answer-short offer k.down_max target.0 target.1 target.2 xid (credit_word k) reply a (omega (arith, down)) fits target.3 in
-    all_proper-append (write_frames (first_chunk offer.write) a.moved) (cond a.long (write_frames (no_segments offer.reply) a.stream) [] ++ (SendFrame (answer_message xid (credit_word k) offer a) ∷ []))
-    (fills-proper (first_chunk offer.write) a.moved fits.writes)
-    (all_proper-append (cond a.long (write_frames (no_segments offer.reply) a.stream) []) (SendFrame (answer_message xid (credit_word k) offer a) ∷ []) (by a.long) (short, tt))
+    let short = answer_short_lem offer k.down_max target.0 target.1 target.2 xid (credit_word k) reply a (omega (arith, down)) fits target.3 in
+    all_proper_append (write_frames (first_chunk offer.write) a.moved) (cond a.long (write_frames (no_segments offer.reply) a.stream) [] ++ (SendFrame (answer_message xid (credit_word k) offer a) ∷ []))
+    (fills_proper (first_chunk offer.write) a.moved fits.writes)
+    (all_proper_append (cond a.long (write_frames (no_segments offer.reply) a.stream) []) (SendFrame (answer_message xid (credit_word k) offer a) ∷ []) (by a.long) (short, tt))
   where
     by : (b : Bool) → AreWritable (cond b (write_frames (no_segments offer.reply) a.stream) [])
-    by true = fills-proper (no_segments offer.reply) a.stream fits.replies
+    by true = fills_proper (no_segments offer.reply) a.stream fits.replies
     by false = tt
 
 abbrev pub execution_frames : ServerState → ExecutedCall → List FrameContent
 execution_frames k e = answer_frames k e.xid (offer_of k e.xid) (answer_of_target (offer_of k e.xid) k.down_max e.reply (target_of (call_of e.payload)))
 
-writes-said : (n r : ℕ) (chunk : List RdmaSegment) (bytes : List ℕ) → writes_into chunk bytes ≡ output_bytes Responder n r (write_frames chunk bytes)
-writes-said n r [] bytes = refl
-writes-said n r (s ∷ chunk) bytes =
-    (λ i. by (eqb (min s.length (length bytes)) 0) i ++ writes-said (n + total_of sends_in first) (r + total_of requests_in first) chunk (drop s.length bytes) i)
-    ∙ sym (spelled-append Responder n r first (write_frames chunk (drop s.length bytes)))
+writes_said : (n r : ℕ) (chunk : List RdmaSegment) (bytes : List ℕ) → writes_into chunk bytes ≡ output_bytes Responder n r (write_frames chunk bytes)
+writes_said n r [] bytes = refl
+writes_said n r (s ∷ chunk) bytes =
+    (λ i. by (eqb (min s.length (length bytes)) 0) i ++ writes_said (n + total_of sends_in first) (r + total_of requests_in first) chunk (drop s.length bytes) i)
+    ∙ sym (spelled_append Responder n r first (write_frames chunk (drop s.length bytes)))
   where
     first : List FrameContent
     first = cond (eqb (min s.length (length bytes)) 0) [] (tagged_frames OPCODE_WRITE s.handle s.offset (take s.length bytes))
 
     by : (b : Bool) → cond b [] (write s.handle s.offset (take s.length bytes)) ≡ output_bytes Responder n r (cond b [] (tagged_frames OPCODE_WRITE s.handle s.offset (take s.length bytes)))
     by true = refl
-    by false = write-said Responder n r s.handle s.offset (take s.length bytes)
+    by false = write_said Responder n r s.handle s.offset (take s.length bytes)
 
-message-said : (n r : ℕ) (message : List ℕ) → IsShort message → send (n + 1) message ≡ output_bytes Responder n r (SendFrame message ∷ [])
-message-said n r message short = send-one (n + 1) message short ∙ sym (append-nil (encoding (Untagged true OPCODE_SEND 0 QUEUE_SEND (msn_word (n + 1)) 0 message)))
+message_said : (n r : ℕ) (message : List ℕ) → IsShort message → send (n + 1) message ≡ output_bytes Responder n r (SendFrame message ∷ [])
+message_said n r message short = send_one (n + 1) message short ∙ sym (append-nil (encoding (Untagged true OPCODE_SEND 0 QUEUE_SEND (msn_word (n + 1)) 0 message)))
 
-long-said : (n r : ℕ) (b : Bool) (chunk : List RdmaSegment) (bytes : List ℕ) → cond b (writes_into chunk bytes) [] ≡ output_bytes Responder n r (cond b (write_frames chunk bytes) [])
-long-said n r true chunk bytes = writes-said n r chunk bytes
-long-said n r false chunk bytes = refl
+long_said : (n r : ℕ) (b : Bool) (chunk : List RdmaSegment) (bytes : List ℕ) → cond b (writes_into chunk bytes) [] ≡ output_bytes Responder n r (cond b (write_frames chunk bytes) [])
+long_said n r true chunk bytes = writes_said n r chunk bytes
+long_said n r false chunk bytes = refl
 
-answer-said : (k : ServerState) → ServerLimits k → (r xid : ℕ) (offer : ChunkLists) (reply : List ℕ) (t : Option CallTarget) (o : Option Answer) → answer_of_target offer k.down_max reply t ≡ o → OfferFits offer
+answer_said : (k : ServerState) → ServerLimits k → (r xid : ℕ) (offer : ChunkLists) (reply : List ℕ) (t : Option CallTarget) (o : Option Answer) → answer_of_target offer k.down_max reply t ≡ o → OfferFits offer
     → answer_output k xid offer o ≡ output_bytes Responder k.messages_queued r (answer_frames k xid offer o)
 unfolding answer_writes
-answer-said k l r xid offer reply t None e fits = message-said k.messages_queued r (chunk_error xid (credit_word k)) (chunk_error-short xid (credit_word k))
-answer-said k l r xid offer reply t (Some a) e fits =
+answer_said k l r xid offer reply t None e fits = message_said k.messages_queued r (chunk_error xid (credit_word k)) (chunk_error_short xid (credit_word k))
+answer_said k l r xid offer reply t (Some a) e fits =
     let down = l.down in
     let target = for_target offer k.down_max reply t a e in
-    let short = answer-short offer k.down_max target.0 target.1 target.2 xid (credit_word k) reply a (omega (arith, down)) fits target.3 in
+    let short = answer_short_lem offer k.down_max target.0 target.1 target.2 xid (credit_word k) reply a (omega (arith, down)) fits target.3 in
     let n = k.messages_queued in
     let message = answer_message xid (credit_word k) offer a in
     let moved = write_frames (first_chunk offer.write) a.moved in
     let long = cond a.long (write_frames (no_segments offer.reply) a.stream) [] in
-    let moved_sends : total_of sends_in moved ≡ 0 = fills-none sends_in (λ last stag to payload. refl) (first_chunk offer.write) a.moved in
-    let moved_reads : total_of requests_in moved ≡ 0 = fills-none requests_in (λ last stag to payload. refl) (first_chunk offer.write) a.moved in
-    let long_sends : total_of sends_in long ≡ 0 = long-none sends_in (λ last stag to payload. refl) a.long (no_segments offer.reply) a.stream in
-    let long_reads : total_of requests_in long ≡ 0 = long-none requests_in (λ last stag to payload. refl) a.long (no_segments offer.reply) a.stream in
+    let moved_sends : total_of sends_in moved ≡ 0 = fills_none sends_in (λ last stag to payload. refl) (first_chunk offer.write) a.moved in
+    let moved_reads : total_of requests_in moved ≡ 0 = fills_none requests_in (λ last stag to payload. refl) (first_chunk offer.write) a.moved in
+    let long_sends : total_of sends_in long ≡ 0 = long_none sends_in (λ last stag to payload. refl) a.long (no_segments offer.reply) a.stream in
+    let long_reads : total_of requests_in long ≡ 0 = long_none requests_in (λ last stag to payload. refl) a.long (no_segments offer.reply) a.stream in
     let moved_n : n + total_of sends_in moved ≡ n = omega (arith, moved_sends) in
     let moved_r : r + total_of requests_in moved ≡ r = omega (arith, moved_reads) in
     let long_n : n + total_of sends_in long ≡ n = omega (arith, long_sends) in
     let long_r : r + total_of requests_in long ≡ r = omega (arith, long_reads) in
     append_assoc (writes_into (first_chunk offer.write) a.moved) (cond a.long (writes_into (no_segments offer.reply) a.stream) []) (send (n + 1) message)
-    ∙ (λ i. writes-said n r (first_chunk offer.write) a.moved i ++ (long-said n r a.long (no_segments offer.reply) a.stream i ++ message-said n r message short i))
+    ∙ (λ i. writes_said n r (first_chunk offer.write) a.moved i ++ (long_said n r a.long (no_segments offer.reply) a.stream i ++ message_said n r message short i))
     ∙ ap (λ (xs : List ℕ). output_bytes Responder n r moved ++ xs)
     ((λ i. output_bytes Responder n r long ++ output_bytes Responder (sym long_n i) (sym long_r i) (SendFrame message ∷ []))
-    ∙ sym (spelled-append Responder n r long (SendFrame message ∷ []))
+    ∙ sym (spelled_append Responder n r long (SendFrame message ∷ []))
     ∙ (λ i. output_bytes Responder (sym moved_n i) (sym moved_r i) (long ++ (SendFrame message ∷ []))))
-    ∙ sym (spelled-append Responder n r moved (long ++ (SendFrame message ∷ [])))
+    ∙ sym (spelled_append Responder n r moved (long ++ (SendFrame message ∷ [])))
 
-pub execution-proper : (k : ServerState) (e : ExecutedCall) → ServerLimits k → CallsFit k.calls → AreWritable (execution_frames k e)
-execution-proper k e l h = answer-proper k l e.xid (offer_of k e.xid) e.reply (target_of (call_of e.payload)) _ refl (found-fits e.xid k.calls h)
+pub execution_proper : (k : ServerState) (e : ExecutedCall) → ServerLimits k → CallsFit k.calls → AreWritable (execution_frames k e)
+execution_proper k e l h = answer_proper k l e.xid (offer_of k e.xid) e.reply (target_of (call_of e.payload)) _ refl (found_fits e.xid k.calls h)
 
-pub execution-said : (k : ServerState) (r : ℕ) (e : ExecutedCall) → ServerLimits k → CallsFit k.calls → execution_output k e ≡ output_bytes Responder k.messages_queued r (execution_frames k e)
+pub execution_said : (k : ServerState) (r : ℕ) (e : ExecutedCall) → ServerLimits k → CallsFit k.calls → execution_output k e ≡ output_bytes Responder k.messages_queued r (execution_frames k e)
 unfolding execution_output
-execution-said k r e l h = answer-said k l r e.xid (offer_of k e.xid) e.reply (target_of (call_of e.payload)) _ refl (found-fits e.xid k.calls h)
+execution_said k r e l h = answer_said k l r e.xid (offer_of k e.xid) e.reply (target_of (call_of e.payload)) _ refl (found_fits e.xid k.calls h)

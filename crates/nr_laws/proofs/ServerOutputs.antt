@@ -16,7 +16,7 @@ use Rattle.nr_link.specs.Ending.{frame_segment}
 use Rattle.nr_reduce.proofs.OwnLimits.{ServerLimits}
 use Rattle.nr_reduce.specs.History.{ExecutedCall}
 use Rattle.nr_reduce.specs.Holds.{Answer, answer_for, answer_size, answer_message, chunk_error, version_error, first_chunk, no_segments}
-use Rattle.nr_reduce.specs.Undone.{answer_segments, chunk_segments}
+use Rattle.nr_reduce.specs.ChunkBytes.{answer_segments, chunk_segments}
 use Rattle.nr_reduce.specs.ServerState.{ServerState, PendingCall, PendingRead, credit_word}
 use Rattle.nr_reduce.specs.ServerMessages.{CallVerdict, payload_of, by_payload}
 use Rattle.nr_reduce.specs.ServerMessages.CallVerdict.{Refuses, IsReady}
@@ -27,25 +27,25 @@ use Rattle.nr_laws.proofs.WritableOffers.{OfferFits, verdict_fits}
 use Rattle.nr_laws.proofs.Outputs.{Output, IsShort, AreShort, message_sends, request_outputs, effect_outputs, answer_outputs, answer_of_call, AnswerShort, message_outputs}
 use Rattle.nr_laws.proofs.Outputs.Output.{ASegment}
 use Rattle.nr_laws.proofs.Brought.{AreFrom}
-use Rattle.nr_laws.proofs.Words.{message-words, request-word, chunk-words, from-append}
-use Rattle.nr_laws.proofs.Messages.{AreTagged, tagged-append, tagged-chunk}
-use Rattle.nr_laws.proofs.Completions.{Completes, completes-append, completes-message, completes-sends, completes-requests, completes-tagged}
+use Rattle.nr_laws.proofs.Words.{message_words, request_word, chunk_words, from_append}
+use Rattle.nr_laws.proofs.Messages.{AreTagged, tagged_append, tagged_chunk}
+use Rattle.nr_laws.proofs.Completions.{Completes, completes_append, completes_message, completes_sends, completes_requests, completes_tagged}
 use Rattle.std.proofs.lemmas.List.{map-append}
-use Rattle.nr_laws.proofs.EachEffect.{MessageRule, ResponseRule, each-effect}
+use Rattle.nr_laws.proofs.EachEffect.{MessageRule, ResponseRule, each_effect}
 use Rattle.nr_reduce.proofs.Sizes.{word_len}
-use Rattle.nr_laws.proofs.Basics.{each-append, each-kept}
+use Rattle.nr_laws.proofs.Basics.{each_append, each_kept}
 use Rattle.nr_link.specs.Limits.{send_max}
 
 -- ---- Error messages
 
-pub chunk_error-short : (xid credit : ℕ) → IsShort (chunk_error xid credit)
+pub chunk_error_short : (xid credit : ℕ) → IsShort (chunk_error xid credit)
 unfolding chunk_error
-chunk_error-short xid credit =
+chunk_error_short xid credit =
     omega (arith, word_len xid (word 1 ++ (word credit ++ (word 4 ++ (word 2 ++ [])))), word_len 1 (word credit ++ (word 4 ++ (word 2 ++ []))), word_len credit (word 4 ++ (word 2 ++ [])), word_len 4 (word 2 ++ []), word_len 2 [])
 
-pub version_error-short : (xid version credit : ℕ) → IsShort (version_error xid version credit)
+pub version_error_short : (xid version credit : ℕ) → IsShort (version_error xid version credit)
 unfolding version_error
-version_error-short xid version credit =
+version_error_short xid version credit =
     omega (
       arith,
       word_len xid (word version ++ (word credit ++ (word 4 ++ (word 1 ++ (word 1 ++ (word 1 ++ [])))))),
@@ -62,18 +62,18 @@ pub data IsError (m : List ℕ) : Type 0 where
   OfChunks : (xid credit : ℕ) → m ≡ chunk_error xid credit → IsError m
   OfVersion : (xid version credit : ℕ) → m ≡ version_error xid version credit → IsError m
 
-error-short : (m : List ℕ) → IsError m → IsShort m
-error-short m (OfChunks xid credit is) = subst IsShort (sym is) (chunk_error-short xid credit)
-error-short m (OfVersion xid version credit is) = subst IsShort (sym is) (version_error-short xid version credit)
+error_short : (m : List ℕ) → IsError m → IsShort m
+error_short m (OfChunks xid credit is) = subst IsShort (sym is) (chunk_error_short xid credit)
+error_short m (OfVersion xid version credit is) = subst IsShort (sym is) (version_error_short xid version credit)
 
 -- at most one
 pub data AtMostOne : List (List ℕ) → Type 0 where
   NoError : AtMostOne []
   OneError : (m : List ℕ) → IsError m → AtMostOne (m ∷ [])
 
-pub errors-short : (ms : List (List ℕ)) → AtMostOne ms → AreShort ms
-errors-short ms NoError = tt
-errors-short ms (OneError m e) = (error-short m e, tt)
+pub errors_short : (ms : List (List ℕ)) → AtMostOne ms → AreShort ms
+errors_short ms NoError = tt
+errors_short ms (OneError m e) = (error_short m e, tt)
 
 -- ---- What a frame leaves
 
@@ -87,74 +87,74 @@ pub record IsFine (s : FrameEffect) : Type 0 where
   pub errors : AtMostOne s.errors
   pub fit : CallsFit s.calls
 
-fine-verdict : (o : CallVerdict) (s : FrameEffect) → IsFine s → IsFine (with_verdict o s)
-fine-verdict (Refuses reason) s h = record { errors = h.errors; fit = h.fit }
-fine-verdict (IsReady r) s h = record { errors = h.errors; fit = h.fit }
+fine_verdict : (o : CallVerdict) (s : FrameEffect) → IsFine s → IsFine (with_verdict o s)
+fine_verdict (Refuses reason) s h = record { errors = h.errors; fit = h.fit }
+fine_verdict (IsReady r) s h = record { errors = h.errors; fit = h.fit }
 
-pub fine-messages : (k : ServerState) → CallsFit k.calls → MessageRule k IsBytes IsFine
-fine-messages k h = record {
-  judged = λ t place c s g. fine-verdict (by_payload c (payload_of t place c)) s g;
+pub fine_messages : (k : ServerState) → CallsFit k.calls → MessageRule k IsBytes IsFine
+fine_messages k h = record {
+  judged = λ t place c s g. fine_verdict (by_payload c (payload_of t place c)) s g;
   ends = λ message reason bytes is. record { errors = NoError; fit = h };
   version = λ message bytes. record { errors = OneError _ (OfVersion (word_at 0 message) (word_at 4 message) (credit_word k) refl); fit = h };
   chunks = λ message bytes. record { errors = OneError _ (OfChunks (word_at 0 message) (credit_word k) refl); fit = h };
-  pending = λ place message c bytes is. record { errors = NoError; fit = each-append CallFits k.calls (c ∷ []) h (verdict_fits k message c bytes is, tt) };
+  pending = λ place message c bytes is. record { errors = NoError; fit = each_append CallFits k.calls (c ∷ []) h (verdict_fits k message c bytes is, tt) };
 }
 
-pub fine-responses : (k : ServerState) → CallsFit k.calls → ResponseRule k IsFine
-fine-responses k h = record {
+pub fine_responses : (k : ServerState) → CallsFit k.calls → ResponseRule k IsFine
+fine_responses k h = record {
   unchanged = record { errors = NoError; fit = h };
-  judged = λ t place c s g. fine-verdict (by_payload c (payload_of t place c)) s g;
+  judged = λ t place c s g. fine_verdict (by_payload c (payload_of t place c)) s g;
   read = λ r reads is. record { errors = NoError; fit = h };
-  refused = λ r reads c is found. record { errors = OneError _ (OfChunks c.xid (credit_word k) refl); fit = each-kept CallFits (λ other. not (eqb other.number c.number)) k.calls h };
+  refused = λ r reads c is found. record { errors = OneError _ (OfChunks c.xid (credit_word k) refl); fit = each_kept CallFits (λ other. not (eqb other.number c.number)) k.calls h };
 }
 
-pub fine-frame : (k : ServerState) (f : Frame) → ((s : Segment) (m : List ℕ) → frame_segment f ≡ Ok s → message_completed k.received s ≡ Some m → IsBytes m) → CallsFit k.calls → IsFine (frame_effect k f)
-fine-frame k f bytes h = each-effect k IsBytes IsFine (fine-messages k h) (fine-responses k h) f bytes
+pub fine_frame : (k : ServerState) (f : Frame) → ((s : Segment) (m : List ℕ) → frame_segment f ≡ Ok s → message_completed k.received s ≡ Some m → IsBytes m) → CallsFit k.calls → IsFine (frame_effect k f)
+fine_frame k f bytes h = each_effect k IsBytes IsFine (fine_messages k h) (fine_responses k h) f bytes
 
 -- ---- Outputs that can be read
 
-sends-words : (msn : ℕ) (ms : List (List ℕ)) → AreShort ms → AreFrom Fpdu (message_sends msn ms)
-sends-words msn [] h = tt
-sends-words msn (m ∷ ms) h = from-append (message_outputs msn m) (message_sends (msn + 1) ms) (message-words msn m h.0) (sends-words (msn + 1) ms h.1)
+sends_words : (msn : ℕ) (ms : List (List ℕ)) → AreShort ms → AreFrom Fpdu (message_sends msn ms)
+sends_words msn [] h = tt
+sends_words msn (m ∷ ms) h = from_append (message_outputs msn m) (message_sends (msn + 1) ms) (message_words msn m h.0) (sends_words (msn + 1) ms h.1)
 
-requests-words : (msn : ℕ) (reads : List PendingRead) → AreFrom Fpdu (request_outputs msn reads)
-requests-words msn [] = tt
-requests-words msn (r ∷ reads) = (request-word msn r, requests-words (msn + 1) reads)
+requests_words : (msn : ℕ) (reads : List PendingRead) → AreFrom Fpdu (request_outputs msn reads)
+requests_words msn [] = tt
+requests_words msn (r ∷ reads) = (request_word msn r, requests_words (msn + 1) reads)
 
 pub record AreFine (outs : List Output) (ms : List (List ℕ)) : Type 0 where
   pub words : AreFrom Fpdu outs
   pub completes : Completes outs ms
 
-pub fine-effect : (k : ServerState) (s : FrameEffect) → IsFine s → AreFine (effect_outputs k s) s.errors
-fine-effect k s h =
+pub fine_effect : (k : ServerState) (s : FrameEffect) → IsFine s → AreFine (effect_outputs k s) s.errors
+fine_effect k s h =
     let sends = message_sends (k.messages_queued + 1) s.errors in
     let reads = request_outputs (k.requests_sent + 1) (newly_open_reads s) in
-    let short = errors-short s.errors h.errors in
+    let short = errors_short s.errors h.errors in
     record {
-      words = from-append sends reads (sends-words (k.messages_queued + 1) s.errors short) (requests-words (k.requests_sent + 1) (newly_open_reads s));
+      words = from_append sends reads (sends_words (k.messages_queued + 1) s.errors short) (requests_words (k.requests_sent + 1) (newly_open_reads s));
       completes = subst (λ (ms : List (List ℕ)). Completes (sends ++ reads) ms) (append-nil s.errors)
-          (completes-append sends reads s.errors [] (completes-sends (k.messages_queued + 1) s.errors) (completes-requests (k.requests_sent + 1) (newly_open_reads s)));
+          (completes_append sends reads s.errors [] (completes_sends (k.messages_queued + 1) s.errors) (completes_requests (k.requests_sent + 1) (newly_open_reads s)));
     }
 
-pub tagged-answer : (offer : ChunkLists) (a : Answer) → AreTagged (answer_segments offer a)
-tagged-answer offer a = tagged-append (chunk_segments (first_chunk offer.write) a.moved) (cond a.long (chunk_segments (no_segments offer.reply) a.stream) []) (tagged-chunk (first_chunk offer.write) a.moved) (by a.long)
+pub tagged_answer : (offer : ChunkLists) (a : Answer) → AreTagged (answer_segments offer a)
+tagged_answer offer a = tagged_append (chunk_segments (first_chunk offer.write) a.moved) (cond a.long (chunk_segments (no_segments offer.reply) a.stream) []) (tagged_chunk (first_chunk offer.write) a.moved) (by a.long)
   where
     by : (b : Bool) → AreTagged (cond b (chunk_segments (no_segments offer.reply) a.stream) [])
-    by true = tagged-chunk (no_segments offer.reply) a.stream
+    by true = tagged_chunk (no_segments offer.reply) a.stream
     by false = tt
 
-answer-words : (offer : ChunkLists) (a : Answer) → OfferFits offer → AreFrom Fpdu (map ASegment (answer_segments offer a))
-answer-words offer a h =
+answer_words : (offer : ChunkLists) (a : Answer) → OfferFits offer → AreFrom Fpdu (map ASegment (answer_segments offer a))
+answer_words offer a h =
     subst (λ (os : List Output). AreFrom Fpdu os) (sym (map-append ASegment (chunk_segments (first_chunk offer.write) a.moved) (cond a.long (chunk_segments (no_segments offer.reply) a.stream) [])))
-    (from-append (map ASegment (chunk_segments (first_chunk offer.write) a.moved)) (map ASegment (cond a.long (chunk_segments (no_segments offer.reply) a.stream) []))
-    (chunk-words (first_chunk offer.write) a.moved h.writes) (by a.long))
+    (from_append (map ASegment (chunk_segments (first_chunk offer.write) a.moved)) (map ASegment (cond a.long (chunk_segments (no_segments offer.reply) a.stream) []))
+    (chunk_words (first_chunk offer.write) a.moved h.writes) (by a.long))
   where
     by : (b : Bool) → AreFrom Fpdu (map ASegment (cond b (chunk_segments (no_segments offer.reply) a.stream) []))
-    by true = chunk-words (no_segments offer.reply) a.stream h.replies
+    by true = chunk_words (no_segments offer.reply) a.stream h.replies
     by false = tt
 
-pub answer-short : (offer : ChunkLists) (down prog vers proc xid credit : ℕ) (reply : List ℕ) (a : Answer) → down ≤ send_max → OfferFits offer → answer_for offer down prog vers proc reply ≡ Some a → IsShort (answer_message xid credit offer a)
-answer-short offer down prog vers proc xid credit reply a small fits e =
+pub answer_short_lem : (offer : ChunkLists) (down prog vers proc xid credit : ℕ) (reply : List ℕ) (a : Answer) → down ≤ send_max → OfferFits offer → answer_for offer down prog vers proc reply ≡ Some a → IsShort (answer_message xid credit offer a)
+answer_short_lem offer down prog vers proc xid credit reply a small fits e =
     let sizes = answer_length offer down prog vers proc xid credit reply a e in
     by a.long refl sizes.0 sizes.1
   where
@@ -183,38 +183,38 @@ nothing_within = record {
   reply_ends = tt;
 }
 
-pub found-fits : (xid : ℕ) (calls : List PendingCall) → CallsFit calls → OfferFits (offer_by (find (λ (c : PendingCall). eqb c.xid xid) calls))
-found-fits xid [] h = record { reads = tt; total = omega arith; size = omega arith; writes = tt; replies = tt; items = (tt, (tt, (tt, tt))); within = nothing_within }
-found-fits xid (c ∷ calls) h = by (eqb c.xid xid) (found-fits xid calls h.1)
+pub found_fits : (xid : ℕ) (calls : List PendingCall) → CallsFit calls → OfferFits (offer_by (find (λ (c : PendingCall). eqb c.xid xid) calls))
+found_fits xid [] h = record { reads = tt; total = omega arith; size = omega arith; writes = tt; replies = tt; items = (tt, (tt, (tt, tt))); within = nothing_within }
+found_fits xid (c ∷ calls) h = by (eqb c.xid xid) (found_fits xid calls h.1)
   where
     by : (b : Bool) → OfferFits (offer_by (find (λ (c : PendingCall). eqb c.xid xid) calls)) → OfferFits (offer_by (cond b (Some c) (find (λ (c : PendingCall). eqb c.xid xid) calls)))
     by true k = h.0
     by false k = k
 
 -- what a server sends of an executed call
-pub answer-is-short : (k : ServerState) (e : ExecutedCall) → ServerLimits k → CallsFit k.calls → (o : Option Answer) → answer_of_call k e ≡ o → AnswerShort k e.xid (offer_of k e.xid) o
-answer-is-short k e l h None is = chunk_error-short e.xid (credit_word k)
-answer-is-short k e l h (Some a) is =
+pub answer_is_short : (k : ServerState) (e : ExecutedCall) → ServerLimits k → CallsFit k.calls → (o : Option Answer) → answer_of_call k e ≡ o → AnswerShort k e.xid (offer_of k e.xid) o
+answer_is_short k e l h None is = chunk_error_short e.xid (credit_word k)
+answer_is_short k e l h (Some a) is =
     let down = l.down in
     let t = for_target (offer_of k e.xid) k.down_max e.reply (target_of (call_of e.payload)) a is in
-    answer-short (offer_of k e.xid) k.down_max t.0 t.1 t.2 e.xid (credit_word k) e.reply a (omega (arith, down)) (found-fits e.xid k.calls h) t.3
+    answer_short_lem (offer_of k e.xid) k.down_max t.0 t.1 t.2 e.xid (credit_word k) e.reply a (omega (arith, down)) (found_fits e.xid k.calls h) t.3
 
 abbrev pub answer_messages : ServerState → ℕ → ChunkLists → Option Answer → List (List ℕ)
 answer_messages k xid offer None = chunk_error xid (credit_word k) ∷ []
 answer_messages k xid offer (Some a) = answer_message xid (credit_word k) offer a ∷ []
 
-pub fine-answer : (k : ServerState) (e : ExecutedCall) → ServerLimits k → CallsFit k.calls → (o : Option Answer) → answer_of_call k e ≡ o → AreFine (answer_outputs k e.xid (offer_of k e.xid) o) (answer_messages k e.xid (offer_of k e.xid) o)
-fine-answer k e l h None is =
+pub fine_answer : (k : ServerState) (e : ExecutedCall) → ServerLimits k → CallsFit k.calls → (o : Option Answer) → answer_of_call k e ≡ o → AreFine (answer_outputs k e.xid (offer_of k e.xid) o) (answer_messages k e.xid (offer_of k e.xid) o)
+fine_answer k e l h None is =
     let m = chunk_error e.xid (credit_word k) in
-    let short = chunk_error-short e.xid (credit_word k) in
-    record { words = message-words (k.messages_queued + 1) m short; completes = completes-message (k.messages_queued + 1) m }
-fine-answer k e l h (Some a) is =
+    let short = chunk_error_short e.xid (credit_word k) in
+    record { words = message_words (k.messages_queued + 1) m short; completes = completes_message (k.messages_queued + 1) m }
+fine_answer k e l h (Some a) is =
     let offer = offer_of k e.xid in
     let segments = map ASegment (answer_segments offer a) in
     let m = answer_message e.xid (credit_word k) offer a in
     let send : List Output = message_outputs (k.messages_queued + 1) m in
-    let short = answer-is-short k e l h (Some a) is in
+    let short = answer_is_short k e l h (Some a) is in
     record {
-      words = from-append segments send (answer-words offer a (found-fits e.xid k.calls h)) (message-words (k.messages_queued + 1) m short);
-      completes = completes-append segments send [] (m ∷ []) (completes-tagged (answer_segments offer a) (tagged-answer offer a)) (completes-message (k.messages_queued + 1) m);
+      words = from_append segments send (answer_words offer a (found_fits e.xid k.calls h)) (message_words (k.messages_queued + 1) m short);
+      completes = completes_append segments send [] (m ∷ []) (completes_tagged (answer_segments offer a) (tagged_answer offer a)) (completes_message (k.messages_queued + 1) m);
     }

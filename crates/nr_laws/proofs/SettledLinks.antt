@@ -9,7 +9,7 @@ use Rattle.nr_wire.specs.declared.hello.Side.TheVariants.{Initiator, Responder}
 use Rattle.nr_wire.specs.declared.stream.Awaited.{Awaited}
 use Rattle.nr_wire.specs.declared.stream.Awaited.TheVariants.{Hello as HelloFrom, Fpdu}
 use Rattle.nr_wire.specs.Stream.{Split, split, AreFrames, awaited_after}
-use Rattle.nr_wire.proofs.Splits.{split-frames}
+use Rattle.nr_wire.proofs.Splits.{split_frames}
 use Rattle.nr_reduce.specs.declared.mark.Mark.{Mark}
 use Rattle.nr_reduce.specs.declared.mark.LinkParameters.{LinkParameters}
 use Rattle.nr_reduce.specs.History.{AcceptedCall, CompletedCall, accepted_calls, completed_calls, bytes_sent, bytes_received, is_abandoned}
@@ -23,11 +23,11 @@ use Rattle.nr_reduce.specs.Asked.{Asked}
 use Rattle.nr_reduce.specs.Served.{Served, first_ready, next_call}
 use Rattle.nr_reduce.specs.Matched.{Matched}
 use Rattle.nr_laws.specs.Typed.{IsTyped}
-use Rattle.nr_laws.specs.Completion.{IsSettled, IsKept, HasOutcome, CallsComplete}
+use Rattle.nr_laws.specs.Completion.{IsQuiescent, IsKept, HasOutcome, CallsComplete}
 use Rattle.nr_laws.proofs.FrameContents.{FrameContent, numbered_segment, output_bytes, sends_in, requests_in}
 use Rattle.nr_laws.proofs.LinkInvariants.{Transit, TotalsAgree}
-use Rattle.nr_laws.proofs.StreamFrames.{AreWritableFrom, proper-frame, IsOf, frames_at, length-frames, spelled-concat}
-use Rattle.nr_laws.proofs.Writable.{IsOutput, stream_proper, stream-left}
+use Rattle.nr_laws.proofs.StreamFrames.{AreWritableFrom, proper_frame, IsOf, frames_at, length_frames, spelled_concat}
+use Rattle.nr_laws.proofs.Writable.{IsOutput, stream_proper, stream_left}
 use Rattle.nr_laws.proofs.NothingLeft.{nothing_in_transit, quiet}
 use Rattle.nr_laws.proofs.EachRun.{joins}
 use Rattle.nr_laws.proofs.AccountedCalls.{IsAccounted, is_outstanding, has_outcome}
@@ -35,28 +35,28 @@ use Rattle.nr_laws.proofs.AccountedRuns.{gone_in, accounts}
 
 -- ---- A stream tells its frames
 
-are-frames : (side : Side) (a : Awaited) (n r : ℕ) (ps : List FrameContent) → IsOf side a → AreWritableFrom a n r ps → AreFrames a (frames_at side n r ps)
-are-frames side a n r [] of h = tt
-are-frames side a n r (p ∷ ps) of h = (proper-frame side a (numbered_segment n r p) of h.0, are-frames side Fpdu (n + sends_in p) (r + requests_in p) ps tt h.1)
+are_frames : (side : Side) (a : Awaited) (n r : ℕ) (ps : List FrameContent) → IsOf side a → AreWritableFrom a n r ps → AreFrames a (frames_at side n r ps)
+are_frames side a n r [] of h = tt
+are_frames side a n r (p ∷ ps) of h = (proper_frame side a (numbered_segment n r p) of h.0, are_frames side Fpdu (n + sends_in p) (r + requests_in p) ps tt h.1)
 
-split-none : (a : Awaited) → (split a []).frames ≡ []
+split_none : (a : Awaited) → (split a []).frames ≡ []
 unfolding split
-split-none a = refl
+split_none a = refl
 
-stream-frames : (side : Side) (ps : List FrameContent) → IsOutput ps → (split (HelloFrom side) (output_bytes side 0 0 ps)).frames ≡ frames_at side 0 0 ps
-stream-frames side ps h =
+stream_frames : (side : Side) (ps : List FrameContent) → IsOutput ps → (split (HelloFrom side) (output_bytes side 0 0 ps)).frames ≡ frames_at side 0 0 ps
+stream_frames side ps h =
     let a = HelloFrom side in
     let fs = frames_at side 0 0 ps in
-    ap (λ (xs : List ℕ). (split a xs).frames) (spelled-concat side 0 0 ps ∙ sym (append-nil (concat fs)))
-    ∙ ap (λ (s : Split). s.frames) (split-frames a fs [] (are-frames side a 0 0 ps refl (stream_proper side ps h)))
-    ∙ ap (λ (xs : List (List ℕ)). fs ++ xs) (split-none (awaited_after a fs)) ∙ append-nil fs
+    ap (λ (xs : List ℕ). (split a xs).frames) (spelled_concat side 0 0 ps ∙ sym (append-nil (concat fs)))
+    ∙ ap (λ (s : Split). s.frames) (split_frames a fs [] (are_frames side a 0 0 ps refl (stream_proper side ps h)))
+    ∙ ap (λ (xs : List (List ℕ)). fs ++ xs) (split_none (awaited_after a fs)) ∙ append-nil fs
 
-as-many : (side : Side) (ps qs : List FrameContent) → frames_at side 0 0 ps ≡ frames_at side 0 0 qs → length ps ≡ length qs
-as-many side ps qs e = sym (length-frames side 0 0 ps) ∙ ap (λ (fs : List (List ℕ)). length fs) e ∙ length-frames side 0 0 qs
+as_many_lem : (side : Side) (ps qs : List FrameContent) → frames_at side 0 0 ps ≡ frames_at side 0 0 qs → length ps ≡ length qs
+as_many_lem side ps qs e = sym (length_frames side 0 0 ps) ∙ ap (λ (fs : List (List ℕ)). length fs) e ∙ length_frames side 0 0 qs
 
-nothing-behind : (ps qs : List FrameContent) → length ps ≡ length (ps ++ qs) → qs ≡ []
-nothing-behind ps [] e = refl
-nothing-behind ps (q ∷ qs) e = absurd (omega (arith, e, length-append ps (q ∷ qs)))
+nothing_behind : (ps qs : List FrameContent) → length ps ≡ length (ps ++ qs) → qs ≡ []
+nothing_behind ps [] e = refl
+nothing_behind ps (q ∷ qs) e = absurd (omega (arith, e, length-append ps (q ∷ qs)))
 
 -- all that was sent was received
 record AllArrived (u all : List FrameContent) (under_way queued : List FrameContent) : Type 0 where
@@ -66,38 +66,38 @@ record AllArrived (u all : List FrameContent) (under_way queued : List FrameCont
 empties : (side : Side) (received sent due : List ℕ) (u under_way queued all : List FrameContent) → IsOutput all → u ++ (under_way ++ queued) ≡ all → (split (HelloFrom side) received).frames ≡ frames_at side 0 0 u
     → sent ≡ output_bytes side 0 0 (u ++ under_way) → due ≡ output_bytes side 0 0 all → received ≡ sent → sent ≡ due → AllArrived u all under_way queued
 empties side received sent due u under_way queued all stream parts frames is_sent is_due got wrote =
-    let front : IsOutput (u ++ under_way) = stream-left (u ++ under_way) queued (subst IsOutput (sym parts ∙ sym (append_assoc u under_way queued)) stream) in
+    let front : IsOutput (u ++ under_way) = stream_left (u ++ under_way) queued (subst IsOutput (sym parts ∙ sym (append_assoc u under_way queued)) stream) in
     let one : frames_at side 0 0 u ≡ frames_at side 0 0 (u ++ under_way) =
-    sym frames ∙ ap (λ (xs : List ℕ). (split (HelloFrom side) xs).frames) (got ∙ is_sent) ∙ stream-frames side (u ++ under_way) front in
+    sym frames ∙ ap (λ (xs : List ℕ). (split (HelloFrom side) xs).frames) (got ∙ is_sent) ∙ stream_frames side (u ++ under_way) front in
     let two : frames_at side 0 0 (u ++ under_way) ≡ frames_at side 0 0 all =
-    sym (stream-frames side (u ++ under_way) front) ∙ ap (λ (xs : List ℕ). (split (HelloFrom side) xs).frames) (sym is_sent ∙ wrote ∙ is_due) ∙ stream-frames side all stream in
+    sym (stream_frames side (u ++ under_way) front) ∙ ap (λ (xs : List ℕ). (split (HelloFrom side) xs).frames) (sym is_sent ∙ wrote ∙ is_due) ∙ stream_frames side all stream in
     record {
-      under_way_none = nothing-behind u under_way (as-many side u (u ++ under_way) one);
-      queued_none = nothing-behind (u ++ under_way) queued (as-many side (u ++ under_way) all two ∙ ap (λ (ps : List FrameContent). length ps) (sym parts ∙ sym (append_assoc u under_way queued)));
+      under_way_none = nothing_behind u under_way (as_many_lem side u (u ++ under_way) one);
+      queued_none = nothing_behind (u ++ under_way) queued (as_many_lem side (u ++ under_way) all two ∙ ap (λ (ps : List FrameContent). length ps) (sym parts ∙ sym (append_assoc u under_way queued)));
     }
 
-none-ready : (ready : List ReadyCall) → slice_get ready 0 ≡ None → ready ≡ []
-none-ready [] e = refl
-none-ready (r ∷ ready) e = absurd cc
+none_ready : (ready : List ReadyCall) → slice_get ready 0 ≡ None → ready ≡ []
+none_ready [] e = refl
+none_ready (r ∷ ready) e = absurd cc
 
-none-outstanding : (opened : LinkParameters) (link : ℕ) (run : List Mark) → IsTyped run → Asked opened link run → Served opened link run → Matched link run → IsSettled opened link run → (client opened link run).state.outstanding ≡ []
+none_outstanding_lem : (opened : LinkParameters) (link : ℕ) (run : List Mark) → IsTyped run → Asked opened link run → Served opened link run → Matched link run → IsQuiescent opened link run → (client opened link run).state.outstanding ≡ []
 unfolding end_of_side next_call
-none-outstanding opened link run typed asked served matched settled =
+none_outstanding_lem opened link run typed asked served matched settled =
     let j = joins opened link run asked.each served.each matched typed settled.client_stays settled.server_stays in
     let up = empties Initiator (bytes_received link Responder run) (bytes_sent link Initiator run) (output_due opened link Initiator run) j.u j.w.up j.w.queued_up j.all_up
     j.linked.stream_up j.linked.parts_up j.frames_up j.sent_up j.due_up settled.nothing_waits.up asked.written in
     let down = empties Responder (bytes_received link Initiator run) (bytes_sent link Responder run) (output_due opened link Responder run) j.d j.w.down j.w.queued_down j.all_down
     j.linked.stream_down j.linked.parts_down j.frames_down j.sent_down j.due_down settled.nothing_waits.down served.written in
     let way : j.w ≡ nothing_in_transit = λ i. record { queued_up = up.queued_none i; up = up.under_way_none i; queued_down = down.queued_none i; down = down.under_way_none i } in
-    let ready : j.s.ready ≡ [] = none-ready j.s.ready (ap (λ (r : EndState ServerState). first_ready r.state.ready r.ended) (sym j.server_is) ∙ settled.nothing_waits.executed) in
+    let ready : j.s.ready ≡ [] = none_ready j.s.ready (ap (λ (r : EndState ServerState). first_ready r.state.ready r.ended) (sym j.server_is) ∙ settled.nothing_waits.executed) in
     ap (λ (r : EndState ClientState). r.state.outstanding) j.client_is
     ∙ quiet opened j.k j.s (subst (λ (w : Transit). TotalsAgree j.k j.s w) way j.linked.counts) j.linked.waits.ready_calls ready
 
 -- ---- The outcome of each call
 
-some-outcome : (calls : List CompletedCall) (xid : ℕ) → has_outcome calls xid ≡ true → HasOutcome calls xid
-some-outcome [] xid e = absurd cc
-some-outcome (c ∷ calls) xid e = by (eqb c.xid xid) refl e (some-outcome calls xid)
+some_outcome : (calls : List CompletedCall) (xid : ℕ) → has_outcome calls xid ≡ true → HasOutcome calls xid
+some_outcome [] xid e = absurd cc
+some_outcome (c ∷ calls) xid e = by (eqb c.xid xid) refl e (some_outcome calls xid)
   where
     by : (b : Bool) → eqb c.xid xid ≡ b → (b || has_outcome calls xid) ≡ true → (has_outcome calls xid ≡ true → HasOutcome calls xid) → HasOutcome (c ∷ calls) xid
     by true is e rest =
@@ -107,30 +107,30 @@ some-outcome (c ∷ calls) xid e = by (eqb c.xid xid) refl e (some-outcome calls
         let later = rest e in
         (later.0, Contains-append_right (c ∷ []) calls (record { xid = xid; outcome = later.0 }) later.1)
 
-of-calls : (P : ℕ → Type 0) (calls : List AcceptedCall) → AllByRecursion P (map (λ (a : AcceptedCall). a.xid) calls) → AllByRecursion (λ (a : AcceptedCall). P a.xid) calls
-of-calls P [] h = tt
-of-calls P (a ∷ calls) h = (h.0, of-calls P calls h.1)
+of_calls : (P : ℕ → Type 0) (calls : List AcceptedCall) → AllByRecursion P (map (λ (a : AcceptedCall). a.xid) calls) → AllByRecursion (λ (a : AcceptedCall). P a.xid) calls
+of_calls P [] h = tt
+of_calls P (a ∷ calls) h = (h.0, of_calls P calls h.1)
 
-of-call : (P : ℕ → Type 0) (calls : List AcceptedCall) (a : AcceptedCall) → AllByRecursion P (map (λ (c : AcceptedCall). c.xid) calls) → Contains calls a → P a.xid
-of-call P calls a h there = All-contains (λ (c : AcceptedCall). P c.xid) calls a (All-from_recursion (λ (c : AcceptedCall). P c.xid) calls (of-calls P calls h)) there
+of_call_lem : (P : ℕ → Type 0) (calls : List AcceptedCall) (a : AcceptedCall) → AllByRecursion P (map (λ (c : AcceptedCall). c.xid) calls) → Contains calls a → P a.xid
+of_call_lem P calls a h there = All-contains (λ (c : AcceptedCall). P c.xid) calls a (All-from_recursion (λ (c : AcceptedCall). P c.xid) calls (of_calls P calls h)) there
 
-left-over : (b c : Bool) → (b || c) ≡ true → c ≡ false → b ≡ true
-left-over true c e none = refl
-left-over false true e none = absurd cc
-left-over false false e none = absurd cc
+left_over : (b c : Bool) → (b || c) ≡ true → c ≡ false → b ≡ true
+left_over true c e none = refl
+left_over false true e none = absurd cc
+left_over false false e none = absurd cc
 
-outcome-of : (opened : LinkParameters) (link : ℕ) (run : List Mark) → (client opened link run).ended ≡ None → (client opened link run).state.outstanding ≡ [] → (a : AcceptedCall) → IsKept link run a → has_outcome (client opened link run).state.outcomes a.xid ≡ true
-outcome-of opened link run stays none a kept =
+outcome_of : (opened : LinkParameters) (link : ℕ) (run : List Mark) → (client opened link run).ended ≡ None → (client opened link run).state.outstanding ≡ [] → (a : AcceptedCall) → IsKept link run a → has_outcome (client opened link run).state.outcomes a.xid ≡ true
+outcome_of opened link run stays none a kept =
     let k = (client opened link run).state in
-    let h = of-call (IsAccounted (gone_in link run) k) (accepted_calls link run) a (accounts opened link run stays).each kept.accepted in
-    left-over (has_outcome k.outcomes a.xid) (gone_in link run a.xid)
+    let h = of_call_lem (IsAccounted (gone_in link run) k) (accepted_calls link run) a (accounts opened link run stays).each kept.accepted in
+    left_over (has_outcome k.outcomes a.xid) (gone_in link run a.xid)
     (ap (λ (os : List OutstandingCall). is_outstanding os a.xid || (has_outcome k.outcomes a.xid || gone_in link run a.xid)) (sym none) ∙ h) kept.kept
 
 -- ---- What is handed over
 
-none-both : {A : Type 0} (xs ys : List A) → xs ++ ys ≡ [] → (xs ≡ []) × (ys ≡ [])
-none-both [] ys e = (refl, e)
-none-both (x ∷ xs) ys e = absurd cc
+none_both : {A : Type 0} (xs ys : List A) → xs ++ ys ≡ [] → (xs ≡ []) × (ys ≡ [])
+none_both [] ys e = (refl, e)
+none_both (x ∷ xs) ys e = absurd cc
 
 filter-append : {A : Type 0} (p : A → Bool) (xs ys : List A) → filter p (xs ++ ys) ≡ filter p xs ++ filter p ys
 filter-append p [] ys = refl
@@ -140,11 +140,11 @@ filter-append p (x ∷ xs) ys = by (p x) (filter-append p xs ys)
     by true e = ap (λ (zs : List _). x ∷ zs) e
     by false e = e
 
-none-each : {X A : Type 0} (p : A → Bool) (f : X → List A) (xs : List X) → filter p (flat_map f xs) ≡ [] → AllByRecursion (λ (x : X). filter p (f x) ≡ []) xs
-none-each p f [] e = tt
-none-each p f (x ∷ xs) e =
-    let both = none-both (filter p (f x)) (filter p (flat_map f xs)) (sym (filter-append p (f x) (flat_map f xs)) ∙ e) in
-    (both.0, none-each p f xs both.1)
+none_each : {X A : Type 0} (p : A → Bool) (f : X → List A) (xs : List X) → filter p (flat_map f xs) ≡ [] → AllByRecursion (λ (x : X). filter p (f x) ≡ []) xs
+none_each p f [] e = tt
+none_each p f (x ∷ xs) e =
+    let both = none_both (filter p (f x)) (filter p (flat_map f xs)) (sym (filter-append p (f x) (flat_map f xs)) ∙ e) in
+    (both.0, none_each p f xs both.1)
 
 tested : (g : ℕ → Bool) (xid : ℕ) (calls : List CompletedCall) → filter (λ (c : CompletedCall). not (g c.xid)) (filter (λ (c : CompletedCall). eqb c.xid xid) calls) ≡ [] → has_outcome calls xid ≡ true → g xid ≡ true
 tested g xid [] e some = absurd cc
@@ -162,27 +162,27 @@ tested g xid (c ∷ calls) e some = by (eqb c.xid xid) refl e some (tested g xid
     by true is e some later = ap g (sym (eqb-true c.xid xid is)) ∙ passed (g c.xid) (filter (λ (x : CompletedCall). not (g x.xid)) rest) e
     by false is e some later = later e some
 
-other-of : (b c : Bool) → (b || c) ≡ true → b ≡ false → c ≡ true
-other-of true c e none = absurd cc
-other-of false c e none = e
+other_of : (b c : Bool) → (b || c) ≡ true → b ≡ false → c ≡ true
+other_of true c e none = absurd cc
+other_of false c e none = e
 
-handed-over : (opened : LinkParameters) (link : ℕ) (run : List Mark) → outcomes_due opened link run ≡ [] → (a : AcceptedCall) → IsKept link run a → has_outcome (client opened link run).state.outcomes a.xid ≡ true → has_outcome (completed_calls link run) a.xid ≡ true
+handed_over_lem : (opened : LinkParameters) (link : ℕ) (run : List Mark) → outcomes_due opened link run ≡ [] → (a : AcceptedCall) → IsKept link run a → has_outcome (client opened link run).state.outcomes a.xid ≡ true → has_outcome (completed_calls link run) a.xid ≡ true
 unfolding outcomes_due
-handed-over opened link run none a kept some =
+handed_over_lem opened link run none a kept some =
     let outs = (client opened link run).state.outcomes in
     let g : ℕ → Bool = λ x. is_abandoned link x run || is_completed link x run in
-    let each = none-each (λ (c : CompletedCall). not (g c.xid)) (outcomes_of_call outs) (accepted_calls link run) none in
+    let each = none_each (λ (c : CompletedCall). not (g c.xid)) (outcomes_of_call outs) (accepted_calls link run) none in
     let one : filter (λ (c : CompletedCall). not (g c.xid)) (outcomes_of_call outs a) ≡ [] =
     All-contains (λ (x : AcceptedCall). filter (λ (c : CompletedCall). not (g c.xid)) (outcomes_of_call outs x) ≡ []) (accepted_calls link run) a
     (All-from_recursion (λ (x : AcceptedCall). filter (λ (c : CompletedCall). not (g c.xid)) (outcomes_of_call outs x) ≡ []) (accepted_calls link run) each) kept.accepted in
-    other-of (is_abandoned link a.xid run) (is_completed link a.xid run) (tested g a.xid outs one some) kept.kept
+    other_of (is_abandoned link a.xid run) (is_completed link a.xid run) (tested g a.xid outs one some) kept.kept
 
-pub calls-complete : CallsComplete
+pub calls_complete_lem : CallsComplete
 unfolding end_of_side calls_outstanding
-calls-complete opened link run typed asked served matched settled =
-    let none = none-outstanding opened link run typed asked served matched settled in
+calls_complete_lem opened link run typed asked served matched settled =
+    let none = none_outstanding_lem opened link run typed asked served matched settled in
     record {
       none_outstanding = ap (λ (os : List OutstandingCall). length os) none;
-      has_outcome = λ a kept. some-outcome (client opened link run).state.outcomes a.xid (outcome-of opened link run settled.client_stays none a kept);
-      has_done = λ due a kept. some-outcome (completed_calls link run) a.xid (handed-over opened link run due a kept (outcome-of opened link run settled.client_stays none a kept));
+      has_outcome = λ a kept. some_outcome (client opened link run).state.outcomes a.xid (outcome_of opened link run settled.client_stays none a kept);
+      has_done = λ due a kept. some_outcome (completed_calls link run) a.xid (handed_over_lem opened link run due a kept (outcome_of opened link run settled.client_stays none a kept));
     }

@@ -11,22 +11,22 @@ use Rattle.nr_reduce.specs.ServerReads.{regions_of, chunks_of}
 use Rattle.nr_reduce.specs.ServerMessages.{verdict}
 use Rattle.nr_reduce.specs.ServerMessages.Verdict.{MakesPending}
 use Rattle.nr_reduce.specs.ServerFrames.{frame_effect}
-use Rattle.nr_laws.proofs.ServerInvariant.{length-from}
+use Rattle.nr_laws.proofs.ServerInvariant.{length_from}
 use Rattle.nr_laws.proofs.WritableOffers.{verdict_one}
 use Rattle.nr_laws.proofs.OneChunk.{OneChunk}
-use Rattle.nr_laws.proofs.EachEffect.{held-messages, held-responses, send-effect, tagged-effect}
+use Rattle.nr_laws.proofs.EachEffect.{held_messages, held_responses, send_effect, tagged_effect_lem}
 
-pub count-send : (k : ServerState) (f : Frame) (message : List ℕ) → k.received.begun ≡ None → IsBytes message → OneChunk message → frame_segment f ≡ Ok (Untagged true OPCODE_SEND 0 QUEUE_SEND (msn_word (k.received.sends + 1)) 0 message)
+pub count_send : (k : ServerState) (f : Frame) (message : List ℕ) → k.received.begun ≡ None → IsBytes message → OneChunk message → frame_segment f ≡ Ok (Untagged true OPCODE_SEND 0 QUEUE_SEND (msn_word (k.received.sends + 1)) 0 message)
     → length (frame_effect k f).regions ≤ length k.regions + 1
-count-send k f message none bytes one is =
-    send-effect k (λ m. IsBytes m × OneChunk m) (λ s. length s.regions ≤ length k.regions + 1)
-    (held-messages k (λ m. IsBytes m × OneChunk m) (λ calls reads regions. length regions ≤ length k.regions + 1) (omega arith) pending) f message none (bytes, one) is
+count_send k f message none bytes one is =
+    send_effect k (λ m. IsBytes m × OneChunk m) (λ s. length s.regions ≤ length k.regions + 1)
+    (held_messages k (λ m. IsBytes m × OneChunk m) (λ calls reads regions. length regions ≤ length k.regions + 1) (omega arith) pending) f message none (bytes, one) is
   where
     pending : (place : ℕ) (message : List ℕ) (c : PendingCall) → IsBytes message × OneChunk message → verdict k message ≡ MakesPending c → length (k.regions ++ regions_of k place c) ≤ length k.regions + 1
     pending place message c good is =
         let few = verdict_one k message c good.0 good.1 is in
-        omega (arith, length-append k.regions (regions_of k place c), length-from c.number place (next_stag k) c.lists (chunks_of c.lists), few)
+        omega (arith, length-append k.regions (regions_of k place c), length_from c.number place (next_stag k) c.lists (chunks_of c.lists), few)
 
-pub count-tagged : (k : ServerState) (f : Frame) (last : Bool) (opcode stag to : ℕ) (payload : List ℕ) → frame_segment f ≡ Ok (Tagged last opcode stag to payload) → length (frame_effect k f).regions ≡ length k.regions
-count-tagged k f last opcode stag to payload is =
-    tagged-effect k (λ s. length s.regions ≡ length k.regions) (held-responses k (λ calls reads regions. length regions ≡ length k.regions) refl (λ c s g. g) (λ r reads is. refl)) f last opcode stag to payload is
+pub count_tagged : (k : ServerState) (f : Frame) (last : Bool) (opcode stag to : ℕ) (payload : List ℕ) → frame_segment f ≡ Ok (Tagged last opcode stag to payload) → length (frame_effect k f).regions ≡ length k.regions
+count_tagged k f last opcode stag to payload is =
+    tagged_effect_lem k (λ s. length s.regions ≡ length k.regions) (held_responses k (λ calls reads regions. length regions ≡ length k.regions) refl (λ c s g. g) (λ r reads is. refl)) f last opcode stag to payload is

@@ -12,13 +12,13 @@ use Rattle.nr_reduce.specs.ServerState.{PendingRead, PendingCall}
 use Rattle.nr_reduce.specs.ServerReads.{is_read, is_read_at, is_over}
 use Rattle.nr_laws.proofs.LinkInvariants.{IsSink, HasSink, HaveSinks}
 use Rattle.nr_laws.proofs.Totals.{any_first}
-use Rattle.nr_reduce.proofs.OwnStags.{closed-stag}
-use Rattle.nr_laws.proofs.Keys.{or-right}
+use Rattle.nr_reduce.proofs.OwnStags.{closed_stag}
+use Rattle.nr_laws.proofs.DistinctKeys.{or_right_lem}
 
-same-itself : (right : Right) → same_right right right ≡ true
-same-itself Fetch = refl
-same-itself Fill = refl
-same-itself Sink = refl
+same_itself : (right : Right) → same_right right right ≡ true
+same_itself Fetch = refl
+same_itself Fill = refl
+same_itself Sink = refl
 
 -- a live region that has the right and the room, behind regions of other STags
 pub found : (end : ℕ) (right : Right) (stag to n : ℕ) (g : Region) (rest : Option Grant) → g.stag ≡ stag → g.until ≡ None → g.right ≡ right → g.from < end → to + n ≤ length g.bytes
@@ -29,40 +29,40 @@ found end right stag to n g rest same lives own before room =
     (λ i. eq-eqb g.stag stag same i && (lt-ltb g.from end before i && leb end (until_or end (lives i)))) ∙ le-leb end end (omega arith) in
     ap (λ (b : Bool). denial_in (grant_offer (cond b (Some (region_grant end g)) rest)) access) live
     ∙ (λ i. cond (le-ltb (length g.bytes) (to + n) room i) (Some Bounds) (cond (same_right (own i) right) None (Some WrongRight)))
-    ∙ ap (λ (b : Bool). cond b None (Some WrongRight)) (same-itself right)
+    ∙ ap (λ (b : Bool). cond b None (Some WrongRight)) (same_itself right)
 
 pub skipped : (end : ℕ) (stag : ℕ) (g : Region) (rest : Option Grant) → g.stag ≢ stag → cond (applies stag end (region_grant end g)) (Some (region_grant end g)) rest ≡ rest
 skipped end stag g rest ne = ap (λ (b : Bool). cond (b && (ltb g.from end && leb end (until_or end g.until))) (Some (region_grant end g)) rest) (ne_eqb g.stag stag ne)
 
 -- the access is allowed
-pub sink-allowed : (place end : ℕ) (r : PendingRead) (regions : List Region) (to n : ℕ) → HasSink place r regions → place < end → to + n ≤ r.at + r.size → grant_denial (region_grants end regions) (record { right = Sink; stag = r.sink; to = to; len = n }) end ≡ None
+pub sink_allowed : (place end : ℕ) (r : PendingRead) (regions : List Region) (to n : ℕ) → HasSink place r regions → place < end → to + n ≤ r.at + r.size → grant_denial (region_grants end regions) (record { right = Sink; stag = r.sink; to = to; len = n }) end ≡ None
 unfolding grant_denial grant_at region_grants
-sink-allowed place end r [] to n h lt room = absurd h
-sink-allowed place end r (g ∷ regions) to n (inl s) lt room =
+sink_allowed place end r [] to n h lt room = absurd h
+sink_allowed place end r (g ∷ regions) to n (inl s) lt room =
     found end Sink r.sink to n g (find (applies r.sink end) (map (region_grant end) regions)) s.stag s.lives s.right (omega (arith, s.before, lt)) (omega (arith, s.room, room))
-sink-allowed place end r (g ∷ regions) to n (inr s) lt room =
+sink_allowed place end r (g ∷ regions) to n (inr s) lt room =
     ap (λ (found : Option Grant). denial_in (grant_offer found) (record { right = Sink; stag = r.sink; to = to; len = n })) (skipped end r.sink g (find (applies r.sink end) (map (region_grant end) regions)) s.0)
-    ∙ sink-allowed place end r regions to n s.1 lt room
+    ∙ sink_allowed place end r regions to n s.1 lt room
 
 -- ---- It is kept
 
 later : (place end : ℕ) (r : PendingRead) (g : Region) → place ≤ end → IsSink place r g → IsSink end r g
 later place end r g le s = record { stag = s.stag; call = s.call; position = s.position; right = s.right; lives = s.lives; before = omega (arith, s.before, le); room = s.room }
 
-pub sink-later : (place end : ℕ) (r : PendingRead) (regions : List Region) → place ≤ end → HasSink place r regions → HasSink end r regions
-sink-later place end r [] le h = absurd h
-sink-later place end r (g ∷ regions) le (inl s) = inl (later place end r g le s)
-sink-later place end r (g ∷ regions) le (inr s) = inr (s.0, sink-later place end r regions le s.1)
+pub sink_later : (place end : ℕ) (r : PendingRead) (regions : List Region) → place ≤ end → HasSink place r regions → HasSink end r regions
+sink_later place end r [] le h = absurd h
+sink_later place end r (g ∷ regions) le (inl s) = inl (later place end r g le s)
+sink_later place end r (g ∷ regions) le (inr s) = inr (s.0, sink_later place end r regions le s.1)
 
-pub sink-append : (place : ℕ) (r : PendingRead) (regions more : List Region) → HasSink place r regions → HasSink place r (regions ++ more)
-sink-append place r [] more h = absurd h
-sink-append place r (g ∷ regions) more (inl s) = inl s
-sink-append place r (g ∷ regions) more (inr s) = inr (s.0, sink-append place r regions more s.1)
+pub sink_append : (place : ℕ) (r : PendingRead) (regions more : List Region) → HasSink place r regions → HasSink place r (regions ++ more)
+sink_append place r [] more h = absurd h
+sink_append place r (g ∷ regions) more (inl s) = inl s
+sink_append place r (g ∷ regions) more (inr s) = inr (s.0, sink_append place r regions more s.1)
 
 -- a read that is left keeps its region from being over
-not-over : (calls : List PendingCall) (reads : List PendingRead) (r : PendingRead) (g : Region) → g.call ≡ r.number → g.position ≡ r.position
+not_over : (calls : List PendingCall) (reads : List PendingRead) (r : PendingRead) (g : Region) → g.call ≡ r.number → g.position ≡ r.position
     → list_any (λ (x : PendingRead). eqb x.number r.number && eqb x.position r.position) reads ≡ true → is_over calls reads g ≡ false
-not-over calls reads r g call position there = by (list_any (λ (c : PendingCall). eqb c.number g.call) calls)
+not_over calls reads r g call position there = by (list_any (λ (c : PendingCall). eqb c.number g.call) calls)
   where
     at : list_any (λ (x : PendingRead). eqb x.number g.call && eqb x.position g.position) reads ≡ true
     at = (λ i. list_any (λ (x : PendingRead). eqb x.number (call i) && eqb x.position (position i)) reads) ∙ there
@@ -71,14 +71,14 @@ not-over calls reads r g call position there = by (list_any (λ (c : PendingCall
     by true = ap (λ (b : Bool). not b) (any_first (λ (x : PendingRead). eqb x.number g.call) (λ (x : PendingRead). eqb x.position g.position) reads at)
     by false = ap (λ (b : Bool). not b) at
 
-pub sink-closed : (place end : ℕ) (calls : List PendingCall) (reads : List PendingRead) (r : PendingRead) (regions : List Region) → place ≤ end
+pub sink_closed : (place end : ℕ) (calls : List PendingCall) (reads : List PendingRead) (r : PendingRead) (regions : List Region) → place ≤ end
     → list_any (λ (x : PendingRead). eqb x.number r.number && eqb x.position r.position) reads ≡ true → HasSink place r regions → HasSink end r (regions_closed (is_over calls reads) end regions)
 unfolding regions_closed
-sink-closed place end calls reads r [] le there h = absurd h
-sink-closed place end calls reads r (g ∷ regions) le there (inl s) =
-    inl (subst (λ (b : Bool). IsSink end r (closed_if b end g)) (sym (not-over calls reads r g s.call s.position there)) (later place end r g le s))
-sink-closed place end calls reads r (g ∷ regions) le there (inr s) =
-    inr ((λ e. s.0 (sym (closed-stag (is_over calls reads g) end g) ∙ e)), sink-closed place end calls reads r regions le there s.1)
+sink_closed place end calls reads r [] le there h = absurd h
+sink_closed place end calls reads r (g ∷ regions) le there (inl s) =
+    inl (subst (λ (b : Bool). IsSink end r (closed_if b end g)) (sym (not_over calls reads r g s.call s.position there)) (later place end r g le s))
+sink_closed place end calls reads r (g ∷ regions) le there (inr s) =
+    inr ((λ e. s.0 (sym (closed_stag (is_over calls reads g) end g) ∙ e)), sink_closed place end calls reads r regions le there s.1)
 
 -- all that are left keep theirs
 abbrev pub AreIn : List PendingRead → List PendingRead → Type 0
@@ -87,40 +87,40 @@ AreIn all (r ∷ reads) = (list_any (λ (x : PendingRead). eqb x.number r.number
 
 here : (r : PendingRead) (front others : List PendingRead) → list_any (λ (x : PendingRead). eqb x.number r.number && eqb x.position r.position) (front ++ r ∷ others) ≡ true
 here r [] others = λ i. (eq-eqb r.number r.number refl i && eq-eqb r.position r.position refl i) || list_any (λ (x : PendingRead). eqb x.number r.number && eqb x.position r.position) others
-here r (x ∷ front) others = or-right (eqb x.number r.number && eqb x.position r.position) _ (here r front others)
+here r (x ∷ front) others = or_right_lem (eqb x.number r.number && eqb x.position r.position) _ (here r front others)
 
-are-in : (front reads : List PendingRead) → AreIn (front ++ reads) reads
-are-in front [] = tt
-are-in front (r ∷ reads) = (here r front reads, subst (λ (all : List PendingRead). AreIn all reads) (append_assoc front (r ∷ []) reads) (are-in (front ++ r ∷ []) reads))
+are_in : (front reads : List PendingRead) → AreIn (front ++ reads) reads
+are_in front [] = tt
+are_in front (r ∷ reads) = (here r front reads, subst (λ (all : List PendingRead). AreIn all reads) (append_assoc front (r ∷ []) reads) (are_in (front ++ r ∷ []) reads))
 
-closed-each : (place end : ℕ) (calls : List PendingCall) (all reads : List PendingRead) (regions : List Region) → place ≤ end → AreIn all reads → HaveSinks place regions reads → HaveSinks end (regions_closed (is_over calls all) end regions) reads
-closed-each place end calls all [] regions le there h = tt
-closed-each place end calls all (r ∷ reads) regions le there h = (sink-closed place end calls all r regions le there.0 h.0, closed-each place end calls all reads regions le there.1 h.1)
+closed_each : (place end : ℕ) (calls : List PendingCall) (all reads : List PendingRead) (regions : List Region) → place ≤ end → AreIn all reads → HaveSinks place regions reads → HaveSinks end (regions_closed (is_over calls all) end regions) reads
+closed_each place end calls all [] regions le there h = tt
+closed_each place end calls all (r ∷ reads) regions le there h = (sink_closed place end calls all r regions le there.0 h.0, closed_each place end calls all reads regions le there.1 h.1)
 
-pub sinks-closed : (place end : ℕ) (calls : List PendingCall) (reads : List PendingRead) (regions : List Region) → place ≤ end → HaveSinks place regions reads → HaveSinks end (regions_closed (is_over calls reads) end regions) reads
-sinks-closed place end calls reads regions le h = closed-each place end calls reads reads regions le (are-in [] reads) h
+pub sinks_closed : (place end : ℕ) (calls : List PendingCall) (reads : List PendingRead) (regions : List Region) → place ≤ end → HaveSinks place regions reads → HaveSinks end (regions_closed (is_over calls reads) end regions) reads
+sinks_closed place end calls reads regions le h = closed_each place end calls reads reads regions le (are_in [] reads) h
 
-pub sinks-more : (place : ℕ) (regions more : List Region) (reads : List PendingRead) → HaveSinks place regions reads → HaveSinks place (regions ++ more) reads
-sinks-more place regions more [] h = tt
-sinks-more place regions more (r ∷ reads) h = (sink-append place r regions more h.0, sinks-more place regions more reads h.1)
+pub sinks_more : (place : ℕ) (regions more : List Region) (reads : List PendingRead) → HaveSinks place regions reads → HaveSinks place (regions ++ more) reads
+sinks_more place regions more [] h = tt
+sinks_more place regions more (r ∷ reads) h = (sink_append place r regions more h.0, sinks_more place regions more reads h.1)
 
-pub sinks-append : (place : ℕ) (regions : List Region) (reads others : List PendingRead) → HaveSinks place regions reads → HaveSinks place regions others → HaveSinks place regions (reads ++ others)
-sinks-append place regions [] others h k = k
-sinks-append place regions (r ∷ reads) others h k = (h.0, sinks-append place regions reads others h.1 k)
+pub sinks_append : (place : ℕ) (regions : List Region) (reads others : List PendingRead) → HaveSinks place regions reads → HaveSinks place regions others → HaveSinks place regions (reads ++ others)
+sinks_append place regions [] others h k = k
+sinks_append place regions (r ∷ reads) others h k = (h.0, sinks_append place regions reads others h.1 k)
 
-pub sinks-taken : (place n : ℕ) (regions : List Region) (reads : List PendingRead) → HaveSinks place regions reads → HaveSinks place regions (take n reads)
-sinks-taken place zero regions reads h = tt
-sinks-taken place (suc n) regions [] h = tt
-sinks-taken place (suc n) regions (r ∷ reads) h = (h.0, sinks-taken place n regions reads h.1)
+pub sinks_taken : (place n : ℕ) (regions : List Region) (reads : List PendingRead) → HaveSinks place regions reads → HaveSinks place regions (take n reads)
+sinks_taken place zero regions reads h = tt
+sinks_taken place (suc n) regions [] h = tt
+sinks_taken place (suc n) regions (r ∷ reads) h = (h.0, sinks_taken place n regions reads h.1)
 
-pub sinks-dropped : (place n : ℕ) (regions : List Region) (reads : List PendingRead) → HaveSinks place regions reads → HaveSinks place regions (drop n reads)
-sinks-dropped place zero regions reads h = h
-sinks-dropped place (suc n) regions [] h = tt
-sinks-dropped place (suc n) regions (r ∷ reads) h = sinks-dropped place n regions reads h.1
+pub sinks_dropped : (place n : ℕ) (regions : List Region) (reads : List PendingRead) → HaveSinks place regions reads → HaveSinks place regions (drop n reads)
+sinks_dropped place zero regions reads h = h
+sinks_dropped place (suc n) regions [] h = tt
+sinks_dropped place (suc n) regions (r ∷ reads) h = sinks_dropped place n regions reads h.1
 
-pub sinks-kept : (place : ℕ) (p : PendingRead → Bool) (regions : List Region) (reads : List PendingRead) → HaveSinks place regions reads → HaveSinks place regions (filter p reads)
-sinks-kept place p regions [] h = tt
-sinks-kept place p regions (r ∷ reads) h = by (p r) (sinks-kept place p regions reads h.1)
+pub sinks_kept : (place : ℕ) (p : PendingRead → Bool) (regions : List Region) (reads : List PendingRead) → HaveSinks place regions reads → HaveSinks place regions (filter p reads)
+sinks_kept place p regions [] h = tt
+sinks_kept place p regions (r ∷ reads) h = by (p r) (sinks_kept place p regions reads h.1)
   where
     by : (b : Bool) → HaveSinks place regions (filter p reads) → HaveSinks place regions (cond b (r ∷ filter p reads) (filter p reads))
     by true rest = (h.0, rest)

@@ -9,11 +9,11 @@ use Rattle.nr_wire.specs.declared.stream.Awaited.TheVariants.{Hello as HelloFrom
 use Rattle.nr_wire.specs.Segment.{Segment}
 use Rattle.nr_wire.specs.Stream.{Split, split, IsFrame, IsPartial}
 use Rattle.nr_wire.proofs.Frames.{partial_nil, partial_not_whole}
-use Rattle.nr_wire.proofs.Splits.{split-frame, split-partial}
+use Rattle.nr_wire.proofs.Splits.{split_frame, split_partial}
 use Rattle.nr_link.specs.Output.{own_hello}
-use Rattle.nr_laws.proofs.Brought.{IsWord, encoding-is, hello-is}
+use Rattle.nr_laws.proofs.Brought.{IsWord, encoding_is, hello_is}
 use Rattle.nr_laws.proofs.FrameContents.{FrameContent, numbered_segment, frame_bytes, output_bytes, sends_in, requests_in, total_of}
-use Rattle.nr_laws.proofs.Beyond.{behind}
+use Rattle.nr_laws.proofs.LaterFrames.{behind}
 
 -- ---- Pieces that are frames
 
@@ -33,33 +33,33 @@ abbrev pub frames_at : Side → (sends requests : ℕ) → List FrameContent →
 frames_at side n r [] = []
 frames_at side n r (p ∷ ps) = frame_bytes side (numbered_segment n r p) ∷ frames_at side (n + sends_in p) (r + requests_in p) ps
 
-pub spelled-concat : (side : Side) (n r : ℕ) (ps : List FrameContent) → output_bytes side n r ps ≡ concat (frames_at side n r ps)
-spelled-concat side n r [] = refl
-spelled-concat side n r (p ∷ ps) = ap (λ (xs : List ℕ). frame_bytes side (numbered_segment n r p) ++ xs) (spelled-concat side (n + sends_in p) (r + requests_in p) ps)
+pub spelled_concat : (side : Side) (n r : ℕ) (ps : List FrameContent) → output_bytes side n r ps ≡ concat (frames_at side n r ps)
+spelled_concat side n r [] = refl
+spelled_concat side n r (p ∷ ps) = ap (λ (xs : List ℕ). frame_bytes side (numbered_segment n r p) ++ xs) (spelled_concat side (n + sends_in p) (r + requests_in p) ps)
 
-pub spelled-append : (side : Side) (n r : ℕ) (ps qs : List FrameContent) → output_bytes side n r (ps ++ qs) ≡ output_bytes side n r ps ++ output_bytes side (n + total_of sends_in ps) (r + total_of requests_in ps) qs
-spelled-append side n r [] qs = λ i. output_bytes side (sym (add-zero n) i) (sym (add-zero r) i) qs
-spelled-append side n r (p ∷ ps) qs =
+pub spelled_append : (side : Side) (n r : ℕ) (ps qs : List FrameContent) → output_bytes side n r (ps ++ qs) ≡ output_bytes side n r ps ++ output_bytes side (n + total_of sends_in ps) (r + total_of requests_in ps) qs
+spelled_append side n r [] qs = λ i. output_bytes side (sym (add-zero n) i) (sym (add-zero r) i) qs
+spelled_append side n r (p ∷ ps) qs =
     let front = frame_bytes side (numbered_segment n r p) in
     let more_n : n + sends_in p + total_of sends_in ps ≡ n + (sends_in p + total_of sends_in ps) = omega arith in
     let more_r : r + requests_in p + total_of requests_in ps ≡ r + (requests_in p + total_of requests_in ps) = omega arith in
     ap (λ (xs : List ℕ). front ++ xs)
-    (spelled-append side (n + sends_in p) (r + requests_in p) ps qs
+    (spelled_append side (n + sends_in p) (r + requests_in p) ps qs
     ∙ (λ i. output_bytes side (n + sends_in p) (r + requests_in p) ps ++ output_bytes side (more_n i) (more_r i) qs))
     ∙ sym (append_assoc front (output_bytes side (n + sends_in p) (r + requests_in p) ps) (output_bytes side (n + total_of sends_in (p ∷ ps)) (r + total_of requests_in (p ∷ ps)) qs))
 
-pub frames-append : (side : Side) (n r : ℕ) (ps qs : List FrameContent) → frames_at side n r (ps ++ qs) ≡ frames_at side n r ps ++ frames_at side (n + total_of sends_in ps) (r + total_of requests_in ps) qs
-frames-append side n r [] qs = λ i. frames_at side (sym (add-zero n) i) (sym (add-zero r) i) qs
-frames-append side n r (p ∷ ps) qs =
+pub frames_append : (side : Side) (n r : ℕ) (ps qs : List FrameContent) → frames_at side n r (ps ++ qs) ≡ frames_at side n r ps ++ frames_at side (n + total_of sends_in ps) (r + total_of requests_in ps) qs
+frames_append side n r [] qs = λ i. frames_at side (sym (add-zero n) i) (sym (add-zero r) i) qs
+frames_append side n r (p ∷ ps) qs =
     let more_n : n + sends_in p + total_of sends_in ps ≡ n + (sends_in p + total_of sends_in ps) = omega arith in
     let more_r : r + requests_in p + total_of requests_in ps ≡ r + (requests_in p + total_of requests_in ps) = omega arith in
     ap (λ (xs : List (List ℕ)). frame_bytes side (numbered_segment n r p) ∷ xs)
-    (frames-append side (n + sends_in p) (r + requests_in p) ps qs
+    (frames_append side (n + sends_in p) (r + requests_in p) ps qs
     ∙ (λ i. frames_at side (n + sends_in p) (r + requests_in p) ps ++ frames_at side (more_n i) (more_r i) qs))
 
-pub length-frames : (side : Side) (n r : ℕ) (ps : List FrameContent) → length (frames_at side n r ps) ≡ length ps
-length-frames side n r [] = refl
-length-frames side n r (p ∷ ps) = ap (λ (k : ℕ). suc k) (length-frames side (n + sends_in p) (r + requests_in p) ps)
+pub length_frames : (side : Side) (n r : ℕ) (ps : List FrameContent) → length (frames_at side n r ps) ≡ length ps
+length_frames side n r [] = refl
+length_frames side n r (p ∷ ps) = ap (λ (k : ℕ). suc k) (length_frames side (n + sends_in p) (r + requests_in p) ps)
 
 -- ---- Each is a whole frame
 
@@ -67,11 +67,11 @@ abbrev pub IsOf : Side → Awaited → Type 0
 IsOf side (HelloFrom other) = other ≡ side
 IsOf side Fpdu = Unit {0}
 
-pub proper-frame : (side : Side) (a : Awaited) (s : Option Segment) → IsOf side a → IsWritableAs a s → IsFrame a (frame_bytes side s)
-proper-frame side (HelloFrom other) None is h = subst (λ (x : Side). IsFrame (HelloFrom x) (own_hello side)) (sym is) (hello-is side).is_frame
-proper-frame side (HelloFrom other) (Some segment) is h = absurd h
-proper-frame side Fpdu None is h = absurd h
-proper-frame side Fpdu (Some segment) is h = (encoding-is segment h).is_frame
+pub proper_frame : (side : Side) (a : Awaited) (s : Option Segment) → IsOf side a → IsWritableAs a s → IsFrame a (frame_bytes side s)
+proper_frame side (HelloFrom other) None is h = subst (λ (x : Side). IsFrame (HelloFrom x) (own_hello side)) (sym is) (hello_is side).is_frame
+proper_frame side (HelloFrom other) (Some segment) is h = absurd h
+proper_frame side Fpdu None is h = absurd h
+proper_frame side Fpdu (Some segment) is h = (encoding_is segment h).is_frame
 
 -- ---- The first bytes of frames
 
@@ -96,7 +96,7 @@ short frame more x y lt e =
 pub front : (side : Side) (a : Awaited) (n r : ℕ) (ps : List FrameContent) (x y : List ℕ) → IsOf side a → AreWritableFrom a n r ps → x ++ y ≡ output_bytes side n r ps → FirstFrames side a n r ps x y
 front side a n r [] x y of proper e =
     let none : x ≡ [] = no_bytes x y e in
-    let empty : split a x ≡ record { frames = []; rest = [] } = ap (split a) none ∙ split-partial a [] (partial_not_whole a [] (partial_nil a)) in
+    let empty : split a x ≡ record { frames = []; rest = [] } = ap (split a) none ∙ split_partial a [] (partial_not_whole a [] (partial_nil a)) in
     record {
       came = [];
       left = [];
@@ -111,7 +111,7 @@ front side a n r (p ∷ ps) x y of proper e =
     frame = frame_bytes side (numbered_segment n r p)
 
     is_frame : IsFrame a frame
-    is_frame = proper-frame side a (numbered_segment n r p) of proper.0
+    is_frame = proper_frame side a (numbered_segment n r p) of proper.0
 
     more : List ℕ
     more = output_bytes side (n + sends_in p) (r + requests_in p) ps
@@ -120,7 +120,7 @@ front side a n r (p ∷ ps) x y of proper e =
     by (inl lt) later =
         let whole = short frame more x y lt e in
         let partial : IsPartial a x = record { more = drop (length x) frame; some = omega (arith, length-drop (length x) frame, lt); frame = subst (λ (xs : List ℕ). IsFrame a xs) (sym whole) is_frame } in
-        let none = split-partial a x (partial_not_whole a x partial) in
+        let none = split_partial a x (partial_not_whole a x partial) in
         record {
           came = [];
           left = p ∷ ps;
@@ -131,7 +131,7 @@ front side a n r (p ∷ ps) x y of proper e =
     by (inr le) later =
         let b = behind frame more x y le e in
         let rest = later b.back b.back_is in
-        let is = ap (split a) b.front_is ∙ split-frame a frame b.back is_frame in
+        let is = ap (split a) b.front_is ∙ split_frame a frame b.back is_frame in
         let more_n : n + sends_in p + total_of sends_in rest.came ≡ n + (sends_in p + total_of sends_in rest.came) = omega arith in
         let more_r : r + requests_in p + total_of requests_in rest.came ≡ r + (requests_in p + total_of requests_in rest.came) = omega arith in
         record {

@@ -10,7 +10,7 @@ use Rattle.nr_reduce.specs.declared.mark.LinkParameters.{LinkParameters}
 use Rattle.nr_reduce.specs.declared.outline.Plan.{Plan}
 use Rattle.nr_reduce.specs.History.{AcceptedCall}
 use Rattle.nr_reduce.specs.Matched.{IsPrefixOf}
-use Rattle.nr_reduce.specs.Events.{Event, events}
+use Rattle.nr_reduce.specs.Events.{RunEvent, events}
 use Rattle.nr_reduce.specs.Plans.{TooLarge, Buffer, buffers, regions_needed}
 use Rattle.nr_reduce.specs.ClientState.{ClientState, OutstandingCall, plan_for, is_sent}
 use Rattle.nr_reduce.specs.ClientMessages.{answered_call}
@@ -21,11 +21,11 @@ use Rattle.nr_reduce.specs.Asked.{AskedSoFar, IsAccepted}
 use Rattle.nr_reduce.proofs.Placing.{xids_differ}
 use Rattle.nr_laws.specs.Typed.{IsTyped}
 use Rattle.nr_laws.specs.Payloads.{HasPlan}
-use Rattle.nr_laws.proofs.Along.{GoesOn, goes-first, places_after}
+use Rattle.nr_laws.proofs.EventOutputs.{GoesOn, goes_first, places_after}
 use Rattle.nr_laws.proofs.Memory.{Settled}
-use Rattle.nr_laws.proofs.ClientSays.{ClientGood, accepted_in, accepted-append, asked}
-use Rattle.nr_laws.proofs.ClientRun.{SubmittedCall, client-goes, each-submitted}
-use Rattle.nr_laws.proofs.ClientMemory.{HasBuffers, AllBacked, backed-at, asked-found, keeps-along}
+use Rattle.nr_laws.proofs.ClientSays.{ClientGood, accepted_in, accepted_append, asked}
+use Rattle.nr_laws.proofs.ClientRun.{SubmittedCall, client_goes, each_submitted}
+use Rattle.nr_laws.proofs.ClientMemory.{HasBuffers, AllBacked, backed_at, asked_found, keeps_along}
 use Rattle.nr_laws.proofs.Outcomes.{client_by}
 use Rattle.nr_laws.proofs.Ordered.{Order, order}
 use Rattle.nr_laws.proofs.Ordered.Order.{Behind, Here, Before}
@@ -33,14 +33,14 @@ use Rattle.nr_reduce.proofs.Waiting.{start, stag_behind}
 
 -- ---- Calls that were accepted later
 
-from-append : (k : ClientState) (stag : ℕ) (xs ys : List AcceptedCall) → outstanding_from k stag (xs ++ ys) ≡ outstanding_from k stag xs ++ outstanding_from k (stag_behind k stag xs) ys
-from-append k stag [] ys = refl
-from-append k stag (x ∷ xs) ys = ap (λ (os : List OutstandingCall). outstanding_of (record k { stag = stag }) x ∷ os) (from-append k (stag + regions_needed (outstanding_of (record k { stag = stag }) x).plan) xs ys)
+from_append : (k : ClientState) (stag : ℕ) (xs ys : List AcceptedCall) → outstanding_from k stag (xs ++ ys) ≡ outstanding_from k stag xs ++ outstanding_from k (stag_behind k stag xs) ys
+from_append k stag [] ys = refl
+from_append k stag (x ∷ xs) ys = ap (λ (os : List OutstandingCall). outstanding_of (record k { stag = stag }) x ∷ os) (from_append k (stag + regions_needed (outstanding_of (record k { stag = stag }) x).plan) xs ys)
 
-asked-append : (opened : LinkParameters) (es more : List Event) → (rest : List OutstandingCall) × (asked opened (es ++ more) ≡ asked opened es ++ rest)
-asked-append opened es more = (
+asked_append : (opened : LinkParameters) (es more : List RunEvent) → (rest : List OutstandingCall) × (asked opened (es ++ more) ≡ asked opened es ++ rest)
+asked_append opened es more = (
   outstanding_from (start opened) (stag_behind (start opened) opened.first_stag (accepted_in es)) (accepted_in more),
-  ap (λ (xs : List AcceptedCall). outstanding_from (start opened) opened.first_stag xs) (accepted-append es more) ∙ from-append (start opened) opened.first_stag (accepted_in es) (accepted_in more),
+  ap (λ (xs : List AcceptedCall). outstanding_from (start opened) opened.first_stag xs) (accepted_append es more) ∙ from_append (start opened) opened.first_stag (accepted_in es) (accepted_in more),
 )
 
 -- ---- The call that is answered
@@ -55,23 +55,23 @@ pub record AnsweredSubmit (opened : LinkParameters) (link : ℕ) (run : List Mar
   pub own_stag : o.stag ≡ (client opened link submit.earlier).state.stag
 
 -- with its regions, and the accesses of them so far
-pub record AnsweredCall (opened : LinkParameters) (link : ℕ) (run : List Mark) (es : List Event) (o : OutstandingCall) : Type 0 where
+pub record AnsweredCall (opened : LinkParameters) (link : ℕ) (run : List Mark) (es : List RunEvent) (o : OutstandingCall) : Type 0 where
   pub submit : AnsweredSubmit opened link run o
   pub backed : HasBuffers (client_by opened es).state.regions (buffers o.stag o.plan)
   pub settled : Settled (places_after 0 es) (client_by opened es).state.regions (client_by opened es).state.accesses_received
 
-pub answered-submit : (opened : LinkParameters) (link : ℕ) (run : List Mark) → IsTyped run → AskedSoFar opened link run → (es more : List Event) → events link Initiator run ≡ es ++ more
+pub answered_submit : (opened : LinkParameters) (link : ℕ) (run : List Mark) → IsTyped run → AskedSoFar opened link run → (es more : List RunEvent) → events link Initiator run ≡ es ++ more
     → (xid : ℕ) (o : OutstandingCall) → answered_call (client_by opened es).state xid ≡ Some o → AnsweredCall opened link run es o
-answered-submit opened link run typed asked_so es more is xid o found =
-    let g = client-goes opened link run typed asked_so in
+answered_submit opened link run typed asked_so es more is xid o found =
+    let g = client_goes opened link run typed asked_so in
     let goes : GoesOn (client_rules opened) (ClientGood opened) 0 (initial_client opened) es =
-    goes-first (client_rules opened) (ClientGood opened) 0 (initial_client opened) es more (subst (λ (xs : List Event). GoesOn (client_rules opened) (ClientGood opened) 0 (initial_client opened) xs) is g.goes) in
-    let k = keeps-along opened es goes in
-    let a = asked-found opened es (λ (x : OutstandingCall). eqb x.xid xid && is_sent (client_by opened es).state x) (client_by opened es).state.outstanding o k.keeps.owns found in
-    let later = asked-append opened es more in
+    goes_first (client_rules opened) (ClientGood opened) 0 (initial_client opened) es more (subst (λ (xs : List RunEvent). GoesOn (client_rules opened) (ClientGood opened) 0 (initial_client opened) xs) is g.goes) in
+    let k = keeps_along opened es goes in
+    let a = asked_found opened es (λ (x : OutstandingCall). eqb x.xid xid && is_sent (client_by opened es).state x) (client_by opened es).state.outstanding o k.keeps.owns found in
+    let later = asked_append opened es more in
     let whole : asked opened (events link Initiator run) ≡ a.front ++ a.own ∷ (a.back ++ later.0) =
-    ap (λ (xs : List Event). asked opened xs) is ∙ later.1 ∙ ap (λ (os : List OutstandingCall). os ++ later.0) a.is ∙ append_assoc a.front (a.own ∷ a.back) later.0 in
-    let w = each-submitted opened link run typed asked_so a.front a.own (a.back ++ later.0) whole in
+    ap (λ (xs : List RunEvent). asked opened xs) is ∙ later.1 ∙ ap (λ (os : List OutstandingCall). os ++ later.0) a.is ∙ append_assoc a.front (a.own ∷ a.back) later.0 in
+    let w = each_submitted opened link run typed asked_so a.front a.own (a.back ++ later.0) whole in
     record {
       submit = record {
         index = length a.front;
@@ -82,7 +82,7 @@ answered-submit opened link run typed asked_so es more is xid o found =
         own_plan = a.own_plan ∙ w.own_plan;
         own_stag = a.own_stag ∙ w.own_stag;
       };
-      backed = (let h = backed-at (client_by opened es).state.regions a.front a.own a.back (subst (λ (os : List OutstandingCall). AllBacked (client_by opened es).state.regions os) a.is k.keeps.backed) in
+      backed = (let h = backed_at (client_by opened es).state.regions a.front a.own a.back (subst (λ (os : List OutstandingCall). AllBacked (client_by opened es).state.regions os) a.is k.keeps.backed) in
           subst (λ (bs : List Buffer). HasBuffers (client_by opened es).state.regions bs) (λ i. buffers (sym a.own_stag i) (sym a.own_plan i)) h);
       settled = k.keeps.settled;
     }
@@ -93,10 +93,10 @@ pub record SameSubmit (early late : List Mark) (one two : Mark) : Type 0 where
   pub place : early ≡ late
   pub mark : one ≡ two
 
-pub same-submit : (opened : LinkParameters) (link : ℕ) (run early late rest others : List Mark) (call other : Call) (form way : Form) (xid yid : ℕ) → AskedSoFar opened link run → xid ≡ yid
+pub same_submit : (opened : LinkParameters) (link : ℕ) (run early late rest others : List Mark) (call other : Call) (form way : Form) (xid yid : ℕ) → AskedSoFar opened link run → xid ≡ yid
     → run ≡ early ++ marks.Submit link call form (submissions.Accepted xid) ∷ rest → run ≡ late ++ marks.Submit link other way (submissions.Accepted yid) ∷ others
     → SameSubmit early late (marks.Submit link call form (submissions.Accepted xid)) (marks.Submit link other way (submissions.Accepted yid))
-same-submit opened link run early late rest others call other form way xid yid asked_so same here again = by (order early one rest late two others (sym here ∙ again))
+same_submit opened link run early late rest others call other form way xid yid asked_so same here again = by (order early one rest late two others (sym here ∙ again))
   where
     one : Mark
     one = marks.Submit link call form (submissions.Accepted xid)
@@ -109,8 +109,8 @@ same-submit opened link run early late rest others call other form way xid yid a
     by (Behind gap e then) = absurd (let lt = xids_differ IsPrefixOf opened link run early gap others call other form way xid yid (here ∙ ap (λ (t : List Mark). early ++ one ∷ t) then) asked_so in omega (arith, lt, same))
     by (Before gap e then) = absurd (let lt = xids_differ IsPrefixOf opened link run late gap rest other call way form yid xid (again ∙ ap (λ (t : List Mark). late ++ two ∷ t) then) asked_so in omega (arith, lt, same))
 
-pub plan-is : (p q : Plan) (r : Result Plan TooLarge) → r ≡ Ok p → r ≡ Ok q → p ≡ q
-plan-is p q r e f = (let s : Ok p ≡ Ok q = sym e ∙ f in cc)
+pub plan_is_lem : (p q : Plan) (r : Result Plan TooLarge) → r ≡ Ok p → r ≡ Ok q → p ≡ q
+plan_is_lem p q r e f = (let s : Ok p ≡ Ok q = sym e ∙ f in cc)
 
 -- an accepted call of this xid is the one with the plan
 pub record OwnSubmit (early late : List Mark) (call other : Call) (own plan : Plan) : Type 0 where
@@ -118,19 +118,19 @@ pub record OwnSubmit (early late : List Mark) (call other : Call) (own plan : Pl
   pub call_is : call ≡ other
   pub plan_is : own ≡ plan
 
-pub own-submit : (opened : LinkParameters) (link : ℕ) (run before : List Mark) (mark : Mark) (after : List Mark) (xid : ℕ) (plan : Plan) → AskedSoFar opened link run → run ≡ before ++ mark ∷ after
+pub own_submit : (opened : LinkParameters) (link : ℕ) (run before : List Mark) (mark : Mark) (after : List Mark) (xid : ℕ) (plan : Plan) → AskedSoFar opened link run → run ≡ before ++ mark ∷ after
     → (h : HasPlan opened link run xid plan) → (early later : List Mark) (call : Call) (form : Form) (yid : ℕ) → before ≡ early ++ marks.Submit link call form (submissions.Accepted yid) ∷ later
     → (a : IsAccepted opened link early call form yid) → yid ≡ xid → OwnSubmit early h.before call h.call a.plan plan
-own-submit opened link run before mark after xid plan asked_so is h early later call form yid there a same =
+own_submit opened link run before mark after xid plan asked_so is h early later call form yid there a same =
     let whole : run ≡ early ++ marks.Submit link call form (submissions.Accepted yid) ∷ (later ++ mark ∷ after) =
     is ∙ ap (λ (b : List Mark). b ++ mark ∷ after) there ∙ append_assoc early (marks.Submit link call form (submissions.Accepted yid) ∷ later) (mark ∷ after) in
-    let s = same-submit opened link run early h.before (later ++ mark ∷ after) h.at.after call h.call form h.form yid xid asked_so same whole h.at.is in
+    let s = same_submit opened link run early h.before (later ++ mark ∷ after) h.at.after call h.call form h.form yid xid asked_so same whole h.at.is in
     let m = s.mark in
     let calls : call ≡ h.call = cc in
     let forms : form ≡ h.form = cc in
     record {
       place = s.place;
       call_is = calls;
-      plan_is = plan-is a.plan plan (plan_for (client opened link h.before).state xid h.call h.form)
+      plan_is = plan_is_lem a.plan plan (plan_for (client opened link h.before).state xid h.call h.form)
           ((λ i. plan_for (client opened link (sym s.place i)).state (sym same i) (sym calls i) (sym forms i)) ∙ a.planned) h.planned;
     }

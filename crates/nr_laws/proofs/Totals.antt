@@ -6,17 +6,17 @@ use Rattle.std.proofs.lemmas.Bool.{ne_eqb, eqb-true}
 use Rattle.nr_laws.proofs.FrameContents.{FrameContent, total_of}
 use Rattle.nr_laws.proofs.LinkInvariants.{IsUnused, AreDistinct}
 
-pub total-append : (one : FrameContent → ℕ) (xs ys : List FrameContent) → total_of one (xs ++ ys) ≡ total_of one xs + total_of one ys
-total-append one [] ys = omega arith
-total-append one (x ∷ xs) ys = omega (arith, total-append one xs ys)
+pub total_append : (one : FrameContent → ℕ) (xs ys : List FrameContent) → total_of one (xs ++ ys) ≡ total_of one xs + total_of one ys
+total_append one [] ys = omega arith
+total_append one (x ∷ xs) ys = omega (arith, total_append one xs ys)
 
-pub total-map-zero : {X : Type 0} (one : FrameContent → ℕ) (f : X → FrameContent) (xs : List X) → ((x : X) → one (f x) ≡ 0) → total_of one (map f xs) ≡ 0
-total-map-zero one f [] h = refl
-total-map-zero one f (x ∷ xs) h = omega (arith, h x, total-map-zero one f xs h)
+pub total_map_zero : {X : Type 0} (one : FrameContent → ℕ) (f : X → FrameContent) (xs : List X) → ((x : X) → one (f x) ≡ 0) → total_of one (map f xs) ≡ 0
+total_map_zero one f [] h = refl
+total_map_zero one f (x ∷ xs) h = omega (arith, h x, total_map_zero one f xs h)
 
-pub total-map-one : {X : Type 0} (one : FrameContent → ℕ) (f : X → FrameContent) (xs : List X) → ((x : X) → one (f x) ≡ 1) → total_of one (map f xs) ≡ length xs
-total-map-one one f [] h = refl
-total-map-one one f (x ∷ xs) h = omega (arith, h x, total-map-one one f xs h)
+pub total_map_one : {X : Type 0} (one : FrameContent → ℕ) (f : X → FrameContent) (xs : List X) → ((x : X) → one (f x) ≡ 1) → total_of one (map f xs) ≡ length xs
+total_map_one one f [] h = refl
+total_map_one one f (x ∷ xs) h = omega (arith, h x, total_map_one one f xs h)
 
 -- ---- keys
 
@@ -26,11 +26,11 @@ has_key key n x = eqb (key x) n
 abbrev pub others : {X : Type 0} → (X → ℕ) → ℕ → List X → List X
 others key n xs = filter (λ x. not (eqb (key x) n)) xs
 
-pub length-absent : {X : Type 0} (key : X → ℕ) (n : ℕ) (xs : List X) → IsUnused key n xs → length (others key n xs) ≡ length xs
-length-absent key n [] h = refl
-length-absent key n (x ∷ xs) h =
+pub length_absent : {X : Type 0} (key : X → ℕ) (n : ℕ) (xs : List X) → IsUnused key n xs → length (others key n xs) ≡ length xs
+length_absent key n [] h = refl
+length_absent key n (x ∷ xs) h =
     ap (λ (b : Bool). length (cond (not b) (x ∷ others key n xs) (others key n xs))) (ne_eqb (key x) n h.0)
-    ∙ ap (λ (k : ℕ). suc k) (length-absent key n xs h.1)
+    ∙ ap (λ (k : ℕ). suc k) (length_absent key n xs h.1)
 
 absent_at : {X : Type 0} (key : X → ℕ) (n m : ℕ) (xs : List X) → m ≡ n → IsUnused key m xs → IsUnused key n xs
 absent_at key n m xs e h = subst (λ (k : ℕ). IsUnused key k xs) e h
@@ -42,7 +42,7 @@ fewer_by : {X : Type 0} (key : X → ℕ) (n : ℕ) (x : X) (xs : List X) (b : B
 fewer_by key n x xs true e apart any more =
     let here : key x ≡ n = eqb-true (key x) n e in
     ap (λ (b : Bool). length (cond (not b) (x ∷ others key n xs) (others key n xs)) + 1) e
-    ∙ ap (λ (k : ℕ). k + 1) (length-absent key n xs (absent_at key n (key x) xs here apart.0))
+    ∙ ap (λ (k : ℕ). k + 1) (length_absent key n xs (absent_at key n (key x) xs here apart.0))
     ∙ omega arith
 fewer_by key n x xs false e apart any more =
     let rest = more any in
@@ -50,10 +50,10 @@ fewer_by key n x xs false e apart any more =
     ∙ omega (arith, rest)
 
 -- one of some that are apart has the key, so one is left out
-pub length-fewer : {X : Type 0} (key : X → ℕ) (n : ℕ) (xs : List X) → AreDistinct key xs → list_any (has_key key n) xs ≡ true → length (others key n xs) + 1 ≡ length xs
-length-fewer key n [] apart any = absurd cc
-length-fewer key n (x ∷ xs) apart any =
-    fewer_by key n x xs (eqb (key x) n) refl apart any (λ rest. length-fewer key n xs apart.1 rest)
+pub length_fewer : {X : Type 0} (key : X → ℕ) (n : ℕ) (xs : List X) → AreDistinct key xs → list_any (has_key key n) xs ≡ true → length (others key n xs) + 1 ≡ length xs
+length_fewer key n [] apart any = absurd cc
+length_fewer key n (x ∷ xs) apart any =
+    fewer_by key n x xs (eqb (key x) n) refl apart any (λ rest. length_fewer key n xs apart.1 rest)
 
 kept_if : {X : Type 0} (P : List X → Type 0) (x : X) (xs : List X) (b : Bool) → P (x ∷ xs) → P xs → P (cond b (x ∷ xs) xs)
 kept_if P x xs true one none = one
@@ -97,5 +97,5 @@ any_first p q [] e = absurd cc
 any_first p q (x ∷ xs) e = any_weaker_by (p x) true (q x) _ _ e (λ rest. any_first p q xs rest)
 
 -- what is dropped of what is taken
-pub length-newly : {X : Type 0} (n kept : ℕ) (xs : List X) → kept ≤ length (take n xs) → kept + length (drop kept (take n xs)) ≡ length (take n xs)
-length-newly n kept xs le = omega (arith, length-drop kept (take n xs), le)
+pub length_newly : {X : Type 0} (n kept : ℕ) (xs : List X) → kept ≤ length (take n xs) → kept + length (drop kept (take n xs)) ≡ length (take n xs)
+length_newly n kept xs le = omega (arith, length-drop kept (take n xs), le)

@@ -20,79 +20,79 @@ use Rattle.nr_link.specs.Frames.{Frame, is_hello}
 use Rattle.nr_link.specs.ReceiveState.{read_request_in, begun_bytes}
 use Rattle.nr_link.specs.Ending.{frame_segment, frame_end, hello_end}
 use Rattle.nr_reduce.specs.OfferedRegions.{region_grants}
-use Rattle.nr_reduce.specs.Events.Event.{FrameReceived, CallSubmitted, QueueWritten}
-use Rattle.nr_reduce.specs.ClientState.{ClientState, OutstandingCall, is_sent, memory_at, initial_state as client_initial_state}
-use Rattle.nr_reduce.specs.ClientMessages.{verdict, by_header, by_call, answered_call}
-use Rattle.nr_reduce.specs.Client.{end_of_verdict, message_end, or_message_end, segment_message, readiness, client_end, client_state_after, with_segment, outstanding_of, segment_request, with_hello, call_output, call_ends, submitted_ends, response_output}
+use Rattle.nr_reduce.specs.Events.RunEvent.{FrameReceived, CallSubmitted, QueueWritten}
+use Rattle.nr_reduce.specs.ClientState.{ClientState, OutstandingCall, is_sent, client_memory_at, initial_client_state as client_initial_state}
+use Rattle.nr_reduce.specs.ClientMessages.{reply_verdict, reply_by_header, by_call, answered_call}
+use Rattle.nr_reduce.specs.Client.{end_of_verdict, client_message_end, or_message_end, segment_message, client_readiness, client_end, client_state_after, with_segment, outstanding_of, segment_request, with_hello, call_output, call_ends, submitted_ends, response_output}
 use Rattle.nr_reduce.specs.ServerState.{ServerState, initial_state as server_initial_state}
 use Rattle.nr_laws.proofs.FrameContents.{FrameContent, Carries, total_of, sends_in, requests_in, responses_in, hellos_in, one_if_response, tagged_frame, tagged_frames, response_frames, call_frame, client_frames}
 use Rattle.nr_laws.proofs.FrameContents.FrameContent.{HelloFrame, SendFrame, RequestFrame, TaggedFrame}
 use Rattle.nr_laws.proofs.LinkInvariants.{Transit, TotalsAgree, AreDistinct, calls_sent, hello_bit}
-use Rattle.nr_laws.proofs.Totals.{total-append, total-map-zero, total-map-one, length-fewer, any_found, any_first}
-use Rattle.nr_laws.proofs.TotalsAtServer.{segment-is}
-use Rattle.nr_laws.proofs.HeaderXid.{header-xid}
+use Rattle.nr_laws.proofs.Totals.{total_append, total_map_zero, total_map_one, length_fewer, any_found, any_first}
+use Rattle.nr_laws.proofs.TotalsAtServer.{segment_is}
+use Rattle.nr_laws.proofs.HeaderXid.{header_xid}
 use Rattle.nr_reduce.specs.Plans.{call_message}
 use Rattle.nr_reduce.specs.Written.{ends_waiting}
-use Rattle.nr_reduce.proofs.WholeWrotes.{ClientEnds, none-waiting}
-use Rattle.nr_laws.proofs.EndsWaiting.{waiting-append, all-waiting, one-waiting, calls-above, calls-length, send-some, output-some}
-use Rattle.nr_reduce.proofs.Waiting.{or-message}
+use Rattle.nr_reduce.proofs.WholeWrotes.{ClientEnds, none_waiting}
+use Rattle.nr_laws.proofs.EndsWaiting.{waiting_append, all_waiting_lem, one_waiting, calls_above, calls_length, send_some, output_some}
+use Rattle.nr_reduce.proofs.Waiting.{or_message}
 
 -- ---- A message that the client takes is under the xid of a call that is out
 
 abbrev has_xid : ℕ → OutstandingCall → Bool
 has_xid xid o = eqb o.xid xid
 
-out-found : (k : ClientState) (f : Frame) (message : List ℕ) (h : Header) (o : Option OutstandingCall) → answered_call k h.xid ≡ o → end_of_verdict f (by_call k f.end message h.body o) ≡ None → list_any (has_xid h.xid) k.outstanding ≡ true
-out-found k f message h None is e = absurd cc
-out-found k f message h (Some o) is e =
+out_found : (k : ClientState) (f : Frame) (message : List ℕ) (h : Header) (o : Option OutstandingCall) → answered_call k h.xid ≡ o → end_of_verdict f (by_call k f.end message h.body o) ≡ None → list_any (has_xid h.xid) k.outstanding ≡ true
+out_found k f message h None is e = absurd cc
+out_found k f message h (Some o) is e =
     any_first (has_xid h.xid) (λ (x : OutstandingCall). is_sent k x) k.outstanding (any_found (λ (x : OutstandingCall). eqb x.xid h.xid && is_sent k x) k.outstanding o is)
 
-out-header : (k : ClientState) (f : Frame) (message : List ℕ) (r : Result Header HeaderFault) → header_of message ≡ r → end_of_verdict f (by_header k f.end message r) ≡ None → list_any (has_xid (word_at 0 message)) k.outstanding ≡ true
-out-header k f message (Ok h) is e =
-    subst (λ (n : ℕ). list_any (has_xid n) k.outstanding ≡ true) (header-xid message h is) (out-found k f message h (answered_call k h.xid) refl e)
-out-header k f message (Err faults.Short) is e = absurd cc
-out-header k f message (Err (faults.Version version)) is e = absurd cc
-out-header k f message (Err (faults.Kind kind)) is e = absurd cc
-out-header k f message (Err (faults.BadChunks at)) is e = absurd cc
+out_header : (k : ClientState) (f : Frame) (message : List ℕ) (r : Result Header HeaderFault) → header_of message ≡ r → end_of_verdict f (reply_by_header k f.end message r) ≡ None → list_any (has_xid (word_at 0 message)) k.outstanding ≡ true
+out_header k f message (Ok h) is e =
+    subst (λ (n : ℕ). list_any (has_xid n) k.outstanding ≡ true) (header_xid message h is) (out_found k f message h (answered_call k h.xid) refl e)
+out_header k f message (Err faults.Short) is e = absurd cc
+out_header k f message (Err (faults.Version version)) is e = absurd cc
+out_header k f message (Err (faults.Kind kind)) is e = absurd cc
+out_header k f message (Err (faults.BadChunks at)) is e = absurd cc
 
-pub out-there : (k : ClientState) (f : Frame) (message : List ℕ) → end_of_verdict f (verdict k f.end message) ≡ None → list_any (has_xid (word_at 0 message)) k.outstanding ≡ true
-unfolding verdict
-out-there k f message e = out-header k f message (header_of message) refl e
+pub out_there : (k : ClientState) (f : Frame) (message : List ℕ) → end_of_verdict f (reply_verdict k f.end message) ≡ None → list_any (has_xid (word_at 0 message)) k.outstanding ≡ true
+unfolding reply_verdict
+out_there k f message e = out_header k f message (header_of message) refl e
 
-pub taken : (k : ClientState) (f : Frame) → is_hello f ≡ false → client_end k (FrameReceived f) ≡ None → message_end k f (segment_message k (frame_segment f)) ≡ None
+pub taken : (k : ClientState) (f : Frame) → is_hello f ≡ false → client_end k (FrameReceived f) ≡ None → client_message_end k f (segment_message k (frame_segment f)) ≡ None
 unfolding client_end
 taken k f behind e =
-    or-message k f (frame_end (readiness k) (region_grants f.end k.regions) f)
-    ((λ i. cond (sym behind i) (hello_end (hello_of Responder f.bytes)) (or_message_end k f (frame_end (readiness k) (region_grants f.end k.regions) f))) ∙ e)
+    or_message k f (frame_end (client_readiness k) (region_grants f.end k.regions) f)
+    ((λ i. cond (sym behind i) (hello_end (hello_of Responder f.bytes)) (or_message_end k f (frame_end (client_readiness k) (region_grants f.end k.regions) f))) ∙ e)
 
 -- ---- The client receives a message
 
-pub after-is : (opened : LinkParameters) (k : ClientState) (f : Frame) (r : Result Segment ℕ) → is_hello f ≡ false → frame_segment f ≡ r → client_state_after opened k (FrameReceived f) ≡ with_segment k f r
+pub after_is_lem : (opened : LinkParameters) (k : ClientState) (f : Frame) (r : Result Segment ℕ) → is_hello f ≡ false → frame_segment f ≡ r → client_state_after opened k (FrameReceived f) ≡ with_segment k f r
 unfolding client_state_after
-after-is opened k f r behind is = λ i. cond (behind i) (with_hello opened k) (with_segment k f (is i))
+after_is_lem opened k f r behind is = λ i. cond (behind i) (with_hello opened k) (with_segment k f (is i))
 
-pub says-is : (opened : LinkParameters) (k : ClientState) (f : Frame) (r : Result Segment ℕ) → is_hello f ≡ false → frame_segment f ≡ r → client_frames opened k (FrameReceived f) ≡ response_frames k f.end (segment_request r)
+pub says_is : (opened : LinkParameters) (k : ClientState) (f : Frame) (r : Result Segment ℕ) → is_hello f ≡ false → frame_segment f ≡ r → client_frames opened k (FrameReceived f) ≡ response_frames k f.end (segment_request r)
 unfolding client_frames
-says-is opened k f r behind is = λ i. cond (behind i) (map (call_frame opened) k.outstanding) (response_frames k f.end (segment_request (is i)))
+says_is opened k f r behind is = λ i. cond (behind i) (map (call_frame opened) k.outstanding) (response_frames k f.end (segment_request (is i)))
 
 abbrev pub down_one : Transit → List FrameContent → List FrameContent → Transit
 down_one w said rest = record { queued_up = w.queued_up ++ said; up = w.up; queued_down = w.queued_down; down = rest }
 
-pub totals-send_down : (opened : LinkParameters) (k : ClientState) (s : ServerState) (w : Transit) (f : Frame) (message : List ℕ) (rest : List FrameContent) → TotalsAgree k s w → w.down ≡ SendFrame message ∷ rest
+pub totals_send_down : (opened : LinkParameters) (k : ClientState) (s : ServerState) (w : Transit) (f : Frame) (message : List ℕ) (rest : List FrameContent) → TotalsAgree k s w → w.down ≡ SendFrame message ∷ rest
     → Carries k.received.sends k.received.requests f (SendFrame message) → client_end k (FrameReceived f) ≡ None → AreDistinct (λ (o : OutstandingCall). o.xid) k.outstanding
     → TotalsAgree (client_state_after opened k (FrameReceived f)) s (down_one w (client_frames opened k (FrameReceived f)) rest)
-totals-send_down opened k s w f message rest c first p stays apart =
+totals_send_down opened k s w f message rest c first p stays apart =
     let segment : Segment = Untagged true OPCODE_SEND 0 QUEUE_SEND (msn_word (k.received.sends + 1)) 0 message in
-    let is : frame_segment f ≡ Ok segment = segment-is k.received.sends k.received.requests f (SendFrame message) segment p refl in
+    let is : frame_segment f ≡ Ok segment = segment_is k.received.sends k.received.requests f (SendFrame message) segment p refl in
     let whole : List ℕ = begun_bytes k.received.begun ++ message in
     let whole_is : whole ≡ message = ap (λ (b : Option (List ℕ)). begun_bytes b ++ message) c.whole_down in
-    let unended : end_of_verdict f (verdict k f.end whole) ≡ None = ap (λ (r : Result Segment ℕ). message_end k f (segment_message k r)) (sym is) ∙ taken k f p.behind stays in
-    let fewer = length-fewer (λ (o : OutstandingCall). o.xid) (word_at 0 whole) k.outstanding apart (out-there k f whole unended) in
+    let unended : end_of_verdict f (reply_verdict k f.end whole) ≡ None = ap (λ (r : Result Segment ℕ). client_message_end k f (segment_message k r)) (sym is) ∙ taken k f p.behind stays in
+    let fewer = length_fewer (λ (o : OutstandingCall). o.xid) (word_at 0 whole) k.outstanding apart (out_there k f whole unended) in
     let m : TotalsAgree (with_segment k f (Ok segment)) s (down_one w [] rest) = record {
-      hello = omega (arith, c.hello, ap (total_of hellos_in) first, total-append hellos_in w.queued_up []);
-      calls_up = omega (arith, c.calls_up, total-append sends_in w.queued_up []);
+      hello = omega (arith, c.hello, ap (total_of hellos_in) first, total_append hellos_in w.queued_up []);
+      calls_up = omega (arith, c.calls_up, total_append sends_in w.queued_up []);
       messages_down = omega (arith, c.messages_down, ap (total_of sends_in) first);
-      sends = omega (arith, c.sends, total-append sends_in w.queued_up []);
+      sends = omega (arith, c.sends, total_append sends_in w.queued_up []);
       messages = c.messages;
       all_sends = c.all_sends;
       within_up = c.within_up;
@@ -101,11 +101,11 @@ totals-send_down opened k s w f message rest c first p stays apart =
       waiting = c.waiting;
       whole_up = c.whole_up;
       whole_down = refl;
-      reads = omega (arith, c.reads, ap (total_of requests_in) first, total-append responses_in w.queued_up []);
-      responses = omega (arith, c.responses, total-append responses_in w.queued_up []);
+      reads = omega (arith, c.reads, ap (total_of requests_in) first, total_append responses_in w.queued_up []);
+      responses = omega (arith, c.responses, total_append responses_in w.queued_up []);
     } in
-    subst (λ (said : List FrameContent). TotalsAgree (client_state_after opened k (FrameReceived f)) s (down_one w said rest)) (sym (says-is opened k f (Ok segment) p.behind is))
-    (subst (λ (t : ClientState). TotalsAgree t s (down_one w [] rest)) (sym (after-is opened k f (Ok segment) p.behind is)) m)
+    subst (λ (said : List FrameContent). TotalsAgree (client_state_after opened k (FrameReceived f)) s (down_one w said rest)) (sym (says_is opened k f (Ok segment) p.behind is))
+    (subst (λ (t : ClientState). TotalsAgree t s (down_one w [] rest)) (sym (after_is_lem opened k f (Ok segment) p.behind is)) m)
 
 -- ---- The client receives a Read Request
 
@@ -121,36 +121,36 @@ one_last opcode stag to total bytes (suc n) a e =
 some_pieces : (bytes : List ℕ) → (n : ℕ) × (segment_count bytes ≡ suc n)
 some_pieces bytes = (segment_count bytes - 1, omega arith)
 
-pub responses-one : (stag to : ℕ) (bytes : List ℕ) → total_of responses_in (tagged_frames OPCODE_READ_RESPONSE stag to bytes) ≡ 1
+pub responses_one : (stag to : ℕ) (bytes : List ℕ) → total_of responses_in (tagged_frames OPCODE_READ_RESPONSE stag to bytes) ≡ 1
 unfolding tagged_frames
-responses-one stag to bytes =
+responses_one stag to bytes =
     let n = some_pieces bytes in
     ap (λ (k : ℕ). total_of responses_in (map (tagged_frame OPCODE_READ_RESPONSE stag to bytes) (range_with_len 0 k))) n.1
     ∙ one_last OPCODE_READ_RESPONSE stag to (segment_count bytes) (segment_payload bytes) n.0 0 (omega (arith, n.1))
 
-pub tagged-none : (one : FrameContent → ℕ) (opcode stag to : ℕ) (bytes : List ℕ) → ((last : Bool) (at : ℕ) (payload : List ℕ) → one (TaggedFrame last opcode stag at payload) ≡ 0) → total_of one (tagged_frames opcode stag to bytes) ≡ 0
+pub tagged_none : (one : FrameContent → ℕ) (opcode stag to : ℕ) (bytes : List ℕ) → ((last : Bool) (at : ℕ) (payload : List ℕ) → one (TaggedFrame last opcode stag at payload) ≡ 0) → total_of one (tagged_frames opcode stag to bytes) ≡ 0
 unfolding tagged_frames
-tagged-none one opcode stag to bytes none = total-map-zero one (tagged_frame opcode stag to bytes) (range_with_len 0 (segment_count bytes)) (λ i. none _ _ _)
+tagged_none one opcode stag to bytes none = total_map_zero one (tagged_frame opcode stag to bytes) (range_with_len 0 (segment_count bytes)) (λ i. none _ _ _)
 
 abbrev pub request_payload : (sink at size stag to : ℕ) → List ℕ
 request_payload sink at size stag to = word sink ++ (hyper at ++ (word size ++ (word stag ++ hyper to)))
 
-pub totals-read_down : (opened : LinkParameters) (k : ClientState) (s : ServerState) (w : Transit) (f : Frame) (sink at size stag to : ℕ) (rest : List FrameContent) → TotalsAgree k s w → w.down ≡ RequestFrame sink at size stag to ∷ rest
+pub totals_read_down : (opened : LinkParameters) (k : ClientState) (s : ServerState) (w : Transit) (f : Frame) (sink at size stag to : ℕ) (rest : List FrameContent) → TotalsAgree k s w → w.down ≡ RequestFrame sink at size stag to ∷ rest
     → Carries k.received.sends k.received.requests f (RequestFrame sink at size stag to)
     → TotalsAgree (client_state_after opened k (FrameReceived f)) s (down_one w (client_frames opened k (FrameReceived f)) rest)
-totals-read_down opened k s w f sink at size stag to rest c first p =
+totals_read_down opened k s w f sink at size stag to rest c first p =
     let segment : Segment = Untagged true OPCODE_READ_REQUEST 0 QUEUE_READ_REQUEST (msn_word (k.received.requests + 1)) 0 (request_payload sink at size stag to) in
-    let is : frame_segment f ≡ Ok segment = segment-is k.received.sends k.received.requests f (RequestFrame sink at size stag to) segment p refl in
+    let is : frame_segment f ≡ Ok segment = segment_is k.received.sends k.received.requests f (RequestFrame sink at size stag to) segment p refl in
     let r = read_request_in (request_payload sink at size stag to) in
-    let bytes = take r.size (drop r.to (memory_at k f.end r.stag)) in
+    let bytes = take r.size (drop r.to (client_memory_at k f.end r.stag)) in
     let said = tagged_frames OPCODE_READ_RESPONSE r.sink r.sink_to bytes in
-    let one = responses-one r.sink r.sink_to bytes in
+    let one = responses_one r.sink r.sink_to bytes in
     let end : ℕ = k.due + length (response_output k f.end (Some r)) in
     let m : TotalsAgree (with_segment k f (Ok segment)) s (down_one w said rest) = record {
-      hello = omega (arith, c.hello, ap (total_of hellos_in) first, total-append hellos_in w.queued_up said, tagged-none hellos_in OPCODE_READ_RESPONSE r.sink r.sink_to bytes (λ last a b. refl));
-      calls_up = omega (arith, c.calls_up, total-append sends_in w.queued_up said, tagged-none sends_in OPCODE_READ_RESPONSE r.sink r.sink_to bytes (λ last a b. refl));
+      hello = omega (arith, c.hello, ap (total_of hellos_in) first, total_append hellos_in w.queued_up said, tagged_none hellos_in OPCODE_READ_RESPONSE r.sink r.sink_to bytes (λ last a b. refl));
+      calls_up = omega (arith, c.calls_up, total_append sends_in w.queued_up said, tagged_none sends_in OPCODE_READ_RESPONSE r.sink r.sink_to bytes (λ last a b. refl));
       messages_down = omega (arith, c.messages_down, ap (total_of sends_in) first);
-      sends = omega (arith, c.sends, total-append sends_in w.queued_up said, tagged-none sends_in OPCODE_READ_RESPONSE r.sink r.sink_to bytes (λ last a b. refl));
+      sends = omega (arith, c.sends, total_append sends_in w.queued_up said, tagged_none sends_in OPCODE_READ_RESPONSE r.sink r.sink_to bytes (λ last a b. refl));
       messages = c.messages;
       all_sends = c.all_sends;
       within_up = omega (arith, c.within_up);
@@ -159,25 +159,25 @@ totals-read_down opened k s w f sink at size stag to rest c first p =
       waiting = c.waiting;
       whole_up = c.whole_up;
       whole_down = c.whole_down;
-      reads = omega (arith, c.reads, ap (total_of requests_in) first, total-append responses_in w.queued_up said, one);
-      responses = omega (arith, c.responses, total-append responses_in w.queued_up said, one, waiting-append k.written k.response_ends (end ∷ []), one-waiting k.written end (omega (arith, c.within_up, output-some k f.end r)));
+      reads = omega (arith, c.reads, ap (total_of requests_in) first, total_append responses_in w.queued_up said, one);
+      responses = omega (arith, c.responses, total_append responses_in w.queued_up said, one, waiting_append k.written k.response_ends (end ∷ []), one_waiting k.written end (omega (arith, c.within_up, output_some k f.end r)));
     } in
-    subst (λ (x : List FrameContent). TotalsAgree (client_state_after opened k (FrameReceived f)) s (down_one w x rest)) (sym (says-is opened k f (Ok segment) p.behind is))
-    (subst (λ (t : ClientState). TotalsAgree t s (down_one w said rest)) (sym (after-is opened k f (Ok segment) p.behind is)) m)
+    subst (λ (x : List FrameContent). TotalsAgree (client_state_after opened k (FrameReceived f)) s (down_one w x rest)) (sym (says_is opened k f (Ok segment) p.behind is))
+    (subst (λ (t : ClientState). TotalsAgree t s (down_one w said rest)) (sym (after_is_lem opened k f (Ok segment) p.behind is)) m)
 
 -- ---- The client receives a tagged segment
 
-pub totals-tagged_down : (opened : LinkParameters) (k : ClientState) (s : ServerState) (w : Transit) (f : Frame) (last : Bool) (opcode stag to : ℕ) (payload : List ℕ) (rest : List FrameContent) → TotalsAgree k s w → w.down ≡ TaggedFrame last opcode stag to payload ∷ rest
+pub totals_tagged_down : (opened : LinkParameters) (k : ClientState) (s : ServerState) (w : Transit) (f : Frame) (last : Bool) (opcode stag to : ℕ) (payload : List ℕ) (rest : List FrameContent) → TotalsAgree k s w → w.down ≡ TaggedFrame last opcode stag to payload ∷ rest
     → Carries k.received.sends k.received.requests f (TaggedFrame last opcode stag to payload)
     → TotalsAgree (client_state_after opened k (FrameReceived f)) s (down_one w (client_frames opened k (FrameReceived f)) rest)
-totals-tagged_down opened k s w f last opcode stag to payload rest c first p =
+totals_tagged_down opened k s w f last opcode stag to payload rest c first p =
     let segment : Segment = Tagged last opcode stag to payload in
-    let is : frame_segment f ≡ Ok segment = segment-is k.received.sends k.received.requests f (TaggedFrame last opcode stag to payload) segment p refl in
+    let is : frame_segment f ≡ Ok segment = segment_is k.received.sends k.received.requests f (TaggedFrame last opcode stag to payload) segment p refl in
     let m : TotalsAgree (with_segment k f (Ok segment)) s (down_one w [] rest) = record {
-      hello = omega (arith, c.hello, ap (total_of hellos_in) first, total-append hellos_in w.queued_up []);
-      calls_up = omega (arith, c.calls_up, total-append sends_in w.queued_up []);
+      hello = omega (arith, c.hello, ap (total_of hellos_in) first, total_append hellos_in w.queued_up []);
+      calls_up = omega (arith, c.calls_up, total_append sends_in w.queued_up []);
       messages_down = omega (arith, c.messages_down, ap (total_of sends_in) first);
-      sends = omega (arith, c.sends, total-append sends_in w.queued_up []);
+      sends = omega (arith, c.sends, total_append sends_in w.queued_up []);
       messages = c.messages;
       all_sends = c.all_sends;
       within_up = c.within_up;
@@ -186,11 +186,11 @@ totals-tagged_down opened k s w f last opcode stag to payload rest c first p =
       waiting = c.waiting;
       whole_up = c.whole_up;
       whole_down = c.whole_down;
-      reads = omega (arith, c.reads, ap (total_of requests_in) first, total-append responses_in w.queued_up []);
-      responses = omega (arith, c.responses, total-append responses_in w.queued_up []);
+      reads = omega (arith, c.reads, ap (total_of requests_in) first, total_append responses_in w.queued_up []);
+      responses = omega (arith, c.responses, total_append responses_in w.queued_up []);
     } in
-    subst (λ (x : List FrameContent). TotalsAgree (client_state_after opened k (FrameReceived f)) s (down_one w x rest)) (sym (says-is opened k f (Ok segment) p.behind is))
-    (subst (λ (t : ClientState). TotalsAgree t s (down_one w [] rest)) (sym (after-is opened k f (Ok segment) p.behind is)) m)
+    subst (λ (x : List FrameContent). TotalsAgree (client_state_after opened k (FrameReceived f)) s (down_one w x rest)) (sym (says_is opened k f (Ok segment) p.behind is))
+    (subst (λ (t : ClientState). TotalsAgree t s (down_one w [] rest)) (sym (after_is_lem opened k f (Ok segment) p.behind is)) m)
 
 -- ---- The client receives the server's hello: the calls that it accepted are sent
 
@@ -198,21 +198,21 @@ pub bit_of : (b : Bool) → hello_bit b ≡ 0 → b ≡ false
 bit_of true e = absurd cc
 bit_of false e = refl
 
-pub totals-hello_down : (opened : LinkParameters) (k : ClientState) (s : ServerState) (w : Transit) (f : Frame) (rest : List FrameContent) → TotalsAgree k s w → w.down ≡ HelloFrame ∷ rest → is_hello f ≡ true
+pub totals_hello_down : (opened : LinkParameters) (k : ClientState) (s : ServerState) (w : Transit) (f : Frame) (rest : List FrameContent) → TotalsAgree k s w → w.down ≡ HelloFrame ∷ rest → is_hello f ≡ true
     → TotalsAgree (client_state_after opened k (FrameReceived f)) s (down_one w (client_frames opened k (FrameReceived f)) rest)
 unfolding client_state_after client_frames
-totals-hello_down opened k s w f rest c first is =
+totals_hello_down opened k s w f rest c first is =
     let said = map (call_frame opened) k.outstanding in
     let hello : hello_bit k.has_hello ≡ 0 = omega (arith, c.hello, ap (total_of hellos_in) first) in
     let before : calls_sent k ≡ 0 = ap (λ (b : Bool). cond b k.calls_accepted 0) (bit_of k.has_hello hello) in
-    let sends : total_of sends_in said ≡ length k.outstanding = total-map-one sends_in (call_frame opened) k.outstanding (λ o. refl) in
+    let sends : total_of sends_in said ≡ length k.outstanding = total_map_one sends_in (call_frame opened) k.outstanding (λ o. refl) in
     let none_queued : total_of sends_in w.queued_up ≡ 0 = omega (arith, c.calls_up, before) in
-    let all : length (call_ends opened k.due 1 k.outstanding) ≡ length k.outstanding = calls-length opened k.due 1 k.outstanding in
+    let all : length (call_ends opened k.due 1 k.outstanding) ≡ length k.outstanding = calls_length opened k.due 1 k.outstanding in
     let m : TotalsAgree (with_hello opened k) s (down_one w said rest) = record {
-      hello = omega (arith, c.hello, hello, ap (total_of hellos_in) first, total-append hellos_in w.queued_up said, total-map-zero hellos_in (call_frame opened) k.outstanding (λ o. refl));
-      calls_up = omega (arith, c.calls_up, before, c.messages_down, c.waiting, c.out, sends, total-append sends_in w.queued_up said);
+      hello = omega (arith, c.hello, hello, ap (total_of hellos_in) first, total_append hellos_in w.queued_up said, total_map_zero hellos_in (call_frame opened) k.outstanding (λ o. refl));
+      calls_up = omega (arith, c.calls_up, before, c.messages_down, c.waiting, c.out, sends, total_append sends_in w.queued_up said);
       messages_down = omega (arith, c.messages_down, ap (total_of sends_in) first);
-      sends = omega (arith, none_queued, all, sends, total-append sends_in w.queued_up said, c.sends, waiting-append k.written k.send_ends (call_ends opened k.due 1 k.outstanding), all-waiting k.written (call_ends opened k.due 1 k.outstanding) (calls-above opened k.written k.due 1 k.outstanding c.within_up));
+      sends = omega (arith, none_queued, all, sends, total_append sends_in w.queued_up said, c.sends, waiting_append k.written k.send_ends (call_ends opened k.due 1 k.outstanding), all_waiting_lem k.written (call_ends opened k.due 1 k.outstanding) (calls_above opened k.written k.due 1 k.outstanding c.within_up));
       messages = c.messages;
       all_sends = omega (arith, all, c.all_sends, length-append k.send_ends (call_ends opened k.due 1 k.outstanding), c.out, c.messages_down, c.waiting, c.calls_up, before);
       within_up = omega (arith, c.within_up);
@@ -221,8 +221,8 @@ totals-hello_down opened k s w f rest c first is =
       waiting = c.waiting;
       whole_up = c.whole_up;
       whole_down = c.whole_down;
-      reads = omega (arith, c.reads, ap (total_of requests_in) first, total-append responses_in w.queued_up said, total-map-zero responses_in (call_frame opened) k.outstanding (λ o. refl));
-      responses = omega (arith, c.responses, total-append responses_in w.queued_up said, total-map-zero responses_in (call_frame opened) k.outstanding (λ o. refl));
+      reads = omega (arith, c.reads, ap (total_of requests_in) first, total_append responses_in w.queued_up said, total_map_zero responses_in (call_frame opened) k.outstanding (λ o. refl));
+      responses = omega (arith, c.responses, total_append responses_in w.queued_up said, total_map_zero responses_in (call_frame opened) k.outstanding (λ o. refl));
     } in
     subst (λ (b : Bool). TotalsAgree (cond b (with_hello opened k) (with_segment k f (frame_segment f))) s (down_one w (cond b said (response_frames k f.end (segment_request (frame_segment f)))) rest)) (sym is) m
 
@@ -243,17 +243,17 @@ said_more : (b : Bool) (n : ℕ) → cond b (n + 1) 0 ≡ cond b n 0 + hello_bit
 said_more true n = refl
 said_more false n = refl
 
-pub totals-accepts : (opened : LinkParameters) (k : ClientState) (s : ServerState) (w : Transit) (place : ℕ) (a : AcceptedCall) → TotalsAgree k s w
+pub totals_accepts : (opened : LinkParameters) (k : ClientState) (s : ServerState) (w : Transit) (place : ℕ) (a : AcceptedCall) → TotalsAgree k s w
     → TotalsAgree (client_state_after opened k (CallSubmitted place a)) s (up_more w (client_frames opened k (CallSubmitted place a)))
 unfolding client_state_after client_frames
-totals-accepts opened k s w place a c =
+totals_accepts opened k s w place a c =
     let p = call_frame opened (outstanding_of k a) in
     let said = cond k.has_hello (p ∷ []) [] in
     record {
-      hello = omega (arith, c.hello, total-append hellos_in w.queued_up said, says_no hellos_in k.has_hello p refl);
-      calls_up = omega (arith, c.calls_up, said_more k.has_hello k.calls_accepted, total-append sends_in w.queued_up said, says_call k.has_hello p _ refl);
+      hello = omega (arith, c.hello, total_append hellos_in w.queued_up said, says_no hellos_in k.has_hello p refl);
+      calls_up = omega (arith, c.calls_up, said_more k.has_hello k.calls_accepted, total_append sends_in w.queued_up said, says_call k.has_hello p _ refl);
       messages_down = c.messages_down;
-      sends = omega (arith, c.sends, total-append sends_in w.queued_up said, says_call k.has_hello p _ refl, waiting-append k.written k.send_ends (submitted_ends opened k a), submitted-waits k.has_hello);
+      sends = omega (arith, c.sends, total_append sends_in w.queued_up said, says_call k.has_hello p _ refl, waiting_append k.written k.send_ends (submitted_ends opened k a), submitted-waits k.has_hello);
       messages = c.messages;
       all_sends = omega (arith, c.all_sends, said_more k.has_hello k.calls_accepted, length-append k.send_ends (submitted_ends opened k a), submitted-length k.has_hello);
       within_up = omega (arith, c.within_up);
@@ -262,29 +262,29 @@ totals-accepts opened k s w place a c =
       waiting = c.waiting;
       whole_up = c.whole_up;
       whole_down = c.whole_down;
-      reads = omega (arith, c.reads, total-append responses_in w.queued_up said, says_no responses_in k.has_hello p refl);
-      responses = omega (arith, c.responses, total-append responses_in w.queued_up said, says_no responses_in k.has_hello p refl);
+      reads = omega (arith, c.reads, total_append responses_in w.queued_up said, says_no responses_in k.has_hello p refl);
+      responses = omega (arith, c.responses, total_append responses_in w.queued_up said, says_no responses_in k.has_hello p refl);
     }
   where
     one : List ℕ
     one = call_output opened (k.calls_accepted + 1) (outstanding_of k a)
 
     submitted-waits : (b : Bool) → ends_waiting k.written (cond b ((k.due + length (cond b one [])) ∷ []) []) ≡ hello_bit b
-    submitted-waits true = one-waiting k.written (k.due + length one) (omega (arith, c.within_up, send-some (k.calls_accepted + 1) (call_message a.xid opened.wished k.stag (outstanding_of k a).plan)))
+    submitted-waits true = one_waiting k.written (k.due + length one) (omega (arith, c.within_up, send_some (k.calls_accepted + 1) (call_message a.xid opened.wished k.stag (outstanding_of k a).plan)))
     submitted-waits false = refl
 
     submitted-length : (b : Bool) → length (cond b ((k.due + length (cond b one [])) ∷ []) []) ≡ hello_bit b
     submitted-length true = refl
     submitted-length false = refl
 
-pub totals-writes_up : (opened : LinkParameters) (k : ClientState) (s : ServerState) (w : Transit) (taken : ℕ) → k.written + taken ≡ k.due → ClientEnds k → TotalsAgree k s w
+pub totals_writes_up : (opened : LinkParameters) (k : ClientState) (s : ServerState) (w : Transit) (taken : ℕ) → k.written + taken ≡ k.due → ClientEnds k → TotalsAgree k s w
     → TotalsAgree (client_state_after opened k (QueueWritten taken)) s (record { queued_up = []; up = w.up ++ w.queued_up; queued_down = w.queued_down; down = w.down })
 unfolding client_state_after
-totals-writes_up opened k s w taken all ends c = record {
-  hello = omega (arith, c.hello, total-append hellos_in w.up w.queued_up);
-  calls_up = omega (arith, c.calls_up, total-append sends_in w.up w.queued_up);
+totals_writes_up opened k s w taken all ends c = record {
+  hello = omega (arith, c.hello, total_append hellos_in w.up w.queued_up);
+  calls_up = omega (arith, c.calls_up, total_append sends_in w.up w.queued_up);
   messages_down = c.messages_down;
-  sends = ap (λ (n : ℕ). ends_waiting n k.send_ends) all ∙ none-waiting k.due k.send_ends ends.sends;
+  sends = ap (λ (n : ℕ). ends_waiting n k.send_ends) all ∙ none_waiting k.due k.send_ends ends.sends;
   messages = c.messages;
   all_sends = c.all_sends;
   within_up = omega (arith, all);
@@ -293,14 +293,14 @@ totals-writes_up opened k s w taken all ends c = record {
   waiting = c.waiting;
   whole_up = c.whole_up;
   whole_down = c.whole_down;
-  reads = omega (arith, c.reads, total-append responses_in w.up w.queued_up);
-  responses = ap (λ (n : ℕ). ends_waiting n k.response_ends) all ∙ none-waiting k.due k.response_ends ends.responses;
+  reads = omega (arith, c.reads, total_append responses_in w.up w.queued_up);
+  responses = ap (λ (n : ℕ). ends_waiting n k.response_ends) all ∙ none_waiting k.due k.response_ends ends.responses;
 }
 
 -- ---- At the beginning
 
-pub totals-first : (opened : LinkParameters) → TotalsAgree (client_initial_state opened) (server_initial_state opened) (record { queued_up = HelloFrame ∷ []; up = []; queued_down = []; down = [] })
-totals-first opened = record {
+pub totals_first : (opened : LinkParameters) → TotalsAgree (client_initial_state opened) (server_initial_state opened) (record { queued_up = HelloFrame ∷ []; up = []; queued_down = []; down = [] })
+totals_first opened = record {
   hello = refl;
   calls_up = refl;
   messages_down = refl;

@@ -2,7 +2,7 @@
 use Rattle.std.proofs.Common.{◌≡◌, ℕ, zero, suc, ◌+◌, ◌*◌, ◌≤◌, ◌<◌, ◌^◌, true, List, [], ◌∷◌, ◌++◌, length, map, drop, refl, arith, lit<, length-append, length-take}
 use Rattle.std.specs.List.{range_with_len}
 use Rattle.nr_xdr.specs.Item.{word, hyper}
-use Rattle.nr_xdr.proofs.WordBytes.{length-word, length-hyper}
+use Rattle.nr_xdr.proofs.WordBytes.{length_word, length_hyper}
 use Rattle.nr_wire.specs.declared.hello.Side.{Side}
 use Rattle.nr_wire.specs.declared.stream.Awaited.TheVariants.{Hello as HelloFrom, Fpdu}
 use Rattle.nr_wire.specs.Segment.{is_tagged_opcode}
@@ -41,11 +41,11 @@ len_request sink at size stag to =
       length-append (hyper at) (word size ++ (word stag ++ hyper to)),
       length-append (word size) (word stag ++ hyper to),
       length-append (word stag) (hyper to),
-      length-word sink,
-      length-hyper at,
-      length-word size,
-      length-word stag,
-      length-hyper to,
+      length_word sink,
+      length_hyper at,
+      length_word size,
+      length_word stag,
+      length_hyper to,
     )
 
 pub proper_one : (n r : ℕ) (p : FrameContent) → IsWritable p → IsWritableAs Fpdu (numbered_segment n r p)
@@ -68,53 +68,53 @@ stream_proper side (TaggedFrame last opcode stag to payload ∷ ps) h = absurd h
 
 -- ---- Joined, and parts of them
 
-pub all_proper-append : (ps qs : List FrameContent) → AreWritable ps → AreWritable qs → AreWritable (ps ++ qs)
-all_proper-append [] qs h k = k
-all_proper-append (p ∷ ps) qs h k = (h.0, all_proper-append ps qs h.1 k)
+pub all_proper_append : (ps qs : List FrameContent) → AreWritable ps → AreWritable qs → AreWritable (ps ++ qs)
+all_proper_append [] qs h k = k
+all_proper_append (p ∷ ps) qs h k = (h.0, all_proper_append ps qs h.1 k)
 
-pub all_proper-left : (ps qs : List FrameContent) → AreWritable (ps ++ qs) → AreWritable ps
-all_proper-left [] qs h = tt
-all_proper-left (p ∷ ps) qs h = (h.0, all_proper-left ps qs h.1)
+pub all_proper_left : (ps qs : List FrameContent) → AreWritable (ps ++ qs) → AreWritable ps
+all_proper_left [] qs h = tt
+all_proper_left (p ∷ ps) qs h = (h.0, all_proper_left ps qs h.1)
 
-all_proper-at : (ps : List FrameContent) (p : FrameContent) (qs : List FrameContent) → AreWritable (ps ++ p ∷ qs) → IsWritable p
-all_proper-at [] p qs h = h.0
-all_proper-at (x ∷ ps) p qs h = all_proper-at ps p qs h.1
+all_proper_at : (ps : List FrameContent) (p : FrameContent) (qs : List FrameContent) → AreWritable (ps ++ p ∷ qs) → IsWritable p
+all_proper_at [] p qs h = h.0
+all_proper_at (x ∷ ps) p qs h = all_proper_at ps p qs h.1
 
-pub stream-left : (ps qs : List FrameContent) → IsOutput (ps ++ qs) → IsOutput ps
-stream-left [] qs h = tt
-stream-left (HelloFrame ∷ ps) qs h = all_proper-left ps qs h
-stream-left (SendFrame message ∷ ps) qs h = h
-stream-left (RequestFrame sink at size stag to ∷ ps) qs h = h
-stream-left (TaggedFrame last opcode stag to payload ∷ ps) qs h = h
+pub stream_left : (ps qs : List FrameContent) → IsOutput (ps ++ qs) → IsOutput ps
+stream_left [] qs h = tt
+stream_left (HelloFrame ∷ ps) qs h = all_proper_left ps qs h
+stream_left (SendFrame message ∷ ps) qs h = h
+stream_left (RequestFrame sink at size stag to ∷ ps) qs h = h
+stream_left (TaggedFrame last opcode stag to payload ∷ ps) qs h = h
 
 -- behind a hello more may come
-pub stream-more : (ps qs : List FrameContent) → IsOutput ps → 0 < total_of hellos_in ps → AreWritable qs → IsOutput (ps ++ qs)
-stream-more [] qs h some k = absurd (omega (arith, some))
-stream-more (HelloFrame ∷ ps) qs h some k = all_proper-append ps qs h k
-stream-more (SendFrame message ∷ ps) qs h some k = h
-stream-more (RequestFrame sink at size stag to ∷ ps) qs h some k = h
-stream-more (TaggedFrame last opcode stag to payload ∷ ps) qs h some k = h
+pub stream_more : (ps qs : List FrameContent) → IsOutput ps → 0 < total_of hellos_in ps → AreWritable qs → IsOutput (ps ++ qs)
+stream_more [] qs h some k = absurd (omega (arith, some))
+stream_more (HelloFrame ∷ ps) qs h some k = all_proper_append ps qs h k
+stream_more (SendFrame message ∷ ps) qs h some k = h
+stream_more (RequestFrame sink at size stag to ∷ ps) qs h some k = h
+stream_more (TaggedFrame last opcode stag to payload ∷ ps) qs h some k = h
 
 -- where none is, nothing is
-pub stream-none : (ps : List FrameContent) → IsOutput ps → total_of hellos_in ps ≡ 0 → ps ≡ []
-stream-none [] h none = refl
-stream-none (HelloFrame ∷ ps) h none = absurd (omega (arith, none))
-stream-none (SendFrame message ∷ ps) h none = absurd h
-stream-none (RequestFrame sink at size stag to ∷ ps) h none = absurd h
-stream-none (TaggedFrame last opcode stag to payload ∷ ps) h none = absurd h
+pub stream_none : (ps : List FrameContent) → IsOutput ps → total_of hellos_in ps ≡ 0 → ps ≡ []
+stream_none [] h none = refl
+stream_none (HelloFrame ∷ ps) h none = absurd (omega (arith, none))
+stream_none (SendFrame message ∷ ps) h none = absurd h
+stream_none (RequestFrame sink at size stag to ∷ ps) h none = absurd h
+stream_none (TaggedFrame last opcode stag to payload ∷ ps) h none = absurd h
 
 -- the first one is the hello, and each behind it is another
-pub stream-first : (p : FrameContent) (qs : List FrameContent) → IsOutput (p ∷ qs) → p ≡ HelloFrame
-stream-first HelloFrame qs h = refl
-stream-first (SendFrame message) qs h = absurd h
-stream-first (RequestFrame sink at size stag to) qs h = absurd h
-stream-first (TaggedFrame last opcode stag to payload) qs h = absurd h
+pub stream_first : (p : FrameContent) (qs : List FrameContent) → IsOutput (p ∷ qs) → p ≡ HelloFrame
+stream_first HelloFrame qs h = refl
+stream_first (SendFrame message) qs h = absurd h
+stream_first (RequestFrame sink at size stag to) qs h = absurd h
+stream_first (TaggedFrame last opcode stag to payload) qs h = absurd h
 
-pub stream-at : (q : FrameContent) (ps : List FrameContent) (p : FrameContent) (qs : List FrameContent) → IsOutput (q ∷ ps ++ p ∷ qs) → IsWritable p
-stream-at HelloFrame ps p qs h = all_proper-at ps p qs h
-stream-at (SendFrame message) ps p qs h = absurd h
-stream-at (RequestFrame sink at size stag to) ps p qs h = absurd h
-stream-at (TaggedFrame last opcode stag to payload) ps p qs h = absurd h
+pub stream_at_lem : (q : FrameContent) (ps : List FrameContent) (p : FrameContent) (qs : List FrameContent) → IsOutput (q ∷ ps ++ p ∷ qs) → IsWritable p
+stream_at_lem HelloFrame ps p qs h = all_proper_at ps p qs h
+stream_at_lem (SendFrame message) ps p qs h = absurd h
+stream_at_lem (RequestFrame sink at size stag to) ps p qs h = absurd h
+stream_at_lem (TaggedFrame last opcode stag to payload) ps p qs h = absurd h
 
 -- ---- Segments of an access
 
@@ -126,6 +126,6 @@ pieces_from opcode stag to bytes a (suc n) tagged small stags tos ends le = (
   pieces_from opcode stag to bytes (a + 1) n tagged small stags tos ends (omega (arith, le)),
 )
 
-pub tagged-proper : (opcode stag to : ℕ) (bytes : List ℕ) → is_tagged_opcode opcode ≡ true → opcode < 16 → stag < 2 ^ 32 → to < 2 ^ 64 → to + length bytes ≤ 2 ^ 64 → AreWritable (tagged_frames opcode stag to bytes)
+pub tagged_proper : (opcode stag to : ℕ) (bytes : List ℕ) → is_tagged_opcode opcode ≡ true → opcode < 16 → stag < 2 ^ 32 → to < 2 ^ 64 → to + length bytes ≤ 2 ^ 64 → AreWritable (tagged_frames opcode stag to bytes)
 unfolding tagged_frames
-tagged-proper opcode stag to bytes tagged small stags tos ends = pieces_from opcode stag to bytes 0 (segment_count bytes) tagged small stags tos ends (omega arith)
+tagged_proper opcode stag to bytes tagged small stags tos ends = pieces_from opcode stag to bytes 0 (segment_count bytes) tagged small stags tos ends (omega arith)

@@ -23,9 +23,9 @@ use Rattle.nr_reduce.specs.ServerReads.{chunks_of}
 use Rattle.nr_reduce.specs.ServerMessages.{verdict}
 use Rattle.nr_reduce.specs.ServerMessages.Verdict.{MakesPending}
 use Rattle.nr_reduce.proofs.AnswerMessages.{segments_tail, read_tail}
-use Rattle.nr_laws.proofs.MadePending.{made-pending}
+use Rattle.nr_laws.proofs.MadePending.{made_pending}
 use Rattle.nr_reduce.proofs.Opens.{IsCall}
-use Rattle.nr_reduce.specs.Undone.{lists_by}
+use Rattle.nr_reduce.specs.ChunkBytes.{lists_by}
 
 abbrev pub SegmentsFit : List RdmaSegment → Type 0
 SegmentsFit [] = Unit {0}
@@ -103,14 +103,14 @@ body_fits xid credit stream (ErrChunk version) call h can = absurd call
 
 pub verdict_fits : (k : ServerState) (message : List ℕ) (c : PendingCall) → IsBytes message → verdict k message ≡ MakesPending c → OfferFits c.lists
 verdict_fits k message c bytes e =
-    let m = made-pending k message c e in
+    let m = made_pending k message c e in
     let t = header_take message m.header bytes m.is_header in
     subst (λ (x : PendingCall). OfferFits x.lists) (sym m.is) (body_fits m.header.xid m.header.credit t.stream m.header.body m.is_call t.fits t.can)
 
 -- ---- The STags that its reads need
 
 pub verdict_few : (k : ServerState) (message : List ℕ) (c : PendingCall) → verdict k message ≡ MakesPending c → next_stag k + length (chunks_of c.lists) ≤ 4294967296
-verdict_few k message c e = (made-pending k message c e).few
+verdict_few k message c e = (made_pending k message c e).few
 
 body_one : (body : Body) → IsCall body → HasOneChunk body → length (chunks_of (lists_by body)) ≤ 1
 body_one (Msg lists at) call one = one
@@ -120,5 +120,5 @@ body_one (ErrChunk version) call one = absurd call
 
 pub verdict_one : (k : ServerState) (message : List ℕ) (c : PendingCall) → IsBytes message → OneChunk message → verdict k message ≡ MakesPending c → length (chunks_of c.lists) ≤ 1
 verdict_one k message c bytes one e =
-    let m = made-pending k message c e in
+    let m = made_pending k message c e in
     subst (λ (x : PendingCall). length (chunks_of x.lists) ≤ 1) (sym m.is) (body_one m.header.body m.is_call (one m.header bytes m.is_header))

@@ -7,9 +7,9 @@ use Rattle.nr_header.specs.declared.header.ChunkLists.{ChunkLists}
 use Rattle.nr_header.specs.Header.{lists_items, header_encoding}
 use Rattle.nr_reduce.specs.Holds.{Answer, answer_lists, answer_message}
 
-pub answer-same : (xid credit other : ℕ) (offer : ChunkLists) (a : Answer) → word credit ≡ word other → answer_message xid credit offer a ≡ answer_message xid other offer a
+pub answer_same : (xid credit other : ℕ) (offer : ChunkLists) (a : Answer) → word credit ≡ word other → answer_message xid credit offer a ≡ answer_message xid other offer a
 unfolding answer_message
-answer-same xid credit other offer a e = by a.long
+answer_same xid credit other offer a e = by a.long
   where
     lists : ChunkLists
     lists = answer_lists offer a

@@ -19,7 +19,7 @@ use Rattle.nr_reduce.specs.declared.mark.Mark.TheVariants as marks
 use Rattle.nr_reduce.specs.declared.mark.LinkParameters.{LinkParameters}
 use Rattle.nr_reduce.specs.Chunks.{chunk_total, whole, some_bytes}
 use Rattle.nr_reduce.specs.Holds.{Answer, answer_lists, answer_message, first_chunk, no_segments}
-use Rattle.nr_reduce.specs.Undone.{answer_segments}
+use Rattle.nr_reduce.specs.ChunkBytes.{answer_segments}
 use Rattle.nr_reduce.specs.Server.{offer_of}
 use Rattle.nr_reduce.specs.Served.{ServedSoFar}
 use Rattle.nr_reduce.specs.Run.{server}

@@ -18,7 +18,7 @@ use Rattle.nr_reduce.specs.declared.outline.Plan.{Plan}
 use Rattle.nr_reduce.specs.History.{AcceptedCall, completed_calls}
 use Rattle.nr_reduce.specs.Limits.{send_max}
 use Rattle.nr_reduce.specs.Plans.{lists_of}
-use Rattle.nr_reduce.specs.Undone.{IsNotGiven}
+use Rattle.nr_reduce.specs.ChunkBytes.{IsNotGiven}
 use Rattle.nr_reduce.specs.Holds.{Answer, answer_writes, answer_message}
 use Rattle.nr_reduce.specs.Server.{offer_of, answer_of_target}
 use Rattle.nr_reduce.specs.Run.{client, server, output_due}
@@ -26,11 +26,11 @@ use Rattle.nr_reduce.specs.OutcomesDue.{outcomes_due}
 use Rattle.nr_reduce.specs.Asked.{Asked, AskedSoFar}
 use Rattle.nr_reduce.specs.Served.{Served, ServedSoFar}
 use Rattle.nr_reduce.specs.Matched.{Matched}
-use Rattle.nr_reduce.specs.IsPlain.{IsPlain}
+use Rattle.nr_reduce.specs.KeepsReplyLimits.{KeepsReplyLimits}
 use Rattle.nr_laws.specs.MarkAt.{MarkAt}
 use Rattle.nr_laws.specs.MatchedSoFar.{MatchedSoFar}
 use Rattle.nr_laws.specs.Typed.{IsTyped}
-use Rattle.nr_laws.specs.Completion.{IsSettled, IsKept}
+use Rattle.nr_laws.specs.Completion.{IsQuiescent, IsKept}
 use Rattle.nr_laws.specs.Payloads.{HasPlan}
 use Rattle.nr_laws.specs.RefusedMessages.{HasRefusedMessage}
 use Rattle.nr_laws.specs.PlainLinks.{server_with, HasPlainReplies}
@@ -67,7 +67,7 @@ OthersHaveNoCause = (opened : LinkParameters) (link : ℕ) (run before : List Ma
 -- given up has its Done with Chunk.
 abbrev pub CausedCallsComplete : Type 0
 CausedCallsComplete = (opened : LinkParameters) (link : ℕ) (run : List Mark) → IsTyped run → Asked opened link run → Served opened link run → Matched link run →
-    IsSettled opened link run → outcomes_due opened link run ≡ [] → (a : AcceptedCall) → IsKept link run a → HasChunkCause opened link run a.xid →
+    IsQuiescent opened link run → outcomes_due opened link run ≡ [] → (a : AcceptedCall) → IsKept link run a → HasChunkCause opened link run a.xid →
     Contains (completed_calls link run) (record { xid = a.xid; outcome = outcomes.Chunk })
 
 -- On a matched link no call completes with another version: both sides speak version 1 (RFC 8166 section 4.2.2).
@@ -95,7 +95,7 @@ NoOwnPlanIsRefused = (opened : LinkParameters) (link : ℕ) (run : List Mark) (x
 abbrev pub AutoHasReplies : Type 0
 AutoHasReplies = (reply_to : List Entry → Moment → List ℕ → Option (List ℕ)) (adds : Moment → List ℕ → List ℕ → List Entry)
     (opened : LinkParameters) (link : ℕ) (run earlier before : List Mark) (call : Call) (xid : ℕ) (outcome : Outcome) →
-    IsPlain (server_with reply_to adds) → HasPlainReplies (server_with reply_to adds) link run → IsTyped run → MatchedSoFar opened link run →
+    KeepsReplyLimits (server_with reply_to adds) → HasPlainReplies (server_with reply_to adds) link run → IsTyped run → MatchedSoFar opened link run →
     MarkAt run earlier (marks.Submit link call forms.Auto (submissions.Accepted xid)) →
     MarkAt run before (marks.Done link xid outcome) → (reply : List ℕ) × (outcome ≡ outcomes.Reply reply)
 
@@ -117,7 +117,7 @@ pub record IsAnswered (opened : LinkParameters) (link : ℕ) (before : List Mark
 abbrev pub ChangesAreAnswered : Type 0
 ChangesAreAnswered = (reply_to : List Entry → Moment → List ℕ → Option (List ℕ)) (adds : Moment → List ℕ → List ℕ → List Entry)
     (opened : LinkParameters) (link : ℕ) (run before : List Mark) (xid : ℕ) (moment : Moment) (payload : List ℕ) (place : ℕ) (reply : List ℕ) →
-    IsPlain (server_with reply_to adds) → HasPlainReplies (server_with reply_to adds) link run → IsTyped run → ServedSoFar opened link run →
+    KeepsReplyLimits (server_with reply_to adds) → HasPlainReplies (server_with reply_to adds) link run → IsTyped run → ServedSoFar opened link run →
     MarkAt run before (marks.Execute link xid moment payload place reply) → adds moment payload reply ≢ [] →
     IsAnswered opened link before xid moment payload place reply
 
@@ -125,5 +125,5 @@ ChangesAreAnswered = (reply_to : List Entry → Moment → List ℕ → Option (
 abbrev pub ChunkAddsNothing : Type 0
 ChunkAddsNothing = (reply_to : List Entry → Moment → List ℕ → Option (List ℕ)) (adds : Moment → List ℕ → List ℕ → List Entry)
     (opened : LinkParameters) (link : ℕ) (run before done : List Mark) (xid : ℕ) (moment : Moment) (payload : List ℕ) (place : ℕ) (reply : List ℕ) →
-    IsPlain (server_with reply_to adds) → HasPlainReplies (server_with reply_to adds) link run → IsTyped run → MatchedSoFar opened link run →
+    KeepsReplyLimits (server_with reply_to adds) → HasPlainReplies (server_with reply_to adds) link run → IsTyped run → MatchedSoFar opened link run →
     MarkAt run before (marks.Execute link xid moment payload place reply) → MarkAt run done (marks.Done link xid outcomes.Chunk) → adds moment payload reply ≡ []

@@ -8,8 +8,8 @@ use Rattle.nr_xdr.specs.Fields.{word_at}
 use Rattle.nr_link.specs.Ending.{frame_segment}
 use Rattle.nr_reduce.specs.declared.mark.Mark.{Mark}
 use Rattle.nr_reduce.specs.declared.mark.LinkParameters.{LinkParameters}
-use Rattle.nr_reduce.specs.Events.{Event, events}
-use Rattle.nr_reduce.specs.Events.Event.{FrameReceived, CallSubmitted, MemoryRevoked}
+use Rattle.nr_reduce.specs.Events.{RunEvent, events}
+use Rattle.nr_reduce.specs.Events.RunEvent.{FrameReceived, CallSubmitted, MemoryRevoked}
 use Rattle.nr_reduce.specs.History.{AcceptedCall}
 use Rattle.nr_reduce.specs.Plans.{buffers}
 use Rattle.nr_reduce.specs.EndRules.{EndState, next_end_state, end_state_after}
@@ -20,9 +20,9 @@ use Rattle.nr_reduce.specs.Run.{client}
 
 -- A region is, but for its end, a chunk of a call that was accepted among these events: under the STag and with the right of that chunk, from
 -- there on.
-pub record IsChunkOfCall (opened : LinkParameters) (received : List Event) (r : Region) : Type 0 where
-  pub earlier : List Event
-  pub later : List Event
+pub record IsChunkOfCall (opened : LinkParameters) (received : List RunEvent) (r : Region) : Type 0 where
+  pub earlier : List RunEvent
+  pub later : List RunEvent
   pub place : ℕ
   pub call : AcceptedCall
   pub is_submitted : received ≡ earlier ++ CallSubmitted place call ∷ later
@@ -42,12 +42,12 @@ pub record HasOutstandingCall (k : ClientState) (xid : ℕ) : Type 0 where
 
 -- On every link, whatever the server sends, a region of a client lives only while that is so of its call.
 abbrev pub LiveClientRegionsAreOutstanding : Type 0
-LiveClientRegionsAreOutstanding = (opened : LinkParameters) (link : ℕ) (run : List Mark) (earlier later : List Event) (r : Region) → events link Initiator run ≡ earlier ++ later →
+LiveClientRegionsAreOutstanding = (opened : LinkParameters) (link : ℕ) (run : List Mark) (earlier later : List RunEvent) (r : Region) → events link Initiator run ≡ earlier ++ later →
     (let k : ClientState = (end_state_after (client_rules opened) (initial_client opened) earlier).state in
     Contains k.regions r → r.until ≡ None → HasOutstandingCall k r.call)
 
 -- a frame makes the message of this xid whole, and ends at this place
-pub record IsMessageOf (k : ClientState) (event : Event) (xid place : ℕ) : Type 0 where
+pub record IsMessageOf (k : ClientState) (event : RunEvent) (xid place : ℕ) : Type 0 where
   pub frame : Frame
   pub segment : Segment
   pub message : List ℕ
@@ -60,10 +60,10 @@ pub record IsMessageOf (k : ClientState) (event : Event) (xid place : ℕ) : Typ
 
 -- A region of a client that was live before an event is closed by it: the event doesn't end the client, and is the message of its call, or its memory
 -- is taken back.
-pub record IsClosedForCall (opened : LinkParameters) (received : List Event) (r : Region) (place : ℕ) : Type 0 where
-  pub earlier : List Event
-  pub later : List Event
-  pub event : Event
+pub record IsClosedForCall (opened : LinkParameters) (received : List RunEvent) (r : Region) (place : ℕ) : Type 0 where
+  pub earlier : List RunEvent
+  pub later : List RunEvent
+  pub event : RunEvent
   pub is_received : received ≡ earlier ++ event ∷ later
   pub stays : (next_end_state (client_rules opened) (end_state_after (client_rules opened) (initial_client opened) earlier) event).ended ≡ None
   pub was_live : Contains (end_state_after (client_rules opened) (initial_client opened) earlier).state.regions (record r { until = None })
@@ -76,7 +76,7 @@ ClientRegionsCloseWithCalls = (opened : LinkParameters) (link : ℕ) (run : List
 
 -- A call that is accepted before the client ends adds a region for each chunk of its plan, in order, behind those that were there.
 abbrev pub CallsAddChunks : Type 0
-CallsAddChunks = (opened : LinkParameters) (link : ℕ) (run : List Mark) (earlier later : List Event) (place : ℕ) (call : AcceptedCall) →
+CallsAddChunks = (opened : LinkParameters) (link : ℕ) (run : List Mark) (earlier later : List RunEvent) (place : ℕ) (call : AcceptedCall) →
     (let before : EndState ClientState = end_state_after (client_rules opened) (initial_client opened) earlier in
     events link Initiator run ≡ earlier ++ CallSubmitted place call ∷ later → before.ended ≡ None →
     (end_state_after (client_rules opened) (initial_client opened) (earlier ++ CallSubmitted place call ∷ [])).state.regions

@@ -15,16 +15,16 @@ use Rattle.nr_laws.specs.Typed.{IsTyped}
 
 -- Nothing is in transit on a link, and nothing waits to be executed: each side received all that the other sent, and no call that is whole
 -- isn't executed yet. That each side wrote all its output is part of its law in full.
-pub record NothingWaits (opened : LinkParameters) (link : ℕ) (run : List Mark) : Type 0 where
+pub record NothingInTransit (opened : LinkParameters) (link : ℕ) (run : List Mark) : Type 0 where
   pub up : bytes_received link Responder run ≡ bytes_sent link Initiator run
   pub down : bytes_received link Initiator run ≡ bytes_sent link Responder run
   pub executed : next_call opened link run ≡ None
 
 -- nor has a side ended
-pub record IsSettled (opened : LinkParameters) (link : ℕ) (run : List Mark) : Type 0 where
+pub record IsQuiescent (opened : LinkParameters) (link : ℕ) (run : List Mark) : Type 0 where
   pub client_stays : end_of_side opened link Initiator run ≡ None
   pub server_stays : end_of_side opened link Responder run ≡ None
-  pub nothing_waits : NothingWaits opened link run
+  pub nothing_waits : NothingInTransit opened link run
 
 -- an accepted call that wasn't given up
 pub record IsKept (link : ℕ) (run : List Mark) (a : AcceptedCall) : Type 0 where
@@ -43,4 +43,4 @@ pub record HaveCompleted (opened : LinkParameters) (link : ℕ) (run : List Mark
   pub has_done : outcomes_due opened link run ≡ [] → (a : AcceptedCall) → IsKept link run a → HasOutcome (completed_calls link run) a.xid
 
 abbrev pub CallsComplete : Type 0
-CallsComplete = (opened : LinkParameters) (link : ℕ) (run : List Mark) → IsTyped run → Asked opened link run → Served opened link run → Matched link run → IsSettled opened link run → HaveCompleted opened link run
+CallsComplete = (opened : LinkParameters) (link : ℕ) (run : List Mark) → IsTyped run → Asked opened link run → Served opened link run → Matched link run → IsQuiescent opened link run → HaveCompleted opened link run

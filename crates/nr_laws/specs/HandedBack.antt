@@ -12,11 +12,11 @@ use Rattle.nr_reduce.specs.declared.call.Outcome.{Outcome}
 use Rattle.nr_reduce.specs.declared.mark.Mark.{Mark}
 use Rattle.nr_reduce.specs.declared.mark.Mark.TheVariants as marks
 use Rattle.nr_reduce.specs.declared.mark.LinkParameters.{LinkParameters}
-use Rattle.nr_reduce.specs.Events.{Event, events}
-use Rattle.nr_reduce.specs.Events.Event.{FrameReceived}
+use Rattle.nr_reduce.specs.Events.{RunEvent, events}
+use Rattle.nr_reduce.specs.Events.RunEvent.{FrameReceived}
 use Rattle.nr_reduce.specs.EndRules.{EndState, next_end_state, end_state_after}
 use Rattle.nr_reduce.specs.OfferedRegions.{Region}
-use Rattle.nr_reduce.specs.ClientState.{ClientState, memory_at}
+use Rattle.nr_reduce.specs.ClientState.{ClientState, client_memory_at}
 use Rattle.nr_reduce.specs.Client.{client_rules, initial_client}
 use Rattle.nr_reduce.specs.Asked.{AskedSoFar}
 use Rattle.nr_reduce.specs.Run.{client, end_of_side, placed_bytes}
@@ -41,12 +41,12 @@ EndedRegionsStand = (opened : LinkParameters) (link : ℕ) (run more : List Mark
 -- On every link, whatever the server sends: from the message of its call on, by a frame that doesn't end the client, a region that was live holds
 -- what it held at the end of that frame.
 abbrev pub ClosedRegionsHoldWhatStood : Type 0
-ClosedRegionsHoldWhatStood = (opened : LinkParameters) (link : ℕ) (run : List Mark) (earlier later : List Event) (frame : Frame) (segment : Segment) (message : List ℕ) (r : Region) →
+ClosedRegionsHoldWhatStood = (opened : LinkParameters) (link : ℕ) (run : List Mark) (earlier later : List RunEvent) (frame : Frame) (segment : Segment) (message : List ℕ) (r : Region) →
     IsTyped run → AskedSoFar opened link run → events link Initiator run ≡ earlier ++ FrameReceived frame ∷ later →
     (let before : EndState ClientState = end_state_after (client_rules opened) (initial_client opened) earlier in
     (next_end_state (client_rules opened) before (FrameReceived frame)).ended ≡ None → is_hello frame ≡ false → frame_segment frame ≡ Ok segment →
     message_completed before.state.received segment ≡ Some message → word_at 0 message ≡ r.call → Contains before.state.regions r → r.until ≡ None →
-    placed_bytes opened link Initiator run r.stag ≡ memory_at before.state frame.end r.stag)
+    placed_bytes opened link Initiator run r.stag ≡ client_memory_at before.state frame.end r.stag)
 
 -- A region is closed by the message of its call, holds after a longer run what it held at the end of the frame that completed the message, and
 -- the same as after the first marks of that run.
@@ -55,7 +55,7 @@ pub record IsHandedBack (opened : LinkParameters) (link : ℕ) (run before : Lis
   pub closed : r.until ≡ Some place
   pub closes : IsClosedForCall opened (events link Initiator before) r place
   pub message : IsMessageOf (end_state_after (client_rules opened) (initial_client opened) closes.earlier).state closes.event r.call place
-  pub stood : placed_bytes opened link Initiator run r.stag ≡ memory_at (end_state_after (client_rules opened) (initial_client opened) closes.earlier).state place r.stag
+  pub stood : placed_bytes opened link Initiator run r.stag ≡ client_memory_at (end_state_after (client_rules opened) (initial_client opened) closes.earlier).state place r.stag
   pub stands : Stands opened link run before r
 
 -- So what a Done hands back is what was placed by the end of that frame: each region of its call is closed by then, and nothing changes it.

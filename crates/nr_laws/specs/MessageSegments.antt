@@ -8,7 +8,7 @@ use Rattle.nr_wire.specs.Segment.Segment.{Untagged}
 use Rattle.nr_link.specs.Limits.{segment_max}
 use Rattle.nr_link.specs.Output.{segment_count, segment_payload, msn_word, send}
 use Rattle.nr_link.specs.ReceiveState.{ReceiveState, received_after, message_completed}
-use Rattle.nr_link.specs.SegmentFaults.{Readiness, segment_fault}
+use Rattle.nr_link.specs.SegmentFaults.{Readiness, segment_reason}
 
 -- The segment of a message with this index: its payload at its offset, with the L bit on the last alone.
 abbrev pub message_segment : (msn : ℕ) → List ℕ → ℕ → Segment
@@ -55,7 +55,7 @@ MessagesAreReceived = (h : ReceiveState) (msn : ℕ) (messages : List (List ℕ)
 -- None of some segments breaks a rule of the link, each by what was received before it.
 abbrev pub BreakNoRule : Readiness Denied → List Segment → Type 0
 BreakNoRule r [] = Unit {0}
-BreakNoRule r (s ∷ segments) = (segment_fault r s ≡ None) × BreakNoRule (record r { received = received_after r.received s }) segments
+BreakNoRule r (s ∷ segments) = (segment_reason r s ≡ None) × BreakNoRule (record r { received = received_after r.received s }) segments
 
 -- So it is of the segments of a message with the next number that is no longer than a message may be, if a receive is there.
 abbrev pub SegmentsBreakNoRule : Type 0

@@ -3,7 +3,7 @@ use Rattle.std.specs.Prelude.{◌≡◌, ℕ, ◌-◌, ◌≤◌, false, List, [
 use Rattle.nr_wire.specs.declared.hello.Side.TheVariants.{Initiator, Responder}
 use Rattle.nr_wire.specs.Segment.{Segment}
 use Rattle.nr_regions.specs.declared.right.Right.TheVariants.{Fetch}
-use Rattle.nr_regions.specs.Access.{Allowed, Grant, TaggedSegment, access_of}
+use Rattle.nr_regions.specs.Access.{Allowed, Grant, TaggedSegment, access_of_tagged}
 use Rattle.nr_link.specs.Frames.{Frame, is_hello}
 use Rattle.nr_link.specs.ReceiveState.{ReadRequest, read_request_of}
 use Rattle.nr_link.specs.declared.end.End.{End}
@@ -11,21 +11,21 @@ use Rattle.nr_link.specs.Ending.{frame_segment, tagged_access, final_output}
 use Rattle.nr_link.specs.Output.{read_response}
 use Rattle.nr_reduce.specs.declared.mark.Mark.{Mark}
 use Rattle.nr_reduce.specs.declared.mark.LinkParameters.{LinkParameters}
-use Rattle.nr_reduce.specs.Events.{Event, events}
-use Rattle.nr_reduce.specs.Events.Event.{FrameReceived, CallSubmitted}
+use Rattle.nr_reduce.specs.Events.{RunEvent, events}
+use Rattle.nr_reduce.specs.Events.RunEvent.{FrameReceived, CallSubmitted}
 use Rattle.nr_reduce.specs.History.{AcceptedCall}
-use Rattle.nr_reduce.specs.EndRules.{Rules, EndState, output_for, next_end_state, end_state_after}
+use Rattle.nr_reduce.specs.EndRules.{EndMachine, EndState, output_for, next_end_state, end_state_after}
 use Rattle.nr_reduce.specs.OfferedRegions.{Region, region_grants}
 use Rattle.nr_reduce.specs.Client.{client_rules, initial_client, outstanding_of, calls_output}
 use Rattle.nr_reduce.specs.Server.{server_rules, initial_server}
-use Rattle.nr_reduce.specs.ClientState.{ClientState, OutstandingCall, memory_at}
+use Rattle.nr_reduce.specs.ClientState.{ClientState, OutstandingCall, client_memory_at}
 use Rattle.nr_reduce.specs.Run.{client, server, grants_of, placed_bytes}
 
 -- A frame brought the byte that the region under an STag has at a place: the frame doesn't end the side, its tagged segment is
 -- allowed by what the side offers at the end of the frame, and has this byte for that place.
-pub record IsBrought {S : Type 0} (rules : Rules S) (initial : EndState S) (received : List Event) (grants : List Grant) (stag at byte : ℕ) : Type 0 where
-  pub earlier : List Event
-  pub later : List Event
+pub record IsBrought {S : Type 0} (rules : EndMachine S) (initial : EndState S) (received : List RunEvent) (grants : List Grant) (stag at byte : ℕ) : Type 0 where
+  pub earlier : List RunEvent
+  pub later : List RunEvent
   pub frame : Frame
   pub segment : Segment
   pub tagged : TaggedSegment
@@ -35,12 +35,12 @@ pub record IsBrought {S : Type 0} (rules : Rules S) (initial : EndState S) (rece
   pub is_segment : frame_segment frame ≡ Ok segment
   pub is_tagged : tagged_access frame segment ≡ tagged ∷ []
   pub own : tagged.stag ≡ stag
-  pub allowed : Allowed grants (access_of tagged) frame.end
+  pub allowed : Allowed grants (access_of_tagged tagged) frame.end
   pub begins : tagged.to ≤ at
   pub byte_is : slice_get tagged.payload (at - tagged.to) ≡ Some byte
 
 -- a region is as long as it was registered, and each of its bytes is the one that was registered, or one that a frame brought
-pub record HoldsAllowed {S : Type 0} (rules : Rules S) (initial : EndState S) (received : List Event) (grants : List Grant) (r : Region) (held : List ℕ) : Type 0 where
+pub record HoldsAllowed {S : Type 0} (rules : EndMachine S) (initial : EndState S) (received : List RunEvent) (grants : List Grant) (r : Region) (held : List ℕ) : Type 0 where
   pub len : length held ≡ length r.bytes
   pub each : (at byte : ℕ) → slice_get held at ≡ Some byte → (slice_get r.bytes at ≡ Some byte) ⊎ IsBrought rules initial received grants r.stag at byte
 
@@ -58,21 +58,21 @@ ServerBytesAreAllowed = (opened : LinkParameters) (link : ℕ) (run : List Mark)
 pub record IsDisclosed (opened : LinkParameters) (before : EndState ClientState) (f : Frame) (request : ReadRequest) : Type 0 where
   pub bytes : List ℕ
   pub output : output_for (client_rules opened) before (FrameReceived f) ≡ read_response request.sink request.sink_to bytes
-  pub stand : bytes ≡ take request.size (drop request.to (memory_at before.state f.end request.stag))
+  pub stand : bytes ≡ take request.size (drop request.to (client_memory_at before.state f.end request.stag))
   pub len : length bytes ≡ request.size
   pub allowed : Allowed (region_grants f.end before.state.regions) (record { right = Fetch; stag = request.stag; to = request.to; len = request.size }) f.end
 
 -- On every link, whatever the server sends: a Read Request that doesn't end the client is answered so.
 abbrev pub ReadsAreAllowed : Type 0
-ReadsAreAllowed = (opened : LinkParameters) (link : ℕ) (run : List Mark) (earlier later : List Event) (f : Frame) (segment : Segment) (request : ReadRequest) →
+ReadsAreAllowed = (opened : LinkParameters) (link : ℕ) (run : List Mark) (earlier later : List RunEvent) (f : Frame) (segment : Segment) (request : ReadRequest) →
     (let before : EndState ClientState = end_state_after (client_rules opened) (initial_client opened) earlier in
     events link Initiator run ≡ earlier ++ FrameReceived f ∷ later → is_hello f ≡ false → frame_segment f ≡ Ok segment → read_request_of segment ≡ Some request →
     (next_end_state (client_rules opened) before (FrameReceived f)).ended ≡ None → IsDisclosed opened before f request)
 
 -- A call that goes out is one that was accepted among these events: its xid, plan and first STag are those of its Submit.
-pub record IsSubmittedCall (opened : LinkParameters) (received : List Event) (o : OutstandingCall) : Type 0 where
-  pub earlier : List Event
-  pub later : List Event
+pub record IsSubmittedCall (opened : LinkParameters) (received : List RunEvent) (o : OutstandingCall) : Type 0 where
+  pub earlier : List RunEvent
+  pub later : List RunEvent
   pub place : ℕ
   pub call : AcceptedCall
   pub is_submitted : received ≡ earlier ++ CallSubmitted place call ∷ later
@@ -80,13 +80,13 @@ pub record IsSubmittedCall (opened : LinkParameters) (received : List Event) (o 
 
 -- Output that isn't read from memory: the Sends of calls that were accepted, each by its plan, or what the side writes last where the event
 -- ends it.
-abbrev pub IsOwnOutput : LinkParameters → (received : List Event) → Option End → List ℕ → Type 0
+abbrev pub IsOwnOutput : LinkParameters → (received : List RunEvent) → Option End → List ℕ → Type 0
 IsOwnOutput opened received ended bytes =
     ((msn : ℕ) × (calls : List OutstandingCall) × (((o : OutstandingCall) → Contains calls o → IsSubmittedCall opened received o) × (bytes ≡ calls_output opened msn calls)))
     ⊎ ((end : End) × ((ended ≡ Some end) × (bytes ≡ final_output end)))
 
 -- the event is the frame of a Read Request that is answered by an allowed access
-pub record AnswersRequest (opened : LinkParameters) (before : EndState ClientState) (event : Event) : Type 0 where
+pub record AnswersRequest (opened : LinkParameters) (before : EndState ClientState) (event : RunEvent) : Type 0 where
   pub frame : Frame
   pub segment : Segment
   pub request : ReadRequest
@@ -98,6 +98,6 @@ pub record AnswersRequest (opened : LinkParameters) (before : EndState ClientSta
 
 -- On every link, whatever the server sends, all else that a client writes for an event is its own output.
 abbrev pub NothingElseIsDisclosed : Type 0
-NothingElseIsDisclosed = (opened : LinkParameters) (link : ℕ) (run : List Mark) (earlier later : List Event) (event : Event) →
+NothingElseIsDisclosed = (opened : LinkParameters) (link : ℕ) (run : List Mark) (earlier later : List RunEvent) (event : RunEvent) →
     (let before : EndState ClientState = end_state_after (client_rules opened) (initial_client opened) earlier in
     events link Initiator run ≡ earlier ++ event ∷ later → IsOwnOutput opened (earlier ++ event ∷ []) (next_end_state (client_rules opened) before event).ended (output_for (client_rules opened) before event) ⊎ AnswersRequest opened before event)

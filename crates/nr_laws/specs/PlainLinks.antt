@@ -17,8 +17,8 @@ abbrev pub PlainOnMark : PlainServer → ℕ → List Mark → Mark → Type 0
 PlainOnMark plain link before (marks.Execute l xid moment payload place reply) = l ≡ link → plain.Replies (journal plain before) moment payload reply
 PlainOnMark plain link before mark = Unit {0}
 
-abbrev pub PlainlyOn : PlainServer → ℕ → List Mark → Type 0
-PlainlyOn plain link run = AtEachMark (PlainOnMark plain link) [] run
+abbrev pub AnsweredByPlainServerOn : PlainServer → ℕ → List Mark → Type 0
+AnsweredByPlainServerOn plain link run = AtEachMark (PlainOnMark plain link) [] run
 
 -- Each call of a link is answered as the plain server answers at the call's place in a journal, and what it adds stands there. A run that has the
 -- marks of one link alone is so over a journal with the entries of all links.
@@ -40,7 +40,7 @@ HasPlainReplies plain link run = AtEachMark (PlainReplyMark plain link) [] run
 -- Calls that are answered over the one journal of a run, each at its moment, are answered at their places in it.
 abbrev pub JournaledLinksAreAtPlaces : Type 0
 JournaledLinksAreAtPlaces = (reply_to : List Entry → Moment → List ℕ → Option (List ℕ)) (adds : Moment → List ℕ → List ℕ → List Entry) (J : List Entry) (link : ℕ) (run : List Mark) →
-    Journaled (server_with reply_to adds) J run → PlainlyOn (server_with reply_to adds) link run → AtPlacesOn (server_with reply_to adds) J link run
+    Journaled (server_with reply_to adds) J run → AnsweredByPlainServerOn (server_with reply_to adds) link run → AtPlacesOn (server_with reply_to adds) J link run
 
 -- Calls that are answered at their places in a journal have replies of the plain server,
 abbrev pub PlacedLinksHavePlainReplies : Type 0
@@ -50,4 +50,4 @@ PlacedLinksHavePlainReplies = (reply_to : List Entry → Moment → List ℕ →
 -- and so have calls that are answered over the journal of their moment.
 abbrev pub PlainLinksHavePlainReplies : Type 0
 PlainLinksHavePlainReplies = (reply_to : List Entry → Moment → List ℕ → Option (List ℕ)) (adds : Moment → List ℕ → List ℕ → List Entry) (link : ℕ) (run : List Mark) →
-    PlainlyOn (server_with reply_to adds) link run → HasPlainReplies (server_with reply_to adds) link run
+    AnsweredByPlainServerOn (server_with reply_to adds) link run → HasPlainReplies (server_with reply_to adds) link run

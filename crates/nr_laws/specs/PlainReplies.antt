@@ -16,7 +16,7 @@ use Rattle.nr_laws.specs.MatchedSoFar.{MatchedSoFar}
 use Rattle.nr_laws.specs.Typed.{IsTyped}
 use Rattle.nr_laws.specs.Payloads.{HasPlan}
 use Rattle.nr_laws.specs.HandedOver.{HasReply}
-use Rattle.nr_laws.specs.PlainLinks.{server_with, PlainlyOn, AtPlacesOn}
+use Rattle.nr_laws.specs.PlainLinks.{server_with, AnsweredByPlainServerOn, AtPlacesOn}
 
 -- The call was executed under this xid on the link, with what its form conveys of its own payload, and these bytes are what the server
 -- replies to that over the first entries of the journal, as many as its place says; what the call adds stands behind them.
@@ -38,6 +38,6 @@ RepliesArePlainAtPlaces = (reply_to : List Entry → Moment → List ℕ → Opt
 abbrev pub RepliesArePlain : Type 0
 RepliesArePlain = (reply_to : List Entry → Moment → List ℕ → Option (List ℕ)) (adds : Moment → List ℕ → List ℕ → List Entry) (J : List Entry)
     (opened : LinkParameters) (link : ℕ) (run before : List Mark) (xid : ℕ) (plan : Plan) (reply : List ℕ) →
-    IsTyped run → MatchedSoFar opened link run → Journaled (server_with reply_to adds) J run → PlainlyOn (server_with reply_to adds) link run →
+    IsTyped run → MatchedSoFar opened link run → Journaled (server_with reply_to adds) J run → AnsweredByPlainServerOn (server_with reply_to adds) link run →
     (has : HasPlan opened link run xid plan) →
     MarkAt run before (marks.Done link xid (outcomes.Reply reply)) → HasPlainReply (server_with reply_to adds) J link before xid has.call has.form reply

@@ -8,7 +8,7 @@ use Rattle.nr_reduce.specs.declared.mark.LinkParameters.{LinkParameters}
 use Rattle.nr_reduce.specs.declared.outline.Plan.{Plan}
 use Rattle.nr_reduce.specs.Plans.{call_message, lists_of}
 use Rattle.nr_reduce.specs.Chunks.{call_conveyed, read_bytes}
-use Rattle.nr_reduce.specs.Undone.{IsNotGiven, inline_by, lists_by}
+use Rattle.nr_reduce.specs.ChunkBytes.{IsNotGiven, inline_by, lists_by}
 use Rattle.nr_reduce.specs.ClientState.{call_payload}
 use Rattle.nr_reduce.specs.Asked.{AskedSoFar}
 use Rattle.nr_reduce.specs.Opening.{IsOpened}

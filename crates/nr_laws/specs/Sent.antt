@@ -5,7 +5,7 @@ use Rattle.nr_link.specs.Output.{own_hello}
 use Rattle.nr_reduce.specs.declared.mark.Mark.{Mark}
 use Rattle.nr_reduce.specs.declared.mark.LinkParameters.{LinkParameters}
 use Rattle.nr_reduce.specs.History.{bytes_sent}
-use Rattle.nr_reduce.specs.Events.{Event, events}
+use Rattle.nr_reduce.specs.Events.{RunEvent, events}
 use Rattle.nr_reduce.specs.EndRules.{EndState, output_for, output_for_all, next_end_state, end_state_after}
 use Rattle.nr_reduce.specs.ClientState.{ClientState}
 use Rattle.nr_reduce.specs.Client.{client_rules, initial_client}
@@ -25,10 +25,10 @@ ServerSendsWhatIsDue = (opened : LinkParameters) (link : ℕ) (run : List Mark) 
 
 -- A byte at an offset of what a client sends is due for one of its events: the response to a Read Request that is allowed, with just the bytes
 -- that it asks for, or output that isn't read from memory.
-pub record IsSentFor (opened : LinkParameters) (received : List Event) (offset byte : ℕ) : Type 0 where
-  pub earlier : List Event
-  pub event : Event
-  pub later : List Event
+pub record IsSentFor (opened : LinkParameters) (received : List RunEvent) (offset byte : ℕ) : Type 0 where
+  pub earlier : List RunEvent
+  pub event : RunEvent
+  pub later : List RunEvent
   pub is_received : received ≡ earlier ++ event ∷ later
   pub index : ℕ
   pub offset_is : offset ≡ length (own_hello Initiator) + length (output_for_all (client_rules opened) (initial_client opened) earlier) + index

@@ -8,7 +8,7 @@ use Rattle.nr_reduce.specs.declared.mark.LinkParameters.{LinkParameters}
 use Rattle.nr_reduce.specs.History.{bytes_sent}
 use Rattle.nr_reduce.specs.ClientState.{OutstandingCall, is_sent}
 use Rattle.nr_reduce.specs.Run.{client}
-use Rattle.nr_reduce.specs.DueItems.{items_due, hello_due, call_item}
+use Rattle.nr_reduce.specs.DueItems.{items_due, hello_due, sent_call_item}
 use Rattle.nr_reduce.specs.Asked.{AskedSoFar}
 use Rattle.nr_laws.specs.Typed.{IsTyped}
 
@@ -29,4 +29,4 @@ abbrev pub SentCallsAreWritten : Type 0
 SentCallsAreWritten = (opened : LinkParameters) (link : ℕ) (run : List Mark) (o : OutstandingCall) → IsTyped run → AskedSoFar opened link run → (client opened link run).ended ≡ None →
     Contains (client opened link run).state.outstanding o →
     (is_sent (client opened link run).state o ≡ true)
-    ↔ (slice_get (complete_sends opened link run) (o.xid - opened.first_xid) ≡ Some (call_item opened (o.xid - opened.first_xid + 1) o))
+    ↔ (slice_get (complete_sends opened link run) (o.xid - opened.first_xid) ≡ Some (sent_call_item opened (o.xid - opened.first_xid + 1) o))

@@ -7,8 +7,8 @@ use Rattle.nr_link.specs.ReceiveState.{message_completed}
 use Rattle.nr_link.specs.Ending.{frame_segment}
 use Rattle.nr_reduce.specs.declared.mark.Mark.{Mark}
 use Rattle.nr_reduce.specs.declared.mark.LinkParameters.{LinkParameters}
-use Rattle.nr_reduce.specs.Events.{Event, events}
-use Rattle.nr_reduce.specs.Events.Event.{FrameReceived}
+use Rattle.nr_reduce.specs.Events.{RunEvent, events}
+use Rattle.nr_reduce.specs.Events.RunEvent.{FrameReceived}
 use Rattle.nr_reduce.specs.EndRules.{next_end_state, end_state_after}
 use Rattle.nr_reduce.specs.OfferedRegions.{Region}
 use Rattle.nr_reduce.specs.ServerState.{ServerState, PendingCall, PendingRead}
@@ -22,7 +22,7 @@ use Rattle.nr_reduce.specs.Served.{ServedSoFar}
 use Rattle.nr_laws.specs.Typed.{IsTyped}
 
 -- After these events a frame makes a Send whole, and its call is pending: the Send isn't refused, and the frame doesn't end the server.
-pub record MakesCall (opened : LinkParameters) (earlier : List Event) (frame : Frame) (call : PendingCall) : Type 0 where
+pub record MakesCall (opened : LinkParameters) (earlier : List RunEvent) (frame : Frame) (call : PendingCall) : Type 0 where
   pub segment : Segment
   pub message : List ℕ
   pub stays : (next_end_state (server_rules opened) (end_state_after (server_rules opened) (initial_server opened) earlier) (FrameReceived frame)).ended ≡ None
@@ -32,15 +32,15 @@ pub record MakesCall (opened : LinkParameters) (earlier : List Event) (frame : F
   pub is_pending : verdict (server_by opened earlier) message ≡ MakesPending call
 
 -- a region is, but for its end, a read chunk of such a call, from the end of that frame on
-pub record IsChunkOfFrame (opened : LinkParameters) (earlier : List Event) (frame : Frame) (r : Region) : Type 0 where
+pub record IsChunkOfFrame (opened : LinkParameters) (earlier : List RunEvent) (frame : Frame) (r : Region) : Type 0 where
   pub call : PendingCall
   pub is_made : MakesCall opened earlier frame call
   pub chunk : Contains (regions_of (server_by opened earlier) frame.end call) (record r { until = None })
 
 -- that frame is among these events
-pub record IsChunkOfSend (opened : LinkParameters) (received : List Event) (r : Region) : Type 0 where
-  pub earlier : List Event
-  pub later : List Event
+pub record IsChunkOfSend (opened : LinkParameters) (received : List RunEvent) (r : Region) : Type 0 where
+  pub earlier : List RunEvent
+  pub later : List RunEvent
   pub frame : Frame
   pub is_received : received ≡ earlier ++ FrameReceived frame ∷ later
   pub own : IsChunkOfFrame opened earlier frame r
@@ -58,19 +58,19 @@ without_ends regions = map without_end regions
 
 -- Such a frame adds a region for each read chunk with bytes of its call, in the order of their first entries, behind those that were there.
 abbrev pub SendsAddChunks : Type 0
-SendsAddChunks = (opened : LinkParameters) (link : ℕ) (run : List Mark) (earlier later : List Event) (frame : Frame) (call : PendingCall) →
+SendsAddChunks = (opened : LinkParameters) (link : ℕ) (run : List Mark) (earlier later : List RunEvent) (frame : Frame) (call : PendingCall) →
     events link Responder run ≡ earlier ++ FrameReceived frame ∷ later → MakesCall opened earlier frame call →
     without_ends (server_by opened (earlier ++ FrameReceived frame ∷ [])).regions ≡ without_ends (server_by opened earlier).regions ++ regions_of (server_by opened earlier) frame.end call
 
 -- Any other event adds none.
 abbrev pub NothingElseAddsRegions : Type 0
-NothingElseAddsRegions = (opened : LinkParameters) (link : ℕ) (run : List Mark) (earlier later : List Event) (event : Event) →
+NothingElseAddsRegions = (opened : LinkParameters) (link : ℕ) (run : List Mark) (earlier later : List RunEvent) (event : RunEvent) →
     events link Responder run ≡ earlier ++ event ∷ later → ((frame : Frame) (call : PendingCall) → event ≡ FrameReceived frame → MakesCall opened earlier frame call → ⊥) →
     without_ends (server_by opened (earlier ++ event ∷ [])).regions ≡ without_ends (server_by opened earlier).regions
 
 -- A region that is closed stays as it is.
 abbrev pub ClosedRegionsStay : Type 0
-ClosedRegionsStay = (opened : LinkParameters) (link : ℕ) (run : List Mark) (earlier later : List Event) (r : Region) (place : ℕ) → events link Responder run ≡ earlier ++ later →
+ClosedRegionsStay = (opened : LinkParameters) (link : ℕ) (run : List Mark) (earlier later : List RunEvent) (r : Region) (place : ℕ) → events link Responder run ≡ earlier ++ later →
     Contains (server_by opened earlier).regions r → r.until ≡ Some place → Contains (server opened link run).state.regions r
 
 -- the call of this number is pending
@@ -88,13 +88,13 @@ pub record HasReadLeft (k : ServerState) (r : Region) : Type 0 where
 
 -- On every link whose server keeps its law so far, whatever the client sends: a region that isn't closed has a read left.
 abbrev pub LiveServerRegionsAreRead : Type 0
-LiveServerRegionsAreRead = (opened : LinkParameters) (link : ℕ) (run : List Mark) (earlier later : List Event) (r : Region) → IsTyped run → ServedSoFar opened link run → events link Responder run ≡ earlier ++ later →
+LiveServerRegionsAreRead = (opened : LinkParameters) (link : ℕ) (run : List Mark) (earlier later : List RunEvent) (r : Region) → IsTyped run → ServedSoFar opened link run → events link Responder run ≡ earlier ++ later →
     Contains (server_by opened earlier).regions r → r.until ≡ None → HasReadLeft (server_by opened earlier) r
 
 -- A frame closes a region: it was offered before that frame, or is from it on, and behind that frame it has no read left.
-pub record IsClosedAt (opened : LinkParameters) (received : List Event) (r : Region) (place : ℕ) : Type 0 where
-  pub earlier : List Event
-  pub later : List Event
+pub record IsClosedAt (opened : LinkParameters) (received : List RunEvent) (r : Region) (place : ℕ) : Type 0 where
+  pub earlier : List RunEvent
+  pub later : List RunEvent
   pub frame : Frame
   pub is_received : received ≡ earlier ++ FrameReceived frame ∷ later
   pub ends_there : frame.end ≡ place

@@ -14,13 +14,13 @@ use Rattle.nr_reduce.specs.declared.mark.LinkParameters.{LinkParameters}
 use Rattle.nr_reduce.specs.declared.outline.Plan.{Plan}
 use Rattle.nr_reduce.specs.AtEachMark.{AtEachMark}
 use Rattle.nr_reduce.specs.ClientState.{call_payload, plan_for}
-use Rattle.nr_reduce.specs.IsPlain.{IsPlain}
+use Rattle.nr_reduce.specs.KeepsReplyLimits.{KeepsReplyLimits}
 use Rattle.nr_reduce.specs.Opening.{IsOpened}
 use Rattle.nr_reduce.specs.PayloadLaws.{given_conveyed}
 use Rattle.nr_reduce.specs.Plans.{call_message}
 use Rattle.nr_reduce.specs.Run.{client, end_of_side}
 use Rattle.nr_reduce.specs.SoFar.{InFull}
-use Rattle.nr_laws.specs.Completion.{NothingWaits, HaveCompleted}
+use Rattle.nr_laws.specs.Completion.{NothingInTransit, HaveCompleted}
 use Rattle.nr_laws.specs.EndCauses.{KeepLaws, IsReplyEnd}
 use Rattle.nr_laws.specs.PlainLinks.{server_with, HasPlainReplies}
 use Rattle.nr_laws.specs.RefusedMessages.{IsRefusedMessage}
@@ -58,17 +58,17 @@ AreConveyedOrRefused opened link run = AtEachMark (ConveyedMark opened link) [] 
 
 -- On a matched link that was opened with numbers and credits in range, where each Wrote writes all output due, no memory is taken back, each
 -- offer that is given conveys a payload with a call head or is refused, and calls are answered as a plain server answers that keeps
--- what `IsPlain` says: neither side ends.
-abbrev pub MatchedLinksStay : Type 0
-MatchedLinksStay = (reply_to : List Entry → Moment → List ℕ → Option (List ℕ)) (adds : Moment → List ℕ → List ℕ → List Entry) (opened : LinkParameters) (link : ℕ) (run : List Mark) →
-    IsOpened opened → IsTyped run → KeepLaws opened link run → HasNoRevoke link run → AreConveyedOrRefused opened link run → IsPlain (server_with reply_to adds) → HasPlainReplies (server_with reply_to adds) link run →
+-- what `KeepsReplyLimits` says: neither side ends.
+abbrev pub MatchedLinksStayOpen : Type 0
+MatchedLinksStayOpen = (reply_to : List Entry → Moment → List ℕ → Option (List ℕ)) (adds : Moment → List ℕ → List ℕ → List Entry) (opened : LinkParameters) (link : ℕ) (run : List Mark) →
+    IsOpened opened → IsTyped run → KeepLaws opened link run → HasNoRevoke link run → AreConveyedOrRefused opened link run → KeepsReplyLimits (server_with reply_to adds) → HasPlainReplies (server_with reply_to adds) link run →
     (end_of_side opened link Initiator run ≡ None) × (end_of_side opened link Responder run ≡ None)
 
 -- So where its laws hold in full and nothing waits, all its calls have completed.
 abbrev pub MatchedCallsComplete : Type 0
 MatchedCallsComplete = (reply_to : List Entry → Moment → List ℕ → Option (List ℕ)) (adds : Moment → List ℕ → List ℕ → List Entry) (opened : LinkParameters) (link : ℕ) (run : List Mark) →
-    IsOpened opened → IsTyped run → InFull opened link run → HasNoRevoke link run → AreConveyedOrRefused opened link run → IsPlain (server_with reply_to adds) → HasPlainReplies (server_with reply_to adds) link run →
-    NothingWaits opened link run → HaveCompleted opened link run
+    IsOpened opened → IsTyped run → InFull opened link run → HasNoRevoke link run → AreConveyedOrRefused opened link run → KeepsReplyLimits (server_with reply_to adds) → HasPlainReplies (server_with reply_to adds) link run →
+    NothingInTransit opened link run → HaveCompleted opened link run
 
 -- Where no memory is taken back, no access to the memory of a client is denied before its server ends, whatever its offers convey and
 -- whatever is replied.
@@ -77,7 +77,7 @@ NoAccessIsDenied = (opened : LinkParameters) (link : ℕ) (run : List Mark) → 
     end_of_side opened link Responder run ≡ None → (end : End) → end_of_side opened link Initiator run ≡ Some end → IsReplyEnd end
 
 -- Where calls are answered as a plain server answers, the client doesn't end before its server, whatever its offers convey.
-abbrev pub ClientsStay : Type 0
-ClientsStay = (reply_to : List Entry → Moment → List ℕ → Option (List ℕ)) (adds : Moment → List ℕ → List ℕ → List Entry) (opened : LinkParameters) (link : ℕ) (run : List Mark) →
-    IsOpened opened → IsTyped run → KeepLaws opened link run → HasNoRevoke link run → IsPlain (server_with reply_to adds) → HasPlainReplies (server_with reply_to adds) link run →
+abbrev pub ClientsStayOpen : Type 0
+ClientsStayOpen = (reply_to : List Entry → Moment → List ℕ → Option (List ℕ)) (adds : Moment → List ℕ → List ℕ → List Entry) (opened : LinkParameters) (link : ℕ) (run : List Mark) →
+    IsOpened opened → IsTyped run → KeepLaws opened link run → HasNoRevoke link run → KeepsReplyLimits (server_with reply_to adds) → HasPlainReplies (server_with reply_to adds) link run →
     end_of_side opened link Responder run ≡ None → end_of_side opened link Initiator run ≡ None

@@ -11,9 +11,9 @@ use Rattle.nr_link.specs.Ending.{frame_segment, access_of}
 use Rattle.nr_reduce.specs.declared.mark.Mark.{Mark}
 use Rattle.nr_reduce.specs.declared.mark.Mark.TheVariants as marks
 use Rattle.nr_reduce.specs.declared.mark.LinkParameters.{LinkParameters}
-use Rattle.nr_reduce.specs.Events.{Event, events}
-use Rattle.nr_reduce.specs.Events.Event.{FrameReceived}
-use Rattle.nr_reduce.specs.EndRules.{Rules, EndState, next_end_state, end_state_after}
+use Rattle.nr_reduce.specs.Events.{RunEvent, events}
+use Rattle.nr_reduce.specs.Events.RunEvent.{FrameReceived}
+use Rattle.nr_reduce.specs.EndRules.{EndMachine, EndState, next_end_state, end_state_after}
 use Rattle.nr_reduce.specs.OfferedRegions.{Region, region_grants}
 use Rattle.nr_reduce.specs.Client.{client_rules, initial_client}
 use Rattle.nr_reduce.specs.Server.{server_rules, initial_server}
@@ -25,7 +25,7 @@ use Rattle.nr_laws.specs.MarkAt.{MarkAt}
 use Rattle.nr_laws.specs.Typed.{IsTyped}
 
 -- A frame ends a side, which knows then what it knew before it; no later event changes that.
-pub record StopsAt {S : Type 0} (rules : Rules S) (before : EndState S) (f : Frame) (after : EndState S) : Type 0 where
+pub record StopsAt {S : Type 0} (rules : EndMachine S) (before : EndState S) (f : Frame) (after : EndState S) : Type 0 where
   pub end : End
   pub stops : next_end_state rules before (FrameReceived f) ≡ record { state = before.state; ended = Some end }
   pub stays : after ≡ record { state = before.state; ended = Some end }
@@ -33,32 +33,32 @@ pub record StopsAt {S : Type 0} (rules : Rules S) (before : EndState S) (f : Fra
 -- On every link, whatever the server sends. The client hasn't ended when a frame is received that would fill or read its memory:
 -- a region that it offers at that frame allows the access, or that frame is where the client stops: neither it nor any later one
 -- changes what the client knows, of which its memory is part.
-abbrev pub ClientIsTouched : Type 0
-ClientIsTouched = (opened : LinkParameters) (link : ℕ) (run : List Mark) (earlier later : List Event) (f : Frame) (segment : Segment) (access : Access) →
+abbrev pub ClientAccessesAreAllowed : Type 0
+ClientAccessesAreAllowed = (opened : LinkParameters) (link : ℕ) (run : List Mark) (earlier later : List RunEvent) (f : Frame) (segment : Segment) (access : Access) →
     (let before : EndState ClientState = end_state_after (client_rules opened) (initial_client opened) earlier in
     events link Initiator run ≡ earlier ++ FrameReceived f ∷ later → before.ended ≡ None → is_hello f ≡ false → frame_segment f ≡ Ok segment → access_of segment ≡ Some access →
     Allowed (region_grants f.end before.state.regions) access f.end ⊎ StopsAt (client_rules opened) before f (client opened link run))
 
 -- the same of the server, whatever the client sends
-abbrev pub ServerIsTouched : Type 0
-ServerIsTouched = (opened : LinkParameters) (link : ℕ) (run : List Mark) (earlier later : List Event) (f : Frame) (segment : Segment) (access : Access) →
+abbrev pub ServerAccessesAreAllowed : Type 0
+ServerAccessesAreAllowed = (opened : LinkParameters) (link : ℕ) (run : List Mark) (earlier later : List RunEvent) (f : Frame) (segment : Segment) (access : Access) →
     (let before : EndState ServerState = end_state_after (server_rules opened) (initial_server opened) earlier in
     events link Responder run ≡ earlier ++ FrameReceived f ∷ later → before.ended ≡ None → is_hello f ≡ false → frame_segment f ≡ Ok segment → access_of segment ≡ Some access →
     Allowed (region_grants f.end before.state.regions) access f.end ⊎ StopsAt (server_rules opened) before f (server opened link run))
 
 -- A server offers nothing to be read: a Read Request is where it stops, whatever the client sends.
 abbrev pub ServerRefusesRequests : Type 0
-ServerRefusesRequests = (opened : LinkParameters) (link : ℕ) (run : List Mark) (earlier later : List Event) (f : Frame) (segment : Segment) (request : ReadRequest) →
+ServerRefusesRequests = (opened : LinkParameters) (link : ℕ) (run : List Mark) (earlier later : List RunEvent) (f : Frame) (segment : Segment) (request : ReadRequest) →
     (let before : EndState ServerState = end_state_after (server_rules opened) (initial_server opened) earlier in
     events link Responder run ≡ earlier ++ FrameReceived f ∷ later → before.ended ≡ None → is_hello f ≡ false → frame_segment f ≡ Ok segment → read_request_of segment ≡ Some request →
     StopsAt (server_rules opened) before f (server opened link run))
 
 -- the bytes of a Revoke are what the regions of its call held then, and each of these regions holds the same after the run
-pub record StandsStill (opened : LinkParameters) (link : ℕ) (run before : List Mark) (xid : ℕ) (bytes : List ℕ) : Type 0 where
+pub record IsUnchanged (opened : LinkParameters) (link : ℕ) (run before : List Mark) (xid : ℕ) (bytes : List ℕ) : Type 0 where
   pub what_stood : bytes ≡ revoked_bytes opened link before xid
   pub stands : (r : Region) → Contains (client opened link before).state.regions r → r.call ≡ xid → placed_bytes opened link Initiator run r.stag ≡ placed_bytes opened link Initiator before r.stag
 
 -- On every link, whatever the server sends. What a Revoke gives back is what stood then, and nothing later changes it.
-abbrev pub RevokeStands : Type 0
-RevokeStands = (opened : LinkParameters) (link : ℕ) (run before : List Mark) (xid : ℕ) (bytes : List ℕ) →
-    IsTyped run → AskedSoFar opened link run → MarkAt run before (marks.Revoke link xid bytes) → StandsStill opened link run before xid bytes
+abbrev pub RevokedMemoryIsFinal : Type 0
+RevokedMemoryIsFinal = (opened : LinkParameters) (link : ℕ) (run before : List Mark) (xid : ℕ) (bytes : List ℕ) →
+    IsTyped run → AskedSoFar opened link run → MarkAt run before (marks.Revoke link xid bytes) → IsUnchanged opened link run before xid bytes

@@ -2,7 +2,7 @@
 
 ghost use Rattle.nr_laws.specs.Completion.{CallsComplete};
 ghost use Rattle.nr_laws.specs.EndCauses.{ServerEndsForCalls, ClientEndsForReplies, LawsKeptBefore};
-ghost use Rattle.nr_laws.specs.Stays.{MatchedLinksStay, MatchedCallsComplete, NoAccessIsDenied, ClientsStay};
+ghost use Rattle.nr_laws.specs.Stays.{MatchedLinksStayOpen, MatchedCallsComplete, NoAccessIsDenied, ClientsStayOpen};
 
 /// On a matched link of which no side has ended, where each side wrote all its output whenever it wrote, each side received all that the
 /// other sent, and no call that is whole waits to be executed: no call is outstanding, since a message of each accepted call
@@ -33,8 +33,8 @@ pub fn segments_keep_the_rules()
 /// its call. So where nothing waits on such a link, no call is outstanding, and each that wasn't given up has its outcome, and its Done once all
 /// outcomes that are due are handed over. A mark that the link was dropped changes nothing here.
 pub fn matched_links_stay()
-    ensures stays { MatchedLinksStay }
+    ensures stays { MatchedLinksStayOpen }
     ensures allowed { NoAccessIsDenied }
-    ensures clients { ClientsStay }
+    ensures clients { ClientsStayOpen }
     ensures complete { MatchedCallsComplete }
 {}

@@ -1,6 +1,6 @@
 //! The laws, each by its statement in `specs/`.
 
-ghost use Rattle.nr_laws.specs.Touches.{ClientIsTouched, ServerIsTouched, ServerRefusesRequests, RevokeStands};
+ghost use Rattle.nr_laws.specs.Touches.{ClientAccessesAreAllowed, ServerAccessesAreAllowed, ServerRefusesRequests, RevokedMemoryIsFinal};
 ghost use Rattle.nr_laws.specs.Grant.{SubmitsWithinGrant};
 ghost use Rattle.nr_laws.specs.Bounds.{ClientOwesFewResponses, ServerReadsFew, ServerUsesItsReceives};
 ghost use Rattle.nr_laws.specs.Places.{PlacesFollow};
@@ -23,10 +23,10 @@ pub fn places()
 /// On every link an access of a frame is allowed by a live region that is offered for that access, or the frame is where the side
 /// stops. A Read Request is where a server stops. What a Revoke gives back is what stood then, and nothing later changes it.
 pub fn touches()
-    ensures client { ClientIsTouched }
-    ensures server { ServerIsTouched }
+    ensures client { ClientAccessesAreAllowed }
+    ensures server { ServerAccessesAreAllowed }
     ensures requests { ServerRefusesRequests }
-    ensures revoked { RevokeStands }
+    ensures revoked { RevokedMemoryIsFinal }
 {}
 
 /// On every link whose client accepts by its rule each accepted call is submitted while fewer calls are outstanding than are granted.

@@ -19,8 +19,8 @@ use Rattle.nr_link.specs.Reasons.{denied_word, NO_BUFFER_WORD}
 use Rattle.nr_link.specs.Output.{terminate_message, refusing_hello}
 use Rattle.nr_link.specs.Frames.{Frame}
 use Rattle.nr_link.specs.ReceiveState.{read_request_in}
-use Rattle.nr_link.specs.SegmentFaults.{Readiness, SegmentFault, segment_fault}
-use Rattle.nr_link.specs.SegmentFaults.SegmentFault.{Reason, NoBuffer, AccessDenied, PeerTerminated}
+use Rattle.nr_link.specs.SegmentFaults.{Readiness, SegmentReason, segment_reason}
+use Rattle.nr_link.specs.SegmentFaults.SegmentReason.{Reason, NoBuffer, AccessDenied, PeerTerminated}
 
 abbrev pub kind_of : ℕ → Kind
 kind_of opcode = if opcode == OPCODE_READ_RESPONSE then Response else Write
@@ -49,7 +49,7 @@ abbrev pub denied_at : Option Access → Denied → End
 denied_at None why = ends.Denied 0 0 why
 denied_at (Some access) why = ends.Denied access.stag access.to why
 
-abbrev pub end_of_fault : Frame → Segment → Option (SegmentFault Denied) → Option End
+abbrev pub end_of_fault : Frame → Segment → Option (SegmentReason Denied) → Option End
 end_of_fault f segment None = None
 end_of_fault f segment (Some (Reason reason)) = Some (ends.Bad f.at reason)
 end_of_fault f segment (Some (NoBuffer msn)) = Some (ends.NoBuffer msn)
@@ -61,7 +61,7 @@ unfoldable pub frame_segment : Frame → Result Segment ℕ
 frame_segment f = segment_of f.bytes
 
 abbrev pub frame_end_by : (Option Denied → Readiness Denied) → List Grant → Frame → Result Segment ℕ → Option End
-frame_end_by ready grants f (Ok segment) = end_of_fault f segment (segment_fault (ready (missing_access grants f segment)) segment)
+frame_end_by ready grants f (Ok segment) = end_of_fault f segment (segment_reason (ready (missing_access grants f segment)) segment)
 frame_end_by ready grants f (Err reason) = Some (ends.Bad f.at reason)
 
 -- Why a frame ends a side that offered these grants. `ready` is what the side has ready, given what the access lacks.

@@ -4,7 +4,7 @@ use Rattle.std.specs.Prelude.{◌≡◌, ℕ, ◌-◌, ◌≤◌, List, ◌++◌
 use Rattle.nr_wire.specs.Segment.{Segment}
 use Rattle.nr_regions.specs.declared.denied.Denied.{Denied}
 use Rattle.nr_link.specs.ReceiveState.{ReceiveState, received_after, message_completed}
-use Rattle.nr_link.specs.SegmentFaults.{Readiness, segment_fault}
+use Rattle.nr_link.specs.SegmentFaults.{Readiness, segment_reason}
 
 -- the bytes that a receive of n bytes keeps: those beyond it stand as zeros
 abbrev pub kept_within : ℕ → List ℕ → List ℕ
@@ -20,7 +20,7 @@ received_within n h = record { sends = h.sends; begun = begun_within n h.begun; 
 -- A segment ends a link for the same reason whether all bytes of the begun Send are kept or those within its receive.
 abbrev pub JudgedAlike : Type 0
 JudgedAlike = (n : ℕ) (ready : Readiness Denied) (segment : Segment) →
-    segment_fault (record ready { received = received_within n ready.received }) segment ≡ segment_fault ready segment
+    segment_reason (record ready { received = received_within n ready.received }) segment ≡ segment_reason ready segment
 
 -- What is kept after a segment is the same, whether what was kept before it was all bytes or those within the receive.
 abbrev pub KeptAlike : Type 0

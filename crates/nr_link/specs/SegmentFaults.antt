@@ -28,13 +28,13 @@ pub record Readiness (D : Type 0) : Type 0 where
   pub responses : ℕ
 
 -- Why a segment ends the link: a reason, a Send without a receive, what its access lacks, or the peer's Terminate with its word.
-pub data SegmentFault (D : Type 0) : Type 0 where
-  Reason : (reason : ℕ) → SegmentFault D
-  NoBuffer : (msn : ℕ) → SegmentFault D
-  AccessDenied : (why : D) → SegmentFault D
-  PeerTerminated : (word : ℕ) → SegmentFault D
+pub data SegmentReason (D : Type 0) : Type 0 where
+  Reason : (reason : ℕ) → SegmentReason D
+  NoBuffer : (msn : ℕ) → SegmentReason D
+  AccessDenied : (why : D) → SegmentReason D
+  PeerTerminated : (word : ℕ) → SegmentReason D
 
-abbrev pub reason_if : {D : Type 0} → ℕ → Bool → Option (SegmentFault D)
+abbrev pub reason_if : {D : Type 0} → ℕ → Bool → Option (SegmentReason D)
 reason_if reason true = Some (Reason reason)
 reason_if reason false = None
 
@@ -53,11 +53,11 @@ is_begun None = false
 is_begun (Some bytes) = true
 
 -- the first segment of a Send finds no receive (RFC 5041 section 7.1)
-abbrev pub no_buffer : {D : Type 0} → Readiness D → Bool → ℕ → Option (SegmentFault D)
+abbrev pub no_buffer : {D : Type 0} → Readiness D → Bool → ℕ → Option (SegmentReason D)
 no_buffer r true msn = if is_begun r.received.begun || r.has_receive then None else Some (NoBuffer msn)
 no_buffer r false msn = None
 
-abbrev pub missing_fault : {D : Type 0} → Option D → Option (SegmentFault D)
+abbrev pub missing_fault : {D : Type 0} → Option D → Option (SegmentReason D)
 missing_fault None = None
 missing_fault (Some why) = Some (AccessDenied why)
 
@@ -85,11 +85,11 @@ abbrev pub is_too_many : {D : Type 0} → Readiness D → ℕ → Bool
 is_too_many r opcode = opcode == OPCODE_READ_REQUEST && nat_le open_reads_max r.responses
 
 -- whether the length of the message that became whole passes a test
-abbrev pub has_length : (ℕ → Bool) → Option (List ℕ) → Bool
-has_length test None = false
-has_length test (Some message) = test (length message)
+abbrev pub message_length_is : (ℕ → Bool) → Option (List ℕ) → Bool
+message_length_is test None = false
+message_length_is test (Some message) = test (length message)
 
-abbrev pub terminate_fault : {D : Type 0} → ℕ → List ℕ → Option (SegmentFault D)
+abbrev pub terminate_fault : {D : Type 0} → ℕ → List ℕ → Option (SegmentReason D)
 terminate_fault opcode payload = if opcode == OPCODE_TERMINATE then Some (PeerTerminated (word_at 0 payload)) else None
 
 -- the first fault that applies
@@ -100,19 +100,19 @@ first_fault (Some x ∷ others) = Some x
 
 -- Why a segment ends the link: the first fault that applies, in this order. The reasons of a frame alone go before (nr_wire), and
 -- what an end makes of a whole message comes behind.
-unfoldable pub segment_fault : {D : Type 0} → Readiness D → Segment → Option (SegmentFault D)
-segment_fault r (Tagged last opcode stag to payload) = first_fault (
+unfoldable pub segment_reason : {D : Type 0} → Readiness D → Segment → Option (SegmentReason D)
+segment_reason r (Tagged last opcode stag to payload) = first_fault (
     missing_fault r.missing
     ∷ reason_if REASON_RESPONSE (is_unexpected r opcode last stag to (length payload))
     ∷ [])
-segment_fault r (Untagged last opcode w queue msn offset payload) = first_fault (
+segment_reason r (Untagged last opcode w queue msn offset payload) = first_fault (
     reason_if REASON_MSN (not (msn == next_msn r.received queue))
     ∷ reason_if REASON_OFFSET (not (offset == next_offset r.received queue))
     ∷ no_buffer r (is_send opcode) msn
     ∷ reason_if REASON_FORM (is_malformed opcode last payload)
     ∷ missing_fault r.missing
     ∷ reason_if REASON_REQUESTS (is_too_many r opcode)
-    ∷ reason_if REASON_LONG (has_length (nat_lt r.message_max) (message_completed r.received (Untagged last opcode w queue msn offset payload)))
-    ∷ reason_if REASON_SHORT (has_length (λ n. nat_lt n 16) (message_completed r.received (Untagged last opcode w queue msn offset payload)))
+    ∷ reason_if REASON_LONG (message_length_is (nat_lt r.message_max) (message_completed r.received (Untagged last opcode w queue msn offset payload)))
+    ∷ reason_if REASON_SHORT (message_length_is (λ n. nat_lt n 16) (message_completed r.received (Untagged last opcode w queue msn offset payload)))
     ∷ terminate_fault opcode payload
     ∷ [])

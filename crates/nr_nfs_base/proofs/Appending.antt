@@ -18,13 +18,13 @@ all_fit : (xs ys : List Item) → AllFit xs → AllFit ys → AllFit (xs ++ ys)
 all_fit [] ys p q = q
 all_fit (x ∷ xs) ys p q = (p.0, all_fit xs ys p.1 q)
 
-encodings-append : (xs ys : List Item) → encodings (xs ++ ys) ≡ encodings xs ++ encodings ys
-encodings-append [] ys = refl
-encodings-append (x ∷ xs) ys = ap (λ (b : List ℕ). encoding x ++ b) (encodings-append xs ys) ∙ sym (append_assoc (encoding x) (encodings xs) (encodings ys))
+encodings_append : (xs ys : List Item) → encodings (xs ++ ys) ≡ encodings xs ++ encodings ys
+encodings_append [] ys = refl
+encodings_append (x ∷ xs) ys = ap (λ (b : List ℕ). encoding x ++ b) (encodings_append xs ys) ∙ sym (append_assoc (encoding x) (encodings xs) (encodings ys))
 
 pub appends_both : {a b c : List ℕ} {xs ys : List Item} {P Q : Type 0} → AppendsItems a b xs P → AppendsItems b c ys Q → AppendsItems a c (xs ++ ys) (P × Q)
 appends_both {a} {b} {c} {xs} {ys} p q = record {
-  is = q.is ∙ ap (λ (x : List ℕ). x ++ encodings ys) p.is ∙ append_assoc a (encodings xs) (encodings ys) ∙ ap (λ (x : List ℕ). a ++ x) (sym (encodings-append xs ys));
+  is = q.is ∙ ap (λ (x : List ℕ). x ++ encodings ys) p.is ∙ append_assoc a (encodings xs) (encodings ys) ∙ ap (λ (x : List ℕ). a ++ x) (sym (encodings_append xs ys));
   items_fit = all_fit xs ys p.items_fit q.items_fit;
   fits = (p.fits, q.fits);
 }

@@ -3,7 +3,7 @@ use Rattle.std.proofs.Common.{◌≡◌, ◌≢◌, ℕ, true, false, List, Opti
 use Rattle.std.specs.Prelude.{option_map}
 use Rattle.std.proofs.lemmas.Bool.{eqb-true}
 use Rattle.nr_nfs_base.specs.Codec.{value_with_number}
-use Rattle.nr_nfs_base.specs.StatusUnion.{status_tag_number, status_tags, find-tags}
+use Rattle.nr_nfs_base.specs.StatusUnion.{status_tag_number, status_tags, find_tags}
 
 apart : (n : ℕ) → n ≢ 0 → eqb 0 n ≡ false
 apart n ne = elim (eqb 0 n) as (λ b. eqb 0 n ≡ b → b ≡ false) [
@@ -13,4 +13,4 @@ apart n ne = elim (eqb 0 n) as (λ b. eqb 0 n ≡ b → b ≡ false) [
 
 -- a word other than 0 is the tag of a failure
 pub tag_is : {S : Type 0} (number : S → ℕ) (all : List S) (n : ℕ) (o : Option S) → n ≢ 0 → o ≡ value_with_number number all n → option_map Some o ≡ value_with_number (status_tag_number number) (status_tags all) n
-tag_is number all n o ne is = rw (apart n ne, find-tags number all n, ← is) refl
+tag_is number all n o ne is = rw (apart n ne, find_tags number all n, ← is) refl

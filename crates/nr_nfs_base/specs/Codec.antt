@@ -190,9 +190,9 @@ read_or_none (Ok x) = Some x
 read_or_none (Err at) = None
 
 -- the cursor behind the value that is read, or nothing where an item fails
-abbrev pub cursor_behind : {A : Type 0} → Result (A × Cursor) ℕ → Option Cursor
-cursor_behind (Ok x) = Some x.1
-cursor_behind (Err at) = None
+abbrev pub cursor_after : {A : Type 0} → Result (A × Cursor) ℕ → Option Cursor
+cursor_after (Ok x) = Some x.1
+cursor_after (Err at) = None
 
 -- ---- Results of calls
 

@@ -9,7 +9,7 @@ use Rattle.nr_xdr.specs.Item.{Item, IsBytes, bit}
 use Rattle.nr_xdr.specs.Item.Item.{Unsigned, Hyper, Boolean, Opaque}
 use Rattle.nr_xdr.specs.Items.{TakesAll}
 use Rattle.nr_xdr.specs.Reading.{Cursor, Takes, unsigned_at, hyper_at, boolean_at, opaque_at}
-use Rattle.nr_xdr.proofs.WordBytes.{length-word}
+use Rattle.nr_xdr.proofs.WordBytes.{length_word}
 use Rattle.nr_xdr.proofs.Items.{unsigned_takes, unsigned_again, hyper_takes, hyper_again, boolean_takes, boolean_again, opaque_takes, opaque_again}
 use Rattle.nr_xdr.specs.Sequencing.{◌>>=◌, or_place}
 use Rattle.nr_nfs_base.specs.Codec.{Codec, Lawful, word, hyper, boolean, opaque, void, ◌⊗◌, structure, value_with_number, value_or_fault, enumeration, Arms, discriminated_union, arm_value, value_items, value_fits, value_read, optional, linked_list_items, linked_list_fits, with_first, linked_list_rest, linked_list_read, linked_list, values_read, array}
@@ -39,23 +39,23 @@ takes_one old new item t = (new, t, refl)
 one_taken : (old new : Cursor) (item : Item) → TakesAll old new (item ∷ []) → Takes old new item
 one_taken old new item t = subst (λ (c : Cursor). Takes old c item) t.2 t.1
 
-pub TakesAll-append : (old mid new : Cursor) (xs ys : List Item) → TakesAll old mid xs → TakesAll mid new ys → TakesAll old new (xs ++ ys)
-TakesAll-append old mid new [] ys s t = subst (λ (c : Cursor). TakesAll c new ys) (sym s) t
-TakesAll-append old mid new (x ∷ xs) ys s t = (s.0, s.1, TakesAll-append s.0 mid new xs ys s.2 t)
+pub TakesAll_append : (old mid new : Cursor) (xs ys : List Item) → TakesAll old mid xs → TakesAll mid new ys → TakesAll old new (xs ++ ys)
+TakesAll_append old mid new [] ys s t = subst (λ (c : Cursor). TakesAll c new ys) (sym s) t
+TakesAll_append old mid new (x ∷ xs) ys s t = (s.0, s.1, TakesAll_append s.0 mid new xs ys s.2 t)
 
-pub TakesAll-split : (old new : Cursor) (xs ys : List Item) → TakesAll old new (xs ++ ys) → (mid : Cursor) × TakesAll old mid xs × TakesAll mid new ys
-TakesAll-split old new [] ys t = (old, refl, t)
-TakesAll-split old new (x ∷ xs) ys t =
-    let s = TakesAll-split t.0 new xs ys t.2 in
+pub TakesAll_split : (old new : Cursor) (xs ys : List Item) → TakesAll old new (xs ++ ys) → (mid : Cursor) × TakesAll old mid xs × TakesAll mid new ys
+TakesAll_split old new [] ys t = (old, refl, t)
+TakesAll_split old new (x ∷ xs) ys t =
+    let s = TakesAll_split t.0 new xs ys t.2 in
     (s.0, (t.0, t.1, s.1), s.2)
 
 bytes_behind : (front rest : List ℕ) → IsBytes (front ++ rest) → IsBytes rest
 bytes_behind front rest h i = rw (get_or-append-add front rest i 0) at (h (length front + i))
 
-pub IsBytes-behind : (old new : Cursor) (items : List Item) → IsBytes old.rest → TakesAll old new items → IsBytes new.rest
-IsBytes-behind old new [] h t = subst (λ (c : Cursor). IsBytes c.rest) t h
-IsBytes-behind old new (x ∷ xs) h t =
-    IsBytes-behind t.0 new xs (bytes_behind (t.1).bytes (t.0).rest (subst (λ (b : List ℕ). IsBytes b) (t.1).rest h)) t.2
+pub IsBytes_behind : (old new : Cursor) (items : List Item) → IsBytes old.rest → TakesAll old new items → IsBytes new.rest
+IsBytes_behind old new [] h t = subst (λ (c : Cursor). IsBytes c.rest) t h
+IsBytes_behind old new (x ∷ xs) h t =
+    IsBytes_behind t.0 new xs (bytes_behind (t.1).bytes (t.0).rest (subst (λ (b : List ℕ). IsBytes b) (t.1).rest h)) t.2
 
 -- ---- Single items
 
@@ -104,12 +104,12 @@ pub ◌⊠◌ : {A B : Type 0} {a : Codec A} {b : Codec B} → Lawful a → Lawf
       let x = bind_ok (a.read old) (λ x. b.read x.1 >>= λ y. Ok ((x.0, y.0), y.1)) (v, new) e in
       let y = bind_ok (b.read (x.0).1) (λ y. Ok (((x.0).0, y.0), y.1)) (v, new) x.2 in
       let p = la.read_is_encoded old (x.0).0 (x.0).1 fits x.1 in
-      let q = lb.read_is_encoded (x.0).1 (y.0).0 (y.0).1 (IsBytes-behind old (x.0).1 (a.items (x.0).0) fits p.1) y.1 in
-      let both = TakesAll-append old (x.0).1 (y.0).1 (a.items (x.0).0) (b.items (y.0).0) p.1 q.1 in
+      let q = lb.read_is_encoded (x.0).1 (y.0).0 (y.0).1 (IsBytes_behind old (x.0).1 (a.items (x.0).0) fits p.1) y.1 in
+      let both = TakesAll_append old (x.0).1 (y.0).1 (a.items (x.0).0) (b.items (y.0).0) p.1 q.1 in
       subst (λ (z : (A × B) × Cursor). (a ⊗ b).fits z.0 × TakesAll old z.1 ((a ⊗ b).items z.0))
       (ok_is {A = (A × B) × Cursor} (((x.0).0, (y.0).0), (y.0).1) (v, new) y.2) ((p.0, q.0), both);
   encoded_is_read = λ old v new fits t.
-      let s = TakesAll-split old new (a.items v.0) (b.items v.1) t in
+      let s = TakesAll_split old new (a.items v.0) (b.items v.1) t in
       rw (la.encoded_is_read old v.0 s.0 fits.0 s.1, lb.encoded_is_read s.0 v.1 new fits.1 s.2) refl;
 }
 
@@ -161,11 +161,11 @@ discriminated_union_lawful {T} {A} tag arms lt la = record {
   read_is_encoded = λ old v new fits e.
       let t = bind_ok (tag.read old) (λ t. arms.read t.0 t.1) (v, new) e in
       let p = lt.read_is_encoded old (t.0).0 (t.0).1 fits t.1 in
-      let q = la.read_is_encoded (t.0).0 (t.0).1 v new (IsBytes-behind old (t.0).1 (tag.items (t.0).0) fits p.1) t.2 in
-      let both = TakesAll-append old (t.0).1 new (tag.items (t.0).0) (arms.items v) p.1 (q.1).1 in
+      let q = la.read_is_encoded (t.0).0 (t.0).1 v new (IsBytes_behind old (t.0).1 (tag.items (t.0).0) fits p.1) t.2 in
+      let both = TakesAll_append old (t.0).1 new (tag.items (t.0).0) (arms.items v) p.1 (q.1).1 in
       subst (λ (k : T). (tag.fits k × arms.fits v) × TakesAll old new (tag.items k ++ arms.items v)) (sym q.0) ((p.0, (q.1).0), both);
   encoded_is_read = λ old v new fits t.
-      let s = TakesAll-split old new (tag.items (arms.tag_of v)) (arms.items v) t in
+      let s = TakesAll_split old new (tag.items (arms.tag_of v)) (arms.items v) t in
       rw (lt.encoded_is_read old (arms.tag_of v) s.0 fits.0 s.1) (la.encoded_is_read v s.0 new fits.1 s.2);
 }
 
@@ -198,13 +198,13 @@ optional_lawful c l = discriminated_union_lawful boolean _ boolean_lawful (recor
 
 -- ---- Lists
 
-length-rest : (old new : Cursor) (items : List Item) → TakesAll old new items → length new.rest ≤ length old.rest
-length-rest old new [] t = subst (λ (c : Cursor). length c.rest ≤ length old.rest) t (omega arith)
-length-rest old new (x ∷ xs) t = omega (arith, length-rest t.0 new xs t.2, ap length (t.1).rest, length-append (t.1).bytes (t.0).rest)
+length_rest : (old new : Cursor) (items : List Item) → TakesAll old new items → length new.rest ≤ length old.rest
+length_rest old new [] t = subst (λ (c : Cursor). length c.rest ≤ length old.rest) t (omega arith)
+length_rest old new (x ∷ xs) t = omega (arith, length_rest t.0 new xs t.2, ap length (t.1).rest, length-append (t.1).bytes (t.0).rest)
 
 boolean_shrinks : (b : Bool) (old new : Cursor) (items : List Item) → TakesAll old new (Boolean b ∷ items) → length new.rest < length old.rest
 boolean_shrinks b old new items t =
-    omega (arith, length-rest t.0 new items t.2, ap length (t.1).rest, length-append (t.1).bytes (t.0).rest, ap length ((t.1).reads).bytes_are, length-word (bit b))
+    omega (arith, length_rest t.0 new items t.2, ap length (t.1).rest, length-append (t.1).bytes (t.0).rest, ap length ((t.1).reads).bytes_are, length_word (bit b))
 
 -- a flag takes bytes
 optional_shrinks : {A : Type 0} (c : Codec A) (old new : Cursor) (o : Option A) → TakesAll old new ((optional c).items o) → length new.rest < length old.rest
@@ -227,8 +227,8 @@ linked_list_step {A} c l n old new None after vs fits p e more =
 linked_list_step {A} c l n old new (Some v) after vs fits p e more =
     let b = with_first_ok v (linked_list_read c n after) vs new e in
     let read : linked_list_read c n after ≡ Ok ((b.0).0, new) = b.1 ∙ ap (λ (d : Cursor). Ok ((b.0).0, d)) b.3 in
-    let q = more (b.0).0 (IsBytes-behind old after ((optional c).items (Some v)) fits p.1) read in
-    subst (λ (ws : List A). Chains c old ws new) b.2 ((p.0, q.0), TakesAll-append old after new ((optional c).items (Some v)) (linked_list_items c (b.0).0) p.1 q.1)
+    let q = more (b.0).0 (IsBytes_behind old after ((optional c).items (Some v)) fits p.1) read in
+    subst (λ (ws : List A). Chains c old ws new) b.2 ((p.0, q.0), TakesAll_append old after new ((optional c).items (Some v)) (linked_list_items c (b.0).0) p.1 q.1)
 
 linked_list_takes : {A : Type 0} (c : Codec A) (l : Lawful (optional c)) (n : ℕ) (old new : Cursor) (vs : List A) → IsBytes old.rest → linked_list_read c n old ≡ Ok (vs, new) → Chains c old vs new
 unfolding linked_list_read
@@ -243,10 +243,10 @@ unfolding linked_list_read
 linked_list_again c l [] zero old new le fits t = absurd (omega (arith, optional_shrinks c old new None t))
 linked_list_again c l [] (suc n) old new le fits t = rw (l.encoded_is_read old None new fits t) refl
 linked_list_again c l (v ∷ vs) zero old new le fits t =
-    let s = TakesAll-split old new ((optional c).items (Some v)) (linked_list_items c vs) t in
+    let s = TakesAll_split old new ((optional c).items (Some v)) (linked_list_items c vs) t in
     absurd (omega (arith, optional_shrinks c old s.0 (Some v) s.1))
 linked_list_again c l (v ∷ vs) (suc n) old new le fits t =
-    let s = TakesAll-split old new ((optional c).items (Some v)) (linked_list_items c vs) t in
+    let s = TakesAll_split old new ((optional c).items (Some v)) (linked_list_items c vs) t in
     let less : length (s.0).rest ≤ n = omega (arith, optional_shrinks c old s.0 (Some v) s.1) in
     rw (l.encoded_is_read old (Some v) s.0 fits.0 s.1, linked_list_again c l vs n s.0 new less fits.1 s.2) refl
 
@@ -269,8 +269,8 @@ values_read_takes {A} c l (suc n) old new vs fits e =
     let p = l.read_is_encoded old (x.0).0 (x.0).1 fits x.1 in
     let b = with_first_ok (x.0).0 (values_read c n (x.0).1) vs new x.2 in
     let read : values_read c n (x.0).1 ≡ Ok ((b.0).0, new) = b.1 ∙ ap (λ (d : Cursor). Ok ((b.0).0, d)) b.3 in
-    let q = values_read_takes c l n (x.0).1 new (b.0).0 (IsBytes-behind old (x.0).1 (c.items (x.0).0) fits p.1) read in
-    let both = TakesAll-append old (x.0).1 new (c.items (x.0).0) (flat_map c.items (b.0).0) p.1 (q.0).1 in
+    let q = values_read_takes c l n (x.0).1 new (b.0).0 (IsBytes_behind old (x.0).1 (c.items (x.0).0) fits p.1) read in
+    let both = TakesAll_append old (x.0).1 new (c.items (x.0).0) (flat_map c.items (b.0).0) p.1 (q.0).1 in
     subst (λ (ws : List A). Lists c old ws new × (length ws ≡ suc n)) b.2 (((p.0, (q.0).0), rw flat_map-cons both), ap suc q.1)
 
 values_read_again : {A : Type 0} (c : Codec A) (l : Lawful c) (vs : List A) (old new : Cursor) → AllByRecursion c.fits vs → TakesAll old new (flat_map c.items vs) → values_read c (length vs) old ≡ Ok (vs, new)
@@ -278,7 +278,7 @@ unfolding values_read
 values_read_again c l [] old new fits t = ap (λ (d : Cursor). Ok ([], d)) t
 values_read_again c l (v ∷ vs) old new fits t =
     let cut : TakesAll old new (c.items v ++ flat_map c.items vs) = rw flat_map-cons at t in
-    let s = TakesAll-split old new (c.items v) (flat_map c.items vs) cut in
+    let s = TakesAll_split old new (c.items v) (flat_map c.items vs) cut in
     rw (l.encoded_is_read old v s.0 fits.0 s.1, values_read_again c l vs s.0 new fits.1 s.2) refl
 
 pub array_lawful : {A : Type 0} (c : Codec A) → Lawful c → Lawful (array c)
@@ -287,10 +287,10 @@ array_lawful {A} c l = record {
   read_is_encoded = λ old vs new fits e.
       let n = bind_ok (word.read old) (λ n. values_read c n.0 n.1) (vs, new) e in
       let p = word_lawful.read_is_encoded old (n.0).0 (n.0).1 fits n.1 in
-      let q = values_read_takes c l (n.0).0 (n.0).1 new vs (IsBytes-behind old (n.0).1 (word.items (n.0).0) fits p.1) n.2 in
+      let q = values_read_takes c l (n.0).0 (n.0).1 new vs (IsBytes_behind old (n.0).1 (word.items (n.0).0) fits p.1) n.2 in
       let count = subst (λ (k : ℕ). word.fits k × TakesAll old (n.0).1 (word.items k)) (sym q.1) p in
-      ((count.0, (q.0).0), TakesAll-append old (n.0).1 new (word.items (length vs)) (flat_map c.items vs) count.1 (q.0).1);
+      ((count.0, (q.0).0), TakesAll_append old (n.0).1 new (word.items (length vs)) (flat_map c.items vs) count.1 (q.0).1);
   encoded_is_read = λ old vs new fits t.
-      let s = TakesAll-split old new (word.items (length vs)) (flat_map c.items vs) t in
+      let s = TakesAll_split old new (word.items (length vs)) (flat_map c.items vs) t in
       rw (word_lawful.encoded_is_read old (length vs) s.0 fits.0 s.1, values_read_again c l vs s.0 new fits.1 s.2) refl;
 }

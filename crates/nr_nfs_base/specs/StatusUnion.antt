@@ -19,19 +19,19 @@ abbrev pub status_tags : {S : Type 0} → List S → List (Option S)
 status_tags all = None ∷ map Some all
 
 -- the tag with a number is the failure with that number
-pub find-tags : {S : Type 0} (number : S → ℕ) (all : List S) (n : ℕ) → find (λ t. status_tag_number number t == n) (map Some all) ≡ option_map Some (value_with_number number all n)
-find-tags number [] n = refl
-find-tags {S} number (x ∷ xs) n =
+pub find_tags : {S : Type 0} (number : S → ℕ) (all : List S) (n : ℕ) → find (λ t. status_tag_number number t == n) (map Some all) ≡ option_map Some (value_with_number number all n)
+find_tags number [] n = refl
+find_tags {S} number (x ∷ xs) n =
     elim (number x == n) as (λ b. cond b (Some (Some x)) (find (λ t. status_tag_number number t == n) (map Some xs)) ≡ option_map Some (cond b (Some x) (value_with_number number xs n))) [
       | true ↦ refl
-      | false ↦ find-tags number xs n
+      | false ↦ find_tags number xs n
     ]
 
 pub each_status_tag : {S : Type 0} (number : S → ℕ) (all : List S) → ((s : S) → (0 == number s) ≡ false)
     → ((s : S) → value_with_number number all (number s) ≡ Some s) → (t : Option S)
     → value_with_number (status_tag_number number) (status_tags all) (status_tag_number number t) ≡ Some t
 each_status_tag number all not_ok each None = refl
-each_status_tag number all not_ok each (Some s) = rw (not_ok s, find-tags number all (number s), each s) refl
+each_status_tag number all not_ok each (Some s) = rw (not_ok s, find_tags number all (number s), each s) refl
 
 abbrev pub status_union_tag : {D F S : Type 0} → StatusUnion D F S → Option S
 status_union_tag (Done d) = None

@@ -2,7 +2,7 @@
 //! READDIR and READDIRPLUS, and functions that skip them without memory.
 
 ghost use Rattle.std.specs.Prelude.{◌≡◌};
-ghost use Rattle.nr_nfs_base.specs.Codec.{cursor_behind};
+ghost use Rattle.nr_nfs_base.specs.Codec.{cursor_after};
 ghost use Rattle.nr_nfs_base.specs.Fronts.{each_success, read_args_front, read_res_front, readdir_args_front, readdirplus_args_front, readlink_res_front, success_codec, success_lawful, success_number, successes, symlink_args_front, write_args_front};
 
 use crate::attributes::Attributes;
@@ -86,7 +86,7 @@ impl Skip for Success {
 /// The reader at the length word of WRITE's data. `arguments` is at the first byte of WRITE's arguments. `None` where an
 /// item before the data fails. Takes no memory.
 pub fn skip_to_write_data<'a>(arguments: Reader<'a>) -> Option<Reader<'a>>
-    ensures { result ≡ cursor_behind (write_args_front.read arguments.entry) }
+    ensures { result ≡ cursor_after (write_args_front.read arguments.entry) }
 {
     WriteArgsFront::skip_from(arguments)
 }
@@ -94,7 +94,7 @@ pub fn skip_to_write_data<'a>(arguments: Reader<'a>) -> Option<Reader<'a>>
 /// The reader at the length word of SYMLINK's path. `arguments` is at the first byte of SYMLINK's arguments. `None`
 /// where an item before the path fails. Takes no memory.
 pub fn skip_to_symlink_path<'a>(arguments: Reader<'a>) -> Option<Reader<'a>>
-    ensures { result ≡ cursor_behind (symlink_args_front.read arguments.entry) }
+    ensures { result ≡ cursor_after (symlink_args_front.read arguments.entry) }
 {
     SymlinkArgsFront::skip_from(arguments)
 }
@@ -102,7 +102,7 @@ pub fn skip_to_symlink_path<'a>(arguments: Reader<'a>) -> Option<Reader<'a>>
 /// The reader at the count of READ. `arguments` is at the first byte of READ's arguments. `None` where an item before the
 /// count fails. Takes no memory.
 pub fn skip_to_read_count<'a>(arguments: Reader<'a>) -> Option<Reader<'a>>
-    ensures { result ≡ cursor_behind (read_args_front.read arguments.entry) }
+    ensures { result ≡ cursor_after (read_args_front.read arguments.entry) }
 {
     ReadArgsFront::skip_from(arguments)
 }
@@ -110,7 +110,7 @@ pub fn skip_to_read_count<'a>(arguments: Reader<'a>) -> Option<Reader<'a>>
 /// The reader at the count of READDIR. `arguments` is at the first byte of READDIR's arguments. `None` where an item
 /// before the count fails. Takes no memory.
 pub fn skip_to_readdir_count<'a>(arguments: Reader<'a>) -> Option<Reader<'a>>
-    ensures { result ≡ cursor_behind (readdir_args_front.read arguments.entry) }
+    ensures { result ≡ cursor_after (readdir_args_front.read arguments.entry) }
 {
     ReaddirArgsFront::skip_from(arguments)
 }
@@ -118,7 +118,7 @@ pub fn skip_to_readdir_count<'a>(arguments: Reader<'a>) -> Option<Reader<'a>>
 /// The reader at the maxcount of READDIRPLUS. `arguments` is at the first byte of READDIRPLUS's arguments. `None` where
 /// an item before the maxcount fails. Takes no memory.
 pub fn skip_to_readdirplus_maxcount<'a>(arguments: Reader<'a>) -> Option<Reader<'a>>
-    ensures { result ≡ cursor_behind (readdirplus_args_front.read arguments.entry) }
+    ensures { result ≡ cursor_after (readdirplus_args_front.read arguments.entry) }
 {
     ReaddirplusArgsFront::skip_from(arguments)
 }
@@ -126,7 +126,7 @@ pub fn skip_to_readdirplus_maxcount<'a>(arguments: Reader<'a>) -> Option<Reader<
 /// The reader at the length word of READ's data. `results` is at the status of READ's results. `None` where the status
 /// isn't 0 or an item before the data fails. Takes no memory.
 pub fn skip_to_read_data<'a>(results: Reader<'a>) -> Option<Reader<'a>>
-    ensures { result ≡ cursor_behind (read_res_front.read results.entry) }
+    ensures { result ≡ cursor_after (read_res_front.read results.entry) }
 {
     <(Success, ReadOkFront)>::skip_from(results)
 }
@@ -134,7 +134,7 @@ pub fn skip_to_read_data<'a>(results: Reader<'a>) -> Option<Reader<'a>>
 /// The reader at the length word of READLINK's path. `results` is at the status of READLINK's results. `None` where the
 /// status isn't 0 or an item before the path fails. Takes no memory.
 pub fn skip_to_readlink_path<'a>(results: Reader<'a>) -> Option<Reader<'a>>
-    ensures { result ≡ cursor_behind (readlink_res_front.read results.entry) }
+    ensures { result ≡ cursor_after (readlink_res_front.read results.entry) }
 {
     <(Success, ReadlinkOkFront)>::skip_from(results)
 }

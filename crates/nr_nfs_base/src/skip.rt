@@ -1,7 +1,7 @@
 //! Skipping of values.
 
 ghost use Rattle.std.specs.Prelude.{◌≡◌, Some, None};
-ghost use Rattle.nr_nfs_base.specs.Codec.{cursor_behind, enumeration, read_or_none};
+ghost use Rattle.nr_nfs_base.specs.Codec.{cursor_after, enumeration, read_or_none};
 
 use crate::attributes::{Attributes, AttributesParts, SpecialData};
 use crate::file_type::FileType;
@@ -18,7 +18,7 @@ use nr_xdr::Reader;
 pub trait Skip: Xdr {
     /// The reader behind the value at the reader's place. `None` where an item of it fails.
     fn skip_from<'a>(reader: Reader<'a>) -> Option<Reader<'a>>
-        ensures { result ≡ cursor_behind (Self.codec.read reader.entry) };
+        ensures { result ≡ cursor_after (Self.codec.read reader.entry) };
 }
 
 #[tactic(auto, unfolding(crate::specs::Codec::word))]
@@ -77,7 +77,7 @@ fn next_numbered<'a, T: Numbered>(mut reader: Reader<'a>) -> Option<(T, Reader<'
 
 /// Skips a value of an enumeration.
 pub fn skip_numbered<'a, T: Numbered>(reader: Reader<'a>) -> Option<Reader<'a>>
-    ensures { result ≡ cursor_behind ((enumeration T.number T.all).read reader.entry) }
+    ensures { result ≡ cursor_after ((enumeration T.number T.all).read reader.entry) }
 {
     match next_numbered::<T>(reader) {
         None => None,

@@ -8,17 +8,17 @@ use Rattle.nr_tree.specs.declared.node.Node.{Node}
 use Rattle.nr_tree.specs.declared.rules.Space.{Space}
 use Rattle.nr_tree.specs.Entries.{Entry}
 use Rattle.nr_tree.specs.Tree.{Tree, is_regular}
-use Rattle.nr_tree.specs.Sane.{IsSane, largest_file}
+use Rattle.nr_tree.specs.Sane.{IsSane, file_size_max}
 use Rattle.nr_tree.specs.Steps.{is_live_at, CanAddNode, entries_at, is_regular_at}
 use Rattle.nr_tree.specs.Changes.{entry_at}
 use Rattle.nr_tree.specs.Rules.{first, on, number_of_handle, size_rule}
-use Rattle.nr_tree.proofs.SkeletonChanges.{value_at-at}
+use Rattle.nr_tree.proofs.SkeletonChanges.{value_at_at}
 use Rattle.nr_tree.proofs.PassedRules.{AllClear, all_clear, clear, is_name}
 use Rattle.nr_ops_dir.specs.Entries.{number_of_entry, entry_rules}
 use Rattle.nr_nfs_args.specs.declared.create.CreateArgs.{CreateArgs}
 use Rattle.nr_nfs_args.specs.declared.create.CreateHow.{CreateHow}
 use Rattle.nr_nfs_args.specs.declared.create.CreateHow.TheVariants.{Unchecked, Guarded, Exclusive}
-use Rattle.nr_tree.proofs.Lists.{Each-found}
+use Rattle.nr_tree.proofs.Lists.{Each_found}
 use Rattle.nr_tree.proofs.Contents.{node_at, Named}
 use Rattle.nr_tree.proofs.StepLemmas.{number_found}
 use Rattle.nr_tree.proofs.RenameLemmas.{no_number}
@@ -33,11 +33,11 @@ not_false : (b : Bool) → not b ≡ false → b ≡ true
 not_false true e = refl
 not_false false e = absurd cc
 
-size_within : (size : Option ℕ) → size_rule size ≡ None → (n : ℕ) → size ≡ Some n → n ≤ largest_file
+size_within : (size : Option ℕ) → size_rule size ≡ None → (n : ℕ) → size ≡ Some n → n ≤ file_size_max
 size_within None p n e = absurd cc
 size_within (Some m) p n e = let le : m ≤ 16777216 = ltb-false 16777216 m (clear (ltb 16777216 m) Fbig p) in subst (λ (k : ℕ). k ≤ 16777216) (some_number m n e) le
 
-zeros_within : (size : Option ℕ) → size_rule size ≡ None → length (replicate {A = ℕ} (unwrap_or size 0) 0) ≤ largest_file
+zeros_within : (size : Option ℕ) → size_rule size ≡ None → length (replicate {A = ℕ} (unwrap_or size 0) 0) ≤ file_size_max
 zeros_within None p = omega arith
 zeros_within (Some m) p = let le : m ≤ 16777216 = size_within (Some m) p m refl in omega (arith, length-replicate {A = ℕ} m 0, le)
 
@@ -56,7 +56,7 @@ can_make_file t c space now args none free =
       links = λ dir. absurd cc;
     }
 
-regular_by : (c : Caller) (how : CreateHow) (v : Node) → first (existing_file_rules c how v) ≡ None → (size : ℕ) → size_to_set how ≡ Some size → (is_regular v ≡ true) × (size ≤ largest_file)
+regular_by : (c : Caller) (how : CreateHow) (v : Node) → first (existing_file_rules c how v) ≡ None → (size : ℕ) → size_to_set how ≡ Some size → (is_regular v ≡ true) × (size ≤ file_size_max)
 regular_by c (Unchecked a) v none size e =
     let all : AllClear (existing_file_rules c (Unchecked a) v) = all_clear (existing_file_rules c (Unchecked a) v) none in
     (not_false (is_regular v) (clear (not (is_regular v)) Exist all.0), size_within a.size all.1.1.0 size e)
@@ -65,14 +65,14 @@ regular_by c (Exclusive verifier) v none size e = absurd cc
 
 -- the file whose size CREATE sets
 pub can_set_size : (t : Tree) (c : Caller) (space : Space) (args : CreateArgs) (n : ℕ) → IsSane t → first (create_rules t c space args) ≡ None → number_of_entry t (number_of_handle args.dir) args.name ≡ Some n
-    → (size : ℕ) → size_to_set args.how ≡ Some size → (is_regular_at t n ≡ true) × (size ≤ largest_file)
+    → (size : ℕ) → size_to_set args.how ≡ Some size → (is_regular_at t n ≡ true) × (size ≤ file_size_max)
 can_set_size t c space args n sane none found size e =
     let d : ℕ = number_of_handle args.dir in
     let all : AllClear (create_rules t c space args) = all_clear (create_rules t c space args) none in
     let x : (x : Entry) × (entry_at t d args.name ≡ Some x) × (x.number ≡ n) = number_found (entry_at t d args.name) n found in
-    let live : is_live_at t x.0.number ≡ true = Each-found (λ (y : Entry). is_live_at t y.number ≡ true) args.name (entries_at t d) x.0 x.1 (sane.skeleton.names_live d) in
+    let live : is_live_at t x.0.number ≡ true = Each_found (λ (y : Entry). is_live_at t y.number ≡ true) args.name (entries_at t d) x.0 x.1 (sane.skeleton.names_live d) in
     let v : Named t.nodes n = node_at t.nodes n (ap (is_live_at t) (sym x.2) ∙ live) in
     let rules : first (existing_file_rules c args.how v.0) ≡ None =
     ap (λ (o : Option Node). first (on o (existing_file_rules c args.how))) (sym v.1) ∙ ap (λ (o : Option ℕ). first (file_rules t c args.how o)) (sym found) ∙ all.1.1.0 in
-    let ok : (is_regular v.0 ≡ true) × (size ≤ largest_file) = regular_by c args.how v.0 rules size e in
-    (value_at-at is_regular false t.nodes n v.0 v.1 ∙ ok.0, ok.1)
+    let ok : (is_regular v.0 ≡ true) × (size ≤ file_size_max) = regular_by c args.how v.0 rules size e in
+    (value_at_at is_regular false t.nodes n v.0 v.1 ∙ ok.0, ok.1)

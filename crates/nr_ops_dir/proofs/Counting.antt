@@ -34,14 +34,14 @@ past_end [] n le = drop_none n
 past_end (x ∷ xs) zero le = absurd (omega (arith, le))
 past_end (x ∷ xs) (suc n) le = past_end xs n (omega (arith, le))
 
-pub total-append : (f : Entry → ℕ) (xs ys : List Entry) → total f (xs ++ ys) ≡ total f xs + total f ys
-total-append f [] ys = omega arith
-total-append f (x ∷ xs) ys = omega (arith, total-append f xs ys)
+pub total_append : (f : Entry → ℕ) (xs ys : List Entry) → total f (xs ++ ys) ≡ total f xs + total f ys
+total_append f [] ys = omega arith
+total_append f (x ∷ xs) ys = omega (arith, total_append f xs ys)
 
 -- ===== the longest list that passes
 
-pub longest-same : (f g : List Entry → Bool) → ((es : List Entry) → f es ≡ g es) → (taken es : List Entry) → longest f taken es ≡ longest g taken es
-longest-same f g same taken es = ap (λ (h : List Entry → Bool). longest h taken es) (λ i. λ (l : List Entry). same l i)
+pub longest_same : (f g : List Entry → Bool) → ((es : List Entry) → f es ≡ g es) → (taken es : List Entry) → longest f taken es ≡ longest g taken es
+longest_same f g same taken es = ap (λ (h : List Entry → Bool). longest h taken es) (λ i. λ (l : List Entry). same l i)
 
 takes : (f : List Entry → Bool) (taken : List Entry) (e : Entry) (es : List Entry) → f (taken ++ e ∷ []) ≡ true → longest f taken (e ∷ es) ≡ longest f (taken ++ e ∷ []) es
 takes f taken e es p = ap (λ (b : Bool). cond b (longest f (taken ++ e ∷ []) es) taken) p
@@ -81,10 +81,10 @@ module _ (t : Tree) (limits : Limits) (list : List Entry) (place : ℕ) where
     one_more = take-add count 1 (drop place list) ∙ ap (λ (l : List Entry). taken count ++ take 1 l) (drop_drop place count list ∙ next)
 
     entries_next : total (size_in t limits.detail) (taken count ++ e ∷ []) ≡ entries + size_in t limits.detail e
-    entries_next = omega (arith, total-append (size_in t limits.detail) (taken count) (e ∷ []), is.entries_are)
+    entries_next = omega (arith, total_append (size_in t limits.detail) (taken count) (e ∷ []), is.entries_are)
 
     names_next : total name_size (taken count ++ e ∷ []) ≡ names + name_size e
-    names_next = omega (arith, total-append name_size (taken count) (e ∷ []), is.names_are)
+    names_next = omega (arith, total_append name_size (taken count) (e ∷ []), is.names_are)
 
     fits_by : (b c : Bool) → leb (total (size_in t limits.detail) (taken count ++ e ∷ [])) limits.entries ≡ b → leb (total name_size (taken count ++ e ∷ [])) limits.names ≡ c
         → within t limits (taken count ++ e ∷ []) ≡ (b && c)

@@ -24,7 +24,7 @@ use Rattle.nr_tree.specs.Changes.{next_cookie_of, tree_with_node, tree_with_size
 use Rattle.nr_tree.specs.Rules.{first, on, number_of_handle, space_rule}
 use Rattle.nr_tree.specs.Steps.{IsBelow}
 use Rattle.nr_tree.proofs.PassedRules.{AllClear, all_clear, clear, there, on_some}
-use Rattle.nr_tree.proofs.Bounds.{below-next, below-after, below-handled, below-tree_with_node, below-tree_with_size, below-tree_without_entry, below-tree_with_link, below-tree_with_new_name}
+use Rattle.nr_tree.proofs.Bounds.{below_next, below_after, below_handled, below_tree_with_node, below_tree_with_size, below_tree_without_entry, below_tree_with_link, below_tree_with_new_name}
 use Rattle.nr_ops_dir.specs.Entries.{number_of_entry, entry_rules}
 use Rattle.nr_ops_dir.specs.Create.{create_rules, create_tree, new_file, size_to_set, tree_with_existing_file, tree_with_file}
 use Rattle.nr_ops_dir.specs.Creation.{new_name_rules, mkdir_rules, mkdir_tree, new_directory, symlink_rules, symlink_tree, new_link, mknod_rules, mknod_tree, new_special, special_content}
@@ -40,112 +40,112 @@ entry_clear o rules P some all k =
 
 -- ===== CREATE
 
-pub create-space : (t : Tree) (c : Caller) (space : Space) (args : CreateArgs) → first (create_rules t c space args) ≡ None → space_rule space ≡ None
-create-space t c space args none = let all : AllClear (create_rules t c space args) = all_clear (create_rules t c space args) none in all.1.1.1.0
+pub create_space : (t : Tree) (c : Caller) (space : Space) (args : CreateArgs) → first (create_rules t c space args) ≡ None → space_rule space ≡ None
+create_space t c space args none = let all : AllClear (create_rules t c space args) = all_clear (create_rules t c space args) none in all.1.1.1.0
 
 existing_by : (limit : ℕ) (t : Tree) (now : Time) (n : ℕ) (o : Option ℕ) → IsBelow limit t → IsBelow limit (option_map_or (λ size. tree_with_size t now n size) o t)
 existing_by limit t now n None below = below
-existing_by limit t now n (Some size) below = below-tree_with_size limit t now n size below
+existing_by limit t now n (Some size) below = below_tree_with_size limit t now n size below
 
-below-file : (limit : ℕ) (t : Tree) (c : Caller) (now : Time) (args : CreateArgs) (o : Option ℕ) → IsBelow limit t → IsBelow (limit + 1) (tree_with_file t c now args o)
-below-file limit t c now args None below =
-    below-tree_with_node limit t now (number_of_handle args.dir) args.name (new_file c now (number_of_handle args.dir) args.how) (omega (arith, below.next)) below
-below-file limit t c now args (Some n) below = below-next limit (tree_with_existing_file t now args.how n) (existing_by limit t now n (size_to_set args.how) below)
+below_file : (limit : ℕ) (t : Tree) (c : Caller) (now : Time) (args : CreateArgs) (o : Option ℕ) → IsBelow limit t → IsBelow (limit + 1) (tree_with_file t c now args o)
+below_file limit t c now args None below =
+    below_tree_with_node limit t now (number_of_handle args.dir) args.name (new_file c now (number_of_handle args.dir) args.how) (omega (arith, below.next)) below
+below_file limit t c now args (Some n) below = below_next limit (tree_with_existing_file t now args.how n) (existing_by limit t now n (size_to_set args.how) below)
 
-pub create-below : (limit : ℕ) (t : Tree) (c : Caller) (space : Space) (now : Time) (args : CreateArgs) → IsBelow limit t → IsBelow (limit + 1) (create_tree t c space now args)
-create-below limit t c space now args below =
+pub create_below : (limit : ℕ) (t : Tree) (c : Caller) (space : Space) (now : Time) (args : CreateArgs) → IsBelow limit t → IsBelow (limit + 1) (create_tree t c space now args)
+create_below limit t c space now args below =
     let o : Option ℕ = number_of_entry t (number_of_handle args.dir) args.name in
-    below-after limit t (tree_with_file t c now args o) (first (create_rules t c space args)) below (λ none. below-file limit t c now args o below)
+    below_after limit t (tree_with_file t c now args o) (first (create_rules t c space args)) below (λ none. below_file limit t c now args o below)
 
 -- ===== MKDIR
 
-pub mkdir-space : (t : Tree) (c : Caller) (space : Space) (args : MkdirArgs) → first (mkdir_rules t c space args) ≡ None → space_rule space ≡ None
-mkdir-space t c space args none = let all : AllClear (mkdir_rules t c space args) = all_clear (mkdir_rules t c space args) none in all.1.1.0
+pub mkdir_space : (t : Tree) (c : Caller) (space : Space) (args : MkdirArgs) → first (mkdir_rules t c space args) ≡ None → space_rule space ≡ None
+mkdir_space t c space args none = let all : AllClear (mkdir_rules t c space args) = all_clear (mkdir_rules t c space args) none in all.1.1.0
 
 -- the first cookie of a new directory is 1, which is below the limit since its parent was given a number
-below-directory : (limit : ℕ) (t : Tree) (c : Caller) (space : Space) (now : Time) (args : MkdirArgs) → first (mkdir_rules t c space args) ≡ None → IsBelow limit t
+below_directory : (limit : ℕ) (t : Tree) (c : Caller) (space : Space) (now : Time) (args : MkdirArgs) → first (mkdir_rules t c space args) ≡ None → IsBelow limit t
     → IsBelow (limit + 1) (tree_with_node t now (number_of_handle args.dir) args.name (new_directory c now args))
-below-directory limit t c space now args none below =
+below_directory limit t c space now args none below =
     let all : AllClear (mkdir_rules t c space args) = all_clear (mkdir_rules t c space args) none in
     let new : AllClear (new_name_rules t c args.dir args.name args.attributes) = all_clear (new_name_rules t c args.dir args.name args.attributes) all.0 in
     let entry : AllClear (entry_rules t c args.dir args.name) = all_clear (entry_rules t c args.dir args.name) new.0 in
-    let two : 2 < limit = below-handled limit t args.dir entry.0 below in
-    below-tree_with_node limit t now (number_of_handle args.dir) args.name (new_directory c now args) (omega (arith, two)) below
+    let two : 2 < limit = below_handled limit t args.dir entry.0 below in
+    below_tree_with_node limit t now (number_of_handle args.dir) args.name (new_directory c now args) (omega (arith, two)) below
 
-pub mkdir-below : (limit : ℕ) (t : Tree) (c : Caller) (space : Space) (now : Time) (args : MkdirArgs) → IsBelow limit t → IsBelow (limit + 1) (mkdir_tree t c space now args)
-mkdir-below limit t c space now args below =
+pub mkdir_below : (limit : ℕ) (t : Tree) (c : Caller) (space : Space) (now : Time) (args : MkdirArgs) → IsBelow limit t → IsBelow (limit + 1) (mkdir_tree t c space now args)
+mkdir_below limit t c space now args below =
     let done : Tree = tree_with_node t now (number_of_handle args.dir) args.name (new_directory c now args) in
-    below-after limit t done (first (mkdir_rules t c space args)) below (λ none. below-directory limit t c space now args none below)
+    below_after limit t done (first (mkdir_rules t c space args)) below (λ none. below_directory limit t c space now args none below)
 
 -- ===== SYMLINK
 
-pub symlink-space : (t : Tree) (c : Caller) (space : Space) (args : SymlinkArgs) → first (symlink_rules t c space args) ≡ None → space_rule space ≡ None
-symlink-space t c space args none = let all : AllClear (symlink_rules t c space args) = all_clear (symlink_rules t c space args) none in all.1.1.0
+pub symlink_space : (t : Tree) (c : Caller) (space : Space) (args : SymlinkArgs) → first (symlink_rules t c space args) ≡ None → space_rule space ≡ None
+symlink_space t c space args none = let all : AllClear (symlink_rules t c space args) = all_clear (symlink_rules t c space args) none in all.1.1.0
 
-pub symlink-below : (limit : ℕ) (t : Tree) (c : Caller) (space : Space) (now : Time) (args : SymlinkArgs) → IsBelow limit t → IsBelow (limit + 1) (symlink_tree t c space now args)
-symlink-below limit t c space now args below =
+pub symlink_below : (limit : ℕ) (t : Tree) (c : Caller) (space : Space) (now : Time) (args : SymlinkArgs) → IsBelow limit t → IsBelow (limit + 1) (symlink_tree t c space now args)
+symlink_below limit t c space now args below =
     let done : Tree = tree_with_node t now (number_of_handle args.dir) args.name (new_link c now args) in
-    below-after limit t done (first (symlink_rules t c space args)) below
-    (λ none. below-tree_with_node limit t now (number_of_handle args.dir) args.name (new_link c now args) (omega (arith, below.next)) below)
+    below_after limit t done (first (symlink_rules t c space args)) below
+    (λ none. below_tree_with_node limit t now (number_of_handle args.dir) args.name (new_link c now args) (omega (arith, below.next)) below)
 
 -- ===== MKNOD
 
-pub mknod-space : (t : Tree) (c : Caller) (space : Space) (args : MknodArgs) → first (mknod_rules t c space args) ≡ None → space_rule space ≡ None
-mknod-space t c space args none = let all : AllClear (mknod_rules t c space args) = all_clear (mknod_rules t c space args) none in all.1.1.1.1.0
+pub mknod_space : (t : Tree) (c : Caller) (space : Space) (args : MknodArgs) → first (mknod_rules t c space args) ≡ None → space_rule space ≡ None
+mknod_space t c space args none = let all : AllClear (mknod_rules t c space args) = all_clear (mknod_rules t c space args) none in all.1.1.1.1.0
 
-below-special : (limit : ℕ) (t : Tree) (c : Caller) (now : Time) (args : MknodArgs) (content : Content) → next_cookie_of content ≡ 0 → IsBelow limit t
+below_special : (limit : ℕ) (t : Tree) (c : Caller) (now : Time) (args : MknodArgs) (content : Content) → next_cookie_of content ≡ 0 → IsBelow limit t
     → IsBelow (limit + 1) (tree_with_node t now (number_of_handle args.dir) args.name (new_special c now args content))
-below-special limit t c now args content zero below =
-    below-tree_with_node limit t now (number_of_handle args.dir) args.name (new_special c now args content) (omega (arith, zero, below.next)) below
+below_special limit t c now args content zero below =
+    below_tree_with_node limit t now (number_of_handle args.dir) args.name (new_special c now args content) (omega (arith, zero, below.next)) below
 
 special_by : (limit : ℕ) (t : Tree) (c : Caller) (now : Time) (args : MknodArgs) (what : MknodData) → IsBelow limit t
     → IsBelow (limit + 1) (option_map_or (λ content. tree_with_node t now (number_of_handle args.dir) args.name (new_special c now args content)) (special_content what) t)
-special_by limit t c now args data_of.Reg below = below-next limit t below
-special_by limit t c now args data_of.Dir below = below-next limit t below
-special_by limit t c now args (data_of.Blk d) below = below-special limit t c now args (Block d.device) refl below
-special_by limit t c now args (data_of.Chr d) below = below-special limit t c now args (Character d.device) refl below
-special_by limit t c now args data_of.Lnk below = below-next limit t below
-special_by limit t c now args (data_of.Sock a) below = below-special limit t c now args Socket refl below
-special_by limit t c now args (data_of.Fifo a) below = below-special limit t c now args Fifo refl below
+special_by limit t c now args data_of.Reg below = below_next limit t below
+special_by limit t c now args data_of.Dir below = below_next limit t below
+special_by limit t c now args (data_of.Blk d) below = below_special limit t c now args (Block d.device) refl below
+special_by limit t c now args (data_of.Chr d) below = below_special limit t c now args (Character d.device) refl below
+special_by limit t c now args data_of.Lnk below = below_next limit t below
+special_by limit t c now args (data_of.Sock a) below = below_special limit t c now args Socket refl below
+special_by limit t c now args (data_of.Fifo a) below = below_special limit t c now args Fifo refl below
 
-pub mknod-below : (limit : ℕ) (t : Tree) (c : Caller) (space : Space) (now : Time) (args : MknodArgs) → IsBelow limit t → IsBelow (limit + 1) (mknod_tree t c space now args)
-mknod-below limit t c space now args below =
+pub mknod_below : (limit : ℕ) (t : Tree) (c : Caller) (space : Space) (now : Time) (args : MknodArgs) → IsBelow limit t → IsBelow (limit + 1) (mknod_tree t c space now args)
+mknod_below limit t c space now args below =
     let done : Tree = option_map_or (λ content. tree_with_node t now (number_of_handle args.dir) args.name (new_special c now args content)) (special_content args.what) t in
-    below-after limit t done (first (mknod_rules t c space args)) below (λ none. special_by limit t c now args args.what below)
+    below_after limit t done (first (mknod_rules t c space args)) below (λ none. special_by limit t c now args args.what below)
 
 -- ===== REMOVE and RMDIR
 
-pub remove-space : (t : Tree) (c : Caller) (space : Space) (args : RemoveArgs) → first (remove_rules t c space args) ≡ None → space_rule space ≡ None
-remove-space t c space args none =
+pub remove_space : (t : Tree) (c : Caller) (space : Space) (args : RemoveArgs) → first (remove_rules t c space args) ≡ None → space_rule space ≡ None
+remove_space t c space args none =
     let o : Option ℕ = number_of_entry t (number_of_handle args.dir) args.name in
     let all : AllClear (remove_rules t c space args) = all_clear (remove_rules t c space args) none in
     entry_clear o (remove_of t space) (space_rule space ≡ None) (clear (is_none o) Noent all.1.1.0) all.1.1.1 (λ n of. of.1.0)
 
-pub rmdir-space : (t : Tree) (c : Caller) (space : Space) (args : RmdirArgs) → first (rmdir_rules t c space args) ≡ None → space_rule space ≡ None
-rmdir-space t c space args none =
+pub rmdir_space : (t : Tree) (c : Caller) (space : Space) (args : RmdirArgs) → first (rmdir_rules t c space args) ≡ None → space_rule space ≡ None
+rmdir_space t c space args none =
     let o : Option ℕ = number_of_entry t (number_of_handle args.dir) args.name in
     let all : AllClear (rmdir_rules t c space args) = all_clear (rmdir_rules t c space args) none in
     entry_clear o (rmdir_of t space) (space_rule space ≡ None) (clear (is_none o) Noent all.1.1.1.0) all.1.1.1.1 (λ n of. of.1.1.0)
 
 name_by : (limit : ℕ) (t : Tree) (now : Time) (h name : List ℕ) (o : Option ℕ) → IsBelow limit t → IsBelow limit (option_map_or (λ n. tree_without_entry t now (number_of_handle h) name n) o t)
 name_by limit t now h name None below = below
-name_by limit t now h name (Some n) below = below-tree_without_entry limit t now (number_of_handle h) name n below
+name_by limit t now h name (Some n) below = below_tree_without_entry limit t now (number_of_handle h) name n below
 
-below-name : (limit : ℕ) (t : Tree) (now : Time) (h name : List ℕ) → IsBelow limit t → IsBelow (limit + 1) (tree_without_name t now h name)
-below-name limit t now h name below = below-next limit (tree_without_name t now h name) (name_by limit t now h name (number_of_entry t (number_of_handle h) name) below)
+below_name : (limit : ℕ) (t : Tree) (now : Time) (h name : List ℕ) → IsBelow limit t → IsBelow (limit + 1) (tree_without_name t now h name)
+below_name limit t now h name below = below_next limit (tree_without_name t now h name) (name_by limit t now h name (number_of_entry t (number_of_handle h) name) below)
 
-pub remove-below : (limit : ℕ) (t : Tree) (c : Caller) (space : Space) (now : Time) (args : RemoveArgs) → IsBelow limit t → IsBelow (limit + 1) (remove_tree t c space now args)
-remove-below limit t c space now args below =
-    below-after limit t (tree_without_name t now args.dir args.name) (first (remove_rules t c space args)) below (λ none. below-name limit t now args.dir args.name below)
+pub remove_below : (limit : ℕ) (t : Tree) (c : Caller) (space : Space) (now : Time) (args : RemoveArgs) → IsBelow limit t → IsBelow (limit + 1) (remove_tree t c space now args)
+remove_below limit t c space now args below =
+    below_after limit t (tree_without_name t now args.dir args.name) (first (remove_rules t c space args)) below (λ none. below_name limit t now args.dir args.name below)
 
-pub rmdir-below : (limit : ℕ) (t : Tree) (c : Caller) (space : Space) (now : Time) (args : RmdirArgs) → IsBelow limit t → IsBelow (limit + 1) (rmdir_tree t c space now args)
-rmdir-below limit t c space now args below =
-    below-after limit t (tree_without_name t now args.dir args.name) (first (rmdir_rules t c space args)) below (λ none. below-name limit t now args.dir args.name below)
+pub rmdir_below : (limit : ℕ) (t : Tree) (c : Caller) (space : Space) (now : Time) (args : RmdirArgs) → IsBelow limit t → IsBelow (limit + 1) (rmdir_tree t c space now args)
+rmdir_below limit t c space now args below =
+    below_after limit t (tree_without_name t now args.dir args.name) (first (rmdir_rules t c space args)) below (λ none. below_name limit t now args.dir args.name below)
 
 -- ===== RENAME
 
-pub rename-space : (t : Tree) (c : Caller) (space : Space) (args : RenameArgs) → first (rename_rules t c space args) ≡ None → space_rule space ≡ None
-rename-space t c space args none =
+pub rename_space : (t : Tree) (c : Caller) (space : Space) (args : RenameArgs) → first (rename_rules t c space args) ≡ None → space_rule space ≡ None
+rename_space t c space args none =
     let o : Option ℕ = number_of_entry t (number_of_handle args.from_dir) args.from_name in
     let all : AllClear (rename_rules t c space args) = all_clear (rename_rules t c space args) none in
     entry_clear o (rename_of t space args) (space_rule space ≡ None) (clear (is_none o) Noent all.1.1.0) all.1.1.1 (λ n of. of.1.1.0)
@@ -155,25 +155,25 @@ either limit t u true first second = first
 either limit t u false first second = second
 
 move_by : (limit : ℕ) (t : Tree) (now : Time) (args : RenameArgs) (o : Option ℕ) → IsBelow limit t → IsBelow (limit + 1) (option_map_or (tree_with_move t now args) o t)
-move_by limit t now args None below = below-next limit t below
+move_by limit t now args None below = below_next limit t below
 move_by limit t now args (Some n) below =
     let from : ℕ = number_of_handle args.from_dir in
     let to : ℕ = number_of_handle args.to_dir in
-    either (limit + 1) t (tree_with_new_name t now from args.from_name to args.to_name n) (is_same_node (number_of_entry t to args.to_name) n) (below-next limit t below)
-    (below-tree_with_new_name limit t now from args.from_name to args.to_name n below)
+    either (limit + 1) t (tree_with_new_name t now from args.from_name to args.to_name n) (is_same_node (number_of_entry t to args.to_name) n) (below_next limit t below)
+    (below_tree_with_new_name limit t now from args.from_name to args.to_name n below)
 
-pub rename-below : (limit : ℕ) (t : Tree) (c : Caller) (space : Space) (now : Time) (args : RenameArgs) → IsBelow limit t → IsBelow (limit + 1) (rename_tree t c space now args)
-rename-below limit t c space now args below =
+pub rename_below : (limit : ℕ) (t : Tree) (c : Caller) (space : Space) (now : Time) (args : RenameArgs) → IsBelow limit t → IsBelow (limit + 1) (rename_tree t c space now args)
+rename_below limit t c space now args below =
     let o : Option ℕ = number_of_entry t (number_of_handle args.from_dir) args.from_name in
-    below-after limit t (option_map_or (tree_with_move t now args) o t) (first (rename_rules t c space args)) below (λ none. move_by limit t now args o below)
+    below_after limit t (option_map_or (tree_with_move t now args) o t) (first (rename_rules t c space args)) below (λ none. move_by limit t now args o below)
 
 -- ===== LINK
 
-pub link-space : (t : Tree) (c : Caller) (space : Space) (args : LinkArgs) → first (link_rules t c space args) ≡ None → space_rule space ≡ None
-link-space t c space args none = let all : AllClear (link_rules t c space args) = all_clear (link_rules t c space args) none in all.1.1.1.0
+pub link_space : (t : Tree) (c : Caller) (space : Space) (args : LinkArgs) → first (link_rules t c space args) ≡ None → space_rule space ≡ None
+link_space t c space args none = let all : AllClear (link_rules t c space args) = all_clear (link_rules t c space args) none in all.1.1.1.0
 
-pub link-below : (limit : ℕ) (t : Tree) (c : Caller) (space : Space) (now : Time) (args : LinkArgs) → IsBelow limit t → IsBelow (limit + 1) (link_tree t c space now args)
-link-below limit t c space now args below =
+pub link_below : (limit : ℕ) (t : Tree) (c : Caller) (space : Space) (now : Time) (args : LinkArgs) → IsBelow limit t → IsBelow (limit + 1) (link_tree t c space now args)
+link_below limit t c space now args below =
     let done : Tree = tree_with_link t now (number_of_handle args.dir) args.name (number_of_handle args.file) in
-    below-after limit t done (first (link_rules t c space args)) below
-    (λ none. below-tree_with_link limit t now (number_of_handle args.dir) args.name (number_of_handle args.file) below)
+    below_after limit t done (first (link_rules t c space args)) below
+    (λ none. below_tree_with_link limit t now (number_of_handle args.dir) args.name (number_of_handle args.file) below)

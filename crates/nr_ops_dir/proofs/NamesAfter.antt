@@ -17,15 +17,15 @@ use Rattle.nr_tree.specs.declared.node.Node.{Node}
 use Rattle.nr_tree.specs.declared.node.Content.{Content}
 use Rattle.nr_tree.specs.declared.node.Content.TheVariants.{Regular, Directory, Block, Character, Link, Socket, Fifo}
 use Rattle.nr_tree.specs.Entries.{Entry, is_name, entry_of_name}
-use Rattle.nr_tree.specs.Skeleton.{Skeleton}
+use Rattle.nr_tree.specs.DirectoryGraph.{DirectoryGraph}
 use Rattle.nr_tree.specs.Tree.{Tree, value_at, nodes_with_change, is_dir, entries_in, entries_of}
 use Rattle.nr_tree.specs.Sane.{IsSane}
 use Rattle.nr_tree.specs.Steps.{CanAddNode, entries_at}
 use Rattle.nr_tree.specs.Changes.{on_bytes, node_with_size, tree_with_node, tree_with_size}
 use Rattle.nr_tree.specs.Rules.{number_of_handle, handle_of, first, after, answer}
 use Rattle.nr_tree.specs.Replies.{wcc_data}
-use Rattle.nr_tree.proofs.Lists.{set-here, set-other}
-use Rattle.nr_tree.proofs.SkeletonChanges.{value_at-insert, value_at-metadata, with_change-at, new_entry, skeleton_of-node_with_entry}
+use Rattle.nr_tree.proofs.Lists.{set_here_lem, set_other}
+use Rattle.nr_tree.proofs.SkeletonChanges.{value_at_insert, value_at_metadata, with_change_at, new_entry, skeleton_of-node_with_entry}
 use Rattle.nr_tree.proofs.Contents.{directory_at, found_none}
 use Rattle.nr_tree.proofs.StepLemmas.{not_next}
 use Rattle.nr_tree.specs.declared.rules.Space.{Space}
@@ -52,14 +52,14 @@ named_after_addition t now d name node sane can =
     let nodes : FinMap nat_cmp Node = insert t.nodes t.next node in
     let ne : d ≡ t.next → ⊥ = not_next t d sane can.directory in
     let is : value_at is_dir false nodes d ≡ true =
-    ap (λ (f : ℕ → Bool). f d) (value_at-insert is_dir false t.nodes t.next node) ∙ set-other t.next (is_dir node) (value_at is_dir false t.nodes) d ne ∙ can.directory in
+    ap (λ (f : ℕ → Bool). f d) (value_at_insert is_dir false t.nodes t.next node) ∙ set_other t.next (is_dir node) (value_at is_dir false t.nodes) d ne ∙ can.directory in
     let v : (v : Node) × (get nodes d ≡ Some v) × (is_dir v ≡ true) = directory_at nodes d is in
     let es : value_at entries_in [] nodes d ≡ entries_at t d =
-    ap (λ (f : ℕ → List Entry). f d) (value_at-insert entries_in [] t.nodes t.next node) ∙ set-other t.next (entries_in node) (value_at entries_in [] t.nodes) d ne in
+    ap (λ (f : ℕ → List Entry). f d) (value_at_insert entries_in [] t.nodes t.next node) ∙ set_other t.next (entries_in node) (value_at entries_in [] t.nodes) d ne in
     let e : Entry = new_entry v.0 name t.next in
     let after : value_at entries_in [] (tree_with_node t now d name node).nodes d ≡ value_at entries_in [] nodes d ++ e ∷ [] =
-    ap (λ (k : Skeleton). k.entries d) (skeleton_of-node_with_entry (t.next + 1) nodes d v.0 now name t.next (is_dir node) v.1 v.2)
-    ∙ set-here d (value_at entries_in [] nodes d ++ e ∷ []) (value_at entries_in [] nodes) in
+    ap (λ (k : DirectoryGraph). k.entries d) (skeleton_of-node_with_entry (t.next + 1) nodes d v.0 now name t.next (is_dir node) v.1 v.2)
+    ∙ set_here_lem d (value_at entries_in [] nodes d ++ e ∷ []) (value_at entries_in [] nodes) in
     ap (λ (l : List Entry). option_map (λ (x : Entry). x.number) (entry_of_name name l)) (after ∙ ap (λ (l : List Entry). l ++ e ∷ []) es)
     ∙ ap (option_map (λ (x : Entry). x.number)) (last_found name (entries_at t d) e can.free.free (nat_list_eq_equiv.refl name))
 
@@ -75,7 +75,7 @@ same_entries change Fifo = refl
 same_after_size : (nodes : FinMap nat_cmp Node) (now : Time) (n size : ℕ) (o : Option Node) → get nodes n ≡ o → value_at entries_in [] (nodes_with_change nodes n (node_with_size now size)) ≡ value_at entries_in [] nodes
 same_after_size nodes now n size None e = ap (λ (p : Option Node). value_at entries_in [] (option_map_or (λ node. insert nodes n (node_with_size now size node)) p nodes)) e
 same_after_size nodes now n size (Some v) e =
-    ap (value_at entries_in []) (with_change-at nodes n v (node_with_size now size) e) ∙ value_at-metadata entries_in [] nodes n v (node_with_size now size v) e (same_entries _ v.content)
+    ap (value_at entries_in []) (with_change_at nodes n v (node_with_size now size) e) ∙ value_at_metadata entries_in [] nodes n v (node_with_size now size v) e (same_entries _ v.content)
 
 -- names lead where they did before
 pub named_after_size : (t : Tree) (now : Time) (n size d : ℕ) (name : List ℕ) → number_of_entry (tree_with_size t now n size) d name ≡ number_of_entry t d name

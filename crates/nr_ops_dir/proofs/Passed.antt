@@ -15,7 +15,7 @@ use Rattle.nr_tree.specs.Sane.{skeleton}
 use Rattle.nr_tree.specs.Steps.{IsFree, CanAddLink, is_dir_at, links_at}
 use Rattle.nr_tree.specs.Changes.{entry_at}
 use Rattle.nr_tree.specs.Rules.{first, on, node_of_handle, number_of_handle, handle_rule, name_rules, change_rules, is_dot_name}
-use Rattle.nr_tree.proofs.SkeletonChanges.{value_at-at}
+use Rattle.nr_tree.proofs.SkeletonChanges.{value_at_at}
 use Rattle.nr_tree.proofs.PassedRules.{AllClear, all_clear, clear, handled, got, is_changeable, is_name}
 use Rattle.nr_ops_dir.specs.Entries.{number_of_entry, is_taken, directory_rule, links_rule}
 use Rattle.nr_ops_dir.specs.Links.{link_place_rules, link_rules}
@@ -52,7 +52,7 @@ can_add_link t c space args none =
     record {
       directory = directory_passed t c args.dir place.1.0 place.1.1.1.1.0;
       free = free_name t (number_of_handle args.dir) args.name place.1.1.1.0 (clear (is_taken t (number_of_handle args.dir) args.name) Exist all.1.0);
-      live = value_at-at (λ (node : Node). true) false t.nodes (number_of_handle args.file) v.0 (got t args.file v.0 v.1);
+      live = value_at_at (λ (node : Node). true) false t.nodes (number_of_handle args.file) v.0 (got t args.file v.0 v.1);
       file = clear (is_dir_at t (number_of_handle args.file)) Isdir place.1.1.0;
       links = links_passed t (number_of_handle args.file) all.1.1.0;
     }

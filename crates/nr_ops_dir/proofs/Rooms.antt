@@ -13,7 +13,7 @@ use Rattle.nr_nfs_args.specs.declared.readdir.ReaddirplusArgs.{ReaddirplusArgs}
 use Rattle.nr_tree.specs.Entries.{Entry, Entries, NamesAreValid}
 use Rattle.nr_tree.specs.Listing.{entries_after}
 use Rattle.nr_tree.specs.Tree.{Tree, entries_in, entries_of}
-use Rattle.nr_tree.specs.Sane.{IsSane, IsFitContent}
+use Rattle.nr_tree.specs.Sane.{IsSane, IsValidContent}
 use Rattle.nr_tree.specs.Rules.{first, or_else, on, ◌⇒◌, handle_rule, node_of_handle, number_of_handle}
 use Rattle.nr_tree.specs.declared.node.Node.{Node}
 use Rattle.nr_tree.specs.declared.node.Content.{Content}
@@ -26,7 +26,7 @@ use Rattle.nr_ops_dir.specs.declared.listings.Limits.{Limits}
 use Rattle.nr_ops_dir.specs.declared.listings.Range.{Range}
 use Rattle.nr_ops_dir.specs.declared.listings.Detail.TheVariants.{Names, Nodes}
 use Rattle.nr_ops_dir.proofs.Sizes.{readdir_size, readdirplus_size}
-use Rattle.nr_ops_dir.proofs.Counting.{longest-same}
+use Rattle.nr_ops_dir.proofs.Counting.{longest_same}
 
 -- ===== what a listing's rules come to
 
@@ -47,7 +47,7 @@ module _ (fits : List Entry → Bool) (left : List Entry) where
   pub room_by : (other : List Entry → Bool) (b : Bool) → ((es : List Entry) → fits es ≡ other es) → fits [] ≡ true → goes_on (longest other [] left) left ≡ b → first (room_rules fits left) ≡ (not b ⇒ Toosmall)
   room_by other b same some goes =
       (λ i. or_else (not (some i) ⇒ Toosmall) (or_else (not (goes_on (longest fits [] left) left) ⇒ Toosmall) None)) ∙ or_none (not (goes_on (longest fits [] left) left) ⇒ Toosmall)
-      ∙ ap (λ (l : List Entry). not (goes_on l left) ⇒ Toosmall) (longest-same fits other same [] left) ∙ ap (λ (x : Bool). not x ⇒ Toosmall) goes
+      ∙ ap (λ (l : List Entry). not (goes_on l left) ⇒ Toosmall) (longest_same fits other same [] left) ∙ ap (λ (x : Bool). not x ⇒ Toosmall) goes
 
 -- ===== sizes
 
@@ -89,7 +89,7 @@ module _ (t : Tree) (args : ReaddirArgs) (v : Node) (named : node_of_handle t ar
   readdir-left d is = ap (λ (o : Option Node). option_map_or (λ dir. entries_after args.cookie (entries_in dir)) o []) named ∙ ap (λ (k : Content). entries_after args.cookie (entries_of k)) is
 
   pub readdir-taken : empty_size ≤ min args.count listing_max → readdir_taken t args ≡ longest (within t limits) [] (readdir_left t args)
-  readdir-taken le = longest-same (readdir_fits t args) (within t limits) (same_test le) [] (readdir_left t args)
+  readdir-taken le = longest_same (readdir_fits t args) (within t limits) (same_test le) [] (readdir_left t args)
 
   module _ (c : Caller) (handled : handle_rule t args.dir ≡ None) (passed : first (listing_rules c args.cookie args.verifier v) ≡ None) where
     room : first (readdir_rules t c args) ≡ first (room_rules (readdir_fits t args) (readdir_left t args))
@@ -117,7 +117,7 @@ module _ (t : Tree) (args : ReaddirplusArgs) (v : Node) (named : node_of_handle 
   readdirplus-left d is = ap (λ (o : Option Node). option_map_or (λ dir. entries_after args.cookie (entries_in dir)) o []) named ∙ ap (λ (k : Content). entries_after args.cookie (entries_of k)) is
 
   pub readdirplus-taken : empty_size ≤ min args.maxcount listing_max → readdirplus_taken t args ≡ longest (within t limits_plus) [] (readdirplus_left t args)
-  readdirplus-taken le = longest-same (readdirplus_fits t args) (within t limits_plus) (same_test_plus le) [] (readdirplus_left t args)
+  readdirplus-taken le = longest_same (readdirplus_fits t args) (within t limits_plus) (same_test_plus le) [] (readdirplus_left t args)
 
   module _ (c : Caller) (handled : handle_rule t args.dir ≡ None) (passed : first (listing_rules c args.cookie args.verifier v) ≡ None) where
     room_plus : first (readdirplus_rules t c args) ≡ first (room_rules (readdirplus_fits t args) (readdirplus_left t args))
@@ -137,7 +137,7 @@ module _ (t : Tree) (args : ReaddirplusArgs) (v : Node) (named : node_of_handle 
 
 -- of a sane tree, a directory's names are valid
 pub names_valid : (t : Tree) (h : List ℕ) (v : Node) (d : Entries) → IsSane t → node_of_handle t h ≡ Some v → v.content ≡ Directory d → NamesAreValid d.list
-names_valid t h v d sane named is = (subst IsFitContent is (sane.contents (number_of_handle h) v (got t h v named))).1
+names_valid t h v d sane named is = (subst IsValidContent is (sane.contents (number_of_handle h) v (got t h v named))).1
 
 pub range_is : (a b taken taken_too left left_too : List Entry) (start end : ℕ) → a ≡ b → taken ≡ taken_too → left ≡ left_too → IsRange a start end taken left → IsRange b start end taken_too left_too
 range_is a b taken taken_too left left_too start end p q r = subst (λ (k : List Entry × (List Entry × List Entry)). IsRange k.0 start end k.1.0 k.1.1) (λ i. (p i, (q i, r i)))

@@ -16,12 +16,12 @@ use Rattle.nr_nfs_args.specs.declared.special.SymlinkArgs.{SymlinkArgs}
 use Rattle.nr_tree.specs.declared.node.Content.{Content}
 use Rattle.nr_tree.specs.declared.rules.Space.{Space}
 use Rattle.nr_tree.specs.Tree.{Tree}
-use Rattle.nr_tree.specs.Sane.{IsSane, largest_file}
+use Rattle.nr_tree.specs.Sane.{IsSane, file_size_max}
 use Rattle.nr_tree.specs.Steps.{is_dir_at, is_regular_at, entries_at}
 use Rattle.nr_tree.specs.Changes.{tree_with_node, tree_with_size, tree_without_entry, tree_with_link, tree_with_new_name}
 use Rattle.nr_tree.specs.Rules.{first, number_of_handle}
-use Rattle.nr_tree.proofs.PassedRules.{AllClear, all_clear, clear, on_some, sane-after}
-use Rattle.nr_tree.proofs.StepLemmas.{sane-add_node, sane-add_link, sane-remove_entry, sane-set_size}
+use Rattle.nr_tree.proofs.PassedRules.{AllClear, all_clear, clear, on_some, sane_after}
+use Rattle.nr_tree.proofs.StepLemmas.{sane_add_node, sane_add_link, sane-remove_entry, sane_set_size}
 use Rattle.nr_tree.proofs.RenameLemmas.{sane-rename}
 use Rattle.nr_ops_dir.specs.declared.renaming.Move.{Move}
 use Rattle.nr_ops_dir.specs.Entries.{number_of_entry, has_entries}
@@ -37,46 +37,46 @@ use Rattle.nr_ops_dir.proofs.CanRename.{no_entries, can_rename}
 
 -- ===== CREATE
 
-size_by : (t : Tree) (now : Time) (n : ℕ) (o : Option ℕ) → IsSane t → ((size : ℕ) → o ≡ Some size → (is_regular_at t n ≡ true) × (size ≤ largest_file))
+size_by : (t : Tree) (now : Time) (n : ℕ) (o : Option ℕ) → IsSane t → ((size : ℕ) → o ≡ Some size → (is_regular_at t n ≡ true) × (size ≤ file_size_max))
     → IsSane (option_map_or (λ size. tree_with_size t now n size) o t)
 size_by t now n None sane may = sane
-size_by t now n (Some size) sane may = let ok : (is_regular_at t n ≡ true) × (size ≤ largest_file) = may size refl in sane-set_size t now n size sane ok.0 ok.1
+size_by t now n (Some size) sane may = let ok : (is_regular_at t n ≡ true) × (size ≤ file_size_max) = may size refl in sane_set_size t now n size sane ok.0 ok.1
 
 file_by : (t : Tree) (c : Caller) (space : Space) (now : Time) (args : CreateArgs) (o : Option ℕ) → number_of_entry t (number_of_handle args.dir) args.name ≡ o → IsSane t → first (create_rules t c space args) ≡ None
     → IsSane (tree_with_file t c now args o)
 file_by t c space now args None free sane none =
     let d : ℕ = number_of_handle args.dir in
-    sane-add_node t now d args.name (new_file c now d args.how) sane (can_make_file t c space now args none free)
+    sane_add_node t now d args.name (new_file c now d args.how) sane (can_make_file t c space now args none free)
 file_by t c space now args (Some n) found sane none = size_by t now n (size_to_set args.how) sane (can_set_size t c space args n sane none found)
 
-pub create-sane : (t : Tree) (c : Caller) (space : Space) (now : Time) (args : CreateArgs) → IsSane t → IsSane (create_tree t c space now args)
-create-sane t c space now args sane =
+pub create_sane : (t : Tree) (c : Caller) (space : Space) (now : Time) (args : CreateArgs) → IsSane t → IsSane (create_tree t c space now args)
+create_sane t c space now args sane =
     let o : Option ℕ = number_of_entry t (number_of_handle args.dir) args.name in
-    sane-after t (tree_with_file t c now args o) (first (create_rules t c space args)) sane (λ none. file_by t c space now args o refl sane none)
+    sane_after t (tree_with_file t c now args o) (first (create_rules t c space args)) sane (λ none. file_by t c space now args o refl sane none)
 
 -- ===== MKDIR, SYMLINK, MKNOD
 
-pub mkdir-sane : (t : Tree) (c : Caller) (space : Space) (now : Time) (args : MkdirArgs) → IsSane t → IsSane (mkdir_tree t c space now args)
-mkdir-sane t c space now args sane =
+pub mkdir_sane : (t : Tree) (c : Caller) (space : Space) (now : Time) (args : MkdirArgs) → IsSane t → IsSane (mkdir_tree t c space now args)
+mkdir_sane t c space now args sane =
     let d : ℕ = number_of_handle args.dir in
-    sane-after t (tree_with_node t now d args.name (new_directory c now args)) (first (mkdir_rules t c space args)) sane
-    (λ none. sane-add_node t now d args.name (new_directory c now args) sane (can_make_directory t c space now args none))
+    sane_after t (tree_with_node t now d args.name (new_directory c now args)) (first (mkdir_rules t c space args)) sane
+    (λ none. sane_add_node t now d args.name (new_directory c now args) sane (can_make_directory t c space now args none))
 
-pub symlink-sane : (t : Tree) (c : Caller) (space : Space) (now : Time) (args : SymlinkArgs) → IsSane t → IsSane (symlink_tree t c space now args)
-symlink-sane t c space now args sane =
+pub symlink_sane : (t : Tree) (c : Caller) (space : Space) (now : Time) (args : SymlinkArgs) → IsSane t → IsSane (symlink_tree t c space now args)
+symlink_sane t c space now args sane =
     let d : ℕ = number_of_handle args.dir in
-    sane-after t (tree_with_node t now d args.name (new_link c now args)) (first (symlink_rules t c space args)) sane
-    (λ none. sane-add_node t now d args.name (new_link c now args) sane (can_make_link t c space now args none))
+    sane_after t (tree_with_node t now d args.name (new_link c now args)) (first (symlink_rules t c space args)) sane
+    (λ none. sane_add_node t now d args.name (new_link c now args) sane (can_make_link t c space now args none))
 
 special_by : (t : Tree) (c : Caller) (space : Space) (now : Time) (args : MknodArgs) (o : Option Content) → special_content args.what ≡ o → IsSane t → first (mknod_rules t c space args) ≡ None
     → IsSane (option_map_or (λ content. tree_with_node t now (number_of_handle args.dir) args.name (new_special c now args content)) o t)
 special_by t c space now args None e sane none = sane
 special_by t c space now args (Some content) e sane none =
-    sane-add_node t now (number_of_handle args.dir) args.name (new_special c now args content) sane (can_make_special t c space now args content none e)
+    sane_add_node t now (number_of_handle args.dir) args.name (new_special c now args content) sane (can_make_special t c space now args content none e)
 
-pub mknod-sane : (t : Tree) (c : Caller) (space : Space) (now : Time) (args : MknodArgs) → IsSane t → IsSane (mknod_tree t c space now args)
-mknod-sane t c space now args sane =
-    sane-after t (option_map_or (λ content. tree_with_node t now (number_of_handle args.dir) args.name (new_special c now args content)) (special_content args.what) t) (first (mknod_rules t c space args)) sane
+pub mknod_sane : (t : Tree) (c : Caller) (space : Space) (now : Time) (args : MknodArgs) → IsSane t → IsSane (mknod_tree t c space now args)
+mknod_sane t c space now args sane =
+    sane_after t (option_map_or (λ content. tree_with_node t now (number_of_handle args.dir) args.name (new_special c now args content)) (special_content args.what) t) (first (mknod_rules t c space args)) sane
     (λ none. special_by t c space now args (special_content args.what) refl sane none)
 
 -- ===== REMOVE and RMDIR
@@ -93,17 +93,17 @@ name_by t now h name (Some n) found sane bare = sane-remove_entry t (number_of_h
 name_gone : (t : Tree) (now : Time) (h name : List ℕ) → IsSane t → ((n : ℕ) → number_of_entry t (number_of_handle h) name ≡ Some n → IsBare t n) → IsSane (tree_without_name t now h name)
 name_gone t now h name sane bare = name_by t now h name (number_of_entry t (number_of_handle h) name) refl sane bare
 
-pub remove-sane : (t : Tree) (c : Caller) (space : Space) (now : Time) (args : RemoveArgs) → IsSane t → IsSane (remove_tree t c space now args)
-remove-sane t c space now args sane =
-    sane-after t (tree_without_name t now args.dir args.name) (first (remove_rules t c space args)) sane
+pub remove_sane : (t : Tree) (c : Caller) (space : Space) (now : Time) (args : RemoveArgs) → IsSane t → IsSane (remove_tree t c space now args)
+remove_sane t c space now args sane =
+    sane_after t (tree_without_name t now args.dir args.name) (first (remove_rules t c space args)) sane
     (λ none. name_gone t now args.dir args.name sane (λ n found dir. (
     let all : AllClear (remove_rules t c space args) = all_clear (remove_rules t c space args) none in
     let of : AllClear (remove_of t space n) = on_some (number_of_entry t (number_of_handle args.dir) args.name) n (remove_of t space) found all.1.1.1 in
     absurd (both_ways (is_dir_at t n) (clear (is_dir_at t n) Isdir of.0) dir))))
 
-pub rmdir-sane : (t : Tree) (c : Caller) (space : Space) (now : Time) (args : RmdirArgs) → IsSane t → IsSane (rmdir_tree t c space now args)
-rmdir-sane t c space now args sane =
-    sane-after t (tree_without_name t now args.dir args.name) (first (rmdir_rules t c space args)) sane
+pub rmdir_sane : (t : Tree) (c : Caller) (space : Space) (now : Time) (args : RmdirArgs) → IsSane t → IsSane (rmdir_tree t c space now args)
+rmdir_sane t c space now args sane =
+    sane_after t (tree_without_name t now args.dir args.name) (first (rmdir_rules t c space args)) sane
     (λ none. name_gone t now args.dir args.name sane (λ n found dir. (
     let all : AllClear (rmdir_rules t c space args) = all_clear (rmdir_rules t c space args) none in
     let of : AllClear (rmdir_of t space n) = on_some (number_of_entry t (number_of_handle args.dir) args.name) n (rmdir_of t space) found all.1.1.1.1 in
@@ -122,15 +122,15 @@ move_by t c space now args (Some n) found sane none =
     cond_both same t (tree_with_new_name t now from args.from_name to args.to_name n) IsSane (λ done. sane)
     (λ other. sane-rename t from args.from_name to args.to_name n sane (can_rename t c space args m sane none (record { source = refl; target = refl; node = found; done = refl }) other) now)
 
-pub rename-sane : (t : Tree) (c : Caller) (space : Space) (now : Time) (args : RenameArgs) → IsSane t → IsSane (rename_tree t c space now args)
-rename-sane t c space now args sane =
+pub rename_sane : (t : Tree) (c : Caller) (space : Space) (now : Time) (args : RenameArgs) → IsSane t → IsSane (rename_tree t c space now args)
+rename_sane t c space now args sane =
     let o : Option ℕ = number_of_entry t (number_of_handle args.from_dir) args.from_name in
-    sane-after t (option_map_or (tree_with_move t now args) o t) (first (rename_rules t c space args)) sane (λ none. move_by t c space now args o refl sane none)
+    sane_after t (option_map_or (tree_with_move t now args) o t) (first (rename_rules t c space args)) sane (λ none. move_by t c space now args o refl sane none)
 
 -- ===== LINK
 
-pub link-sane : (t : Tree) (c : Caller) (space : Space) (now : Time) (args : LinkArgs) → IsSane t → IsSane (link_tree t c space now args)
-link-sane t c space now args sane =
+pub link_sane : (t : Tree) (c : Caller) (space : Space) (now : Time) (args : LinkArgs) → IsSane t → IsSane (link_tree t c space now args)
+link_sane t c space now args sane =
     let d : ℕ = number_of_handle args.dir in
     let h : ℕ = number_of_handle args.file in
-    sane-after t (tree_with_link t now d args.name h) (first (link_rules t c space args)) sane (λ none. sane-add_link t now d args.name h sane (can_add_link t c space args none))
+    sane_after t (tree_with_link t now d args.name h) (first (link_rules t c space args)) sane (λ none. sane_add_link t now d args.name h sane (can_add_link t c space args none))

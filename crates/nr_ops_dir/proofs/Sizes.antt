@@ -7,7 +7,7 @@ use Rattle.std.specs.FinMap.{get}
 use Rattle.nr_xdr.specs.Item.{Item, word, hyper, pad_len, encoding, bit}
 use Rattle.nr_xdr.specs.Item.Item.{Unsigned, Hyper, Boolean, Opaque, Fixed}
 use Rattle.nr_xdr.specs.Items.{encodings}
-use Rattle.nr_xdr.proofs.WordBytes.{length-word, length-hyper}
+use Rattle.nr_xdr.proofs.WordBytes.{length_word, length_hyper}
 use Rattle.nr_nfs_base.specs.Codec.{optional, enumeration, linked_list, linked_list_items, word as word_codec, hyper as hyper_codec, boolean, opaque}
 use Rattle.nr_nfs_base.specs.Attributes.{attributes_codec, special_data_codec}
 use Rattle.nr_nfs_base.specs.FileType.{file_type_codec}
@@ -45,21 +45,21 @@ pad_size n = length-replicate {A = ℕ} n 0
 padded_size : (bytes : List ℕ) (n : ℕ) → length (bytes ++ replicate n 0) ≡ length bytes + n
 padded_size bytes n = omega (arith, length-append bytes (replicate n 0), pad_size n)
 
-length-encoding : (x : Item) → length (encoding x) ≡ item_size x
-length-encoding (Unsigned n) = length-word n
-length-encoding (Hyper n) = length-hyper n
-length-encoding (Boolean b) = length-word (bit b)
-length-encoding (Opaque bytes) =
-    omega (arith, length-append (word (length bytes)) (bytes ++ replicate (pad_len (length bytes)) 0), length-word (length bytes), padded_size bytes (pad_len (length bytes)))
-length-encoding (Fixed bytes) = padded_size bytes (pad_len (length bytes))
+length_encoding : (x : Item) → length (encoding x) ≡ item_size x
+length_encoding (Unsigned n) = length_word n
+length_encoding (Hyper n) = length_hyper n
+length_encoding (Boolean b) = length_word (bit b)
+length_encoding (Opaque bytes) =
+    omega (arith, length-append (word (length bytes)) (bytes ++ replicate (pad_len (length bytes)) 0), length_word (length bytes), padded_size bytes (pad_len (length bytes)))
+length_encoding (Fixed bytes) = padded_size bytes (pad_len (length bytes))
 
-pub length-encodings : (xs : List Item) → length (encodings xs) ≡ items_size xs
-length-encodings [] = refl
-length-encodings (x ∷ xs) = omega (arith, length-append (encoding x) (encodings xs), length-encoding x, length-encodings xs)
+pub length_encodings : (xs : List Item) → length (encodings xs) ≡ items_size xs
+length_encodings [] = refl
+length_encodings (x ∷ xs) = omega (arith, length-append (encoding x) (encodings xs), length_encoding x, length_encodings xs)
 
-pub items_size-append : (xs ys : List Item) → items_size (xs ++ ys) ≡ items_size xs + items_size ys
-items_size-append [] ys = omega arith
-items_size-append (x ∷ xs) ys = omega (arith, items_size-append xs ys)
+pub items_size_append : (xs ys : List Item) → items_size (xs ++ ys) ≡ items_size xs + items_size ys
+items_size_append [] ys = omega arith
+items_size_append (x ∷ xs) ys = omega (arith, items_size_append xs ys)
 
 -- ===== attributes and handles
 
@@ -75,13 +75,13 @@ no_attributes_size : items_size ((optional attributes_codec).items None) ≡ 4
 unfolding optional boolean
 no_attributes_size = refl
 
-length-handle : (n : ℕ) → length (handle_of n) ≡ 8
+length_handle : (n : ℕ) → length (handle_of n) ≡ 8
 unfolding hyper
-length-handle n = length-hyper n
+length_handle n = length_hyper n
 
 handle_size : (n : ℕ) → 4 + (length (handle_of n) + pad_len (length (handle_of n))) ≡ 12
 unfolding pad_len
-handle_size n = subst (λ (k : ℕ). 4 + (k + pad_len k) ≡ 12) (sym (length-handle n)) refl
+handle_size n = subst (λ (k : ℕ). 4 + (k + pad_len k) ≡ 12) (sym (length_handle n)) refl
 
 pub some_handle_size : (n : ℕ) → items_size ((optional handle_codec).items (Some (handle_of n))) ≡ 16
 unfolding optional boolean opaque
@@ -100,7 +100,7 @@ plain_entry e = omega arith
 pub plain_list : (es : List Entry) → items_size ((linked_list entry_codec).items (map listed es)) ≡ total entry_size es + 4
 unfolding linked_list optional boolean
 plain_list [] = refl
-plain_list (e ∷ es) = omega (arith, items_size-append ((optional entry_codec).items (Some (listed e))) (linked_list_items entry_codec (map listed es)), plain_entry e, plain_list es)
+plain_list (e ∷ es) = omega (arith, items_size_append ((optional entry_codec).items (Some (listed e))) (linked_list_items entry_codec (map listed es)), plain_entry e, plain_list es)
 
 node_part_by : (n : ℕ) (o : Option Node) → items_size ((optional attributes_codec).items (option_map (attributes_of n) o)) + items_size ((optional handle_codec).items (option_map (λ node. handle_of n) o)) ≡ option_map_or (λ node. 104) o 8
 node_part_by n None = omega (arith, no_attributes_size, no_handle_size)
@@ -115,7 +115,7 @@ plus_items e a h = omega arith
 plus_parts : (e : Entry) (a : Option Attributes) (h : Option (List ℕ))
     → items_size ((optional entry_plus_codec).items (Some (record { fileid = e.number; name = e.name; cookie = e.cookie; attributes = a; handle = h })))
     ≡ entry_size e + (items_size ((optional attributes_codec).items a) + items_size ((optional handle_codec).items h))
-plus_parts e a h = omega (arith, plus_items e a h, items_size-append ((optional attributes_codec).items a) ((optional handle_codec).items h))
+plus_parts e a h = omega (arith, plus_items e a h, items_size_append ((optional attributes_codec).items a) ((optional handle_codec).items h))
 
 plus_entry : (t : Tree) (e : Entry) → items_size ((optional entry_plus_codec).items (Some (listed_plus t e))) ≡ entry_size e + node_size t e.number
 plus_entry t e = omega (arith, plus_parts e (attributes_of_number t e.number) (handle_of_live t e.number), node_part_by e.number (get t.nodes e.number))
@@ -123,7 +123,7 @@ plus_entry t e = omega (arith, plus_parts e (attributes_of_number t e.number) (h
 pub plus_list : (t : Tree) (es : List Entry) → items_size ((linked_list entry_plus_codec).items (map (listed_plus t) es)) ≡ total (size_in t Nodes) es + 4
 unfolding linked_list optional boolean
 plus_list t [] = refl
-plus_list t (e ∷ es) = omega (arith, items_size-append ((optional entry_plus_codec).items (Some (listed_plus t e))) (linked_list_items entry_plus_codec (map (listed_plus t) es)), plus_entry t e, plus_list t es)
+plus_list t (e ∷ es) = omega (arith, items_size_append ((optional entry_plus_codec).items (Some (listed_plus t e))) (linked_list_items entry_plus_codec (map (listed_plus t) es)), plus_entry t e, plus_list t es)
 
 -- ===== results
 
@@ -140,8 +140,8 @@ readdir_parts a es eof =
     omega (
       arith,
       readdir_items a es eof,
-      items_size-append ((optional attributes_codec).items a) (Hyper 0 ∷ ((linked_list entry_codec).items (map listed es) ++ Boolean eof ∷ [])),
-      items_size-append ((linked_list entry_codec).items (map listed es)) (Boolean eof ∷ []),
+      items_size_append ((optional attributes_codec).items a) (Hyper 0 ∷ ((linked_list entry_codec).items (map listed es) ++ Boolean eof ∷ [])),
+      items_size_append ((linked_list entry_codec).items (map listed es)) (Boolean eof ∷ []),
       plain_list es,
     )
 
@@ -150,7 +150,7 @@ pub readdir_size : (t : Tree) (h : List ℕ) (v : Node) (es : List Entry) (eof :
     → length (encodings (readdir_ok_codec.items (readdir_ok t h es eof))) ≡ empty_size + total entry_size es
 readdir_size t h v es eof e =
     let a : items_size ((optional attributes_codec).items (attributes_at t h)) ≡ 88 = ap (λ (o : Option Node). items_size ((optional attributes_codec).items (option_map (attributes_of (number_of_handle h)) o))) e ∙ some_attributes_size (attributes_of (number_of_handle h) v) in
-    omega (arith, length-encodings (readdir_ok_codec.items (readdir_ok t h es eof)), readdir_parts (attributes_at t h) es eof, a)
+    omega (arith, length_encodings (readdir_ok_codec.items (readdir_ok t h es eof)), readdir_parts (attributes_at t h) es eof, a)
 
 readdirplus_items : (t : Tree) (a : Option Attributes) (es : List Entry) (eof : Bool)
     → items_size (readdirplus_ok_codec.items (record { dir_attributes = a; verifier = cookie_verifier; entries = map (listed_plus t) es; eof = eof }))
@@ -165,8 +165,8 @@ readdirplus_parts t a es eof =
     omega (
       arith,
       readdirplus_items t a es eof,
-      items_size-append ((optional attributes_codec).items a) (Hyper 0 ∷ ((linked_list entry_plus_codec).items (map (listed_plus t) es) ++ Boolean eof ∷ [])),
-      items_size-append ((linked_list entry_plus_codec).items (map (listed_plus t) es)) (Boolean eof ∷ []),
+      items_size_append ((optional attributes_codec).items a) (Hyper 0 ∷ ((linked_list entry_plus_codec).items (map (listed_plus t) es) ++ Boolean eof ∷ [])),
+      items_size_append ((linked_list entry_plus_codec).items (map (listed_plus t) es)) (Boolean eof ∷ []),
       plus_list t es,
     )
 
@@ -174,4 +174,4 @@ pub readdirplus_size : (t : Tree) (h : List ℕ) (v : Node) (es : List Entry) (e
     → length (encodings (readdirplus_ok_codec.items (readdirplus_ok t h es eof))) ≡ empty_size + total (size_in t Nodes) es
 readdirplus_size t h v es eof e =
     let a : items_size ((optional attributes_codec).items (attributes_at t h)) ≡ 88 = ap (λ (o : Option Node). items_size ((optional attributes_codec).items (option_map (attributes_of (number_of_handle h)) o))) e ∙ some_attributes_size (attributes_of (number_of_handle h) v) in
-    omega (arith, length-encodings (readdirplus_ok_codec.items (readdirplus_ok t h es eof)), readdirplus_parts t (attributes_at t h) es eof, a)
+    omega (arith, length_encodings (readdirplus_ok_codec.items (readdirplus_ok t h es eof)), readdirplus_parts t (attributes_at t h) es eof, a)

@@ -20,7 +20,7 @@ use Rattle.nr_tree.specs.declared.node.Node.{Node}
 use Rattle.nr_tree.specs.declared.node.Content.{Content}
 use Rattle.nr_tree.specs.declared.node.Content.TheVariants.{Directory, Block, Character, Link, Socket, Fifo}
 use Rattle.nr_tree.specs.declared.rules.Space.{Space}
-use Rattle.nr_tree.specs.Skeleton.{one_if}
+use Rattle.nr_tree.specs.DirectoryGraph.{one_if}
 use Rattle.nr_tree.specs.Tree.{Tree, is_directory}
 use Rattle.nr_nfs_base.specs.Limits.{link_target_max}
 use Rattle.nr_tree.specs.Changes.{tree_with_node}

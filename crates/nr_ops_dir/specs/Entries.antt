@@ -6,7 +6,7 @@ use Rattle.nr_nfs_base.specs.declared.caller.Caller.{Caller}
 use Rattle.nr_nfs_base.specs.declared.status.Status.{Status}
 use Rattle.nr_nfs_base.specs.declared.status.Status.TheVariants.{Mlink}
 use Rattle.nr_tree.specs.Entries.{Entry}
-use Rattle.nr_tree.specs.Skeleton.{most_links}
+use Rattle.nr_tree.specs.DirectoryGraph.{links_max}
 use Rattle.nr_tree.specs.Tree.{Tree}
 use Rattle.nr_tree.specs.Steps.{entries_at, links_at}
 use Rattle.nr_tree.specs.Changes.{entry_at}
@@ -37,4 +37,4 @@ entry_rules t c h name =
 
 -- a node with the most links gets no other one
 abbrev pub links_rule : Tree → ℕ → Option Status
-links_rule t n = nat_le most_links (links_at t n) ⇒ Mlink
+links_rule t n = nat_le links_max (links_at t n) ⇒ Mlink

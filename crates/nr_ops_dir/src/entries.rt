@@ -8,7 +8,7 @@ ghost use Rattle.nr_ops_dir.specs.Entries.{number_of_entry as number_of_name, ha
 
 use nr_nfs_base::{Caller, Status};
 use nr_tree::{
-    Content, MOST_LINKS, Node, Tree, check_changeable, check_name, is_dot_name, live_node,
+    Content, LINKS_MAX, Node, Tree, check_changeable, check_name, is_dot_name, live_node,
 };
 
 /// Whether the node under a number is a directory.
@@ -106,7 +106,7 @@ fn links_at(tree: &Tree, number: u64) -> u32
 pub(crate) fn check_links(tree: &Tree, number: u64) -> Result<(), Status>
     ensures { MatchResult result (λ _. links_rule tree.now number ≡ None) (λ s. links_rule tree.now number ≡ Some s) }
 {
-    if links_at(tree, number) >= MOST_LINKS {
+    if links_at(tree, number) >= LINKS_MAX {
         return Err(Status::Mlink);
     }
     Ok(())

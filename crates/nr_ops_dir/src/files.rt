@@ -3,7 +3,7 @@
 ghost use Rattle.std.specs.Prelude.{◌≡◌, ℕ, ◌≤◌, true, None, Some, replicate, unwrap_or, MatchResult, IfOk, OnOk, OnErr};
 ghost use Rattle.nr_nfs_base.specs.declared.status_union.StatusUnion.TheVariants.{Done};
 ghost use Rattle.nr_nfs_args.specs.declared.create.CreateHow.TheVariants.{Unchecked};
-ghost use Rattle.nr_tree.specs.Sane.{IsSane, largest_file};
+ghost use Rattle.nr_tree.specs.Sane.{IsSane, file_size_max};
 ghost use Rattle.nr_tree.specs.Steps.{IsBounded, CanAddNode, is_regular_at};
 ghost use Rattle.nr_tree.specs.Rules.{first, number_of_handle, handle_of as handle_of_number, IsWithinCapacity};
 ghost use Rattle.nr_tree.specs.Changes.{tree_with_node};
@@ -207,7 +207,7 @@ fn add_file(
 fn set_given_size(tree: &mut Tree, now: Time, number: u64, how: CreateHow) -> Result<(), Memory>
     requires sane { IsSane tree.old }
     requires regular { (size : ℕ) → size_given how ≡ Some size → is_regular_at tree.old number ≡ true }
-    requires limit { (size : ℕ) → size_given how ≡ Some size → size ≤ largest_file }
+    requires limit { (size : ℕ) → size_given how ≡ Some size → size ≤ file_size_max }
     ensures tree { OnOk result (tree.new ≡ tree_with_existing_file tree.old now how number) }
     ensures err { OnErr result (tree.new ≡ tree.old) }
     ensures sane { IsSane tree.new }
@@ -229,7 +229,7 @@ fn use_existing_file(
 ) -> Result<CreateRes, Memory>
     requires sane { IsSane tree.old }
     requires regular { (size : ℕ) → size_given how ≡ Some size → is_regular_at tree.old number ≡ true }
-    requires limit { (size : ℕ) → size_given how ≡ Some size → size ≤ largest_file }
+    requires limit { (size : ℕ) → size_given how ≡ Some size → size ≤ file_size_max }
     ensures result { IfOk result (λ r. r ≡ Done (record {
       object = Some (handle_of_number number);
       attributes = attributes_of_number (tree_with_existing_file tree.old now how number) number;

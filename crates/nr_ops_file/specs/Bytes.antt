@@ -19,7 +19,7 @@ use Rattle.nr_nfs_res.specs.declared.bytes.WriteOk.{WriteOk}
 use Rattle.nr_tree.specs.Changes.{tree_with_bytes}
 use Rattle.nr_tree.specs.Replies.{attributes_at, wcc_data}
 use Rattle.nr_tree.specs.Rules.{first, ◌⇒◌, on, after, answer, handle_rule, node_of_handle, number_of_handle, may, space_rule}
-use Rattle.nr_tree.specs.Sane.{largest_file}
+use Rattle.nr_tree.specs.Sane.{file_size_max}
 use Rattle.nr_tree.specs.Tree.{Tree, is_dir, is_regular, bytes_of}
 use Rattle.nr_tree.specs.declared.node.Node.{Node}
 use Rattle.nr_tree.specs.declared.rules.Right.TheVariants.{Read, Write}
@@ -75,7 +75,7 @@ piece_written a = take transfer_max a.bytes
 abbrev pub piece_rules : WriteArgs → List (Option Status)
 piece_rules a =
     (not (a.count == length a.bytes) ⇒ Inval) ∷
-    (nat_lt largest_file (a.offset + length (piece_written a)) ⇒ Fbig) ∷ []
+    (nat_lt file_size_max (a.offset + length (piece_written a)) ⇒ Fbig) ∷ []
 
 abbrev pub write_of : Caller → WriteArgs → Node → List (Option Status)
 write_of c a node =

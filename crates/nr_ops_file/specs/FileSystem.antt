@@ -12,11 +12,11 @@ use Rattle.nr_nfs_res.specs.declared.file_system.FsinfoOk.{FsinfoOk}
 use Rattle.nr_nfs_res.specs.declared.file_system.FsstatOk.{FsstatOk}
 use Rattle.nr_nfs_res.specs.declared.file_system.PathconfOk.{PathconfOk}
 use Rattle.nr_nfs_base.specs.Limits.{listing_max, transfer_max}
-use Rattle.nr_tree.specs.Entries.{longest_name}
+use Rattle.nr_tree.specs.Entries.{name_length_max}
 use Rattle.nr_tree.specs.Replies.{attributes_at}
 use Rattle.nr_tree.specs.Rules.{first, answer, handle_rule, entry_cost}
-use Rattle.nr_tree.specs.Sane.{largest_file}
-use Rattle.nr_tree.specs.Skeleton.{most_links}
+use Rattle.nr_tree.specs.Sane.{file_size_max}
+use Rattle.nr_tree.specs.DirectoryGraph.{links_max}
 use Rattle.nr_tree.specs.Tree.{Tree}
 use Rattle.nr_tree.specs.declared.rules.Space.{Space}
 
@@ -48,8 +48,8 @@ fsstat_reply t space a = answer (first (fsstat_rules t a)) (λ s. Failed s (attr
 -- ===== FSINFO (section 3.3.19)
 
 -- what the bytes of a READ and of a WRITE should be a multiple of
-abbrev pub multiple_of_bytes : ℕ
-multiple_of_bytes = 4096
+abbrev pub transfer_multiple : ℕ
+transfer_multiple = 4096
 
 -- times are told apart by a nanosecond
 abbrev pub time_step : Time
@@ -64,12 +64,12 @@ fsinfo_ok attributes = record {
   attributes = attributes;
   rtmax = transfer_max;
   rtpref = transfer_max;
-  rtmult = multiple_of_bytes;
+  rtmult = transfer_multiple;
   wtmax = transfer_max;
   wtpref = transfer_max;
-  wtmult = multiple_of_bytes;
+  wtmult = transfer_multiple;
   dtpref = listing_max;
-  maxfilesize = largest_file;
+  maxfilesize = file_size_max;
   time_delta = time_step;
   properties = properties_of_server;
 }
@@ -85,8 +85,8 @@ fsinfo_reply t a = answer (first (fsinfo_rules t a)) (λ s. Failed s (attributes
 abbrev pub pathconf_ok : Option Attributes → PathconfOk
 pathconf_ok attributes = record {
   attributes = attributes;
-  linkmax = most_links;
-  name_max = longest_name;
+  linkmax = links_max;
+  name_max = name_length_max;
   no_trunc = true;
   chown_restricted = true;
   case_insensitive = false;

@@ -5,7 +5,7 @@ ghost use Rattle.std.specs.Option.{option_map};
 ghost use Rattle.nr_ops_file.specs.Attributes.{getattr_rules, getattr_reply, same_time as same_times, guard_differs, changes_owner as changes_owner_of, needs_owner as needs_owner_for, sets_server_time as sets_the_server_time, is_owner as is_owner_of, permission_rules, value_rules, setattr_of, setattr_rules, mode_after as mode_set, mtime_of_size as mtime_of, metadata_after as metadata_set, tree_with_size_given, tree_with_attributes, setattr_tree, setattr_reply, bit_if as bit_where, access_granted, access_reply};
 ghost use Rattle.nr_tree.specs.Replies.{attributes_at as attributes_of_handle};
 ghost use Rattle.nr_tree.specs.Rules.{first, node_of_handle, number_of_handle, IsWithinCapacity};
-ghost use Rattle.nr_tree.specs.Sane.{IsSane, largest_file};
+ghost use Rattle.nr_tree.specs.Sane.{IsSane, file_size_max};
 ghost use Rattle.nr_tree.specs.Steps.{is_regular_at, links_at};
 ghost use Rattle.nr_tree.specs.Tree.{is_regular};
 ghost use Rattle.nr_tree.specs.declared.node.Node.{Node};
@@ -141,7 +141,7 @@ fn node_to_set(
 ) -> Result<(u64, Metadata), Status>
     requires { IsWithinCapacity space.now }
     ensures { MatchResult result (λ x. (first (setattr_rules tree.now caller.now space.now args.now) ≡ None) × (x.0 ≡ number_of_handle args.now.object) × (option_map (λ (n : Node). n.metadata) (node_of_handle tree.now args.now.object) ≡ Some x.1)
-        × IfSome args.now.attributes.size (λ size. (is_regular_at tree.now x.0 ≡ true) × (size ≤ largest_file)))
+        × IfSome args.now.attributes.size (λ size. (is_regular_at tree.now x.0 ≡ true) × (size ≤ file_size_max)))
         (λ s. first (setattr_rules tree.now caller.now space.now args.now) ≡ Some s) }
 {
     let (number, node) = live_node(tree, args.object.as_slice())?;
@@ -152,7 +152,7 @@ fn node_to_set(
 
 /// Whether the call may set its attributes of this node.
 fn check_attributes(caller: &Caller, args: &SetattrArgs, node: &Node) -> Result<(), Status>
-    ensures { MatchResult result (λ _. (first (setattr_of caller.now args.now node.now) ≡ None) × IfSome args.now.attributes.size (λ size. (is_regular node.now ≡ true) × (size ≤ largest_file)))
+    ensures { MatchResult result (λ _. (first (setattr_of caller.now args.now node.now) ≡ None) × IfSome args.now.attributes.size (λ size. (is_regular node.now ≡ true) × (size ≤ file_size_max)))
         (λ s. first (setattr_of caller.now args.now node.now) ≡ Some s) }
 {
     if differs(args.guard, node) {
@@ -230,7 +230,7 @@ fn check_permission(caller: &Caller, attributes: SetAttributes, node: &Node) -> 
 
 /// Whether the node can have these attributes.
 fn check_values(attributes: SetAttributes, node: &Node) -> Result<(), Status>
-    ensures { MatchResult result (λ _. (first (value_rules attributes node.now) ≡ None) × IfSome attributes.size (λ size. (is_regular node.now ≡ true) × (size ≤ largest_file)))
+    ensures { MatchResult result (λ _. (first (value_rules attributes node.now) ≡ None) × IfSome attributes.size (λ size. (is_regular node.now ≡ true) × (size ≤ file_size_max)))
         (λ s. first (value_rules attributes node.now) ≡ Some s) }
 {
     if attributes.size.is_some() && node.is_dir() {
@@ -253,7 +253,7 @@ fn set_attributes(
 ) -> Result<(), Memory>
     requires sane { IsSane tree.old }
     requires links { metadata.links ≡ links_at tree.old number }
-    requires size { IfSome attributes.size (λ size. (is_regular_at tree.old number ≡ true) × (size ≤ largest_file)) }
+    requires size { IfSome attributes.size (λ size. (is_regular_at tree.old number ≡ true) × (size ≤ file_size_max)) }
     ensures ok { OnOk result (tree.new ≡ tree_with_attributes tree.old now number attributes metadata) }
     ensures err { OnErr result (tree.new ≡ tree.old) }
     ensures sane { IsSane tree.new }
@@ -266,7 +266,7 @@ fn set_attributes(
 /// Cuts a regular file or adds zeros, if a size is given. After an `Err` the tree is as before.
 fn set_size(tree: &mut Tree, now: Time, number: u64, size: Option<u64>) -> Result<(), Memory>
     requires sane { IsSane tree.old }
-    requires size { IfSome size (λ size. (is_regular_at tree.old number ≡ true) × (size ≤ largest_file)) }
+    requires size { IfSome size (λ size. (is_regular_at tree.old number ≡ true) × (size ≤ file_size_max)) }
     ensures ok { OnOk result (tree.new ≡ tree_with_size_given tree.old now number size) }
     ensures links { OnOk result (links_at tree.new number ≡ links_at tree.old number) }
     ensures err { OnErr result (tree.new ≡ tree.old) }

@@ -4,7 +4,7 @@ ghost use Rattle.std.specs.Prelude.{◌≡◌, ◌+◌, ◌≤◌, nat_le, take,
 ghost use Rattle.nr_ops_file.specs.Bytes.{regular_rules, read_rules, piece_read, read_reply, piece_rules, piece_written, write_rules, write_tree, write_reply, commit_rules, commit_reply};
 ghost use Rattle.nr_nfs_base.specs.Limits.{transfer_max};
 ghost use Rattle.nr_tree.specs.Rules.{first, node_of_handle, number_of_handle, IsWithinCapacity};
-ghost use Rattle.nr_tree.specs.Sane.{IsSane, largest_file};
+ghost use Rattle.nr_tree.specs.Sane.{IsSane, file_size_max};
 ghost use Rattle.nr_tree.specs.Steps.{is_regular_at};
 ghost use Rattle.nr_nfs_base.specs.declared.stable.StableHow.TheVariants.{FileSync};
 ghost use Rattle.nr_tree.specs.Tree.{is_regular, bytes_of};
@@ -15,7 +15,7 @@ use nr_nfs_base::{
 };
 use nr_nfs_res::{CommitOk, CommitRes, ReadOk, ReadRes, WriteOk, WriteRes};
 use nr_tree::{
-    Content, LARGEST_FILE, Node, Right, Space, Tree, attributes_at, check_space, live_node, may,
+    Content, FILE_SIZE_MAX, Node, Right, Space, Tree, attributes_at, check_space, live_node, may,
     wcc_attributes_at, wcc_data,
 };
 use nr_xdr::{Memory, Octets};
@@ -170,13 +170,13 @@ fn piece_of(bytes: &[u8]) -> &[u8]
 
 /// Whether the count is the data's, and the piece lies within the most bytes of a file.
 fn check_piece(args: &WriteArgs) -> Result<(), Status>
-    ensures { MatchResult result (λ _. (first (piece_rules args.now) ≡ None) × (args.now.offset + length (piece_written args.now) ≤ largest_file)) (λ s. first (piece_rules args.now) ≡ Some s) }
+    ensures { MatchResult result (λ _. (first (piece_rules args.now) ≡ None) × (args.now.offset + length (piece_written args.now) ≤ file_size_max)) (λ s. first (piece_rules args.now) ≡ Some s) }
 {
     let bytes = args.bytes.as_slice();
     if args.count as usize != bytes.len() {
         return Err(Status::Inval);
     }
-    if args.offset > LARGEST_FILE - piece_of(bytes).len() as u64 {
+    if args.offset > FILE_SIZE_MAX - piece_of(bytes).len() as u64 {
         return Err(Status::Fbig);
     }
     Ok(())
@@ -190,7 +190,7 @@ fn file_to_write(
     args: &WriteArgs,
 ) -> Result<u64, Status>
     requires { IsWithinCapacity space.now }
-    ensures { MatchResult result (λ n. (first (write_rules tree.now caller.now space.now args.now) ≡ None) × (n ≡ number_of_handle args.now.file) × (is_regular_at tree.now n ≡ true) × (args.now.offset + length (piece_written args.now) ≤ largest_file))
+    ensures { MatchResult result (λ n. (first (write_rules tree.now caller.now space.now args.now) ≡ None) × (n ≡ number_of_handle args.now.file) × (is_regular_at tree.now n ≡ true) × (args.now.offset + length (piece_written args.now) ≤ file_size_max))
         (λ s. first (write_rules tree.now caller.now space.now args.now) ≡ Some s) }
 {
     let (number, node) = live_node(tree, args.file.as_slice())?;

@@ -7,11 +7,11 @@ use nr_nfs_args::{FsinfoArgs, FsstatArgs, PathconfArgs};
 use nr_nfs_base::{Attributes, LISTING_MAX, StatusUnion, TRANSFER_MAX, Time};
 use nr_nfs_res::{FsinfoOk, FsinfoRes, FsstatOk, FsstatRes, PathconfOk, PathconfRes};
 use nr_tree::{
-    ENTRY_COST, LARGEST_FILE, LONGEST_NAME, MOST_LINKS, Space, Tree, attributes_at, live_node,
+    ENTRY_COST, FILE_SIZE_MAX, LINKS_MAX, NAME_LENGTH_MAX, Space, Tree, attributes_at, live_node,
 };
 
 /// What the bytes of a READ and of a WRITE should be a multiple of.
-const MULTIPLE_OF_BYTES: u32 = 4096;
+const TRANSFER_MULTIPLE: u32 = 4096;
 
 /// Times are told apart by a nanosecond.
 const TIME_STEP: Time = Time {
@@ -76,12 +76,12 @@ fn fsinfo_results(attributes: Option<Attributes>) -> FsinfoOk
         attributes,
         rtmax: TRANSFER_MAX,
         rtpref: TRANSFER_MAX,
-        rtmult: MULTIPLE_OF_BYTES,
+        rtmult: TRANSFER_MULTIPLE,
         wtmax: TRANSFER_MAX,
         wtpref: TRANSFER_MAX,
-        wtmult: MULTIPLE_OF_BYTES,
+        wtmult: TRANSFER_MULTIPLE,
         dtpref: LISTING_MAX,
-        maxfilesize: LARGEST_FILE,
+        maxfilesize: FILE_SIZE_MAX,
         time_delta: TIME_STEP,
         properties: PROPERTIES,
     }
@@ -107,8 +107,8 @@ fn pathconf_results(attributes: Option<Attributes>) -> PathconfOk
 {
     PathconfOk {
         attributes,
-        linkmax: MOST_LINKS,
-        name_max: LONGEST_NAME,
+        linkmax: LINKS_MAX,
+        name_max: NAME_LENGTH_MAX,
         no_trunc: true,
         chown_restricted: true,
         case_insensitive: false,

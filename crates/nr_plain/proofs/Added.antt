@@ -25,7 +25,7 @@ use Rattle.nr_plain.specs.Programs.{nfs_results, is_done, only_reads}
 use Rattle.nr_plain.specs.Journal.{nfs_procedure_of, state_of}
 use Rattle.nr_plain.specs.Replies.{Answer, refusal, accepted, results_reply, entries_if, nfs_answer, nfs_by_arguments, nfs_by_procedure, nfs_call, mount_call, program_call, cred_refusal, call_by_cred, answer_to, answer_by, plain_answer, plain_reply}
 use Rattle.nr_plain.specs.Added.{has_word, has_succeeded, entries_by_procedure, entries_by_program, entries_by_cred, entries_by_head, entries_by_call, entries_of_call}
-use Rattle.nr_plain.proofs.Serving.{mount-none}
+use Rattle.nr_plain.proofs.Serving.{mount_none}
 
 -- ===== the status of results
 
@@ -145,7 +145,7 @@ module _ (prm : Parameters) (st : State) (xid prog vers : ℕ) (e : Entry) where
   by_program =
       either_program (nfs_procedure_of e.proc) e (eqb prog 100003) (eqb vers 3) (nfs_call prm st xid vers e)
       (cond (eqb prog 100005) (mount_call prm xid vers e) (refusal (accepted xid 1))) by_version
-      (either_none (eqb prog 100005) (mount_call prm xid vers e) (refusal (accepted xid 1)) (mount-none prm xid vers e) refl)
+      (either_none (eqb prog 100005) (mount_call prm xid vers e) (refusal (accepted xid 1)) (mount_none prm xid vers e) refl)
 
 -- ===== a call
 

@@ -15,7 +15,7 @@ use Rattle.nr_tree.specs.Sane.{IsSane}
 use Rattle.nr_plain.specs.Setup.{Setup}
 use Rattle.nr_plain.specs.Journal.{state_of}
 use Rattle.nr_plain.specs.Replies.{Answer, plain_answer, plain_reply}
-use Rattle.nr_plain.proofs.SaneTrees.{tree-sane}
+use Rattle.nr_plain.proofs.SaneTrees.{tree_sane}
 use Rattle.nr_plain.proofs.ReplyLimits.{within_limit}
 use Rattle.nr_plain.proofs.AutoOffers.{auto_held}
 
@@ -35,11 +35,11 @@ answered s J k m payload reply e = answered_by (plain_answer s.parameters (state
 pub within_limit_at : (s : Setup) (J : List Entry) (k : ℕ) (m : Moment) (payload reply : List ℕ) → IsSane s.tree → IsBytes payload → plain_reply s J k m payload ≡ Some reply → length reply ≤ largest_reply payload
 within_limit_at s J k m payload reply sane bytes e =
     let of : IsReplyOf (plain_answer s.parameters (state_of s (take k J)) m payload) reply = answered s J k m payload reply e in
-    subst (λ (r : List ℕ). length r ≤ largest_reply payload) of.replied (within_limit s.parameters (state_of s (take k J)) m payload of.answer bytes (tree-sane s J k sane) of.is)
+    subst (λ (r : List ℕ). length r ≤ largest_reply payload) of.replied (within_limit s.parameters (state_of s (take k J)) m payload of.answer bytes (tree_sane s J k sane) of.is)
 
 pub auto_held_at : (s : Setup) (J : List Entry) (k : ℕ) (m : Moment) (payload reply : List ℕ) (up down stag : ℕ) (p : Plan) → IsSane s.tree → IsBytes payload → plain_reply s J k m payload ≡ Some reply → send_max ≤ down
     → plan_of payload forms.Auto up down ≡ Ok p → answer_of_target (lists_of stag p) down reply (target_of (call_of payload)) ≢ None
 auto_held_at s J k m payload reply up down stag p sane bytes e room plan =
     let of : IsReplyOf (plain_answer s.parameters (state_of s (take k J)) m payload) reply = answered s J k m payload reply e in
     subst (λ (r : List ℕ). answer_of_target (lists_of stag p) down r (target_of (call_of payload)) ≢ None) of.replied
-    (auto_held s.parameters (state_of s (take k J)) m payload of.answer up down stag p bytes (tree-sane s J k sane) of.is room plan)
+    (auto_held s.parameters (state_of s (take k J)) m payload of.answer up down stag p bytes (tree_sane s J k sane) of.is room plan)

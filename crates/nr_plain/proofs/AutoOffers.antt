@@ -7,7 +7,7 @@ use Rattle.std.proofs.lemmas.List.{length-take}
 use Rattle.nr_xdr.specs.Item.{IsBytes}
 use Rattle.nr_xdr.proofs.Chains.{standing}
 use Rattle.nr_xdr.proofs.SequencingSteps.{chosen}
-use Rattle.nr_xdr.proofs.WordBytes.{IsBytes-drop}
+use Rattle.nr_xdr.proofs.WordBytes.{IsBytes_drop}
 use Rattle.nr_header.specs.Constants.{PAYLOAD_MAX}
 use Rattle.nr_header.specs.declared.header.ChunkLists.{ChunkLists}
 use Rattle.nr_header.specs.declared.header.RdmaSegment.{RdmaSegment}
@@ -114,14 +114,14 @@ module _ (s : Parameters) (st : State) (sane : IsSane st.tree) (m : Moment) (pay
   read_call_suited : (count : ℕ) → read_count (from_place args_at payload) ≡ Some count → IsSuited (min count transfer_max) 6 (answer_to s st m payload (calls.Version2 xid 100003 3 6 cred args_at)).reply
   unfolding nfs_call
   read_call_suited count asked =
-      suited_by_cred s st sane xid args_at fits (entry 6) (IsBytes-drop args_at payload bytes) (min count transfer_max) 6 cred (program_call s st xid 100003 3 (entry 6))
-      (read_by s st sane xid args_at fits (entry 6) (IsBytes-drop args_at payload bytes) count asked (read_all (nfs_arguments_codec nfs.Read) (drop args_at payload)) refl)
+      suited_by_cred s st sane xid args_at fits (entry 6) (IsBytes_drop args_at payload bytes) (min count transfer_max) 6 cred (program_call s st xid 100003 3 (entry 6))
+      (read_by s st sane xid args_at fits (entry 6) (IsBytes_drop args_at payload bytes) count asked (read_all (nfs_arguments_codec nfs.Read) (drop args_at payload)) refl)
 
   readlink_call_suited : IsSuited link_target_max 5 (answer_to s st m payload (calls.Version2 xid 100003 3 5 cred args_at)).reply
   unfolding nfs_call
   readlink_call_suited =
-      suited_by_cred s st sane xid args_at fits (entry 5) (IsBytes-drop args_at payload bytes) link_target_max 5 cred (program_call s st xid 100003 3 (entry 5))
-      (readlink_by s st sane xid args_at fits (entry 5) (IsBytes-drop args_at payload bytes) (read_all (nfs_arguments_codec nfs.Readlink) (drop args_at payload)))
+      suited_by_cred s st sane xid args_at fits (entry 5) (IsBytes_drop args_at payload bytes) link_target_max 5 cred (program_call s st xid 100003 3 (entry 5))
+      (readlink_by s st sane xid args_at fits (entry 5) (IsBytes_drop args_at payload bytes) (read_all (nfs_arguments_codec nfs.Readlink) (drop args_at payload)))
 
 -- ===== offers that hold
 

@@ -44,7 +44,7 @@ use Rattle.nr_plain.proofs.Lengths.{union_fits, write_size, rename_size, link_si
 use Rattle.nr_plain.proofs.ReplyHeads.{either, same_answer}
 use Rattle.nr_plain.proofs.ReplyLimits.{results_size, numbered}
 use Rattle.nr_plain.proofs.ResultLimits.{wcc_part, make_fits}
-use Rattle.nr_plain.proofs.Serving.{mount-none}
+use Rattle.nr_plain.proofs.Serving.{mount_none}
 use Rattle.nr_reduce.specs.Limits.{send_max}
 
 -- ===== offers
@@ -151,7 +151,7 @@ module _ (s : Parameters) (st : State) (xid : ℕ) (e : Entry) where
   program_change : (prog vers : ℕ) → IsChange e.proc (program_call s st xid prog vers e)
   program_change prog vers =
       either (IsChange e.proc) (eqb prog 100003) (nfs_call s st xid vers e) (cond (eqb prog 100005) (mount_call s xid vers e) (refusal (accepted xid 1))) (nfs_change vers)
-      (either (IsChange e.proc) (eqb prog 100005) (mount_call s xid vers e) (refusal (accepted xid 1)) (none_added e.proc (mount_call s xid vers e) (mount-none s xid vers e)) (λ some. absurd (some refl)))
+      (either (IsChange e.proc) (eqb prog 100005) (mount_call s xid vers e) (refusal (accepted xid 1)) (none_added e.proc (mount_call s xid vers e) (mount_none s xid vers e)) (λ some. absurd (some refl)))
 
   cred_change : (cred : Cred) (a : Answer) → IsChange e.proc a → IsChange e.proc (call_by_cred (cred_refusal cred) xid a)
   cred_change creds.None a is = is

@@ -3,7 +3,7 @@ use Rattle.std.proofs.Common.{◌≡◌, ℕ, ◌≤◌, List, length, Option, N
 use Rattle.std.specs.Option.{option_map}
 use Rattle.nr_xdr.specs.Item.{hyper}
 use Rattle.nr_xdr.specs.Items.{encodings}
-use Rattle.nr_xdr.proofs.WordBytes.{length-hyper}
+use Rattle.nr_xdr.proofs.WordBytes.{length_hyper}
 use Rattle.nr_nfs_base.specs.declared.caller.Caller.{Caller}
 use Rattle.nr_nfs_base.specs.declared.status.Status.{Status}
 use Rattle.nr_nfs_base.specs.declared.status_union.StatusUnion.{StatusUnion}
@@ -38,13 +38,13 @@ every_ok (Err e) p holds = tt
 
 -- ===== CREATE and its kin
 
-length-handle : (n : ℕ) → length (handle_of n) ≡ 8
+length_handle : (n : ℕ) → length (handle_of n) ≡ 8
 unfolding hyper
-length-handle n = length-hyper n
+length_handle n = length_hyper n
 
 handle_fits : (o : Option ℕ) → HandleFits (option_map handle_of o)
 handle_fits None = tt
-handle_fits (Some n) = omega (arith, length-handle n)
+handle_fits (Some n) = omega (arith, length_handle n)
 
 object_fits : (o : Option Status) (wcc : WccData) (ok : CreateOk) → HandleFits ok.object → ObjectFits (answer o (λ s. Failed s wcc) (Done ok))
 object_fits None wcc ok fits = fits

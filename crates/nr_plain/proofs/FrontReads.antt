@@ -22,11 +22,11 @@ use Rattle.nr_nfs_base.specs.declared.file_type.FileType.{FileType}
 use Rattle.nr_nfs_base.specs.declared.file_type.FileType.TheVariants.{Reg, Dir, Blk, Chr, Lnk, Sock, Fifo}
 use Rattle.nr_nfs_base.specs.declared.fronts.Success.{Success}
 use Rattle.nr_nfs_base.specs.declared.time.Time.{Time}
-use Rattle.nr_ops_dir.proofs.Sizes.{items_size, length-encodings, items_size-append}
+use Rattle.nr_ops_dir.proofs.Sizes.{items_size, length_encodings, items_size_append}
 
-pub encodings-append : (xs ys : List Item) → encodings (xs ++ ys) ≡ encodings xs ++ encodings ys
-encodings-append [] ys = refl
-encodings-append (x ∷ xs) ys = ap (λ (l : List ℕ). encoding x ++ l) (encodings-append xs ys) ∙ sym (append_assoc (encoding x) (encodings xs) (encodings ys))
+pub encodings_append : (xs ys : List Item) → encodings (xs ++ ys) ≡ encodings xs ++ encodings ys
+encodings_append [] ys = refl
+encodings_append (x ∷ xs) ys = ap (λ (l : List ℕ). encoding x ++ l) (encodings_append xs ys) ∙ sym (append_assoc (encoding x) (encodings xs) (encodings ys))
 
 -- a value is read where these items were encoded, and the cursor stands behind them
 pub record Readable {A : Type 0} (c : Codec A) (xs : List Item) : Type 0 where
@@ -50,18 +50,18 @@ long_readable n place bytes rest eight =
 
 word_readable : (n : ℕ) → Readable word_codec (word_codec.items n)
 unfolding word_codec
-word_readable n = record { at = λ place rest. (_, number_readable n place (encodings (Unsigned n ∷ [])) rest (length-encodings (Unsigned n ∷ []))) }
+word_readable n = record { at = λ place rest. (_, number_readable n place (encodings (Unsigned n ∷ [])) rest (length_encodings (Unsigned n ∷ []))) }
 
 hyper_readable : (n : ℕ) → Readable hyper_codec (hyper_codec.items n)
 unfolding hyper_codec
-hyper_readable n = record { at = λ place rest. (_, long_readable n place (encodings (Hyper n ∷ [])) rest (length-encodings (Hyper n ∷ []))) }
+hyper_readable n = record { at = λ place rest. (_, long_readable n place (encodings (Hyper n ∷ [])) rest (length_encodings (Hyper n ∷ []))) }
 
 one : (item : Item) (fits : Fits item) (place : ℕ) (rest : List ℕ) → Takes (standing place (encodings (item ∷ []) ++ rest)) (standing (place + items_size (item ∷ [])) rest) item
 one item fits place rest = record {
   bytes = encoding item;
   reads = encoding_reads item fits;
   rest = ap (λ (l : List ℕ). l ++ rest) (append-nil (encoding item));
-  place = omega (arith, length-encodings (item ∷ []), length-append (encoding item) []);
+  place = omega (arith, length_encodings (item ∷ []), length-append (encoding item) []);
 }
 
 boolean_read : (b : Bool) (place : ℕ) (rest : List ℕ) → boolean.read (standing place (encodings (boolean.items b) ++ rest)) ≡ Ok (b, standing (place + 4) rest)
@@ -86,14 +86,14 @@ enumeration_readable {A} number all v fits each = record {
 -- ===== composite values
 
 split : (xs ys : List Item) (rest : List ℕ) → encodings (xs ++ ys) ++ rest ≡ encodings xs ++ (encodings ys ++ rest)
-split xs ys rest = ap (λ (l : List ℕ). l ++ rest) (encodings-append xs ys) ∙ append_assoc (encodings xs) (encodings ys) rest
+split xs ys rest = ap (λ (l : List ℕ). l ++ rest) (encodings_append xs ys) ∙ append_assoc (encodings xs) (encodings ys) rest
 
 pair_readable : {A B : Type 0} (a : Codec A) (b : Codec B) (xs ys : List Item) → Readable a xs → Readable b ys → Readable (a ⊗ b) (xs ++ ys)
 pair_readable {A} {B} a b xs ys of_a of_b = record {
   at = λ place rest.
       let f : (v : A) × (a.read (standing place (encodings xs ++ (encodings ys ++ rest))) ≡ Ok (v, standing (place + items_size xs) (encodings ys ++ rest))) = of_a.at place (encodings ys ++ rest) in
       let g : (v : B) × (b.read (standing (place + items_size xs) (encodings ys ++ rest)) ≡ Ok (v, standing (place + items_size xs + items_size ys) rest)) = of_b.at (place + items_size xs) rest in
-      let size : place + items_size xs + items_size ys ≡ place + items_size (xs ++ ys) = omega (arith, items_size-append xs ys) in
+      let size : place + items_size xs + items_size ys ≡ place + items_size (xs ++ ys) = omega (arith, items_size_append xs ys) in
       let value : A × B = (f.0, g.0) in (
         value,
         ap (λ (l : List ℕ). (a ⊗ b).read (standing place l)) (split xs ys rest)

@@ -15,7 +15,7 @@ use Rattle.nr_plain.specs.Setup.{Parameters, Setup, State}
 use Rattle.nr_plain.specs.Journal.{state_of}
 use Rattle.nr_plain.specs.Added.{entries_of_call}
 use Rattle.nr_plain.specs.Replies.{Answer, plain_reply, answer_by}
-use Rattle.nr_reduce.specs.IsPlain.{xid_of_reply}
+use Rattle.nr_reduce.specs.KeepsReplyLimits.{xid_of_reply}
 use Rattle.nr_plain.proofs.Added.{answer_of_reply}
 use Rattle.nr_plain.proofs.Changes.{changes_held}
 use Rattle.nr_plain.proofs.ReplyHeads.{begins_with_xid}

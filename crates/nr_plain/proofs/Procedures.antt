@@ -12,7 +12,7 @@ use Rattle.nr_tree.specs.Tree.{Tree}
 use Rattle.nr_tree.specs.Rules.{answer, after, first, space_rule}
 use Rattle.nr_tree.specs.Steps.{IsBelow}
 use Rattle.nr_tree.specs.declared.rules.Space.{Space}
-use Rattle.nr_tree.proofs.Bounds.{below-next}
+use Rattle.nr_tree.proofs.Bounds.{below_next}
 use Rattle.nr_ops_file.specs.Attributes.{setattr_rules}
 use Rattle.nr_ops_file.specs.Bytes.{write_rules}
 use Rattle.nr_ops_dir.specs.Create.{create_rules}
@@ -20,8 +20,8 @@ use Rattle.nr_ops_dir.specs.Creation.{mkdir_rules, symlink_rules, mknod_rules}
 use Rattle.nr_ops_dir.specs.Removal.{remove_rules, rmdir_rules}
 use Rattle.nr_ops_dir.specs.Renaming.{rename_rules}
 use Rattle.nr_ops_dir.specs.Links.{link_rules}
-use Rattle.nr_ops_file.proofs.Laws.{setattr-space, setattr-below, write-space, write-below}
-use Rattle.nr_ops_dir.proofs.Laws.{create-space, create-below, mkdir-space, mkdir-below, symlink-space, symlink-below, mknod-space, mknod-below, remove-space, remove-below, rmdir-space, rmdir-below, rename-space, rename-below, link-space, link-below}
+use Rattle.nr_ops_file.proofs.Laws.{setattr_space, setattr_below, write_space, write_below}
+use Rattle.nr_ops_dir.proofs.Laws.{create_space, create_below, mkdir_space, mkdir_below, symlink_space, symlink_below, mknod_space, mknod_below, remove_space, remove_below, rmdir_space, rmdir_below, rename_space, rename_below, link_space, link_below}
 use Rattle.nr_plain.specs.Programs.{nfs_results, nfs_tree, is_change, is_done, only_reads}
 use Rattle.nr_plain.specs.Code.{changes_from, tree_from}
 
@@ -65,20 +65,20 @@ module _ (t : Tree) (c : Caller) (space : Space) (now : Time) where
   spaced_by : (p : NfsProcedure) (a : NfsArguments p) → is_change p (nfs_results t c space now p a) ≡ true → space_rule space ≡ None
   spaced_by nfs.Null a e = absurd cc
   spaced_by nfs.Getattr a e = absurd cc
-  spaced_by nfs.Setattr a e = setattr-space t c space a (passed (first (setattr_rules t c space a)) _ _ e)
+  spaced_by nfs.Setattr a e = setattr_space t c space a (passed (first (setattr_rules t c space a)) _ _ e)
   spaced_by nfs.Lookup a e = absurd cc
   spaced_by nfs.Access a e = absurd cc
   spaced_by nfs.Readlink a e = absurd cc
   spaced_by nfs.Read a e = absurd cc
-  spaced_by nfs.Write a e = write-space t c space a (passed (first (write_rules t c space a)) _ _ e)
-  spaced_by nfs.Create a e = create-space t c space a (passed (first (create_rules t c space a)) _ _ e)
-  spaced_by nfs.Mkdir a e = mkdir-space t c space a (passed (first (mkdir_rules t c space a)) _ _ e)
-  spaced_by nfs.Symlink a e = symlink-space t c space a (passed (first (symlink_rules t c space a)) _ _ e)
-  spaced_by nfs.Mknod a e = mknod-space t c space a (passed (first (mknod_rules t c space a)) _ _ e)
-  spaced_by nfs.Remove a e = remove-space t c space a (passed (first (remove_rules t c space a)) _ _ e)
-  spaced_by nfs.Rmdir a e = rmdir-space t c space a (passed (first (rmdir_rules t c space a)) _ _ e)
-  spaced_by nfs.Rename a e = rename-space t c space a (passed (first (rename_rules t c space a)) _ _ e)
-  spaced_by nfs.Link a e = link-space t c space a (passed (first (link_rules t c space a)) _ _ e)
+  spaced_by nfs.Write a e = write_space t c space a (passed (first (write_rules t c space a)) _ _ e)
+  spaced_by nfs.Create a e = create_space t c space a (passed (first (create_rules t c space a)) _ _ e)
+  spaced_by nfs.Mkdir a e = mkdir_space t c space a (passed (first (mkdir_rules t c space a)) _ _ e)
+  spaced_by nfs.Symlink a e = symlink_space t c space a (passed (first (symlink_rules t c space a)) _ _ e)
+  spaced_by nfs.Mknod a e = mknod_space t c space a (passed (first (mknod_rules t c space a)) _ _ e)
+  spaced_by nfs.Remove a e = remove_space t c space a (passed (first (remove_rules t c space a)) _ _ e)
+  spaced_by nfs.Rmdir a e = rmdir_space t c space a (passed (first (rmdir_rules t c space a)) _ _ e)
+  spaced_by nfs.Rename a e = rename_space t c space a (passed (first (rename_rules t c space a)) _ _ e)
+  spaced_by nfs.Link a e = link_space t c space a (passed (first (link_rules t c space a)) _ _ e)
   spaced_by nfs.Readdir a e = absurd cc
   spaced_by nfs.Readdirplus a e = absurd cc
   spaced_by nfs.Fsstat a e = absurd cc
@@ -87,28 +87,28 @@ module _ (t : Tree) (c : Caller) (space : Space) (now : Time) where
   spaced_by nfs.Commit a e = absurd cc
 
   below_by : (limit : ℕ) (p : NfsProcedure) (a : NfsArguments p) → IsBelow limit t → IsBelow (limit + 1) (nfs_tree t c space now p a)
-  below_by limit nfs.Null a below = below-next limit t below
-  below_by limit nfs.Getattr a below = below-next limit t below
-  below_by limit nfs.Setattr a below = setattr-below limit t c space now a below
-  below_by limit nfs.Lookup a below = below-next limit t below
-  below_by limit nfs.Access a below = below-next limit t below
-  below_by limit nfs.Readlink a below = below-next limit t below
-  below_by limit nfs.Read a below = below-next limit t below
-  below_by limit nfs.Write a below = write-below limit t c space now a below
-  below_by limit nfs.Create a below = create-below limit t c space now a below
-  below_by limit nfs.Mkdir a below = mkdir-below limit t c space now a below
-  below_by limit nfs.Symlink a below = symlink-below limit t c space now a below
-  below_by limit nfs.Mknod a below = mknod-below limit t c space now a below
-  below_by limit nfs.Remove a below = remove-below limit t c space now a below
-  below_by limit nfs.Rmdir a below = rmdir-below limit t c space now a below
-  below_by limit nfs.Rename a below = rename-below limit t c space now a below
-  below_by limit nfs.Link a below = link-below limit t c space now a below
-  below_by limit nfs.Readdir a below = below-next limit t below
-  below_by limit nfs.Readdirplus a below = below-next limit t below
-  below_by limit nfs.Fsstat a below = below-next limit t below
-  below_by limit nfs.Fsinfo a below = below-next limit t below
-  below_by limit nfs.Pathconf a below = below-next limit t below
-  below_by limit nfs.Commit a below = below-next limit t below
+  below_by limit nfs.Null a below = below_next limit t below
+  below_by limit nfs.Getattr a below = below_next limit t below
+  below_by limit nfs.Setattr a below = setattr_below limit t c space now a below
+  below_by limit nfs.Lookup a below = below_next limit t below
+  below_by limit nfs.Access a below = below_next limit t below
+  below_by limit nfs.Readlink a below = below_next limit t below
+  below_by limit nfs.Read a below = below_next limit t below
+  below_by limit nfs.Write a below = write_below limit t c space now a below
+  below_by limit nfs.Create a below = create_below limit t c space now a below
+  below_by limit nfs.Mkdir a below = mkdir_below limit t c space now a below
+  below_by limit nfs.Symlink a below = symlink_below limit t c space now a below
+  below_by limit nfs.Mknod a below = mknod_below limit t c space now a below
+  below_by limit nfs.Remove a below = remove_below limit t c space now a below
+  below_by limit nfs.Rmdir a below = rmdir_below limit t c space now a below
+  below_by limit nfs.Rename a below = rename_below limit t c space now a below
+  below_by limit nfs.Link a below = link_below limit t c space now a below
+  below_by limit nfs.Readdir a below = below_next limit t below
+  below_by limit nfs.Readdirplus a below = below_next limit t below
+  below_by limit nfs.Fsstat a below = below_next limit t below
+  below_by limit nfs.Fsinfo a below = below_next limit t below
+  below_by limit nfs.Pathconf a below = below_next limit t below
+  below_by limit nfs.Commit a below = below_next limit t below
 
   reads_by : (p : NfsProcedure) (a : NfsArguments p) → only_reads p ≡ true → (nfs_tree t c space now p a ≡ t) × (is_change p (nfs_results t c space now p a) ≡ false)
   reads_by nfs.Null a e = (refl, refl)
@@ -146,7 +146,7 @@ module _ (t : Tree) (c : Caller) (space : Space) (now : Time) where
 
   pub tree-below : (limit : ℕ) (p : NfsProcedure) (r : Result (NfsArguments p) ℕ) → IsBelow limit t → IsBelow (limit + 1) (tree_from t c space now p r)
   tree-below limit p (Ok a) below = below_by limit p a below
-  tree-below limit p (Err at) below = below-next limit t below
+  tree-below limit p (Err at) below = below_next limit t below
 
   pub only-reads : (p : NfsProcedure) (r : Result (NfsArguments p) ℕ) → only_reads p ≡ true → (tree_from t c space now p r ≡ t) × (changes_from t c space now p r ≡ false)
   only-reads p (Ok a) e = reads_by p a e

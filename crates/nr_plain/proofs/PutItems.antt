@@ -16,9 +16,9 @@ use Rattle.nr_plain.specs.ReplyRoom.{ReplyRoom, HasRoom, room_with}
 one_item : (item : Item) → encodings (item ∷ []) ≡ encoding item
 one_item item = append-nil (encoding item)
 
-encodings-append : (xs ys : List Item) → encodings (xs ++ ys) ≡ encodings xs ++ encodings ys
-encodings-append [] ys = refl
-encodings-append (x ∷ xs) ys = ap (λ (b : List ℕ). encoding x ++ b) (encodings-append xs ys) ∙ sym (append_assoc (encoding x) (encodings xs) (encodings ys))
+encodings_append : (xs ys : List Item) → encodings (xs ++ ys) ≡ encodings xs ++ encodings ys
+encodings_append [] ys = refl
+encodings_append (x ∷ xs) ys = ap (λ (b : List ℕ). encoding x ++ b) (encodings_append xs ys) ∙ sym (append_assoc (encoding x) (encodings xs) (encodings ys))
 
 -- what has room has room without what follows it, and behind what precedes it
 room_first : (room : ReplyRoom) (a b : List ℕ) → HasRoom room (a ++ b) → HasRoom room a
@@ -30,20 +30,20 @@ room_second room a b h = omega (arith, length-append a b, h)
 left_after : (n : ℕ) (a b : List ℕ) → (n - length a) - length b ≡ n - length (a ++ b)
 left_after n a b = omega (arith, length-append a b)
 
-room_with-append : (room : ReplyRoom) (a b : List ℕ) → room_with (room_with room a) b ≡ room_with room (a ++ b)
-room_with-append room a b = λ i. record { bytes = append_assoc room.bytes a b i; left = left_after room.left a b i }
+room_with_append : (room : ReplyRoom) (a b : List ℕ) → room_with (room_with room a) b ≡ room_with room (a ++ b)
+room_with_append room a b = λ i. record { bytes = append_assoc room.bytes a b i; left = left_after room.left a b i }
 
 -- the same of items
 pub items_first : (room : ReplyRoom) (xs ys : List Item) → HasRoom room (encodings (xs ++ ys)) → HasRoom room (encodings xs)
-items_first room xs ys h = room_first room (encodings xs) (encodings ys) (subst (λ (b : List ℕ). HasRoom room b) (encodings-append xs ys) h)
+items_first room xs ys h = room_first room (encodings xs) (encodings ys) (subst (λ (b : List ℕ). HasRoom room b) (encodings_append xs ys) h)
 
 pub items_second : (room mid : ReplyRoom) (xs ys : List Item) → HasRoom room (encodings (xs ++ ys)) → mid ≡ room_with room (encodings xs) → HasRoom mid (encodings ys)
 items_second room mid xs ys h e =
-    subst (λ (r : ReplyRoom). HasRoom r (encodings ys)) (sym e) (room_second room (encodings xs) (encodings ys) (subst (λ (b : List ℕ). HasRoom room b) (encodings-append xs ys) h))
+    subst (λ (r : ReplyRoom). HasRoom r (encodings ys)) (sym e) (room_second room (encodings xs) (encodings ys) (subst (λ (b : List ℕ). HasRoom room b) (encodings_append xs ys) h))
 
 pub items_both : (old mid new : ReplyRoom) (xs ys : List Item) → mid ≡ room_with old (encodings xs) → new ≡ room_with mid (encodings ys) → new ≡ room_with old (encodings (xs ++ ys))
 items_both old mid new xs ys p q =
-    q ∙ ap (λ (r : ReplyRoom). room_with r (encodings ys)) p ∙ room_with-append old (encodings xs) (encodings ys) ∙ ap (λ (b : List ℕ). room_with old b) (sym (encodings-append xs ys))
+    q ∙ ap (λ (r : ReplyRoom). room_with r (encodings ys)) p ∙ room_with_append old (encodings xs) (encodings ys) ∙ ap (λ (b : List ℕ). room_with old b) (sym (encodings_append xs ys))
 
 -- one item alone
 pub put_one : (old new : ReplyRoom) (item : Item) → new ≡ room_with old (encoding item) → new ≡ room_with old (encodings (item ∷ []))
@@ -65,9 +65,9 @@ pub opaque_put : (old head behind new : ReplyRoom) (bytes : List ℕ) (pad : ℕ
 opaque_put old head behind new bytes pad lt is p q r =
     let e : take {A = ℕ} pad (0 ∷ 0 ∷ 0 ∷ []) ≡ replicate {A = ℕ} (pad_len (length bytes)) 0 = zeros pad lt ∙ ap (λ (n : ℕ). replicate {A = ℕ} n 0) is in
     r ∙ ap (λ (x : List ℕ). room_with behind x) e ∙ ap (λ (x : ReplyRoom). room_with x (replicate (pad_len (length bytes)) 0)) q
-    ∙ room_with-append head bytes (replicate (pad_len (length bytes)) 0)
+    ∙ room_with_append head bytes (replicate (pad_len (length bytes)) 0)
     ∙ ap (λ (x : ReplyRoom). room_with x (bytes ++ replicate (pad_len (length bytes)) 0)) p
-    ∙ room_with-append old (word (length bytes)) (bytes ++ replicate (pad_len (length bytes)) 0)
+    ∙ room_with_append old (word (length bytes)) (bytes ++ replicate (pad_len (length bytes)) 0)
 
 -- ---- Unions over a status
 

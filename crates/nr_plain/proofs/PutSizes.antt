@@ -5,7 +5,7 @@ use Rattle.std.specs.Prelude.{replicate}
 use Rattle.nr_xdr.specs.Item.{Item, word, pad_len, encoding, bit}
 use Rattle.nr_xdr.specs.Item.Item.{Unsigned, Hyper, Boolean, Opaque, Fixed}
 use Rattle.nr_xdr.specs.Items.{encodings}
-use Rattle.nr_xdr.proofs.WordBytes.{length-word, length-hyper}
+use Rattle.nr_xdr.proofs.WordBytes.{length_word, length_hyper}
 use Rattle.nr_nfs_base.specs.Codec.{Codec, optional, enumeration, word as word_codec, hyper as hyper_codec, boolean, opaque}
 use Rattle.nr_nfs_base.specs.Attributes.{attributes_codec, special_data_codec}
 use Rattle.nr_nfs_base.specs.FileType.{file_type_codec}
@@ -53,21 +53,21 @@ pad_size n = length-replicate {A = ℕ} n 0
 padded_size : (bytes : List ℕ) (n : ℕ) → length (bytes ++ replicate n 0) ≡ length bytes + n
 padded_size bytes n = omega (arith, length-append bytes (replicate n 0), pad_size n)
 
-length-encoding : (x : Item) → length (encoding x) ≡ item_size x
-length-encoding (Unsigned n) = length-word n
-length-encoding (Hyper n) = length-hyper n
-length-encoding (Boolean b) = length-word (bit b)
-length-encoding (Opaque bytes) =
-    omega (arith, length-append (word (length bytes)) (bytes ++ replicate (pad_len (length bytes)) 0), length-word (length bytes), padded_size bytes (pad_len (length bytes)))
-length-encoding (Fixed bytes) = padded_size bytes (pad_len (length bytes))
+length_encoding : (x : Item) → length (encoding x) ≡ item_size x
+length_encoding (Unsigned n) = length_word n
+length_encoding (Hyper n) = length_hyper n
+length_encoding (Boolean b) = length_word (bit b)
+length_encoding (Opaque bytes) =
+    omega (arith, length-append (word (length bytes)) (bytes ++ replicate (pad_len (length bytes)) 0), length_word (length bytes), padded_size bytes (pad_len (length bytes)))
+length_encoding (Fixed bytes) = padded_size bytes (pad_len (length bytes))
 
-length-encodings : (xs : List Item) → length (encodings xs) ≡ items_size xs
-length-encodings [] = refl
-length-encodings (x ∷ xs) = omega (arith, length-append (encoding x) (encodings xs), length-encoding x, length-encodings xs)
+length_encodings : (xs : List Item) → length (encodings xs) ≡ items_size xs
+length_encodings [] = refl
+length_encodings (x ∷ xs) = omega (arith, length-append (encoding x) (encodings xs), length_encoding x, length_encodings xs)
 
-items_size-append : (xs ys : List Item) → items_size (xs ++ ys) ≡ items_size xs + items_size ys
-items_size-append [] ys = omega arith
-items_size-append (x ∷ xs) ys = omega (arith, items_size-append xs ys)
+items_size_append : (xs ys : List Item) → items_size (xs ++ ys) ≡ items_size xs + items_size ys
+items_size_append [] ys = omega arith
+items_size_append (x ∷ xs) ys = omega (arith, items_size_append xs ys)
 
 -- ---- Attributes and handles
 
@@ -94,7 +94,7 @@ unfolding wcc_data_codec
 wcc_size w =
     omega (
       arith,
-      items_size-append ((optional wcc_attributes_codec).items w.before) ((optional attributes_codec).items w.after),
+      items_size_append ((optional wcc_attributes_codec).items w.before) ((optional attributes_codec).items w.after),
       some_wcc_attributes w.before,
       some_attributes w.after,
     )
@@ -113,15 +113,15 @@ some_handle (Some h) fits = omega (arith, padded_below (length h) fits)
 write_size : (w : WriteOk) → items_size (write_ok_codec.items w) ≤ 132
 unfolding write_ok_codec stable_how_codec enumeration verifier_codec word_codec hyper_codec
 write_size w =
-    omega (arith, items_size-append (wcc_data_codec.items w.wcc) (word_codec.items w.count ++ (stable_how_codec.items w.committed ++ verifier_codec.items w.verifier)), wcc_size w.wcc)
+    omega (arith, items_size_append (wcc_data_codec.items w.wcc) (word_codec.items w.count ++ (stable_how_codec.items w.committed ++ verifier_codec.items w.verifier)), wcc_size w.wcc)
 
 create_size : (d : CreateOk) → HandleFits d.object → items_size (create_ok_codec.items d) ≤ 276
 unfolding create_ok_codec
 create_size d fits =
     omega (
       arith,
-      items_size-append ((optional handle_codec).items d.object) ((optional attributes_codec).items d.attributes ++ wcc_data_codec.items d.dir_wcc),
-      items_size-append ((optional attributes_codec).items d.attributes) (wcc_data_codec.items d.dir_wcc),
+      items_size_append ((optional handle_codec).items d.object) ((optional attributes_codec).items d.attributes ++ wcc_data_codec.items d.dir_wcc),
+      items_size_append ((optional attributes_codec).items d.attributes) (wcc_data_codec.items d.dir_wcc),
       some_handle d.object fits,
       some_attributes d.attributes,
       wcc_size d.dir_wcc,
@@ -130,22 +130,22 @@ create_size d fits =
 rename_size : (r : RenameWcc) → items_size (rename_wcc_codec.items r) ≤ 232
 unfolding rename_wcc_codec
 rename_size r =
-    omega (arith, items_size-append (wcc_data_codec.items r.from_dir) (wcc_data_codec.items r.to_dir), wcc_size r.from_dir, wcc_size r.to_dir)
+    omega (arith, items_size_append (wcc_data_codec.items r.from_dir) (wcc_data_codec.items r.to_dir), wcc_size r.from_dir, wcc_size r.to_dir)
 
 link_size : (l : LinkWcc) → items_size (link_wcc_codec.items l) ≤ 204
 unfolding link_wcc_codec
 link_size l =
-    omega (arith, items_size-append ((optional attributes_codec).items l.attributes) (wcc_data_codec.items l.dir_wcc), some_attributes l.attributes, wcc_size l.dir_wcc)
+    omega (arith, items_size_append ((optional attributes_codec).items l.attributes) (wcc_data_codec.items l.dir_wcc), some_attributes l.attributes, wcc_size l.dir_wcc)
 
 -- ---- Results: a status, and one part
 
 done_size : {D F : Type 0} (done : Codec D) (failed : Codec F) (d : D) → length (encodings ((nfs_result done failed).items (Done d))) ≡ 4 + items_size (done.items d)
 unfolding status_union_codec enumeration word_codec
-done_size done failed d = length-encodings ((nfs_result done failed).items (Done d))
+done_size done failed d = length_encodings ((nfs_result done failed).items (Done d))
 
 failed_size : {D F : Type 0} (done : Codec D) (failed : Codec F) (s : Status) (f : F) → length (encodings ((nfs_result done failed).items (Failed s f))) ≡ 4 + items_size (failed.items f)
 unfolding status_union_codec enumeration word_codec
-failed_size done failed s f = length-encodings ((nfs_result done failed).items (Failed s f))
+failed_size done failed s f = length_encodings ((nfs_result done failed).items (Failed s f))
 
 -- SETATTR, REMOVE and RMDIR
 pub wcc_results_fit : (r : StatusUnion WccData WccData Status) → length (encodings (setattr_res_codec.items r)) ≤ most_results

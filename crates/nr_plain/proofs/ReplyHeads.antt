@@ -25,7 +25,7 @@ use Rattle.nr_plain.specs.Setup.{Parameters, State, caller_of, time_of, space_of
 use Rattle.nr_plain.specs.Programs.{nfs_results, mount_results}
 use Rattle.nr_plain.specs.Journal.{nfs_procedure_of}
 use Rattle.nr_plain.specs.Replies.{Answer, refusal, accepted, nfs_by_arguments, nfs_by_procedure, mount_by_arguments, mount_by_procedure, mount_procedure_of, nfs_call, mount_call, program_call, cred_refusal, call_by_cred, answer_to, answer_by, plain_answer}
-use Rattle.nr_reduce.specs.IsPlain.{xid_of_reply}
+use Rattle.nr_reduce.specs.KeepsReplyLimits.{xid_of_reply}
 
 -- ===== what is written of a head is read with its xid
 

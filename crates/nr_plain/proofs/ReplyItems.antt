@@ -12,7 +12,7 @@ use Rattle.nr_xdr.specs.Reading.{Cursor}
 use Rattle.nr_xdr.specs.Sequencing.{◌>>=◌, number_at}
 use Rattle.nr_xdr.proofs.Chains.{standing, encoding_reads}
 use Rattle.nr_xdr.proofs.SequencingSteps.{number_again}
-use Rattle.nr_xdr.proofs.WordBytes.{length-word}
+use Rattle.nr_xdr.proofs.WordBytes.{length_word}
 use Rattle.nr_rpc.specs.Reply.{CanWriteReply, ReplyFits, reply_head, reply_encoding, reply_again}
 use Rattle.nr_rpc.specs.declared.head.ReplyHead.{ReplyHead}
 use Rattle.nr_rpc.proofs.Replies.{reply_written}
@@ -35,9 +35,9 @@ use Rattle.nr_nfs_res.specs.declared.lookup.ReadlinkOk.{ReadlinkOk}
 use Rattle.nr_reduce.specs.Items.{item_by, item_at, before_read, before_target, result_item, results_item, results_of, reply_item, reducible_item, from_place, if_ends, ends_with_item}
 use Rattle.nr_reduce.specs.declared.item.Item.{Item}
 use Rattle.nr_reduce.specs.declared.item.Of.TheVariants.{Reply}
-use Rattle.nr_ops_dir.proofs.Sizes.{items_size, items_size-append, length-encodings}
+use Rattle.nr_ops_dir.proofs.Sizes.{items_size, items_size_append, length_encodings}
 use Rattle.nr_plain.specs.Replies.{refusal, accepted}
-use Rattle.nr_plain.proofs.FrontReads.{Readable, encodings-append, read_front_readable, readlink_front_readable, failure_unread}
+use Rattle.nr_plain.proofs.FrontReads.{Readable, encodings_append, read_front_readable, readlink_front_readable, failure_unread}
 use Rattle.nr_plain.proofs.Lengths.{some_attributes, failed_size}
 use Rattle.nr_plain.proofs.ReplyLimits.{refusal_size, results_size, head_size}
 
@@ -53,14 +53,14 @@ module _ (bytes : List ℕ) where
         bytes = word (length bytes);
         reads = encoding_reads (Unsigned (length bytes)) fits;
         rest = append_assoc (word (length bytes)) (bytes ++ pad) [];
-        place = omega (arith, length-word (length bytes));
+        place = omega (arith, length_word (length bytes));
       }))
 
   front_item : {A : Type 0} (front : Codec A) (xs : List XdrItem) (place : ℕ) → Readable front xs → length bytes < 2 ^ 32
       → item_at (◌>>=◌ {A = A × Cursor} {B = Cursor} (front.read (standing place (encodings (xs ++ Opaque bytes ∷ [])))) (λ f. Ok f.1)) ≡ Some (record { pos = place + items_size xs + 4; len = length bytes })
   front_item {A} front xs place readable fits =
       let f : (v : A) × (front.read (standing place (encodings xs ++ encodings (Opaque bytes ∷ []))) ≡ Ok (v, standing (place + items_size xs) (encodings (Opaque bytes ∷ [])))) = readable.at place (encodings (Opaque bytes ∷ [])) in
-      ap (λ (l : List ℕ). item_at (◌>>=◌ {A = A × Cursor} {B = Cursor} (front.read (standing place l)) (λ f. Ok f.1))) (encodings-append xs (Opaque bytes ∷ []))
+      ap (λ (l : List ℕ). item_at (◌>>=◌ {A = A × Cursor} {B = Cursor} (front.read (standing place l)) (λ f. Ok f.1))) (encodings_append xs (Opaque bytes ∷ []))
       ∙ ap (λ (r : Result (A × Cursor) ℕ). item_at (◌>>=◌ {A = A × Cursor} {B = Cursor} r (λ f. Ok f.1))) f.1
       ∙ item_read (place + items_size xs) fits
 
@@ -74,7 +74,7 @@ module _ (bytes : List ℕ) where
 
   parted : (head : List ℕ) (xs : List XdrItem) → head ++ encodings (xs ++ Opaque bytes ∷ []) ≡ (head ++ (encodings xs ++ (word (length bytes) ++ bytes))) ++ pad
   parted head xs =
-      ap (λ (l : List ℕ). head ++ l) (encodings-append xs (Opaque bytes ∷ []))
+      ap (λ (l : List ℕ). head ++ l) (encodings_append xs (Opaque bytes ∷ []))
       ∙ ap (λ (l : List ℕ). head ++ (encodings xs ++ l)) (append-nil (word (length bytes) ++ (bytes ++ pad)))
       ∙ simp append_assoc
 
@@ -83,7 +83,7 @@ module _ (bytes : List ℕ) where
       let front : List ℕ = head ++ (encodings xs ++ (word (length bytes) ++ bytes)) in
       let at : ℕ = length head + items_size xs + 4 + length bytes in
       let len : length front ≡ at =
-      omega (arith, length-append head (encodings xs ++ (word (length bytes) ++ bytes)), length-append (encodings xs) (word (length bytes) ++ bytes), length-append (word (length bytes)) bytes, length-word (length bytes), length-encodings xs) in
+      omega (arith, length-append head (encodings xs ++ (word (length bytes) ++ bytes)), length-append (encodings xs) (word (length bytes) ++ bytes), length-append (word (length bytes)) bytes, length_word (length bytes), length_encodings xs) in
       let whole : length (head ++ encodings (xs ++ Opaque bytes ∷ [])) ≡ at + pad_len (length bytes) =
       omega (arith, ap length (parted head xs), length-append front pad, len, length-replicate {A = ℕ} (pad_len (length bytes)) 0) in
       let left : drop at (head ++ encodings (xs ++ Opaque bytes ∷ [])) ≡ pad = ap (drop at) (parted head xs) ∙ drop_at front pad at len in
@@ -159,7 +159,7 @@ read_parts d = refl
 
 read_front_size : (o : Option Attributes) (count : ℕ) (eof : Bool) → items_size (read_res_front.items (success, (o, (count, eof)))) ≤ 100
 unfolding enumeration word_codec success_codec boolean
-read_front_size o count eof = omega (arith, items_size-append ((optional attributes_codec).items o) (word_codec.items count ++ boolean.items eof), some_attributes o)
+read_front_size o count eof = omega (arith, items_size_append ((optional attributes_codec).items o) (word_codec.items count ++ boolean.items eof), some_attributes o)
 
 read_failed : (s : Status) (o : Option Attributes) → result_item 100003 3 6 (standing 24 (encodings ((nfs_result read_ok_codec (optional attributes_codec)).items (Failed s o)))) ≡ None
 unfolding before_read status_union_codec enumeration word_codec

@@ -8,7 +8,7 @@ use Rattle.nr_xdr.specs.Item.{IsBytes, word, pad_len}
 use Rattle.nr_xdr.specs.Items.{encodings}
 use Rattle.nr_xdr.specs.Reading.{Cursor}
 use Rattle.nr_xdr.proofs.Chains.{standing}
-use Rattle.nr_xdr.proofs.WordBytes.{IsBytes-drop}
+use Rattle.nr_xdr.proofs.WordBytes.{IsBytes_drop}
 use Rattle.nr_rpc.specs.Reading.{call_of, target_of}
 use Rattle.nr_rpc.specs.Reply.{reply_head, reply_encoding}
 use Rattle.nr_rpc.specs.declared.cred.Cred.{Cred}
@@ -186,7 +186,7 @@ module _ (s : Parameters) (st : State) (sane : IsSane st.tree) (xid place : ℕ)
 answer_short : (s : Parameters) (st : State) (m : Moment) (payload : List ℕ) (head : CallHead) → IsBytes payload → IsSane st.tree → length (answer_to s st m payload head).reply ≤ target_reply_max payload (target_of (Ok head))
 answer_short s st m payload (calls.Version2 xid prog vers proc cred args_at) bytes sane =
     let e : Entry = record { moment = m; cred = cred; proc = proc; args = drop args_at payload } in
-    let fits : IsBytes (drop args_at payload) = IsBytes-drop args_at payload bytes in
+    let fits : IsBytes (drop args_at payload) = IsBytes_drop args_at payload bytes in
     cred_short s st sane xid args_at e fits prog vers cred (program_call s st xid prog vers e) (program_short s st sane xid args_at e fits prog vers)
 answer_short s st m payload (calls.Other xid rpcvers) bytes sane = refusal_size (replies.RpcMismatch xid 2 2)
 

@@ -42,7 +42,7 @@ use Rattle.nr_reduce.specs.Largest.{nfs_reply_max, by_count, read_reply_max, rea
 use Rattle.nr_tree.specs.Entries.{Entry}
 use Rattle.nr_tree.specs.Replies.{attributes_at}
 use Rattle.nr_tree.specs.Rules.{answer, first, handle_of, node_of_handle, number_of_handle}
-use Rattle.nr_tree.specs.Sane.{IsSane, IsFitContent}
+use Rattle.nr_tree.specs.Sane.{IsSane, IsValidContent}
 use Rattle.nr_tree.specs.Tree.{Tree, bytes_of}
 use Rattle.nr_tree.specs.declared.node.Node.{Node}
 use Rattle.nr_tree.specs.declared.node.Content.{Content}
@@ -61,16 +61,16 @@ use Rattle.nr_ops_dir.specs.Lookup.{lookup_rules, lookup_ok, found_by}
 use Rattle.nr_ops_dir.specs.Readdir.{longest, room_rules, readdir_ok, readdir_fits, readdir_left, readdir_taken, readdir_in, readdir_rules, readdirplus_ok, readdirplus_fits, readdirplus_left, readdirplus_taken, readdirplus_in, readdirplus_rules}
 use Rattle.nr_ops_dir.specs.Removal.{remove_reply, rmdir_reply}
 use Rattle.nr_ops_dir.specs.Renaming.{rename_reply}
-use Rattle.nr_ops_dir.proofs.Sizes.{items_size, length-encodings, attributes_size, readdir_size, readdirplus_size}
+use Rattle.nr_ops_dir.proofs.Sizes.{items_size, length_encodings, attributes_size, readdir_size, readdirplus_size}
 use Rattle.nr_plain.specs.ReplySizes.{HandleFits}
 use Rattle.nr_plain.specs.Programs.{nfs_results}
-use Rattle.nr_plain.proofs.Lengths.{some_attributes, wcc_size, padded_rises, length-handle, lookup_size, access_size, readlink_size, read_size, write_size, commit_size, create_size, rename_size, link_size, fsstat_size, fsinfo_size, pathconf_size, mount_size, answer_fits, union_fits, done_size, failed_size, mounted_size, not_mounted_size}
+use Rattle.nr_plain.proofs.Lengths.{some_attributes, wcc_size, padded_rises, length_handle, lookup_size, access_size, readlink_size, read_size, write_size, commit_size, create_size, rename_size, link_size, fsstat_size, fsinfo_size, pathconf_size, mount_size, answer_fits, union_fits, done_size, failed_size, mounted_size, not_mounted_size}
 use Rattle.nr_plain.proofs.Readings.{read_counted, readdir_counted, readdirplus_counted}
 use Rattle.nr_nfs_base.specs.Limits.{link_target_max, listing_max, transfer_max}
 
 -- ===== READLINK: a path is short
 
-path_by : (c : Content) → not (is_link c) ≡ false → IsFitContent c → length (bytes_of c) ≤ link_target_max
+path_by : (c : Content) → not (is_link c) ≡ false → IsValidContent c → length (bytes_of c) ≤ link_target_max
 path_by (Regular bytes) e fits = absurd cc
 path_by (Directory entries) e fits = absurd cc
 path_by (Block device) e fits = absurd cc
@@ -95,14 +95,14 @@ piece_short bytes offset count =
 
 -- ===== READDIR and READDIRPLUS: within the count
 
-longest-fits_by : (fits : List Entry → Bool) (taken more rest : List Entry) (b : Bool) → fits more ≡ b → fits taken ≡ true → (fits more ≡ true → fits rest ≡ true) → fits (cond b rest taken) ≡ true
-longest-fits_by fits taken more rest true is e others = others is
-longest-fits_by fits taken more rest false is e others = e
+longest_fits_by : (fits : List Entry → Bool) (taken more rest : List Entry) (b : Bool) → fits more ≡ b → fits taken ≡ true → (fits more ≡ true → fits rest ≡ true) → fits (cond b rest taken) ≡ true
+longest_fits_by fits taken more rest true is e others = others is
+longest_fits_by fits taken more rest false is e others = e
 
-longest-fits : (fits : List Entry → Bool) (taken left : List Entry) → fits taken ≡ true → fits (longest fits taken left) ≡ true
-longest-fits fits taken [] e = e
-longest-fits fits taken (x ∷ left) e =
-    longest-fits_by fits taken (taken ++ x ∷ []) (longest fits (taken ++ x ∷ []) left) (fits (taken ++ x ∷ [])) refl e (λ is. longest-fits fits (taken ++ x ∷ []) left is)
+longest_fits : (fits : List Entry → Bool) (taken left : List Entry) → fits taken ≡ true → fits (longest fits taken left) ≡ true
+longest_fits fits taken [] e = e
+longest_fits fits taken (x ∷ left) e =
+    longest_fits_by fits taken (taken ++ x ∷ []) (longest fits (taken ++ x ∷ []) left) (fits (taken ++ x ∷ [])) refl e (λ is. longest_fits fits (taken ++ x ∷ []) left is)
 
 is_true : (b : Bool) → not b ≡ false → b ≡ true
 is_true true e = refl
@@ -111,7 +111,7 @@ is_true false e = absurd cc
 taken_fits : (fits : List Entry → Bool) (left : List Entry) → first (room_rules fits left) ≡ None → fits (longest fits [] left) ≡ true
 taken_fits fits left none =
     let all : AllClear (room_rules fits left) = all_clear (room_rules fits left) none in
-    longest-fits fits [] left (is_true (fits []) (clear (not (fits [])) Toosmall all.0))
+    longest_fits fits [] left (is_true (fits []) (clear (not (fits [])) Toosmall all.0))
 
 both : (a b : Bool) → (a && b) ≡ true → a ≡ true
 both true b e = refl
@@ -127,7 +127,7 @@ module _ (t : Tree) (c : Caller) where
       omega (
         arith,
         fits,
-        length-encodings (readdir_ok_codec.items (readdir_ok t a.dir (readdir_taken t a) eof)),
+        length_encodings (readdir_ok_codec.items (readdir_ok t a.dir (readdir_taken t a) eof)),
         readdir_size t a.dir v.0 (readdir_taken t a) false v.1,
         readdir_size t a.dir v.0 (readdir_taken t a) eof v.1,
       )
@@ -142,7 +142,7 @@ module _ (t : Tree) (c : Caller) where
       omega (
         arith,
         fits,
-        length-encodings (readdirplus_ok_codec.items (readdirplus_ok t a.dir (readdirplus_taken t a) eof)),
+        length_encodings (readdirplus_ok_codec.items (readdirplus_ok t a.dir (readdirplus_taken t a) eof)),
         readdirplus_size t a.dir v.0 (readdirplus_taken t a) false v.1,
         readdirplus_size t a.dir v.0 (readdirplus_taken t a) eof v.1,
       )
@@ -151,7 +151,7 @@ module _ (t : Tree) (c : Caller) where
 
 made_handle : (o : Option ℕ) → HandleFits (option_map handle_of o)
 made_handle None = tt
-made_handle (Some n) = omega (arith, length-handle n)
+made_handle (Some n) = omega (arith, length_handle n)
 
 -- ===== each procedure
 
@@ -161,7 +161,7 @@ getattr_fits (Failed s f) = omega (arith, failed_size attributes_codec void s f)
 
 pub mnt_fits : (b : Bool) → length (encodings (mnt_res_codec.items (cond b (Done (record { handle = handle_of 1; flavors = 1 ∷ 0 ∷ [] })) (Failed Noent tt)))) ≤ 84
 mnt_fits true =
-    omega (arith, length-handle 1, mounted_size (record { handle = handle_of 1; flavors = 1 ∷ 0 ∷ [] }), mount_size (handle_of 1) (omega (arith, length-handle 1)))
+    omega (arith, length_handle 1, mounted_size (record { handle = handle_of 1; flavors = 1 ∷ 0 ∷ [] }), mount_size (handle_of 1) (omega (arith, length_handle 1)))
 mnt_fits false = omega (arith, not_mounted_size Noent tt)
 
 pub wcc_part : (n : ℕ) → 120 ≤ n → (d : WccData) → 4 + items_size (wcc_data_codec.items d) ≤ n
@@ -241,7 +241,7 @@ module _ (t : Tree) (c : Caller) (space : Space) (now : Time) (sane : IsSane t) 
         let d : LookupOk = lookup_ok t a.dir (unwrap_or (found_by t a) 0) in
         one nfs.Lookup a 248
         (answer_fits lookup_ok_codec (optional attributes_codec) (first (lookup_rules t c a)) (attributes_at t a.dir) d 248 (attributes_part 248 (omega arith) (attributes_at t a.dir))
-        (λ none. omega (arith, lookup_size d (omega (arith, length-handle (unwrap_or (found_by t a) 0))))))
+        (λ none. omega (arith, lookup_size d (omega (arith, length_handle (unwrap_or (found_by t a) 0))))))
         (omega arith)
     results_within nfs.Access a e =
         one nfs.Access a 96 (union_fits access_ok_codec (optional attributes_codec) (access_reply t c a) 96 (attributes_part 96 (omega arith)) (λ d. omega (arith, access_size d))) (omega arith)

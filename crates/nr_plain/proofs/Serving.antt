@@ -13,7 +13,7 @@ use Rattle.nr_tree.specs.Rules.{space_rule, entry_cost, IsWithinCapacity}
 use Rattle.nr_tree.specs.Sane.{IsSane}
 use Rattle.nr_tree.specs.Steps.{IsBelow, IsBounded}
 use Rattle.nr_tree.specs.declared.rules.Space.{Space}
-use Rattle.nr_tree.proofs.Bounds.{below-mono}
+use Rattle.nr_tree.proofs.Bounds.{below_mono}
 use Rattle.nr_tree.proofs.PassedRules.{clear}
 use Rattle.nr_plain.specs.Setup.{Parameters, Setup, State, caller_of, time_of, space_of}
 use Rattle.nr_plain.specs.Code.{reply_from, changes_from, tree_from}
@@ -21,15 +21,15 @@ use Rattle.nr_plain.specs.Journal.{nfs_procedure_of, next_state, state_after, st
 use Rattle.nr_nfs_base.specs.declared.procedure.MountProcedure.{MountProcedure}
 use Rattle.nr_rpc.specs.declared.head.ReplyHead.TheVariants.{ProgMismatch}
 use Rattle.nr_plain.specs.Replies.{Answer, nfs_by_arguments, entries_if, refusal, mount_by_arguments, mount_by_procedure, mount_procedure_of, mount_call, program_call}
-use Rattle.nr_plain.specs.Stands.{Kept, StandsForJournal, IsServing, state_kept, kept_after}
+use Rattle.nr_plain.specs.Stands.{PlainServerState, RepresentsJournal, IsServing, state_kept, state_after_answer}
 use Rattle.nr_plain.proofs.Procedures.{tree-kept, entry-spaced, tree-below}
 
 -- ===== numbers
 
-pub serving_bounded : (k : Kept) → IsServing k → IsBounded k.tree
-serving_bounded k is = below-mono (2 ^ 62 + k.count) (2 ^ 63) k.tree (omega (arith, is.counted, is.within, is.capacity)) is.below
+pub serving_bounded : (k : PlainServerState) → IsServing k → IsBounded k.tree
+serving_bounded k is = below_mono (2 ^ 62 + k.count) (2 ^ 63) k.tree (omega (arith, is.counted, is.within, is.capacity)) is.below
 
-pub within_capacity : (k : Kept) (args : List ℕ) → IsServing k → IsWithinCapacity (space_of k.parameters (state_kept k) args)
+pub within_capacity : (k : PlainServerState) (args : List ℕ) → IsServing k → IsWithinCapacity (space_of k.parameters (state_kept k) args)
 within_capacity k args is = (is.within, is.capacity)
 
 spaced : (space : Space) → space_rule space ≡ None → space.used + entry_cost + space.arguments ≤ space.capacity
@@ -37,7 +37,7 @@ spaced space e = ltb-false space.capacity (space.used + entry_cost + space.argum
 
 -- ===== one call
 
-module _ (k : Kept) (e : Entry) (xid : ℕ) (p : NfsProcedure) where
+module _ (k : PlainServerState) (e : Entry) (xid : ℕ) (p : NfsProcedure) where
   abbrev space : Space
   space = space_of k.parameters (state_kept k) e.args
 
@@ -104,31 +104,31 @@ module _ (k : Kept) (e : Entry) (xid : ℕ) (p : NfsProcedure) where
       unfolding next_state
       next_cost = refl
 
-      pub entry_kept : (n : ℕ) → n ≡ entry_cost + length e.args → b ≡ true → nfs_procedure_of e.proc ≡ Some p → record { tree = tree; count = k.count + 1; cost = k.cost + n; parameters = k.parameters } ≡ kept_after k answer.entries
+      pub entry_kept : (n : ℕ) → n ≡ entry_cost + length e.args → b ≡ true → nfs_procedure_of e.proc ≡ Some p → record { tree = tree; count = k.count + 1; cost = k.cost + n; parameters = k.parameters } ≡ state_after_answer k answer.entries
       entry_kept n costing is_entry of_number =
-          (λ i. record { tree = sym (next_tree of_number) i; count = k.count + 1; cost = (ap (λ (m : ℕ). k.cost + m) costing ∙ sym next_cost) i; parameters = k.parameters }) ∙ ap (kept_after k) (sym (entries_are true is_entry))
+          (λ i. record { tree = sym (next_tree of_number) i; count = k.count + 1; cost = (ap (λ (m : ℕ). k.cost + m) costing ∙ sym next_cost) i; parameters = k.parameters }) ∙ ap (state_after_answer k) (sym (entries_are true is_entry))
 
-      pub same_kept : b ≡ false → record { tree = tree; count = k.count; cost = k.cost; parameters = k.parameters } ≡ kept_after k answer.entries
+      pub same_kept : b ≡ false → record { tree = tree; count = k.count; cost = k.cost; parameters = k.parameters } ≡ state_after_answer k answer.entries
       same_kept no_entry =
           let none : k.count ≡ k.count + 0 = omega arith in
-          (λ i. record { tree = same no_entry i; count = none i; cost = k.cost; parameters = k.parameters }) ∙ ap (kept_after k) (sym (entries_are false no_entry))
+          (λ i. record { tree = same no_entry i; count = none i; cost = k.cost; parameters = k.parameters }) ∙ ap (state_after_answer k) (sym (entries_are false no_entry))
 
 -- ===== journals
 
-pub state-append : (prm : Parameters) (st : State) (J K : List Entry) → state_after prm st (J ++ K) ≡ state_after prm (state_after prm st J) K
-state-append prm st [] K = refl
-state-append prm st (e ∷ J) K = state-append prm (next_state prm st e) J K
+pub state_append : (prm : Parameters) (st : State) (J K : List Entry) → state_after prm st (J ++ K) ≡ state_after prm (state_after prm st J) K
+state_append prm st [] K = refl
+state_append prm st (e ∷ J) K = state_append prm (next_state prm st e) J K
 
-pub state-is : (s : Setup) (J : List Entry) (k : Kept) → StandsForJournal s J k → state_kept k ≡ state_of s J
-state-is s J k is =
+pub state_is : (s : Setup) (J : List Entry) (k : PlainServerState) → RepresentsJournal s J k → state_kept k ≡ state_of s J
+state_is s J k is =
     let all : state_kept k ≡ state_of s (take (length J) J) = λ i. record { tree = is.tree i; cost = is.cost i } in
     all ∙ ap (state_of s) (take-length J)
 
-pub stands-after : (s : Setup) (J : List Entry) (k : Kept) (es : List Entry) → StandsForJournal s J k → StandsForJournal s (J ++ es) (kept_after k es)
-stands-after s J k es is =
-    let state : state_kept k ≡ state_of s J = state-is s J k is in
+pub stands_after : (s : Setup) (J : List Entry) (k : PlainServerState) (es : List Entry) → RepresentsJournal s J k → RepresentsJournal s (J ++ es) (state_after_answer k es)
+stands_after s J k es is =
+    let state : state_kept k ≡ state_of s J = state_is s J k is in
     let all : state_after k.parameters (state_kept k) es ≡ state_of s (take (length (J ++ es)) (J ++ es)) =
-    (λ i. state_after (is.parameters i) (state i) es) ∙ sym (state-append s.parameters (record { tree = s.tree; cost = 0 }) J es) ∙ sym (ap (state_of s) (take-length (J ++ es))) in
+    (λ i. state_after (is.parameters i) (state i) es) ∙ sym (state_append s.parameters (record { tree = s.tree; cost = 0 }) J es) ∙ sym (ap (state_of s) (take-length (J ++ es))) in
     record {
       tree = ap (λ (st : State). st.tree) all;
       cost = ap (λ (st : State). st.cost) all;
@@ -136,8 +136,8 @@ stands-after s J k es is =
       parameters = is.parameters;
     }
 
-pub kept-none : (k : Kept) → k ≡ kept_after k []
-kept-none k = let none : k.count ≡ k.count + 0 = omega arith in λ i. record { tree = k.tree; count = none i; cost = k.cost; parameters = k.parameters }
+pub kept_none : (k : PlainServerState) → k ≡ state_after_answer k []
+kept_none k = let none : k.count ≡ k.count + 0 = omega arith in λ i. record { tree = k.tree; count = none i; cost = k.cost; parameters = k.parameters }
 
 -- ===== MOUNT adds no entry
 
@@ -153,16 +153,16 @@ mount_version_by : (prm : Parameters) (xid : ℕ) (e : Entry) (b : Bool) → (co
 mount_version_by prm xid e true = mount_procedure prm xid e.args (mount_procedure_of e.proc)
 mount_version_by prm xid e false = refl
 
-pub mount-none : (prm : Parameters) (xid vers : ℕ) (e : Entry) → (mount_call prm xid vers e).entries ≡ []
+pub mount_none : (prm : Parameters) (xid vers : ℕ) (e : Entry) → (mount_call prm xid vers e).entries ≡ []
 unfolding mount_call
-mount-none prm xid vers e = mount_version_by prm xid e (eqb vers 3)
+mount_none prm xid vers e = mount_version_by prm xid e (eqb vers 3)
 
-pub mount-kept : (k : Kept) (xid vers : ℕ) (e : Entry) → k ≡ kept_after k (mount_call k.parameters xid vers e).entries
-mount-kept k xid vers e = kept-none k ∙ ap (kept_after k) (sym (mount-none k.parameters xid vers e))
+pub mount_kept : (k : PlainServerState) (xid vers : ℕ) (e : Entry) → k ≡ state_after_answer k (mount_call k.parameters xid vers e).entries
+mount_kept k xid vers e = kept_none k ∙ ap (state_after_answer k) (sym (mount_none k.parameters xid vers e))
 
 any_ok : {A E : Type 0} (r : Result A E) (P : Type 0) → P → OnOk r P
 any_ok (Ok x) P holds = holds
 any_ok (Err e) P holds = tt
 
-pub mount-program : {A E : Type 0} (r : Result A E) (k : Kept) (xid prog vers : ℕ) (e : Entry) → prog ≡ 100005 → OnOk r (k ≡ kept_after k (program_call k.parameters (state_kept k) xid prog vers e).entries)
-mount-program r k xid prog vers e is = any_ok r _ (subst (λ (n : ℕ). k ≡ kept_after k (program_call k.parameters (state_kept k) xid n vers e).entries) (sym is) (mount-kept k xid vers e))
+pub mount_program_lem : {A E : Type 0} (r : Result A E) (k : PlainServerState) (xid prog vers : ℕ) (e : Entry) → prog ≡ 100005 → OnOk r (k ≡ state_after_answer k (program_call k.parameters (state_kept k) xid prog vers e).entries)
+mount_program_lem r k xid prog vers e is = any_ok r _ (subst (λ (n : ℕ). k ≡ state_after_answer k (program_call k.parameters (state_kept k) xid n vers e).entries) (sym is) (mount_kept k xid vers e))

@@ -4,7 +4,7 @@ use Rattle.nr_xdr.specs.Item.{IsBytes}
 use Rattle.nr_header.specs.WithinLimits.{ListsWithin}
 use Rattle.nr_header.specs.declared.header.ChunkLists.{ChunkLists}
 use Rattle.nr_rpc.specs.Reading.{call_of, reply_of, target_of, xid_of_call}
-use Rattle.nr_reduce.specs.IsPlain.{xid_of_reply, IsPlain}
+use Rattle.nr_reduce.specs.KeepsReplyLimits.{xid_of_reply, KeepsReplyLimits}
 use Rattle.nr_reduce.specs.PlainJournal.{PlainServer}
 use Rattle.nr_outside.specs.declared.moment.Moment.{Moment}
 use Rattle.nr_reduce.specs.declared.mark.Entry.{Entry}
@@ -69,4 +69,4 @@ plain_server s = record { Replies = λ J m payload reply. plain_reply s J (lengt
 
 -- It keeps what a run asks of a plain server, where the first tree is sane.
 abbrev pub ServerIsPlain : Type 0
-ServerIsPlain = (s : Setup) → IsSane s.tree → IsPlain (plain_server s)
+ServerIsPlain = (s : Setup) → IsSane s.tree → KeepsReplyLimits (plain_server s)

@@ -17,14 +17,14 @@ use Rattle.nr_plain.specs.declared.fault.Fault.{Fault}
 use Rattle.nr_plain.specs.declared.fault.Fault.TheVariants as faults
 
 -- what a server keeps: the tree, the length and the cost of the journal, and what it was opened with but for the first tree
-pub record Kept : Type 0 where
+pub record PlainServerState : Type 0 where
   pub tree : Tree
   pub count : ℕ
   pub cost : ℕ
   pub parameters : Parameters
 
 -- opened with this setup, and after these entries
-pub record StandsForJournal (s : Setup) (J : List Entry) (kept : Kept) : Type 0 where
+pub record RepresentsJournal (s : Setup) (J : List Entry) (kept : PlainServerState) : Type 0 where
   pub tree : kept.tree ≡ tree_at s J (length J)
   pub cost : kept.cost ≡ cost_of s J (length J)
   pub count : kept.count ≡ length J
@@ -32,10 +32,10 @@ pub record StandsForJournal (s : Setup) (J : List Entry) (kept : Kept) : Type 0 
 
 -- A call was executed after the entries J: its reply is that of the plain server at its place in the journal, its place is the number of
 -- entries before it, and then the server stands for the journal with the entry of the call, if it has one.
-pub record ExecutesCall (s : Setup) (J : List Entry) (m : Moment) (payload reply : List ℕ) (place : ℕ) (kept : Kept) : Type 0 where
+pub record ExecutesCall (s : Setup) (J : List Entry) (m : Moment) (payload reply : List ℕ) (place : ℕ) (kept : PlainServerState) : Type 0 where
   pub replied : plain_reply s J place m payload ≡ Some reply
   pub place_is : place ≡ length J
-  pub stands : StandsForJournal s (J ++ entries_of_call m payload reply) kept
+  pub stands : RepresentsJournal s (J ++ entries_of_call m payload reply) kept
 
 -- NotCall at the first item that fails of a payload without a call head; want of memory has no cause
 abbrev pub IsCause : Fault → Result CallHead ℕ → Type 0
@@ -43,7 +43,7 @@ IsCause (faults.NotCall at) read = read ≡ Err at
 IsCause faults.Memory read = Unit {0}
 
 -- far from the end of 64 bits: each entry raises the next number and each next cookie by one at most, and costs at least entry_cost
-pub record IsServing (kept : Kept) : Type 0 where
+pub record IsServing (kept : PlainServerState) : Type 0 where
   pub sane : IsSane kept.tree
   pub below : IsBelow (2 ^ 62 + kept.count) kept.tree
   pub counted : entry_cost * kept.count ≤ kept.cost
@@ -52,22 +52,22 @@ pub record IsServing (kept : Kept) : Type 0 where
 
 -- ===== for the code
 
-abbrev pub state_kept : Kept → State
+abbrev pub state_kept : PlainServerState → State
 state_kept kept = record { tree = kept.tree; cost = kept.cost }
 
 -- what is kept after some more entries
-abbrev pub kept_with_state : Kept → ℕ → State → Kept
+abbrev pub kept_with_state : PlainServerState → ℕ → State → PlainServerState
 kept_with_state kept more st = record { tree = st.tree; count = kept.count + more; cost = st.cost; parameters = kept.parameters }
 
-abbrev pub kept_after : Kept → List Entry → Kept
-kept_after kept es = kept_with_state kept (length es) (state_after kept.parameters (state_kept kept) es)
+abbrev pub state_after_answer : PlainServerState → List Entry → PlainServerState
+state_after_answer kept es = kept_with_state kept (length es) (state_after kept.parameters (state_kept kept) es)
 
 abbrev pub parameters_code : Coded Parameters
 parameters_code =
     code_by (ℕ × (ℕ × List ℕ)) (coded× coded_ℕ (coded× coded_ℕ (coded_list coded_ℕ))) (λ p. (p.capacity, (p.verifier.number, p.export)))
     (λ p. record { capacity = p.0; verifier = record { number = p.1.0 }; export = p.1.1 }) (λ _. refl)
 
-abbrev pub kept_code : Coded Kept
+abbrev pub kept_code : Coded PlainServerState
 kept_code =
     code_by (Tree × (ℕ × (ℕ × Parameters))) (coded× tree_code (coded× coded_ℕ (coded× coded_ℕ parameters_code))) (λ k. (k.tree, (k.count, (k.cost, k.parameters))))
     (λ p. record { tree = p.0; count = p.1.0; cost = p.1.1.0; parameters = p.1.1.1 }) (λ _. refl)

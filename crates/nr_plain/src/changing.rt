@@ -41,17 +41,17 @@ use std::alloc::Global;
 
 /// What a change begins with: the arguments of the call, and the room of its reply.
 #[derive(Drop)]
-struct Beginning<A> {
+struct Prepared<A> {
     arguments: A,
     room: ReplyRoom,
 }
 
 /// Reads the arguments and takes the room. None where the bytes are no encoding of the type.
-fn begin<A: Xdr>(alloc: Global, arguments: &[u8]) -> Result<Option<Beginning<A>>, Memory>
+fn prepare<A: Xdr>(alloc: Global, arguments: &[u8]) -> Result<Option<Prepared<A>>, Memory>
     ensures { IfOk result (λ o. o ≡ option_map (λ a. record { arguments = a; room = record { bytes = []; left = most_reply } }) (read_or_none (read_all A.codec arguments.now))) }
 {
     match read_arguments::<A>(alloc, arguments)? {
-        Some(arguments) => Ok(Some(Beginning {
+        Some(arguments) => Ok(Some(Prepared {
             arguments,
             room: ReplyRoom::for_results(alloc)?,
         })),
@@ -103,8 +103,8 @@ pub(crate) fn change<A: Changing>(
     ensures err { OnErr result (tree.new ≡ tree.old) }
     ensures sane { IsSane tree.new }
 {
-    match begin::<A>(alloc, call.arguments)? {
-        Some(Beginning { arguments, room }) => change_in(alloc, tree, call, arguments, room),
+    match prepare::<A>(alloc, call.arguments)? {
+        Some(Prepared { arguments, room }) => change_in(alloc, tree, call, arguments, room),
         None => no_change(alloc, call.xid),
     }
 }

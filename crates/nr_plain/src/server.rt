@@ -13,7 +13,7 @@ ghost use Rattle.nr_plain.specs.Setup.{Setup, Parameters, caller_of, space_of, t
 ghost use Rattle.nr_plain.specs.Code.{IsWithin, changes_from, entry_of, reply_from, tree_from};
 ghost use Rattle.nr_plain.specs.Journal.{nfs_procedure_of, cost_of};
 ghost use Rattle.nr_plain.specs.Replies.{accepted as accepted_head, nfs_by_procedure, nfs_call, mount_call, program_call, call_by_cred, cred_refusal, answer_to};
-ghost use Rattle.nr_plain.specs.Stands.{StandsForJournal, ExecutesCall, IsCause, state_kept, kept_after};
+ghost use Rattle.nr_plain.specs.Stands.{RepresentsJournal, ExecutesCall, IsCause, state_kept, state_after_answer};
 
 use crate::call::{Call, Change, Request};
 use crate::caller::{caller, time};
@@ -45,9 +45,9 @@ pub struct Server {
 }
 
 impl Model for Server {
-    ghost use Rattle.nr_plain.specs.Stands.{Kept, kept_code, IsServing};
+    ghost use Rattle.nr_plain.specs.Stands.{PlainServerState, kept_code, IsServing};
 
-    ghost Value = { Kept };
+    ghost Value = { PlainServerState };
 
     ghost coded = { kept_code };
 
@@ -84,7 +84,7 @@ impl Server {
         // The next number and each next cookie: each entry of the journal raises them by one at most, so they stay below 2^63.
         requires below { IsBelow (2 ^ 62) tree }
         requires capacity { capacity < 2 ^ 63 }
-        ensures { StandsForJournal (record { tree = tree; parameters = record { capacity = capacity; verifier = verifier; export = export } }) [] result }
+        ensures { RepresentsJournal (record { tree = tree; parameters = record { capacity = capacity; verifier = verifier; export = export } }) [] result }
     {
         Server {
             tree,
@@ -98,14 +98,14 @@ impl Server {
 
     /// How many entries the journal has.
     pub fn journal_len(&self) -> u64
-        ensures { (s : Setup) (J : List Entry) → StandsForJournal s J self.now → result ≡ length J }
+        ensures { (s : Setup) (J : List Entry) → RepresentsJournal s J self.now → result ≡ length J }
     {
         self.count
     }
 
     /// What the journal costs: 64 for each entry, and the bytes of its arguments.
     pub fn journal_cost(&self) -> u64
-        ensures { (s : Setup) (J : List Entry) → StandsForJournal s J self.now → result ≡ cost_of s J (length J) }
+        ensures { (s : Setup) (J : List Entry) → RepresentsJournal s J self.now → result ≡ cost_of s J (length J) }
     {
         self.cost
     }
@@ -113,7 +113,7 @@ impl Server {
     /// Executes a call. The reply is that of the plain server over the journal; a change that succeeds is then its next entry. After
     /// an `Err` the server is as before.
     pub fn execute(&mut self, alloc: Global, now: Moment, payload: &[u8]) -> Result<Reply, Fault>
-        ensures executed { IfOk result (λ r. (s : Setup) (J : List Entry) → StandsForJournal s J self.old → ExecutesCall s J now payload.now r.payload r.place self.new) }
+        ensures executed { IfOk result (λ r. (s : Setup) (J : List Entry) → RepresentsJournal s J self.old → ExecutesCall s J now payload.now r.payload r.place self.new) }
         ensures call { IfOk result (λ _. IsOk (call_of payload.now)) }
         ensures cause { IfErr result (λ e. IsCause e (call_of payload.now)) }
         ensures err { OnErr result (self.new ≡ self.old) }
@@ -153,7 +153,7 @@ impl Server {
     ) -> Result<Octets, Memory>
         requires { nfs_procedure_of request.now.proc ≡ Some p }
         ensures reply { IfOk result (λ o. o ≡ (nfs_by_procedure self.old.parameters (state_kept self.old) request.now.xid (entry_of request.now) (Some p)).reply) }
-        ensures kept { OnOk result (self.new ≡ kept_after self.old (nfs_by_procedure self.old.parameters (state_kept self.old) request.now.xid (entry_of request.now) (Some p)).entries) }
+        ensures kept { OnOk result (self.new ≡ state_after_answer self.old (nfs_by_procedure self.old.parameters (state_kept self.old) request.now.xid (entry_of request.now) (Some p)).entries) }
         ensures err { OnErr result (self.new ≡ self.old) }
     {
         let space = self.space(request.arguments);
@@ -169,7 +169,7 @@ impl Server {
     #[tactic(auto, unfolding(crate::specs::Replies::nfs_call))]
     fn nfs(&mut self, alloc: Global, request: &Request, vers: u32) -> Result<Octets, Memory>
         ensures reply { IfOk result (λ o. o ≡ (nfs_call self.old.parameters (state_kept self.old) request.now.xid vers (entry_of request.now)).reply) }
-        ensures kept { OnOk result (self.new ≡ kept_after self.old (nfs_call self.old.parameters (state_kept self.old) request.now.xid vers (entry_of request.now)).entries) }
+        ensures kept { OnOk result (self.new ≡ state_after_answer self.old (nfs_call self.old.parameters (state_kept self.old) request.now.xid vers (entry_of request.now)).entries) }
         ensures err { OnErr result (self.new ≡ self.old) }
     {
         let xid = request.xid;
@@ -220,7 +220,7 @@ impl Server {
         vers: u32,
     ) -> Result<Octets, Memory>
         ensures reply { IfOk result (λ o. o ≡ (program_call self.old.parameters (state_kept self.old) request.now.xid prog vers (entry_of request.now)).reply) }
-        ensures kept { OnOk result (self.new ≡ kept_after self.old (program_call self.old.parameters (state_kept self.old) request.now.xid prog vers (entry_of request.now)).entries) }
+        ensures kept { OnOk result (self.new ≡ state_after_answer self.old (program_call self.old.parameters (state_kept self.old) request.now.xid prog vers (entry_of request.now)).entries) }
         ensures err { OnErr result (self.new ≡ self.old) }
     {
         if prog == NFS_PROGRAM {
@@ -242,7 +242,7 @@ impl Server {
     ) -> Result<Octets, Memory>
         requires { IsWithin payload.now head.now }
         ensures reply { IfOk result (λ o. o ≡ (answer_to self.old.parameters (state_kept self.old) now payload.now head.now).reply) }
-        ensures kept { OnOk result (self.new ≡ kept_after self.old (answer_to self.old.parameters (state_kept self.old) now payload.now head.now).entries) }
+        ensures kept { OnOk result (self.new ≡ state_after_answer self.old (answer_to self.old.parameters (state_kept self.old) now payload.now head.now).entries) }
         ensures err { OnErr result (self.new ≡ self.old) }
     {
         match head {
@@ -283,7 +283,7 @@ impl Server {
         vers: u32,
     ) -> Result<Octets, Memory>
         ensures reply { IfOk result (λ o. o ≡ (call_by_cred (cred_refusal request.now.cred.now) request.now.xid (program_call self.old.parameters (state_kept self.old) request.now.xid prog vers (entry_of request.now))).reply) }
-        ensures kept { OnOk result (self.new ≡ kept_after self.old (call_by_cred (cred_refusal request.now.cred.now) request.now.xid (program_call self.old.parameters (state_kept self.old) request.now.xid prog vers (entry_of request.now))).entries) }
+        ensures kept { OnOk result (self.new ≡ state_after_answer self.old (call_by_cred (cred_refusal request.now.cred.now) request.now.xid (program_call self.old.parameters (state_kept self.old) request.now.xid prog vers (entry_of request.now))).entries) }
         ensures err { OnErr result (self.new ≡ self.old) }
     {
         match cred_status(request.cred) {

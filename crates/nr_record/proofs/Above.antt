@@ -3,7 +3,7 @@ use Rattle.std.proofs.Common.{◌≡◌, ℕ, ◌+◌, ◌*◌, ◌^◌, ◌<◌
 use Rattle.std.specs.List.{concat, AllByRecursion}
 use Rattle.std.proofs.lemmas.Bool.{true≢false, false≢true}
 use Rattle.nr_xdr.specs.Item.{bit}
-use Rattle.nr_xdr.proofs.WordBytes.{length-word}
+use Rattle.nr_xdr.proofs.WordBytes.{length_word}
 use Rattle.nr_record.specs.declared.fault.RecordFault.{RecordFault}
 use Rattle.nr_record.specs.declared.fault.RecordFault.TheVariants.{Bad, Memory}
 use Rattle.nr_record.specs.Constants.{RECORD_MAX, REASON_RECORD}
@@ -15,7 +15,7 @@ use Rattle.nr_record.proofs.Begun.{all_short, within_fits, all_fit, state_begun}
 -- a fragment and a header at one offset have one length
 same_front : (l m : Bool) (a : List ℕ) (n : ℕ) (x y : List ℕ) → IsShort a → n < 2 ^ 31 → fragment l a ++ x ≡ header m n ++ y → length a ≡ n
 same_front l m a n x y p q e =
-    let h = parts (header l (length a)) (header m n) (a ++ x) y 4 (length-word (2 ^ 31 * bit l + length a)) (length-word (2 ^ 31 * bit m + n)) (sym (append_assoc (header l (length a)) a x) ∙ e) in
+    let h = parts (header l (length a)) (header m n) (a ++ x) y 4 (length_word (2 ^ 31 * bit l + length a)) (length_word (2 ^ 31 * bit m + n)) (sym (append_assoc (header l (length a)) a x) ∙ e) in
     (same_header l m (length a) n p q h.0).1
 
 -- in a record within the limit no fragment is above it
@@ -40,19 +40,19 @@ none_in sum (c ∷ bs) b x (g ∷ gs) m n y p q r lt le above e =
 none_less : (k : Kept) (begun : List (List ℕ)) (partial : List ℕ) (sum : ℕ) (gs : List (List ℕ)) (m : Bool) (n : ℕ) (y : List ℕ) → IsLess k begun partial → sum ≡ length (concat begun) → AllByRecursion IsShort gs → n < 2 ^ 31
     → RECORD_MAX < sum + (length (concat gs) + n) → ¬ (partial ≡ fragments gs ++ (header m n ++ y))
 none_less k begun partial sum [] m n y less is r lt above e = ⊎_elim
-    (λ (h : InHeader k.payload k.head k.left begun partial). absurd (omega (arith, h.short, ap length h.partial_is, ap length e, length-append (header m n) y, length-word (2 ^ 31 * bit m + n))))
+    (λ (h : InHeader k.payload k.head k.left begun partial). absurd (omega (arith, h.short, ap length h.partial_is, ap length e, length-append (header m n) y, length_word (2 ^ 31 * bit m + n))))
     (λ (h : (0 < k.left) × InFragment k.payload k.head k.last k.left begun partial). let i = h.1 in
     let small : length i.came + k.left < 2 ^ 31 = omega (arith, i.within, ap length i.payload_is, length-append (concat begun) i.came) in
-    let t = parts (header k.last (length i.came + k.left)) (header m n) i.came y 4 (length-word (2 ^ 31 * bit k.last + (length i.came + k.left))) (length-word (2 ^ 31 * bit m + n)) (sym i.partial_is ∙ e) in
+    let t = parts (header k.last (length i.came + k.left)) (header m n) i.came y 4 (length_word (2 ^ 31 * bit k.last + (length i.came + k.left))) (length_word (2 ^ 31 * bit m + n)) (sym i.partial_is ∙ e) in
     let len = (same_header k.last m (length i.came + k.left) n small lt t.0).1 in
     absurd (omega (arith, len, is, above, i.within, ap length i.payload_is, length-append (concat begun) i.came)))
     less
 none_less k begun partial sum (g ∷ gs) m n y less is r lt above e = ⊎_elim
-    (λ (h : InHeader k.payload k.head k.left begun partial). absurd (omega (arith, h.short, ap length h.partial_is, ap length e, length-append (fragment false g ++ fragments gs) (header m n ++ y), length-append (fragment false g) (fragments gs), length-append (header false (length g)) g, length-word (2 ^ 31 * bit false + length g))))
+    (λ (h : InHeader k.payload k.head k.left begun partial). absurd (omega (arith, h.short, ap length h.partial_is, ap length e, length-append (fragment false g ++ fragments gs) (header m n ++ y), length-append (fragment false g) (fragments gs), length-append (header false (length g)) g, length_word (2 ^ 31 * bit false + length g))))
     (λ (h : (0 < k.left) × InFragment k.payload k.head k.last k.left begun partial). let i = h.1 in
     let small : length i.came + k.left < 2 ^ 31 = omega (arith, i.within, ap length i.payload_is, length-append (concat begun) i.came) in
     let rest : List ℕ = fragments gs ++ (header m n ++ y) in
-    let t = parts (header k.last (length i.came + k.left)) (header false (length g)) i.came (g ++ rest) 4 (length-word (2 ^ 31 * bit k.last + (length i.came + k.left))) (length-word (2 ^ 31 * bit false + length g))
+    let t = parts (header k.last (length i.came + k.left)) (header false (length g)) i.came (g ++ rest) 4 (length_word (2 ^ 31 * bit k.last + (length i.came + k.left))) (length_word (2 ^ 31 * bit false + length g))
     (sym i.partial_is ∙ (e ∙ (append_assoc (fragment false g) (fragments gs) (header m n ++ y) ∙ append_assoc (header false (length g)) g rest))) in
     let len = (same_header k.last false (length i.came + k.left) (length g) small r.0 t.0).1 in
     absurd (omega (arith, len, ap length t.1, length-append g rest, h.0)))

@@ -2,7 +2,7 @@
 use Rattle.std.proofs.Common.{◌≡◌, ℕ, ◌+◌, ◌*◌, ◌^◌, ◌≤◌, List, [], ◌∷◌, ◌++◌, length, Option, None, Some, refl, sym, ap, ◌∙◌, subst, append_assoc, append-nil, length-append, arith}
 use Rattle.std.specs.List.{concat, AllByRecursion}
 use Rattle.nr_xdr.specs.Item.{bit}
-use Rattle.nr_xdr.proofs.WordBytes.{length-word}
+use Rattle.nr_xdr.proofs.WordBytes.{length_word}
 use Rattle.nr_record.specs.declared.fault.RecordFault.{RecordFault}
 use Rattle.nr_record.specs.declared.fault.RecordFault.TheVariants.{Bad, Memory}
 use Rattle.nr_record.specs.Constants.{RECORD_MAX}
@@ -58,7 +58,7 @@ limit_short (r ∷ rs) all = (omega (arith, all.0), limit_short rs all.1)
 none_written : (records : List (List ℕ)) (at : ℕ) → AllByRecursion IsInLimit records → ¬ (IsAboveAt (encodings (as_one records)) at)
 none_written records at all a =
     none_list (as_one records) a.cuts [] a.begun a.last a.len a.more (as_within records all) a.fit a.begun_fit a.short a.above begun_none
-    (λ e. omega (arith, ap length e, length-append (fragments a.begun) (header a.last a.len ++ a.more), length-append (header a.last a.len) a.more, length-word (2 ^ 31 * bit a.last + a.len)))
+    (λ e. omega (arith, ap length e, length-append (fragments a.begun) (header a.last a.len ++ a.more), length-append (header a.last a.len) a.more, length_word (2 ^ 31 * bit a.last + a.len)))
     (append-nil (encodings (as_one records)) ∙ a.stream_is)
 
 pub read_back : (k : Kept) (records : List (List ℕ)) (taken : ℕ) (s : StandsFor k (encodings (as_one records)) taken) → AllByRecursion IsInLimit records → ¬ (IsOutOfMemory k) → (k.fault ≡ None) × (contents s.cuts ≡ records) × (rest_in s ≡ [])

@@ -3,14 +3,14 @@ use Rattle.std.proofs.Common.{◌≡◌, ℕ, zero, suc, ◌+◌, ◌-◌, ◌%�
 use Rattle.std.specs.List.{concat, AllByRecursion}
 use Rattle.std.proofs.lemmas.List.{length-replicate}
 use Rattle.nr_xdr.specs.Item.{IsBytes, word, word_of}
-use Rattle.nr_xdr.proofs.WordBytes.{word-word_of, word_of-below}
+use Rattle.nr_xdr.proofs.WordBytes.{word_word_of, word_of_below}
 use Rattle.nr_record.specs.declared.fault.RecordFault.{RecordFault}
 use Rattle.nr_record.specs.declared.fault.RecordFault.TheVariants.{Bad, Memory}
 use Rattle.nr_record.specs.Constants.{RECORD_MAX, HEADER_LEN}
 use Rattle.nr_record.specs.Records.{header, fragment, fragments, Cut, IsShort, Fits, contents, encodings, IsBegun, RecordsEncode}
 use Rattle.nr_record.specs.Kept.{Kept, IsWithin, InHeader, InFragment, IsLess, IsAbove, IsState, StandsFor, read_in, rest_in}
-use Rattle.nr_record.proofs.Lists.{fragments-end, all-end}
-use Rattle.nr_record.proofs.Standing.{halves, bytes-end}
+use Rattle.nr_record.proofs.Lists.{fragments_end, all-end}
+use Rattle.nr_record.proofs.Standing.{halves, bytes_end}
 use Rattle.nr_record.proofs.Unique.{one_list}
 
 pub all_short : (fs : List (List ℕ)) (m : ℕ) → length (concat fs) ≤ m → m < 2 ^ 31 → AllByRecursion IsShort fs
@@ -40,13 +40,13 @@ begun_with false begun payload front missing all short some e = record {
   missing = missing ++ fragment true [];
   some = omega (arith, some, length-append missing (fragment true []));
   encoded =
-      ap (λ (l : List ℕ). l ++ fragment true []) (fragments-end begun payload ∙ ap (λ (l : List ℕ). fragments begun ++ l) e)
+      ap (λ (l : List ℕ). l ++ fragment true []) (fragments_end begun payload ∙ ap (λ (l : List ℕ). fragments begun ++ l) e)
       ∙ (ap (λ (l : List ℕ). l ++ fragment true []) (sym (append_assoc (fragments begun) front missing)) ∙ append_assoc (fragments begun ++ front) missing (fragment true []));
 }
 
 zeros_are : (n : ℕ) (head : List ℕ) → IsBytes head → IsBytes (head ++ replicate n 0)
 zeros_are zero head all = subst IsBytes (sym (append-nil head)) all
-zeros_are (suc n) head all = subst IsBytes (append_assoc head (0 ∷ []) (replicate n 0)) (zeros_are n (head ++ 0 ∷ []) (bytes-end head 0 all (omega arith)))
+zeros_are (suc n) head all = subst IsBytes (append_assoc head (0 ∷ []) (replicate n 0)) (zeros_are n (head ++ 0 ∷ []) (bytes_end head 0 all (omega arith)))
 
 -- a header that is begun goes on with zeros
 pub header_begun : (begun : List (List ℕ)) (head : List ℕ) → AllByRecursion IsShort begun → IsBytes head → length head < HEADER_LEN → IsBegun (fragments begun ++ head)
@@ -77,7 +77,7 @@ header_begun begun head all bytes short =
       payload = replicate len 0
 
       is_header : header last (length payload) ≡ full
-      is_header = ap (λ (m : ℕ). header last m) (length-replicate {A = ℕ} len 0) ∙ (ap word (sym (halves n (word_of-below full are))) ∙ word-word_of full four are)
+      is_header = ap (λ (m : ℕ). header last m) (length-replicate {A = ℕ} len 0) ∙ (ap word (sym (halves n (word_of_below full are))) ∙ word_word_of full four are)
 
       whole : fragment last payload ≡ head ++ (zeros ++ payload)
       whole = ap (λ (l : List ℕ). l ++ payload) is_header ∙ append_assoc head zeros payload

@@ -5,29 +5,29 @@ use Rattle.nr_record.specs.declared.records.WaitingRecord.{WaitingRecord}
 use Rattle.nr_record.specs.Records.{fragment, fragments, Cut, content, encoding, encodings}
 use Rattle.nr_record.specs.Kept.{waiting_from}
 
-pub encodings-end : (cuts : List Cut) (c : Cut) → encodings (cuts ++ c ∷ []) ≡ encodings cuts ++ encoding c
-encodings-end [] c = append-nil (encoding c)
-encodings-end (d ∷ cuts) c = ap (λ (l : List ℕ). encoding d ++ l) (encodings-end cuts c) ∙ sym (append_assoc (encoding d) (encodings cuts) (encoding c))
+pub encodings_end : (cuts : List Cut) (c : Cut) → encodings (cuts ++ c ∷ []) ≡ encodings cuts ++ encoding c
+encodings_end [] c = append-nil (encoding c)
+encodings_end (d ∷ cuts) c = ap (λ (l : List ℕ). encoding d ++ l) (encodings_end cuts c) ∙ sym (append_assoc (encoding d) (encodings cuts) (encoding c))
 
-pub fragments-end : (begun : List (List ℕ)) (bytes : List ℕ) → fragments (begun ++ bytes ∷ []) ≡ fragments begun ++ fragment false bytes
-fragments-end [] bytes = append-nil (fragment false bytes)
-fragments-end (x ∷ xs) bytes = ap (λ (l : List ℕ). fragment false x ++ l) (fragments-end xs bytes) ∙ sym (append_assoc (fragment false x) (fragments xs) (fragment false bytes))
+pub fragments_end : (begun : List (List ℕ)) (bytes : List ℕ) → fragments (begun ++ bytes ∷ []) ≡ fragments begun ++ fragment false bytes
+fragments_end [] bytes = append-nil (fragment false bytes)
+fragments_end (x ∷ xs) bytes = ap (λ (l : List ℕ). fragment false x ++ l) (fragments_end xs bytes) ∙ sym (append_assoc (fragment false x) (fragments xs) (fragment false bytes))
 
-pub concat-end : (xs : List (List ℕ)) (bytes : List ℕ) → concat (xs ++ bytes ∷ []) ≡ concat xs ++ bytes
-concat-end [] bytes = append-nil bytes
-concat-end (x ∷ xs) bytes = ap (λ (l : List ℕ). x ++ l) (concat-end xs bytes) ∙ sym (append_assoc x (concat xs) bytes)
+pub concat_end : (xs : List (List ℕ)) (bytes : List ℕ) → concat (xs ++ bytes ∷ []) ≡ concat xs ++ bytes
+concat_end [] bytes = append-nil bytes
+concat_end (x ∷ xs) bytes = ap (λ (l : List ℕ). x ++ l) (concat_end xs bytes) ∙ sym (append_assoc x (concat xs) bytes)
 
-pub waiting-end : (at : ℕ) (cuts : List Cut) (c : Cut) → waiting_from at (cuts ++ c ∷ []) ≡ waiting_from at cuts ++ record { at = at + length (encodings cuts); bytes = content c } ∷ []
-waiting-end at [] c = let e : at ≡ at + 0 = omega arith in ap (λ (n : ℕ). record { at = n; bytes = content c } ∷ []) e
-waiting-end at (d ∷ cuts) c =
+pub waiting_end : (at : ℕ) (cuts : List Cut) (c : Cut) → waiting_from at (cuts ++ c ∷ []) ≡ waiting_from at cuts ++ record { at = at + length (encodings cuts); bytes = content c } ∷ []
+waiting_end at [] c = let e : at ≡ at + 0 = omega arith in ap (λ (n : ℕ). record { at = n; bytes = content c } ∷ []) e
+waiting_end at (d ∷ cuts) c =
     let e : (at + length (encoding d)) + length (encodings cuts) ≡ at + length (encoding d ++ encodings cuts) = omega (arith, length-append (encoding d) (encodings cuts)) in
     let first : WaitingRecord = record { at = at; bytes = content d } in
     let others : List WaitingRecord = waiting_from (at + length (encoding d)) cuts in
-    ap (λ (l : List WaitingRecord). first ∷ l) (waiting-end (at + length (encoding d)) cuts c) ∙ ap (λ (n : ℕ). first ∷ (others ++ record { at = n; bytes = content c } ∷ [])) e
+    ap (λ (l : List WaitingRecord). first ∷ l) (waiting_end (at + length (encoding d)) cuts c) ∙ ap (λ (n : ℕ). first ∷ (others ++ record { at = n; bytes = content c } ∷ [])) e
 
-pub waiting-length : (at : ℕ) (cuts : List Cut) → length (waiting_from at cuts) ≡ length cuts
-waiting-length at [] = refl
-waiting-length at (c ∷ cuts) = ap suc (waiting-length (at + length (encoding c)) cuts)
+pub waiting_length : (at : ℕ) (cuts : List Cut) → length (waiting_from at cuts) ≡ length cuts
+waiting_length at [] = refl
+waiting_length at (c ∷ cuts) = ap suc (waiting_length (at + length (encoding c)) cuts)
 
 module _ {A : Type 0} where
   pub drop-end : (n : ℕ) (xs : List A) (x : A) → n ≤ length xs → drop n (xs ++ x ∷ []) ≡ drop n xs ++ x ∷ []

@@ -5,7 +5,7 @@ use Rattle.std.proofs.lemmas.Bool.{and_parts, and_cases, eqb-true, eqb-false, ca
 use Rattle.std.proofs.lemmas.List.{take_all}
 use Rattle.nr_xdr.specs.Item.{IsBytes, word, word_of, bit}
 use Rattle.nr_xdr.specs.Fields.{word_at}
-use Rattle.nr_xdr.proofs.WordBytes.{length-word, word-word_of, word_of-below}
+use Rattle.nr_xdr.proofs.WordBytes.{length_word, word_word_of, word_of_below}
 use Rattle.nr_record.specs.declared.fault.RecordFault.{RecordFault}
 use Rattle.nr_record.specs.declared.fault.RecordFault.TheVariants.{Bad, Memory}
 use Rattle.nr_record.specs.declared.records.WaitingRecord.{WaitingRecord}
@@ -13,7 +13,7 @@ use Rattle.nr_record.specs.Constants.{RECORD_MAX, HEADER_LEN, REASON_RECORD}
 use Rattle.nr_record.specs.Records.{header, fragment, fragments, Cut, content, encodings}
 use Rattle.nr_record.specs.Kept.{Kept, IsWithin, waiting_from, InHeader, InFragment, IsState, Stands, StandsFor}
 use Rattle.nr_record.specs.Step.{with_record, ended, with_header, with_byte, with_payload, with_fault}
-use Rattle.nr_record.proofs.Lists.{encodings-end, fragments-end, concat-end, waiting-end, waiting-length, drop-end, all-end, read_more, count_more}
+use Rattle.nr_record.proofs.Lists.{encodings_end, fragments_end, concat_end, waiting_end, waiting_length, drop-end, all-end, read_more, count_more}
 
 abbrev pub State : Type 1
 State = List (List ℕ) → List ℕ → List ℕ → ℕ → Type 0
@@ -134,7 +134,7 @@ ended_stands k stream taken none s = either_stands (eqb k.left 0 && k.last) (wit
       })
 
       whole_fragment : k.left ≡ 0 → k.last ≡ false → f ++ s.partial ≡ fragments (s.begun ++ m.came ∷ []) ++ []
-      whole_fragment a b = ap (λ (l : List ℕ). f ++ l) (partial_is false a b) ∙ (sym (fragments-end s.begun m.came) ∙ sym (append-nil (fragments (s.begun ++ m.came ∷ []))))
+      whole_fragment a b = ap (λ (l : List ℕ). f ++ l) (partial_is false a b) ∙ (sym (fragments_end s.begun m.came) ∙ sym (append-nil (fragments (s.begun ++ m.came ∷ []))))
 
       next_fragment : k.left ≡ 0 → k.last ≡ false → StandsFor k stream taken
       next_fragment a b = unfaulted k stream taken none (record {
@@ -143,25 +143,25 @@ ended_stands k stream taken none s = either_stands (eqb k.left 0 && k.last) (wit
         partial = [];
         unread = [];
         within = s.within;
-        begun_within = omega (arith, m.within, ap length m.payload_is, ap length (concat-end s.begun m.came));
+        begun_within = omega (arith, m.within, ap length m.payload_is, ap length (concat_end s.begun m.came));
         stream_is = flat_again e (fragments (s.begun ++ m.came ∷ []) ++ []) stream (is ∙ ap (λ (l : List ℕ). e ++ l) (whole_fragment a b));
         taken_some = s.taken_some;
         waiting_is = s.waiting_is;
         start_is = s.start_is;
         count_is = s.count_is ∙ ap (λ (l : List ℕ). length (e ++ l)) (whole_fragment a b);
-        state = (refl, inl (record { none_left = a; short = short; bytes = bytes; partial_is = sym m.no_head; payload_is = m.payload_is ∙ sym (concat-end s.begun m.came) }));
+        state = (refl, inl (record { none_left = a; short = short; bytes = bytes; partial_is = sym m.no_head; payload_is = m.payload_is ∙ sym (concat_end s.begun m.came) }));
       })
 
       whole_record : k.left ≡ 0 → k.last ≡ true → e ++ (f ++ s.partial) ≡ encodings (s.cuts ++ cut ∷ []) ++ []
-      whole_record a b = ap (λ (l : List ℕ). e ++ (f ++ l)) (partial_is true a b) ∙ (sym (encodings-end s.cuts cut) ∙ sym (append-nil (encodings (s.cuts ++ cut ∷ []))))
+      whole_record a b = ap (λ (l : List ℕ). e ++ (f ++ l)) (partial_is true a b) ∙ (sym (encodings_end s.cuts cut) ∙ sym (append-nil (encodings (s.cuts ++ cut ∷ []))))
 
       waits : k.waiting ++ record { at = k.start; bytes = k.payload } ∷ [] ≡ drop taken (waiting_from 0 (s.cuts ++ cut ∷ []))
       waits = let old : List WaitingRecord = waiting_from 0 s.cuts in let place : k.start ≡ 0 + length e = omega (arith, s.start_is) in
           ap (λ (l : List WaitingRecord). l ++ record { at = k.start; bytes = k.payload } ∷ []) s.waiting_is
           ∙ (ap (λ (n : ℕ). drop taken old ++ record { at = n; bytes = k.payload } ∷ []) place
           ∙ (ap (λ (l : List ℕ). drop taken old ++ record { at = 0 + length e; bytes = l } ∷ []) m.payload_is
-          ∙ (sym (drop-end taken old (record { at = 0 + length e; bytes = content cut }) (omega (arith, s.taken_some, waiting-length 0 s.cuts)))
-          ∙ ap (drop taken) (sym (waiting-end 0 s.cuts cut)))))
+          ∙ (sym (drop-end taken old (record { at = 0 + length e; bytes = content cut }) (omega (arith, s.taken_some, waiting_length 0 s.cuts)))
+          ∙ ap (drop taken) (sym (waiting_end 0 s.cuts cut)))))
 
       ends : k.left ≡ 0 → k.last ≡ true → StandsFor (with_record k) stream taken
       ends a b = unfaulted (with_record k) stream taken none (record {
@@ -268,7 +268,7 @@ header_stands n k stream taken none s = either_stands (ltb RECORD_MAX (length k.
     start_is = s.start_is;
     count_is = s.count_is;
     state = (
-      omega (arith, s.count_is, length-append (encodings s.cuts) (fragments s.begun ++ s.partial), length-append (fragments s.begun) s.partial, length-append (encodings s.cuts) (fragments s.begun), ap length h.partial_is, length-word n),
+      omega (arith, s.count_is, length-append (encodings s.cuts) (fragments s.begun ++ s.partial), length-append (fragments s.begun) s.partial, length-append (encodings s.cuts) (fragments s.begun), ap length h.partial_is, length_word n),
       refl,
       record { last = last; len = len; short = omega arith; partial_is = partial_is; above = omega (arith, ltb-true RECORD_MAX (length k.payload + len) y, ap length h.payload_is) },
     );
@@ -299,11 +299,11 @@ header_stands n k stream taken none s = either_stands (ltb RECORD_MAX (length k.
     );
   }
 
-pub bytes-end : (xs : List ℕ) (b : ℕ) → IsBytes xs → b < 256 → IsBytes (xs ++ b ∷ [])
-bytes-end [] b all lt zero = lt
-bytes-end [] b all lt (suc i) = omega arith
-bytes-end (x ∷ xs) b all lt zero = all 0
-bytes-end (x ∷ xs) b all lt (suc i) = bytes-end xs b (λ j. all (suc j)) lt i
+pub bytes_end : (xs : List ℕ) (b : ℕ) → IsBytes xs → b < 256 → IsBytes (xs ++ b ∷ [])
+bytes_end [] b all lt zero = lt
+bytes_end [] b all lt (suc i) = omega arith
+bytes_end (x ∷ xs) b all lt zero = all 0
+bytes_end (x ∷ xs) b all lt (suc i) = bytes_end xs b (λ j. all (suc j)) lt i
 
 -- one more byte of a header is read
 pub byte_stands : (byte : ℕ) (k : Kept) (stream : List ℕ) (taken : ℕ) → byte < 256 → k.fault ≡ None → k.left ≡ 0 → StandsFor k stream taken → StandsFor (with_byte byte k) (stream ++ byte ∷ []) taken
@@ -345,7 +345,7 @@ byte_stands byte k stream taken lt none out start = either_stands (ltb (length h
         waiting_is = s.waiting_is;
         start_is = s.start_is;
         count_is = count_more (encodings s.cuts) (fragments s.begun) s.partial (byte ∷ []) k.count s.count_is;
-        state = (refl, inl (record { none_left = out; short = short; bytes = bytes-end k.head byte h.bytes lt; partial_is = partial_is; payload_is = h.payload_is }));
+        state = (refl, inl (record { none_left = out; short = short; bytes = bytes_end k.head byte h.bytes lt; partial_is = partial_is; payload_is = h.payload_is }));
       }
 
       four : HEADER_LEN ≤ length head → length head ≡ 4
@@ -368,9 +368,9 @@ byte_stands byte k stream taken lt none out start = either_stands (ltb (length h
           read = refl;
           no_head = refl;
           payload_is = h.payload_is;
-          partial_is = partial_is ∙ (sym (word-word_of head (four le) all) ∙ ap (λ (x : List ℕ). word (word_of x)) (sym (take_all 4 head (omega (arith, four le)))));
-          below = subst (λ (x : List ℕ). word_of x < 2 ^ 32) (sym (take_all 4 head (omega (arith, four le)))) (word_of-below head all);
+          partial_is = partial_is ∙ (sym (word_word_of head (four le) all) ∙ ap (λ (x : List ℕ). word (word_of x)) (sym (take_all 4 head (omega (arith, four le)))));
+          below = subst (λ (x : List ℕ). word_of x < 2 ^ 32) (sym (take_all 4 head (omega (arith, four le)))) (word_of_below head all);
         };
       } where
         all : IsBytes head
-        all = bytes-end k.head byte h.bytes lt
+        all = bytes_end k.head byte h.bytes lt

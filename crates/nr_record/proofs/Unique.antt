@@ -4,14 +4,14 @@ use Rattle.std.specs.List.{AllByRecursion}
 use Rattle.std.proofs.lemmas.Bool.{true≢false, false≢true}
 use Rattle.std.proofs.lemmas.List.{take_at, drop_at}
 use Rattle.nr_xdr.specs.Item.{word_of, bit}
-use Rattle.nr_xdr.proofs.WordBytes.{length-word, word_of-word}
+use Rattle.nr_xdr.proofs.WordBytes.{length_word, word_of_word}
 use Rattle.nr_record.specs.Records.{header, fragment, fragments, Cut, encoding, IsShort, Fits, contents, encodings, IsBegun, RecordsEncode, as_one}
 
 pub parts : (p q x y : List ℕ) (n : ℕ) → length p ≡ n → length q ≡ n → p ++ x ≡ q ++ y → (p ≡ q) × (x ≡ y)
 parts p q x y n lp lq e = (sym (take_at p x n lp) ∙ (ap (take n) e ∙ take_at q y n lq), sym (drop_at p x n lp) ∙ (ap (drop n) e ∙ drop_at q y n lq))
 
 pub same_header : (l m : Bool) (n k : ℕ) → n < 2 ^ 31 → k < 2 ^ 31 → header l n ≡ header m k → (l ≡ m) × (n ≡ k)
-same_header l m n k a b e = by_bits l m (sym (word_of-word (2 ^ 31 * bit l + n) (small l n a)) ∙ (ap word_of e ∙ word_of-word (2 ^ 31 * bit m + k) (small m k b))) where
+same_header l m n k a b e = by_bits l m (sym (word_of_word (2 ^ 31 * bit l + n) (small l n a)) ∙ (ap word_of e ∙ word_of_word (2 ^ 31 * bit m + k) (small m k b))) where
   small : (l : Bool) (n : ℕ) → n < 2 ^ 31 → 2 ^ 31 * bit l + n < 2 ^ 32
   small true n a = omega arith
   small false n a = omega arith
@@ -29,7 +29,7 @@ pub record SameFragment (l m : Bool) (a b x y : List ℕ) : Type 0 where
 
 pub same_fragment : (l m : Bool) (a b x y : List ℕ) → IsShort a → IsShort b → fragment l a ++ x ≡ fragment m b ++ y → SameFragment l m a b x y
 same_fragment l m a b x y p q e =
-    let h = parts (header l (length a)) (header m (length b)) (a ++ x) (b ++ y) 4 (length-word (2 ^ 31 * bit l + length a)) (length-word (2 ^ 31 * bit m + length b))
+    let h = parts (header l (length a)) (header m (length b)) (a ++ x) (b ++ y) 4 (length_word (2 ^ 31 * bit l + length a)) (length_word (2 ^ 31 * bit m + length b))
     (sym (append_assoc (header l (length a)) a x) ∙ (e ∙ append_assoc (header m (length b)) b y)) in
     let s = same_header l m (length a) (length b) p q h.0 in
     let t = parts a b x y (length a) refl (sym s.1) h.1 in
@@ -83,7 +83,7 @@ one_reading bytes records others rest left r s =
 
 -- nothing is begun
 pub begun_none : IsBegun []
-begun_none = record { cut = record { before = []; last = [] }; fits = (tt, omega arith); missing = fragment true []; some = omega (arith, length-append (header true 0) [], length-word (2 ^ 31 * bit true + 0)); encoded = refl }
+begun_none = record { cut = record { before = []; last = [] }; fits = (tt, omega arith); missing = fragment true []; some = omega (arith, length-append (header true 0) [], length_word (2 ^ 31 * bit true + 0)); encoded = refl }
 
 pub written : (records : List (List ℕ)) → AllByRecursion IsShort records → RecordsEncode (encodings (as_one records)) records []
 written records short = record { cuts = as_one records; fit = fit records short; records_are = same records; bytes_are = sym (append-nil (encodings (as_one records))); begun = begun_none } where

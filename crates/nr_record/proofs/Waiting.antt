@@ -12,7 +12,7 @@ use Rattle.nr_record.specs.Constants.{RECORD_MAX, HEADER_LEN, REASON_RECORD}
 use Rattle.nr_record.specs.Records.{fragments, Cut, contents, encoding, encodings}
 use Rattle.nr_record.specs.Kept.{Kept, KeepsWaiting, waiting_from, IsState, Stands, StandsFor}
 use Rattle.nr_record.specs.Step.{with_record, ended, with_header, with_byte, with_payload}
-use Rattle.nr_record.proofs.Lists.{waiting-length}
+use Rattle.nr_record.proofs.Lists.{waiting_length}
 
 -- the first record that waits
 pub record First (k : Kept) (cuts : List Cut) (taken : ℕ) (w : WaitingRecord) (others : List WaitingRecord) : Type 0 where
@@ -47,7 +47,7 @@ pub first_of : (State : List (List ℕ) → List ℕ → List ℕ → ℕ → Ty
 first_of State k stream taken s w others e = let h = first_from 0 s.cuts taken w others (sym s.waiting_is ∙ e) in record { place = omega (arith, h.place); below = h.below; is = h.is; rest = h.rest }
 
 pub none_of : (State : List (List ℕ) → List ℕ → List ℕ → ℕ → Type 0) (k : Kept) (stream : List ℕ) (taken : ℕ) (s : Stands State k stream taken) → k.waiting ≡ [] → taken ≡ length s.cuts
-none_of State k stream taken s e = omega (arith, s.taken_some, ap length (sym s.waiting_is ∙ e), length-drop taken (waiting_from 0 s.cuts), waiting-length 0 s.cuts)
+none_of State k stream taken s e = omega (arith, s.taken_some, ap length (sym s.waiting_is ∙ e), length-drop taken (waiting_from 0 s.cuts), waiting_length 0 s.cuts)
 
 pub start_of : (State : List (List ℕ) → List ℕ → List ℕ → ℕ → Type 0) (k : Kept) (stream : List ℕ) (taken : ℕ) (s : Stands State k stream taken) → k.waiting ≡ [] → k.start ≡ length (encodings (take taken s.cuts))
 start_of State k stream taken s e = s.start_is ∙ ap (λ (l : List Cut). length (encodings l)) (sym (take_all taken s.cuts (omega (arith, none_of State k stream taken s e))))

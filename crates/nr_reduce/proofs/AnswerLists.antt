@@ -10,9 +10,9 @@ use Rattle.nr_header.specs.WithinLimits.{ListsWithin}
 use Rattle.nr_reduce.specs.Chunks.{filled_chunk}
 use Rattle.nr_reduce.specs.Holds.{Answer, empty_chunks, written_chunks, no_segments, answer_lists}
 
-filled-length : (chunk : List RdmaSegment) (n : ℕ) → length (filled_chunk chunk n) ≡ length chunk
-filled-length [] n = refl
-filled-length (s ∷ chunk) n = ap suc (filled-length chunk (n - min s.length n))
+filled_length : (chunk : List RdmaSegment) (n : ℕ) → length (filled_chunk chunk n) ≡ length chunk
+filled_length [] n = refl
+filled_length (s ∷ chunk) n = ap suc (filled_length chunk (n - min s.length n))
 
 abbrev IsWithin : List RdmaSegment → Type 0
 IsWithin chunk = length chunk ≤ 16
@@ -20,25 +20,25 @@ IsWithin chunk = length chunk ≤ 16
 abbrev IsWord : List RdmaSegment → Type 0
 IsWord chunk = length chunk < 2 ^ 32
 
-filled-fits : (chunk : List RdmaSegment) (n : ℕ) → IsWithin chunk → IsWord (filled_chunk chunk n)
-filled-fits chunk n le = omega (arith, le, filled-length chunk n)
+filled_fits : (chunk : List RdmaSegment) (n : ℕ) → IsWithin chunk → IsWord (filled_chunk chunk n)
+filled_fits chunk n le = omega (arith, le, filled_length chunk n)
 
-empty-fit : (chunks : List (List RdmaSegment)) → AllByRecursion IsWithin chunks → AllByRecursion IsWord (empty_chunks chunks)
-empty-fit [] h = tt
-empty-fit (chunk ∷ chunks) h = (filled-fits chunk 0 h.0, empty-fit chunks h.1)
+empty_fit : (chunks : List (List RdmaSegment)) → AllByRecursion IsWithin chunks → AllByRecursion IsWord (empty_chunks chunks)
+empty_fit [] h = tt
+empty_fit (chunk ∷ chunks) h = (filled_fits chunk 0 h.0, empty_fit chunks h.1)
 
-written-fit : (chunks : List (List RdmaSegment)) (n : ℕ) → AllByRecursion IsWithin chunks → AllByRecursion IsWord (written_chunks chunks n)
-written-fit [] n h = tt
-written-fit (chunk ∷ chunks) n h = (filled-fits chunk n h.0, empty-fit chunks h.1)
+written_fit_lem : (chunks : List (List RdmaSegment)) (n : ℕ) → AllByRecursion IsWithin chunks → AllByRecursion IsWord (written_chunks chunks n)
+written_fit_lem [] n h = tt
+written_fit_lem (chunk ∷ chunks) n h = (filled_fits chunk n h.0, empty_fit chunks h.1)
 
-reply-fits : (long : Bool) (offered : Option (List RdmaSegment)) (n : ℕ) → IfSome offered IsWithin → IfSome (cond long (Some (filled_chunk (no_segments offered) n)) None) IsWord
-reply-fits false offered n h = tt
-reply-fits true None n h = filled-fits [] n (omega arith)
-reply-fits true (Some chunk) n h = filled-fits chunk n h
+reply_fits_lem : (long : Bool) (offered : Option (List RdmaSegment)) (n : ℕ) → IfSome offered IsWithin → IfSome (cond long (Some (filled_chunk (no_segments offered) n)) None) IsWord
+reply_fits_lem false offered n h = tt
+reply_fits_lem true None n h = filled_fits [] n (omega arith)
+reply_fits_lem true (Some chunk) n h = filled_fits chunk n h
 
 pub lists_fit : (offer : ChunkLists) (a : Answer) (lists : ChunkLists) → ListsWithin offer → lists ≡ answer_lists offer a → ChunksFit lists
 lists_fit offer a lists within is =
     subst ChunksFit (sym is) (
-      All-from_recursion IsWord (written_chunks offer.write (length a.moved)) (written-fit offer.write (length a.moved) (recursion_from_All IsWithin offer.write within.chunk_segments)),
-      reply-fits a.long offer.reply (length a.stream) within.reply_segments,
+      All-from_recursion IsWord (written_chunks offer.write (length a.moved)) (written_fit_lem offer.write (length a.moved) (recursion_from_All IsWithin offer.write within.chunk_segments)),
+      reply_fits_lem a.long offer.reply (length a.stream) within.reply_segments,
     )

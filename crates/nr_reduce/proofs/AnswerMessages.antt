@@ -17,7 +17,7 @@ use Rattle.nr_header.specs.declared.header.Header.{Header}
 use Rattle.nr_header.specs.Header.{segments_items, chunk_items, read_items, write_items, reply_items, lists_items, header_encoding}
 use Rattle.nr_header.specs.WithinLimits.{SegmentsEnd, Ends, ListsWithin}
 use Rattle.nr_header.proofs.Messages.{header_written}
-use Rattle.nr_reduce.specs.Undone.{IsOffer, ReadsAsAnswer, offering}
+use Rattle.nr_reduce.specs.ChunkBytes.{IsOffer, ReadsAsAnswer, offered_lists}
 use Rattle.nr_reduce.specs.Plans.{segments_from, write_list, reply_chunk}
 use Rattle.nr_reduce.specs.Chunks.{filled_chunk}
 use Rattle.nr_reduce.specs.declared.item.Of.TheVariants.{Reply}
@@ -26,9 +26,9 @@ use Rattle.nr_reduce.proofs.Asking.{all_one}
 use Rattle.nr_reduce.proofs.Answering.{Answered, answered}
 use Rattle.nr_reduce.proofs.Sizes.{chunk_size, lists_len, msg_len, nomsg_len}
 
-pub length-filled : (chunk : List RdmaSegment) (n : ℕ) → length (filled_chunk chunk n) ≡ length chunk
-length-filled [] n = refl
-length-filled (s ∷ chunk) n = ap (λ (k : ℕ). suc k) (length-filled chunk (n - min s.length n))
+pub length_filled : (chunk : List RdmaSegment) (n : ℕ) → length (filled_chunk chunk n) ≡ length chunk
+length_filled [] n = refl
+length_filled (s ∷ chunk) n = ap (λ (k : ℕ). suc k) (length_filled chunk (n - min s.length n))
 
 pub segments_fit : (chunk : List RdmaSegment) (n : ℕ) (more others : List XdrItem) → AllFit (segments_items chunk more) → AllFit others → AllFit (segments_items (filled_chunk chunk n) others)
 segments_fit [] n more others h k = k
@@ -47,7 +47,7 @@ write_tail ws None more h = h.1
 write_tail ws (Some ns) more h = (segments_tail (segments_from ws 0 ns) _ h.1.1).1
 
 pub chunk_fit : (chunk : List RdmaSegment) (n : ℕ) (more others : List XdrItem) → length chunk < 2 ^ 32 → AllFit (segments_items chunk more) → AllFit others → AllFit (chunk_items (filled_chunk chunk n) others)
-chunk_fit chunk n more others count h k = (let l = length-filled chunk n in omega (arith, l, count), segments_fit chunk n more others h k)
+chunk_fit chunk n more others count h k = (let l = length_filled chunk n in omega (arith, l, count), segments_fit chunk n more others h k)
 
 written_fit : (ws : ℕ) (w : Option (List ℕ)) (n : ℕ) (more others : List XdrItem) → AllFit (write_items (write_list ws w) more) → AllFit others → AllFit (write_items (written_chunks (write_list ws w) n) others)
 written_fit ws None n more others h k = (tt, k)
@@ -58,7 +58,7 @@ returned_fit rs r false n h = (tt, tt)
 returned_fit rs None true n h = (tt, (omega arith, tt))
 returned_fit rs (Some ns) true n h = (tt, chunk_fit (segments_from rs 0 ns) n _ _ h.1.0 h.1.1 tt)
 
-lists_fit : (read : List ReadSegment) (ws rs : ℕ) (w r : Option (List ℕ)) (a : Answer) → AllFit (lists_items (offering read ws rs w r)) → AllFit (lists_items (answer_lists (offering read ws rs w r) a))
+lists_fit : (read : List ReadSegment) (ws rs : ℕ) (w r : Option (List ℕ)) (a : Answer) → AllFit (lists_items (offered_lists read ws rs w r)) → AllFit (lists_items (answer_lists (offered_lists read ws rs w r) a))
 lists_fit read ws rs w r a h =
     let writes = read_tail read _ h in
     (tt, written_fit ws w (length a.moved) _ _ writes (returned_fit rs r a.long (length a.stream) (write_tail ws w _ writes)))
@@ -85,7 +85,7 @@ written_within : (ws : ℕ) (w : Option (List ℕ)) (n : ℕ) → WriteWithin (w
 written_within ws None n h = h
 written_within ws (Some ns) n h =
     let chunk = segments_from ws 0 ns in
-    let l = length-filled chunk n in
+    let l = length_filled chunk n in
     let small = first_of_one (λ (c : List RdmaSegment). length c ≤ 16) chunk h.each in record {
       count = omega arith;
       each = all_one (λ (c : List RdmaSegment). length c ≤ 16) _ (omega (arith, l, small));
@@ -96,14 +96,14 @@ written_within ws (Some ns) n h =
 returned_count : (rs : ℕ) (r : Option (List ℕ)) (b : Bool) (n : ℕ) → IfSome (reply_chunk rs r) (λ chunk. length chunk ≤ 16) → IfSome (cond b (Some (filled_chunk (no_segments (reply_chunk rs r)) n)) None) (λ chunk. length chunk ≤ 16)
 returned_count rs r false n h = tt
 returned_count rs None true n h = omega arith
-returned_count rs (Some ns) true n h = (let l = length-filled (segments_from rs 0 ns) n in omega (arith, l, h))
+returned_count rs (Some ns) true n h = (let l = length_filled (segments_from rs 0 ns) n in omega (arith, l, h))
 
 returned_ends : (rs : ℕ) (r : Option (List ℕ)) (b : Bool) (n : ℕ) → IfSome (reply_chunk rs r) SegmentsEnd → IfSome (cond b (Some (filled_chunk (no_segments (reply_chunk rs r)) n)) None) SegmentsEnd
 returned_ends rs r false n h = tt
 returned_ends rs None true n h = All-nil _
 returned_ends rs (Some ns) true n h = filled_ends (segments_from rs 0 ns) n h
 
-lists_within : (read : List ReadSegment) (ws rs : ℕ) (w r : Option (List ℕ)) (a : Answer) → ListsWithin (offering read ws rs w r) → ListsWithin (answer_lists (offering read ws rs w r) a)
+lists_within : (read : List ReadSegment) (ws rs : ℕ) (w r : Option (List ℕ)) (a : Answer) → ListsWithin (offered_lists read ws rs w r) → ListsWithin (answer_lists (offered_lists read ws rs w r) a)
 lists_within read ws rs w r a h =
     let wr = written_within ws w (length a.moved) (record { count = h.write_chunks; each = h.chunk_segments; segments = h.write_segments; ends = h.write_ends }) in record {
       read_segments = omega arith;
@@ -119,17 +119,17 @@ lists_within read ws rs w r a h =
 
 -- ---- The message
 
-pub answer_again : (read : List ReadSegment) (ws rs : ℕ) (w r : Option (List ℕ)) (down prog vers proc xid credit : ℕ) (reply : List ℕ) (a : Answer) → IsBytes reply → IsOffer (offering read ws rs w r)
-    → answer_for (offering read ws rs w r) down prog vers proc reply ≡ Some a → down ≤ PAYLOAD_MAX → xid < 2 ^ 32 → credit < 2 ^ 32
-    → ReadsAsAnswer (offering read ws rs w r) a xid credit (answer_message xid credit (offering read ws rs w r) a)
+pub answer_again : (read : List ReadSegment) (ws rs : ℕ) (w r : Option (List ℕ)) (down prog vers proc xid credit : ℕ) (reply : List ℕ) (a : Answer) → IsBytes reply → IsOffer (offered_lists read ws rs w r)
+    → answer_for (offered_lists read ws rs w r) down prog vers proc reply ≡ Some a → down ≤ PAYLOAD_MAX → xid < 2 ^ 32 → credit < 2 ^ 32
+    → ReadsAsAnswer (offered_lists read ws rs w r) a xid credit (answer_message xid credit (offered_lists read ws rs w r) a)
 unfolding answer_message
 answer_again read ws rs w r down prog vers proc xid credit reply a bytes offer e room fits_x fits_c = by_long a.long refl
   where
-    made : Answered (offering read ws rs w r) down prog vers proc w reply a
+    made : Answered (offered_lists read ws rs w r) down prog vers proc w reply a
     made = answered read ws rs w r down prog vers proc reply a bytes e
 
     back : ChunkLists
-    back = answer_lists (offering read ws rs w r) a
+    back = answer_lists (offered_lists read ws rs w r) a
 
     fit : AllFit (lists_items back)
     fit = lists_fit read ws rs w r a offer.fits
@@ -137,13 +137,13 @@ answer_again read ws rs w r down prog vers proc xid credit reply a bytes offer e
     within : ListsWithin back
     within = lists_within read ws rs w r a offer.within
 
-    by_long : (b : Bool) → a.long ≡ b → ReadsAsAnswer (offering read ws rs w r) a xid credit (header_encoding (record { xid = xid; credit = credit; body = cond a.long (Nomsg back) (Msg back 0) }) ++ cond a.long [] a.stream)
+    by_long : (b : Bool) → a.long ≡ b → ReadsAsAnswer (offered_lists read ws rs w r) a xid credit (header_encoding (record { xid = xid; credit = credit; body = cond a.long (Nomsg back) (Msg back 0) }) ++ cond a.long [] a.stream)
     by_long false is =
         let h : Header = record { xid = xid; credit = credit; body = Msg back 0 } in
         let short = made.short is in
         let same : header_encoding (record { xid = xid; credit = credit; body = cond a.long (Nomsg back) (Msg back 0) }) ++ cond a.long [] a.stream ≡ header_encoding h ++ a.stream =
         ap (λ (b : Bool). header_encoding (record { xid = xid; credit = credit; body = cond b (Nomsg back) (Msg back 0) }) ++ cond b [] a.stream) is in
-        subst (λ (m : List ℕ). ReadsAsAnswer (offering read ws rs w r) a xid credit m) (sym same) (record {
+        subst (λ (m : List ℕ). ReadsAsAnswer (offered_lists read ws rs w r) a xid credit m) (sym same) (record {
           body = Msg back (length (header_encoding h));
           reads = header_written h a.stream (fits_x, (omega arith, (fits_c, (omega arith, fit)))) (within, All-nil _, omega (arith, short, room));
           lists = refl;
@@ -153,7 +153,7 @@ answer_again read ws rs w r down prog vers proc xid credit reply a bytes offer e
         let h : Header = record { xid = xid; credit = credit; body = Nomsg back } in
         let same : header_encoding (record { xid = xid; credit = credit; body = cond a.long (Nomsg back) (Msg back 0) }) ++ cond a.long [] a.stream ≡ header_encoding h ++ [] =
         ap (λ (b : Bool). header_encoding (record { xid = xid; credit = credit; body = cond b (Nomsg back) (Msg back 0) }) ++ cond b [] a.stream) is in
-        subst (λ (m : List ℕ). ReadsAsAnswer (offering read ws rs w r) a xid credit m) (sym same) (record {
+        subst (λ (m : List ℕ). ReadsAsAnswer (offered_lists read ws rs w r) a xid credit m) (sym same) (record {
           body = Nomsg back;
           reads = header_written h [] (fits_x, (omega arith, (fits_c, (omega arith, fit)))) (refl, within, omega arith);
           lists = refl;
@@ -167,7 +167,7 @@ emptied_total [] = refl
 emptied_total (chunk ∷ chunks) =
     let a = sum_by-cons chunk_size (filled_chunk chunk 0) (empty_chunks chunks) in
     let b = sum_by-cons chunk_size chunk chunks in
-    let c = length-filled chunk 0 in
+    let c = length_filled chunk 0 in
     let d = emptied_total chunks in
     omega (arith, a, b, c, d)
 
@@ -176,7 +176,7 @@ written_total [] n = refl
 written_total (chunk ∷ chunks) n =
     let a = sum_by-cons chunk_size (filled_chunk chunk n) (empty_chunks chunks) in
     let b = sum_by-cons chunk_size chunk chunks in
-    let c = length-filled chunk n in
+    let c = length_filled chunk n in
     let d = emptied_total chunks in
     omega (arith, a, b, c, d)
 
@@ -228,7 +228,7 @@ answer_length offer down prog vers proc xid credit reply a e = (
       let c = nomsg_len xid credit back in
       let d = lists_len back in
       let f = written_total offer.write (length a.moved) in
-      let g = length-filled (no_segments offer.reply) (length a.stream) in
+      let g = length_filled (no_segments offer.reply) (length a.stream) in
       omega (arith, h, b, c, d, f, g),
 )
   where

@@ -17,7 +17,7 @@ use Rattle.nr_header.specs.Header.{read_items, write_items, reply_items, lists_i
 use Rattle.nr_header.specs.WithinLimits.{SegmentsEnd, OnePosition, ListsWithin, CanRead, body_again, header_again, read_total, Ends}
 use Rattle.nr_header.specs.Reading.{header_of}
 use Rattle.nr_header.proofs.Messages.{header_written}
-use Rattle.nr_reduce.specs.Undone.{IsNotGiven, inline_by, lists_by, ChunkHolds, MessageConveys}
+use Rattle.nr_reduce.specs.ChunkBytes.{IsNotGiven, inline_by, lists_by, ChunkHolds, MessageConveys}
 use Rattle.nr_reduce.specs.declared.call.Form.{Form}
 use Rattle.nr_reduce.specs.declared.item.Item.{Item}
 use Rattle.nr_reduce.specs.Items.{stream_of, moved_of}
@@ -25,11 +25,11 @@ use Rattle.nr_reduce.specs.declared.item.Of.TheVariants.{Call}
 use Rattle.nr_reduce.specs.declared.outline.Plan.{Plan}
 use Rattle.nr_reduce.specs.Plans.{has_segment, one_if, read_stag, regions_needed, write_list, reply_chunk, lists_of, body_by, call_message, plan_of}
 use Rattle.nr_reduce.specs.Chunks.{Bytes, item_position, position_of, call_moved, whole, call_conveyed, read_bytes}
-use Rattle.nr_reduce.proofs.Looks.{item_stands}
-use Rattle.nr_reduce.proofs.Undone.{reducible, moved-length, rebuilt}
-use Rattle.nr_reduce.proofs.Shapes.{Offering, offered, IsSmall, MessageKind, shape, IsKind, is_plan}
-use Rattle.nr_reduce.proofs.Shapes.Offering.{Nothing, One}
-use Rattle.nr_reduce.proofs.Shapes.MessageKind.{Short, Chunked, Long}
+use Rattle.nr_reduce.proofs.ItemSearch.{item_stands}
+use Rattle.nr_reduce.proofs.Undone.{reducible, moved_length, rebuilt}
+use Rattle.nr_reduce.proofs.PlanKinds.{Offering, offered, IsSmall, MessageKind, shape, IsKind, is_plan}
+use Rattle.nr_reduce.proofs.PlanKinds.Offering.{Nothing, One}
+use Rattle.nr_reduce.proofs.PlanKinds.MessageKind.{Short, Chunked, Long}
 
 -- ---- The lists of a shape
 
@@ -56,18 +56,18 @@ lists payload way w r stag = record {
   reply = reply_chunk (reply_from payload way w stag) (offered r);
 }
 
-pub lists-shape : (payload : List ℕ) (way : MessageKind) (w r : Offering) (stag : ℕ) → lists_of stag (shape payload way (offered w) (offered r)) ≡ lists payload way w r stag
+pub lists_shape : (payload : List ℕ) (way : MessageKind) (w r : Offering) (stag : ℕ) → lists_of stag (shape payload way (offered w) (offered r)) ≡ lists payload way w r stag
 unfolding lists_of
-lists-shape payload Short w r stag = refl
-lists-shape payload (Chunked i) w r stag = refl
-lists-shape payload Long w r stag = refl
+lists_shape payload Short w r stag = refl
+lists_shape payload (Chunked i) w r stag = refl
+lists_shape payload Long w r stag = refl
 
-needed-shape : (payload : List ℕ) (way : MessageKind) (w r : Offering) →
+needed_shape : (payload : List ℕ) (way : MessageKind) (w r : Offering) →
     regions_needed (shape payload way (offered w) (offered r)) ≡ one_if (has_segment (Some (read_lengths payload way))) + one_if (has_segment (offered w)) + one_if (has_segment (offered r))
 unfolding regions_needed
-needed-shape payload Short w r = refl
-needed-shape payload (Chunked i) w r = refl
-needed-shape payload Long w r = refl
+needed_shape payload Short w r = refl
+needed_shape payload (Chunked i) w r = refl
+needed_shape payload Long w r = refl
 
 abbrev pub body_of : MessageKind → ChunkLists → Body
 body_of Short ls = Msg ls 0
@@ -96,10 +96,10 @@ placed payload Long i fits is same = absurd cc
 positive : (n : ℕ) → 4 ≤ n → eqb n 0 ≡ false
 positive n h = ne_eqb n 0 (λ e. omega (arith, e, h))
 
-body-shape : (payload : List ℕ) (way : MessageKind) (w r : Offering) (ls : ChunkLists) → IsBytes payload → IsKind payload way → body_by (shape payload way (offered w) (offered r)).read_at ls ≡ body_of way ls
-body-shape payload Short w r ls fits is = refl
-body-shape payload (Chunked i) w r ls fits is = ap (λ (b : Bool). cond b (Nomsg ls) (Msg ls 0)) (positive i.pos (placed payload (Chunked i) i fits is refl).least)
-body-shape payload Long w r ls fits is = refl
+body_shape : (payload : List ℕ) (way : MessageKind) (w r : Offering) (ls : ChunkLists) → IsBytes payload → IsKind payload way → body_by (shape payload way (offered w) (offered r)).read_at ls ≡ body_of way ls
+body_shape payload Short w r ls fits is = refl
+body_shape payload (Chunked i) w r ls fits is = ap (λ (b : Bool). cond b (Nomsg ls) (Msg ls 0)) (positive i.pos (placed payload (Chunked i) i fits is refl).least)
+body_shape payload Long w r ls fits is = refl
 
 -- ---- Its numbers fit, and it is within the limits
 
@@ -216,31 +216,31 @@ head_fits xid credit Long ls x c k = (x, (omega arith, (c, (omega arith, k))))
 
 -- ---- The law
 
-conveys-way : (payload : List ℕ) (way : MessageKind) (stag : ℕ) (head : List ℕ) (ls : ChunkLists) (chunk : ℕ → List ℕ) (w r : Offering) → IsBytes payload → IsKind payload way
+conveys_way : (payload : List ℕ) (way : MessageKind) (stag : ℕ) (head : List ℕ) (ls : ChunkLists) (chunk : ℕ → List ℕ) (w r : Offering) → IsBytes payload → IsKind payload way
     → ChunkHolds chunk (shape payload way (offered w) (offered r))
     → call_conveyed (inline_by (head ++ stream_in payload way) (body_again (body_of way ls) (length head))) (entries payload way stag) chunk ≡ Some payload
 unfolding call_conveyed item_position
-conveys-way payload Short stag head ls chunk w r fits is brings = ap Some (drop_at head payload (length head) refl)
-conveys-way payload (Chunked i) stag head ls chunk w r fits is brings =
+conveys_way payload Short stag head ls chunk w r fits is brings = ap Some (drop_at head payload (length head) refl)
+conveys_way payload (Chunked i) stag head ls chunk w r fits is brings =
     let p = placed payload (Chunked i) i fits is refl in
     ap (λ (b : Bool). whole Call (drop (length head) (head ++ stream_of payload i)) (call_moved (position_of (cond (not b) (Some (record { position = i.pos; handle = stag; length = i.len; offset = 0 })) None)) chunk)) (positive i.pos p.least)
     ∙ (λ k. whole Call (drop_at head (stream_of payload i) (length head) refl k) (Some (brings k)))
     ∙ rebuilt Call payload i fits is
-conveys-way payload Long stag head ls chunk w r fits is brings = ap Some brings
+conveys_way payload Long stag head ls chunk w r fits is brings = ap Some brings
 
 -- the message of a shape is its header and its stream, and reads so
-pub reads-shape : (payload : List ℕ) (way : MessageKind) (w r : Offering) (xid credit stag : ℕ) → IsBytes payload → IsKind payload way → length payload ≤ PAYLOAD_MAX → IsSmall w → IsSmall r → xid < 2 ^ 32 → credit < 2 ^ 32
+pub reads_shape : (payload : List ℕ) (way : MessageKind) (w r : Offering) (xid credit stag : ℕ) → IsBytes payload → IsKind payload way → length payload ≤ PAYLOAD_MAX → IsSmall w → IsSmall r → xid < 2 ^ 32 → credit < 2 ^ 32
     → stag + regions_needed (shape payload way (offered w) (offered r)) ≤ 2 ^ 32
     → (let h : Header = record { xid = xid; credit = credit; body = body_of way (lists payload way w r stag) } in
     (call_message xid credit stag (shape payload way (offered w) (offered r)) ≡ header_encoding h ++ stream_in payload way)
     × (header_of (header_encoding h ++ stream_in payload way) ≡ Ok (header_again h)))
 unfolding call_message
-reads-shape payload way w r xid credit stag fits is size small_w small_r fits_x fits_c room =
+reads_shape payload way w r xid credit stag fits is size small_w small_r fits_x fits_c room =
     let p : Plan = shape payload way (offered w) (offered r) in
     let ls : ChunkLists = lists payload way w r stag in
-    let room2 : reply_from payload way w stag + one_if (has_segment (offered r)) ≤ 2 ^ 32 = (let n = needed-shape payload way w r in omega (arith, room, n)) in
+    let room2 : reply_from payload way w stag + one_if (has_segment (offered r)) ≤ 2 ^ 32 = (let n = needed_shape payload way w r in omega (arith, room, n)) in
     let body_same : body_by p.read_at (lists_of stag p) ≡ body_of way ls =
-    ap (λ (l : ChunkLists). body_by p.read_at l) (lists-shape payload way w r stag) ∙ body-shape payload way w r ls fits is in (
+    ap (λ (l : ChunkLists). body_by p.read_at l) (lists_shape payload way w r stag) ∙ body_shape payload way w r ls fits is in (
       (λ k. header_encoding (record { xid = xid; credit = credit; body = body_same k }) ++ inline-shape way k),
       header_written (record { xid = xid; credit = credit; body = body_of way ls }) (stream_in payload way)
           (head_fits xid credit way ls fits_x fits_c (lists_fit payload way w r stag fits is size small_w small_r room2)) (can_read payload way w r stag fits is size small_w small_r),
@@ -251,27 +251,27 @@ reads-shape payload way w r xid credit stag fits is size small_w small_r fits_x 
     inline-shape (Chunked i) = refl
     inline-shape Long = refl
 
-asks-shape : (payload : List ℕ) (way : MessageKind) (w r : Offering) (xid credit stag : ℕ) → IsBytes payload → IsKind payload way → length payload ≤ PAYLOAD_MAX → IsSmall w → IsSmall r → xid < 2 ^ 32 → credit < 2 ^ 32
+asks_shape : (payload : List ℕ) (way : MessageKind) (w r : Offering) (xid credit stag : ℕ) → IsBytes payload → IsKind payload way → length payload ≤ PAYLOAD_MAX → IsSmall w → IsSmall r → xid < 2 ^ 32 → credit < 2 ^ 32
     → stag + regions_needed (shape payload way (offered w) (offered r)) ≤ 2 ^ 32
     → MessageConveys payload (shape payload way (offered w) (offered r)) xid credit stag (call_message xid credit stag (shape payload way (offered w) (offered r)))
 unfolding call_message
-asks-shape payload way w r xid credit stag fits is size small_w small_r fits_x fits_c room =
+asks_shape payload way w r xid credit stag fits is size small_w small_r fits_x fits_c room =
     let p : Plan = shape payload way (offered w) (offered r) in
     let ls : ChunkLists = lists payload way w r stag in
     let h : Header = record { xid = xid; credit = credit; body = body_of way ls } in
-    let room2 : reply_from payload way w stag + one_if (has_segment (offered r)) ≤ 2 ^ 32 = (let n = needed-shape payload way w r in omega (arith, room, n)) in
+    let room2 : reply_from payload way w stag + one_if (has_segment (offered r)) ≤ 2 ^ 32 = (let n = needed_shape payload way w r in omega (arith, room, n)) in
     let body_same : body_by p.read_at (lists_of stag p) ≡ body_of way ls =
-    ap (λ (l : ChunkLists). body_by p.read_at l) (lists-shape payload way w r stag) ∙ body-shape payload way w r ls fits is in
+    ap (λ (l : ChunkLists). body_by p.read_at l) (lists_shape payload way w r stag) ∙ body_shape payload way w r ls fits is in
     let message_same : call_message xid credit stag p ≡ header_encoding h ++ stream_in payload way =
     (λ k. header_encoding (record { xid = xid; credit = credit; body = body_same k }) ++ inline-shape payload way w r k) in
     let read = header_written h (stream_in payload way) (head_fits xid credit way ls fits_x fits_c (lists_fit payload way w r stag fits is size small_w small_r room2)) (can_read payload way w r stag fits is size small_w small_r) in
     subst (λ (m : List ℕ). MessageConveys payload p xid credit stag m) (sym message_same) (record {
       body = body_again (body_of way ls) (length (header_encoding h));
       reads = read;
-      lists = lists-again way ls (length (header_encoding h)) ∙ sym (lists-shape payload way w r stag);
+      lists = lists-again way ls (length (header_encoding h)) ∙ sym (lists_shape payload way w r stag);
       conveys = λ chunk brings.
-          ap (λ (l : ChunkLists). call_conveyed (inline_by (header_encoding h ++ stream_in payload way) (body_again (body_of way ls) (length (header_encoding h)))) l.read chunk) (lists-shape payload way w r stag)
-          ∙ conveys-way payload way stag (header_encoding h) ls chunk w r fits is brings;
+          ap (λ (l : ChunkLists). call_conveyed (inline_by (header_encoding h ++ stream_in payload way) (body_again (body_of way ls) (length (header_encoding h)))) l.read chunk) (lists_shape payload way w r stag)
+          ∙ conveys_way payload way stag (header_encoding h) ls chunk w r fits is brings;
     })
   where
     inline-shape : (payload : List ℕ) (way : MessageKind) (w r : Offering) → (shape payload way (offered w) (offered r)).inline ≡ stream_in payload way
@@ -291,18 +291,18 @@ asks payload form up down xid credit stag p fits own e fits_x fits_c room =
     let is = is_plan payload form up down p own e in
     let s = is.shaped in
     let law = λ (q : Plan). stag + regions_needed q ≤ 2 ^ 32 → MessageConveys payload q xid credit stag (call_message xid credit stag q) in
-    subst law (sym s.is) (λ room. asks-shape payload s.kind s.write s.reply xid credit stag fits s.is_kind is.payload_fits s.write_small s.reply_small fits_x fits_c room) room
+    subst law (sym s.is) (λ room. asks_shape payload s.kind s.write s.reply xid credit stag fits s.is_kind is.payload_fits s.write_small s.reply_small fits_x fits_c room) room
 
-brings-way : (payload : List ℕ) (memory : Bytes) (stag : ℕ) (way : MessageKind) (w r : Offering) → IsKind payload way → memory (read_stag stag (shape payload way (offered w) (offered r))) ≡ (shape payload way (offered w) (offered r)).region
+brings_way : (payload : List ℕ) (memory : Bytes) (stag : ℕ) (way : MessageKind) (w r : Offering) → IsKind payload way → memory (read_stag stag (shape payload way (offered w) (offered r))) ≡ (shape payload way (offered w) (offered r)).region
     → ChunkHolds (read_bytes memory (lists_of stag (shape payload way (offered w) (offered r))).read) (shape payload way (offered w) (offered r))
 unfolding lists_of read_bytes
-brings-way payload memory stag Short w r is holds = tt
-brings-way payload memory stag (Chunked i) w r is holds =
+brings_way payload memory stag Short w r is holds = tt
+brings_way payload memory stag (Chunked i) w r is holds =
     ap (λ (b : Bool). flat_map (λ (e : ReadSegment). take e.length (drop e.offset (memory e.handle))) (cond b (record { position = i.pos; handle = stag; length = i.len; offset = 0 } ∷ []) [])) (eq-eqb i.pos i.pos refl)
     ∙ append-nil (take i.len (memory stag))
     ∙ ap (λ (xs : List ℕ). take i.len xs) holds
-    ∙ take_all i.len (moved_of payload i) (let l = moved-length Call payload i (reducible Call payload i is) in omega (arith, l))
-brings-way payload memory stag Long w r is holds =
+    ∙ take_all i.len (moved_of payload i) (let l = moved_length Call payload i (reducible Call payload i is) in omega (arith, l))
+brings_way payload memory stag Long w r is holds =
     append-nil (take (length payload) (memory stag))
     ∙ ap (λ (xs : List ℕ). take (length payload) xs) holds
     ∙ take_all (length payload) payload (omega arith)
@@ -314,4 +314,4 @@ asks_from payload form up down stag p memory fits own e holds =
     let is = is_plan payload form up down p own e in
     let s = is.shaped in
     let law = λ (q : Plan). memory (read_stag stag q) ≡ q.region → ChunkHolds (read_bytes memory (lists_of stag q).read) q in
-    subst law (sym s.is) (λ holds. brings-way payload memory stag s.kind s.write s.reply s.is_kind holds) holds
+    subst law (sym s.is) (λ holds. brings_way payload memory stag s.kind s.write s.reply s.is_kind holds) holds

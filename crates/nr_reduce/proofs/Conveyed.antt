@@ -17,8 +17,8 @@ use Rattle.nr_link.specs.ReceiveState.{message_completed}
 use Rattle.nr_link.specs.Ending.{frame_segment}
 use Rattle.nr_reduce.specs.declared.mark.Mark.{Mark}
 use Rattle.nr_reduce.specs.declared.mark.LinkParameters.{LinkParameters}
-use Rattle.nr_reduce.specs.Events.{Event, events}
-use Rattle.nr_reduce.specs.Events.Event.{FrameReceived, CallSubmitted, MemoryRevoked, CallExecuted, QueueWritten}
+use Rattle.nr_reduce.specs.Events.{RunEvent, events}
+use Rattle.nr_reduce.specs.Events.RunEvent.{FrameReceived, CallSubmitted, MemoryRevoked, CallExecuted, QueueWritten}
 use Rattle.nr_reduce.specs.EndRules.{EndState, end_state_after, next_end_state_by, next_end_state_in}
 use Rattle.nr_reduce.specs.ServerState.{ServerState, ReadyCall, PendingRead, PendingCall, next_stag, is_pending}
 use Rattle.nr_reduce.specs.ServerReads.{is_read, chunks_of}
@@ -30,10 +30,10 @@ use Rattle.nr_reduce.specs.Chunks.{is_read_chunk_of_item}
 use Rattle.nr_reduce.specs.Server.{with_effect, server_state_after, server_end, server_rules, initial_server, with_own_hello}
 use Rattle.nr_reduce.specs.Run.{server}
 use Rattle.nr_reduce.specs.Served.{IsExecuted, next_call, first_ready}
-use Rattle.nr_reduce.specs.Undone.{lists_by}
+use Rattle.nr_reduce.specs.ChunkBytes.{lists_by}
 use Rattle.nr_reduce.specs.RunLaws.{known_stream, IsCallOf, server_by, IsReceivedCall, WasConveyed}
-use Rattle.nr_reduce.proofs.Steps.{end_state_after-append}
-use Rattle.nr_reduce.proofs.ReadyCalls.{AllConveyed, conveyed-by}
+use Rattle.nr_reduce.proofs.Steps.{end_state_after_append}
+use Rattle.nr_reduce.proofs.ReadyCalls.{AllConveyed, conveyed_by}
 use Rattle.nr_xdr.specs.Fields.{word_at}
 
 -- ---- The call of a message
@@ -44,12 +44,12 @@ Made P OtherVersion = Unit {0}
 Made P BadChunks = Unit {0}
 Made P (MakesPending c) = P c
 
-made-if : (P : PendingCall → Type 0) (b : Bool) (x y : Verdict) → Made P x → Made P y → Made P (cond b x y)
-made-if P true x y p q = p
-made-if P false x y p q = q
+made_if : (P : PendingCall → Type 0) (b : Bool) (x y : Verdict) → Made P x → Made P y → Made P (cond b x y)
+made_if P true x y p q = p
+made_if P false x y p q = q
 
-made-need : (P : PendingCall → Type 0) (k : ServerState) (c : PendingCall) → P c → Made P (by_need k c)
-made-need P k c p = made-if P (ltb 4294967296 (next_stag k + length (chunks_of c.lists))) (EndsLink 30) (MakesPending c) tt p
+made_need : (P : PendingCall → Type 0) (k : ServerState) (c : PendingCall) → P c → Made P (by_need k c)
+made_need P k c p = made_if P (ltb 4294967296 (next_stag k + length (chunks_of c.lists))) (EndsLink 30) (MakesPending c) tt p
 
 -- the call that a message of this header makes pending
 record OfHeader (k : ServerState) (message : List ℕ) (r : Result Header HeaderFault) (c : PendingCall) : Type 0 where
@@ -60,27 +60,27 @@ record OfHeader (k : ServerState) (message : List ℕ) (r : Result Header Header
   pub lists : c.lists ≡ lists_by header.body
   pub stream : c.inline ≡ known_stream message header.body
 
-made-stream : (P : PendingCall → Type 0) (k : ServerState) (lists : ChunkLists) (xid : ℕ) (o : Option (List ℕ)) → P (record { number = k.received.sends + 1; xid = xid; lists = lists; inline = o }) → Made P (by_stream k lists xid o)
-made-stream P k lists xid None p = made-need P k _ p
-made-stream P k lists xid (Some stream) p = made-if P (is_read_chunk_of_item stream lists.read) _ BadChunks (made-need P k _ p) tt
+made_stream : (P : PendingCall → Type 0) (k : ServerState) (lists : ChunkLists) (xid : ℕ) (o : Option (List ℕ)) → P (record { number = k.received.sends + 1; xid = xid; lists = lists; inline = o }) → Made P (by_stream k lists xid o)
+made_stream P k lists xid None p = made_need P k _ p
+made_stream P k lists xid (Some stream) p = made_if P (is_read_chunk_of_item stream lists.read) _ BadChunks (made_need P k _ p) tt
 
-made-body : (P : PendingCall → Type 0) (k : ServerState) (xid : ℕ) (message : List ℕ) (b : Body) → P (record { number = k.received.sends + 1; xid = xid; lists = lists_by b; inline = known_stream message b }) → Made P (by_body k xid message b)
-made-body P k xid message (Msg lists stream_at) p = made-stream P k lists xid (Some (drop stream_at message)) p
-made-body P k xid message (Nomsg lists) p = made-if P (has_position lists.read) _ BadChunks (made-stream P k lists xid (no_stream lists.read) p) tt
-made-body P k xid message (ErrVers version low high) p = tt
-made-body P k xid message (ErrChunk version) p = tt
+made_body : (P : PendingCall → Type 0) (k : ServerState) (xid : ℕ) (message : List ℕ) (b : Body) → P (record { number = k.received.sends + 1; xid = xid; lists = lists_by b; inline = known_stream message b }) → Made P (by_body k xid message b)
+made_body P k xid message (Msg lists stream_at) p = made_stream P k lists xid (Some (drop stream_at message)) p
+made_body P k xid message (Nomsg lists) p = made_if P (has_position lists.read) _ BadChunks (made_stream P k lists xid (no_stream lists.read) p) tt
+made_body P k xid message (ErrVers version low high) p = tt
+made_body P k xid message (ErrChunk version) p = tt
 
-made-header : (k : ServerState) (message : List ℕ) (r : Result Header HeaderFault) → Made (OfHeader k message r) (by_header k message r)
-made-header k message (Err fault) = tt
-made-header k message (Ok header) = made-body (OfHeader k message (Ok header)) k header.xid message header.body (record { header = header; is = refl; number = refl; xid = refl; lists = refl; stream = refl })
+made_header : (k : ServerState) (message : List ℕ) (r : Result Header HeaderFault) → Made (OfHeader k message r) (by_header k message r)
+made_header k message (Err fault) = tt
+made_header k message (Ok header) = made_body (OfHeader k message (Ok header)) k header.xid message header.body (record { header = header; is = refl; number = refl; xid = refl; lists = refl; stream = refl })
 
-made-verdict : (k : ServerState) (message : List ℕ) → Made (OfHeader k message (header_of message)) (verdict k message)
+made_verdict : (k : ServerState) (message : List ℕ) → Made (OfHeader k message (header_of message)) (verdict k message)
 unfolding verdict
-made-verdict k message =
+made_verdict k message =
     let P : PendingCall → Type 0 = OfHeader k message (header_of message) in
-    made-if P (not (eqb (word_at 4 message) 1)) OtherVersion _ tt
-    (made-if P (eqb (word_at 12 message) 3 || eqb (word_at 12 message) 4) (EndsLink 17) _ tt
-    (made-if P (is_pending k (word_at 0 message)) (EndsLink 20) _ tt (made-header k message (header_of message))))
+    made_if P (not (eqb (word_at 4 message) 1)) OtherVersion _ tt
+    (made_if P (eqb (word_at 12 message) 3 || eqb (word_at 12 message) 4) (EndsLink 17) _ tt
+    (made_if P (is_pending k (word_at 0 message)) (EndsLink 20) _ tt (made_header k message (header_of message))))
 
 -- ---- All of a list
 
@@ -88,29 +88,29 @@ abbrev pub Each : {X : Type 0} → (X → Type 0) → List X → Type 0
 Each P [] = Unit {0}
 Each P (x ∷ xs) = P x × Each P xs
 
-pub each-append : {X : Type 0} (P : X → Type 0) (xs ys : List X) → Each P xs → Each P ys → Each P (xs ++ ys)
-each-append P [] ys h g = g
-each-append P (x ∷ xs) ys h g = (h.0, each-append P xs ys h.1 g)
+pub each_append : {X : Type 0} (P : X → Type 0) (xs ys : List X) → Each P xs → Each P ys → Each P (xs ++ ys)
+each_append P [] ys h g = g
+each_append P (x ∷ xs) ys h g = (h.0, each_append P xs ys h.1 g)
 
-each-with : {X : Type 0} (P Q : X → Type 0) → ((x : X) → P x → Q x) → (xs : List X) → Each P xs → Each Q xs
-each-with P Q f [] h = tt
-each-with P Q f (x ∷ xs) h = (f x h.0, each-with P Q f xs h.1)
+each_with : {X : Type 0} (P Q : X → Type 0) → ((x : X) → P x → Q x) → (xs : List X) → Each P xs → Each Q xs
+each_with P Q f [] h = tt
+each_with P Q f (x ∷ xs) h = (f x h.0, each_with P Q f xs h.1)
 
-each-keep : {X : Type 0} (P : X → Type 0) (b : Bool) (x : X) (xs : List X) → P x → Each P xs → Each P (cond b (x ∷ xs) xs)
-each-keep P true x xs p h = (p, h)
-each-keep P false x xs p h = h
+each_keep : {X : Type 0} (P : X → Type 0) (b : Bool) (x : X) (xs : List X) → P x → Each P xs → Each P (cond b (x ∷ xs) xs)
+each_keep P true x xs p h = (p, h)
+each_keep P false x xs p h = h
 
-each-filter : {X : Type 0} (P : X → Type 0) (p : X → Bool) (xs : List X) → Each P xs → Each P (filter p xs)
-each-filter P p [] h = tt
-each-filter P p (x ∷ xs) h = each-keep P (p x) x (filter p xs) h.0 (each-filter P p xs h.1)
+each_filter : {X : Type 0} (P : X → Type 0) (p : X → Bool) (xs : List X) → Each P xs → Each P (filter p xs)
+each_filter P p [] h = tt
+each_filter P p (x ∷ xs) h = each_keep P (p x) x (filter p xs) h.0 (each_filter P p xs h.1)
 
-pub each-drop : {X : Type 0} (P : X → Type 0) (xs : List X) → Each P xs → Each P (drop 1 xs)
-each-drop P [] h = tt
-each-drop P (x ∷ xs) h = h.1
+pub each_drop : {X : Type 0} (P : X → Type 0) (xs : List X) → Each P xs → Each P (drop 1 xs)
+each_drop P [] h = tt
+each_drop P (x ∷ xs) h = h.1
 
-pub each-found : (P : PendingCall → Type 0) (number : ℕ) (calls : List PendingCall) (c : PendingCall) → Each P calls → find (λ c. eqb c.number number) calls ≡ Some c → P c
-each-found P number [] c h e = absurd cc
-each-found P number (d ∷ calls) c h e = by (eqb d.number number) e (λ f. each-found P number calls c h.1 f)
+pub each_found : (P : PendingCall → Type 0) (number : ℕ) (calls : List PendingCall) (c : PendingCall) → Each P calls → find (λ c. eqb c.number number) calls ≡ Some c → P c
+each_found P number [] c h e = absurd cc
+each_found P number (d ∷ calls) c h e = by (eqb d.number number) e (λ f. each_found P number calls c h.1 f)
   where
     by : (b : Bool) → cond b (Some d) (find (λ c. eqb c.number number) calls) ≡ Some c → (find (λ c. eqb c.number number) calls ≡ Some c → P c) → P c
     by true e more = subst P (let t : Some d ≡ Some c = e in cc) h.0
@@ -118,55 +118,55 @@ each-found P number (d ∷ calls) c h e = by (eqb d.number number) e (λ f. each
 
 -- ---- What a frame leaves pending
 
-calls-if : (P : PendingCall → Type 0) (b : Bool) (s t : FrameEffect) → Each P s.calls → Each P t.calls → Each P (cond b s t).calls
-calls-if P true s t h g = h
-calls-if P false s t h g = g
+calls_if : (P : PendingCall → Type 0) (b : Bool) (s t : FrameEffect) → Each P s.calls → Each P t.calls → Each P (cond b s t).calls
+calls_if P true s t h g = h
+calls_if P false s t h g = g
 
-calls-verdict : (P : PendingCall → Type 0) (o : CallVerdict) (s : FrameEffect) → Each P s.calls → Each P (with_verdict o s).calls
-calls-verdict P (Refuses reason) s h = h
-calls-verdict P (IsReady r) s h = h
+calls_verdict : (P : PendingCall → Type 0) (o : CallVerdict) (s : FrameEffect) → Each P s.calls → Each P (with_verdict o s).calls
+calls_verdict P (Refuses reason) s h = h
+calls_verdict P (IsReady r) s h = h
 
-calls-whole : (P : PendingCall → Type 0) (k : ServerState) (place : ℕ) (c : PendingCall) (s : FrameEffect) → Each P s.calls → Each P (ready_if_whole k place c s).calls
-calls-whole P k place c s h = calls-if P (is_read s.reads c.number) (with_verdict (by_payload c (payload_of k place c)) s) s (calls-verdict P (by_payload c (payload_of k place c)) s h) h
+calls_whole : (P : PendingCall → Type 0) (k : ServerState) (place : ℕ) (c : PendingCall) (s : FrameEffect) → Each P s.calls → Each P (ready_if_whole k place c s).calls
+calls_whole P k place c s h = calls_if P (is_read s.reads c.number) (with_verdict (by_payload c (payload_of k place c)) s) s (calls_verdict P (by_payload c (payload_of k place c)) s h) h
 
-calls-read : (P : PendingCall → Type 0) (k : ServerState) (place : ℕ) (r : PendingRead) (o : Option PendingCall) (s : FrameEffect) → Each P s.calls → Each P (read_effect k place r o s).calls
-calls-read P k place r None s h = h
-calls-read P k place r (Some c) s h =
-    calls-if P (is_stream_read c r s.reads && not (is_read_chunk_of_item (chunk_bytes k place c 0) c.lists.read)) (with_refused_call k c s) (ready_if_whole k place c s)
-    (each-filter P (λ d. not (eqb d.number c.number)) s.calls h) (calls-whole P k place c s h)
+calls_read : (P : PendingCall → Type 0) (k : ServerState) (place : ℕ) (r : PendingRead) (o : Option PendingCall) (s : FrameEffect) → Each P s.calls → Each P (read_effect k place r o s).calls
+calls_read P k place r None s h = h
+calls_read P k place r (Some c) s h =
+    calls_if P (is_stream_read c r s.reads && not (is_read_chunk_of_item (chunk_bytes k place c 0) c.lists.read)) (with_refused_call k c s) (ready_if_whole k place c s)
+    (each_filter P (λ d. not (eqb d.number c.number)) s.calls h) (calls_whole P k place c s h)
 
-calls-response : (P : PendingCall → Type 0) (k : ServerState) (place : ℕ) (reads : List PendingRead) → Each P k.calls → Each P (response_effect k place reads).calls
-calls-response P k place [] h = h
-calls-response P k place (r ∷ reads) h = calls-read P k place r (call_of_number k r.number) _ h
+calls_response : (P : PendingCall → Type 0) (k : ServerState) (place : ℕ) (reads : List PendingRead) → Each P k.calls → Each P (response_effect k place reads).calls
+calls_response P k place [] h = h
+calls_response P k place (r ∷ reads) h = calls_read P k place r (call_of_number k r.number) _ h
 
-calls-message : (P : PendingCall → Type 0) (k : ServerState) (place : ℕ) (message : List ℕ) (v : Verdict) → Each P k.calls → Made P v → Each P (message_effect k place message v).calls
-calls-message P k place message (EndsLink reason) h m = h
-calls-message P k place message OtherVersion h m = h
-calls-message P k place message BadChunks h m = h
-calls-message P k place message (MakesPending c) h m = calls-whole P k place c _ (each-append P k.calls (c ∷ []) h (m, tt))
+calls_message : (P : PendingCall → Type 0) (k : ServerState) (place : ℕ) (message : List ℕ) (v : Verdict) → Each P k.calls → Made P v → Each P (message_effect k place message v).calls
+calls_message P k place message (EndsLink reason) h m = h
+calls_message P k place message OtherVersion h m = h
+calls_message P k place message BadChunks h m = h
+calls_message P k place message (MakesPending c) h m = calls_whole P k place c _ (each_append P k.calls (c ∷ []) h (m, tt))
 
-calls-by_message : (P : PendingCall → Type 0) (k : ServerState) (place : ℕ) (o : Option (List ℕ)) → Each P k.calls → ((message : List ℕ) → o ≡ Some message → Made P (verdict k message)) → Each P (by_message k place o).calls
-calls-by_message P k place None h m = h
-calls-by_message P k place (Some message) h m = calls-message P k place message (verdict k message) h (m message refl)
+calls_by_message : (P : PendingCall → Type 0) (k : ServerState) (place : ℕ) (o : Option (List ℕ)) → Each P k.calls → ((message : List ℕ) → o ≡ Some message → Made P (verdict k message)) → Each P (by_message k place o).calls
+calls_by_message P k place None h m = h
+calls_by_message P k place (Some message) h m = calls_message P k place message (verdict k message) h (m message refl)
 
-calls-by : (P : PendingCall → Type 0) (k : ServerState) (f : Frame) (segment : Segment) → Each P k.calls → ((message : List ℕ) → message_completed k.received segment ≡ Some message → Made P (verdict k message)) → Each P (effect_by k f segment).calls
-calls-by P k f (Tagged last opcode stag to payload) h m =
+calls_by : (P : PendingCall → Type 0) (k : ServerState) (f : Frame) (segment : Segment) → Each P k.calls → ((message : List ℕ) → message_completed k.received segment ≡ Some message → Made P (verdict k message)) → Each P (effect_by k f segment).calls
+calls_by P k f (Tagged last opcode stag to payload) h m =
     let t : ServerState = with_access k f (Tagged last opcode stag to payload) in
-    calls-if P (eqb opcode 2 && last) (response_effect t f.end t.reads) (no_effect t) (calls-response P t f.end t.reads h) h
-calls-by P k f (Untagged last opcode w queue msn offset payload) h m = calls-by_message P k f.end (message_completed k.received (Untagged last opcode w queue msn offset payload)) h m
+    calls_if P (eqb opcode 2 && last) (response_effect t f.end t.reads) (no_effect t) (calls_response P t f.end t.reads h) h
+calls_by P k f (Untagged last opcode w queue msn offset payload) h m = calls_by_message P k f.end (message_completed k.received (Untagged last opcode w queue msn offset payload)) h m
 
 -- ---- Along the events
 
 -- one event more
-call-later : (opened : LinkParameters) (es : List Event) (event : Event) (c : PendingCall) → IsReceivedCall opened es c → IsReceivedCall opened (es ++ event ∷ []) c
-call-later opened es event c h = record {
+call_later : (opened : LinkParameters) (es : List RunEvent) (event : RunEvent) (c : PendingCall) → IsReceivedCall opened es c → IsReceivedCall opened (es ++ event ∷ []) c
+call_later opened es event c h = record {
   earlier = h.earlier;
   later = h.later ++ event ∷ [];
   frame = h.frame;
   segment = h.segment;
   message = h.message;
   header = h.header;
-  is_received = ap (λ (all : List Event). all ++ event ∷ []) h.is_received ∙ append_assoc h.earlier (FrameReceived h.frame ∷ h.later) (event ∷ []);
+  is_received = ap (λ (all : List RunEvent). all ++ event ∷ []) h.is_received ∙ append_assoc h.earlier (FrameReceived h.frame ∷ h.later) (event ∷ []);
   behind_hello = h.behind_hello;
   is_segment = h.is_segment;
   whole = h.whole;
@@ -177,14 +177,14 @@ call-later opened es event c h = record {
   stream = h.stream;
 }
 
-ready-later : (opened : LinkParameters) (es : List Event) (event : Event) (r : ReadyCall) → WasConveyed opened es r → WasConveyed opened (es ++ event ∷ []) r
-ready-later opened es event r h = record {
+ready_later : (opened : LinkParameters) (es : List RunEvent) (event : RunEvent) (r : ReadyCall) → WasConveyed opened es r → WasConveyed opened (es ++ event ∷ []) r
+ready_later opened es event r h = record {
   earlier = h.earlier;
   later = h.later ++ event ∷ [];
   frame = h.frame;
   segment = h.segment;
   call = h.call;
-  is_received = ap (λ (all : List Event). all ++ event ∷ []) h.is_received ∙ append_assoc h.earlier (FrameReceived h.frame ∷ h.later) (event ∷ []);
+  is_received = ap (λ (all : List RunEvent). all ++ event ∷ []) h.is_received ∙ append_assoc h.earlier (FrameReceived h.frame ∷ h.later) (event ∷ []);
   behind_hello = h.behind_hello;
   is_segment = h.is_segment;
   own = h.own;
@@ -193,23 +193,23 @@ ready-later opened es event r h = record {
   xid = h.xid;
 }
 
-pub record Known (opened : LinkParameters) (es : List Event) (k : ServerState) : Type 0 where
+pub record Known (opened : LinkParameters) (es : List RunEvent) (k : ServerState) : Type 0 where
   pub calls : Each (IsReceivedCall opened es) k.calls
   pub ready : Each (WasConveyed opened es) k.ready
 
-known-later : (opened : LinkParameters) (es : List Event) (event : Event) (k : ServerState) → Known opened es k → Known opened (es ++ event ∷ []) k
-known-later opened es event k h = record {
-  calls = each-with (IsReceivedCall opened es) (IsReceivedCall opened (es ++ event ∷ [])) (call-later opened es event) k.calls h.calls;
-  ready = each-with (WasConveyed opened es) (WasConveyed opened (es ++ event ∷ [])) (ready-later opened es event) k.ready h.ready;
+known_later : (opened : LinkParameters) (es : List RunEvent) (event : RunEvent) (k : ServerState) → Known opened es k → Known opened (es ++ event ∷ []) k
+known_later opened es event k h = record {
+  calls = each_with (IsReceivedCall opened es) (IsReceivedCall opened (es ++ event ∷ [])) (call_later opened es event) k.calls h.calls;
+  ready = each_with (WasConveyed opened es) (WasConveyed opened (es ++ event ∷ [])) (ready_later opened es event) k.ready h.ready;
 }
 
 -- the call of the message that a frame makes whole
-made-now : (opened : LinkParameters) (es : List Event) (f : Frame) (segment : Segment) (message : List ℕ) → is_hello f ≡ false → frame_segment f ≡ Ok segment → message_completed (server_by opened es).received segment ≡ Some message
+made_now : (opened : LinkParameters) (es : List RunEvent) (f : Frame) (segment : Segment) (message : List ℕ) → is_hello f ≡ false → frame_segment f ≡ Ok segment → message_completed (server_by opened es).received segment ≡ Some message
     → (v : Verdict) → Made (OfHeader (server_by opened es) message (header_of message)) v → Made (IsReceivedCall opened (es ++ FrameReceived f ∷ [])) v
-made-now opened es f segment message behind is whole (EndsLink reason) m = tt
-made-now opened es f segment message behind is whole OtherVersion m = tt
-made-now opened es f segment message behind is whole BadChunks m = tt
-made-now opened es f segment message behind is whole (MakesPending c) m = record {
+made_now opened es f segment message behind is whole (EndsLink reason) m = tt
+made_now opened es f segment message behind is whole OtherVersion m = tt
+made_now opened es f segment message behind is whole BadChunks m = tt
+made_now opened es f segment message behind is whole (MakesPending c) m = record {
   earlier = es;
   later = [];
   frame = f;
@@ -227,17 +227,17 @@ made-now opened es f segment message behind is whole (MakesPending c) m = record
   stream = m.stream;
 }
 
-call-of : (opened : LinkParameters) (es : List Event) (f : Frame) (segment : Segment) (c : PendingCall) → is_hello f ≡ false → frame_segment f ≡ Ok segment → Each (IsReceivedCall opened es) (server_by opened es).calls
+call_of_lem : (opened : LinkParameters) (es : List RunEvent) (f : Frame) (segment : Segment) (c : PendingCall) → is_hello f ≡ false → frame_segment f ≡ Ok segment → Each (IsReceivedCall opened es) (server_by opened es).calls
     → IsCallOf (server_by opened es) segment c → IsReceivedCall opened (es ++ FrameReceived f ∷ []) c
-call-of opened es f segment c behind is h (inl (number, e)) = call-later opened es (FrameReceived f) c (each-found (IsReceivedCall opened es) number (server_by opened es).calls c h e)
-call-of opened es f segment c behind is h (inr (message, (whole, e))) =
+call_of_lem opened es f segment c behind is h (inl (number, e)) = call_later opened es (FrameReceived f) c (each_found (IsReceivedCall opened es) number (server_by opened es).calls c h e)
+call_of_lem opened es f segment c behind is h (inr (message, (whole, e))) =
     subst (λ (v : Verdict). Made (IsReceivedCall opened (es ++ FrameReceived f ∷ [])) v) e
-    (made-now opened es f segment message behind is whole (verdict (server_by opened es) message) (made-verdict (server_by opened es) message))
+    (made_now opened es f segment message behind is whole (verdict (server_by opened es) message) (made_verdict (server_by opened es) message))
 
-ready-now : (opened : LinkParameters) (es : List Event) (f : Frame) (segment : Segment) (ready : List ReadyCall) → is_hello f ≡ false → frame_segment f ≡ Ok segment → Each (IsReceivedCall opened es) (server_by opened es).calls
+ready_now : (opened : LinkParameters) (es : List RunEvent) (f : Frame) (segment : Segment) (ready : List ReadyCall) → is_hello f ≡ false → frame_segment f ≡ Ok segment → Each (IsReceivedCall opened es) (server_by opened es).calls
     → AllConveyed (with_access (server_by opened es) f segment) f.end (IsCallOf (server_by opened es) segment) ready → Each (WasConveyed opened (es ++ FrameReceived f ∷ [])) ready
-ready-now opened es f segment [] behind is h all = tt
-ready-now opened es f segment (r ∷ ready) behind is h all = (
+ready_now opened es f segment [] behind is h all = tt
+ready_now opened es f segment (r ∷ ready) behind is h all = (
   record {
     earlier = es;
     later = [];
@@ -247,81 +247,81 @@ ready-now opened es f segment (r ∷ ready) behind is h all = (
     is_received = refl;
     behind_hello = behind;
     is_segment = is;
-    own = call-of opened es f segment all.0.call behind is h all.0.own;
+    own = call_of_lem opened es f segment all.0.call behind is h all.0.own;
     payload = all.0.payload;
     number = all.0.number;
     xid = all.0.xid;
   },
-  ready-now opened es f segment ready behind is h all.1,
+  ready_now opened es f segment ready behind is h all.1,
 )
 
-effect-known : (opened : LinkParameters) (es : List Event) (f : Frame) (r : Result Segment ℕ) → is_hello f ≡ false → frame_segment f ≡ r → Known opened es (server_by opened es)
+effect_known : (opened : LinkParameters) (es : List RunEvent) (f : Frame) (r : Result Segment ℕ) → is_hello f ≡ false → frame_segment f ≡ r → Known opened es (server_by opened es)
     → Known opened (es ++ FrameReceived f ∷ []) (with_effect (server_by opened es) f (effect_in (server_by opened es) f r))
-effect-known opened es f (Err reason) behind is h = (let g = known-later opened es (FrameReceived f) (server_by opened es) h in record { calls = g.calls; ready = each-append _ (server_by opened es).ready [] g.ready tt })
-effect-known opened es f (Ok segment) behind is h =
+effect_known opened es f (Err reason) behind is h = (let g = known_later opened es (FrameReceived f) (server_by opened es) h in record { calls = g.calls; ready = each_append _ (server_by opened es).ready [] g.ready tt })
+effect_known opened es f (Ok segment) behind is h =
     let k : ServerState = server_by opened es in
-    let g = known-later opened es (FrameReceived f) k h in
+    let g = known_later opened es (FrameReceived f) k h in
     record {
-      calls = calls-by (IsReceivedCall opened (es ++ FrameReceived f ∷ [])) k f segment g.calls
-          (λ message whole. made-now opened es f segment message behind is whole (verdict k message) (made-verdict k message));
-      ready = each-append (WasConveyed opened (es ++ FrameReceived f ∷ [])) k.ready (effect_by k f segment).ready g.ready
-          (ready-now opened es f segment (effect_by k f segment).ready behind is h.calls (conveyed-by k f segment));
+      calls = calls_by (IsReceivedCall opened (es ++ FrameReceived f ∷ [])) k f segment g.calls
+          (λ message whole. made_now opened es f segment message behind is whole (verdict k message) (made_verdict k message));
+      ready = each_append (WasConveyed opened (es ++ FrameReceived f ∷ [])) k.ready (effect_by k f segment).ready g.ready
+          (ready_now opened es f segment (effect_by k f segment).ready behind is h.calls (conveyed_by k f segment));
     }
 
-after-known : (opened : LinkParameters) (es : List Event) (event : Event) → Known opened es (server_by opened es) → Known opened (es ++ event ∷ []) (server_state_after opened (server_by opened es) event)
+after_known : (opened : LinkParameters) (es : List RunEvent) (event : RunEvent) → Known opened es (server_by opened es) → Known opened (es ++ event ∷ []) (server_state_after opened (server_by opened es) event)
 unfolding server_state_after frame_effect
-after-known opened es (FrameReceived f) h = by (is_hello f) refl
+after_known opened es (FrameReceived f) h = by (is_hello f) refl
   where
     k : ServerState
     k = server_by opened es
 
     by : (b : Bool) → is_hello f ≡ b → Known opened (es ++ FrameReceived f ∷ []) (cond b (with_own_hello k) (with_effect k f (effect_in k f (frame_segment f))))
-    by true is = (let g = known-later opened es (FrameReceived f) k h in record { calls = g.calls; ready = g.ready })
-    by false is = effect-known opened es f (frame_segment f) is refl h
-after-known opened es (CallSubmitted place a) h = known-later opened es (CallSubmitted place a) (server_by opened es) h
-after-known opened es (MemoryRevoked place xid) h = known-later opened es (MemoryRevoked place xid) (server_by opened es) h
-after-known opened es (CallExecuted e) h =
+    by true is = (let g = known_later opened es (FrameReceived f) k h in record { calls = g.calls; ready = g.ready })
+    by false is = effect_known opened es f (frame_segment f) is refl h
+after_known opened es (CallSubmitted place a) h = known_later opened es (CallSubmitted place a) (server_by opened es) h
+after_known opened es (MemoryRevoked place xid) h = known_later opened es (MemoryRevoked place xid) (server_by opened es) h
+after_known opened es (CallExecuted e) h =
     let k : ServerState = server_by opened es in
-    let g = known-later opened es (CallExecuted e) k h in
+    let g = known_later opened es (CallExecuted e) k h in
     record {
-      calls = each-filter (IsReceivedCall opened (es ++ CallExecuted e ∷ [])) (λ c. not (eqb c.xid e.xid)) k.calls g.calls;
-      ready = each-drop (WasConveyed opened (es ++ CallExecuted e ∷ [])) k.ready g.ready;
+      calls = each_filter (IsReceivedCall opened (es ++ CallExecuted e ∷ [])) (λ c. not (eqb c.xid e.xid)) k.calls g.calls;
+      ready = each_drop (WasConveyed opened (es ++ CallExecuted e ∷ [])) k.ready g.ready;
     }
-after-known opened es (QueueWritten taken) h = (let g = known-later opened es (QueueWritten taken) (server_by opened es) h in record { calls = g.calls; ready = g.ready })
+after_known opened es (QueueWritten taken) h = (let g = known_later opened es (QueueWritten taken) (server_by opened es) h in record { calls = g.calls; ready = g.ready })
 
-next-known : (opened : LinkParameters) (es : List Event) (event : Event) → Known opened es (server_by opened es) → Known opened (es ++ event ∷ []) (server_by opened (es ++ event ∷ []))
-next-known opened es event h =
-    subst (λ (r : EndState ServerState). Known opened (es ++ event ∷ []) r.state) (sym (end_state_after-append (server_rules opened) (initial_server opened) es (event ∷ [])))
+next_known : (opened : LinkParameters) (es : List RunEvent) (event : RunEvent) → Known opened es (server_by opened es) → Known opened (es ++ event ∷ []) (server_by opened (es ++ event ∷ []))
+next_known opened es event h =
+    subst (λ (r : EndState ServerState). Known opened (es ++ event ∷ []) r.state) (sym (end_state_after_append (server_rules opened) (initial_server opened) es (event ∷ [])))
     (one (end_state_after (server_rules opened) (initial_server opened) es).ended)
   where
     k : ServerState
     k = server_by opened es
 
     by_why : (why : Option Stop) → Known opened (es ++ event ∷ []) (next_end_state_by (server_rules opened) k event why).state
-    by_why None = after-known opened es event h
-    by_why (Some end) = known-later opened es event k h
+    by_why None = after_known opened es event h
+    by_why (Some end) = known_later opened es event k h
 
     one : (ended : Option Stop) → Known opened (es ++ event ∷ []) (next_end_state_in (server_rules opened) k event ended).state
     one None = by_why (server_end opened k event)
-    one (Some end) = known-later opened es event k h
+    one (Some end) = known_later opened es event k h
 
-pub known-from : (opened : LinkParameters) (es more : List Event) → Known opened es (server_by opened es) → Known opened (es ++ more) (server_by opened (es ++ more))
-known-from opened es [] h = subst (λ (all : List Event). Known opened all (server_by opened all)) (sym (append-nil es)) h
-known-from opened es (event ∷ more) h =
-    subst (λ (all : List Event). Known opened all (server_by opened all)) (append_assoc es (event ∷ []) more) (known-from opened (es ++ event ∷ []) more (next-known opened es event h))
+pub known_from : (opened : LinkParameters) (es more : List RunEvent) → Known opened es (server_by opened es) → Known opened (es ++ more) (server_by opened (es ++ more))
+known_from opened es [] h = subst (λ (all : List RunEvent). Known opened all (server_by opened all)) (sym (append-nil es)) h
+known_from opened es (event ∷ more) h =
+    subst (λ (all : List RunEvent). Known opened all (server_by opened all)) (append_assoc es (event ∷ []) more) (known_from opened (es ++ event ∷ []) more (next_known opened es event h))
 
-first-conveyed : (opened : LinkParameters) (es : List Event) (ready : List ReadyCall) (ended : Option Stop) (r : ReadyCall) → Each (WasConveyed opened es) ready → first_ready ready ended ≡ Some r → WasConveyed opened es r
-first-conveyed opened es ready (Some end) r h e = absurd cc
-first-conveyed opened es [] None r h e = absurd cc
-first-conveyed opened es (x ∷ ready) None r h e = subst (WasConveyed opened es) (let s : Some x ≡ Some r = e in cc) h.0
+first_conveyed : (opened : LinkParameters) (es : List RunEvent) (ready : List ReadyCall) (ended : Option Stop) (r : ReadyCall) → Each (WasConveyed opened es) ready → first_ready ready ended ≡ Some r → WasConveyed opened es r
+first_conveyed opened es ready (Some end) r h e = absurd cc
+first_conveyed opened es [] None r h e = absurd cc
+first_conveyed opened es (x ∷ ready) None r h e = subst (WasConveyed opened es) (let s : Some x ≡ Some r = e in cc) h.0
 
-pub payload-conveyed : (opened : LinkParameters) (link : ℕ) (before : List Mark) (xid : ℕ) (payload : List ℕ) → (h : IsExecuted opened link before xid payload) →
+pub payload_conveyed : (opened : LinkParameters) (link : ℕ) (before : List Mark) (xid : ℕ) (payload : List ℕ) → (h : IsExecuted opened link before xid payload) →
     WasConveyed opened (events link Responder before) (record { number = h.call.number; xid = xid; payload = payload })
 unfolding next_call server
-payload-conveyed opened link before xid payload h =
-    let es : List Event = events link Responder before in
+payload_conveyed opened link before xid payload h =
+    let es : List RunEvent = events link Responder before in
     let r : EndState ServerState = server opened link before in
-    let known : Known opened es (server_by opened es) = known-from opened [] es (record { calls = tt; ready = tt }) in
-    let was : WasConveyed opened es h.call = first-conveyed opened es r.state.ready r.ended h.call known.ready h.is_next in
+    let known : Known opened es (server_by opened es) = known_from opened [] es (record { calls = tt; ready = tt }) in
+    let was : WasConveyed opened es h.call = first_conveyed opened es r.state.ready r.ended h.call known.ready h.is_next in
     let same : h.call ≡ record { number = h.call.number; xid = xid; payload = payload } = (λ i. record { number = h.call.number; xid = sym h.own i; payload = sym h.conveyed i }) in
     subst (WasConveyed opened es) same was

@@ -21,27 +21,27 @@ use Rattle.nr_reduce.specs.Plans.{TooLarge, regions_needed, plan_of}
 use Rattle.nr_reduce.specs.OfferedRegions.{Region, region_grants, region_bytes, region_bytes_by}
 use Rattle.nr_reduce.specs.OfferedMemory.{region_at, HoldsRegions, held_if_open, registered_region}
 use Rattle.nr_reduce.specs.EndRules.{EndState, live}
-use Rattle.nr_reduce.specs.ClientState.{OutstandingCall, ClientState, call_payload, plan_for, memory_at}
+use Rattle.nr_reduce.specs.ClientState.{OutstandingCall, ClientState, call_payload, plan_for, client_memory_at}
 use Rattle.nr_reduce.specs.Client.{initial_client}
 use Rattle.nr_reduce.specs.SubmitAnswer.{unless_spent, by_plan, answer_by, submit_answer, next_xid}
 use Rattle.nr_reduce.specs.KeptCalls.{KeptCall, AreKept}
 use Rattle.nr_reduce.specs.KeptClient.{KeptClient, ClientKeeps, CallsKeep, MemoryKeeps, bytes_under, opened_client}
 use Rattle.nr_reduce.specs.StandingLaws.{KeptJudges, KeptResponds, KeptAnswers, KeptCounts, kept_answer_by_plan, kept_answer_if}
-use Rattle.nr_reduce.proofs.MemorySteps.{holds-later}
-use Rattle.nr_reduce.proofs.Conveying.{verdict-alike}
+use Rattle.nr_reduce.proofs.MemorySteps.{holds_later}
+use Rattle.nr_reduce.proofs.Conveying.{verdict_alike}
 
 -- ---- As it is opened
 
-memory-begins : (first_stag : ℕ) → HoldsRegions [] [] 0 (initial_memory first_stag)
+memory_begins : (first_stag : ℕ) → HoldsRegions [] [] 0 (initial_memory first_stag)
 unfolding live_region held_region initial_memory
-memory-begins first_stag stag = get-empty nat_cmp stag
+memory_begins first_stag stag = get-empty nat_cmp stag
 
-next-begins : (first_stag : ℕ) → (initial_memory first_stag).next ≡ first_stag
+next_begins : (first_stag : ℕ) → (initial_memory first_stag).next ≡ first_stag
 unfolding initial_memory
-next-begins first_stag = refl
+next_begins first_stag = refl
 
-pub keeps-begins : (opened : LinkParameters) → ClientKeeps opened (opened_client opened) (initial_client opened) 0
-keeps-begins opened = record {
+pub keeps_begins : (opened : LinkParameters) → ClientKeeps opened (opened_client opened) (initial_client opened) 0
+keeps_begins opened = record {
   ended = refl;
   xid = omega arith;
   grant = refl;
@@ -49,7 +49,7 @@ keeps-begins opened = record {
   down = refl;
   outstanding = refl;
   calls = λ lives. record { kept = tt; rising = tt; owned = λ stag r e is. absurd cc; opens = tt };
-  memory = λ lives. record { next = next-begins opened.first_stag; offered = tt; holds = memory-begins opened.first_stag; below = λ stag r e. absurd cc };
+  memory = λ lives. record { next = next_begins opened.first_stag; offered = tt; holds = memory_begins opened.first_stag; below = λ stag r e. absurd cc };
   waits = tt;
   rising = tt;
   opens = tt;
@@ -59,17 +59,17 @@ keeps-begins opened = record {
 
 -- ---- Messages
 
-pub kept-judges : KeptJudges
-kept-judges opened kept k count place message keeps later =
+pub kept_judges : KeptJudges
+kept_judges opened kept k count place message keeps later =
     let calls : CallsKeep kept.calls kept.next_xid k = keeps.calls refl in
     let memory : MemoryKeeps kept.memory k count = keeps.memory refl in
-    verdict-alike k place kept.memory kept.calls message calls.kept
-    (holds-later k.regions k.accesses_received count place kept.memory later keeps.accesses memory.holds) keeps.opens
+    verdict_alike k place kept.memory kept.calls message calls.kept
+    (holds_later k.regions k.accesses_received count place kept.memory later keeps.accesses memory.holds) keeps.opens
 
 -- ---- Read Requests
 
 -- the bytes under an STag that may be read are those of the region
-reached : (k : ClientState) (place : ℕ) (m : RegisteredMemory) (a : Access) → HoldsRegions k.regions k.accesses_received place m → denial m a ≡ None → bytes_under m a.stag ≡ memory_at k place a.stag
+reached : (k : ClientState) (place : ℕ) (m : RegisteredMemory) (a : Access) → HoldsRegions k.regions k.accesses_received place m → denial m a ≡ None → bytes_under m a.stag ≡ client_memory_at k place a.stag
 unfolding denial region_bytes
 reached k place m a holds allowed = by (region_at k.regions a.stag) refl
   where
@@ -89,65 +89,65 @@ reached k place m a holds allowed = by (region_at k.regions a.stag) refl
     by None is = absurd (dead (held None is))
     by (Some r) is = by_until r r.until refl is ∙ ap (λ (x : Option Region). region_bytes_by (region_grants place k.regions) k.accesses_received x) (sym is)
 
-pub kept-responds : KeptResponds
-kept-responds opened kept k count place r keeps later allowed =
+pub kept_responds : KeptResponds
+kept_responds opened kept k count place r keeps later allowed =
     let memory : MemoryKeeps kept.memory k count = keeps.memory refl in
-    let holds = holds-later k.regions k.accesses_received count place kept.memory later keeps.accesses memory.holds in
+    let holds = holds_later k.regions k.accesses_received count place kept.memory later keeps.accesses memory.holds in
     ap (λ (bytes : List ℕ). read_response r.sink r.sink_to (take r.size (drop r.to bytes)))
     (sym (reached k place kept.memory (record { right = Fetch; stag = r.stag; to = r.to; len = r.size }) holds allowed))
 
 -- ---- Calls
 
-pub kept-count : (k : ClientState) (cs : List KeptCall) (os : List OutstandingCall) → AreKept k cs os → length cs ≡ length os
-kept-count k [] [] is = refl
-kept-count k [] (o ∷ os) is = absurd is
-kept-count k (c ∷ cs) [] is = absurd is
-kept-count k (c ∷ cs) (o ∷ os) is = (let rest = kept-count k cs os is.1 in omega (arith, rest))
+pub kept_count : (k : ClientState) (cs : List KeptCall) (os : List OutstandingCall) → AreKept k cs os → length cs ≡ length os
+kept_count k [] [] is = refl
+kept_count k [] (o ∷ os) is = absurd is
+kept_count k (c ∷ cs) [] is = absurd is
+kept_count k (c ∷ cs) (o ∷ os) is = (let rest = kept_count k cs os is.1 in omega (arith, rest))
 
 -- the parts of an answer, one by one
-answer-parts : Result Plan TooLarge → (grant count xid stag : ℕ) → Submission
-answer-parts (Err large) grant count xid stag = submissions.Refused (refusals.TooLarge large.need large.room)
-answer-parts (Ok plan) grant count xid stag =
+answer_parts : Result Plan TooLarge → (grant count xid stag : ℕ) → Submission
+answer_parts (Err large) grant count xid stag = submissions.Refused (refusals.TooLarge large.need large.room)
+answer_parts (Ok plan) grant count xid stag =
     cond (leb grant count) (submissions.Refused (refusals.NoCredit count grant))
     (unless_spent (numbers_end - xid) 1 (unless_spent (numbers_end - stag) (regions_needed plan) (submissions.Accepted xid)))
 
-own-parts : (kept : KeptClient) (p : Result Plan TooLarge) → kept_answer_by_plan kept p ≡ answer-parts p kept.grant (length kept.calls) kept.next_xid kept.memory.next
-unfolding answer-parts
-own-parts kept (Ok plan) = refl
-own-parts kept (Err large) = refl
+own_parts : (kept : KeptClient) (p : Result Plan TooLarge) → kept_answer_by_plan kept p ≡ answer_parts p kept.grant (length kept.calls) kept.next_xid kept.memory.next
+unfolding answer_parts
+own_parts kept (Ok plan) = refl
+own_parts kept (Err large) = refl
 
-client-parts : (opened : LinkParameters) (k : ClientState) (p : Result Plan TooLarge) → by_plan opened k p ≡ answer-parts p k.grant (length k.outstanding) (next_xid opened k) k.stag
-unfolding answer-parts
-client-parts opened k (Ok plan) = refl
-client-parts opened k (Err large) = refl
+client_parts : (opened : LinkParameters) (k : ClientState) (p : Result Plan TooLarge) → by_plan opened k p ≡ answer_parts p k.grant (length k.outstanding) (next_xid opened k) k.stag
+unfolding answer_parts
+client_parts opened k (Ok plan) = refl
+client_parts opened k (Err large) = refl
 
-plan-same : (k : ClientState) (xid : ℕ) (call : Call) (form : Form) → plan_of (call_payload xid call) form k.up_max k.down_max ≡ plan_for k xid call form
+plan_same : (k : ClientState) (xid : ℕ) (call : Call) (form : Form) → plan_of (call_payload xid call) form k.up_max k.down_max ≡ plan_for k xid call form
 unfolding plan_for
-plan-same k xid call form = refl
+plan_same k xid call form = refl
 
-answer-live : (opened : LinkParameters) (kept : KeptClient) (k : ClientState) (count : ℕ) (call : Call) (form : Form) → ClientKeeps opened kept (live k) count →
+answer_live : (opened : LinkParameters) (kept : KeptClient) (k : ClientState) (count : ℕ) (call : Call) (form : Form) → ClientKeeps opened kept (live k) count →
     kept_answer_by_plan kept (plan_of (call_payload kept.next_xid call) form kept.up_max kept.down_max) ≡ by_plan opened k (plan_for k (next_xid opened k) call form)
-answer-live opened kept k count call form keeps =
+answer_live opened kept k count call form keeps =
     let memory : MemoryKeeps kept.memory k count = keeps.memory refl in
     let calls : CallsKeep kept.calls kept.next_xid k = keeps.calls refl in
-    own-parts kept (plan_of (call_payload kept.next_xid call) form kept.up_max kept.down_max)
-    ∙ (λ i. answer-parts (plan_of (call_payload (keeps.xid i) call) form (keeps.up i) (keeps.down i)) (keeps.grant i) (kept-count k kept.calls k.outstanding calls.kept i) (keeps.xid i) (memory.next i))
-    ∙ sym (client-parts opened k (plan_of (call_payload (next_xid opened k) call) form k.up_max k.down_max))
-    ∙ ap (by_plan opened k) (plan-same k (next_xid opened k) call form)
+    own_parts kept (plan_of (call_payload kept.next_xid call) form kept.up_max kept.down_max)
+    ∙ (λ i. answer_parts (plan_of (call_payload (keeps.xid i) call) form (keeps.up i) (keeps.down i)) (keeps.grant i) (kept_count k kept.calls k.outstanding calls.kept i) (keeps.xid i) (memory.next i))
+    ∙ sym (client_parts opened k (plan_of (call_payload (next_xid opened k) call) form k.up_max k.down_max))
+    ∙ ap (by_plan opened k) (plan_same k (next_xid opened k) call form)
 
-answer-if : (opened : LinkParameters) (kept : KeptClient) (e : EndState ClientState) (count : ℕ) (call : Call) (form : Form) → ClientKeeps opened kept e count → (x : Option End) → e.ended ≡ x →
+answer_if : (opened : LinkParameters) (kept : KeptClient) (e : EndState ClientState) (count : ℕ) (call : Call) (form : Form) → ClientKeeps opened kept e count → (x : Option End) → e.ended ≡ x →
     kept_answer_if kept call form x ≡ answer_by opened e.state call form x
-answer-if opened kept e count call form keeps (Some end) is = refl
-answer-if opened kept e count call form keeps None is =
-    answer-live opened kept e.state count call form (subst (λ (y : Option End). ClientKeeps opened kept (record { state = e.state; ended = y }) count) is keeps)
+answer_if opened kept e count call form keeps (Some end) is = refl
+answer_if opened kept e count call form keeps None is =
+    answer_live opened kept e.state count call form (subst (λ (y : Option End). ClientKeeps opened kept (record { state = e.state; ended = y }) count) is keeps)
 
-pub kept-answers : KeptAnswers
+pub kept_answers : KeptAnswers
 unfolding submit_answer
-kept-answers opened kept e count call form keeps =
-    ap (kept_answer_if kept call form) keeps.ended ∙ answer-if opened kept e count call form keeps e.ended refl
+kept_answers opened kept e count call form keeps =
+    ap (kept_answer_if kept call form) keeps.ended ∙ answer_if opened kept e count call form keeps e.ended refl
 
-pub kept-counts : KeptCounts
-kept-counts opened kept e count keeps = (
+pub kept_counts : KeptCounts
+kept_counts opened kept e count keeps = (
   keeps.outstanding,
-  (keeps.grant, λ lives. (let calls : CallsKeep kept.calls kept.next_xid e.state = keeps.calls lives in kept-count e.state kept.calls e.state.outstanding calls.kept ∙ sym keeps.outstanding)),
+  (keeps.grant, λ lives. (let calls : CallsKeep kept.calls kept.next_xid e.state = keeps.calls lives in kept_count e.state kept.calls e.state.outstanding calls.kept ∙ sym keeps.outstanding)),
 )

@@ -5,18 +5,18 @@ use Rattle.std.specs.Prelude.{IfSome}
 use Rattle.std.proofs.lemmas.Bool.{eqb-true, eq-eqb, ne_eqb, cases_eq, le-leb, le-ltb}
 use Rattle.nr_regions.specs.declared.region.Region.{Region as HeldRegion}
 use Rattle.nr_regions.specs.RegisteredMemory.{RegisteredMemory, Access, held_region, live_region, denial_in, region_offer, denial, after_register, bytes_after_write}
-use Rattle.nr_regions.specs.Access.{Grant, TaggedSegment, applies, grant_at, grant_offer, grant_denial, access_of, after_segment, contents}
+use Rattle.nr_regions.specs.Access.{Grant, TaggedSegment, applies, grant_at, grant_offer, grant_denial, access_of_tagged, after_segment, contents}
 use Rattle.nr_regions.specs.Events.{after_event, after_arrival}
-use Rattle.nr_regions.specs.Events.Event.{Arrive}
-use Rattle.nr_regions.proofs.Holding.{live-held, register_here, register_other, arrive_other}
+use Rattle.nr_regions.specs.Events.MemoryEvent.{Arrive}
+use Rattle.nr_regions.proofs.Holding.{live_held, register_here, register_other, arrive_other}
 use Rattle.nr_regions.proofs.Contents.{contents_are}
 use Rattle.nr_reduce.specs.OfferedRegions.{Region, until_or, region_grant, region_grants, until_at, closed_if, regions_closed}
 use Rattle.nr_reduce.specs.OfferedMemory.{region_at, AreOffered, AreReceived, held_if_open, registered_region, HoldsRegions, is_closed_by, ReleasesClosed}
-use Rattle.nr_reduce.proofs.OfferedMemory.{grants_from, found, none-found, granted, offer_if_open, offer_of, contents-same, IsAlike, AreAlike, alike-offers, judged, sized_by, contents-length}
+use Rattle.nr_reduce.proofs.OfferedMemory.{grants_from, found, none_found_lem, granted, offer_if_open, offer_of, contents_same, IsAlike, AreAlike, alike_offers, judged, sized_by, contents_length}
 
-stag-found : (regions : List Region) (stag : ℕ) (r : Region) → region_at regions stag ≡ Some r → r.stag ≡ stag
-stag-found [] stag r e = absurd cc
-stag-found (x ∷ regions) stag r e = by (eqb x.stag stag) refl e (stag-found regions stag r)
+stag_found : (regions : List Region) (stag : ℕ) (r : Region) → region_at regions stag ≡ Some r → r.stag ≡ stag
+stag_found [] stag r e = absurd cc
+stag_found (x ∷ regions) stag r e = by (eqb x.stag stag) refl e (stag_found regions stag r)
   where
     by : (b : Bool) → eqb x.stag stag ≡ b → cond b (Some x) (region_at regions stag) ≡ Some r → (region_at regions stag ≡ Some r → r.stag ≡ stag) → r.stag ≡ stag
     by true is e later = (let same : x ≡ r = cc in ap (λ (q : Region). q.stag) (sym same) ∙ eqb-true x.stag stag is)
@@ -24,9 +24,9 @@ stag-found (x ∷ regions) stag r e = by (eqb x.stag stag) refl e (stag-found re
 
 -- ---- Contents have the length of their region
 
-sized-found : (place now end stag : ℕ) (regions : List Region) (r : Region) → AreOffered place regions → region_at regions stag ≡ Some r → sized_by (grant_offer (found stag end (grants_from now regions))) (length r.bytes)
-sized-found place now end stag [] r h e = absurd cc
-sized-found place now end stag (x ∷ regions) r h e = by (eqb x.stag stag) refl e (sized-found place now end stag regions r h.1.1.1)
+sized_found : (place now end stag : ℕ) (regions : List Region) (r : Region) → AreOffered place regions → region_at regions stag ≡ Some r → sized_by (grant_offer (found stag end (grants_from now regions))) (length r.bytes)
+sized_found place now end stag [] r h e = absurd cc
+sized_found place now end stag (x ∷ regions) r h e = by (eqb x.stag stag) refl e (sized_found place now end stag regions r h.1.1.1)
   where
     others : Option Grant
     others = found stag end (grants_from now regions)
@@ -42,90 +42,90 @@ sized-found place now end stag (x ∷ regions) r h e = by (eqb x.stag stag) refl
         → sized_by (grant_offer (cond (eqb x.stag stag && rest) (Some (region_grant now x)) others)) (length r.bytes)
     by true is e later =
         let same : x ≡ r = (let s : Some x ≡ Some r = e in cc) in
-        let none : others ≡ None = none-found now end stag regions (subst (λ (s : ℕ). region_at regions s ≡ None) (eqb-true x.stag stag is) h.1.1.0) in
+        let none : others ≡ None = none_found_lem now end stag regions (subst (λ (s : ℕ). region_at regions s ≡ None) (eqb-true x.stag stag is) h.1.1.0) in
         subst (λ (b : Bool). sized_by (grant_offer (cond (b && rest) (Some (region_grant now x)) others)) (length r.bytes)) (sym is) (first rest none same)
     by false is e later =
         subst (λ (b : Bool). sized_by (grant_offer (cond (b && rest) (Some (region_grant now x)) others)) (length r.bytes)) (sym is) (later e)
 
-region-length : (place now stag : ℕ) (regions : List Region) (accesses_received : List TaggedSegment) (r : Region) → AreOffered place regions → region_at regions stag ≡ Some r → length (contents (region_grants now regions) r.stag r.bytes accesses_received) ≡ length r.bytes
+region_length : (place now stag : ℕ) (regions : List Region) (accesses_received : List TaggedSegment) (r : Region) → AreOffered place regions → region_at regions stag ≡ Some r → length (contents (region_grants now regions) r.stag r.bytes accesses_received) ≡ length r.bytes
 unfolding region_grants
-region-length place now stag regions accesses_received r h e =
-    let same = stag-found regions stag r e in
-    contents-length (grants_from now regions) r.stag r.bytes accesses_received (length r.bytes) refl
-    (λ end. subst (λ (s : ℕ). sized_by (grant_offer (found s end (grants_from now regions))) (length r.bytes)) (sym same) (sized-found place now end stag regions r h e))
+region_length place now stag regions accesses_received r h e =
+    let same = stag_found regions stag r e in
+    contents_length (grants_from now regions) r.stag r.bytes accesses_received (length r.bytes) refl
+    (λ end. subst (λ (s : ℕ). sized_by (grant_offer (found s end (grants_from now regions))) (length r.bytes)) (sym same) (sized_found place now end stag regions r h e))
 
 -- an end denies what its grants deny
 pub denied_alike : (regions : List Region) (accesses_received : List TaggedSegment) (place end : ℕ) (m : RegisteredMemory) (access : Access) → AreOffered place regions → HoldsRegions regions accesses_received place m → place < end →
     denial m access ≡ grant_denial (region_grants end regions) access end
 denied_alike regions accesses_received place end m access fits holds lt =
-    judged regions accesses_received place end m access fits holds lt (λ r e. region-length place place access.stag regions accesses_received r fits e)
+    judged regions accesses_received place end m access fits holds lt (λ r e. region_length place place access.stag regions accesses_received r fits e)
 
 -- ---- A later place
 
-self-alike : (place now later : ℕ) (regions : List Region) → place ≤ now → place ≤ later → AreAlike place now later regions regions
-self-alike place now later [] low high = tt
-self-alike place now later (r ∷ regions) low high =
-    (record { stag = refl; right = refl; bytes = refl; from = refl; until = λ end le. by r.until end le }, self-alike place now later regions low high)
+self_alike : (place now later : ℕ) (regions : List Region) → place ≤ now → place ≤ later → AreAlike place now later regions regions
+self_alike place now later [] low high = tt
+self_alike place now later (r ∷ regions) low high =
+    (record { stag = refl; right = refl; bytes = refl; from = refl; until = λ end le. by r.until end le }, self_alike place now later regions low high)
   where
     by : (u : Option ℕ) (end : ℕ) → end ≤ place → leb end (until_or now u) ≡ leb end (until_or later u)
     by None end le = le-leb end now (omega (arith, le, low)) ∙ sym (le-leb end later (omega (arith, le, high)))
     by (Some until) end le = refl
 
-held-alike : (place now later : ℕ) (regions others : List Region) (accesses_received : List TaggedSegment) (o : Option Region) → AreAlike place now later regions others → AreReceived place accesses_received →
+held_alike : (place now later : ℕ) (regions others : List Region) (accesses_received : List TaggedSegment) (o : Option Region) → AreAlike place now later regions others → AreReceived place accesses_received →
     registered_region (region_grants now regions) accesses_received o ≡ registered_region (region_grants later others) accesses_received o
 unfolding region_grants
-held-alike place now later regions others accesses_received None alike received = refl
-held-alike place now later regions others accesses_received (Some r) alike received =
+held_alike place now later regions others accesses_received None alike received = refl
+held_alike place now later regions others accesses_received (Some r) alike received =
     ap (λ (b : List ℕ). held_if_open r.until (record { right = r.right; buf = b }))
-    (contents-same place (grants_from now regions) (grants_from later others) r.stag r.bytes accesses_received (λ end le. alike-offers place now later r.stag end regions others alike le) received)
+    (contents_same place (grants_from now regions) (grants_from later others) r.stag r.bytes accesses_received (λ end le. alike_offers place now later r.stag end regions others alike le) received)
 
-pub holds-later : (regions : List Region) (accesses_received : List TaggedSegment) (place later : ℕ) (m : RegisteredMemory) → place ≤ later → AreReceived place accesses_received → HoldsRegions regions accesses_received place m → HoldsRegions regions accesses_received later m
-holds-later regions accesses_received place later m le received holds stag =
-    holds stag ∙ held-alike place place later regions regions accesses_received (region_at regions stag) (self-alike place place later regions (omega arith) le) received
+pub holds_later : (regions : List Region) (accesses_received : List TaggedSegment) (place later : ℕ) (m : RegisteredMemory) → place ≤ later → AreReceived place accesses_received → HoldsRegions regions accesses_received place m → HoldsRegions regions accesses_received later m
+holds_later regions accesses_received place later m le received holds stag =
+    holds stag ∙ held_alike place place later regions regions accesses_received (region_at regions stag) (self_alike place place later regions (omega arith) le) received
 
 -- ---- An access
 
-contents-append : (gs : List Grant) (stag : ℕ) (bytes : List ℕ) (accesses_received : List TaggedSegment) (r : TaggedSegment) → contents gs stag bytes (accesses_received ++ r ∷ []) ≡ after_segment gs stag (contents gs stag bytes accesses_received) r
-contents-append gs stag bytes [] r = refl
-contents-append gs stag bytes (x ∷ accesses_received) r = contents-append gs stag (after_segment gs stag bytes x) accesses_received r
+contents_append : (gs : List Grant) (stag : ℕ) (bytes : List ℕ) (accesses_received : List TaggedSegment) (r : TaggedSegment) → contents gs stag bytes (accesses_received ++ r ∷ []) ≡ after_segment gs stag (contents gs stag bytes accesses_received) r
+contents_append gs stag bytes [] r = refl
+contents_append gs stag bytes (x ∷ accesses_received) r = contents_append gs stag (after_segment gs stag bytes x) accesses_received r
 
-dead-stays : (m : RegisteredMemory) (r : TaggedSegment) (stag : ℕ) → live_region m stag ≡ None → live_region (after_event m (Arrive r)) stag ≡ None
+dead_stays : (m : RegisteredMemory) (r : TaggedSegment) (stag : ℕ) → live_region m stag ≡ None → live_region (after_event m (Arrive r)) stag ≡ None
 unfolding after_event denial
-dead-stays m r stag none = elim (cases_eq stag r.stag) [
+dead_stays m r stag none = elim (cases_eq stag r.stag) [
   | inl e ↦
       let here : live_region m r.stag ≡ None = subst (λ (s : ℕ). live_region m s ≡ None) e none in
-      ap (λ (o : Option HeldRegion). live_region (after_arrival (denial_in (region_offer o) (access_of r)) m r) stag) here ∙ none
-  | inr ne ↦ live-held (after_event m (Arrive r)) stag ∙ arrive_other m r stag ne ∙ sym (live-held m stag) ∙ none
+      ap (λ (o : Option HeldRegion). live_region (after_arrival (denial_in (region_offer o) (access_of_tagged r)) m r) stag) here ∙ none
+  | inr ne ↦ live_held (after_event m (Arrive r)) stag ∙ arrive_other m r stag ne ∙ sym (live_held m stag) ∙ none
 ]
 
-pub holds-access : (regions : List Region) (accesses_received : List TaggedSegment) (place : ℕ) (m : RegisteredMemory) (r : TaggedSegment) → AreOffered place regions → AreReceived place accesses_received →
+pub holds_access : (regions : List Region) (accesses_received : List TaggedSegment) (place : ℕ) (m : RegisteredMemory) (r : TaggedSegment) → AreOffered place regions → AreReceived place accesses_received →
     ((stag : ℕ) (x : Region) → region_at regions stag ≡ Some x → stag < m.next) → place < r.end → HoldsRegions regions accesses_received place m →
     HoldsRegions regions (accesses_received ++ r ∷ []) r.end (after_event m (Arrive r))
 unfolding region_grants grant_at
-holds-access regions accesses_received place m r fits received below lt holds stag =
-    by (region_at regions stag) refl (holds-later regions accesses_received place r.end m (omega (arith, lt)) received holds stag)
+holds_access regions accesses_received place m r fits received below lt holds stag =
+    by (region_at regions stag) refl (holds_later regions accesses_received place r.end m (omega (arith, lt)) received holds stag)
   where
     gs : List Grant
     gs = grants_from r.end regions
 
     by_until : (x : Region) (u : Option ℕ) → x.until ≡ u → region_at regions stag ≡ Some x → live_region m stag ≡ held_if_open u (record { right = x.right; buf = contents gs x.stag x.bytes accesses_received })
         → live_region (after_event m (Arrive r)) stag ≡ held_if_open u (record { right = x.right; buf = contents gs x.stag x.bytes (accesses_received ++ r ∷ []) })
-    by_until x (Some until) u_is is live = dead-stays m r stag live
+    by_until x (Some until) u_is is live = dead_stays m r stag live
     by_until x None u_is is live =
-        let same : x.stag ≡ stag = stag-found regions stag x is in
+        let same : x.stag ≡ stag = stag_found regions stag x is in
         let buf : List ℕ = contents gs stag x.bytes accesses_received in
         let there : held_region m stag ≡ Some (record { right = x.right; buf = buf }) =
-        sym (live-held m stag) ∙ live ∙ ap (λ (s : ℕ). Some (record { right = x.right; buf = contents gs s x.bytes accesses_received })) same in
+        sym (live_held m stag) ∙ live ∙ ap (λ (s : ℕ). Some (record { right = x.right; buf = contents gs s x.bytes accesses_received })) same in
         let offers : grant_offer (found stag r.end gs) ≡ Some (x.right, length x.bytes) =
         granted place r.end stag regions fits lt ∙ ap offer_of is ∙ ap (λ (u : Option ℕ). offer_if_open u x.right (length x.bytes)) u_is in
-        let sized : length buf ≡ length x.bytes = ap (λ (s : ℕ). length (contents gs s x.bytes accesses_received)) (sym same) ∙ region-length place r.end stag regions accesses_received x fits is in
-        live-held (after_event m (Arrive r)) stag
+        let sized : length buf ≡ length x.bytes = ap (λ (s : ℕ). length (contents gs s x.bytes accesses_received)) (sym same) ∙ region_length place r.end stag regions accesses_received x fits is in
+        live_held (after_event m (Arrive r)) stag
         ∙ contents_are gs stag x.right (length x.bytes) (Arrive r ∷ []) m buf sized (below stag x is) there (tt, (λ e. offers), tt)
-        ∙ ap (λ (b : List ℕ). Some (record { right = x.right; buf = b })) (sym (contents-append gs stag x.bytes accesses_received r))
+        ∙ ap (λ (b : List ℕ). Some (record { right = x.right; buf = b })) (sym (contents_append gs stag x.bytes accesses_received r))
         ∙ ap (λ (s : ℕ). Some (record { right = x.right; buf = contents gs s x.bytes (accesses_received ++ r ∷ []) })) (sym same)
 
     by : (o : Option Region) → region_at regions stag ≡ o → live_region m stag ≡ registered_region gs accesses_received o → live_region (after_event m (Arrive r)) stag ≡ registered_region gs (accesses_received ++ r ∷ []) o
-    by None is live = dead-stays m r stag live
+    by None is live = dead_stays m r stag live
     by (Some x) is live = by_until x x.until refl is live
 
 -- ---- Closed regions
@@ -140,10 +140,10 @@ closed_option test place (Some r) = Some (closed_if (test r) place r)
 abbrev ClosedIs : (Region → Bool) → (place stag : ℕ) → List Region → Option Region → Type 0
 ClosedIs test place stag regions o = region_at (closed_list test place regions) stag ≡ closed_option test place o
 
-closed-at : (test : Region → Bool) (place stag : ℕ) (regions : List Region) (o : Option Region) → region_at regions stag ≡ o → ClosedIs test place stag regions o
-closed-at test place stag [] None e = refl
-closed-at test place stag [] (Some r) e = absurd cc
-closed-at test place stag (x ∷ regions) o e = by (eqb x.stag stag) refl e (λ h. closed-at test place stag regions o h)
+closed_at : (test : Region → Bool) (place stag : ℕ) (regions : List Region) (o : Option Region) → region_at regions stag ≡ o → ClosedIs test place stag regions o
+closed_at test place stag [] None e = refl
+closed_at test place stag [] (Some r) e = absurd cc
+closed_at test place stag (x ∷ regions) o e = by (eqb x.stag stag) refl e (λ h. closed_at test place stag regions o h)
   where
     others : Option Region
     others = region_at (closed_list test place regions) stag
@@ -162,9 +162,9 @@ closed-at test place stag (x ∷ regions) o e = by (eqb x.stag stag) refl e (λ 
         ∙ ap (λ (b : Bool). cond b (Some (closed_if (test x) place x)) others) is
         ∙ later e
 
-closed-alike : (test : Region → Bool) (place later : ℕ) (regions : List Region) → place ≤ later → AreAlike place place later regions (closed_list test later regions)
-closed-alike test place later [] le = tt
-closed-alike test place later (r ∷ regions) le = (by (test r), closed-alike test place later regions le)
+closed_alike : (test : Region → Bool) (place later : ℕ) (regions : List Region) → place ≤ later → AreAlike place place later regions (closed_list test later regions)
+closed_alike test place later [] le = tt
+closed_alike test place later (r ∷ regions) le = (by (test r), closed_alike test place later regions le)
   where
     until_alike : (u : Option ℕ) (end : ℕ) → end ≤ place → leb end (until_or place u) ≡ leb end (until_or later (until_at later u))
     until_alike None end low = le-leb end place low ∙ sym (le-leb end later (omega (arith, low, le)))
@@ -178,10 +178,10 @@ closed-alike test place later (r ∷ regions) le = (by (test r), closed-alike te
     by true = record { stag = refl; right = refl; bytes = refl; from = refl; until = until_alike r.until }
     by false = record { stag = refl; right = refl; bytes = refl; from = refl; until = open_alike r.until }
 
-pub holds-closed : (test : Region → Bool) (regions : List Region) (accesses_received : List TaggedSegment) (place later : ℕ) (m after : RegisteredMemory) → place ≤ later → AreReceived place accesses_received → ReleasesClosed test regions m after →
+pub holds_closed : (test : Region → Bool) (regions : List Region) (accesses_received : List TaggedSegment) (place later : ℕ) (m after : RegisteredMemory) → place ≤ later → AreReceived place accesses_received → ReleasesClosed test regions m after →
     HoldsRegions regions accesses_received place m → HoldsRegions (regions_closed test later regions) accesses_received later after
 unfolding regions_closed
-holds-closed test regions accesses_received place later m after le received releases holds stag =
+holds_closed test regions accesses_received place later m after le received releases holds stag =
     by (region_at regions stag) refl (releases stag) (holds stag)
   where
     closed : List Region
@@ -195,7 +195,7 @@ holds-closed test regions accesses_received place later m after le received rele
         dead None = refl
         dead (Some until) = refl
     by_test x false is live =
-        is ∙ live ∙ held-alike place place later regions closed accesses_received (Some x) (closed-alike test place later regions le) received
+        is ∙ live ∙ held_alike place place later regions closed accesses_received (Some x) (closed_alike test place later regions le) received
 
     by : (o : Option Region) → region_at regions stag ≡ o → live_region after stag ≡ cond (is_closed_by test (region_at regions stag)) None (live_region m stag) → live_region m stag ≡ registered_region (region_grants place regions) accesses_received (region_at regions stag)
         → live_region after stag ≡ registered_region (region_grants later closed) accesses_received (region_at closed stag)
@@ -204,12 +204,12 @@ holds-closed test regions accesses_received place later m after le received rele
         ∙ ap (λ (o : Option Region). cond (is_closed_by test o) None (live_region m stag)) is
         ∙ live
         ∙ ap (λ (o : Option Region). registered_region (region_grants place regions) accesses_received o) is
-        ∙ ap (λ (o : Option Region). registered_region (region_grants later closed) accesses_received o) (sym (closed-at test later stag regions None is))
+        ∙ ap (λ (o : Option Region). registered_region (region_grants later closed) accesses_received o) (sym (closed_at test later stag regions None is))
     by (Some x) is released live =
         by_test x (test x)
         (released ∙ ap (λ (o : Option Region). cond (is_closed_by test o) None (live_region m stag)) is)
         (live ∙ ap (λ (o : Option Region). registered_region (region_grants place regions) accesses_received o) is)
-        ∙ ap (λ (o : Option Region). registered_region (region_grants later closed) accesses_received o) (sym (closed-at test later stag regions (Some x) is))
+        ∙ ap (λ (o : Option Region). registered_region (region_grants later closed) accesses_received o) (sym (closed_at test later stag regions (Some x) is))
 
 -- ---- One more region
 
@@ -217,10 +217,10 @@ abbrev or_region : Option Region → Option Region → Option Region
 or_region None other = other
 or_region (Some r) other = Some r
 
-at-append : (regions : List Region) (r : Region) (stag : ℕ) (o : Option Region) → region_at regions stag ≡ o → region_at (regions ++ r ∷ []) stag ≡ or_region o (cond (eqb r.stag stag) (Some r) None)
-at-append [] r stag None e = refl
-at-append [] r stag (Some x) e = absurd cc
-at-append (y ∷ regions) r stag o e = by (eqb y.stag stag) refl e (λ h. at-append regions r stag o h)
+at_append : (regions : List Region) (r : Region) (stag : ℕ) (o : Option Region) → region_at regions stag ≡ o → region_at (regions ++ r ∷ []) stag ≡ or_region o (cond (eqb r.stag stag) (Some r) None)
+at_append [] r stag None e = refl
+at_append [] r stag (Some x) e = absurd cc
+at_append (y ∷ regions) r stag o e = by (eqb y.stag stag) refl e (λ h. at_append regions r stag o h)
   where
     by : (b : Bool) → eqb y.stag stag ≡ b → cond b (Some y) (region_at regions stag) ≡ o → (region_at regions stag ≡ o → region_at (regions ++ r ∷ []) stag ≡ or_region o (cond (eqb r.stag stag) (Some r) None))
         → cond (eqb y.stag stag) (Some y) (region_at (regions ++ r ∷ []) stag) ≡ or_region o (cond (eqb r.stag stag) (Some r) None)
@@ -229,47 +229,47 @@ at-append (y ∷ regions) r stag o e = by (eqb y.stag stag) refl e (λ h. at-app
     by false is e later = ap (λ (b : Bool). cond b (Some y) (region_at (regions ++ r ∷ []) stag)) is ∙ later e
 
 -- a region that begins at a place is granted to no frame that ends there or before
-append-offers : (now place stag end : ℕ) (regions : List Region) (r : Region) → r.from ≡ place → end ≤ place → grant_offer (found stag end (grants_from now regions)) ≡ grant_offer (found stag end (grants_from now (regions ++ r ∷ [])))
-append-offers now place stag end [] r from le =
+append_offers : (now place stag end : ℕ) (regions : List Region) (r : Region) → r.from ≡ place → end ≤ place → grant_offer (found stag end (grants_from now regions)) ≡ grant_offer (found stag end (grants_from now (regions ++ r ∷ [])))
+append_offers now place stag end [] r from le =
     (let none : ltb r.from end ≡ false = le-ltb r.from end (omega (arith, from, le)) in
     sym (ap (λ (b : Bool). grant_offer (cond (eqb r.stag stag && (b && leb end (until_or now r.until))) (Some (region_grant now r)) None)) none ∙ and-false (eqb r.stag stag)))
   where
     and-false : (b : Bool) → grant_offer (cond (b && false) (Some (region_grant now r)) None) ≡ None
     and-false true = refl
     and-false false = refl
-append-offers now place stag end (x ∷ regions) r from le = by (applies stag end (region_grant now x)) (append-offers now place stag end regions r from le)
+append_offers now place stag end (x ∷ regions) r from le = by (applies stag end (region_grant now x)) (append_offers now place stag end regions r from le)
   where
     by : (b : Bool) → grant_offer (found stag end (grants_from now regions)) ≡ grant_offer (found stag end (grants_from now (regions ++ r ∷ [])))
         → grant_offer (cond b (Some (region_grant now x)) (found stag end (grants_from now regions))) ≡ grant_offer (cond b (Some (region_grant now x)) (found stag end (grants_from now (regions ++ r ∷ []))))
     by true h = refl
     by false h = h
 
-none-offered : (place now end stag : ℕ) (regions : List Region) (r : Region) → region_at regions stag ≡ None → r.from ≡ place → end ≤ place → grant_offer (found stag end (grants_from now (regions ++ r ∷ []))) ≡ None
-none-offered place now end stag regions r none from le =
-    sym (append-offers now place stag end regions r from le) ∙ ap grant_offer (none-found now end stag regions none)
+none_offered : (place now end stag : ℕ) (regions : List Region) (r : Region) → region_at regions stag ≡ None → r.from ≡ place → end ≤ place → grant_offer (found stag end (grants_from now (regions ++ r ∷ []))) ≡ None
+none_offered place now end stag regions r none from le =
+    sym (append_offers now place stag end regions r from le) ∙ ap grant_offer (none_found_lem now end stag regions none)
 
 -- without an region_offer nothing is placed
-after-empty : (stag : ℕ) (bytes : List ℕ) (r : TaggedSegment) → after_segment [] stag bytes r ≡ bytes
+after_empty : (stag : ℕ) (bytes : List ℕ) (r : TaggedSegment) → after_segment [] stag bytes r ≡ bytes
 unfolding grant_denial grant_at
-after-empty stag bytes r = by (eqb r.stag stag)
+after_empty stag bytes r = by (eqb r.stag stag)
   where
     by : (b : Bool) → cond (b && false) (bytes_after_write bytes r.to r.payload) bytes ≡ bytes
     by true = refl
     by false = refl
 
-contents-empty : (stag : ℕ) (bytes : List ℕ) (accesses_received : List TaggedSegment) → contents [] stag bytes accesses_received ≡ bytes
-contents-empty stag bytes [] = refl
-contents-empty stag bytes (r ∷ accesses_received) =
-    ap (λ (b : List ℕ). contents [] stag b accesses_received) (after-empty stag bytes r) ∙ contents-empty stag bytes accesses_received
+contents_empty : (stag : ℕ) (bytes : List ℕ) (accesses_received : List TaggedSegment) → contents [] stag bytes accesses_received ≡ bytes
+contents_empty stag bytes [] = refl
+contents_empty stag bytes (r ∷ accesses_received) =
+    ap (λ (b : List ℕ). contents [] stag b accesses_received) (after_empty stag bytes r) ∙ contents_empty stag bytes accesses_received
 
-contents-none : (place : ℕ) (gs : List Grant) (stag : ℕ) (bytes : List ℕ) (accesses_received : List TaggedSegment) → ((end : ℕ) → end ≤ place → grant_offer (found stag end gs) ≡ None) → AreReceived place accesses_received → contents gs stag bytes accesses_received ≡ bytes
-contents-none place gs stag bytes accesses_received none received =
-    contents-same place gs [] stag bytes accesses_received (λ end le. none end le) received ∙ contents-empty stag bytes accesses_received
+contents_none : (place : ℕ) (gs : List Grant) (stag : ℕ) (bytes : List ℕ) (accesses_received : List TaggedSegment) → ((end : ℕ) → end ≤ place → grant_offer (found stag end gs) ≡ None) → AreReceived place accesses_received → contents gs stag bytes accesses_received ≡ bytes
+contents_none place gs stag bytes accesses_received none received =
+    contents_same place gs [] stag bytes accesses_received (λ end le. none end le) received ∙ contents_empty stag bytes accesses_received
 
-pub holds-registered : (regions : List Region) (accesses_received : List TaggedSegment) (place : ℕ) (m : RegisteredMemory) (r : Region) → AreReceived place accesses_received → region_at regions m.next ≡ None →
+pub holds_registered : (regions : List Region) (accesses_received : List TaggedSegment) (place : ℕ) (m : RegisteredMemory) (r : Region) → AreReceived place accesses_received → region_at regions m.next ≡ None →
     r.stag ≡ m.next → r.from ≡ place → r.until ≡ None → HoldsRegions regions accesses_received place m → HoldsRegions (regions ++ r ∷ []) accesses_received place (after_register m r.right r.bytes)
 unfolding region_grants
-holds-registered regions accesses_received place m r received fresh is_next from is_open holds stag =
+holds_registered regions accesses_received place m r received fresh is_next from is_open holds stag =
     by (region_at regions stag) refl (holds stag)
   where
     gs : List Grant
@@ -282,7 +282,7 @@ holds-registered regions accesses_received place m r received fresh is_next from
     after = after_register m r.right r.bytes
 
     old : stag ≢ m.next → live_region after stag ≡ live_region m stag
-    old ne = live-held after stag ∙ register_other m r.right r.bytes stag ne ∙ sym (live-held m stag)
+    old ne = live_held after stag ∙ register_other m r.right r.bytes stag ne ∙ sym (live_held m stag)
 
     by : (o : Option Region) → region_at regions stag ≡ o → live_region m stag ≡ registered_region gs accesses_received (region_at regions stag) → live_region after stag ≡ registered_region hs accesses_received (region_at (regions ++ r ∷ []) stag)
     by (Some x) is live =
@@ -290,51 +290,51 @@ holds-registered regions accesses_received place m r received fresh is_next from
         ∙ live
         ∙ ap (λ (o : Option Region). registered_region gs accesses_received o) is
         ∙ ap (λ (b : List ℕ). held_if_open x.until (record { right = x.right; buf = b }))
-        (contents-same place gs hs x.stag x.bytes accesses_received (λ end le. append-offers place place x.stag end regions r from le) received)
-        ∙ ap (λ (o : Option Region). registered_region hs accesses_received o) (sym (at-append regions r stag (Some x) is))
+        (contents_same place gs hs x.stag x.bytes accesses_received (λ end le. append_offers place place x.stag end regions r from le) received)
+        ∙ ap (λ (o : Option Region). registered_region hs accesses_received o) (sym (at_append regions r stag (Some x) is))
     by None is live = elim (cases_eq stag m.next) [
       | inl e ↦
           let same : r.stag ≡ stag = is_next ∙ sym e in
           let none : region_at regions r.stag ≡ None = ap (λ (s : ℕ). region_at regions s) same ∙ is in
-          live-held after stag
+          live_held after stag
           ∙ ap (λ (s : ℕ). held_region after s) e
           ∙ register_here m r.right r.bytes
-          ∙ ap (λ (b : List ℕ). Some (record { right = r.right; buf = b })) (sym (contents-none place hs r.stag r.bytes accesses_received (λ end le. none-offered place place end r.stag regions r none from le) received))
+          ∙ ap (λ (b : List ℕ). Some (record { right = r.right; buf = b })) (sym (contents_none place hs r.stag r.bytes accesses_received (λ end le. none_offered place place end r.stag regions r none from le) received))
           ∙ ap (λ (u : Option ℕ). held_if_open u (record { right = r.right; buf = contents hs r.stag r.bytes accesses_received })) (sym is_open)
           ∙ ap (λ (b : Bool). registered_region hs accesses_received (cond b (Some r) None)) (sym (eq-eqb r.stag stag same))
-          ∙ ap (λ (o : Option Region). registered_region hs accesses_received o) (sym (at-append regions r stag None is))
+          ∙ ap (λ (o : Option Region). registered_region hs accesses_received o) (sym (at_append regions r stag None is))
       | inr ne ↦
           old ne
           ∙ live
           ∙ ap (λ (o : Option Region). registered_region gs accesses_received o) is
           ∙ ap (λ (b : Bool). registered_region hs accesses_received (cond b (Some r) None)) (sym (ne_eqb r.stag stag (λ e. ne (sym e ∙ is_next))))
-          ∙ ap (λ (o : Option Region). registered_region hs accesses_received o) (sym (at-append regions r stag None is))
+          ∙ ap (λ (o : Option Region). registered_region hs accesses_received o) (sym (at_append regions r stag None is))
     ]
 
 -- ---- Regions and accesses along a after_events
 
-pub received-later : (place later : ℕ) (accesses_received : List TaggedSegment) → place ≤ later → AreReceived place accesses_received → AreReceived later accesses_received
-received-later place later [] le h = tt
-received-later place later (r ∷ accesses_received) le h = ((let a = h.0 in omega (arith, a, le)), received-later place later accesses_received le h.1)
+pub received_later : (place later : ℕ) (accesses_received : List TaggedSegment) → place ≤ later → AreReceived place accesses_received → AreReceived later accesses_received
+received_later place later [] le h = tt
+received_later place later (r ∷ accesses_received) le h = ((let a = h.0 in omega (arith, a, le)), received_later place later accesses_received le h.1)
 
-pub received-one : (place : ℕ) (accesses_received : List TaggedSegment) (r : TaggedSegment) → place ≤ r.end → AreReceived place accesses_received → AreReceived r.end (accesses_received ++ r ∷ [])
-received-one place [] r le h = (omega arith, tt)
-received-one place (x ∷ accesses_received) r le h = ((let a = h.0 in omega (arith, a, le)), received-one place accesses_received r le h.1)
+pub received_one : (place : ℕ) (accesses_received : List TaggedSegment) (r : TaggedSegment) → place ≤ r.end → AreReceived place accesses_received → AreReceived r.end (accesses_received ++ r ∷ [])
+received_one place [] r le h = (omega arith, tt)
+received_one place (x ∷ accesses_received) r le h = ((let a = h.0 in omega (arith, a, le)), received_one place accesses_received r le h.1)
 
-some-later : (u : Option ℕ) (place later : ℕ) → place ≤ later → IfSome u (λ until. until ≤ place) → IfSome u (λ until. until ≤ later)
-some-later None place later le h = tt
-some-later (Some until) place later le h = omega (arith, h, le)
+some_later : (u : Option ℕ) (place later : ℕ) → place ≤ later → IfSome u (λ until. until ≤ place) → IfSome u (λ until. until ≤ later)
+some_later None place later le h = tt
+some_later (Some until) place later le h = omega (arith, h, le)
 
-pub offered-later : (place later : ℕ) (regions : List Region) → place ≤ later → AreOffered place regions → AreOffered later regions
-offered-later place later [] le h = tt
-offered-later place later (r ∷ regions) le h =
-    ((let a = h.0 in omega (arith, a, le)), (some-later r.until place later le h.1.0, (h.1.1.0, offered-later place later regions le h.1.1.1)))
+pub offered_later : (place later : ℕ) (regions : List Region) → place ≤ later → AreOffered place regions → AreOffered later regions
+offered_later place later [] le h = tt
+offered_later place later (r ∷ regions) le h =
+    ((let a = h.0 in omega (arith, a, le)), (some_later r.until place later le h.1.0, (h.1.1.0, offered_later place later regions le h.1.1.1)))
 
-pub offered-closed : (test : Region → Bool) (place later : ℕ) (regions : List Region) → place ≤ later → AreOffered place regions → AreOffered later (regions_closed test later regions)
+pub offered_closed : (test : Region → Bool) (place later : ℕ) (regions : List Region) → place ≤ later → AreOffered place regions → AreOffered later (regions_closed test later regions)
 unfolding regions_closed
-offered-closed test place later [] le h = tt
-offered-closed test place later (r ∷ regions) le h =
-    by (test r) (closed-at test later r.stag regions None h.1.1.0) (offered-closed test place later regions le h.1.1.1)
+offered_closed test place later [] le h = tt
+offered_closed test place later (r ∷ regions) le h =
+    by (test r) (closed_at test later r.stag regions None h.1.1.0) (offered_closed test place later regions le h.1.1.1)
   where
     until_fits : (u : Option ℕ) → IfSome u (λ until. until ≤ place) → IfSome (until_at later u) (λ until. until ≤ later)
     until_fits None h = omega arith
@@ -342,14 +342,14 @@ offered-closed test place later (r ∷ regions) le h =
 
     by : (b : Bool) → region_at (closed_list test later regions) r.stag ≡ None → AreOffered later (closed_list test later regions) → AreOffered later (closed_if b later r ∷ closed_list test later regions)
     by true none rest = ((let a = h.0 in omega (arith, a, le)), (until_fits r.until h.1.0, (none, rest)))
-    by false none rest = ((let a = h.0 in omega (arith, a, le)), (some-later r.until place later le h.1.0, (none, rest)))
+    by false none rest = ((let a = h.0 in omega (arith, a, le)), (some_later r.until place later le h.1.0, (none, rest)))
 
-pub offered-registered : (place : ℕ) (regions : List Region) (r : Region) → r.from ≤ place → r.until ≡ None → region_at regions r.stag ≡ None → AreOffered place regions → AreOffered place (regions ++ r ∷ [])
-offered-registered place [] r from is_open fresh h = (from, (subst (λ (u : Option ℕ). IfSome u (λ until. until ≤ place)) (sym is_open) tt, (refl, tt)))
-offered-registered place (x ∷ regions) r from is_open fresh h = by (eqb x.stag r.stag) refl fresh (λ none. offered-registered place regions r from is_open none h.1.1.1)
+pub offered_registered : (place : ℕ) (regions : List Region) (r : Region) → r.from ≤ place → r.until ≡ None → region_at regions r.stag ≡ None → AreOffered place regions → AreOffered place (regions ++ r ∷ [])
+offered_registered place [] r from is_open fresh h = (from, (subst (λ (u : Option ℕ). IfSome u (λ until. until ≤ place)) (sym is_open) tt, (refl, tt)))
+offered_registered place (x ∷ regions) r from is_open fresh h = by (eqb x.stag r.stag) refl fresh (λ none. offered_registered place regions r from is_open none h.1.1.1)
   where
     by : (b : Bool) → eqb x.stag r.stag ≡ b → cond b (Some x) (region_at regions r.stag) ≡ None → (region_at regions r.stag ≡ None → AreOffered place (regions ++ r ∷ [])) → AreOffered place (x ∷ (regions ++ r ∷ []))
     by true is none later = absurd (let wrong : Some x ≡ None = none in cc)
     by false is none later =
         let apart : eqb r.stag x.stag ≡ false = ne_eqb r.stag x.stag (λ e. (let wrong : true ≡ false = sym (eq-eqb x.stag r.stag (sym e)) ∙ is in cc)) in
-        (h.0, (h.1.0, (at-append regions r x.stag None h.1.1.0 ∙ ap (λ (b : Bool). cond b (Some r) None) apart, later none)))
+        (h.0, (h.1.0, (at_append regions r x.stag None h.1.1.0 ∙ ap (λ (b : Bool). cond b (Some r) None) apart, later none)))

@@ -6,8 +6,8 @@ use Rattle.std.proofs.lemmas.Bool.{eqb-true, eq-eqb, cases_eq, lt-ltb, le-leb, l
 use Rattle.nr_regions.specs.declared.right.Right.{Right}
 use Rattle.nr_regions.specs.declared.denied.Denied.{Denied}
 use Rattle.nr_regions.specs.RegisteredMemory.{RegisteredMemory, Access, denial_in, region_offer, denial, bytes_after_write}
-use Rattle.nr_regions.specs.Access.{Grant, TaggedSegment, applies, grant_at, grant_offer, grant_denial, access_of, after_segment, contents}
-use Rattle.nr_regions.proofs.Holding.{length-bytes_after_write, within}
+use Rattle.nr_regions.specs.Access.{Grant, TaggedSegment, applies, grant_at, grant_offer, grant_denial, access_of_tagged, after_segment, contents}
+use Rattle.nr_regions.proofs.Holding.{length_bytes_after_write, within}
 use Rattle.nr_regions.proofs.Contents.{same_denial, after_other}
 use Rattle.nr_reduce.specs.OfferedRegions.{Region, until_or, region_grant, region_grants}
 use Rattle.nr_reduce.specs.OfferedMemory.{region_at, AreOffered, AreReceived, held_if_open, registered_region, HoldsRegions}
@@ -20,9 +20,9 @@ grants_from place regions = map (region_grant place) regions
 abbrev pub found : ℕ → ℕ → List Grant → Option Grant
 found stag end grants = find (applies stag end) grants
 
-pub none-found : (place end stag : ℕ) (regions : List Region) → region_at regions stag ≡ None → found stag end (grants_from place regions) ≡ None
-none-found place end stag [] h = refl
-none-found place end stag (r ∷ regions) h = by (eqb r.stag stag) refl h (none-found place end stag regions)
+pub none_found_lem : (place end stag : ℕ) (regions : List Region) → region_at regions stag ≡ None → found stag end (grants_from place regions) ≡ None
+none_found_lem place end stag [] h = refl
+none_found_lem place end stag (r ∷ regions) h = by (eqb r.stag stag) refl h (none_found_lem place end stag regions)
   where
     rest : Bool
     rest = ltb r.from end && leb end (until_or place r.until)
@@ -62,7 +62,7 @@ granted place end stag (r ∷ regions) h lt = by (eqb r.stag stag) refl (granted
     by : (b : Bool) → eqb r.stag stag ≡ b → grant_offer others ≡ offer_of (region_at regions stag) → grant_offer (found stag end (grants_from end (r ∷ regions))) ≡ offer_of (cond b (Some r) (region_at regions stag))
     by true is later =
         let same : r.stag ≡ stag = eqb-true r.stag stag is in
-        let none : others ≡ None = none-found end end stag regions (subst (λ (s : ℕ). region_at regions s ≡ None) same h.1.1.0) in
+        let none : others ≡ None = none_found_lem end end stag regions (subst (λ (s : ℕ). region_at regions s ≡ None) same h.1.1.0) in
         ap (λ (b : Bool). grant_offer (cond (b && (ltb r.from end && leb end (until_or end r.until))) (Some (region_grant end r)) others)) is
         ∙ by_until r.until refl h.1.0 none
     by false is later =
@@ -70,28 +70,28 @@ granted place end stag (r ∷ regions) h lt = by (eqb r.stag stag) refl (granted
 
 -- ---- What the grants of two moments have in common
 
-after-same : (gs hs : List Grant) (stag : ℕ) (bytes : List ℕ) (r : TaggedSegment) → grant_offer (found stag r.end gs) ≡ grant_offer (found stag r.end hs) → after_segment gs stag bytes r ≡ after_segment hs stag bytes r
+after_same : (gs hs : List Grant) (stag : ℕ) (bytes : List ℕ) (r : TaggedSegment) → grant_offer (found stag r.end gs) ≡ grant_offer (found stag r.end hs) → after_segment gs stag bytes r ≡ after_segment hs stag bytes r
 unfolding grant_denial grant_at
-after-same gs hs stag bytes r same = by (eqb r.stag stag) refl
+after_same gs hs stag bytes r same = by (eqb r.stag stag) refl
   where
     by : (b : Bool) → eqb r.stag stag ≡ b →
-        cond (eqb r.stag stag && is_none (denial_in (grant_offer (found r.stag r.end gs)) (access_of r))) (bytes_after_write bytes r.to r.payload) bytes
-        ≡ cond (eqb r.stag stag && is_none (denial_in (grant_offer (found r.stag r.end hs)) (access_of r))) (bytes_after_write bytes r.to r.payload) bytes
+        cond (eqb r.stag stag && is_none (denial_in (grant_offer (found r.stag r.end gs)) (access_of_tagged r))) (bytes_after_write bytes r.to r.payload) bytes
+        ≡ cond (eqb r.stag stag && is_none (denial_in (grant_offer (found r.stag r.end hs)) (access_of_tagged r))) (bytes_after_write bytes r.to r.payload) bytes
     by true is =
         let e : r.stag ≡ stag = eqb-true r.stag stag is in
         let both : grant_offer (found r.stag r.end gs) ≡ grant_offer (found r.stag r.end hs) =
         ap (λ (s : ℕ). grant_offer (found s r.end gs)) e ∙ same ∙ ap (λ (s : ℕ). grant_offer (found s r.end hs)) (sym e) in
-        ap (λ (o : Option (Right × ℕ)). cond (eqb r.stag stag && is_none (denial_in o (access_of r))) (bytes_after_write bytes r.to r.payload) bytes) both
+        ap (λ (o : Option (Right × ℕ)). cond (eqb r.stag stag && is_none (denial_in o (access_of_tagged r))) (bytes_after_write bytes r.to r.payload) bytes) both
     by false is =
-        ap (λ (b : Bool). cond (b && is_none (denial_in (grant_offer (found r.stag r.end gs)) (access_of r))) (bytes_after_write bytes r.to r.payload) bytes) is
-        ∙ ap (λ (b : Bool). cond (b && is_none (denial_in (grant_offer (found r.stag r.end hs)) (access_of r))) (bytes_after_write bytes r.to r.payload) bytes) (sym is)
+        ap (λ (b : Bool). cond (b && is_none (denial_in (grant_offer (found r.stag r.end gs)) (access_of_tagged r))) (bytes_after_write bytes r.to r.payload) bytes) is
+        ∙ ap (λ (b : Bool). cond (b && is_none (denial_in (grant_offer (found r.stag r.end hs)) (access_of_tagged r))) (bytes_after_write bytes r.to r.payload) bytes) (sym is)
 
-pub contents-same : (place : ℕ) (gs hs : List Grant) (stag : ℕ) (bytes : List ℕ) (accesses_received : List TaggedSegment) → ((end : ℕ) → end ≤ place → grant_offer (found stag end gs) ≡ grant_offer (found stag end hs)) → AreReceived place accesses_received →
+pub contents_same : (place : ℕ) (gs hs : List Grant) (stag : ℕ) (bytes : List ℕ) (accesses_received : List TaggedSegment) → ((end : ℕ) → end ≤ place → grant_offer (found stag end gs) ≡ grant_offer (found stag end hs)) → AreReceived place accesses_received →
     contents gs stag bytes accesses_received ≡ contents hs stag bytes accesses_received
-contents-same place gs hs stag bytes [] same h = refl
-contents-same place gs hs stag bytes (r ∷ accesses_received) same h =
-    ap (λ (b : List ℕ). contents gs stag b accesses_received) (after-same gs hs stag bytes r (same r.end h.0))
-    ∙ contents-same place gs hs stag (after_segment hs stag bytes r) accesses_received same h.1
+contents_same place gs hs stag bytes [] same h = refl
+contents_same place gs hs stag bytes (r ∷ accesses_received) same h =
+    ap (λ (b : List ℕ). contents gs stag b accesses_received) (after_same gs hs stag bytes r (same r.end h.0))
+    ∙ contents_same place gs hs stag (after_segment hs stag bytes r) accesses_received same h.1
 
 -- regions that are alike for frames up to a place: only their ends may differ, and those not before it
 pub record IsAlike (place one two : ℕ) (r s : Region) : Type 0 where
@@ -107,21 +107,21 @@ AreAlike place one two [] (s ∷ ss) = ⊥
 AreAlike place one two (r ∷ rs) [] = ⊥
 AreAlike place one two (r ∷ rs) (s ∷ ss) = IsAlike place one two r s × AreAlike place one two rs ss
 
-both-found : (b c : Bool) (g h : Grant) (o p : Option Grant) → b ≡ c → grant_offer (Some g) ≡ grant_offer (Some h) → grant_offer o ≡ grant_offer p → grant_offer (cond b (Some g) o) ≡ grant_offer (cond c (Some h) p)
-both-found b true g h o p e same rest = ap (λ (x : Bool). grant_offer (cond x (Some g) o)) e ∙ same
-both-found b false g h o p e same rest = ap (λ (x : Bool). grant_offer (cond x (Some g) o)) e ∙ rest
+both_found : (b c : Bool) (g h : Grant) (o p : Option Grant) → b ≡ c → grant_offer (Some g) ≡ grant_offer (Some h) → grant_offer o ≡ grant_offer p → grant_offer (cond b (Some g) o) ≡ grant_offer (cond c (Some h) p)
+both_found b true g h o p e same rest = ap (λ (x : Bool). grant_offer (cond x (Some g) o)) e ∙ same
+both_found b false g h o p e same rest = ap (λ (x : Bool). grant_offer (cond x (Some g) o)) e ∙ rest
 
-pub alike-offers : (place one two stag end : ℕ) (rs ss : List Region) → AreAlike place one two rs ss → end ≤ place → grant_offer (found stag end (grants_from one rs)) ≡ grant_offer (found stag end (grants_from two ss))
-alike-offers place one two stag end [] [] h le = refl
-alike-offers place one two stag end [] (s ∷ ss) h le = absurd h
-alike-offers place one two stag end (r ∷ rs) [] h le = absurd h
-alike-offers place one two stag end (r ∷ rs) (s ∷ ss) h le =
+pub alike_offers : (place one two stag end : ℕ) (rs ss : List Region) → AreAlike place one two rs ss → end ≤ place → grant_offer (found stag end (grants_from one rs)) ≡ grant_offer (found stag end (grants_from two ss))
+alike_offers place one two stag end [] [] h le = refl
+alike_offers place one two stag end [] (s ∷ ss) h le = absurd h
+alike_offers place one two stag end (r ∷ rs) [] h le = absurd h
+alike_offers place one two stag end (r ∷ rs) (s ∷ ss) h le =
     let a = h.0 in
     let u = a.until end le in
-    both-found (applies stag end (region_grant one r)) (applies stag end (region_grant two s)) (region_grant one r) (region_grant two s) (found stag end (grants_from one rs)) (found stag end (grants_from two ss))
+    both_found (applies stag end (region_grant one r)) (applies stag end (region_grant two s)) (region_grant one r) (region_grant two s) (found stag end (grants_from one rs)) (found stag end (grants_from two ss))
     (λ i. eqb (a.stag i) stag && (ltb (a.from i) end && u i))
     (λ i. Some (a.right i, length (a.bytes i)))
-    (alike-offers place one two stag end rs ss h.1 le)
+    (alike_offers place one two stag end rs ss h.1 le)
 
 -- ---- Access by access
 
@@ -147,26 +147,26 @@ abbrev pub sized_by : (o : Option (Right × ℕ)) (n : ℕ) → Type 0
 sized_by None n = Unit {0}
 sized_by (Some x) n = x.1 ≡ n
 
-after-length : (gs : List Grant) (stag : ℕ) (bytes : List ℕ) (r : TaggedSegment) (n : ℕ) → length bytes ≡ n → sized_by (grant_offer (found stag r.end gs)) n → length (after_segment gs stag bytes r) ≡ n
+after_length : (gs : List Grant) (stag : ℕ) (bytes : List ℕ) (r : TaggedSegment) (n : ℕ) → length bytes ≡ n → sized_by (grant_offer (found stag r.end gs)) n → length (after_segment gs stag bytes r) ≡ n
 unfolding grant_denial grant_at
-after-length gs stag bytes r n is sized = elim (cases_eq r.stag stag) [
+after_length gs stag bytes r n is sized = elim (cases_eq r.stag stag) [
   | inl e ↦ here e (grant_offer (found r.stag r.end gs)) refl (subst (λ (s : ℕ). sized_by (grant_offer (found s r.end gs)) n) (sym e) sized)
   | inr ne ↦ ap length (after_other gs stag bytes r ne) ∙ is
 ]
   where
-    by : (right : Right) (len : ℕ) → len ≡ n → (d : Option Denied) → denial_in (Some (right, len)) (access_of r) ≡ d → length (cond (is_none d) (bytes_after_write bytes r.to r.payload) bytes) ≡ n
+    by : (right : Right) (len : ℕ) → len ≡ n → (d : Option Denied) → denial_in (Some (right, len)) (access_of_tagged r) ≡ d → length (cond (is_none d) (bytes_after_write bytes r.to r.payload) bytes) ≡ n
     by right len same None e =
-        let fits : denial_in (Some (right, length bytes)) (access_of r) ≡ None = ap (λ (k : ℕ). denial_in (Some (right, k)) (access_of r)) (is ∙ sym same) ∙ e in
-        length-bytes_after_write bytes r.to r.payload (within right bytes r fits) ∙ is
+        let fits : denial_in (Some (right, length bytes)) (access_of_tagged r) ≡ None = ap (λ (k : ℕ). denial_in (Some (right, k)) (access_of_tagged r)) (is ∙ sym same) ∙ e in
+        length_bytes_after_write bytes r.to r.payload (within right bytes r fits) ∙ is
     by right len same (Some denied) e = is
 
     here : r.stag ≡ stag → (o : Option (Right × ℕ)) → grant_offer (found r.stag r.end gs) ≡ o → sized_by o n → length (after_segment gs stag bytes r) ≡ n
     here e None o_is low =
-        (λ i. length (cond (eq-eqb r.stag stag e i && is_none (denial_in (o_is i) (access_of r))) (bytes_after_write bytes r.to r.payload) bytes)) ∙ is
+        (λ i. length (cond (eq-eqb r.stag stag e i && is_none (denial_in (o_is i) (access_of_tagged r))) (bytes_after_write bytes r.to r.payload) bytes)) ∙ is
     here e (Some x) o_is low =
-        (λ i. length (cond (eq-eqb r.stag stag e i && is_none (denial_in (o_is i) (access_of r))) (bytes_after_write bytes r.to r.payload) bytes))
-        ∙ by x.0 x.1 low (denial_in (Some (x.0, x.1)) (access_of r)) refl
+        (λ i. length (cond (eq-eqb r.stag stag e i && is_none (denial_in (o_is i) (access_of_tagged r))) (bytes_after_write bytes r.to r.payload) bytes))
+        ∙ by x.0 x.1 low (denial_in (Some (x.0, x.1)) (access_of_tagged r)) refl
 
-pub contents-length : (gs : List Grant) (stag : ℕ) (bytes : List ℕ) (accesses_received : List TaggedSegment) (n : ℕ) → length bytes ≡ n → ((end : ℕ) → sized_by (grant_offer (found stag end gs)) n) → length (contents gs stag bytes accesses_received) ≡ n
-contents-length gs stag bytes [] n is sized = is
-contents-length gs stag bytes (r ∷ accesses_received) n is sized = contents-length gs stag (after_segment gs stag bytes r) accesses_received n (after-length gs stag bytes r n is (sized r.end)) sized
+pub contents_length : (gs : List Grant) (stag : ℕ) (bytes : List ℕ) (accesses_received : List TaggedSegment) (n : ℕ) → length bytes ≡ n → ((end : ℕ) → sized_by (grant_offer (found stag end gs)) n) → length (contents gs stag bytes accesses_received) ≡ n
+contents_length gs stag bytes [] n is sized = is
+contents_length gs stag bytes (r ∷ accesses_received) n is sized = contents_length gs stag (after_segment gs stag bytes r) accesses_received n (after_length gs stag bytes r n is (sized r.end)) sized

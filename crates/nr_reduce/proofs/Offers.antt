@@ -57,8 +57,8 @@ joined_entries memory position handle offset (n ∷ lengths) =
     ∙ sym (take-add n (sum lengths) (drop offset (memory handle)))
     ∙ ap (λ (k : ℕ). take k (drop offset (memory handle))) (sym (sum_by-cons (λ (k : ℕ). k) n lengths))
 
-pub region-length : (payload : List ℕ) (at size : ℕ) → length (given_region payload at size) ≡ size
-region-length payload at size =
+pub region_length : (payload : List ℕ) (at size : ℕ) → length (given_region payload at size) ≡ size
+region_length payload at size =
     omega (arith, length-append (take size (drop at payload)) (replicate (size - length (take size (drop at payload))) 0), length-replicate {A = ℕ} (size - length (take size (drop at payload))) 0, length-take size (drop at payload))
 
 brought : (payload : List ℕ) (memory : Bytes) (at stag : ℕ) (lengths : List ℕ) → memory stag ≡ given_region payload at (sum lengths)
@@ -68,7 +68,7 @@ brought payload memory at stag lengths holds =
     ap (λ (es : List ReadSegment). flat_map (entry_bytes memory) es) (at_all at stag 0 lengths)
     ∙ joined_entries memory at stag 0 lengths
     ∙ ap (λ (xs : List ℕ). take (sum lengths) xs) holds
-    ∙ take_all (sum lengths) (given_region payload at (sum lengths)) (let l = region-length payload at (sum lengths) in omega (arith, l))
+    ∙ take_all (sum lengths) (given_region payload at (sum lengths)) (let l = region_length payload at (sum lengths) in omega (arith, l))
 
 pub no_item : (stag offset : ℕ) (lengths : List ℕ) → item_position (entries_from 0 stag offset lengths) ≡ None
 unfolding item_position

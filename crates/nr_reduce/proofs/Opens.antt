@@ -22,15 +22,15 @@ use Rattle.nr_reduce.specs.declared.item.Of.TheVariants.{Call}
 use Rattle.nr_reduce.specs.declared.outline.Plan.{Plan}
 use Rattle.nr_reduce.specs.Plans.{plan_of, regions_needed, lists_of, inline_stream, call_message}
 use Rattle.nr_reduce.specs.Chunks.{is_read_chunk_of_item, is_read_chunk_at, is_item, item_position, position_of, total_at}
-use Rattle.nr_reduce.specs.Undone.{IsNotGiven}
+use Rattle.nr_reduce.specs.ChunkBytes.{IsNotGiven}
 use Rattle.nr_reduce.specs.ServerState.{ServerState, is_pending}
 use Rattle.nr_reduce.specs.ServerMessages.{Verdict, verdict, by_header, by_body, by_stream, by_need}
 use Rattle.nr_reduce.specs.ServerMessages.Verdict.{BadChunks}
-use Rattle.nr_reduce.proofs.Looks.{item_stands}
+use Rattle.nr_reduce.proofs.ItemSearch.{item_stands}
 use Rattle.nr_reduce.proofs.Undone.{reducible}
-use Rattle.nr_reduce.proofs.Shapes.{Offering, offered, IsSmall, MessageKind, shape, IsKind, is_plan}
-use Rattle.nr_reduce.proofs.Shapes.MessageKind.{Short, Chunked, Long}
-use Rattle.nr_reduce.proofs.Asking.{lists, lists-shape, body_of, stream_in, reads-shape}
+use Rattle.nr_reduce.proofs.PlanKinds.{Offering, offered, IsSmall, MessageKind, shape, IsKind, is_plan}
+use Rattle.nr_reduce.proofs.PlanKinds.MessageKind.{Short, Chunked, Long}
+use Rattle.nr_reduce.proofs.Asking.{lists, lists_shape, body_of, stream_in, reads_shape}
 use Rattle.nr_xdr.specs.Fields.{word_at}
 
 -- a body that a call has
@@ -119,13 +119,13 @@ inline_of payload Short = Some payload
 inline_of payload (Chunked i) = Some (stream_of payload i)
 inline_of payload Long = None
 
-inline-shape : (payload : List ℕ) (way : MessageKind) (w r : Offering) → IsBytes payload → IsKind payload way → inline_of payload way ≡ inline_stream (shape payload way (offered w) (offered r))
-inline-shape payload Short w r fits is = refl
-inline-shape payload (Chunked i) w r fits is =
+inline_shape : (payload : List ℕ) (way : MessageKind) (w r : Offering) → IsBytes payload → IsKind payload way → inline_of payload way ≡ inline_stream (shape payload way (offered w) (offered r))
+inline_shape payload Short w r fits is = refl
+inline_shape payload (Chunked i) w r fits is =
     let stands = item_stands Call payload i fits (reducible Call payload i is).item in
     let least = stands.least in
     ap (λ (b : Bool). cond b None (Some (stream_of payload i))) (sym (ne_eqb i.pos 0 (λ e. omega (arith, e, least))))
-inline-shape payload Long w r fits is = refl
+inline_shape payload Long w r fits is = refl
 
 -- A stream suits its read list, and a call in one chunk waits for it.
 opens_way : (k : ServerState) (xid : ℕ) (payload : List ℕ) (way : MessageKind) (w r : Offering) (stag : ℕ) (head : List ℕ) → IsBytes payload → IsKind payload way → 0 < length payload
@@ -171,9 +171,9 @@ opens_call k payload form up down xid credit stag p fits own e some fits_x fits_
     by_shape : (way : MessageKind) (w r : Offering) → IsKind payload way → IsSmall w → IsSmall r → length payload ≤ PAYLOAD_MAX → stag + regions_needed (shape payload way (offered w) (offered r)) ≤ 2 ^ 32
         → verdict k (call_message xid credit stag (shape payload way (offered w) (offered r))) ≡ by_need k (record { number = k.received.sends + 1; xid = xid; lists = lists_of stag (shape payload way (offered w) (offered r)); inline = inline_stream (shape payload way (offered w) (offered r)) })
     by_shape way w r is_kind small_w small_r size room =
-        let m = reads-shape payload way w r xid credit stag fits is_kind size small_w small_r fits_x fits_c room in
+        let m = reads_shape payload way w r xid credit stag fits is_kind size small_w small_r fits_x fits_c room in
         let h : Header = record { xid = xid; credit = credit; body = body_of way (lists payload way w r stag) } in
         ap (λ (bytes : List ℕ). verdict k bytes) m.0
         ∙ judged_call k (header_encoding h ++ stream_in payload way) (header_again h) m.1 (is_call way (lists payload way w r stag) (length (header_encoding h))) free
         ∙ opens_way k xid payload way w r stag (header_encoding h) fits is_kind some
-        ∙ (λ i. by_need k (record { number = k.received.sends + 1; xid = xid; lists = sym (lists-shape payload way w r stag) i; inline = inline-shape payload way w r fits is_kind i }))
+        ∙ (λ i. by_need k (record { number = k.received.sends + 1; xid = xid; lists = sym (lists_shape payload way w r stag) i; inline = inline_shape payload way w r fits is_kind i }))

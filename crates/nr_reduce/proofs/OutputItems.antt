@@ -15,37 +15,37 @@ use Rattle.nr_link.specs.OutputItem.{OutputItem, item_encoding, items_encoding, 
 use Rattle.nr_link.specs.OutputItem.OutputItem.{LastItem}
 use Rattle.nr_link.specs.ReceiveState.{ReadRequest, message_completed, read_request_of}
 use Rattle.nr_reduce.specs.declared.mark.LinkParameters.{LinkParameters}
-use Rattle.nr_reduce.specs.Events.{Event, events}
-use Rattle.nr_reduce.specs.Events.Event.{FrameReceived, CallSubmitted, MemoryRevoked, CallExecuted, QueueWritten}
-use Rattle.nr_reduce.specs.EndRules.{Rules, EndState, live, next_end_state, next_end_state_by, end_state_after, output_for_by, output_for_in, output_for_all}
+use Rattle.nr_reduce.specs.Events.{RunEvent, events}
+use Rattle.nr_reduce.specs.Events.RunEvent.{FrameReceived, CallSubmitted, MemoryRevoked, CallExecuted, QueueWritten}
+use Rattle.nr_reduce.specs.EndRules.{EndMachine, EndState, live, next_end_state, next_end_state_by, end_state_after, output_for_by, output_for_in, output_for_all}
 use Rattle.nr_reduce.specs.Written.{ends_left, ends_waiting}
 use Rattle.nr_reduce.specs.Plans.{call_message}
 use Rattle.nr_reduce.specs.ClientState.{OutstandingCall, ClientState}
 use Rattle.nr_reduce.specs.Client.{client_rules, client_state_after, client_output, initial_client, call_output, calls_output, call_ends, response_output, segment_request, outstanding_of, due_with_response, with_hello, with_message, with_request, with_segment}
 use Rattle.nr_reduce.specs.Run.{client, output_due}
-use Rattle.nr_reduce.specs.DueItems.{call_item, call_items, response_items, client_items_at, due_for_by, due_for_in, due_for_all, items_due, hello_due}
+use Rattle.nr_reduce.specs.DueItems.{sent_call_item, sent_call_items, response_items, client_items_at, due_for_by, due_for_in, due_for_all, items_due, hello_due}
 use Rattle.nr_reduce.specs.OutputLaws.{ClientOutputIsItems, ClientBytes, ServerBytes, ClientCountsItems}
-use Rattle.nr_reduce.proofs.Steps.{ended-stays}
-use Rattle.nr_reduce.proofs.WholeWrotes.{client-due}
-use Rattle.nr_reduce.proofs.CountedBytes.{some-none, client_bytes_written, client_bytes_due, server_bytes_written, server_bytes_due}
+use Rattle.nr_reduce.proofs.Steps.{ended_stays}
+use Rattle.nr_reduce.proofs.WholeWrotes.{client_due}
+use Rattle.nr_reduce.proofs.CountedBytes.{some_none, client_bytes_written, client_bytes_due, server_bytes_written, server_bytes_due}
 
 -- ---- Lists of items
 
-pub encoding-append : (xs ys : List OutputItem) → items_encoding (xs ++ ys) ≡ items_encoding xs ++ items_encoding ys
-encoding-append [] ys = refl
-encoding-append (x ∷ xs) ys = ap (λ (bs : List ℕ). item_encoding x ++ bs) (encoding-append xs ys) ∙ sym (append_assoc (item_encoding x) (items_encoding xs) (items_encoding ys))
+pub encoding_append : (xs ys : List OutputItem) → items_encoding (xs ++ ys) ≡ items_encoding xs ++ items_encoding ys
+encoding_append [] ys = refl
+encoding_append (x ∷ xs) ys = ap (λ (bs : List ℕ). item_encoding x ++ bs) (encoding_append xs ys) ∙ sym (append_assoc (item_encoding x) (items_encoding xs) (items_encoding ys))
 
-pub ends-append : (p : OutputItem → Bool) (at : ℕ) (xs ys : List OutputItem) → item_ends p at (xs ++ ys) ≡ item_ends p at xs ++ item_ends p (at + length (items_encoding xs)) ys
-ends-append p at [] ys = ap (λ (n : ℕ). item_ends p n ys) (let e : at ≡ at + 0 = omega arith in e)
-ends-append p at (x ∷ xs) ys =
+pub ends_append : (p : OutputItem → Bool) (at : ℕ) (xs ys : List OutputItem) → item_ends p at (xs ++ ys) ≡ item_ends p at xs ++ item_ends p (at + length (items_encoding xs)) ys
+ends_append p at [] ys = ap (λ (n : ℕ). item_ends p n ys) (let e : at ≡ at + 0 = omega arith in e)
+ends_append p at (x ∷ xs) ys =
     let here : List ℕ = cond (p x) ((at + length (item_encoding x)) ∷ []) [] in
     let place : (at + length (item_encoding x)) + length (items_encoding xs) ≡ at + length (item_encoding x ++ items_encoding xs) = omega (arith, length-append (item_encoding x) (items_encoding xs)) in
-    ap (λ (ends : List ℕ). here ++ ends) (ends-append p (at + length (item_encoding x)) xs ys ∙ ap (λ (n : ℕ). item_ends p (at + length (item_encoding x)) xs ++ item_ends p n ys) place)
+    ap (λ (ends : List ℕ). here ++ ends) (ends_append p (at + length (item_encoding x)) xs ys ∙ ap (λ (n : ℕ). item_ends p (at + length (item_encoding x)) xs ++ item_ends p n ys) place)
     ∙ sym (append_assoc here (item_ends p (at + length (item_encoding x)) xs) (item_ends p (at + length (item_encoding x ++ items_encoding xs)) ys))
 
-pub left-items : (p : OutputItem → Bool) (at n : ℕ) (items : List OutputItem) → ends_left n (item_ends p at items) ≡ items_written p at n items
-left-items p at n [] = refl
-left-items p at n (x ∷ items) = by (p x) (leb end n) (left-items p end n items)
+pub left_items : (p : OutputItem → Bool) (at n : ℕ) (items : List OutputItem) → ends_left n (item_ends p at items) ≡ items_written p at n items
+left_items p at n [] = refl
+left_items p at n (x ∷ items) = by (p x) (leb end n) (left_items p end n items)
   where
     end : ℕ
     end = at + length (item_encoding x)
@@ -61,9 +61,9 @@ left-items p at n (x ∷ items) = by (p x) (leb end n) (left-items p end n items
     by true c h = by_left (leb end n) h
     by false c h = omega (arith, h)
 
-pub waiting-items : (p : OutputItem → Bool) (at n : ℕ) (items : List OutputItem) → ends_waiting n (item_ends p at items) ≡ items_left p at n items
-waiting-items p at n [] = refl
-waiting-items p at n (x ∷ items) = by (p x) (waiting-items p end n items)
+pub waiting_items : (p : OutputItem → Bool) (at n : ℕ) (items : List OutputItem) → ends_waiting n (item_ends p at items) ≡ items_left p at n items
+waiting_items p at n [] = refl
+waiting_items p at n (x ∷ items) = by (p x) (waiting_items p end n items)
   where
     end : ℕ
     end = at + length (item_encoding x)
@@ -81,12 +81,12 @@ waiting-items p at n (x ∷ items) = by (p x) (waiting-items p end n items)
 
 -- ---- Along events
 
-module _ {S : Type 0} (rules : Rules S) (items_at : S → Event → List OutputItem) (step : (s : S) (e : Event) → rules.output_at s e ≡ items_encoding (items_at s e)) (last : (end : End) → rules.final_output end ≡ final_output end) where
-  pub items-along : (r : EndState S) (es : List Event) → output_for_all rules r es ≡ items_encoding (due_for_all rules items_at (λ end. LastItem end ∷ []) r es)
+module _ {S : Type 0} (rules : EndMachine S) (items_at : S → RunEvent → List OutputItem) (step : (s : S) (e : RunEvent) → rules.output_at s e ≡ items_encoding (items_at s e)) (last : (end : End) → rules.final_output end ≡ final_output end) where
+  pub items-along : (r : EndState S) (es : List RunEvent) → output_for_all rules r es ≡ items_encoding (due_for_all rules items_at (λ end. LastItem end ∷ []) r es)
   items-along r [] = refl
   items-along r (e ∷ es) =
       (λ i. by_ended r.ended i ++ items-along (next_end_state rules r e) es i)
-      ∙ sym (encoding-append (due_for_in rules items_at (λ end. LastItem end ∷ []) r.state e r.ended) (due_for_all rules items_at (λ end. LastItem end ∷ []) (next_end_state rules r e) es))
+      ∙ sym (encoding_append (due_for_in rules items_at (λ end. LastItem end ∷ []) r.state e r.ended) (due_for_all rules items_at (λ end. LastItem end ∷ []) (next_end_state rules r e) es))
     where
       by : (o : Option End) → output_for_by rules r.state e o ≡ items_encoding (due_for_by rules items_at (λ end. LastItem end ∷ []) r.state e o)
       by None = step r.state e
@@ -96,10 +96,10 @@ module _ {S : Type 0} (rules : Rules S) (items_at : S → Event → List OutputI
       by_ended None = by (rules.end_at r.state e)
       by_ended (Some end) = refl
 
-module _ {S : Type 0} (rules : Rules S) (items_at : S → Event → List OutputItem) (p : OutputItem → Bool) (due : S → ℕ) (ends : S → List ℕ)
-    (more : (s : S) (e : Event) → due (rules.state_after s e) ≡ due s + length (items_encoding (items_at s e)))
-    (step : (s : S) (e : Event) → ends (rules.state_after s e) ≡ ends s ++ item_ends p (due s) (items_at s e)) where
-  pub ends-along : (s : S) (es : List Event) → (end_state_after rules (live s) es).ended ≡ None
+module _ {S : Type 0} (rules : EndMachine S) (items_at : S → RunEvent → List OutputItem) (p : OutputItem → Bool) (due : S → ℕ) (ends : S → List ℕ)
+    (more : (s : S) (e : RunEvent) → due (rules.state_after s e) ≡ due s + length (items_encoding (items_at s e)))
+    (step : (s : S) (e : RunEvent) → ends (rules.state_after s e) ≡ ends s ++ item_ends p (due s) (items_at s e)) where
+  pub ends-along : (s : S) (es : List RunEvent) → (end_state_after rules (live s) es).ended ≡ None
       → ends (end_state_after rules (live s) es).state ≡ ends s ++ item_ends p (due s) (due_for_all rules items_at (λ end. LastItem end ∷ []) (live s) es)
   ends-along s [] stays = sym (append-nil (ends s))
   ends-along s (e ∷ es) stays = by (λ live_still. ends-along (rules.state_after s e) es live_still) (rules.end_at s e) stays
@@ -118,65 +118,65 @@ module _ {S : Type 0} (rules : Rules S) (items_at : S → Event → List OutputI
           later live_still
           ∙ (λ i. step s e i ++ item_ends p (more s e i) rest)
           ∙ append_assoc (ends s) (item_ends p (due s) (items_at s e)) (item_ends p (due s + length (items_encoding (items_at s e))) rest)
-          ∙ ap (λ (xs : List ℕ). ends s ++ xs) (sym (ends-append p (due s) (items_at s e) rest))
-      by later (Some end) ended = absurd (some-none end (sym (ap (λ (r : EndState S). r.ended) (ended-stays rules s end es).0) ∙ ended))
+          ∙ ap (λ (xs : List ℕ). ends s ++ xs) (sym (ends_append p (due s) (items_at s e) rest))
+      by later (Some end) ended = absurd (some_none end (sym (ap (λ (r : EndState S). r.ended) (ended_stays rules s end es).0) ∙ ended))
 
 -- ---- A number counts modulo 2 ^ 32
 
-pub send-word : (number : ℕ) (message : List ℕ) → send number message ≡ send (msn_word number) message
+pub send_word : (number : ℕ) (message : List ℕ) → send number message ≡ send (msn_word number) message
 unfolding send
-send-word number message = ap (λ (w : ℕ). cut (λ last offset payload. Untagged last OPCODE_SEND 0 QUEUE_SEND w offset payload) message) (sym (mod-mod number (2 ^ 32)))
+send_word number message = ap (λ (w : ℕ). cut (λ last offset payload. Untagged last OPCODE_SEND 0 QUEUE_SEND w offset payload) message) (sym (mod-mod number (2 ^ 32)))
 
-pub request-word : (number sink sink_to size stag to : ℕ) → read_request number sink sink_to size stag to ≡ read_request (msn_word number) sink sink_to size stag to
+pub request_word : (number sink sink_to size stag to : ℕ) → read_request number sink sink_to size stag to ≡ read_request (msn_word number) sink sink_to size stag to
 unfolding read_request
-request-word number sink sink_to size stag to =
+request_word number sink sink_to size stag to =
     ap (λ (w : ℕ). encoding (Untagged true OPCODE_READ_REQUEST 0 QUEUE_READ_REQUEST w 0 (word sink ++ (hyper sink_to ++ (word size ++ (word stag ++ hyper to)))))) (sym (mod-mod number (2 ^ 32)))
 
 -- ---- Of a client
 
-call-word : (opened : LinkParameters) (number : ℕ) (o : OutstandingCall) → call_output opened number o ≡ item_encoding (call_item opened number o)
-call-word opened number o = send-word number (call_message o.xid opened.wished o.stag o.plan)
+call_word : (opened : LinkParameters) (number : ℕ) (o : OutstandingCall) → call_output opened number o ≡ item_encoding (sent_call_item opened number o)
+call_word opened number o = send_word number (call_message o.xid opened.wished o.stag o.plan)
 
-calls-encoded : (opened : LinkParameters) (number : ℕ) (os : List OutstandingCall) → calls_output opened number os ≡ items_encoding (call_items opened number os)
-calls-encoded opened number [] = refl
-calls-encoded opened number (o ∷ os) = (λ i. call-word opened number o i ++ calls-encoded opened (number + 1) os i)
+calls_encoded : (opened : LinkParameters) (number : ℕ) (os : List OutstandingCall) → calls_output opened number os ≡ items_encoding (sent_call_items opened number os)
+calls_encoded opened number [] = refl
+calls_encoded opened number (o ∷ os) = (λ i. call_word opened number o i ++ calls_encoded opened (number + 1) os i)
 
-client-encoded : (opened : LinkParameters) (k : ClientState) (e : Event) → client_output opened k e ≡ items_encoding (client_items_at opened k e)
+client_encoded : (opened : LinkParameters) (k : ClientState) (e : RunEvent) → client_output opened k e ≡ items_encoding (client_items_at opened k e)
 unfolding client_output client_items_at
-client-encoded opened k (FrameReceived f) = by (is_hello f)
+client_encoded opened k (FrameReceived f) = by (is_hello f)
   where
     by_request : (q : Option ReadRequest) → response_output k f.end q ≡ items_encoding (response_items k f.end q)
     by_request None = refl
     by_request (Some r) = sym (append-nil (response_output k f.end (Some r)))
 
-    by : (b : Bool) → cond b (calls_output opened 1 k.outstanding) (response_output k f.end (segment_request (frame_segment f))) ≡ items_encoding (cond b (call_items opened 1 k.outstanding) (response_items k f.end (segment_request (frame_segment f))))
-    by true = calls-encoded opened 1 k.outstanding
+    by : (b : Bool) → cond b (calls_output opened 1 k.outstanding) (response_output k f.end (segment_request (frame_segment f))) ≡ items_encoding (cond b (sent_call_items opened 1 k.outstanding) (response_items k f.end (segment_request (frame_segment f))))
+    by true = calls_encoded opened 1 k.outstanding
     by false = by_request (segment_request (frame_segment f))
-client-encoded opened k (CallSubmitted place a) = by k.has_hello
+client_encoded opened k (CallSubmitted place a) = by k.has_hello
   where
-    by : (b : Bool) → cond b (call_output opened (k.calls_accepted + 1) (outstanding_of k a)) [] ≡ items_encoding (cond b (call_item opened (k.calls_accepted + 1) (outstanding_of k a) ∷ []) [])
-    by true = call-word opened (k.calls_accepted + 1) (outstanding_of k a) ∙ sym (append-nil (item_encoding (call_item opened (k.calls_accepted + 1) (outstanding_of k a))))
+    by : (b : Bool) → cond b (call_output opened (k.calls_accepted + 1) (outstanding_of k a)) [] ≡ items_encoding (cond b (sent_call_item opened (k.calls_accepted + 1) (outstanding_of k a) ∷ []) [])
+    by true = call_word opened (k.calls_accepted + 1) (outstanding_of k a) ∙ sym (append-nil (item_encoding (sent_call_item opened (k.calls_accepted + 1) (outstanding_of k a))))
     by false = refl
-client-encoded opened k (MemoryRevoked place xid) = refl
-client-encoded opened k (CallExecuted call) = refl
-client-encoded opened k (QueueWritten taken) = refl
+client_encoded opened k (MemoryRevoked place xid) = refl
+client_encoded opened k (CallExecuted call) = refl
+client_encoded opened k (QueueWritten taken) = refl
 
-client-more : (opened : LinkParameters) (k : ClientState) (e : Event) → (client_state_after opened k e).due ≡ k.due + length (items_encoding (client_items_at opened k e))
-client-more opened k e = client-due opened k e ∙ ap (λ (xs : List ℕ). k.due + length xs) (client-encoded opened k e)
+client_more : (opened : LinkParameters) (k : ClientState) (e : RunEvent) → (client_state_after opened k e).due ≡ k.due + length (items_encoding (client_items_at opened k e))
+client_more opened k e = client_due opened k e ∙ ap (λ (xs : List ℕ). k.due + length xs) (client_encoded opened k e)
 
-calls-end : (opened : LinkParameters) (due number : ℕ) (os : List OutstandingCall) → call_ends opened due number os ≡ item_ends is_send_item due (call_items opened number os)
-calls-end opened due number [] = refl
-calls-end opened due number (o ∷ os) =
-    ap (λ (ends : List ℕ). (due + length (call_output opened number o)) ∷ ends) (calls-end opened (due + length (call_output opened number o)) (number + 1) os)
-    ∙ ap (λ (bs : List ℕ). (due + length bs) ∷ item_ends is_send_item (due + length bs) (call_items opened (number + 1) os)) (call-word opened number o)
+calls_end : (opened : LinkParameters) (due number : ℕ) (os : List OutstandingCall) → call_ends opened due number os ≡ item_ends is_send_item due (sent_call_items opened number os)
+calls_end opened due number [] = refl
+calls_end opened due number (o ∷ os) =
+    ap (λ (ends : List ℕ). (due + length (call_output opened number o)) ∷ ends) (calls_end opened (due + length (call_output opened number o)) (number + 1) os)
+    ∙ ap (λ (bs : List ℕ). (due + length bs) ∷ item_ends is_send_item (due + length bs) (sent_call_items opened (number + 1) os)) (call_word opened number o)
 
-no-responses : (opened : LinkParameters) (due number : ℕ) (os : List OutstandingCall) → item_ends is_response_item due (call_items opened number os) ≡ []
-no-responses opened due number [] = refl
-no-responses opened due number (o ∷ os) = no-responses opened (due + length (item_encoding (call_item opened number o))) (number + 1) os
+no_responses : (opened : LinkParameters) (due number : ℕ) (os : List OutstandingCall) → item_ends is_response_item due (sent_call_items opened number os) ≡ []
+no_responses opened due number [] = refl
+no_responses opened due number (o ∷ os) = no_responses opened (due + length (item_encoding (sent_call_item opened number o))) (number + 1) os
 
-client-sends : (opened : LinkParameters) (k : ClientState) (e : Event) → (client_state_after opened k e).send_ends ≡ k.send_ends ++ item_ends is_send_item k.due (client_items_at opened k e)
+client_sends : (opened : LinkParameters) (k : ClientState) (e : RunEvent) → (client_state_after opened k e).send_ends ≡ k.send_ends ++ item_ends is_send_item k.due (client_items_at opened k e)
 unfolding client_state_after client_items_at
-client-sends opened k (FrameReceived f) = by (is_hello f)
+client_sends opened k (FrameReceived f) = by (is_hello f)
   where
     by_request : (m : Option (List ℕ)) (due : ℕ) (q : Option ReadRequest) → (with_request (with_message k f.end m) due q).send_ends ≡ k.send_ends ++ item_ends is_send_item k.due (response_items k f.end q)
     by_request None due None = sym (append-nil k.send_ends)
@@ -189,24 +189,24 @@ client-sends opened k (FrameReceived f) = by (is_hello f)
     by_segment (Ok segment) = by_request (message_completed k.received segment) (due_with_response k f segment) (read_request_of segment)
 
     by : (b : Bool) → (cond b (with_hello opened k) (with_segment k f (frame_segment f))).send_ends
-        ≡ k.send_ends ++ item_ends is_send_item k.due (cond b (call_items opened 1 k.outstanding) (response_items k f.end (segment_request (frame_segment f))))
-    by true = ap (λ (ends : List ℕ). k.send_ends ++ ends) (calls-end opened k.due 1 k.outstanding)
+        ≡ k.send_ends ++ item_ends is_send_item k.due (cond b (sent_call_items opened 1 k.outstanding) (response_items k f.end (segment_request (frame_segment f))))
+    by true = ap (λ (ends : List ℕ). k.send_ends ++ ends) (calls_end opened k.due 1 k.outstanding)
     by false = by_segment (frame_segment f)
-client-sends opened k (CallSubmitted place a) = by k.has_hello
+client_sends opened k (CallSubmitted place a) = by k.has_hello
   where
     one : List ℕ
     one = call_output opened (k.calls_accepted + 1) (outstanding_of k a)
 
-    by : (b : Bool) → k.send_ends ++ cond b ((k.due + length (cond b one [])) ∷ []) [] ≡ k.send_ends ++ item_ends is_send_item k.due (cond b (call_item opened (k.calls_accepted + 1) (outstanding_of k a) ∷ []) [])
-    by true = ap (λ (bs : List ℕ). k.send_ends ++ (k.due + length bs) ∷ []) (call-word opened (k.calls_accepted + 1) (outstanding_of k a))
+    by : (b : Bool) → k.send_ends ++ cond b ((k.due + length (cond b one [])) ∷ []) [] ≡ k.send_ends ++ item_ends is_send_item k.due (cond b (sent_call_item opened (k.calls_accepted + 1) (outstanding_of k a) ∷ []) [])
+    by true = ap (λ (bs : List ℕ). k.send_ends ++ (k.due + length bs) ∷ []) (call_word opened (k.calls_accepted + 1) (outstanding_of k a))
     by false = refl
-client-sends opened k (MemoryRevoked place xid) = sym (append-nil k.send_ends)
-client-sends opened k (CallExecuted call) = sym (append-nil k.send_ends)
-client-sends opened k (QueueWritten taken) = sym (append-nil k.send_ends)
+client_sends opened k (MemoryRevoked place xid) = sym (append-nil k.send_ends)
+client_sends opened k (CallExecuted call) = sym (append-nil k.send_ends)
+client_sends opened k (QueueWritten taken) = sym (append-nil k.send_ends)
 
-client-responses : (opened : LinkParameters) (k : ClientState) (e : Event) → (client_state_after opened k e).response_ends ≡ k.response_ends ++ item_ends is_response_item k.due (client_items_at opened k e)
+client_responses : (opened : LinkParameters) (k : ClientState) (e : RunEvent) → (client_state_after opened k e).response_ends ≡ k.response_ends ++ item_ends is_response_item k.due (client_items_at opened k e)
 unfolding client_state_after client_items_at
-client-responses opened k (FrameReceived f) = by (is_hello f)
+client_responses opened k (FrameReceived f) = by (is_hello f)
   where
     by_request : (m : Option (List ℕ)) (q : Option ReadRequest) → (with_request (with_message k f.end m) (k.due + length (response_output k f.end q)) q).response_ends ≡ k.response_ends ++ item_ends is_response_item k.due (response_items k f.end q)
     by_request None None = sym (append-nil k.response_ends)
@@ -219,22 +219,22 @@ client-responses opened k (FrameReceived f) = by (is_hello f)
     by_segment (Ok segment) = by_request (message_completed k.received segment) (read_request_of segment)
 
     by : (b : Bool) → (cond b (with_hello opened k) (with_segment k f (frame_segment f))).response_ends
-        ≡ k.response_ends ++ item_ends is_response_item k.due (cond b (call_items opened 1 k.outstanding) (response_items k f.end (segment_request (frame_segment f))))
-    by true = sym (append-nil k.response_ends) ∙ ap (λ (ends : List ℕ). k.response_ends ++ ends) (sym (no-responses opened k.due 1 k.outstanding))
+        ≡ k.response_ends ++ item_ends is_response_item k.due (cond b (sent_call_items opened 1 k.outstanding) (response_items k f.end (segment_request (frame_segment f))))
+    by true = sym (append-nil k.response_ends) ∙ ap (λ (ends : List ℕ). k.response_ends ++ ends) (sym (no_responses opened k.due 1 k.outstanding))
     by false = by_segment (frame_segment f)
-client-responses opened k (CallSubmitted place a) = by k.has_hello
+client_responses opened k (CallSubmitted place a) = by k.has_hello
   where
-    by : (b : Bool) → k.response_ends ≡ k.response_ends ++ item_ends is_response_item k.due (cond b (call_item opened (k.calls_accepted + 1) (outstanding_of k a) ∷ []) [])
+    by : (b : Bool) → k.response_ends ≡ k.response_ends ++ item_ends is_response_item k.due (cond b (sent_call_item opened (k.calls_accepted + 1) (outstanding_of k a) ∷ []) [])
     by true = sym (append-nil k.response_ends)
     by false = sym (append-nil k.response_ends)
-client-responses opened k (MemoryRevoked place xid) = sym (append-nil k.response_ends)
-client-responses opened k (CallExecuted call) = sym (append-nil k.response_ends)
-client-responses opened k (QueueWritten taken) = sym (append-nil k.response_ends)
+client_responses opened k (MemoryRevoked place xid) = sym (append-nil k.response_ends)
+client_responses opened k (CallExecuted call) = sym (append-nil k.response_ends)
+client_responses opened k (QueueWritten taken) = sym (append-nil k.response_ends)
 
-pub client_output-items : ClientOutputIsItems
+pub client_output_items : ClientOutputIsItems
 unfolding output_due items_due hello_due
-client_output-items opened link run =
-    ap (λ (xs : List ℕ). own_hello Initiator ++ xs) (items-along (client_rules opened) (client_items_at opened) (client-encoded opened) (λ end. refl) (initial_client opened) (events link Initiator run))
+client_output_items opened link run =
+    ap (λ (xs : List ℕ). own_hello Initiator ++ xs) (items-along (client_rules opened) (client_items_at opened) (client_encoded opened) (λ end. refl) (initial_client opened) (events link Initiator run))
 
 pub client_bytes : ClientBytes
 client_bytes opened link run stays = (client_bytes_due opened link run stays, client_bytes_written opened link run stays)
@@ -242,23 +242,23 @@ client_bytes opened link run stays = (client_bytes_due opened link run stays, cl
 pub server_bytes : ServerBytes
 server_bytes opened link run stays = (server_bytes_due opened link run stays, server_bytes_written opened link run stays)
 
-client_send_ends : (opened : LinkParameters) (es : List Event) → (end_state_after (client_rules opened) (initial_client opened) es).ended ≡ None
+client_send_ends : (opened : LinkParameters) (es : List RunEvent) → (end_state_after (client_rules opened) (initial_client opened) es).ended ≡ None
     → (end_state_after (client_rules opened) (initial_client opened) es).state.send_ends ≡ item_ends is_send_item (length (own_hello Initiator)) (due_for_all (client_rules opened) (client_items_at opened) (λ end. LastItem end ∷ []) (initial_client opened) es)
 client_send_ends opened es stays =
-    ends-along (client_rules opened) (client_items_at opened) is_send_item (λ (k : ClientState). k.due) (λ (k : ClientState). k.send_ends) (client-more opened) (client-sends opened) (initial_client opened).state es stays
+    ends-along (client_rules opened) (client_items_at opened) is_send_item (λ (k : ClientState). k.due) (λ (k : ClientState). k.send_ends) (client_more opened) (client_sends opened) (initial_client opened).state es stays
 
-client_response_ends : (opened : LinkParameters) (es : List Event) → (end_state_after (client_rules opened) (initial_client opened) es).ended ≡ None
+client_response_ends : (opened : LinkParameters) (es : List RunEvent) → (end_state_after (client_rules opened) (initial_client opened) es).ended ≡ None
     → (end_state_after (client_rules opened) (initial_client opened) es).state.response_ends ≡ item_ends is_response_item (length (own_hello Initiator)) (due_for_all (client_rules opened) (client_items_at opened) (λ end. LastItem end ∷ []) (initial_client opened) es)
 client_response_ends opened es stays =
-    ends-along (client_rules opened) (client_items_at opened) is_response_item (λ (k : ClientState). k.due) (λ (k : ClientState). k.response_ends) (client-more opened) (client-responses opened) (initial_client opened).state es stays
+    ends-along (client_rules opened) (client_items_at opened) is_response_item (λ (k : ClientState). k.due) (λ (k : ClientState). k.response_ends) (client_more opened) (client_responses opened) (initial_client opened).state es stays
 
-pub client_counts-items : ClientCountsItems
+pub client_counts_items : ClientCountsItems
 unfolding client items_due hello_due
-client_counts-items opened link run stays =
+client_counts_items opened link run stays =
     let es = events link Initiator run in
     let items = due_for_all (client_rules opened) (client_items_at opened) (λ end. LastItem end ∷ []) (initial_client opened) es in
     let at = length (own_hello Initiator) in
     let written = client_bytes_written opened link run stays in (
-      (λ i. ends_left (written i) (client_send_ends opened es stays i)) ∙ left-items is_send_item at _ items,
-      (λ i. ends_waiting (written i) (client_response_ends opened es stays i)) ∙ waiting-items is_response_item at _ items,
+      (λ i. ends_left (written i) (client_send_ends opened es stays i)) ∙ left_items is_send_item at _ items,
+      (λ i. ends_waiting (written i) (client_response_ends opened es stays i)) ∙ waiting_items is_response_item at _ items,
     )

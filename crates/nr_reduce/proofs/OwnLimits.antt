@@ -12,8 +12,8 @@ use Rattle.nr_reduce.specs.declared.call.Form.{Form}
 use Rattle.nr_reduce.specs.declared.outline.Plan.{Plan}
 use Rattle.nr_reduce.specs.Limits.{send_max}
 use Rattle.nr_reduce.specs.Plans.{TooLarge, plan_of}
-use Rattle.nr_reduce.specs.Events.{Event, events}
-use Rattle.nr_reduce.specs.Events.Event.{FrameReceived, CallSubmitted, MemoryRevoked, CallExecuted, QueueWritten}
+use Rattle.nr_reduce.specs.Events.{RunEvent, events}
+use Rattle.nr_reduce.specs.Events.RunEvent.{FrameReceived, CallSubmitted, MemoryRevoked, CallExecuted, QueueWritten}
 use Rattle.nr_reduce.specs.EndRules.{EndState, end_state_after}
 use Rattle.nr_reduce.specs.ClientState.{ClientState, call_payload, plan_for}
 use Rattle.nr_reduce.specs.Client.{client_rules, client_state_after, initial_client, with_hello, with_message, with_request, with_segment, due_with_response}
@@ -21,7 +21,7 @@ use Rattle.nr_reduce.specs.ServerState.{ServerState}
 use Rattle.nr_reduce.specs.Server.{server_rules, server_state_after, initial_server, with_own_hello, with_effect}
 use Rattle.nr_reduce.specs.ServerFrames.{frame_effect}
 use Rattle.nr_reduce.specs.Run.{client, server}
-use Rattle.nr_reduce.proofs.OwnStags.{kept-after}
+use Rattle.nr_reduce.proofs.OwnStags.{kept_after}
 
 pub record ClientLimits (k : ClientState) : Type 0 where
   pub up : k.up_max ≡ send_max
@@ -31,62 +31,62 @@ pub record ServerLimits (k : ServerState) : Type 0 where
   pub up : k.up_max ≡ send_max
   pub down : k.down_max ≡ send_max
 
-request-limits : (m : ClientState) (due : ℕ) (o : Option ReadRequest) → ClientLimits m → ClientLimits (with_request m due o)
-request-limits m due None h = h
-request-limits m due (Some q) h = record { up = h.up; down = h.down }
+request_limits : (m : ClientState) (due : ℕ) (o : Option ReadRequest) → ClientLimits m → ClientLimits (with_request m due o)
+request_limits m due None h = h
+request_limits m due (Some q) h = record { up = h.up; down = h.down }
 
-message-limits : (k : ClientState) (place : ℕ) (o : Option (List ℕ)) → ClientLimits k → ClientLimits (with_message k place o)
-message-limits k place None h = h
-message-limits k place (Some m) h = record { up = h.up; down = h.down }
+message_limits : (k : ClientState) (place : ℕ) (o : Option (List ℕ)) → ClientLimits k → ClientLimits (with_message k place o)
+message_limits k place None h = h
+message_limits k place (Some m) h = record { up = h.up; down = h.down }
 
-segment-limits : (k : ClientState) (f : Frame) (r : Result Segment ℕ) → ClientLimits k → ClientLimits (with_segment k f r)
-segment-limits k f (Err reason) h = h
-segment-limits k f (Ok s) h =
-    let m = request-limits (with_message k f.end (message_completed k.received s)) (due_with_response k f s) (read_request_of s) (message-limits k f.end (message_completed k.received s) h) in
+segment_limits : (k : ClientState) (f : Frame) (r : Result Segment ℕ) → ClientLimits k → ClientLimits (with_segment k f r)
+segment_limits k f (Err reason) h = h
+segment_limits k f (Ok s) h =
+    let m = request_limits (with_message k f.end (message_completed k.received s)) (due_with_response k f s) (read_request_of s) (message_limits k f.end (message_completed k.received s) h) in
     record { up = m.up; down = m.down }
 
-client-event : (opened : LinkParameters) (k : ClientState) (e : Event) → ClientLimits k → ClientLimits (client_state_after opened k e)
+client_event : (opened : LinkParameters) (k : ClientState) (e : RunEvent) → ClientLimits k → ClientLimits (client_state_after opened k e)
 unfolding client_state_after
-client-event opened k (FrameReceived f) h = by (is_hello f)
+client_event opened k (FrameReceived f) h = by (is_hello f)
   where
     by : (b : Bool) → ClientLimits (cond b (with_hello opened k) (with_segment k f (frame_segment f)))
     by true = record { up = h.up; down = h.down }
-    by false = segment-limits k f (frame_segment f) h
-client-event opened k (CallSubmitted p a) h = record { up = h.up; down = h.down }
-client-event opened k (MemoryRevoked p xid) h = record { up = h.up; down = h.down }
-client-event opened k (CallExecuted e) h = h
-client-event opened k (QueueWritten taken) h = record { up = h.up; down = h.down }
+    by false = segment_limits k f (frame_segment f) h
+client_event opened k (CallSubmitted p a) h = record { up = h.up; down = h.down }
+client_event opened k (MemoryRevoked p xid) h = record { up = h.up; down = h.down }
+client_event opened k (CallExecuted e) h = h
+client_event opened k (QueueWritten taken) h = record { up = h.up; down = h.down }
 
-pub client-limits : (opened : LinkParameters) (es : List Event) → ClientLimits (end_state_after (client_rules opened) (initial_client opened) es).state
-client-limits opened es = kept-after (client_rules opened) ClientLimits (client-event opened) (initial_client opened) es (record { up = refl; down = refl })
+pub client_limits : (opened : LinkParameters) (es : List RunEvent) → ClientLimits (end_state_after (client_rules opened) (initial_client opened) es).state
+client_limits opened es = kept_after (client_rules opened) ClientLimits (client_event opened) (initial_client opened) es (record { up = refl; down = refl })
 
-pub client-limits-of : (opened : LinkParameters) (link : ℕ) (run : List Mark) → ClientLimits (client opened link run).state
+pub client_limits_of : (opened : LinkParameters) (link : ℕ) (run : List Mark) → ClientLimits (client opened link run).state
 unfolding client
-client-limits-of opened link run = client-limits opened (events link Initiator run)
+client_limits_of opened link run = client_limits opened (events link Initiator run)
 
-pub server-event : (opened : LinkParameters) (k : ServerState) (e : Event) → ServerLimits k → ServerLimits (server_state_after opened k e)
+pub server_event : (opened : LinkParameters) (k : ServerState) (e : RunEvent) → ServerLimits k → ServerLimits (server_state_after opened k e)
 unfolding server_state_after
-server-event opened k (FrameReceived f) h = by (is_hello f)
+server_event opened k (FrameReceived f) h = by (is_hello f)
   where
     by : (b : Bool) → ServerLimits (cond b (with_own_hello k) (with_effect k f (frame_effect k f)))
     by true = record { up = h.up; down = h.down }
     by false = record { up = h.up; down = h.down }
-server-event opened k (CallSubmitted p a) h = h
-server-event opened k (MemoryRevoked p xid) h = h
-server-event opened k (CallExecuted e) h = record { up = h.up; down = h.down }
-server-event opened k (QueueWritten taken) h = record { up = h.up; down = h.down }
+server_event opened k (CallSubmitted p a) h = h
+server_event opened k (MemoryRevoked p xid) h = h
+server_event opened k (CallExecuted e) h = record { up = h.up; down = h.down }
+server_event opened k (QueueWritten taken) h = record { up = h.up; down = h.down }
 
-pub server-limits : (opened : LinkParameters) (es : List Event) → ServerLimits (end_state_after (server_rules opened) (initial_server opened) es).state
-server-limits opened es = kept-after (server_rules opened) ServerLimits (server-event opened) (initial_server opened) es (record { up = refl; down = refl })
+pub server_limits : (opened : LinkParameters) (es : List RunEvent) → ServerLimits (end_state_after (server_rules opened) (initial_server opened) es).state
+server_limits opened es = kept_after (server_rules opened) ServerLimits (server_event opened) (initial_server opened) es (record { up = refl; down = refl })
 
-pub server-limits-of : (opened : LinkParameters) (link : ℕ) (run : List Mark) → ServerLimits (server opened link run).state
+pub server_limits_of : (opened : LinkParameters) (link : ℕ) (run : List Mark) → ServerLimits (server opened link run).state
 unfolding server
-server-limits-of opened link run = server-limits opened (events link Responder run)
+server_limits_of opened link run = server_limits opened (events link Responder run)
 
 -- the plan of a call goes by these limits
-pub limited-plan : (k : ClientState) (xid : ℕ) (call : Call) (form : Form) (r : Result Plan TooLarge) → ClientLimits k → plan_for k xid call form ≡ r → plan_of (call_payload xid call) form send_max send_max ≡ r
+pub limited_plan : (k : ClientState) (xid : ℕ) (call : Call) (form : Form) (r : Result Plan TooLarge) → ClientLimits k → plan_for k xid call form ≡ r → plan_of (call_payload xid call) form send_max send_max ≡ r
 unfolding plan_for
-limited-plan k xid call form r l e =
+limited_plan k xid call form r l e =
     let up = sym l.up in
     let down = sym l.down in
     (λ i. plan_of (call_payload xid call) form (up i) (down i)) ∙ e

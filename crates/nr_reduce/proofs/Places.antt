@@ -7,7 +7,7 @@ use Rattle.nr_xdr.specs.Item.Item.{Unsigned, Hyper, Boolean, Opaque, Fixed}
 use Rattle.nr_xdr.specs.Items.{ReadsAll}
 use Rattle.nr_xdr.specs.Reading.{Cursor, Gives, cursor_past, fixed_at}
 use Rattle.nr_xdr.proofs.SequencingSteps.{chosen}
-use Rattle.nr_xdr.proofs.WordBytes.{length-word, length-hyper}
+use Rattle.nr_xdr.proofs.WordBytes.{length_word, length_hyper}
 use Rattle.nr_rpc.specs.Reading.{call_of, reply_of, target_of, GivesReply}
 use Rattle.nr_rpc.specs.declared.fault.HeadFault.{HeadFault}
 use Rattle.nr_rpc.specs.declared.fault.HeadFault.TheVariants as faults
@@ -25,13 +25,13 @@ use Rattle.nr_reduce.specs.declared.item.Item.{Item}
 use Rattle.nr_reduce.specs.declared.item.Of.{Of}
 use Rattle.nr_xdr.specs.Reading.{unsigned_at}
 use Rattle.nr_xdr.specs.Sequencing.{◌>>=◌, or_place, number_at}
-use Rattle.nr_nfs_base.specs.Codec.{cursor_behind}
+use Rattle.nr_nfs_base.specs.Codec.{cursor_after}
 use Rattle.nr_nfs_base.specs.Fronts.{write_args_front, symlink_args_front, readlink_res_front, read_res_front, read_args_front, readdir_args_front, readdirplus_args_front}
-use Rattle.nr_reduce.specs.Behind.{and_then, value_of, number_behind}
+use Rattle.nr_reduce.specs.AfterFront.{and_then, value_of, number_after}
 use Rattle.nr_reduce.specs.Items.{before_data, before_path, before_target, before_read, from_place, item_at, target_item, call_item, results_of, results_item, reply_item, item_of}
 use Rattle.nr_reduce.specs.Largest.{count_of, read_count, readdir_count, readdirplus_count, target_reply_max, largest_reply}
 use Rattle.nr_reduce.specs.Plans.{target_offer, write_offer}
-use Rattle.nr_reduce.proofs.Looks.{item_stands}
+use Rattle.nr_reduce.proofs.ItemSearch.{item_stands}
 
 -- ---- A reader at a place
 
@@ -72,13 +72,13 @@ sum_words : (m n k : ℕ) → k ≡ m + n → Words m → Words n → Words k
 sum_words m n k e p q = record { count = p.count + q.count; is = omega (arith, p.is, q.is) }
 
 item_words : (item : XdrItem) (bytes : List ℕ) → Reads item bytes → Words (length bytes)
-item_words (Unsigned n) bytes r = record { count = 1; is = ap length r.bytes_are ∙ length-word n }
-item_words (Hyper n) bytes r = record { count = 2; is = ap length r.bytes_are ∙ length-hyper n }
-item_words (Boolean b) bytes r = record { count = 1; is = ap length r.bytes_are ∙ length-word _ }
+item_words (Unsigned n) bytes r = record { count = 1; is = ap length r.bytes_are ∙ length_word n }
+item_words (Hyper n) bytes r = record { count = 2; is = ap length r.bytes_are ∙ length_hyper n }
+item_words (Boolean b) bytes r = record { count = 1; is = ap length r.bytes_are ∙ length_word _ }
 item_words (Opaque s) bytes r =
     let w = padded_words (length s) in record {
       count = 1 + w.count;
-      is = omega (arith, w.is, ap length r.bytes_are, length-append {A = ℕ}, length-word (length s), r.pad_is);
+      is = omega (arith, w.is, ap length r.bytes_are, length-append {A = ℕ}, length_word (length s), r.pad_is);
     }
 item_words (Fixed s) bytes r =
     let w = padded_words (length s) in record {
@@ -140,25 +140,25 @@ results_behind payload at fits e = by_reply payload (reply_of payload) at fits r
 -- ---- Items
 
 -- an item is read where what stands before it can be read
-item_behind : {A : Type 0} (r : Result (A × Cursor) ℕ) → item_at (r >>= λ x. Ok x.1) ≡ and_then (cursor_behind r) (λ (c : Cursor). item_at (Ok c))
-item_behind (Ok x) = refl
-item_behind (Err at) = refl
+item_after : {A : Type 0} (r : Result (A × Cursor) ℕ) → item_at (r >>= λ x. Ok x.1) ≡ and_then (cursor_after r) (λ (c : Cursor). item_at (Ok c))
+item_after (Ok x) = refl
+item_after (Err at) = refl
 
-pub item_in_write : (c : Cursor) → item_at (before_data c) ≡ and_then (cursor_behind (write_args_front.read c)) (λ (c : Cursor). item_at (Ok c))
+pub item_in_write : (c : Cursor) → item_at (before_data c) ≡ and_then (cursor_after (write_args_front.read c)) (λ (c : Cursor). item_at (Ok c))
 unfolding before_data
-item_in_write c = item_behind (write_args_front.read c)
+item_in_write c = item_after (write_args_front.read c)
 
-pub item_in_symlink : (c : Cursor) → item_at (before_path c) ≡ and_then (cursor_behind (symlink_args_front.read c)) (λ (c : Cursor). item_at (Ok c))
+pub item_in_symlink : (c : Cursor) → item_at (before_path c) ≡ and_then (cursor_after (symlink_args_front.read c)) (λ (c : Cursor). item_at (Ok c))
 unfolding before_path
-item_in_symlink c = item_behind (symlink_args_front.read c)
+item_in_symlink c = item_after (symlink_args_front.read c)
 
-pub item_in_readlink : (c : Cursor) → item_at (before_target c) ≡ and_then (cursor_behind (readlink_res_front.read c)) (λ (c : Cursor). item_at (Ok c))
+pub item_in_readlink : (c : Cursor) → item_at (before_target c) ≡ and_then (cursor_after (readlink_res_front.read c)) (λ (c : Cursor). item_at (Ok c))
 unfolding before_target
-item_in_readlink c = item_behind (readlink_res_front.read c)
+item_in_readlink c = item_after (readlink_res_front.read c)
 
-pub item_in_read : (c : Cursor) → item_at (before_read c) ≡ and_then (cursor_behind (read_res_front.read c)) (λ (c : Cursor). item_at (Ok c))
+pub item_in_read : (c : Cursor) → item_at (before_read c) ≡ and_then (cursor_after (read_res_front.read c)) (λ (c : Cursor). item_at (Ok c))
 unfolding before_read
-item_in_read c = item_behind (read_res_front.read c)
+item_in_read c = item_after (read_res_front.read c)
 
 pub ruleset items_of_calls = (item_in_write, item_in_symlink)
 
@@ -172,20 +172,20 @@ counted at = by (unsigned_at at)
     by (Ok n) = refl
     by (Err e) = refl
 
-count_in : {A : Type 0} (r : Result (A × Cursor) ℕ) → count_of (r >>= λ x. number_at x.1) ≡ number_behind (cursor_behind r)
-unfolding number_behind
+count_in : {A : Type 0} (r : Result (A × Cursor) ℕ) → count_of (r >>= λ x. number_at x.1) ≡ number_after (cursor_after r)
+unfolding number_after
 count_in (Ok x) = counted x.1
 count_in (Err at) = refl
 
-pub count_in_read : (c : Cursor) → read_count c ≡ number_behind (cursor_behind (read_args_front.read c))
+pub count_in_read : (c : Cursor) → read_count c ≡ number_after (cursor_after (read_args_front.read c))
 unfolding read_count
 count_in_read c = count_in (read_args_front.read c)
 
-pub count_in_readdir : (c : Cursor) → readdir_count c ≡ number_behind (cursor_behind (readdir_args_front.read c))
+pub count_in_readdir : (c : Cursor) → readdir_count c ≡ number_after (cursor_after (readdir_args_front.read c))
 unfolding readdir_count
 count_in_readdir c = count_in (readdir_args_front.read c)
 
-pub count_in_readdirplus : (c : Cursor) → readdirplus_count c ≡ number_behind (cursor_behind (readdirplus_args_front.read c))
+pub count_in_readdirplus : (c : Cursor) → readdirplus_count c ≡ number_after (cursor_after (readdirplus_args_front.read c))
 unfolding readdirplus_count
 count_in_readdirplus c = count_in (readdirplus_args_front.read c)
 

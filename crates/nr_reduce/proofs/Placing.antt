@@ -21,27 +21,27 @@ use Rattle.nr_reduce.specs.AtEachMark.{AtEachMark}
 use Rattle.nr_link.specs.Frames.{Frame, is_hello}
 use Rattle.nr_link.specs.ReceiveState.{ReadRequest, message_completed, read_request_of}
 use Rattle.nr_link.specs.Ending.{frame_segment}
-use Rattle.nr_reduce.specs.Events.{Event, if_own, events_at}
+use Rattle.nr_reduce.specs.Events.{RunEvent, if_own, events_at}
 use Rattle.nr_reduce.specs.EndRules.{EndState, end_state_after, next_end_state, next_end_state_by, next_end_state_in}
-use Rattle.nr_reduce.specs.Events.Event.{FrameReceived, CallSubmitted, MemoryRevoked, CallExecuted, QueueWritten}
+use Rattle.nr_reduce.specs.Events.RunEvent.{FrameReceived, CallSubmitted, MemoryRevoked, CallExecuted, QueueWritten}
 use Rattle.nr_reduce.specs.ClientState.{ClientState}
 use Rattle.nr_reduce.specs.Client.{client_state_after, client_end, client_rules, with_message, with_request, with_segment, with_hello, due_with_response}
 use Rattle.nr_reduce.specs.Run.{client}
 use Rattle.nr_reduce.specs.Asked.{AskedMark, IsAccepted}
 use Rattle.nr_reduce.specs.Journal.{AtPlace, PlacedMark, Journaled}
-use Rattle.nr_reduce.proofs.Steps.{client-one}
+use Rattle.nr_reduce.proofs.Steps.{client_one}
 use Rattle.nr_reduce.proofs.Standing.{itself}
 
 -- a fact of each mark, at one of them
-pub AtEachMark-at : (P : List Mark → Mark → Type 0) (before run : List Mark) (mark : Mark) (after : List Mark) → AtEachMark P before (run ++ mark ∷ after) → P (before ++ run) mark
-AtEachMark-at P before [] mark after h = subst (λ (b : List Mark). P b mark) (sym (append-nil before)) h.0
-AtEachMark-at P before (m ∷ run) mark after h = subst (λ (b : List Mark). P b mark) (append_assoc before (m ∷ []) run) (AtEachMark-at P (before ++ m ∷ []) run mark after h.1)
+pub AtEachMark_at : (P : List Mark → Mark → Type 0) (before run : List Mark) (mark : Mark) (after : List Mark) → AtEachMark P before (run ++ mark ∷ after) → P (before ++ run) mark
+AtEachMark_at P before [] mark after h = subst (λ (b : List Mark). P b mark) (sym (append-nil before)) h.0
+AtEachMark_at P before (m ∷ run) mark after h = subst (λ (b : List Mark). P b mark) (append_assoc before (m ∷ []) run) (AtEachMark_at P (before ++ m ∷ []) run mark after h.1)
 
 -- ---- Places
 
-journal-append : (plain : PlainServer) (xs ys : List Mark) → journal plain (xs ++ ys) ≡ journal plain xs ++ journal plain ys
+journal_append : (plain : PlainServer) (xs ys : List Mark) → journal plain (xs ++ ys) ≡ journal plain xs ++ journal plain ys
 unfolding journal
-journal-append plain xs ys = flat_map-append (entries_added plain) xs ys
+journal_append plain xs ys = flat_map-append (entries_added plain) xs ys
 
 -- Of two calls that were executed, the later one has the place that isn't smaller.
 pub places_rise : (plain : PlainServer) (J : List Entry) (run before between after : List Mark) (l m xid yid : ℕ) (moment now : Moment) (payload asked : List ℕ) (place later : ℕ) (reply answer : List ℕ) →
@@ -50,10 +50,10 @@ places_rise plain J run before between after l m xid yid moment now payload aske
     let first = marks.Execute l xid moment payload place reply in
     let second = marks.Execute m yid now asked later answer in
     let places : AtEachMark (PlacedMark plain) [] (before ++ first ∷ (between ++ second ∷ after)) = subst (λ (r : List Mark). AtEachMark (PlacedMark plain) [] r) is h.places in
-    let one : place ≡ length (journal plain before) = AtEachMark-at (PlacedMark plain) [] before first (between ++ second ∷ after) places in
+    let one : place ≡ length (journal plain before) = AtEachMark_at (PlacedMark plain) [] before first (between ++ second ∷ after) places in
     let two : later ≡ length (journal plain (before ++ first ∷ between)) =
-    AtEachMark-at (PlacedMark plain) [] (before ++ first ∷ between) second after (subst (λ (r : List Mark). AtEachMark (PlacedMark plain) [] r) (sym (append_assoc before (first ∷ between) (second ∷ after))) places) in
-    let grown = ap (λ (es : List Entry). length es) (journal-append plain before (first ∷ between)) ∙ length-append (journal plain before) (journal plain (first ∷ between)) in
+    AtEachMark_at (PlacedMark plain) [] (before ++ first ∷ between) second after (subst (λ (r : List Mark). AtEachMark (PlacedMark plain) [] r) (sym (append_assoc before (first ∷ between) (second ∷ after))) places) in
+    let grown = ap (λ (es : List Entry). length es) (journal_append plain before (first ∷ between)) ∙ length-append (journal plain before) (journal plain (first ∷ between)) in
     omega (arith, one, two, grown)
 
 -- A call that was answered by the plain server at its moment is answered so at its place in the one journal, and what it added stands there.
@@ -64,8 +64,8 @@ at_place plain J run before after l xid moment payload place reply is h replied 
     let mark = marks.Execute l xid moment payload place reply in
     let own = plain.adds moment payload reply in
     let places : AtEachMark (PlacedMark plain) [] (before ++ mark ∷ after) = subst (λ (r : List Mark). AtEachMark (PlacedMark plain) [] r) is h.places in
-    let at : place ≡ length (journal plain before) = AtEachMark-at (PlacedMark plain) [] before mark after places in
-    let whole : J ≡ journal plain before ++ (own ++ journal plain after) = sym h.is ∙ ap (λ (r : List Mark). journal plain r) is ∙ journal-append plain before (mark ∷ after) in
+    let at : place ≡ length (journal plain before) = AtEachMark_at (PlacedMark plain) [] before mark after places in
+    let whole : J ≡ journal plain before ++ (own ++ journal plain after) = sym h.is ∙ ap (λ (r : List Mark). journal plain r) is ∙ journal_append plain before (mark ∷ after) in
     let front : take place J ≡ journal plain before = ap (λ (es : List Entry). take place es) whole ∙ take_at (journal plain before) (own ++ journal plain after) place (sym at) in
     let behind : drop place J ≡ own ++ journal plain after = ap (λ (es : List Entry). drop place es) whole ∙ drop_at (journal plain before) (own ++ journal plain after) place (sym at) in record {
       within = omega (arith, at, ap (λ (es : List Entry). length es) whole, length-append (journal plain before) (own ++ journal plain after));
@@ -80,7 +80,7 @@ pub completes_once : (Relates : List ℕ → List ℕ → Type 0) (opened : Link
     → AtEachMark (AskedMark Relates opened link) [] run → (c : CompletedCall) → Contains (completed_calls link before) c → c.xid ≢ xid
 completes_once Relates opened link xid outcome run before after is h c there =
     let asked : AtEachMark (AskedMark Relates opened link) [] (before ++ marks.Done link xid outcome ∷ after) = subst (λ (r : List Mark). AtEachMark (AskedMark Relates opened link) [] r) is h in
-    (AtEachMark-at (AskedMark Relates opened link) [] before (marks.Done link xid outcome) after asked refl).awaited.first c there
+    (AtEachMark_at (AskedMark Relates opened link) [] before (marks.Done link xid outcome) after asked refl).awaited.first c there
 
 -- ---- Xids
 
@@ -92,48 +92,48 @@ by_message : (k : ClientState) (place : ℕ) (message : Option (List ℕ)) → (
 by_message k place None = refl
 by_message k place (Some message) = refl
 
-pub segment-accepted : (k : ClientState) (f : Frame) (r : Result Segment ℕ) → (with_segment k f r).calls_accepted ≡ k.calls_accepted
-segment-accepted k f (Err reason) = refl
-segment-accepted k f (Ok segment) =
+pub segment_accepted : (k : ClientState) (f : Frame) (r : Result Segment ℕ) → (with_segment k f r).calls_accepted ≡ k.calls_accepted
+segment_accepted k f (Err reason) = refl
+segment_accepted k f (Ok segment) =
     by_request (with_message k f.end (message_completed k.received segment)) (due_with_response k f segment) (read_request_of segment) ∙ by_message k f.end (message_completed k.received segment)
 
 by_frame : (opened : LinkParameters) (k : ClientState) (f : Frame) (b : Bool) → k.calls_accepted ≤ (cond b (with_hello opened k) (with_segment k f (frame_segment f))).calls_accepted
 by_frame opened k f true = omega arith
-by_frame opened k f false = (let e = segment-accepted k f (frame_segment f) in omega (arith, e))
+by_frame opened k f false = (let e = segment_accepted k f (frame_segment f) in omega (arith, e))
 
-accepted_calls-after : (opened : LinkParameters) (k : ClientState) (event : Event) → k.calls_accepted ≤ (client_state_after opened k event).calls_accepted
+accepted_calls_after : (opened : LinkParameters) (k : ClientState) (event : RunEvent) → k.calls_accepted ≤ (client_state_after opened k event).calls_accepted
 unfolding client_state_after
-accepted_calls-after opened k (FrameReceived f) = by_frame opened k f (is_hello f)
-accepted_calls-after opened k (CallSubmitted place a) = omega arith
-accepted_calls-after opened k (MemoryRevoked place xid) = omega arith
-accepted_calls-after opened k (CallExecuted call) = omega arith
-accepted_calls-after opened k (QueueWritten taken) = omega arith
+accepted_calls_after opened k (FrameReceived f) = by_frame opened k f (is_hello f)
+accepted_calls_after opened k (CallSubmitted place a) = omega arith
+accepted_calls_after opened k (MemoryRevoked place xid) = omega arith
+accepted_calls_after opened k (CallExecuted call) = omega arith
+accepted_calls_after opened k (QueueWritten taken) = omega arith
 
-accepted_calls-next_end_state : (opened : LinkParameters) (r : EndState ClientState) (event : Event) → r.state.calls_accepted ≤ (next_end_state (client_rules opened) r event).state.calls_accepted
-accepted_calls-next_end_state opened r event = by_end r.state r.ended
+accepted_calls_next_end_state : (opened : LinkParameters) (r : EndState ClientState) (event : RunEvent) → r.state.calls_accepted ≤ (next_end_state (client_rules opened) r event).state.calls_accepted
+accepted_calls_next_end_state opened r event = by_end r.state r.ended
   where
     by_why : (k : ClientState) (why : Option Stop) → k.calls_accepted ≤ (next_end_state_by (client_rules opened) k event why).state.calls_accepted
-    by_why k None = accepted_calls-after opened k event
+    by_why k None = accepted_calls_after opened k event
     by_why k (Some end) = omega arith
 
     by_end : (k : ClientState) (ended : Option Stop) → k.calls_accepted ≤ (next_end_state_in (client_rules opened) k event ended).state.calls_accepted
     by_end k None = by_why k (client_end k event)
     by_end k (Some end) = omega arith
 
-accepted_calls-reached : (opened : LinkParameters) (r : EndState ClientState) (events : List Event) → r.state.calls_accepted ≤ (end_state_after (client_rules opened) r events).state.calls_accepted
-accepted_calls-reached opened r [] = omega arith
-accepted_calls-reached opened r (event ∷ events) =
-    (let a = accepted_calls-next_end_state opened r event in let b = accepted_calls-reached opened (next_end_state (client_rules opened) r event) events in omega (arith, a, b))
+accepted_calls_reached : (opened : LinkParameters) (r : EndState ClientState) (events : List RunEvent) → r.state.calls_accepted ≤ (end_state_after (client_rules opened) r events).state.calls_accepted
+accepted_calls_reached opened r [] = omega arith
+accepted_calls_reached opened r (event ∷ events) =
+    (let a = accepted_calls_next_end_state opened r event in let b = accepted_calls_reached opened (next_end_state (client_rules opened) r event) events in omega (arith, a, b))
 
 abbrev accepted_so_far : LinkParameters → ℕ → List Mark → ℕ
 accepted_so_far opened link run = (client opened link run).state.calls_accepted
 
-accepted_calls-rises : (opened : LinkParameters) (link : ℕ) (run more : List Mark) → accepted_so_far opened link run ≤ accepted_so_far opened link (run ++ more)
-accepted_calls-rises opened link run [] = (let e = ap (λ (r : List Mark). (client opened link r).state.calls_accepted) (append-nil run) in omega (arith, e))
-accepted_calls-rises opened link run (mark ∷ more) =
-    let one = ap (λ (r : EndState ClientState). r.state.calls_accepted) (client-one opened link run mark) in
-    let frame_effect = accepted_calls-reached opened (client opened link run) (events_at link Initiator run mark) in
-    let rest = accepted_calls-rises opened link (run ++ mark ∷ []) more in
+accepted_calls_rises : (opened : LinkParameters) (link : ℕ) (run more : List Mark) → accepted_so_far opened link run ≤ accepted_so_far opened link (run ++ more)
+accepted_calls_rises opened link run [] = (let e = ap (λ (r : List Mark). (client opened link r).state.calls_accepted) (append-nil run) in omega (arith, e))
+accepted_calls_rises opened link run (mark ∷ more) =
+    let one = ap (λ (r : EndState ClientState). r.state.calls_accepted) (client_one opened link run mark) in
+    let frame_effect = accepted_calls_reached opened (client opened link run) (events_at link Initiator run mark) in
+    let rest = accepted_calls_rises opened link (run ++ mark ∷ []) more in
     let same = ap (λ (r : List Mark). (client opened link r).state.calls_accepted) (append_assoc run (mark ∷ []) more) in
     omega (arith, one, frame_effect, rest, same)
 
@@ -143,12 +143,12 @@ accepts_one opened k None place a e = refl
 accepts_one opened k (Some end) place a e = absurd cc
 
 -- an accepted call counts
-pub accepted_calls-one : (opened : LinkParameters) (link : ℕ) (run : List Mark) (call : Call) (form : Form) (xid : ℕ) → (client opened link run).ended ≡ None
+pub accepted_calls_one : (opened : LinkParameters) (link : ℕ) (run : List Mark) (call : Call) (form : Form) (xid : ℕ) → (client opened link run).ended ≡ None
     → accepted_so_far opened link (run ++ marks.Submit link call form (submissions.Accepted xid) ∷ []) ≡ accepted_so_far opened link run + 1
-accepted_calls-one opened link run call form xid stays =
+accepted_calls_one opened link run call form xid stays =
     let a : AcceptedCall = record { xid = xid; call = call; form = form } in
     let r = client opened link run in
-    ap (λ (r : EndState ClientState). r.state.calls_accepted) (client-one opened link run (marks.Submit link call form (submissions.Accepted xid)))
+    ap (λ (r : EndState ClientState). r.state.calls_accepted) (client_one opened link run (marks.Submit link call form (submissions.Accepted xid)))
     ∙ ap (λ (b : Bool). (end_state_after (client_rules opened) r (if_own (b && true) (CallSubmitted (length (bytes_received link Initiator run)) a ∷ []))).state.calls_accepted) (itself link)
     ∙ accepts_one opened r.state r.ended (length (bytes_received link Initiator run)) a stays
 
@@ -161,11 +161,11 @@ xids_differ Relates opened link run before between after call other form way xid
     let second = marks.Submit link other way (submissions.Accepted yid) in
     let P = AskedMark Relates opened link in
     let asked : AtEachMark P [] (before ++ first ∷ (between ++ second ∷ after)) = subst (λ (r : List Mark). AtEachMark P [] r) is h in
-    let one : IsAccepted opened link before call form xid = AtEachMark-at P [] before first (between ++ second ∷ after) asked refl in
+    let one : IsAccepted opened link before call form xid = AtEachMark_at P [] before first (between ++ second ∷ after) asked refl in
     let two : IsAccepted opened link (before ++ first ∷ between) other way yid =
-    AtEachMark-at P [] (before ++ first ∷ between) second after (subst (λ (r : List Mark). AtEachMark P [] r) (sym (append_assoc before (first ∷ between) (second ∷ after))) asked) refl in
-    let counted = accepted_calls-one opened link before call form xid one.stays in
-    let rises = accepted_calls-rises opened link (before ++ first ∷ []) between in
+    AtEachMark_at P [] (before ++ first ∷ between) second after (subst (λ (r : List Mark). AtEachMark P [] r) (sym (append_assoc before (first ∷ between) (second ∷ after))) asked) refl in
+    let counted = accepted_calls_one opened link before call form xid one.stays in
+    let rises = accepted_calls_rises opened link (before ++ first ∷ []) between in
     let same = ap (λ (r : List Mark). (client opened link r).state.calls_accepted) (append_assoc before (first ∷ []) between) in
     let x = one.next in
     let y = two.next in

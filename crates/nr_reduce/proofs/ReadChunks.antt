@@ -5,7 +5,7 @@ use Rattle.std.specs.List.{list_any}
 use Rattle.std.proofs.lemmas.Bool.{eqb-true, eq-eqb}
 use Rattle.nr_wire.specs.declared.hello.Side.TheVariants.{Initiator}
 use Rattle.nr_wire.specs.Segment.{Segment}
-use Rattle.nr_regions.specs.Access.{Grant, TaggedSegment, applies, grant_at, grant_offer, grant_denial, access_of, after_segment, contents}
+use Rattle.nr_regions.specs.Access.{Grant, TaggedSegment, applies, grant_at, grant_offer, grant_denial, access_of_tagged, after_segment, contents}
 use Rattle.nr_regions.specs.RegisteredMemory.{Access, denial_in, right_for, same_right, bytes_after_write}
 use Rattle.nr_regions.specs.declared.right.Right.{Right}
 use Rattle.nr_regions.specs.declared.right.Right.TheVariants.{Fetch, Fill}
@@ -26,16 +26,16 @@ use Rattle.nr_reduce.specs.declared.outline.Plan.{Plan}
 use Rattle.nr_reduce.specs.Plans.{TooLarge, Buffer, one_if, buffer_if, buffers, has_segment, read_stag, write_stag, reply_stag, regions_needed, total}
 use Rattle.nr_reduce.specs.History.{AcceptedCall, bytes_received}
 use Rattle.nr_reduce.specs.OfferedRegions.{Region, region_grants, closed_if, regions_closed, region_bytes, region_bytes_by}
-use Rattle.nr_reduce.specs.Events.{Event, if_own, events_at}
-use Rattle.nr_reduce.specs.Events.Event.{FrameReceived, CallSubmitted, MemoryRevoked, CallExecuted, QueueWritten}
+use Rattle.nr_reduce.specs.Events.{RunEvent, if_own, events_at}
+use Rattle.nr_reduce.specs.Events.RunEvent.{FrameReceived, CallSubmitted, MemoryRevoked, CallExecuted, QueueWritten}
 use Rattle.nr_reduce.specs.EndRules.{EndState, next_end_state_in, end_state_after}
 use Rattle.nr_reduce.specs.ClientState.{ClientState, call_payload, plan_for}
 use Rattle.nr_reduce.specs.Client.{client_rules, client_end, client_state_after, plan_or, outstanding_of, region_of, with_message, with_request, with_segment, with_hello, due_with_response}
 use Rattle.nr_reduce.specs.Run.{client, grants_of, placed_bytes}
 use Rattle.nr_reduce.specs.Asked.{IsAccepted}
-use Rattle.nr_reduce.proofs.Steps.{client-one}
+use Rattle.nr_reduce.proofs.Steps.{client_one}
 use Rattle.nr_reduce.proofs.Standing.{itself}
-use Rattle.nr_reduce.proofs.OwnStags.{AreNumbered, ClientNumbers, kept-after, client-known, numbered-buffers, closed-stag}
+use Rattle.nr_reduce.proofs.OwnStags.{AreNumbered, ClientNumbers, kept_after, client_known, numbered_buffers, closed_stag}
 
 -- the regions of an STag are to be read, and hold these bytes
 abbrev OnlyRead : (stag : ℕ) → List ℕ → List Region → Type 0
@@ -50,103 +50,103 @@ record KeepsChunk (stag : ℕ) (bytes : List ℕ) (k : ClientState) : Type 0 whe
   pub there : IsThere stag k.regions
   pub below : stag < k.stag
 
-only-append : (stag : ℕ) (bytes : List ℕ) (xs ys : List Region) → OnlyRead stag bytes xs → OnlyRead stag bytes ys → OnlyRead stag bytes (xs ++ ys)
-only-append stag bytes [] ys h k = k
-only-append stag bytes (x ∷ xs) ys h k = (h.0, only-append stag bytes xs ys h.1 k)
+only_append : (stag : ℕ) (bytes : List ℕ) (xs ys : List Region) → OnlyRead stag bytes xs → OnlyRead stag bytes ys → OnlyRead stag bytes (xs ++ ys)
+only_append stag bytes [] ys h k = k
+only_append stag bytes (x ∷ xs) ys h k = (h.0, only_append stag bytes xs ys h.1 k)
 
-only-above : (stag n : ℕ) (bytes : List ℕ) (regions : List Region) → stag < n → AreNumbered n regions → OnlyRead stag bytes regions
-only-above stag n bytes [] lt h = tt
-only-above stag n bytes (r ∷ regions) lt h = ((λ e. absurd (let s = h.0 in omega (arith, s, e, lt))), only-above stag (n + 1) bytes regions (omega (arith, lt)) h.1)
+only_above : (stag n : ℕ) (bytes : List ℕ) (regions : List Region) → stag < n → AreNumbered n regions → OnlyRead stag bytes regions
+only_above stag n bytes [] lt h = tt
+only_above stag n bytes (r ∷ regions) lt h = ((λ e. absurd (let s = h.0 in omega (arith, s, e, lt))), only_above stag (n + 1) bytes regions (omega (arith, lt)) h.1)
 
-only-below : (stag n : ℕ) (bytes : List ℕ) (regions : List Region) → n + length regions ≤ stag → AreNumbered n regions → OnlyRead stag bytes regions
-only-below stag n bytes [] le h = tt
-only-below stag n bytes (r ∷ regions) le h = ((λ e. absurd (let s = h.0 in omega (arith, s, e, le))), only-below stag (n + 1) bytes regions (omega (arith, le)) h.1)
+only_below : (stag n : ℕ) (bytes : List ℕ) (regions : List Region) → n + length regions ≤ stag → AreNumbered n regions → OnlyRead stag bytes regions
+only_below stag n bytes [] le h = tt
+only_below stag n bytes (r ∷ regions) le h = ((λ e. absurd (let s = h.0 in omega (arith, s, e, le))), only_below stag (n + 1) bytes regions (omega (arith, le)) h.1)
 
-there-left : (stag : ℕ) (xs ys : List Region) → IsThere stag xs → IsThere stag (xs ++ ys)
-there-left stag [] ys h = absurd cc
-there-left stag (x ∷ xs) ys h = by (eqb x.stag stag) h (λ g. there-left stag xs ys g)
+there_left : (stag : ℕ) (xs ys : List Region) → IsThere stag xs → IsThere stag (xs ++ ys)
+there_left stag [] ys h = absurd cc
+there_left stag (x ∷ xs) ys h = by (eqb x.stag stag) h (λ g. there_left stag xs ys g)
   where
     by : (b : Bool) → (b || list_any (λ r. eqb r.stag stag) xs) ≡ true → (IsThere stag xs → IsThere stag (xs ++ ys)) → (b || list_any (λ r. eqb r.stag stag) (xs ++ ys)) ≡ true
     by true h rest = refl
     by false h rest = rest h
 
-there-right : (stag : ℕ) (xs ys : List Region) → IsThere stag ys → IsThere stag (xs ++ ys)
-there-right stag [] ys h = h
-there-right stag (x ∷ xs) ys h = by (eqb x.stag stag) (there-right stag xs ys h)
+there_right : (stag : ℕ) (xs ys : List Region) → IsThere stag ys → IsThere stag (xs ++ ys)
+there_right stag [] ys h = h
+there_right stag (x ∷ xs) ys h = by (eqb x.stag stag) (there_right stag xs ys h)
   where
     by : (b : Bool) → IsThere stag (xs ++ ys) → (b || list_any (λ r. eqb r.stag stag) (xs ++ ys)) ≡ true
     by true rest = refl
     by false rest = rest
 
-closed-only : (b : Bool) (place stag : ℕ) (bytes : List ℕ) (r : Region) → (r.stag ≡ stag → (r.right ≡ Fetch) × (r.bytes ≡ bytes)) → (closed_if b place r).stag ≡ stag → ((closed_if b place r).right ≡ Fetch) × ((closed_if b place r).bytes ≡ bytes)
-closed-only true place stag bytes r h e = h e
-closed-only false place stag bytes r h e = h e
+closed_only : (b : Bool) (place stag : ℕ) (bytes : List ℕ) (r : Region) → (r.stag ≡ stag → (r.right ≡ Fetch) × (r.bytes ≡ bytes)) → (closed_if b place r).stag ≡ stag → ((closed_if b place r).right ≡ Fetch) × ((closed_if b place r).bytes ≡ bytes)
+closed_only true place stag bytes r h e = h e
+closed_only false place stag bytes r h e = h e
 
-only-closed : (test : Region → Bool) (place stag : ℕ) (bytes : List ℕ) (regions : List Region) → OnlyRead stag bytes regions → OnlyRead stag bytes (regions_closed test place regions)
+only_closed : (test : Region → Bool) (place stag : ℕ) (bytes : List ℕ) (regions : List Region) → OnlyRead stag bytes regions → OnlyRead stag bytes (regions_closed test place regions)
 unfolding regions_closed
-only-closed test place stag bytes [] h = tt
-only-closed test place stag bytes (r ∷ regions) h = (closed-only (test r) place stag bytes r h.0, only-closed test place stag bytes regions h.1)
+only_closed test place stag bytes [] h = tt
+only_closed test place stag bytes (r ∷ regions) h = (closed_only (test r) place stag bytes r h.0, only_closed test place stag bytes regions h.1)
 
-there-closed : (test : Region → Bool) (place stag : ℕ) (regions : List Region) → list_any (λ r. eqb r.stag stag) (regions_closed test place regions) ≡ list_any (λ r. eqb r.stag stag) regions
+there_closed : (test : Region → Bool) (place stag : ℕ) (regions : List Region) → list_any (λ r. eqb r.stag stag) (regions_closed test place regions) ≡ list_any (λ r. eqb r.stag stag) regions
 unfolding regions_closed
-there-closed test place stag [] = refl
-there-closed test place stag (r ∷ regions) = (λ i. eqb (closed-stag (test r) place r i) stag || there-closed test place stag regions i)
+there_closed test place stag [] = refl
+there_closed test place stag (r ∷ regions) = (λ i. eqb (closed_stag (test r) place r i) stag || there_closed test place stag regions i)
 
 -- ---- From event to event
 
-chunk-same : (stag : ℕ) (bytes : List ℕ) (k t : ClientState) → t.regions ≡ k.regions → t.stag ≡ k.stag → KeepsChunk stag bytes k → KeepsChunk stag bytes t
-chunk-same stag bytes k t regions next h = record {
+chunk_same : (stag : ℕ) (bytes : List ℕ) (k t : ClientState) → t.regions ≡ k.regions → t.stag ≡ k.stag → KeepsChunk stag bytes k → KeepsChunk stag bytes t
+chunk_same stag bytes k t regions next h = record {
   only = subst (λ (rs : List Region). OnlyRead stag bytes rs) (sym regions) h.only;
   there = subst (λ (rs : List Region). IsThere stag rs) (sym regions) h.there;
   below = (let b = h.below in omega (arith, b, next));
 }
 
-chunk-closed : (stag : ℕ) (bytes : List ℕ) (k t : ClientState) (test : Region → Bool) (place : ℕ) → t.regions ≡ regions_closed test place k.regions → t.stag ≡ k.stag → KeepsChunk stag bytes k → KeepsChunk stag bytes t
-chunk-closed stag bytes k t test place regions next h = record {
-  only = subst (λ (rs : List Region). OnlyRead stag bytes rs) (sym regions) (only-closed test place stag bytes k.regions h.only);
-  there = subst (λ (rs : List Region). IsThere stag rs) (sym regions) (there-closed test place stag k.regions ∙ h.there);
+chunk_closed : (stag : ℕ) (bytes : List ℕ) (k t : ClientState) (test : Region → Bool) (place : ℕ) → t.regions ≡ regions_closed test place k.regions → t.stag ≡ k.stag → KeepsChunk stag bytes k → KeepsChunk stag bytes t
+chunk_closed stag bytes k t test place regions next h = record {
+  only = subst (λ (rs : List Region). OnlyRead stag bytes rs) (sym regions) (only_closed test place stag bytes k.regions h.only);
+  there = subst (λ (rs : List Region). IsThere stag rs) (sym regions) (there_closed test place stag k.regions ∙ h.there);
   below = (let b = h.below in omega (arith, b, next));
 }
 
-chunk-request : (stag : ℕ) (bytes : List ℕ) (k : ClientState) (due : ℕ) (r : Option ReadRequest) → KeepsChunk stag bytes k → KeepsChunk stag bytes (with_request k due r)
-chunk-request stag bytes k due None h = h
-chunk-request stag bytes k due (Some r) h = chunk-same stag bytes k (with_request k due (Some r)) refl refl h
+chunk_request : (stag : ℕ) (bytes : List ℕ) (k : ClientState) (due : ℕ) (r : Option ReadRequest) → KeepsChunk stag bytes k → KeepsChunk stag bytes (with_request k due r)
+chunk_request stag bytes k due None h = h
+chunk_request stag bytes k due (Some r) h = chunk_same stag bytes k (with_request k due (Some r)) refl refl h
 
-chunk-message : (stag : ℕ) (bytes : List ℕ) (k : ClientState) (place : ℕ) (m : Option (List ℕ)) → KeepsChunk stag bytes k → KeepsChunk stag bytes (with_message k place m)
-chunk-message stag bytes k place None h = h
-chunk-message stag bytes k place (Some m) h = chunk-closed stag bytes k (with_message k place (Some m)) _ place refl refl h
+chunk_message : (stag : ℕ) (bytes : List ℕ) (k : ClientState) (place : ℕ) (m : Option (List ℕ)) → KeepsChunk stag bytes k → KeepsChunk stag bytes (with_message k place m)
+chunk_message stag bytes k place None h = h
+chunk_message stag bytes k place (Some m) h = chunk_closed stag bytes k (with_message k place (Some m)) _ place refl refl h
 
-chunk-segment : (stag : ℕ) (bytes : List ℕ) (k : ClientState) (f : Frame) (r : Result Segment ℕ) → KeepsChunk stag bytes k → KeepsChunk stag bytes (with_segment k f r)
-chunk-segment stag bytes k f (Err reason) h = h
-chunk-segment stag bytes k f (Ok segment) h =
+chunk_segment : (stag : ℕ) (bytes : List ℕ) (k : ClientState) (f : Frame) (r : Result Segment ℕ) → KeepsChunk stag bytes k → KeepsChunk stag bytes (with_segment k f r)
+chunk_segment stag bytes k f (Err reason) h = h
+chunk_segment stag bytes k f (Ok segment) h =
     let m : ClientState = with_request (with_message k f.end (message_completed k.received segment)) (due_with_response k f segment) (read_request_of segment) in
-    chunk-same stag bytes m (with_segment k f (Ok segment)) refl refl
-    (chunk-request stag bytes (with_message k f.end (message_completed k.received segment)) (due_with_response k f segment) (read_request_of segment) (chunk-message stag bytes k f.end (message_completed k.received segment) h))
+    chunk_same stag bytes m (with_segment k f (Ok segment)) refl refl
+    (chunk_request stag bytes (with_message k f.end (message_completed k.received segment)) (due_with_response k f segment) (read_request_of segment) (chunk_message stag bytes k f.end (message_completed k.received segment) h))
 
-chunk-after : (opened : LinkParameters) (stag : ℕ) (bytes : List ℕ) (k : ClientState) (event : Event) → KeepsChunk stag bytes k → KeepsChunk stag bytes (client_state_after opened k event)
+chunk_after : (opened : LinkParameters) (stag : ℕ) (bytes : List ℕ) (k : ClientState) (event : RunEvent) → KeepsChunk stag bytes k → KeepsChunk stag bytes (client_state_after opened k event)
 unfolding client_state_after
-chunk-after opened stag bytes k (FrameReceived f) h = by (is_hello f)
+chunk_after opened stag bytes k (FrameReceived f) h = by (is_hello f)
   where
     by : (b : Bool) → KeepsChunk stag bytes (cond b (with_hello opened k) (with_segment k f (frame_segment f)))
-    by true = chunk-same stag bytes k (with_hello opened k) refl refl h
-    by false = chunk-segment stag bytes k f (frame_segment f) h
-chunk-after opened stag bytes k (CallSubmitted place a) h =
+    by true = chunk_same stag bytes k (with_hello opened k) refl refl h
+    by false = chunk_segment stag bytes k f (frame_segment f) h
+chunk_after opened stag bytes k (CallSubmitted place a) h =
     let p : Plan = (outstanding_of k a).plan in
     record {
-      only = only-append stag bytes k.regions _ h.only (only-above stag k.stag bytes _ h.below (numbered-buffers a.xid place k.stag p));
-      there = there-left stag k.regions _ h.there;
+      only = only_append stag bytes k.regions _ h.only (only_above stag k.stag bytes _ h.below (numbered_buffers a.xid place k.stag p));
+      there = there_left stag k.regions _ h.there;
       below = (let b = h.below in omega (arith, b));
     }
-chunk-after opened stag bytes k (MemoryRevoked place xid) h = chunk-closed stag bytes k (client_state_after opened k (MemoryRevoked place xid)) _ place refl refl h
-chunk-after opened stag bytes k (CallExecuted call) h = h
-chunk-after opened stag bytes k (QueueWritten taken) h = chunk-same stag bytes k (client_state_after opened k (QueueWritten taken)) refl refl h
+chunk_after opened stag bytes k (MemoryRevoked place xid) h = chunk_closed stag bytes k (client_state_after opened k (MemoryRevoked place xid)) _ place refl refl h
+chunk_after opened stag bytes k (CallExecuted call) h = h
+chunk_after opened stag bytes k (QueueWritten taken) h = chunk_same stag bytes k (client_state_after opened k (QueueWritten taken)) refl refl h
 
-chunk-more : (opened : LinkParameters) (link stag : ℕ) (bytes : List ℕ) (run more : List Mark) → KeepsChunk stag bytes (client opened link run).state → KeepsChunk stag bytes (client opened link (run ++ more)).state
-chunk-more opened link stag bytes run [] h = subst (λ (r : List Mark). KeepsChunk stag bytes (client opened link r).state) (sym (append-nil run)) h
-chunk-more opened link stag bytes run (mark ∷ more) h =
-    let one = kept-after (client_rules opened) (KeepsChunk stag bytes) (chunk-after opened stag bytes) (client opened link run) (events_at link Initiator run mark) h in
+chunk_more : (opened : LinkParameters) (link stag : ℕ) (bytes : List ℕ) (run more : List Mark) → KeepsChunk stag bytes (client opened link run).state → KeepsChunk stag bytes (client opened link (run ++ more)).state
+chunk_more opened link stag bytes run [] h = subst (λ (r : List Mark). KeepsChunk stag bytes (client opened link r).state) (sym (append-nil run)) h
+chunk_more opened link stag bytes run (mark ∷ more) h =
+    let one = kept_after (client_rules opened) (KeepsChunk stag bytes) (chunk_after opened stag bytes) (client opened link run) (events_at link Initiator run mark) h in
     subst (λ (r : List Mark). KeepsChunk stag bytes (client opened link r).state) (append_assoc run (mark ∷ []) more)
-    (chunk-more opened link stag bytes (run ++ mark ∷ []) more (subst (λ (r : EndState ClientState). KeepsChunk stag bytes r.state) (sym (client-one opened link run mark)) one))
+    (chunk_more opened link stag bytes (run ++ mark ∷ []) more (subst (λ (r : EndState ClientState). KeepsChunk stag bytes r.state) (sym (client_one opened link run mark)) one))
 
 -- ---- At its Submit
 
@@ -157,13 +157,13 @@ rest_of stag p =
 abbrev first_of : (xid place stag : ℕ) → Plan → Region
 first_of xid place stag p = record { call = xid; position = 0; stag = stag; right = Fetch; bytes = p.region; from = place; until = None }
 
-read-first : (xid place stag : ℕ) (p : Plan) → has_segment (Some p.read) ≡ true → map (region_of xid place) (buffers stag p) ≡ first_of xid place stag p ∷ map (region_of xid place) (rest_of stag p)
+read_first : (xid place stag : ℕ) (p : Plan) → has_segment (Some p.read) ≡ true → map (region_of xid place) (buffers stag p) ≡ first_of xid place stag p ∷ map (region_of xid place) (rest_of stag p)
 unfolding buffers
-read-first xid place stag p some = ap (λ (b : Bool). map (region_of xid place) (buffer_if b stag Fetch p.region ++ rest_of stag p)) some
+read_first xid place stag p some = ap (λ (b : Bool). map (region_of xid place) (buffer_if b stag Fetch p.region ++ rest_of stag p)) some
 
-needs-one : (p : Plan) → has_segment (Some p.read) ≡ true → 1 ≤ regions_needed p
+needs_one : (p : Plan) → has_segment (Some p.read) ≡ true → 1 ≤ regions_needed p
 unfolding regions_needed
-needs-one p some = (let e = ap one_if some in omega (arith, e))
+needs_one p some = (let e = ap one_if some in omega (arith, e))
 
 offered : (opened : LinkParameters) (k t : ClientState) (xid place : ℕ) (p : Plan) → ClientNumbers opened k → has_segment (Some p.read) ≡ true
     → t.regions ≡ k.regions ++ map (region_of xid place) (buffers k.stag p) → t.stag ≡ k.stag + regions_needed p → KeepsChunk k.stag p.region t
@@ -171,15 +171,15 @@ offered opened k t xid place p numbers some regions next =
     let stag : ℕ = k.stag in
     let tail : List Region = map (region_of xid place) (rest_of stag p) in
     let new : List Region = first_of xid place stag p ∷ tail in
-    let all : t.regions ≡ k.regions ++ new = regions ∙ ap (λ (rs : List Region). k.regions ++ rs) (read-first xid place stag p some) in
-    let numbered : AreNumbered stag new = subst (λ (rs : List Region). AreNumbered stag rs) (read-first xid place stag p some) (numbered-buffers xid place stag p) in
-    let low : OnlyRead stag p.region k.regions = only-below stag opened.first_stag p.region k.regions (let n = numbers.next in omega (arith, n)) numbers.regions in
-    let high : OnlyRead stag p.region tail = only-above stag (stag + 1) p.region tail (omega arith) numbered.1 in
+    let all : t.regions ≡ k.regions ++ new = regions ∙ ap (λ (rs : List Region). k.regions ++ rs) (read_first xid place stag p some) in
+    let numbered : AreNumbered stag new = subst (λ (rs : List Region). AreNumbered stag rs) (read_first xid place stag p some) (numbered_buffers xid place stag p) in
+    let low : OnlyRead stag p.region k.regions = only_below stag opened.first_stag p.region k.regions (let n = numbers.next in omega (arith, n)) numbers.regions in
+    let high : OnlyRead stag p.region tail = only_above stag (stag + 1) p.region tail (omega arith) numbered.1 in
     record {
-      only = subst (λ (rs : List Region). OnlyRead stag p.region rs) (sym all) (only-append stag p.region k.regions new low ((λ e. (refl, refl)), high));
+      only = subst (λ (rs : List Region). OnlyRead stag p.region rs) (sym all) (only_append stag p.region k.regions new low ((λ e. (refl, refl)), high));
       there = subst (λ (rs : List Region). IsThere stag rs) (sym all)
-          (there-right stag k.regions new (ap (λ (b : Bool). b || list_any (λ (r : Region). eqb r.stag stag) tail) (eq-eqb stag stag refl)));
-      below = (let n = needs-one p some in omega (arith, n, next));
+          (there_right stag k.regions new (ap (λ (b : Bool). b || list_any (λ (r : Region). eqb r.stag stag) tail) (eq-eqb stag stag refl)));
+      below = (let n = needs_one p some in omega (arith, n, next));
     }
 
 submitted : (opened : LinkParameters) (k : ClientState) (ended : Option Stop) (place : ℕ) (a : AcceptedCall) (plan : Plan) → ClientNumbers opened k → ended ≡ None
@@ -198,13 +198,13 @@ abbrev OnlyGrants : ℕ → List Grant → Type 0
 OnlyGrants stag [] = Unit {0}
 OnlyGrants stag (g ∷ grants) = (g.stag ≡ stag → g.right ≡ Fetch) × OnlyGrants stag grants
 
-only-grants : (place stag : ℕ) (bytes : List ℕ) (regions : List Region) → OnlyRead stag bytes regions → OnlyGrants stag (region_grants place regions)
+only_grants : (place stag : ℕ) (bytes : List ℕ) (regions : List Region) → OnlyRead stag bytes regions → OnlyGrants stag (region_grants place regions)
 unfolding region_grants
-only-grants place stag bytes [] h = tt
-only-grants place stag bytes (r ∷ regions) h = ((λ e. (h.0 e).0), only-grants place stag bytes regions h.1)
+only_grants place stag bytes [] h = tt
+only_grants place stag bytes (r ∷ regions) h = ((λ e. (h.0 e).0), only_grants place stag bytes regions h.1)
 
-denied-fetch : (right : Right) (len : ℕ) (kind : Kind) (access : Access) → right ≡ Fetch → access.right ≡ right_for kind → is_none (denial_in (Some (right, len)) access) ≡ false
-denied-fetch right len kind access e f = ap (λ (r : Right). is_none (denial_in (Some (r, len)) access)) e ∙ by (ltb len (access.to + access.len))
+denied_fetch : (right : Right) (len : ℕ) (kind : Kind) (access : Access) → right ≡ Fetch → access.right ≡ right_for kind → is_none (denial_in (Some (right, len)) access) ≡ false
+denied_fetch right len kind access e f = ap (λ (r : Right). is_none (denial_in (Some (r, len)) access)) e ∙ by (ltb len (access.to + access.len))
   where
     by_kind : (kind : Kind) → access.right ≡ right_for kind → is_none (cond (same_right Fetch access.right) None (Some WrongRight)) ≡ false
     by_kind Write f = ap (λ (r : Right). is_none (cond (same_right Fetch r) None (Some WrongRight))) f
@@ -214,33 +214,33 @@ denied-fetch right len kind access e f = ap (λ (r : Right). is_none (denial_in 
     by true = refl
     by false = by_kind kind f
 
-denied-find : (grants : List Grant) (stag end : ℕ) (kind : Kind) (access : Access) → OnlyGrants stag grants → access.right ≡ right_for kind → is_none (denial_in (grant_offer (find (applies stag end) grants)) access) ≡ false
-denied-find [] stag end kind access h f = refl
-denied-find (g ∷ grants) stag end kind access h f = by (eqb g.stag stag) refl (ltb g.from end && leb end g.until) (denied-find grants stag end kind access h.1 f)
+denied_find : (grants : List Grant) (stag end : ℕ) (kind : Kind) (access : Access) → OnlyGrants stag grants → access.right ≡ right_for kind → is_none (denial_in (grant_offer (find (applies stag end) grants)) access) ≡ false
+denied_find [] stag end kind access h f = refl
+denied_find (g ∷ grants) stag end kind access h f = by (eqb g.stag stag) refl (ltb g.from end && leb end g.until) (denied_find grants stag end kind access h.1 f)
   where
     by : (b : Bool) → eqb g.stag stag ≡ b → (d : Bool) → is_none (denial_in (grant_offer (find (applies stag end) grants)) access) ≡ false → is_none (denial_in (grant_offer (cond (b && d) (Some g) (find (applies stag end) grants))) access) ≡ false
-    by true is true rest = denied-fetch g.right g.len kind access (h.0 (eqb-true g.stag stag is)) f
+    by true is true rest = denied_fetch g.right g.len kind access (h.0 (eqb-true g.stag stag is)) f
     by true is false rest = rest
     by false is d rest = rest
 
-still-one : (grants : List Grant) (stag : ℕ) (bytes : List ℕ) (s : TaggedSegment) → OnlyGrants stag grants → after_segment grants stag bytes s ≡ bytes
+still_one : (grants : List Grant) (stag : ℕ) (bytes : List ℕ) (s : TaggedSegment) → OnlyGrants stag grants → after_segment grants stag bytes s ≡ bytes
 unfolding grant_denial grant_at
-still-one grants stag bytes s h = by (eqb s.stag stag) refl
+still_one grants stag bytes s h = by (eqb s.stag stag) refl
   where
-    by : (b : Bool) → eqb s.stag stag ≡ b → cond (b && is_none (denial_in (grant_offer (find (applies s.stag s.end) grants)) (access_of s))) (bytes_after_write bytes s.to s.payload) bytes ≡ bytes
+    by : (b : Bool) → eqb s.stag stag ≡ b → cond (b && is_none (denial_in (grant_offer (find (applies s.stag s.end) grants)) (access_of_tagged s))) (bytes_after_write bytes s.to s.payload) bytes ≡ bytes
     by true is =
         ap (λ (d : Bool). cond d (bytes_after_write bytes s.to s.payload) bytes)
-        (denied-find grants s.stag s.end s.kind (access_of s) (subst (λ (n : ℕ). OnlyGrants n grants) (sym (eqb-true s.stag stag is)) h) refl)
+        (denied_find grants s.stag s.end s.kind (access_of_tagged s) (subst (λ (n : ℕ). OnlyGrants n grants) (sym (eqb-true s.stag stag is)) h) refl)
     by false is = refl
 
 still : (grants : List Grant) (stag : ℕ) (bytes : List ℕ) (segments : List TaggedSegment) → OnlyGrants stag grants → contents grants stag bytes segments ≡ bytes
 still grants stag bytes [] h = refl
-still grants stag bytes (s ∷ segments) h = ap (λ (b : List ℕ). contents grants stag b segments) (still-one grants stag bytes s h) ∙ still grants stag bytes segments h
+still grants stag bytes (s ∷ segments) h = ap (λ (b : List ℕ). contents grants stag b segments) (still_one grants stag bytes s h) ∙ still grants stag bytes segments h
 
-chunk-bytes : (grants : List Grant) (stag : ℕ) (bytes : List ℕ) (regions : List Region) (segments : List TaggedSegment) → OnlyGrants stag grants → OnlyRead stag bytes regions → IsThere stag regions
+chunk_bytes_lem : (grants : List Grant) (stag : ℕ) (bytes : List ℕ) (regions : List Region) (segments : List TaggedSegment) → OnlyGrants stag grants → OnlyRead stag bytes regions → IsThere stag regions
     → region_bytes_by grants segments (find (λ r. eqb r.stag stag) regions) ≡ bytes
-chunk-bytes grants stag bytes [] segments g h there = absurd cc
-chunk-bytes grants stag bytes (r ∷ regions) segments g h there = by (eqb r.stag stag) refl there (λ others. chunk-bytes grants stag bytes regions segments g h.1 others)
+chunk_bytes_lem grants stag bytes [] segments g h there = absurd cc
+chunk_bytes_lem grants stag bytes (r ∷ regions) segments g h there = by (eqb r.stag stag) refl there (λ others. chunk_bytes_lem grants stag bytes regions segments g h.1 others)
   where
     by : (b : Bool) → eqb r.stag stag ≡ b → (b || list_any (λ r. eqb r.stag stag) regions) ≡ true → (IsThere stag regions → region_bytes_by grants segments (find (λ r. eqb r.stag stag) regions) ≡ bytes) → region_bytes_by grants segments (cond b (Some r) (find (λ r. eqb r.stag stag) regions)) ≡ bytes
     by true is there rest =
@@ -249,22 +249,22 @@ chunk-bytes grants stag bytes (r ∷ regions) segments g h there = by (eqb r.sta
     by false is there rest = rest there
 
 -- From its Submit on the region of a call's read chunk holds what its plan put there.
-pub chunk-stays : (opened : LinkParameters) (link : ℕ) (run more : List Mark) (call : Call) (form : Form) (xid : ℕ) → (h : IsAccepted opened link run call form xid) → has_segment (Some h.plan.read) ≡ true →
+pub chunk_stays : (opened : LinkParameters) (link : ℕ) (run more : List Mark) (call : Call) (form : Form) (xid : ℕ) → (h : IsAccepted opened link run call form xid) → has_segment (Some h.plan.read) ≡ true →
     placed_bytes opened link Initiator (run ++ marks.Submit link call form (submissions.Accepted xid) ∷ more) (read_stag (client opened link run).state.stag h.plan) ≡ h.plan.region
 unfolding placed_bytes region_bytes grants_of
-chunk-stays opened link run more call form xid h some =
+chunk_stays opened link run more call form xid h some =
     let k : ClientState = (client opened link run).state in
     let a : AcceptedCall = record { xid = xid; call = call; form = form } in
     let mark = marks.Submit link call form (submissions.Accepted xid) in
     let place = length (bytes_received link Initiator run) in
-    let numbers : ClientNumbers opened k = client-known opened link run in
+    let numbers : ClientNumbers opened k = client_known opened link run in
     let one : KeepsChunk k.stag h.plan.region (next_end_state_in (client_rules opened) k (CallSubmitted place a) (client opened link run).ended).state =
     submitted opened k (client opened link run).ended place a h.plan numbers h.stays h.planned some in
     let events : KeepsChunk k.stag h.plan.region (end_state_after (client_rules opened) (client opened link run) (events_at link Initiator run mark)).state =
     subst (λ (b : Bool). KeepsChunk k.stag h.plan.region (end_state_after (client_rules opened) (client opened link run) (if_own (b && true) (CallSubmitted place a ∷ []))).state) (sym (itself link)) one in
-    let first = subst (λ (r : EndState ClientState). KeepsChunk k.stag h.plan.region r.state) (sym (client-one opened link run mark)) events in
-    let last = subst (λ (r : List Mark). KeepsChunk k.stag h.plan.region (client opened link r).state) (append_assoc run (mark ∷ []) more) (chunk-more opened link k.stag h.plan.region (run ++ mark ∷ []) more first) in
+    let first = subst (λ (r : EndState ClientState). KeepsChunk k.stag h.plan.region r.state) (sym (client_one opened link run mark)) events in
+    let last = subst (λ (r : List Mark). KeepsChunk k.stag h.plan.region (client opened link r).state) (append_assoc run (mark ∷ []) more) (chunk_more opened link k.stag h.plan.region (run ++ mark ∷ []) more first) in
     let all : List Mark = run ++ mark ∷ more in
     let t : ClientState = (client opened link all).state in
     let now = length (bytes_received link Initiator all) in
-    chunk-bytes (region_grants now t.regions) k.stag h.plan.region t.regions t.accesses_received (only-grants now k.stag h.plan.region t.regions last.only) last.only last.there
+    chunk_bytes_lem (region_grants now t.regions) k.stag h.plan.region t.regions t.accesses_received (only_grants now k.stag h.plan.region t.regions last.only) last.only last.there

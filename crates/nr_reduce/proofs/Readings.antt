@@ -11,7 +11,7 @@ use Rattle.nr_reduce.specs.declared.call.Offer.{Offer}
 use Rattle.nr_reduce.specs.declared.outline.Plan.{Plan}
 use Rattle.nr_reduce.specs.Plans.{body_by, lists_of, inline_at, read_stag, call_header, call_message, plan_of}
 use Rattle.nr_reduce.specs.Chunks.{Bytes, call_conveyed, read_bytes}
-use Rattle.nr_reduce.specs.Undone.{inline_by, lists_by, ReadsAsPlan}
+use Rattle.nr_reduce.specs.ChunkBytes.{inline_by, lists_by, ReadsAsPlan}
 use Rattle.nr_reduce.specs.PayloadLaws.{given_conveyed}
 use Rattle.nr_reduce.proofs.Offers.{offer_conveys}
 

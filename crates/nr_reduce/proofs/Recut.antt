@@ -8,8 +8,8 @@ use Rattle.nr_reduce.specs.declared.item.Cut.{Cut}
 use Rattle.nr_reduce.specs.declared.fault.Mismatch.TheVariants as mismatches
 use Rattle.nr_reduce.specs.Items.{reducible_item, stream_of, moved_of}
 use Rattle.nr_reduce.specs.Cuts.{cut_at, cut_of, joined_by, rebuilt_of}
-use Rattle.nr_reduce.proofs.Looks.{item_stands}
-use Rattle.nr_reduce.proofs.Undone.{reducible, restored-moved, moved-length, right_length}
+use Rattle.nr_reduce.proofs.ItemSearch.{item_stands}
+use Rattle.nr_reduce.proofs.Undone.{reducible, restored_moved, moved_length, right_length}
 
 abbrev some : Cut → Option Cut
 some c = Some c
@@ -24,7 +24,7 @@ at_item of payload i fits e =
     let s = item_stands of payload i fits r.item in
     ap (λ (o : Option Item). joined_by of (stream_of payload i) i.pos (moved_of payload i) o) s.again
     ∙ (λ k. cond (not (eq-eqb i.pos i.pos refl k)) (Err mismatches.Position)
-    (cond (not (right_length of i (moved_of payload i) (moved-length of payload i r) k)) (Err mismatches.Length) (Ok (restored-moved of payload i r k))))
+    (cond (not (right_length of i (moved_of payload i) (moved_length of payload i r) k)) (Err mismatches.Length) (Ok (restored_moved of payload i r k))))
 
 by_item : (of : Of) (payload : List ℕ) (c : Cut) (o : Option Item) → IsBytes payload → reducible_item of payload ≡ o → cut_at payload o ≡ Some c → rebuilt_of of c.stream c.item.pos c.moved ≡ Ok payload
 by_item of payload c None fits is e = absurd cc

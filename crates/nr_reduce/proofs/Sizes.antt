@@ -3,7 +3,7 @@ use Rattle.std.proofs.Common.{◌≡◌, ℕ, ◌+◌, ◌*◌, ◌≤◌, Bool,
 use Rattle.std.proofs.lemmas.List.Sums.{sum_by-cons}
 use Rattle.nr_xdr.specs.Item.{Item as XdrItem, word, hyper}
 use Rattle.nr_xdr.specs.Items.{encodings}
-use Rattle.nr_xdr.proofs.WordBytes.{length-word, length-hyper}
+use Rattle.nr_xdr.proofs.WordBytes.{length_word, length_hyper}
 use Rattle.nr_header.specs.Constants.{PAYLOAD_MAX}
 use Rattle.nr_header.specs.declared.header.RdmaSegment.{RdmaSegment}
 use Rattle.nr_header.specs.declared.header.ReadSegment.{ReadSegment}
@@ -15,14 +15,14 @@ use Rattle.nr_reduce.specs.declared.call.Form.TheVariants as forms
 use Rattle.nr_reduce.specs.declared.outline.Plan.{Plan}
 use Rattle.nr_reduce.specs.Limits.{given_max}
 use Rattle.nr_reduce.specs.Plans.{TooLarge, segments_from, entries_from, read_list, write_list, reply_chunk, write_size, reply_size, plan_size, write_stag, reply_stag, read_stag, given_read, given_total, given_within, plan_in_form, within, lists_of, body_by, call_message, plan_of}
-use Rattle.nr_reduce.proofs.Shapes.{offered, MessageKind, shape, Shaped, shaped, within-ok}
-use Rattle.nr_reduce.proofs.Shapes.MessageKind.{Short, Chunked, Long}
+use Rattle.nr_reduce.proofs.PlanKinds.{offered, MessageKind, shape, Shaped, shaped, within_ok_lem}
+use Rattle.nr_reduce.proofs.PlanKinds.MessageKind.{Short, Chunked, Long}
 
 pub word_len : (n : ℕ) (xs : List ℕ) → length (word n ++ xs) ≡ 4 + length xs
-word_len n xs = (let a = length-append (word n) xs in let b = length-word n in omega (arith, a, b))
+word_len n xs = (let a = length-append (word n) xs in let b = length_word n in omega (arith, a, b))
 
 hyper_len : (n : ℕ) (xs : List ℕ) → length (hyper n ++ xs) ≡ 8 + length xs
-hyper_len n xs = (let a = length-append (hyper n) xs in let b = length-hyper n in omega (arith, a, b))
+hyper_len n xs = (let a = length-append (hyper n) xs in let b = length_hyper n in omega (arith, a, b))
 
 segment_len : (handle len offset : ℕ) (xs : List ℕ) → length (word handle ++ (word len ++ (hyper offset ++ xs))) ≡ 16 + length xs
 segment_len handle len offset xs =
@@ -163,7 +163,7 @@ given_ok forms.Auto answer p e = e
 given_ok forms.Inline answer p e = e
 given_ok forms.Chunk answer p e = e
 given_ok forms.Long answer p e = e
-given_ok (forms.Given offer) answer p e = (within-ok (given_total offer) given_max answer p e).1
+given_ok (forms.Given offer) answer p e = (within_ok_lem (given_total offer) given_max answer p e).1
 
 -- a plan is that of its form, and its size is at most that of a Send
 pub record IsFormed (payload : List ℕ) (form : Form) (up down : ℕ) (p : Plan) : Type 0 where
@@ -175,8 +175,8 @@ unfolding plan_of
 is_formed payload form up down p e =
     let q : Plan = plan_in_form payload form up down in
     let sent : Result Plan TooLarge = within (plan_size q) up (Ok q) in
-    let a = within-ok (length payload) PAYLOAD_MAX (given_within form sent) p e in
-    let b = within-ok (plan_size q) up (Ok q) p (given_ok form sent p a.1) in
+    let a = within_ok_lem (length payload) PAYLOAD_MAX (given_within form sent) p e in
+    let b = within_ok_lem (plan_size q) up (Ok q) p (given_ok form sent p a.1) in
     let same : q ≡ p = (let s : Ok q ≡ Ok p = b.1 in cc) in
     record { is = same; fits = subst (λ (r : Plan). plan_size r ≤ up) same b.0 }
 

@@ -10,53 +10,53 @@ use Rattle.nr_reduce.specs.Matched.{IsPrefixOf}
 use Rattle.nr_reduce.specs.Asked.{IsAll, AskedMark}
 use Rattle.nr_reduce.specs.Served.{ServedMark}
 use Rattle.nr_reduce.specs.SoFar.{SoFar, InFull}
-use Rattle.nr_reduce.proofs.Steps.{AtEachMark-first}
+use Rattle.nr_reduce.proofs.Steps.{AtEachMark_first}
 
-pub AtEachMark-each : (P Q : List Mark → Mark → Type 0) (before run : List Mark) → ((b : List Mark) (m : Mark) → P b m → Q b m) → AtEachMark P before run → AtEachMark Q before run
-AtEachMark-each P Q before [] f h = tt
-AtEachMark-each P Q before (m ∷ run) f h = (f before m h.0, AtEachMark-each P Q (before ++ m ∷ []) run f h.1)
+pub AtEachMark_each : (P Q : List Mark → Mark → Type 0) (before run : List Mark) → ((b : List Mark) (m : Mark) → P b m → Q b m) → AtEachMark P before run → AtEachMark Q before run
+AtEachMark_each P Q before [] f h = tt
+AtEachMark_each P Q before (m ∷ run) f h = (f before m h.0, AtEachMark_each P Q (before ++ m ∷ []) run f h.1)
 
-pub all-first : (xs ys : List ℕ) → xs ≡ ys → IsPrefixOf xs ys
-all-first xs ys is = ([], append-nil xs ∙ is)
+pub all_first : (xs ys : List ℕ) → xs ≡ ys → IsPrefixOf xs ys
+all_first xs ys is = ([], append-nil xs ∙ is)
 
-pub asked-mark : (opened : LinkParameters) (link : ℕ) (before : List Mark) (mark : Mark) → AskedMark IsAll opened link before mark → AskedMark IsPrefixOf opened link before mark
-asked-mark opened link before (marks.Submit l call form (submissions.Accepted xid)) h = h
-asked-mark opened link before (marks.Submit l call form (submissions.Refused why)) h = h
-asked-mark opened link before (marks.Submit l call form submissions.Dropped) h = h
-asked-mark opened link before (marks.Wrote l Initiator bytes) h = λ same. all-first _ _ (h same)
-asked-mark opened link before (marks.Wrote l Responder bytes) h = h
-asked-mark opened link before (marks.Fed l side bytes) h = h
-asked-mark opened link before (marks.Execute l xid moment payload place reply) h = h
-asked-mark opened link before (marks.Done l xid outcome) h = h
-asked-mark opened link before (marks.Lost l xid) h = h
-asked-mark opened link before (marks.Forget l xid) h = h
-asked-mark opened link before (marks.Revoke l xid bytes) h = h
-asked-mark opened link before (marks.Drop l) h = h
+pub asked_mark : (opened : LinkParameters) (link : ℕ) (before : List Mark) (mark : Mark) → AskedMark IsAll opened link before mark → AskedMark IsPrefixOf opened link before mark
+asked_mark opened link before (marks.Submit l call form (submissions.Accepted xid)) h = h
+asked_mark opened link before (marks.Submit l call form (submissions.Refused why)) h = h
+asked_mark opened link before (marks.Submit l call form submissions.Dropped) h = h
+asked_mark opened link before (marks.Wrote l Initiator bytes) h = λ same. all_first _ _ (h same)
+asked_mark opened link before (marks.Wrote l Responder bytes) h = h
+asked_mark opened link before (marks.Fed l side bytes) h = h
+asked_mark opened link before (marks.Execute l xid moment payload place reply) h = h
+asked_mark opened link before (marks.Done l xid outcome) h = h
+asked_mark opened link before (marks.Lost l xid) h = h
+asked_mark opened link before (marks.Forget l xid) h = h
+asked_mark opened link before (marks.Revoke l xid bytes) h = h
+asked_mark opened link before (marks.Drop l) h = h
 
-pub served-mark : (opened : LinkParameters) (link : ℕ) (before : List Mark) (mark : Mark) → ServedMark IsAll opened link before mark → ServedMark IsPrefixOf opened link before mark
-served-mark opened link before (marks.Submit l call form answer) h = h
-served-mark opened link before (marks.Wrote l Initiator bytes) h = h
-served-mark opened link before (marks.Wrote l Responder bytes) h = λ same. all-first _ _ (h same)
-served-mark opened link before (marks.Fed l side bytes) h = h
-served-mark opened link before (marks.Execute l xid moment payload place reply) h = h
-served-mark opened link before (marks.Done l xid outcome) h = h
-served-mark opened link before (marks.Lost l xid) h = h
-served-mark opened link before (marks.Forget l xid) h = h
-served-mark opened link before (marks.Revoke l xid bytes) h = h
-served-mark opened link before (marks.Drop l) h = h
+pub served_mark : (opened : LinkParameters) (link : ℕ) (before : List Mark) (mark : Mark) → ServedMark IsAll opened link before mark → ServedMark IsPrefixOf opened link before mark
+served_mark opened link before (marks.Submit l call form answer) h = h
+served_mark opened link before (marks.Wrote l Initiator bytes) h = h
+served_mark opened link before (marks.Wrote l Responder bytes) h = λ same. all_first _ _ (h same)
+served_mark opened link before (marks.Fed l side bytes) h = h
+served_mark opened link before (marks.Execute l xid moment payload place reply) h = h
+served_mark opened link before (marks.Done l xid outcome) h = h
+served_mark opened link before (marks.Lost l xid) h = h
+served_mark opened link before (marks.Forget l xid) h = h
+served_mark opened link before (marks.Revoke l xid bytes) h = h
+served_mark opened link before (marks.Drop l) h = h
 
 pub so_far : (opened : LinkParameters) (link : ℕ) (run more : List Mark) → InFull opened link (run ++ more) → SoFar opened link run
 so_far opened link run more full = record {
-  asked = AtEachMark-first _ [] run more (AtEachMark-each _ _ [] (run ++ more) (asked-mark opened link) full.asked.each);
-  served = AtEachMark-first _ [] run more (AtEachMark-each _ _ [] (run ++ more) (served-mark opened link) full.served.each);
-  matched = AtEachMark-first _ [] run more full.matched;
-  grant = AtEachMark-first _ [] run more full.grant;
+  asked = AtEachMark_first _ [] run more (AtEachMark_each _ _ [] (run ++ more) (asked_mark opened link) full.asked.each);
+  served = AtEachMark_first _ [] run more (AtEachMark_each _ _ [] (run ++ more) (served_mark opened link) full.served.each);
+  matched = AtEachMark_first _ [] run more full.matched;
+  grant = AtEachMark_first _ [] run more full.grant;
 }
 
 pub first_part : (opened : LinkParameters) (link : ℕ) (run more : List Mark) → SoFar opened link (run ++ more) → SoFar opened link run
 first_part opened link run more h = record {
-  asked = AtEachMark-first _ [] run more h.asked;
-  served = AtEachMark-first _ [] run more h.served;
-  matched = AtEachMark-first _ [] run more h.matched;
-  grant = AtEachMark-first _ [] run more h.grant;
+  asked = AtEachMark_first _ [] run more h.asked;
+  served = AtEachMark_first _ [] run more h.served;
+  matched = AtEachMark_first _ [] run more h.matched;
+  grant = AtEachMark_first _ [] run more h.grant;
 }

@@ -3,11 +3,11 @@ use Rattle.std.proofs.Common.{◌≡◌, ℕ, ◌+◌, ◌-◌, ◌<◌, ◌≤�
 use Rattle.std.specs.List.{AllByRecursion, filter}
 use Rattle.std.proofs.lemmas.Bool.{lt-leb, le-ltb}
 use Rattle.nr_regions.specs.RegisteredMemory.{RegisteredMemory, denial}
-use Rattle.nr_regions.specs.Access.{TaggedSegment, access_of}
+use Rattle.nr_regions.specs.Access.{TaggedSegment, access_of_tagged}
 use Rattle.nr_regions.specs.declared.denied.Denied.{Denied}
 use Rattle.nr_regions.specs.Events.{after_event, after_arrival}
-use Rattle.nr_regions.specs.Events.Event.{Arrive}
-use Rattle.nr_regions.proofs.Holding.{next-after_place}
+use Rattle.nr_regions.specs.Events.MemoryEvent.{Arrive}
+use Rattle.nr_regions.proofs.Holding.{next_after_place}
 use Rattle.nr_reduce.specs.declared.mark.LinkParameters.{LinkParameters}
 use Rattle.nr_reduce.specs.declared.outline.Plan.{Plan}
 use Rattle.nr_reduce.specs.History.{AcceptedCall}
@@ -15,16 +15,16 @@ use Rattle.nr_reduce.specs.Plans.{TooLarge, Buffer, buffers, regions_needed, lis
 use Rattle.nr_reduce.specs.OfferedRegions.{Region}
 use Rattle.nr_reduce.specs.OfferedMemory.{region_at}
 use Rattle.nr_reduce.specs.Written.{ends_left}
-use Rattle.nr_reduce.specs.Events.Event.{CallSubmitted}
+use Rattle.nr_reduce.specs.Events.RunEvent.{CallSubmitted}
 use Rattle.nr_reduce.specs.ClientState.{OutstandingCall, ClientState, call_payload, plan_for}
 use Rattle.nr_reduce.specs.Client.{client_end, client_state_after, outstanding_of, plan_or, region_of, with_hello, call_ends, submitted_ends}
 use Rattle.nr_reduce.specs.KeptCalls.{KeptCall, IsKept, AreKept}
 use Rattle.nr_reduce.specs.KeptClient.{CallsKeep, MemoryKeeps, HoldsFor, IsOwned, IsOpen, IsAmong, AreRising, AreBelow, OpensFor, registered_all, kept_placed, sent_kept, kept_sent, kept_of, kept_submitted}
 use Rattle.nr_reduce.specs.StandingLaws.{KeptPlaces, KeptWrites, KeptGreets, KeptSubmits}
-use Rattle.nr_reduce.proofs.MemorySteps.{holds-access, received-one, offered-later}
-use Rattle.nr_reduce.proofs.Releasing.{keeps-live}
-use Rattle.nr_reduce.proofs.LaterSends.{calls-later, submit-later}
-use Rattle.nr_reduce.proofs.Registering.{Registers, register-all, buffers-numbered, buffers-count, opens-new, opens-old, own-region, at-both, or_region}
+use Rattle.nr_reduce.proofs.MemorySteps.{holds_access, received_one, offered_later}
+use Rattle.nr_reduce.proofs.Releasing.{keeps_live}
+use Rattle.nr_reduce.proofs.LaterSends.{calls_later, submit_later}
+use Rattle.nr_reduce.proofs.Registering.{Registers, register_all, buffers_numbered, buffers_count, opens_new, opens_old, own_region, at_both, or_region}
 
 -- ---- The Sends that have left
 
@@ -33,11 +33,11 @@ record SendsStay (k k2 : ClientState) : Type 0 where
   first : k2.first_xid ≡ k.first_xid
   left : ends_left k2.written k2.send_ends ≡ ends_left k.written k.send_ends
 
-kept-stay : (k k2 : ClientState) (cs : List KeptCall) (os : List OutstandingCall) → SendsStay k k2 → AreKept k cs os → AreKept k2 cs os
-kept-stay k k2 [] [] same is = tt
-kept-stay k k2 [] (o ∷ os) same is = absurd is
-kept-stay k k2 (c ∷ cs) [] same is = absurd is
-kept-stay k k2 (c ∷ cs) (o ∷ os) same is = (
+kept_stay : (k k2 : ClientState) (cs : List KeptCall) (os : List OutstandingCall) → SendsStay k k2 → AreKept k cs os → AreKept k2 cs os
+kept_stay k k2 [] [] same is = tt
+kept_stay k k2 [] (o ∷ os) same is = absurd is
+kept_stay k k2 (c ∷ cs) [] same is = absurd is
+kept_stay k k2 (c ∷ cs) (o ∷ os) same is = (
   record {
     xid = is.0.xid;
     sent = is.0.sent ∙ (λ i. ltb (o.xid - sym same.first i) (sym same.left i));
@@ -47,17 +47,17 @@ kept-stay k k2 (c ∷ cs) (o ∷ os) same is = (
     reply = is.0.reply;
     stags = is.0.stags;
   },
-  kept-stay k k2 cs os same is.1,
+  kept_stay k k2 cs os same is.1,
 )
 
 -- none that ends later than what is written has left
-none-left : (n : ℕ) (ends : List ℕ) → AllByRecursion (λ end. n < end) ends → ends_left n ends ≡ 0
-none-left n [] h = refl
-none-left n (end ∷ ends) h = ap (λ (b : Bool). length (cond b (end ∷ filter (λ e. leb e n) ends) (filter (λ e. leb e n) ends))) (lt-leb end n h.0) ∙ none-left n ends h.1
+none_left_lem : (n : ℕ) (ends : List ℕ) → AllByRecursion (λ end. n < end) ends → ends_left n ends ≡ 0
+none_left_lem n [] h = refl
+none_left_lem n (end ∷ ends) h = ap (λ (b : Bool). length (cond b (end ∷ filter (λ e. leb e n) ends) (filter (λ e. leb e n) ends))) (lt-leb end n h.0) ∙ none_left_lem n ends h.1
 
-left-append : (n : ℕ) (xs ys : List ℕ) → AllByRecursion (λ end. n < end) ys → ends_left n (xs ++ ys) ≡ ends_left n xs
-left-append n [] ys h = none-left n ys h
-left-append n (x ∷ xs) ys h = by (leb x n) (left-append n xs ys h)
+left_append : (n : ℕ) (xs ys : List ℕ) → AllByRecursion (λ end. n < end) ys → ends_left n (xs ++ ys) ≡ ends_left n xs
+left_append n [] ys h = none_left_lem n ys h
+left_append n (x ∷ xs) ys h = by (leb x n) (left_append n xs ys h)
   where
     by : (b : Bool) → ends_left n (xs ++ ys) ≡ ends_left n xs → length (cond b (x ∷ filter (λ e. leb e n) (xs ++ ys)) (filter (λ e. leb e n) (xs ++ ys))) ≡ length (cond b (x ∷ filter (λ e. leb e n) xs) (filter (λ e. leb e n) xs))
     by true rest = ap (λ (m : ℕ). Rattle.std.proofs.Common.suc m) rest
@@ -65,43 +65,43 @@ left-append n (x ∷ xs) ys h = by (leb x n) (left-append n xs ys h)
 
 -- ---- An access
 
-arrival-next : (m : RegisteredMemory) (s : TaggedSegment) (d : Option Denied) → (after_arrival d m s).next ≡ m.next
-arrival-next m s None = next-after_place m s.stag s.to s.payload
-arrival-next m s (Some denied) = refl
+arrival_next : (m : RegisteredMemory) (s : TaggedSegment) (d : Option Denied) → (after_arrival d m s).next ≡ m.next
+arrival_next m s None = next_after_place m s.stag s.to s.payload
+arrival_next m s (Some denied) = refl
 
-event-next : (m : RegisteredMemory) (s : TaggedSegment) → (after_event m (Arrive s)).next ≡ m.next
+event_next : (m : RegisteredMemory) (s : TaggedSegment) → (after_event m (Arrive s)).next ≡ m.next
 unfolding after_event
-event-next m s = arrival-next m s (denial m (access_of s))
+event_next m s = arrival_next m s (denial m (access_of_tagged s))
 
-calls-same : (calls : List KeptCall) (next : ℕ) (k : ClientState) (access : TaggedSegment) → CallsKeep calls next k → CallsKeep calls next (record k { accesses_received = k.accesses_received ++ access ∷ [] })
-calls-same calls next k access keeps = record {
-  kept = kept-stay k (record k { accesses_received = k.accesses_received ++ access ∷ [] }) calls k.outstanding (record { first = refl; left = refl }) keeps.kept;
+calls_same : (calls : List KeptCall) (next : ℕ) (k : ClientState) (access : TaggedSegment) → CallsKeep calls next k → CallsKeep calls next (record k { accesses_received = k.accesses_received ++ access ∷ [] })
+calls_same calls next k access keeps = record {
+  kept = kept_stay k (record k { accesses_received = k.accesses_received ++ access ∷ [] }) calls k.outstanding (record { first = refl; left = refl }) keeps.kept;
   rising = keeps.rising;
   owned = keeps.owned;
   opens = keeps.opens;
 }
 
-pub kept-places : KeptPlaces
+pub kept_places : KeptPlaces
 unfolding kept_placed
-kept-places opened kept k count access keeps lt =
+kept_places opened kept k count access keeps lt =
     let memory : MemoryKeeps kept.memory k count = keeps.memory refl in
     let after : ClientState = record k { accesses_received = k.accesses_received ++ access ∷ [] } in
-    keeps-live opened (kept_placed kept access) after access.end keeps.ended keeps.xid keeps.grant keeps.up keeps.down keeps.outstanding (received-one count k.accesses_received access (omega (arith, lt)) keeps.accesses)
+    keeps_live opened (kept_placed kept access) after access.end keeps.ended keeps.xid keeps.grant keeps.up keeps.down keeps.outstanding (received_one count k.accesses_received access (omega (arith, lt)) keeps.accesses)
     (record {
-      next = event-next kept.memory access ∙ memory.next;
-      offered = offered-later count access.end k.regions (omega (arith, lt)) memory.offered;
-      holds = holds-access k.regions k.accesses_received count kept.memory access memory.offered keeps.accesses (λ stag r there. (let low = memory.below stag r there in let next = memory.next in omega (arith, low, next))) lt memory.holds;
+      next = event_next kept.memory access ∙ memory.next;
+      offered = offered_later count access.end k.regions (omega (arith, lt)) memory.offered;
+      holds = holds_access k.regions k.accesses_received count kept.memory access memory.offered keeps.accesses (λ stag r there. (let low = memory.below stag r there in let next = memory.next in omega (arith, low, next))) lt memory.holds;
       below = memory.below;
     })
-    (calls-same kept.calls kept.next_xid k access (keeps.calls refl))
+    (calls_same kept.calls kept.next_xid k access (keeps.calls refl))
 
 -- ---- A write
 
-sent-all : (k k2 : ClientState) (first sent : ℕ) (cs : List KeptCall) (os : List OutstandingCall) → k2.first_xid ≡ first → ends_left k2.written k2.send_ends ≡ sent → AreKept k cs os → AreKept k2 (map (sent_kept first sent) cs) os
-sent-all k k2 first sent [] [] f e is = tt
-sent-all k k2 first sent [] (o ∷ os) f e is = absurd is
-sent-all k k2 first sent (c ∷ cs) [] f e is = absurd is
-sent-all k k2 first sent (c ∷ cs) (o ∷ os) f e is = (
+sent_all : (k k2 : ClientState) (first sent : ℕ) (cs : List KeptCall) (os : List OutstandingCall) → k2.first_xid ≡ first → ends_left k2.written k2.send_ends ≡ sent → AreKept k cs os → AreKept k2 (map (sent_kept first sent) cs) os
+sent_all k k2 first sent [] [] f e is = tt
+sent_all k k2 first sent [] (o ∷ os) f e is = absurd is
+sent_all k k2 first sent (c ∷ cs) [] f e is = absurd is
+sent_all k k2 first sent (c ∷ cs) (o ∷ os) f e is = (
   record {
     xid = is.0.xid;
     sent = λ i. ltb (is.0.xid i - sym f i) (sym e i);
@@ -111,59 +111,59 @@ sent-all k k2 first sent (c ∷ cs) (o ∷ os) f e is = (
     reply = is.0.reply;
     stags = is.0.stags;
   },
-  sent-all k k2 first sent cs os f e is.1,
+  sent_all k k2 first sent cs os f e is.1,
 )
 
-above-sent : (first sent n : ℕ) (cs : List KeptCall) → AllByRecursion (λ d. n < d.xid) cs → AllByRecursion (λ d. n < d.xid) (map (sent_kept first sent) cs)
-above-sent first sent n [] h = tt
-above-sent first sent n (c ∷ cs) h = (h.0, above-sent first sent n cs h.1)
+above_sent : (first sent n : ℕ) (cs : List KeptCall) → AllByRecursion (λ d. n < d.xid) cs → AllByRecursion (λ d. n < d.xid) (map (sent_kept first sent) cs)
+above_sent first sent n [] h = tt
+above_sent first sent n (c ∷ cs) h = (h.0, above_sent first sent n cs h.1)
 
-pub rising-sent : (first sent : ℕ) (cs : List KeptCall) (below : ℕ) → AreRising cs below → AreRising (map (sent_kept first sent) cs) below
-rising-sent first sent [] below h = tt
-rising-sent first sent (c ∷ cs) below h = (h.0, (above-sent first sent c.xid cs h.1.0, rising-sent first sent cs below h.1.1))
+pub rising_sent : (first sent : ℕ) (cs : List KeptCall) (below : ℕ) → AreRising cs below → AreRising (map (sent_kept first sent) cs) below
+rising_sent first sent [] below h = tt
+rising_sent first sent (c ∷ cs) below h = (h.0, (above_sent first sent c.xid cs h.1.0, rising_sent first sent cs below h.1.1))
 
-among-sent : (first sent : ℕ) (d : KeptCall) (cs : List KeptCall) → IsAmong d cs → IsAmong (sent_kept first sent d) (map (sent_kept first sent) cs)
-among-sent first sent d [] is = absurd is
-among-sent first sent d (c ∷ cs) (inl e) = inl (ap (sent_kept first sent) e)
-among-sent first sent d (c ∷ cs) (inr is) = inr (among-sent first sent d cs is)
+among_sent : (first sent : ℕ) (d : KeptCall) (cs : List KeptCall) → IsAmong d cs → IsAmong (sent_kept first sent d) (map (sent_kept first sent) cs)
+among_sent first sent d [] is = absurd is
+among_sent first sent d (c ∷ cs) (inl e) = inl (ap (sent_kept first sent) e)
+among_sent first sent d (c ∷ cs) (inr is) = inr (among_sent first sent d cs is)
 
-pub opens-sent : (first sent : ℕ) (regions : List Region) (cs : List KeptCall) → AllByRecursion (OpensFor regions) cs → AllByRecursion (OpensFor regions) (map (sent_kept first sent) cs)
-opens-sent first sent regions [] h = tt
-opens-sent first sent regions (c ∷ cs) h = (h.0, opens-sent first sent regions cs h.1)
+pub opens_sent : (first sent : ℕ) (regions : List Region) (cs : List KeptCall) → AllByRecursion (OpensFor regions) cs → AllByRecursion (OpensFor regions) (map (sent_kept first sent) cs)
+opens_sent first sent regions [] h = tt
+opens_sent first sent regions (c ∷ cs) h = (h.0, opens_sent first sent regions cs h.1)
 
-pub holds-sent : (first sent : ℕ) (m : RegisteredMemory) (k : ClientState) (count : ℕ) (cs : List KeptCall) → AllByRecursion (HoldsFor m k count) cs → AllByRecursion (HoldsFor m k count) (map (sent_kept first sent) cs)
-holds-sent first sent m k count [] h = tt
-holds-sent first sent m k count (c ∷ cs) h = (h.0, holds-sent first sent m k count cs h.1)
+pub holds_sent : (first sent : ℕ) (m : RegisteredMemory) (k : ClientState) (count : ℕ) (cs : List KeptCall) → AllByRecursion (HoldsFor m k count) cs → AllByRecursion (HoldsFor m k count) (map (sent_kept first sent) cs)
+holds_sent first sent m k count [] h = tt
+holds_sent first sent m k count (c ∷ cs) h = (h.0, holds_sent first sent m k count cs h.1)
 
-pub kept-writes : KeptWrites
+pub kept_writes : KeptWrites
 unfolding client_end client_state_after kept_sent
-kept-writes opened kept k count taken keeps =
+kept_writes opened kept k count taken keeps =
     let calls : CallsKeep kept.calls kept.next_xid k = keeps.calls refl in
     let memory : MemoryKeeps kept.memory k count = keeps.memory refl in
     let after : ClientState = record k { written = k.written + taken } in
     let sent : ℕ = ends_left (k.written + taken) k.send_ends in
-    keeps-live opened (kept_sent k.first_xid sent kept) after count keeps.ended keeps.xid keeps.grant keeps.up keeps.down keeps.outstanding keeps.accesses
+    keeps_live opened (kept_sent k.first_xid sent kept) after count keeps.ended keeps.xid keeps.grant keeps.up keeps.down keeps.outstanding keeps.accesses
     (record { next = memory.next; offered = memory.offered; holds = memory.holds; below = memory.below })
     (record {
-      kept = sent-all k after k.first_xid sent kept.calls k.outstanding refl refl calls.kept;
-      rising = rising-sent k.first_xid sent kept.calls kept.next_xid calls.rising;
+      kept = sent_all k after k.first_xid sent kept.calls k.outstanding refl refl calls.kept;
+      rising = rising_sent k.first_xid sent kept.calls kept.next_xid calls.rising;
       owned = λ stag r there is_open.
           (let owner : IsOwned kept.calls r.call stag = calls.owned stag r there is_open in
-          record { call = sent_kept k.first_xid sent owner.call; there = among-sent k.first_xid sent owner.call kept.calls owner.there; xid_is = owner.xid_is; own = owner.own });
-      opens = opens-sent k.first_xid sent k.regions kept.calls calls.opens;
+          record { call = sent_kept k.first_xid sent owner.call; there = among_sent k.first_xid sent owner.call kept.calls owner.there; xid_is = owner.xid_is; own = owner.own });
+      opens = opens_sent k.first_xid sent k.regions kept.calls calls.opens;
     })
 
 -- ---- The server's hello
 
-pub kept-greets : KeptGreets
-kept-greets opened kept k count keeps within =
-    let later : AllByRecursion (λ end. k.written < end) (call_ends opened k.due 1 k.outstanding) = calls-later opened k.written k.due 1 k.outstanding within in
+pub kept_greets : KeptGreets
+kept_greets opened kept k count keeps within =
+    let later : AllByRecursion (λ end. k.written < end) (call_ends opened k.due 1 k.outstanding) = calls_later opened k.written k.due 1 k.outstanding within in
     let calls : CallsKeep kept.calls kept.next_xid k = keeps.calls refl in
     let memory : MemoryKeeps kept.memory k count = keeps.memory refl in
-    keeps-live opened kept (with_hello opened k) count keeps.ended keeps.xid keeps.grant keeps.up keeps.down keeps.outstanding keeps.accesses
+    keeps_live opened kept (with_hello opened k) count keeps.ended keeps.xid keeps.grant keeps.up keeps.down keeps.outstanding keeps.accesses
     (record { next = memory.next; offered = memory.offered; holds = memory.holds; below = memory.below })
     (record {
-      kept = kept-stay k (with_hello opened k) kept.calls k.outstanding (record { first = refl; left = left-append k.written k.send_ends (call_ends opened k.due 1 k.outstanding) later }) calls.kept;
+      kept = kept_stay k (with_hello opened k) kept.calls k.outstanding (record { first = refl; left = left_append k.written k.send_ends (call_ends opened k.due 1 k.outstanding) later }) calls.kept;
       rising = calls.rising;
       owned = calls.owned;
       opens = calls.opens;
@@ -171,50 +171,50 @@ kept-greets opened kept k count keeps within =
 
 -- ---- A call that is accepted
 
-kept-more : (k : ClientState) (cs : List KeptCall) (os : List OutstandingCall) (c : KeptCall) (o : OutstandingCall) → AreKept k cs os → IsKept k c o → AreKept k (cs ++ c ∷ []) (os ++ o ∷ [])
-kept-more k [] [] c o is one = (one, tt)
-kept-more k [] (x ∷ os) c o is one = absurd is
-kept-more k (x ∷ cs) [] c o is one = absurd is
-kept-more k (x ∷ cs) (y ∷ os) c o is one = (is.0, kept-more k cs os c o is.1 one)
+kept_more : (k : ClientState) (cs : List KeptCall) (os : List OutstandingCall) (c : KeptCall) (o : OutstandingCall) → AreKept k cs os → IsKept k c o → AreKept k (cs ++ c ∷ []) (os ++ o ∷ [])
+kept_more k [] [] c o is one = (one, tt)
+kept_more k [] (x ∷ os) c o is one = absurd is
+kept_more k (x ∷ cs) [] c o is one = absurd is
+kept_more k (x ∷ cs) (y ∷ os) c o is one = (is.0, kept_more k cs os c o is.1 one)
 
-below-more : (cs : List KeptCall) (next more : ℕ) → next ≤ more → AreRising cs next → AreRising cs more
-below-more [] next more le is = tt
-below-more (c ∷ cs) next more le is = ((let lt = is.0 in omega (arith, lt, le)), (is.1.0, below-more cs next more le is.1.1))
+below_more : (cs : List KeptCall) (next more : ℕ) → next ≤ more → AreRising cs next → AreRising cs more
+below_more [] next more le is = tt
+below_more (c ∷ cs) next more le is = ((let lt = is.0 in omega (arith, lt, le)), (is.1.0, below_more cs next more le is.1.1))
 
-above-more : (n : ℕ) (cs : List KeptCall) (c : KeptCall) → AllByRecursion (λ d. n < d.xid) cs → n < c.xid → AllByRecursion (λ d. n < d.xid) (cs ++ c ∷ [])
-above-more n [] c is lt = (lt, tt)
-above-more n (x ∷ cs) c is lt = (is.0, above-more n cs c is.1 lt)
+above_more : (n : ℕ) (cs : List KeptCall) (c : KeptCall) → AllByRecursion (λ d. n < d.xid) cs → n < c.xid → AllByRecursion (λ d. n < d.xid) (cs ++ c ∷ [])
+above_more n [] c is lt = (lt, tt)
+above_more n (x ∷ cs) c is lt = (is.0, above_more n cs c is.1 lt)
 
-rising-more : (cs : List KeptCall) (c : KeptCall) (next : ℕ) → AreRising cs next → c.xid ≡ next → AreRising (cs ++ c ∷ []) (next + 1)
-rising-more [] c next is e = ((let x = e in omega (arith, x)), (tt, tt))
-rising-more (x ∷ cs) c next is e =
-    ((let lt = is.0 in omega (arith, lt)), (above-more x.xid cs c is.1.0 (let lt = is.0 in omega (arith, lt, e)), rising-more cs c next is.1.1 e))
+rising_more : (cs : List KeptCall) (c : KeptCall) (next : ℕ) → AreRising cs next → c.xid ≡ next → AreRising (cs ++ c ∷ []) (next + 1)
+rising_more [] c next is e = ((let x = e in omega (arith, x)), (tt, tt))
+rising_more (x ∷ cs) c next is e =
+    ((let lt = is.0 in omega (arith, lt)), (above_more x.xid cs c is.1.0 (let lt = is.0 in omega (arith, lt, e)), rising_more cs c next is.1.1 e))
 
-among-left : {X : Type 0} (x : X) (xs ys : List X) → IsAmong x xs → IsAmong x (xs ++ ys)
-among-left x [] ys is = absurd is
-among-left x (y ∷ xs) ys (inl e) = inl e
-among-left x (y ∷ xs) ys (inr is) = inr (among-left x xs ys is)
+among_left : {X : Type 0} (x : X) (xs ys : List X) → IsAmong x xs → IsAmong x (xs ++ ys)
+among_left x [] ys is = absurd is
+among_left x (y ∷ xs) ys (inl e) = inl e
+among_left x (y ∷ xs) ys (inr is) = inr (among_left x xs ys is)
 
-among-last : {X : Type 0} (x : X) (xs : List X) → IsAmong x (xs ++ x ∷ [])
-among-last x [] = inl refl
-among-last x (y ∷ xs) = inr (among-last x xs)
+among_last : {X : Type 0} (x : X) (xs : List X) → IsAmong x (xs ++ x ∷ [])
+among_last x [] = inl refl
+among_last x (y ∷ xs) = inr (among_last x xs)
 
-opens-stags : (regions more : List Region) (xid : ℕ) (ss : List ℕ) → AllByRecursion (λ s. IsOpen regions xid s) ss → AllByRecursion (λ s. IsOpen (regions ++ more) xid s) ss
-opens-stags regions more xid [] is = tt
-opens-stags regions more xid (s ∷ ss) is = (opens-old regions more xid s is.0, opens-stags regions more xid ss is.1)
+opens_stags : (regions more : List Region) (xid : ℕ) (ss : List ℕ) → AllByRecursion (λ s. IsOpen regions xid s) ss → AllByRecursion (λ s. IsOpen (regions ++ more) xid s) ss
+opens_stags regions more xid [] is = tt
+opens_stags regions more xid (s ∷ ss) is = (opens_old regions more xid s is.0, opens_stags regions more xid ss is.1)
 
-opens-more : (regions more : List Region) (cs : List KeptCall) (c : KeptCall) → AllByRecursion (OpensFor regions) cs → OpensFor (regions ++ more) c → AllByRecursion (OpensFor (regions ++ more)) (cs ++ c ∷ [])
-opens-more regions more [] c is one = (one, tt)
-opens-more regions more (x ∷ cs) c is one = (opens-stags regions more x.xid x.stags is.0, opens-more regions more cs c is.1 one)
+opens_more : (regions more : List Region) (cs : List KeptCall) (c : KeptCall) → AllByRecursion (OpensFor regions) cs → OpensFor (regions ++ more) c → AllByRecursion (OpensFor (regions ++ more)) (cs ++ c ∷ [])
+opens_more regions more [] c is one = (one, tt)
+opens_more regions more (x ∷ cs) c is one = (opens_stags regions more x.xid x.stags is.0, opens_more regions more cs c is.1 one)
 
-calls-submitted : (opened : LinkParameters) (calls : List KeptCall) (next_xid : ℕ) (k : ClientState) (count : ℕ) (a : AcceptedCall) (c : KeptCall) → CallsKeep calls next_xid k → AreBelow k.regions k.stag →
+calls_submitted : (opened : LinkParameters) (calls : List KeptCall) (next_xid : ℕ) (k : ClientState) (count : ℕ) (a : AcceptedCall) (c : KeptCall) → CallsKeep calls next_xid k → AreBelow k.regions k.stag →
     SendsStay k (client_state_after opened k (CallSubmitted count a)) → a.xid ≡ next_xid → IsKept (client_state_after opened k (CallSubmitted count a)) c (outstanding_of k a) → CallsKeep (calls ++ c ∷ []) (next_xid + 1) (client_state_after opened k (CallSubmitted count a))
 unfolding client_state_after
-calls-submitted opened calls next_xid k count a c keeps below stay next is = record {
-  kept = kept-more after calls k.outstanding c o (kept-stay k after calls k.outstanding stay keeps.kept) is;
-  rising = rising-more calls c next_xid keeps.rising (is.xid ∙ next);
-  owned = λ stag r there is_open. own stag r is_open (region_at k.regions stag) refl (sym (at-both k.regions new stag) ∙ there);
-  opens = opens-more k.regions new calls c keeps.opens (subst (λ (ss : List ℕ). AllByRecursion (λ s. IsOpen (k.regions ++ new) c.xid s) ss) (sym is.stags) (subst (λ (x : ℕ). AllByRecursion (λ s. IsOpen (k.regions ++ new) x s) (map (λ (b : Buffer). b.stag) (buffers k.stag o.plan))) (sym is.xid) (opens-new a.xid count k.regions (buffers k.stag o.plan) k.stag below (buffers-numbered k.stag o.plan))));
+calls_submitted opened calls next_xid k count a c keeps below stay next is = record {
+  kept = kept_more after calls k.outstanding c o (kept_stay k after calls k.outstanding stay keeps.kept) is;
+  rising = rising_more calls c next_xid keeps.rising (is.xid ∙ next);
+  owned = λ stag r there is_open. own stag r is_open (region_at k.regions stag) refl (sym (at_both k.regions new stag) ∙ there);
+  opens = opens_more k.regions new calls c keeps.opens (subst (λ (ss : List ℕ). AllByRecursion (λ s. IsOpen (k.regions ++ new) c.xid s) ss) (sym is.stags) (subst (λ (x : ℕ). AllByRecursion (λ s. IsOpen (k.regions ++ new) x s) (map (λ (b : Buffer). b.stag) (buffers k.stag o.plan))) (sym is.xid) (opens_new a.xid count k.regions (buffers k.stag o.plan) k.stag below (buffers_numbered k.stag o.plan))));
 }
   where
     after : ClientState
@@ -230,12 +230,12 @@ calls-submitted opened calls next_xid k count a c keeps below stay next is = rec
     own stag r is_open (Some q) e h =
         let same : q ≡ r = (let s : Some q ≡ Some r = ap (λ (x : Option Region). or_region x (region_at new stag)) (sym e) ∙ h in cc) in
         let old : IsOwned calls r.call stag = keeps.owned stag r (e ∙ ap (λ (x : Region). Some x) same) is_open in
-        record { call = old.call; there = among-left old.call calls (c ∷ []) old.there; xid_is = old.xid_is; own = old.own }
+        record { call = old.call; there = among_left old.call calls (c ∷ []) old.there; xid_is = old.xid_is; own = old.own }
     own stag r is_open None e h =
-        let mine = own-region a.xid count (buffers k.stag o.plan) stag r (ap (λ (x : Option Region). or_region x (region_at new stag)) (sym e) ∙ h) in
+        let mine = own_region a.xid count (buffers k.stag o.plan) stag r (ap (λ (x : Option Region). or_region x (region_at new stag)) (sym e) ∙ h) in
         record {
           call = c;
-          there = among-last c calls;
+          there = among_last c calls;
           xid_is = is.xid ∙ sym mine.0;
           own = subst (λ (ss : List ℕ). IsAmong stag ss) (sym is.stags) mine.1;
         }
@@ -243,35 +243,35 @@ calls-submitted opened calls next_xid k count a c keeps below stay next is = rec
 planned : (k : ClientState) (a : AcceptedCall) (plan : Plan) → plan_for k a.xid a.call a.form ≡ Ok plan → (outstanding_of k a).plan ≡ plan
 planned k a plan is = ap (λ (r : Result Plan TooLarge). plan_or (call_payload a.xid a.call) r) is
 
-not-sent : (x first left : ℕ) → left ≤ x - first → ltb (x - first) left ≡ false
-not-sent x first left le = le-ltb (x - first) left le
+not_sent : (x first left : ℕ) → left ≤ x - first → ltb (x - first) left ≡ false
+not_sent x first left le = le-ltb (x - first) left le
 
-pub kept-submits : KeptSubmits
+pub kept_submits : KeptSubmits
 unfolding client_end client_state_after kept_submitted
-kept-submits opened kept k count a plan keeps next is within few =
-    let later : AllByRecursion (λ end. k.written < end) (submitted_ends opened k a) = submit-later opened k a within in
+kept_submits opened kept k count a plan keeps next is within few =
+    let later : AllByRecursion (λ end. k.written < end) (submitted_ends opened k a) = submit_later opened k a within in
     let calls : CallsKeep kept.calls kept.next_xid k = keeps.calls refl in
     let memory : MemoryKeeps kept.memory k count = keeps.memory refl in
     let after : ClientState = client_state_after opened k (CallSubmitted count a) in
     let o : OutstandingCall = outstanding_of k a in
     let plan_is : o.plan ≡ plan = planned k a plan is in
-    let left : ends_left k.written (k.send_ends ++ submitted_ends opened k a) ≡ ends_left k.written k.send_ends = left-append k.written k.send_ends (submitted_ends opened k a) later in
+    let left : ends_left k.written (k.send_ends ++ submitted_ends opened k a) ≡ ends_left k.written k.send_ends = left_append k.written k.send_ends (submitted_ends opened k a) later in
     let before : Registers k.regions k.accesses_received count kept.memory k.stag = record { offered = memory.offered; holds = memory.holds; below = memory.below; next_is = memory.next } in
     let registered : Registers (k.regions ++ map (region_of a.xid count) (buffers k.stag plan)) k.accesses_received count (registered_all kept.memory (buffers k.stag plan)) (k.stag + length (buffers k.stag plan)) =
-    register-all a.xid count k.accesses_received (buffers k.stag plan) k.regions kept.memory k.stag keeps.accesses (buffers-numbered k.stag plan) before in
+    register_all a.xid count k.accesses_received (buffers k.stag plan) k.regions kept.memory k.stag keeps.accesses (buffers_numbered k.stag plan) before in
     let all : Registers (k.regions ++ map (region_of a.xid count) (buffers k.stag o.plan)) k.accesses_received count (registered_all kept.memory (buffers kept.memory.next plan)) (k.stag + regions_needed o.plan) =
     subst (λ (n : ℕ). Registers (k.regions ++ map (region_of a.xid count) (buffers k.stag o.plan)) k.accesses_received count (registered_all kept.memory (buffers n plan)) (k.stag + regions_needed o.plan)) (sym memory.next)
     (subst (λ (p : Plan). Registers (k.regions ++ map (region_of a.xid count) (buffers k.stag p)) k.accesses_received count (registered_all kept.memory (buffers k.stag plan)) (k.stag + regions_needed p)) (sym plan_is)
-    (subst (λ (n : ℕ). Registers (k.regions ++ map (region_of a.xid count) (buffers k.stag plan)) k.accesses_received count (registered_all kept.memory (buffers k.stag plan)) (k.stag + n)) (buffers-count k.stag plan) registered)) in
+    (subst (λ (n : ℕ). Registers (k.regions ++ map (region_of a.xid count) (buffers k.stag plan)) k.accesses_received count (registered_all kept.memory (buffers k.stag plan)) (k.stag + n)) (buffers_count k.stag plan) registered)) in
     let own : IsKept after (kept_of kept.next_xid a.call plan kept.memory.next) o = record {
       xid = sym next;
-      sent = sym (ap (λ (n : ℕ). ltb (a.xid - k.first_xid) n) left ∙ not-sent a.xid k.first_xid (ends_left k.written k.send_ends) few);
+      sent = sym (ap (λ (n : ℕ). ltb (a.xid - k.first_xid) n) left ∙ not_sent a.xid k.first_xid (ends_left k.written k.send_ends) few);
       revoked = refl;
       call = refl;
       write = λ i. (lists_of (memory.next i) (sym plan_is i)).write;
       reply = λ i. (lists_of (memory.next i) (sym plan_is i)).reply;
       stags = λ i. map (λ (b : Buffer). b.stag) (buffers (memory.next i) (sym plan_is i));
     } in
-    keeps-live opened (kept_submitted kept a.call plan) after count keeps.ended (let e = keeps.xid in omega (arith, e)) keeps.grant keeps.up keeps.down (ap (λ (n : ℕ). n + 1) keeps.outstanding ∙ sym (length-append k.outstanding (o ∷ []))) keeps.accesses
+    keeps_live opened (kept_submitted kept a.call plan) after count keeps.ended (let e = keeps.xid in omega (arith, e)) keeps.grant keeps.up keeps.down (ap (λ (n : ℕ). n + 1) keeps.outstanding ∙ sym (length-append k.outstanding (o ∷ []))) keeps.accesses
     (record { next = all.next_is; offered = all.offered; holds = all.holds; below = all.below })
-    (calls-submitted opened kept.calls kept.next_xid k count a (kept_of kept.next_xid a.call plan kept.memory.next) calls memory.below (record { first = refl; left = left }) next own)
+    (calls_submitted opened kept.calls kept.next_xid k count a (kept_of kept.next_xid a.call plan kept.memory.next) calls memory.below (record { first = refl; left = left }) next own)

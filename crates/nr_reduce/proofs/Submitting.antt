@@ -19,7 +19,7 @@ use Rattle.nr_reduce.specs.Credits.{calls_outstanding, credits_granted}
 use Rattle.nr_reduce.specs.SubmitAnswer.{next_xid, unless_spent, by_plan, answer_by, submit_answer}
 use Rattle.nr_reduce.specs.Asked.{IsAccepted, AskedSoFar}
 use Rattle.nr_reduce.specs.Opening.{IsOpened}
-use Rattle.nr_reduce.proofs.StagsLeft.{stags-left}
+use Rattle.nr_reduce.proofs.StagsLeft.{stags_left_lem}
 
 -- what an accepted call met
 record Met (opened : LinkParameters) (k : ClientState) (call : Call) (form : Form) (ended : Option Stop) (xid : ℕ) : Type 0 where
@@ -75,7 +75,7 @@ pub accepted_keeps : (opened : LinkParameters) (link : ℕ) (run : List Mark) (c
     IsAccepted opened link run call form xid × (calls_outstanding opened link run < credits_granted opened link run)
 unfolding submit_answer calls_outstanding credits_granted
 accepted_keeps opened link run call form xid e numbers asked writable =
-    let below = stags-left opened link run numbers asked in
+    let below = stags_left_lem opened link run numbers asked in
     let k : ClientState = (client opened link run).state in
     let m = met opened k call form (client opened link run).ended xid e in (
       record {

@@ -8,59 +8,59 @@ use Rattle.nr_link.specs.Frames.{Frame}
 use Rattle.nr_link.specs.Ending.{frame_segment, kind_of}
 use Rattle.nr_link.specs.ReceiveState.{ReceiveState, ReadRequest, received_after, message_completed, read_request_of}
 use Rattle.nr_reduce.specs.declared.mark.LinkParameters.{LinkParameters}
-use Rattle.nr_reduce.specs.Events.Event.{FrameReceived}
+use Rattle.nr_reduce.specs.Events.RunEvent.{FrameReceived}
 use Rattle.nr_reduce.specs.EndRules.{next_end_state_by, live}
 use Rattle.nr_reduce.specs.ClientState.{ClientState}
 use Rattle.nr_reduce.specs.Client.{client_rules, client_state_after, with_message, with_request, with_segment, with_hello, due_with_response}
 use Rattle.nr_reduce.specs.KeptClient.{KeptClient, ClientKeeps, CallsKeep, MemoryKeeps, kept_placed, kept_by_message, kept_received}
 use Rattle.nr_reduce.specs.StandingLaws.{KeptTakes, KeptEnds}
-use Rattle.nr_reduce.proofs.Closing.{kept-alike}
-use Rattle.nr_reduce.proofs.Releasing.{keeps-live, kept-stays, kept-completes}
-use Rattle.nr_reduce.proofs.Submits.{kept-places}
+use Rattle.nr_reduce.proofs.Closing.{kept_alike}
+use Rattle.nr_reduce.proofs.Releasing.{keeps_live, kept_stays, kept_completes}
+use Rattle.nr_reduce.proofs.Submits.{kept_places}
 
 -- what is received so far of a message, and which Read Responses are due, isn't kept here
-same-keeps : (opened : LinkParameters) (kept : KeptClient) (k : ClientState) (count : ℕ) (received : ReceiveState) (due : ℕ) (ends : List ℕ) → ClientKeeps opened kept (live k) count →
+same_keeps : (opened : LinkParameters) (kept : KeptClient) (k : ClientState) (count : ℕ) (received : ReceiveState) (due : ℕ) (ends : List ℕ) → ClientKeeps opened kept (live k) count →
     ClientKeeps opened kept (live (record k { received = received; due = due; response_ends = ends })) count
-same-keeps opened kept k count received due ends keeps =
+same_keeps opened kept k count received due ends keeps =
     let calls : CallsKeep kept.calls kept.next_xid k = keeps.calls refl in
     let memory : MemoryKeeps kept.memory k count = keeps.memory refl in
     let after : ClientState = record k { received = received; due = due; response_ends = ends } in
-    keeps-live opened kept after count keeps.ended keeps.xid keeps.grant keeps.up keeps.down keeps.outstanding keeps.accesses
+    keeps_live opened kept after count keeps.ended keeps.xid keeps.grant keeps.up keeps.down keeps.outstanding keeps.accesses
     (record { next = memory.next; offered = memory.offered; holds = memory.holds; below = memory.below })
     (record {
-      kept = kept-alike k after kept.calls k.outstanding (record { first = refl; written = refl; ends = refl }) calls.kept;
+      kept = kept_alike k after kept.calls k.outstanding (record { first = refl; written = refl; ends = refl }) calls.kept;
       rising = calls.rising;
       owned = calls.owned;
       opens = calls.opens;
     })
 
-request-keeps : (opened : LinkParameters) (kept : KeptClient) (m : ClientState) (count : ℕ) (received : ReceiveState) (due : ℕ) (q : Option ReadRequest) → ClientKeeps opened kept (live m) count →
+request_keeps : (opened : LinkParameters) (kept : KeptClient) (m : ClientState) (count : ℕ) (received : ReceiveState) (due : ℕ) (q : Option ReadRequest) → ClientKeeps opened kept (live m) count →
     ClientKeeps opened kept (live (record (with_request m due q) { received = received })) count
-request-keeps opened kept m count received due None keeps = same-keeps opened kept m count received m.due m.response_ends keeps
-request-keeps opened kept m count received due (Some q) keeps = same-keeps opened kept m count received due (m.response_ends ++ due ∷ []) keeps
+request_keeps opened kept m count received due None keeps = same_keeps opened kept m count received m.due m.response_ends keeps
+request_keeps opened kept m count received due (Some q) keeps = same_keeps opened kept m count received due (m.response_ends ++ due ∷ []) keeps
 
-message-keeps : (opened : LinkParameters) (kept : KeptClient) (k : ClientState) (count place : ℕ) (o : Option (List ℕ)) → ClientKeeps opened kept (live k) count → count ≤ place →
+message_keeps : (opened : LinkParameters) (kept : KeptClient) (k : ClientState) (count place : ℕ) (o : Option (List ℕ)) → ClientKeeps opened kept (live k) count → count ≤ place →
     ClientKeeps opened (kept_by_message kept o) (live (with_message k place o)) place
-message-keeps opened kept k count place None keeps le = kept-stays opened kept (live k) count place keeps le
-message-keeps opened kept k count place (Some message) keeps le = kept-completes opened kept k count place message keeps le
+message_keeps opened kept k count place None keeps le = kept_stays opened kept (live k) count place keeps le
+message_keeps opened kept k count place (Some message) keeps le = kept_completes opened kept k count place message keeps le
 
 -- a segment without an access
-plain-keeps : (opened : LinkParameters) (kept : KeptClient) (k : ClientState) (count place due : ℕ) (received : ReceiveState) (o : Option (List ℕ)) (q : Option ReadRequest) → ClientKeeps opened kept (live k) count → count ≤ place →
+plain_keeps : (opened : LinkParameters) (kept : KeptClient) (k : ClientState) (count place due : ℕ) (received : ReceiveState) (o : Option (List ℕ)) (q : Option ReadRequest) → ClientKeeps opened kept (live k) count → count ≤ place →
     ClientKeeps opened (kept_by_message kept o) (live (record (with_request (with_message k place o) due q) { received = received; accesses_received = k.accesses_received })) place
-plain-keeps opened kept k count place due received None None keeps le = request-keeps opened kept k place received due None (message-keeps opened kept k count place None keeps le)
-plain-keeps opened kept k count place due received None (Some q) keeps le = request-keeps opened kept k place received due (Some q) (message-keeps opened kept k count place None keeps le)
-plain-keeps opened kept k count place due received (Some m) None keeps le =
-    request-keeps opened (kept_by_message kept (Some m)) (with_message k place (Some m)) place received due None (message-keeps opened kept k count place (Some m) keeps le)
-plain-keeps opened kept k count place due received (Some m) (Some q) keeps le =
-    request-keeps opened (kept_by_message kept (Some m)) (with_message k place (Some m)) place received due (Some q) (message-keeps opened kept k count place (Some m) keeps le)
+plain_keeps opened kept k count place due received None None keeps le = request_keeps opened kept k place received due None (message_keeps opened kept k count place None keeps le)
+plain_keeps opened kept k count place due received None (Some q) keeps le = request_keeps opened kept k place received due (Some q) (message_keeps opened kept k count place None keeps le)
+plain_keeps opened kept k count place due received (Some m) None keeps le =
+    request_keeps opened (kept_by_message kept (Some m)) (with_message k place (Some m)) place received due None (message_keeps opened kept k count place (Some m) keeps le)
+plain_keeps opened kept k count place due received (Some m) (Some q) keeps le =
+    request_keeps opened (kept_by_message kept (Some m)) (with_message k place (Some m)) place received due (Some q) (message_keeps opened kept k count place (Some m) keeps le)
 
-segment-keeps : (opened : LinkParameters) (kept : KeptClient) (k : ClientState) (count : ℕ) (f : Frame) (segment : Segment) → ClientKeeps opened kept (live k) count → count < f.end →
+segment_keeps : (opened : LinkParameters) (kept : KeptClient) (k : ClientState) (count : ℕ) (f : Frame) (segment : Segment) → ClientKeeps opened kept (live k) count → count < f.end →
     ClientKeeps opened (kept_received kept k.received f segment) (live (with_segment k f (Ok segment))) f.end
-segment-keeps opened kept k count f (Tagged last opcode stag to payload) keeps lt =
+segment_keeps opened kept k count f (Tagged last opcode stag to payload) keeps lt =
     let access : TaggedSegment = record { kind = kind_of opcode; stag = stag; to = to; payload = payload; end = f.end } in
-    request-keeps opened (kept_placed kept access) (record k { accesses_received = k.accesses_received ++ access ∷ [] }) f.end (received_after k.received (Tagged last opcode stag to payload)) k.due None
-    (kept-places opened kept k count access keeps lt)
-segment-keeps opened kept k count f (Untagged last opcode w queue msn offset payload) keeps lt =
+    request_keeps opened (kept_placed kept access) (record k { accesses_received = k.accesses_received ++ access ∷ [] }) f.end (received_after k.received (Tagged last opcode stag to payload)) k.due None
+    (kept_places opened kept k count access keeps lt)
+segment_keeps opened kept k count f (Untagged last opcode w queue msn offset payload) keeps lt =
     let segment : Segment = Untagged last opcode w queue msn offset payload in
     let message : Option (List ℕ) = message_completed k.received segment in
     let due : ℕ = due_with_response k f segment in
@@ -68,18 +68,18 @@ segment-keeps opened kept k count f (Untagged last opcode w queue msn offset pay
     let request : Option ReadRequest = read_request_of segment in
     subst (λ (xs : List TaggedSegment). ClientKeeps opened (kept_by_message kept message) (live (record (with_request (with_message k f.end message) due request) { received = received; accesses_received = xs })) f.end)
     (sym (append-nil k.accesses_received))
-    (plain-keeps opened kept k count f.end due received message request keeps (omega (arith, lt)))
+    (plain_keeps opened kept k count f.end due received message request keeps (omega (arith, lt)))
 
-pub kept-takes : KeptTakes
+pub kept_takes : KeptTakes
 unfolding client_state_after
-kept-takes opened kept k count f segment keeps lt other is lives =
+kept_takes opened kept k count f segment keeps lt other is lives =
     subst (λ (x : Option End). ClientKeeps opened (kept_received kept k.received f segment) (next_end_state_by (client_rules opened) k (FrameReceived f) x) f.end) (sym lives)
     (subst (λ (b : Bool). ClientKeeps opened (kept_received kept k.received f segment) (live (cond b (with_hello opened k) (with_segment k f (frame_segment f)))) f.end) (sym other)
     (subst (λ (r : Result Segment ℕ). ClientKeeps opened (kept_received kept k.received f segment) (live (with_segment k f r)) f.end) (sym is)
-    (segment-keeps opened kept k count f segment keeps lt)))
+    (segment_keeps opened kept k count f segment keeps lt)))
 
-pub kept-ends : KeptEnds
-kept-ends opened kept k end count event keeps is =
+pub kept_ends : KeptEnds
+kept_ends opened kept k end count event keeps is =
     subst (λ (x : Option End). ClientKeeps opened (record kept { ended = Some end }) (next_end_state_by (client_rules opened) k event x) count) (sym is)
     (record {
       ended = refl;

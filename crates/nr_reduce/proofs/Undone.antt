@@ -8,8 +8,8 @@ use Rattle.nr_xdr.proofs.SequencingSteps.{chosen}
 use Rattle.nr_reduce.specs.declared.item.Item.{Item}
 use Rattle.nr_reduce.specs.declared.item.Of.{Of}
 use Rattle.nr_reduce.specs.Items.{item_of, ends_with_item, if_ends, reducible_item, stream_of, moved_of, restored_payload}
-use Rattle.nr_reduce.specs.Chunks.{whole, whole_by, has_length}
-use Rattle.nr_reduce.proofs.Looks.{item_stands}
+use Rattle.nr_reduce.specs.Chunks.{whole, whole_by, has_moved_length}
+use Rattle.nr_reduce.proofs.ItemSearch.{item_stands}
 
 both : (a b : Bool) → (a && b) ≡ true → (a ≡ true) × (b ≡ true)
 both true true e = (refl, refl)
@@ -51,9 +51,9 @@ unfolding reducible_item
 reducible of payload i e = ending of payload i (item_of of payload) refl e
 
 -- The payload is its stream with its item's content put back.
-pub restored-moved : (of : Of) (payload : List ℕ) (i : Item) → Reducible of payload i → restored_payload i (stream_of payload i) (moved_of payload i) ≡ payload
+pub restored_moved : (of : Of) (payload : List ℕ) (i : Item) → Reducible of payload i → restored_payload i (stream_of payload i) (moved_of payload i) ≡ payload
 unfolding restored_payload
-restored-moved of payload i r =
+restored_moved of payload i r =
     let enough : i.pos ≤ length payload = omega (arith, r.size) in
     let padded : replicate (pad_len i.len) 0 ≡ drop (i.pos + i.len) payload = sym r.pad in
     let none : drop i.pos (take i.pos payload) ≡ [] = drop-take-all i.pos payload in
@@ -68,10 +68,10 @@ restored-moved of payload i r =
     drop-take-all (suc n) [] = refl
     drop-take-all (suc n) (x ∷ xs) = drop-take-all n xs
 
-pub moved-length : (of : Of) (payload : List ℕ) (i : Item) → Reducible of payload i → length (moved_of payload i) ≡ i.len
-moved-length of payload i r = length-take-le i.len (drop i.pos payload) (let l = length-drop i.pos payload in omega (arith, l, r.size))
+pub moved_length : (of : Of) (payload : List ℕ) (i : Item) → Reducible of payload i → length (moved_of payload i) ≡ i.len
+moved_length of payload i r = length-take-le i.len (drop i.pos payload) (let l = length-drop i.pos payload in omega (arith, l, r.size))
 
-pub right_length : (of : Of) (i : Item) (moved : List ℕ) → length moved ≡ i.len → has_length of i moved ≡ true
+pub right_length : (of : Of) (i : Item) (moved : List ℕ) → length moved ≡ i.len → has_moved_length of i moved ≡ true
 right_length Of.Call i moved e = ap (λ (b : Bool). b || eqb (length moved) (i.len + pad_len i.len)) (eq-eqb (length moved) i.len e)
 right_length (Of.Reply prog vers proc) i moved e = eq-eqb (length moved) i.len e
 
@@ -81,5 +81,5 @@ rebuilt of payload i fits e =
     let r = reducible of payload i e in
     let s = item_stands of payload i fits r.item in
     ap (λ (o : Option Item). whole_by of (stream_of payload i) (moved_of payload i) o) s.again
-    ∙ ap (λ (b : Bool). cond b (Some (restored_payload i (stream_of payload i) (moved_of payload i))) None) (right_length of i (moved_of payload i) (moved-length of payload i r))
-    ∙ ap Some (restored-moved of payload i r)
+    ∙ ap (λ (b : Bool). cond b (Some (restored_payload i (stream_of payload i) (moved_of payload i))) None) (right_length of i (moved_of payload i) (moved_length of payload i r))
+    ∙ ap Some (restored_moved of payload i r)

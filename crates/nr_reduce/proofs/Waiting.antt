@@ -23,20 +23,20 @@ use Rattle.nr_reduce.specs.Plans.{regions_needed}
 use Rattle.nr_reduce.specs.History.{AcceptedCall, accepted_calls, accepted_at, bytes_received}
 use Rattle.nr_reduce.specs.AtEachMark.{AtEachMark}
 use Rattle.nr_reduce.specs.Matched.{IsPrefixOf}
-use Rattle.nr_reduce.specs.Events.{Event, if_own, events_at, events}
-use Rattle.nr_reduce.specs.Events.Event.{FrameReceived, CallSubmitted, MemoryRevoked, CallExecuted, QueueWritten}
+use Rattle.nr_reduce.specs.Events.{RunEvent, if_own, events_at, events}
+use Rattle.nr_reduce.specs.Events.RunEvent.{FrameReceived, CallSubmitted, MemoryRevoked, CallExecuted, QueueWritten}
 use Rattle.nr_reduce.specs.EndRules.{EndState, next_end_state, next_end_state_by, next_end_state_in, end_state_after, output_for, output_for_by, output_for_in}
 use Rattle.nr_reduce.specs.OfferedRegions.{region_grants}
 use Rattle.nr_reduce.specs.Limits.{send_max}
 use Rattle.nr_reduce.specs.ClientState.{OutstandingCall, ClientState, is_sent, plan_for}
 use Rattle.nr_reduce.specs.Written.{ends_left}
-use Rattle.nr_reduce.specs.ClientMessages.{Verdict, verdict, by_header, by_call}
-use Rattle.nr_reduce.specs.ClientMessages.Verdict.{EndsLink, GivesOutcome}
-use Rattle.nr_reduce.specs.Client.{client_rules, client_end, client_output, client_state_after, initial_client, readiness, or_message_end, message_end, end_of_verdict, segment_message, outstanding_of, call_output, calls_output, response_output, segment_request, revoked_call, submitted_output, with_message, with_request, with_segment, with_hello, due_with_response}
+use Rattle.nr_reduce.specs.ClientMessages.{ReplyVerdict, reply_verdict, reply_by_header, by_call}
+use Rattle.nr_reduce.specs.ClientMessages.ReplyVerdict.{EndsLink, GivesOutcome}
+use Rattle.nr_reduce.specs.Client.{client_rules, client_end, client_output, client_state_after, initial_client, client_readiness, or_message_end, client_message_end, end_of_verdict, segment_message, outstanding_of, call_output, calls_output, response_output, segment_request, revoked_call, submitted_output, with_message, with_request, with_segment, with_hello, due_with_response}
 use Rattle.nr_reduce.specs.Run.{client}
 use Rattle.nr_reduce.specs.Asked.{AskedSoFar, AskedMark}
 use Rattle.nr_reduce.specs.RunLaws.{outstanding_from, as_submitted}
-use Rattle.nr_reduce.proofs.Steps.{client-one}
+use Rattle.nr_reduce.proofs.Steps.{client_one}
 
 abbrev pub start : LinkParameters → ClientState
 start opened = (initial_client opened).state
@@ -56,24 +56,24 @@ record Waiting (opened : LinkParameters) (accepted : List AcceptedCall) (k : Cli
 abbrev Waits : LinkParameters → List AcceptedCall → ClientState → Type 0
 Waits opened accepted k = k.has_hello ≡ false → Waiting opened accepted k
 
-pub from-append : (k : ClientState) (stag : ℕ) (xs : List AcceptedCall) (a : AcceptedCall) → outstanding_from k stag (xs ++ a ∷ []) ≡ outstanding_from k stag xs ++ outstanding_of (record k { stag = stag_behind k stag xs }) a ∷ []
-from-append k stag [] a = refl
-from-append k stag (x ∷ xs) a = ap (λ (os : List OutstandingCall). outstanding_of (record k { stag = stag }) x ∷ os) (from-append k (stag + regions_needed (outstanding_of (record k { stag = stag }) x).plan) xs a)
+pub from_append : (k : ClientState) (stag : ℕ) (xs : List AcceptedCall) (a : AcceptedCall) → outstanding_from k stag (xs ++ a ∷ []) ≡ outstanding_from k stag xs ++ outstanding_of (record k { stag = stag_behind k stag xs }) a ∷ []
+from_append k stag [] a = refl
+from_append k stag (x ∷ xs) a = ap (λ (os : List OutstandingCall). outstanding_of (record k { stag = stag }) x ∷ os) (from_append k (stag + regions_needed (outstanding_of (record k { stag = stag }) x).plan) xs a)
 
-pub behind-append : (k : ClientState) (stag : ℕ) (xs : List AcceptedCall) (a : AcceptedCall)
+pub behind_append : (k : ClientState) (stag : ℕ) (xs : List AcceptedCall) (a : AcceptedCall)
     → stag_behind k stag (xs ++ a ∷ []) ≡ stag_behind k stag xs + regions_needed (outstanding_of (record k { stag = stag_behind k stag xs }) a).plan
-behind-append k stag [] a = refl
-behind-append k stag (x ∷ xs) a = behind-append k (stag + regions_needed (outstanding_of (record k { stag = stag }) x).plan) xs a
+behind_append k stag [] a = refl
+behind_append k stag (x ∷ xs) a = behind_append k (stag + regions_needed (outstanding_of (record k { stag = stag }) x).plan) xs a
 
-pub submitted-append : (xs ys : List OutstandingCall) → map as_submitted (xs ++ ys) ≡ map as_submitted xs ++ map as_submitted ys
-submitted-append [] ys = refl
-submitted-append (x ∷ xs) ys = ap (λ (os : List OutstandingCall). as_submitted x ∷ os) (submitted-append xs ys)
+pub submitted_append : (xs ys : List OutstandingCall) → map as_submitted (xs ++ ys) ≡ map as_submitted xs ++ map as_submitted ys
+submitted_append [] ys = refl
+submitted_append (x ∷ xs) ys = ap (λ (os : List OutstandingCall). as_submitted x ∷ os) (submitted_append xs ys)
 
 -- ---- Each event
 
-pub revoked-same : (xid : ℕ) (os : List OutstandingCall) → map as_submitted (map (revoked_call xid) os) ≡ map as_submitted os
-revoked-same xid [] = refl
-revoked-same xid (o ∷ os) = ap (λ (x : OutstandingCall). x ∷ map as_submitted (map (revoked_call xid) os)) (by (eqb o.xid xid)) ∙ ap (λ (rest : List OutstandingCall). as_submitted o ∷ rest) (revoked-same xid os)
+pub revoked_same : (xid : ℕ) (os : List OutstandingCall) → map as_submitted (map (revoked_call xid) os) ≡ map as_submitted os
+revoked_same xid [] = refl
+revoked_same xid (o ∷ os) = ap (λ (x : OutstandingCall). x ∷ map as_submitted (map (revoked_call xid) os)) (by (eqb o.xid xid)) ∙ ap (λ (rest : List OutstandingCall). as_submitted o ∷ rest) (revoked_same xid os)
   where
     by : (b : Bool) → as_submitted (cond b (record o { is_revoked = true }) o) ≡ as_submitted o
     by true = refl
@@ -83,68 +83,68 @@ revoked-same xid (o ∷ os) = ap (λ (x : OutstandingCall). x ∷ map as_submitt
 unsent : (k : ClientState) (o : OutstandingCall) → k.send_ends ≡ [] → is_sent k o ≡ false
 unsent k o none = ap (λ (ends : List ℕ). ltb (o.xid - k.first_xid) (ends_left k.written ends)) none ∙ le-ltb (o.xid - k.first_xid) 0 (omega arith)
 
-and-none : (a b : Bool) → b ≡ false → (a && b) ≡ false
-and-none true b e = e
-and-none false b e = refl
+and_none : (a b : Bool) → b ≡ false → (a && b) ≡ false
+and_none true b e = e
+and_none false b e = refl
 
-none-answered : (k : ClientState) (xid : ℕ) (os : List OutstandingCall) → k.send_ends ≡ [] → find (λ o. eqb o.xid xid && is_sent k o) os ≡ None
-none-answered k xid [] h = refl
-none-answered k xid (o ∷ os) h = ap (λ (b : Bool). cond b (Some o) (find (λ o. eqb o.xid xid && is_sent k o) os)) (and-none (eqb o.xid xid) (is_sent k o) (unsent k o h)) ∙ none-answered k xid os h
+none_answered : (k : ClientState) (xid : ℕ) (os : List OutstandingCall) → k.send_ends ≡ [] → find (λ o. eqb o.xid xid && is_sent k o) os ≡ None
+none_answered k xid [] h = refl
+none_answered k xid (o ∷ os) h = ap (λ (b : Bool). cond b (Some o) (find (λ o. eqb o.xid xid && is_sent k o) os)) (and_none (eqb o.xid xid) (is_sent k o) (unsent k o h)) ∙ none_answered k xid os h
 
-abbrev Ends : Verdict → Type 0
+abbrev Ends : ReplyVerdict → Type 0
 Ends (EndsLink reason) = Unit {0}
 Ends (GivesOutcome xid outcome) = ⊥
 
-verdict-ends : (k : ClientState) (place : ℕ) (message : List ℕ) (r : Result Header HeaderFault) → k.send_ends ≡ [] → Ends (by_header k place message r)
-verdict-ends k place message (Ok header) h = subst (λ (o : Option OutstandingCall). Ends (by_call k place message header.body o)) (sym (none-answered k header.xid k.outstanding h)) tt
-verdict-ends k place message (Err faults.Short) h = tt
-verdict-ends k place message (Err (faults.Version version)) h = tt
-verdict-ends k place message (Err (faults.Kind kind)) h = tt
-verdict-ends k place message (Err (faults.BadChunks at)) h = tt
+verdict_ends : (k : ClientState) (place : ℕ) (message : List ℕ) (r : Result Header HeaderFault) → k.send_ends ≡ [] → Ends (reply_by_header k place message r)
+verdict_ends k place message (Ok header) h = subst (λ (o : Option OutstandingCall). Ends (by_call k place message header.body o)) (sym (none_answered k header.xid k.outstanding h)) tt
+verdict_ends k place message (Err faults.Short) h = tt
+verdict_ends k place message (Err (faults.Version version)) h = tt
+verdict_ends k place message (Err (faults.Kind kind)) h = tt
+verdict_ends k place message (Err (faults.BadChunks at)) h = tt
 
-end-some : (f : Frame) (v : Verdict) → Ends v → end_of_verdict f v ≡ None → ⊥
-end-some f (EndsLink reason) h e = absurd cc
-end-some f (GivesOutcome xid outcome) h e = h
+end_some : (f : Frame) (v : ReplyVerdict) → Ends v → end_of_verdict f v ≡ None → ⊥
+end_some f (EndsLink reason) h e = absurd cc
+end_some f (GivesOutcome xid outcome) h e = h
 
-no-message : (k : ClientState) (f : Frame) (o : Option (List ℕ)) → k.send_ends ≡ [] → message_end k f o ≡ None → o ≡ None
-unfolding verdict
-no-message k f None h e = refl
-no-message k f (Some message) h e = absurd (end-some f (verdict k f.end message) (verdict-ends k f.end message (header_of message) h) e)
+no_message : (k : ClientState) (f : Frame) (o : Option (List ℕ)) → k.send_ends ≡ [] → client_message_end k f o ≡ None → o ≡ None
+unfolding reply_verdict
+no_message k f None h e = refl
+no_message k f (Some message) h e = absurd (end_some f (reply_verdict k f.end message) (verdict_ends k f.end message (header_of message) h) e)
 
-pub or-message : (k : ClientState) (f : Frame) (o : Option Stop) → or_message_end k f o ≡ None → message_end k f (segment_message k (frame_segment f)) ≡ None
-or-message k f (Some end) e = absurd cc
-or-message k f None e = e
+pub or_message : (k : ClientState) (f : Frame) (o : Option Stop) → or_message_end k f o ≡ None → client_message_end k f (segment_message k (frame_segment f)) ≡ None
+or_message k f (Some end) e = absurd cc
+or_message k f None e = e
 
 -- a frame that brings no message leaves the calls
 abbrev SameCalls : ClientState → ClientState → Type 0
 SameCalls k after = (after.outstanding ≡ k.outstanding) × (after.stag ≡ k.stag) × (after.has_hello ≡ k.has_hello) × (after.send_ends ≡ k.send_ends) × (after.up_max ≡ k.up_max) × (after.down_max ≡ k.down_max)
 
-request-same : (k m : ClientState) (due : ℕ) (r : Option ReadRequest) → SameCalls k m → SameCalls k (with_request m due r)
-request-same k m due None h = h
-request-same k m due (Some r) h = h
+request_same : (k m : ClientState) (due : ℕ) (r : Option ReadRequest) → SameCalls k m → SameCalls k (with_request m due r)
+request_same k m due None h = h
+request_same k m due (Some r) h = h
 
-segment-same : (k : ClientState) (f : Frame) (r : Result Segment ℕ) → segment_message k r ≡ None → SameCalls k (with_segment k f r)
-segment-same k f (Err reason) e = (refl, refl, refl, refl, refl, refl)
-segment-same k f (Ok segment) e =
-    request-same k (with_message k f.end (message_completed k.received segment)) (due_with_response k f segment) (read_request_of segment)
+segment_same : (k : ClientState) (f : Frame) (r : Result Segment ℕ) → segment_message k r ≡ None → SameCalls k (with_segment k f r)
+segment_same k f (Err reason) e = (refl, refl, refl, refl, refl, refl)
+segment_same k f (Ok segment) e =
+    request_same k (with_message k f.end (message_completed k.received segment)) (due_with_response k f segment) (read_request_of segment)
     (subst (λ (o : Option (List ℕ)). SameCalls k (with_message k f.end o)) (sym e) (refl, refl, refl, refl, refl, refl))
 
-same-waits : (opened : LinkParameters) (accepted : List AcceptedCall) (k after : ClientState) → SameCalls k after → Waits opened accepted k → Waits opened accepted after
-same-waits opened accepted k after s w hello =
+same_waits : (opened : LinkParameters) (accepted : List AcceptedCall) (k after : ClientState) → SameCalls k after → Waits opened accepted k → Waits opened accepted after
+same_waits opened accepted k after s w hello =
     let h = w (sym s.2 ∙ hello) in
     record { calls = ap (λ (os : List OutstandingCall). map as_submitted os) s.0 ∙ h.calls; stag = s.1 ∙ h.stag; ends = s.3 ∙ h.ends; up = s.4 ∙ h.up; down = s.5 ∙ h.down }
 
-frame-waits : (opened : LinkParameters) (accepted : List AcceptedCall) (k : ClientState) (f : Frame) → client_end k (FrameReceived f) ≡ None → Waits opened accepted k → Waits opened accepted (client_state_after opened k (FrameReceived f))
+frame_waits : (opened : LinkParameters) (accepted : List AcceptedCall) (k : ClientState) (f : Frame) → client_end k (FrameReceived f) ≡ None → Waits opened accepted k → Waits opened accepted (client_state_after opened k (FrameReceived f))
 unfolding client_end client_state_after
-frame-waits opened accepted k f stays w = by (is_hello f) stays
+frame_waits opened accepted k f stays w = by (is_hello f) stays
   where
-    by : (b : Bool) → cond b (hello_end (hello_of Responder f.bytes)) (or_message_end k f (frame_end (readiness k) (region_grants f.end k.regions) f)) ≡ None
+    by : (b : Bool) → cond b (hello_end (hello_of Responder f.bytes)) (or_message_end k f (frame_end (client_readiness k) (region_grants f.end k.regions) f)) ≡ None
         → Waits opened accepted (cond b (with_hello opened k) (with_segment k f (frame_segment f)))
     by true e = λ hello. absurd cc
     by false e = λ hello. by_hello k.has_hello refl hello
       where
         whole : k.send_ends ≡ [] → SameCalls k (with_segment k f (frame_segment f))
-        whole h = segment-same k f (frame_segment f) (no-message k f (segment_message k (frame_segment f)) h (or-message k f (frame_end (readiness k) (region_grants f.end k.regions) f) e))
+        whole h = segment_same k f (frame_segment f) (no_message k f (segment_message k (frame_segment f)) h (or_message k f (frame_end (client_readiness k) (region_grants f.end k.regions) f) e))
 
         keeps : (r : Result Segment ℕ) → (with_segment k f r).has_hello ≡ k.has_hello
         keeps (Err reason) = refl
@@ -160,88 +160,88 @@ frame-waits opened accepted k f stays w = by (is_hello f) stays
 
         by_hello : (b : Bool) → k.has_hello ≡ b → (with_segment k f (frame_segment f)).has_hello ≡ false → Waiting opened accepted (with_segment k f (frame_segment f))
         by_hello true is hello = (let t : true ≡ false = sym is ∙ sym (keeps (frame_segment f)) ∙ hello in absurd cc)
-        by_hello false is hello = same-waits opened accepted k (with_segment k f (frame_segment f)) (whole (w is).ends) w hello
+        by_hello false is hello = same_waits opened accepted k (with_segment k f (frame_segment f)) (whole (w is).ends) w hello
 
-submit-waits : (opened : LinkParameters) (accepted : List AcceptedCall) (k : ClientState) (place : ℕ) (a : AcceptedCall) → Waits opened accepted k → Waits opened (accepted ++ a ∷ []) (client_state_after opened k (CallSubmitted place a))
+submit_waits : (opened : LinkParameters) (accepted : List AcceptedCall) (k : ClientState) (place : ℕ) (a : AcceptedCall) → Waits opened accepted k → Waits opened (accepted ++ a ∷ []) (client_state_after opened k (CallSubmitted place a))
 unfolding client_state_after plan_for
-submit-waits opened accepted k place a w hello =
+submit_waits opened accepted k place a w hello =
     let h = w hello in
     let next : ℕ = stag_behind (start opened) opened.first_stag accepted in
     let same : outstanding_of k a ≡ outstanding_of (record (start opened) { stag = next }) a = (λ i. outstanding_of (record (start opened) { stag = h.stag i; up_max = h.up i; down_max = h.down i }) a) in
     record {
-      calls = submitted-append k.outstanding (outstanding_of k a ∷ [])
+      calls = submitted_append k.outstanding (outstanding_of k a ∷ [])
           ∙ ap (λ (os : List OutstandingCall). os ++ outstanding_of k a ∷ []) h.calls
           ∙ ap (λ (o : OutstandingCall). outstanding_from (start opened) opened.first_stag accepted ++ o ∷ []) same
-          ∙ sym (from-append (start opened) opened.first_stag accepted a);
+          ∙ sym (from_append (start opened) opened.first_stag accepted a);
       stag = (λ i. h.stag i + regions_needed (outstanding_of (record (start opened) { stag = h.stag i; up_max = h.up i; down_max = h.down i }) a).plan)
-          ∙ sym (behind-append (start opened) opened.first_stag accepted a);
+          ∙ sym (behind_append (start opened) opened.first_stag accepted a);
       ends = ap (λ (b : Bool). k.send_ends ++ cond b ((k.due + length (submitted_output opened k a)) ∷ []) []) hello ∙ append-nil k.send_ends ∙ h.ends;
       up = h.up;
       down = h.down;
     }
 
 -- the events that submit nothing
-abbrev SubmitsNothing : Event → Type 0
+abbrev SubmitsNothing : RunEvent → Type 0
 SubmitsNothing (FrameReceived f) = Unit {0}
 SubmitsNothing (CallSubmitted place a) = ⊥
 SubmitsNothing (MemoryRevoked place xid) = Unit {0}
 SubmitsNothing (CallExecuted call) = Unit {0}
 SubmitsNothing (QueueWritten taken) = Unit {0}
 
-after-waits : (opened : LinkParameters) (accepted : List AcceptedCall) (k : ClientState) (event : Event) → SubmitsNothing event → client_end k event ≡ None → Waits opened accepted k → Waits opened accepted (client_state_after opened k event)
+after_waits : (opened : LinkParameters) (accepted : List AcceptedCall) (k : ClientState) (event : RunEvent) → SubmitsNothing event → client_end k event ≡ None → Waits opened accepted k → Waits opened accepted (client_state_after opened k event)
 unfolding client_state_after
-after-waits opened accepted k (FrameReceived f) s stays w = frame-waits opened accepted k f stays w
-after-waits opened accepted k (CallSubmitted place a) s stays w = absurd s
-after-waits opened accepted k (MemoryRevoked place xid) s stays w = λ hello. (let h = w hello in record { calls = revoked-same xid k.outstanding ∙ h.calls; stag = h.stag; ends = h.ends; up = h.up; down = h.down })
-after-waits opened accepted k (CallExecuted call) s stays w = w
-after-waits opened accepted k (QueueWritten taken) s stays w = λ hello. (let h = w hello in record { calls = h.calls; stag = h.stag; ends = h.ends; up = h.up; down = h.down })
+after_waits opened accepted k (FrameReceived f) s stays w = frame_waits opened accepted k f stays w
+after_waits opened accepted k (CallSubmitted place a) s stays w = absurd s
+after_waits opened accepted k (MemoryRevoked place xid) s stays w = λ hello. (let h = w hello in record { calls = revoked_same xid k.outstanding ∙ h.calls; stag = h.stag; ends = h.ends; up = h.up; down = h.down })
+after_waits opened accepted k (CallExecuted call) s stays w = w
+after_waits opened accepted k (QueueWritten taken) s stays w = λ hello. (let h = w hello in record { calls = h.calls; stag = h.stag; ends = h.ends; up = h.up; down = h.down })
 
-next-waits : (opened : LinkParameters) (accepted : List AcceptedCall) (r : EndState ClientState) (event : Event) → SubmitsNothing event → Waits opened accepted r.state → Waits opened accepted (next_end_state (client_rules opened) r event).state
-next-waits opened accepted r event s w = by_end r.state r.ended w
+next_waits : (opened : LinkParameters) (accepted : List AcceptedCall) (r : EndState ClientState) (event : RunEvent) → SubmitsNothing event → Waits opened accepted r.state → Waits opened accepted (next_end_state (client_rules opened) r event).state
+next_waits opened accepted r event s w = by_end r.state r.ended w
   where
     by_why : (k : ClientState) (why : Option Stop) → client_end k event ≡ why → Waits opened accepted k → Waits opened accepted (next_end_state_by (client_rules opened) k event why).state
-    by_why k None is w = after-waits opened accepted k event s is w
+    by_why k None is w = after_waits opened accepted k event s is w
     by_why k (Some end) is w = w
 
     by_end : (k : ClientState) (ended : Option Stop) → Waits opened accepted k → Waits opened accepted (next_end_state_in (client_rules opened) k event ended).state
     by_end k None w = by_why k (client_end k event) refl w
     by_end k (Some end) w = w
 
-abbrev SubmitNothing : List Event → Type 0
+abbrev SubmitNothing : List RunEvent → Type 0
 SubmitNothing [] = Unit {0}
 SubmitNothing (event ∷ es) = SubmitsNothing event × SubmitNothing es
 
-all-wait : (opened : LinkParameters) (accepted : List AcceptedCall) (r : EndState ClientState) (es : List Event) → SubmitNothing es → Waits opened accepted r.state → Waits opened accepted (end_state_after (client_rules opened) r es).state
-all-wait opened accepted r [] s w = w
-all-wait opened accepted r (event ∷ es) s w = all-wait opened accepted (next_end_state (client_rules opened) r event) es s.1 (next-waits opened accepted r event s.0 w)
+all_wait : (opened : LinkParameters) (accepted : List AcceptedCall) (r : EndState ClientState) (es : List RunEvent) → SubmitNothing es → Waits opened accepted r.state → Waits opened accepted (end_state_after (client_rules opened) r es).state
+all_wait opened accepted r [] s w = w
+all_wait opened accepted r (event ∷ es) s w = all_wait opened accepted (next_end_state (client_rules opened) r event) es s.1 (next_waits opened accepted r event s.0 w)
 
-nothing-if : (b : Bool) (es : List Event) → SubmitNothing es → SubmitNothing (if_own b es)
-nothing-if true es h = h
-nothing-if false es h = tt
+nothing_if : (b : Bool) (es : List RunEvent) → SubmitNothing es → SubmitNothing (if_own b es)
+nothing_if true es h = h
+nothing_if false es h = tt
 
-nothing-frames : (fs : List Frame) → SubmitNothing (map FrameReceived fs)
-nothing-frames [] = tt
-nothing-frames (f ∷ fs) = (tt, nothing-frames fs)
+nothing_frames : (fs : List Frame) → SubmitNothing (map FrameReceived fs)
+nothing_frames [] = tt
+nothing_frames (f ∷ fs) = (tt, nothing_frames fs)
 
 -- ---- Each mark
 
-submit-one : (opened : LinkParameters) (accepted : List AcceptedCall) (k : ClientState) (ended : Option Stop) (place : ℕ) (a : AcceptedCall) → ended ≡ None → Waits opened accepted k
+submit_one : (opened : LinkParameters) (accepted : List AcceptedCall) (k : ClientState) (ended : Option Stop) (place : ℕ) (a : AcceptedCall) → ended ≡ None → Waits opened accepted k
     → Waits opened (accepted ++ a ∷ []) (next_end_state_in (client_rules opened) k (CallSubmitted place a) ended).state
 unfolding client_end
-submit-one opened accepted k None place a stays w = submit-waits opened accepted k place a w
-submit-one opened accepted k (Some end) place a stays w = absurd cc
+submit_one opened accepted k None place a stays w = submit_waits opened accepted k place a w
+submit_one opened accepted k (Some end) place a stays w = absurd cc
 
 abbrev WaitsAfter : LinkParameters → ℕ → List Mark → Mark → List AcceptedCall → Type 0
 WaitsAfter opened link before mark accepted = Waits opened accepted (end_state_after (client_rules opened) (client opened link before) (events_at link Initiator before mark)).state
 
-waits-nothing : (opened : LinkParameters) (link : ℕ) (before : List Mark) (mark : Mark) (accepted : List AcceptedCall) → Waits opened accepted (client opened link before).state
+waits_nothing : (opened : LinkParameters) (link : ℕ) (before : List Mark) (mark : Mark) (accepted : List AcceptedCall) → Waits opened accepted (client opened link before).state
     → SubmitNothing (events_at link Initiator before mark) → WaitsAfter opened link before mark (accepted ++ [])
-waits-nothing opened link before mark accepted w h =
-    subst (λ (all : List AcceptedCall). WaitsAfter opened link before mark all) (sym (append-nil accepted)) (all-wait opened accepted (client opened link before) (events_at link Initiator before mark) h w)
+waits_nothing opened link before mark accepted w h =
+    subst (λ (all : List AcceptedCall). WaitsAfter opened link before mark all) (sym (append-nil accepted)) (all_wait opened accepted (client opened link before) (events_at link Initiator before mark) h w)
 
-waits-mark : (opened : LinkParameters) (link : ℕ) (before : List Mark) (mark : Mark) (accepted : List AcceptedCall) → Waits opened accepted (client opened link before).state → AskedMark IsPrefixOf opened link before mark
+waits_mark : (opened : LinkParameters) (link : ℕ) (before : List Mark) (mark : Mark) (accepted : List AcceptedCall) → Waits opened accepted (client opened link before).state → AskedMark IsPrefixOf opened link before mark
     → WaitsAfter opened link before mark (accepted ++ accepted_at link mark)
-waits-mark opened link before (marks.Submit l call form (submissions.Accepted xid)) accepted w h = by (eqb l link) refl
+waits_mark opened link before (marks.Submit l call form (submissions.Accepted xid)) accepted w h = by (eqb l link) refl
   where
     a : AcceptedCall
     a = record { xid = xid; call = call; form = form }
@@ -251,73 +251,73 @@ waits-mark opened link before (marks.Submit l call form (submissions.Accepted xi
 
     by : (b : Bool) → eqb l link ≡ b → Waits opened (accepted ++ cond b (a ∷ []) []) (end_state_after (client_rules opened) (client opened link before) (if_own (b && true) (CallSubmitted place a ∷ []))).state
     by false is = subst (λ (all : List AcceptedCall). Waits opened all (client opened link before).state) (sym (append-nil accepted)) w
-    by true is = submit-one opened accepted (client opened link before).state (client opened link before).ended place a (h (eqb-true l link is)).stays w
-waits-mark opened link before (marks.Submit l call form (submissions.Refused why)) accepted w h = by (eqb l link)
+    by true is = submit_one opened accepted (client opened link before).state (client opened link before).ended place a (h (eqb-true l link is)).stays w
+waits_mark opened link before (marks.Submit l call form (submissions.Refused why)) accepted w h = by (eqb l link)
   where
     by : (b : Bool) → Waits opened (accepted ++ cond b [] []) (client opened link before).state
     by true = subst (λ (all : List AcceptedCall). Waits opened all (client opened link before).state) (sym (append-nil accepted)) w
     by false = subst (λ (all : List AcceptedCall). Waits opened all (client opened link before).state) (sym (append-nil accepted)) w
-waits-mark opened link before (marks.Submit l call form submissions.Dropped) accepted w h = by (eqb l link)
+waits_mark opened link before (marks.Submit l call form submissions.Dropped) accepted w h = by (eqb l link)
   where
     by : (b : Bool) → Waits opened (accepted ++ cond b [] []) (client opened link before).state
     by true = subst (λ (all : List AcceptedCall). Waits opened all (client opened link before).state) (sym (append-nil accepted)) w
     by false = subst (λ (all : List AcceptedCall). Waits opened all (client opened link before).state) (sym (append-nil accepted)) w
-waits-mark opened link before (marks.Wrote l s bytes) accepted w h = waits-nothing opened link before (marks.Wrote l s bytes) accepted w (nothing-if _ (QueueWritten (length bytes) ∷ []) (tt, tt))
-waits-mark opened link before (marks.Fed l s bytes) accepted w h =
-    waits-nothing opened link before (marks.Fed l s bytes) accepted w (nothing-if _ (map FrameReceived (frames_completed Responder (bytes_received link Initiator before) bytes)) (nothing-frames _))
-waits-mark opened link before (marks.Execute l xid moment payload place reply) accepted w h = waits-nothing opened link before (marks.Execute l xid moment payload place reply) accepted w
-    (nothing-if _ (CallExecuted (record { xid = xid; moment = moment; payload = payload; place = place; reply = reply }) ∷ []) (tt, tt))
-waits-mark opened link before (marks.Done l xid outcome) accepted w h = waits-nothing opened link before (marks.Done l xid outcome) accepted w tt
-waits-mark opened link before (marks.Lost l xid) accepted w h = waits-nothing opened link before (marks.Lost l xid) accepted w tt
-waits-mark opened link before (marks.Forget l xid) accepted w h = waits-nothing opened link before (marks.Forget l xid) accepted w tt
-waits-mark opened link before (marks.Revoke l xid bytes) accepted w h = waits-nothing opened link before (marks.Revoke l xid bytes) accepted w (nothing-if _ (MemoryRevoked (length (bytes_received link Initiator before)) xid ∷ []) (tt, tt))
-waits-mark opened link before (marks.Drop l) accepted w h = waits-nothing opened link before (marks.Drop l) accepted w tt
+waits_mark opened link before (marks.Wrote l s bytes) accepted w h = waits_nothing opened link before (marks.Wrote l s bytes) accepted w (nothing_if _ (QueueWritten (length bytes) ∷ []) (tt, tt))
+waits_mark opened link before (marks.Fed l s bytes) accepted w h =
+    waits_nothing opened link before (marks.Fed l s bytes) accepted w (nothing_if _ (map FrameReceived (frames_completed Responder (bytes_received link Initiator before) bytes)) (nothing_frames _))
+waits_mark opened link before (marks.Execute l xid moment payload place reply) accepted w h = waits_nothing opened link before (marks.Execute l xid moment payload place reply) accepted w
+    (nothing_if _ (CallExecuted (record { xid = xid; moment = moment; payload = payload; place = place; reply = reply }) ∷ []) (tt, tt))
+waits_mark opened link before (marks.Done l xid outcome) accepted w h = waits_nothing opened link before (marks.Done l xid outcome) accepted w tt
+waits_mark opened link before (marks.Lost l xid) accepted w h = waits_nothing opened link before (marks.Lost l xid) accepted w tt
+waits_mark opened link before (marks.Forget l xid) accepted w h = waits_nothing opened link before (marks.Forget l xid) accepted w tt
+waits_mark opened link before (marks.Revoke l xid bytes) accepted w h = waits_nothing opened link before (marks.Revoke l xid bytes) accepted w (nothing_if _ (MemoryRevoked (length (bytes_received link Initiator before)) xid ∷ []) (tt, tt))
+waits_mark opened link before (marks.Drop l) accepted w h = waits_nothing opened link before (marks.Drop l) accepted w tt
 
-pub accepted-one : (link : ℕ) (before : List Mark) (mark : Mark) → accepted_calls link (before ++ mark ∷ []) ≡ accepted_calls link before ++ accepted_at link mark
+pub accepted_one : (link : ℕ) (before : List Mark) (mark : Mark) → accepted_calls link (before ++ mark ∷ []) ≡ accepted_calls link before ++ accepted_at link mark
 unfolding accepted_calls
-accepted-one link before mark = flat_map-append (accepted_at link) before (mark ∷ []) ∙ ap (λ (all : List AcceptedCall). accepted_calls link before ++ all) (append-nil (accepted_at link mark))
+accepted_one link before mark = flat_map-append (accepted_at link) before (mark ∷ []) ∙ ap (λ (all : List AcceptedCall). accepted_calls link before ++ all) (append-nil (accepted_at link mark))
 
-waits-from : (opened : LinkParameters) (link : ℕ) (before run : List Mark) → Waits opened (accepted_calls link before) (client opened link before).state → AtEachMark (AskedMark IsPrefixOf opened link) before run
+waits_from : (opened : LinkParameters) (link : ℕ) (before run : List Mark) → Waits opened (accepted_calls link before) (client opened link before).state → AtEachMark (AskedMark IsPrefixOf opened link) before run
     → Waits opened (accepted_calls link (before ++ run)) (client opened link (before ++ run)).state
-waits-from opened link before [] w h = subst (λ (r : List Mark). Waits opened (accepted_calls link r) (client opened link r).state) (sym (append-nil before)) w
-waits-from opened link before (mark ∷ run) w h =
-    let there = waits-mark opened link before mark (accepted_calls link before) w h.0 in
+waits_from opened link before [] w h = subst (λ (r : List Mark). Waits opened (accepted_calls link r) (client opened link r).state) (sym (append-nil before)) w
+waits_from opened link before (mark ∷ run) w h =
+    let there = waits_mark opened link before mark (accepted_calls link before) w h.0 in
     let next : Waits opened (accepted_calls link (before ++ mark ∷ [])) (client opened link (before ++ mark ∷ [])).state =
-    subst (λ (all : List AcceptedCall). Waits opened all (client opened link (before ++ mark ∷ [])).state) (sym (accepted-one link before mark))
-    (subst (λ (r : EndState ClientState). Waits opened (accepted_calls link before ++ accepted_at link mark) r.state) (sym (client-one opened link before mark)) there) in
+    subst (λ (all : List AcceptedCall). Waits opened all (client opened link (before ++ mark ∷ [])).state) (sym (accepted_one link before mark))
+    (subst (λ (r : EndState ClientState). Waits opened (accepted_calls link before ++ accepted_at link mark) r.state) (sym (client_one opened link before mark)) there) in
     subst (λ (r : List Mark). Waits opened (accepted_calls link r) (client opened link r).state) (append_assoc before (mark ∷ []) run)
-    (waits-from opened link (before ++ mark ∷ []) run next h.1)
+    (waits_from opened link (before ++ mark ∷ []) run next h.1)
 
-begins-waiting : (opened : LinkParameters) (link : ℕ) → Waits opened (accepted_calls link []) (client opened link []).state
+begins_waiting : (opened : LinkParameters) (link : ℕ) → Waits opened (accepted_calls link []) (client opened link []).state
 unfolding client events accepted_calls
-begins-waiting opened link hello = record { calls = refl; stag = refl; ends = refl; up = refl; down = refl }
+begins_waiting opened link hello = record { calls = refl; stag = refl; ends = refl; up = refl; down = refl }
 
 -- ---- What the hello sends
 
-submitted-output : (opened : LinkParameters) (msn : ℕ) (os : List OutstandingCall) → calls_output opened msn (map as_submitted os) ≡ calls_output opened msn os
-submitted-output opened msn [] = refl
-submitted-output opened msn (o ∷ os) = ap (λ (xs : List ℕ). call_output opened msn o ++ xs) (submitted-output opened (msn + 1) os)
+submitted_output_lem : (opened : LinkParameters) (msn : ℕ) (os : List OutstandingCall) → calls_output opened msn (map as_submitted os) ≡ calls_output opened msn os
+submitted_output_lem opened msn [] = refl
+submitted_output_lem opened msn (o ∷ os) = ap (λ (xs : List ℕ). call_output opened msn o ++ xs) (submitted_output_lem opened (msn + 1) os)
 
-hello-output : (opened : LinkParameters) (k : ClientState) (ended : Option Stop) (f : Frame) → is_hello f ≡ true → (next_end_state_in (client_rules opened) k (FrameReceived f) ended).ended ≡ None
+hello_output : (opened : LinkParameters) (k : ClientState) (ended : Option Stop) (f : Frame) → is_hello f ≡ true → (next_end_state_in (client_rules opened) k (FrameReceived f) ended).ended ≡ None
     → output_for_in (client_rules opened) k (FrameReceived f) ended ≡ calls_output opened 1 k.outstanding
 unfolding client_output
-hello-output opened k (Some end) f hello e = absurd cc
-hello-output opened k None f hello e = by (client_end k (FrameReceived f)) e
+hello_output opened k (Some end) f hello e = absurd cc
+hello_output opened k None f hello e = by (client_end k (FrameReceived f)) e
   where
     by : (why : Option Stop) → (next_end_state_by (client_rules opened) k (FrameReceived f) why).ended ≡ None → output_for_by (client_rules opened) k (FrameReceived f) why ≡ calls_output opened 1 k.outstanding
     by None e = ap (λ (b : Bool). cond b (calls_output opened 1 k.outstanding) (response_output k f.end (segment_request (frame_segment f)))) hello
     by (Some end) e = absurd cc
 
-pub accepted-wait : (opened : LinkParameters) (link : ℕ) (run : List Mark) → AskedSoFar opened link run → (client opened link run).state.has_hello ≡ false →
+pub accepted_wait : (opened : LinkParameters) (link : ℕ) (run : List Mark) → AskedSoFar opened link run → (client opened link run).state.has_hello ≡ false →
     (map as_submitted (client opened link run).state.outstanding ≡ outstanding_from (initial_client opened).state opened.first_stag (accepted_calls link run))
     × ((f : Frame) → is_hello f ≡ true → (next_end_state (client_rules opened) (client opened link run) (FrameReceived f)).ended ≡ None →
     output_for (client_rules opened) (client opened link run) (FrameReceived f)
     ≡ calls_output opened 1 (outstanding_from (initial_client opened).state opened.first_stag (accepted_calls link run)))
-accepted-wait opened link run asked hello =
-    let w = waits-from opened link [] run (begins-waiting opened link) asked hello in
+accepted_wait opened link run asked hello =
+    let w = waits_from opened link [] run (begins_waiting opened link) asked hello in
     let k : ClientState = (client opened link run).state in (
       w.calls,
-      λ f is stays. hello-output opened k (client opened link run).ended f is stays
-          ∙ sym (submitted-output opened 1 k.outstanding)
+      λ f is stays. hello_output opened k (client opened link run).ended f is stays
+          ∙ sym (submitted_output_lem opened 1 k.outstanding)
           ∙ ap (λ (os : List OutstandingCall). calls_output opened 1 os) w.calls,
     )

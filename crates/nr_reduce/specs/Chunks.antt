@@ -67,13 +67,13 @@ is_read_chunk_of_item stream read = is_read_chunk_at stream read (item_position 
 
 -- The payload of a stream and of what moved beside it: nothing did, or the content of the stream's item, in a call with or
 -- without its pad.
-abbrev pub has_length : Of → Item → List ℕ → Bool
-has_length Call i moved = length moved == i.len || length moved == i.len + pad_len i.len
-has_length (Reply prog vers proc) i moved = length moved == i.len
+abbrev pub has_moved_length : Of → Item → List ℕ → Bool
+has_moved_length Call i moved = length moved == i.len || length moved == i.len + pad_len i.len
+has_moved_length (Reply prog vers proc) i moved = length moved == i.len
 
 abbrev pub whole_by : Of → List ℕ → List ℕ → Option Item → Option (List ℕ)
 whole_by of stream moved None = None
-whole_by of stream moved (Some i) = if has_length of i moved then Some (restored_payload i stream moved) else None
+whole_by of stream moved (Some i) = if has_moved_length of i moved then Some (restored_payload i stream moved) else None
 
 abbrev pub whole : Of → List ℕ → Option (List ℕ) → Option (List ℕ)
 whole of stream None = Some stream

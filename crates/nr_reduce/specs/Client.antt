@@ -18,19 +18,19 @@ use Rattle.nr_link.specs.SegmentFaults.{Readiness}
 use Rattle.nr_link.specs.Ending.{tagged_access, frame_segment, frame_end, hello_end, last_output}
 use Rattle.nr_regions.specs.declared.denied.Denied.{Denied}
 use Rattle.nr_reduce.specs.OfferedRegions.{Region, region_grants, regions_closed}
-use Rattle.nr_reduce.specs.Events.{Event}
-use Rattle.nr_reduce.specs.EndRules.{Rules, EndState}
-use Rattle.nr_reduce.specs.Events.Event.{FrameReceived, CallSubmitted, MemoryRevoked, CallExecuted, QueueWritten}
-use Rattle.nr_reduce.specs.ClientState.{OutstandingCall, ClientState, initial_state, responses_owed, call_payload, plan_for, memory_at}
-use Rattle.nr_reduce.specs.ClientMessages.{Verdict, verdict}
-use Rattle.nr_reduce.specs.ClientMessages.Verdict.{EndsLink, GivesOutcome}
+use Rattle.nr_reduce.specs.Events.{RunEvent}
+use Rattle.nr_reduce.specs.EndRules.{EndMachine, EndState}
+use Rattle.nr_reduce.specs.Events.RunEvent.{FrameReceived, CallSubmitted, MemoryRevoked, CallExecuted, QueueWritten}
+use Rattle.nr_reduce.specs.ClientState.{OutstandingCall, ClientState, initial_client_state, responses_owed, call_payload, plan_for, client_memory_at}
+use Rattle.nr_reduce.specs.ClientMessages.{ReplyVerdict, reply_verdict}
+use Rattle.nr_reduce.specs.ClientMessages.ReplyVerdict.{EndsLink, GivesOutcome}
 use Rattle.nr_xdr.specs.Fields.{word_at}
 
 -- ---- What ends the client
 
 -- a client posts a receive again as soon as it has judged a message, so each Send finds one
-abbrev pub readiness : ClientState → Option Denied → Readiness Denied
-readiness k missing = record {
+abbrev pub client_readiness : ClientState → Option Denied → Readiness Denied
+client_readiness k missing = record {
   received = k.received;
   has_receive = true;
   message_max = k.down_max;
@@ -39,13 +39,13 @@ readiness k missing = record {
   responses = responses_owed k;
 }
 
-abbrev pub end_of_verdict : Frame → Verdict → Option End
+abbrev pub end_of_verdict : Frame → ReplyVerdict → Option End
 end_of_verdict f (EndsLink reason) = Some (ends.Bad f.at reason)
 end_of_verdict f (GivesOutcome xid outcome) = None
 
-abbrev pub message_end : ClientState → Frame → Option (List ℕ) → Option End
-message_end k f None = None
-message_end k f (Some message) = end_of_verdict f (verdict k f.end message)
+abbrev pub client_message_end : ClientState → Frame → Option (List ℕ) → Option End
+client_message_end k f None = None
+client_message_end k f (Some message) = end_of_verdict f (reply_verdict k f.end message)
 
 abbrev pub segment_message : ClientState → Result Segment ℕ → Option (List ℕ)
 segment_message k (Ok segment) = message_completed k.received segment
@@ -53,11 +53,11 @@ segment_message k (Err reason) = None
 
 abbrev pub or_message_end : ClientState → Frame → Option End → Option End
 or_message_end k f (Some end) = Some end
-or_message_end k f None = message_end k f (segment_message k (frame_segment f))
+or_message_end k f None = client_message_end k f (segment_message k (frame_segment f))
 
-unfoldable pub client_end : ClientState → Event → Option End
+unfoldable pub client_end : ClientState → RunEvent → Option End
 client_end k (FrameReceived f) =
-    if is_hello f then hello_end (hello_of Responder f.bytes) else or_message_end k f (frame_end (readiness k) (region_grants f.end k.regions) f)
+    if is_hello f then hello_end (hello_of Responder f.bytes) else or_message_end k f (frame_end (client_readiness k) (region_grants f.end k.regions) f)
 client_end k (CallSubmitted place a) = None
 client_end k (MemoryRevoked place xid) = None
 client_end k (CallExecuted call) = None
@@ -76,7 +76,7 @@ calls_output opened msn (o ∷ others) = call_output opened msn o ++ calls_outpu
 -- the Read Response to a Read Request, with the bytes as they stand (RFC 5040 section 5.2)
 abbrev pub response_output : ClientState → ℕ → Option ReadRequest → List ℕ
 response_output k place None = []
-response_output k place (Some r) = read_response r.sink r.sink_to (take r.size (drop r.to (memory_at k place r.stag)))
+response_output k place (Some r) = read_response r.sink r.sink_to (take r.size (drop r.to (client_memory_at k place r.stag)))
 
 abbrev pub segment_request : Result Segment ℕ → Option ReadRequest
 segment_request (Ok segment) = read_request_of segment
@@ -102,7 +102,7 @@ submitted_output opened k a = if k.has_hello then call_output opened (k.calls_ac
 
 -- The output that is due for an event. A client sends no FPDU before the server's hello; the calls that were accepted before it
 -- are sent then (RFC 5044 section 7.1).
-unfoldable pub client_output : LinkParameters → ClientState → Event → List ℕ
+unfoldable pub client_output : LinkParameters → ClientState → RunEvent → List ℕ
 client_output opened k (FrameReceived f) = if is_hello f then calls_output opened 1 k.outstanding else response_output k f.end (segment_request (frame_segment f))
 client_output opened k (CallSubmitted place a) = submitted_output opened k a
 client_output opened k (MemoryRevoked place xid) = []
@@ -119,7 +119,7 @@ credits_of_word credit = if credit == 0 then 1 else (if nat_lt most_credits cred
 abbrev pub region_of : ℕ → ℕ → Buffer → Region
 region_of xid place b = record { call = xid; position = 0; stag = b.stag; right = b.right; bytes = b.bytes; from = place; until = None }
 
-abbrev pub outcomes_of : Verdict → List CompletedCall
+abbrev pub outcomes_of : ReplyVerdict → List CompletedCall
 outcomes_of (EndsLink reason) = []
 outcomes_of (GivesOutcome xid None) = []
 outcomes_of (GivesOutcome xid (Some outcome)) = record { xid = xid; outcome = outcome } ∷ []
@@ -130,7 +130,7 @@ with_message k place None = k
 with_message k place (Some message) = record k {
   outstanding = filter (λ o. not (o.xid == word_at 0 message)) k.outstanding;
   regions = regions_closed (λ r. r.call == word_at 0 message) place k.regions;
-  outcomes = k.outcomes ++ outcomes_of (verdict k place message);
+  outcomes = k.outcomes ++ outcomes_of (reply_verdict k place message);
   grant = credits_of_word (word_at 8 message);
 }
 
@@ -169,7 +169,7 @@ with_hello opened k = record k {
 abbrev pub submitted_ends : LinkParameters → ClientState → AcceptedCall → List ℕ
 submitted_ends opened k a = if k.has_hello then (k.due + length (submitted_output opened k a)) ∷ [] else []
 
-unfoldable pub client_state_after : LinkParameters → ClientState → Event → ClientState
+unfoldable pub client_state_after : LinkParameters → ClientState → RunEvent → ClientState
 client_state_after opened k (FrameReceived f) = if is_hello f then with_hello opened k else with_segment k f (frame_segment f)
 client_state_after opened k (CallSubmitted place a) = record k {
   calls_accepted = k.calls_accepted + 1;
@@ -186,7 +186,7 @@ client_state_after opened k (MemoryRevoked place xid) = record k {
 client_state_after opened k (CallExecuted call) = k
 client_state_after opened k (QueueWritten taken) = record k { written = k.written + taken }
 
-abbrev pub client_rules : LinkParameters → Rules ClientState
+abbrev pub client_rules : LinkParameters → EndMachine ClientState
 client_rules opened = record {
   end_at = client_end;
   output_at = client_output opened;
@@ -196,4 +196,4 @@ client_rules opened = record {
 
 -- a client to which nothing has happened
 abbrev pub initial_client : LinkParameters → EndState ClientState
-initial_client opened = record { state = initial_state opened; ended = None }
+initial_client opened = record { state = initial_client_state opened; ended = None }

@@ -8,7 +8,7 @@ use Rattle.nr_reduce.specs.declared.fault.Mismatch.{Mismatch}
 use Rattle.nr_reduce.specs.declared.fault.Mismatch.TheVariants as mismatches
 use Rattle.nr_reduce.specs.declared.item.Cut.{Cut}
 use Rattle.nr_reduce.specs.Items.{item_of, reducible_item, stream_of, moved_of, restored_payload}
-use Rattle.nr_reduce.specs.Chunks.{has_length}
+use Rattle.nr_reduce.specs.Chunks.{has_moved_length}
 
 -- what is cut of a payload: its item, the stream without it, and its content
 abbrev pub cut_at : List ℕ → Option Item → Option Cut
@@ -23,7 +23,7 @@ abbrev pub joined_by : Of → List ℕ → ℕ → List ℕ → Option Item → 
 joined_by of stream pos moved None = Err mismatches.NoItem
 joined_by of stream pos moved (Some i) =
     if not (i.pos == pos) then Err mismatches.Position
-    else (if not (has_length of i moved) then Err mismatches.Length
+    else (if not (has_moved_length of i moved) then Err mismatches.Length
     else Ok (restored_payload i stream moved))
 
 unfoldable pub rebuilt_of : Of → List ℕ → ℕ → List ℕ → Result (List ℕ) Mismatch

@@ -18,10 +18,10 @@ use Rattle.nr_reduce.specs.declared.mark.LinkParameters.{LinkParameters}
 use Rattle.nr_reduce.specs.History.{ExecutedCall}
 use Rattle.nr_reduce.specs.Plans.{call_message}
 use Rattle.nr_reduce.specs.Holds.{Answer, answer_message, chunk_error, first_chunk, no_segments}
-use Rattle.nr_reduce.specs.Events.{Event, events}
-use Rattle.nr_reduce.specs.Events.Event.{FrameReceived, CallSubmitted, MemoryRevoked, CallExecuted, QueueWritten}
-use Rattle.nr_reduce.specs.EndRules.{Rules, EndState, next_end_state}
-use Rattle.nr_reduce.specs.ClientState.{OutstandingCall, ClientState, memory_at}
+use Rattle.nr_reduce.specs.Events.{RunEvent, events}
+use Rattle.nr_reduce.specs.Events.RunEvent.{FrameReceived, CallSubmitted, MemoryRevoked, CallExecuted, QueueWritten}
+use Rattle.nr_reduce.specs.EndRules.{EndMachine, EndState, next_end_state}
+use Rattle.nr_reduce.specs.ClientState.{OutstandingCall, ClientState, client_memory_at}
 use Rattle.nr_reduce.specs.Client.{client_rules, initial_client, outstanding_of, segment_request}
 use Rattle.nr_reduce.specs.ServerState.{PendingRead, ServerState, credit_word}
 use Rattle.nr_reduce.specs.ServerFrames.{FrameEffect, frame_effect}
@@ -29,20 +29,20 @@ use Rattle.nr_reduce.specs.Server.{server_rules, initial_server, newly_open_read
 
 -- ---- Of a client
 
-abbrev pub call_item : LinkParameters → ℕ → OutstandingCall → OutputItem
-call_item opened number o = SendItem (msn_word number) (call_message o.xid opened.wished o.stag o.plan)
+abbrev pub sent_call_item : LinkParameters → ℕ → OutstandingCall → OutputItem
+sent_call_item opened number o = SendItem (msn_word number) (call_message o.xid opened.wished o.stag o.plan)
 
-abbrev pub call_items : LinkParameters → ℕ → List OutstandingCall → List OutputItem
-call_items opened number [] = []
-call_items opened number (o ∷ others) = call_item opened number o ∷ call_items opened (number + 1) others
+abbrev pub sent_call_items : LinkParameters → ℕ → List OutstandingCall → List OutputItem
+sent_call_items opened number [] = []
+sent_call_items opened number (o ∷ others) = sent_call_item opened number o ∷ sent_call_items opened (number + 1) others
 
 abbrev pub response_items : ClientState → ℕ → Option ReadRequest → List OutputItem
 response_items k place None = []
-response_items k place (Some r) = ReadResponseItem r.sink r.sink_to (take r.size (drop r.to (memory_at k place r.stag))) ∷ []
+response_items k place (Some r) = ReadResponseItem r.sink r.sink_to (take r.size (drop r.to (client_memory_at k place r.stag))) ∷ []
 
-unfoldable pub client_items_at : LinkParameters → ClientState → Event → List OutputItem
-client_items_at opened k (FrameReceived f) = if is_hello f then call_items opened 1 k.outstanding else response_items k f.end (segment_request (frame_segment f))
-client_items_at opened k (CallSubmitted place a) = if k.has_hello then call_item opened (k.calls_accepted + 1) (outstanding_of k a) ∷ [] else []
+unfoldable pub client_items_at : LinkParameters → ClientState → RunEvent → List OutputItem
+client_items_at opened k (FrameReceived f) = if is_hello f then sent_call_items opened 1 k.outstanding else response_items k f.end (segment_request (frame_segment f))
+client_items_at opened k (CallSubmitted place a) = if k.has_hello then sent_call_item opened (k.calls_accepted + 1) (outstanding_of k a) ∷ [] else []
 client_items_at opened k (MemoryRevoked place xid) = []
 client_items_at opened k (CallExecuted call) = []
 client_items_at opened k (QueueWritten taken) = []
@@ -76,7 +76,7 @@ execution_items k e =
     answer_items k e.xid (offer_of k e.xid)
     (answer_of_target (offer_of k e.xid) k.down_max e.reply (target_of (call_of e.payload)))
 
-unfoldable pub server_items_at : LinkParameters → ServerState → Event → List OutputItem
+unfoldable pub server_items_at : LinkParameters → ServerState → RunEvent → List OutputItem
 server_items_at opened k (FrameReceived f) = if is_hello f then [] else effect_items k (frame_effect k f)
 server_items_at opened k (CallSubmitted place a) = []
 server_items_at opened k (MemoryRevoked place xid) = []
@@ -84,7 +84,7 @@ server_items_at opened k (CallExecuted e) = execution_items k e
 server_items_at opened k (QueueWritten taken) = []
 
 -- the hello that is due for an event that doesn't end the server
-abbrev pub server_hello_at : Event → List ℕ
+abbrev pub server_hello_at : RunEvent → List ℕ
 server_hello_at (FrameReceived f) = if is_hello f then own_hello Responder else []
 server_hello_at (CallSubmitted place a) = []
 server_hello_at (MemoryRevoked place xid) = []
@@ -93,19 +93,19 @@ server_hello_at (QueueWritten taken) = []
 
 -- ---- Of the marks of a run
 
-module _ {S A : Type 0} (rules : Rules S) (at_event : S → Event → List A) (at_end : End → List A) where
-  abbrev pub due_for_by : S → Event → Option End → List A
+module _ {S A : Type 0} (rules : EndMachine S) (at_event : S → RunEvent → List A) (at_end : End → List A) where
+  abbrev pub due_for_by : S → RunEvent → Option End → List A
   due_for_by s event None = at_event s event
   due_for_by s event (Some end) = at_end end
 
-  abbrev pub due_for_in : S → Event → Option End → List A
+  abbrev pub due_for_in : S → RunEvent → Option End → List A
   due_for_in s event None = due_for_by s event (rules.end_at s event)
   due_for_in s event (Some end) = []
 
-  abbrev pub due_for : EndState S → Event → List A
+  abbrev pub due_for : EndState S → RunEvent → List A
   due_for r event = due_for_in r.state event r.ended
 
-  abbrev pub due_for_all : EndState S → List Event → List A
+  abbrev pub due_for_all : EndState S → List RunEvent → List A
   due_for_all r [] = []
   due_for_all r (event ∷ events) = due_for r event ++ due_for_all (next_end_state rules r event) events
 

@@ -35,5 +35,5 @@ abbrev pub PlainMark : PlainServer → List Mark → Mark → Type 0
 PlainMark plain before (marks.Execute l xid moment payload place reply) = plain.Replies (journal plain before) moment payload reply
 PlainMark plain before mark = Unit {0}
 
-abbrev pub Plainly : PlainServer → List Mark → Type 0
-Plainly plain run = AtEachMark (PlainMark plain) [] run
+abbrev pub AnsweredByPlainServer : PlainServer → List Mark → Type 0
+AnsweredByPlainServer plain run = AtEachMark (PlainMark plain) [] run

@@ -14,8 +14,8 @@ use Rattle.nr_reduce.specs.declared.call.Outcome.TheVariants as outcomes
 use Rattle.nr_reduce.specs.Plans.{Buffer, buffers, lists_of}
 use Rattle.nr_reduce.specs.Chunks.{Bytes, answers_offer, reply_conveyed}
 use Rattle.nr_reduce.specs.ClientState.{OutstandingCall, ClientState, is_sent}
-use Rattle.nr_reduce.specs.ClientMessages.{Verdict, by_payload}
-use Rattle.nr_reduce.specs.ClientMessages.Verdict.{EndsLink, GivesOutcome}
+use Rattle.nr_reduce.specs.ClientMessages.{ReplyVerdict, reply_by_payload}
+use Rattle.nr_reduce.specs.ClientMessages.ReplyVerdict.{EndsLink, GivesOutcome}
 
 -- A call that is outstanding: whether its Send has wholly left; the call, until its memory is revoked; the lists that its reply has to
 -- repeat; the STags of its regions, in the order in which they were offered, and none once they are released.
@@ -48,21 +48,21 @@ AreKept k (c ∷ cs) (o ∷ os) = IsKept k c o × AreKept k cs os
 
 -- ---- What is made of a message, by the bytes that memory holds under an STag
 
-abbrev pub kept_payload : ℕ → Option Call → Option (List ℕ) → ChunkLists → Bytes → Verdict
+abbrev pub kept_payload : ℕ → Option Call → Option (List ℕ) → ChunkLists → Bytes → ReplyVerdict
 kept_payload xid None inline lists memory = GivesOutcome xid None
-kept_payload xid (Some call) inline lists memory = by_payload xid (reply_conveyed call.prog call.vers call.proc inline lists memory)
+kept_payload xid (Some call) inline lists memory = reply_by_payload xid (reply_conveyed call.prog call.vers call.proc inline lists memory)
 
-abbrev pub kept_lists : KeptCall → Option (List ℕ) → ChunkLists → Bytes → Bool → Verdict
+abbrev pub kept_lists : KeptCall → Option (List ℕ) → ChunkLists → Bytes → Bool → ReplyVerdict
 kept_lists c inline lists memory false = EndsLink REASON_CHUNKS
 kept_lists c inline lists memory true = kept_payload c.xid c.call inline lists memory
 
-abbrev pub kept_body : KeptCall → Bytes → List ℕ → Body → Verdict
+abbrev pub kept_body : KeptCall → Bytes → List ℕ → Body → ReplyVerdict
 kept_body c memory message (Msg lists stream_at) = kept_lists c (Some (drop stream_at message)) lists memory (answers_offer false c.offered lists)
 kept_body c memory message (Nomsg lists) = kept_lists c None lists memory (answers_offer true c.offered lists)
 kept_body c memory message (ErrVers version low high) = GivesOutcome c.xid (Some (outcomes.Version low high))
 kept_body c memory message (ErrChunk version) = GivesOutcome c.xid (Some outcomes.Chunk)
 
-abbrev pub kept_call : Bytes → List ℕ → Body → Option KeptCall → Verdict
+abbrev pub kept_call : Bytes → List ℕ → Body → Option KeptCall → ReplyVerdict
 kept_call memory message body None = EndsLink REASON_CALL
 kept_call memory message body (Some c) = kept_body c memory message body
 
@@ -70,12 +70,12 @@ kept_call memory message body (Some c) = kept_body c memory message body
 abbrev pub kept_by : List KeptCall → ℕ → Option KeptCall
 kept_by calls xid = find (λ c. c.xid == xid && c.is_sent) calls
 
-abbrev pub kept_header : List KeptCall → Bytes → List ℕ → Result Header HeaderFault → Verdict
+abbrev pub kept_header : List KeptCall → Bytes → List ℕ → Result Header HeaderFault → ReplyVerdict
 kept_header calls memory message (Ok header) = kept_call memory message header.body (kept_by calls header.xid)
 kept_header calls memory message (Err faults.Short) = EndsLink REASON_SHORT
 kept_header calls memory message (Err (faults.Version version)) = EndsLink REASON_VERSION
 kept_header calls memory message (Err (faults.Kind kind)) = EndsLink REASON_KIND
 kept_header calls memory message (Err (faults.BadChunks at)) = EndsLink REASON_KIND
 
-unfoldable pub kept_verdict : List KeptCall → Bytes → List ℕ → Verdict
+unfoldable pub kept_verdict : List KeptCall → Bytes → List ℕ → ReplyVerdict
 kept_verdict calls memory message = kept_header calls memory message (header_of message)

@@ -5,7 +5,7 @@ use Rattle.std.specs.List.{AllByRecursion, filter, find}
 use Rattle.nr_regions.specs.RegisteredMemory.{RegisteredMemory, initial_memory, live_region, after_register, after_release, bytes_in}
 use Rattle.nr_regions.specs.Access.{TaggedSegment}
 use Rattle.nr_regions.specs.Events.{after_event}
-use Rattle.nr_regions.specs.Events.Event.{Arrive}
+use Rattle.nr_regions.specs.Events.MemoryEvent.{Arrive}
 use Rattle.nr_link.specs.declared.end.End.{End}
 use Rattle.nr_link.specs.Frames.{Frame}
 use Rattle.nr_link.specs.Ending.{tagged_access}
@@ -19,7 +19,7 @@ use Rattle.nr_reduce.specs.Limits.{send_max}
 use Rattle.nr_reduce.specs.OfferedRegions.{Region}
 use Rattle.nr_reduce.specs.OfferedMemory.{region_at, AreOffered, AreReceived, HoldsRegions}
 use Rattle.nr_reduce.specs.EndRules.{EndState}
-use Rattle.nr_reduce.specs.ClientState.{OutstandingCall, ClientState, memory_at}
+use Rattle.nr_reduce.specs.ClientState.{OutstandingCall, ClientState, client_memory_at}
 use Rattle.nr_reduce.specs.Client.{credits_of_word}
 use Rattle.nr_reduce.specs.SubmitAnswer.{next_xid}
 use Rattle.nr_xdr.specs.Fields.{word_at}
@@ -90,7 +90,7 @@ pub record MemoryKeeps (m : RegisteredMemory) (k : ClientState) (count : ℕ) : 
 
 -- the memory has under each STag of a call what the client's region holds
 abbrev pub HoldsFor : RegisteredMemory → ClientState → ℕ → KeptCall → Type 0
-HoldsFor m k count c = AllByRecursion (λ stag. bytes_under m stag ≡ memory_at k count stag) c.stags
+HoldsFor m k count c = AllByRecursion (λ stag. bytes_under m stag ≡ client_memory_at k count stag) c.stags
 
 -- an outstanding call has its xid
 abbrev pub IsWaiting : List OutstandingCall → KeptCall → Type 0

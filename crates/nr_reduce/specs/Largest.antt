@@ -47,8 +47,8 @@ unfoldable pub readdirplus_count : Cursor → Option ℕ
 readdirplus_count c = count_behind readdirplus_args_front c
 
 -- any other call's reply
-abbrev pub least_reply : ℕ
-least_reply = 32
+abbrev pub reply_limit_min : ℕ
+reply_limit_min = 32
 
 abbrev pub padded_length : ℕ → ℕ
 padded_length n = n + pad_len n
@@ -66,10 +66,10 @@ reply_limits = (1, 112) ∷ (2, 144) ∷ (3, 272) ∷ (4, 120) ∷ (5, 1144) ∷
     ∷ (12, 144) ∷ (13, 144) ∷ (14, 260) ∷ (15, 232) ∷ (18, 168) ∷ (19, 164) ∷ (20, 140) ∷ (21, 152) ∷ []
 
 unfoldable pub limit_of : ℕ → ℕ
-limit_of proc = unwrap_or (option_map (λ row. row.1) (find (λ row. row.0 == proc) reply_limits)) least_reply
+limit_of proc = unwrap_or (option_map (λ row. row.1) (find (λ row. row.0 == proc) reply_limits)) reply_limit_min
 
 abbrev pub by_count : (ℕ → ℕ) → Option ℕ → ℕ
-by_count most None = least_reply
+by_count most None = reply_limit_min
 by_count most (Some count) = most count
 
 abbrev pub nfs_reply_max : ℕ → Cursor → ℕ
@@ -83,10 +83,10 @@ abbrev pub program_reply_max : (prog vers proc : ℕ) → Cursor → ℕ
 program_reply_max prog vers proc arguments =
     if is_nfs prog vers then nfs_reply_max proc arguments
     else (if prog == MOUNT_PROGRAM && (vers == MOUNT_VERSION && proc == MNT) then 108
-    else least_reply)
+    else reply_limit_min)
 
 abbrev pub target_reply_max : List ℕ → Option CallTarget → ℕ
-target_reply_max payload None = least_reply
+target_reply_max payload None = reply_limit_min
 target_reply_max payload (Some t) = program_reply_max t.prog t.vers t.proc (from_place t.args_at payload)
 
 unfoldable pub largest_reply : List ℕ → ℕ

@@ -3,7 +3,7 @@ use Rattle.std.specs.Prelude.{◌≡◌, ℕ, ◌<◌, ◌≤◌, Bool, List, []
 use Rattle.nr_regions.specs.RegisteredMemory.{RegisteredMemory, Access, denial, after_register}
 use Rattle.nr_regions.specs.Access.{TaggedSegment, grant_denial}
 use Rattle.nr_regions.specs.Events.{after_event}
-use Rattle.nr_regions.specs.Events.Event.{Arrive}
+use Rattle.nr_regions.specs.Events.MemoryEvent.{Arrive}
 use Rattle.nr_reduce.specs.OfferedRegions.{Region, region_grants, regions_closed}
 use Rattle.nr_reduce.specs.OfferedMemory.{region_at, AreOffered, AreReceived, HoldsRegions, ReleasesClosed}
 

@@ -23,7 +23,7 @@ use Rattle.nr_reduce.specs.declared.outline.Plan.{Plan}
 use Rattle.nr_reduce.specs.Plans.{given_region, plan_of, plan_size, regions_needed, call_header, call_message, lists_of, inline_stream, read_stag}
 use Rattle.nr_reduce.specs.Chunks.{Bytes, whole, call_conveyed, read_bytes, reply_conveyed, answers_offer}
 use Rattle.nr_reduce.specs.Holds.{Answer, answer_for, answer_lists, answer_writes, answer_size, answer_message, no_segments}
-use Rattle.nr_reduce.specs.Undone.{IsNotGiven, MessageConveys, ChunkHolds, ReadsAsPlan, inline_by, lists_by, RegionsHaveLengths, IsOffer, ReadsAsAnswer, offering, after, answer_segments}
+use Rattle.nr_reduce.specs.ChunkBytes.{IsNotGiven, MessageConveys, ChunkHolds, ReadsAsPlan, inline_by, lists_by, RegionsHaveLengths, IsOffer, ReadsAsAnswer, offered_lists, after, answer_segments}
 
 -- What was cut of a payload is put together to that payload again.
 abbrev pub CutIsRebuilt : Type 0
@@ -98,8 +98,8 @@ OfferMessageConveys = (payload : List ℕ) (offer : Offer) (up down xid credit s
 -- An answer for an offer that holds a reply conveys that reply, by what its Writes leave in the offered regions.
 abbrev pub AnswerConveysReply : Type 0
 AnswerConveysReply = (read : List ReadSegment) (ws rs : ℕ) (w r : Option (List ℕ)) (down prog vers proc : ℕ) (reply : List ℕ) (a : Answer) (initial : Bytes) →
-    IsBytes reply → RegionsHaveLengths initial ws rs w r → answer_for (offering read ws rs w r) down prog vers proc reply ≡ Some a →
-    reply_conveyed prog vers proc (if a.long then None else Some a.stream) (answer_lists (offering read ws rs w r) a) (after initial (offering read ws rs w r) a) ≡ Some reply
+    IsBytes reply → RegionsHaveLengths initial ws rs w r → answer_for (offered_lists read ws rs w r) down prog vers proc reply ≡ Some a →
+    reply_conveyed prog vers proc (if a.long then None else Some a.stream) (answer_lists (offered_lists read ws rs w r) a) (after initial (offered_lists read ws rs w r) a) ≡ Some reply
 
 -- What is written for an answer are the segments of its Writes, in order.
 abbrev pub AnswerWritesSegments : Type 0
@@ -108,8 +108,8 @@ AnswerWritesSegments = (offer : ChunkLists) (a : Answer) → answer_writes offer
 -- Its lists are those that were offered, as a client asks of a reply.
 abbrev pub AnswerSuitsOffer : Type 0
 AnswerSuitsOffer = (read : List ReadSegment) (ws rs : ℕ) (w r : Option (List ℕ)) (down prog vers proc : ℕ) (reply : List ℕ) (a : Answer) →
-    IsBytes reply → answer_for (offering read ws rs w r) down prog vers proc reply ≡ Some a →
-    answers_offer a.long (offering read ws rs w r) (answer_lists (offering read ws rs w r) a) ≡ true
+    IsBytes reply → answer_for (offered_lists read ws rs w r) down prog vers proc reply ≡ Some a →
+    answers_offer a.long (offered_lists read ws rs w r) (answer_lists (offered_lists read ws rs w r) a) ≡ true
 
 -- Its message has the size that was tested, which is at most that of a Send; where the stream goes in the reply chunk, the size of
 -- its header alone.
@@ -122,6 +122,6 @@ AnswerHasItsSize = (offer : ChunkLists) (down prog vers proc xid credit : ℕ) (
 -- It reads back as the lists of the answer and its stream.
 abbrev pub AnswerReadsBack : Type 0
 AnswerReadsBack = (read : List ReadSegment) (ws rs : ℕ) (w r : Option (List ℕ)) (down prog vers proc xid credit : ℕ) (reply : List ℕ) (a : Answer) →
-    IsBytes reply → IsOffer (offering read ws rs w r) → answer_for (offering read ws rs w r) down prog vers proc reply ≡ Some a →
+    IsBytes reply → IsOffer (offered_lists read ws rs w r) → answer_for (offered_lists read ws rs w r) down prog vers proc reply ≡ Some a →
     down ≤ PAYLOAD_MAX → xid < 2 ^ 32 → credit < 2 ^ 32 →
-    ReadsAsAnswer (offering read ws rs w r) a xid credit (answer_message xid credit (offering read ws rs w r) a)
+    ReadsAsAnswer (offered_lists read ws rs w r) a xid credit (answer_message xid credit (offered_lists read ws rs w r) a)

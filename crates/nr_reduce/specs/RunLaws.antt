@@ -35,7 +35,7 @@ use Rattle.nr_reduce.specs.declared.mark.Entry.{Entry}
 use Rattle.nr_reduce.specs.PlainJournal.{any_that_adds}
 use Rattle.nr_reduce.specs.Journal.{Journaled}
 use Rattle.nr_reduce.specs.History.{AcceptedCall, CompletedCall, accepted_calls, completed_calls}
-use Rattle.nr_reduce.specs.Events.{Event, events_at, events}
+use Rattle.nr_reduce.specs.Events.{RunEvent, events_at, events}
 use Rattle.nr_reduce.specs.EndRules.{next_end_state, end_state_after, output_for, output_for_all, live}
 use Rattle.nr_reduce.specs.OfferedRegions.{region_grants}
 use Rattle.nr_reduce.specs.declared.outline.Plan.{Plan}
@@ -49,7 +49,7 @@ use Rattle.nr_reduce.specs.ServerFrames.{frame_effect, call_of_number, is_stream
 use Rattle.nr_reduce.specs.Chunks.{is_read_chunk_of_item}
 use Rattle.nr_reduce.specs.ServerMessages.Verdict.{BadChunks, OtherVersion, MakesPending}
 use Rattle.nr_reduce.specs.Server.{server_rules, server_end, server_state_after, initial_server, offer_of, answer_of_target, newly_open_reads, sends_from, requests_from}
-use Rattle.nr_reduce.specs.Events.Event.{FrameReceived}
+use Rattle.nr_reduce.specs.Events.RunEvent.{FrameReceived}
 use Rattle.nr_reduce.specs.Run.{client, server, output_due, grants_of, placed_bytes}
 use Rattle.nr_reduce.specs.Opening.{IsOpened}
 use Rattle.nr_rpc.specs.Credential.{CanWriteCred}
@@ -61,7 +61,7 @@ use Rattle.nr_reduce.specs.Served.{ServedSoFar, ServedMark, IsExecuted, next_cal
 use Rattle.nr_reduce.specs.Matched.{IsPrefixOf}
 use Rattle.nr_reduce.specs.SoFar.{SoFar, InFull}
 use Rattle.nr_reduce.specs.PayloadLaws.{IsPlanned}
-use Rattle.nr_reduce.specs.Undone.{lists_by}
+use Rattle.nr_reduce.specs.ChunkBytes.{lists_by}
 use Rattle.nr_xdr.specs.Fields.{word_at}
 
 -- A frame doesn't end the server; just this message is due for it, and no call becomes pending or ready.
@@ -159,12 +159,12 @@ ServerOutputAfterMark = (opened : LinkParameters) (link : ℕ) (run : List Mark)
 
 -- An end that has ended stays as it is, and no output is due.
 abbrev pub EndedClientStays : Type 0
-EndedClientStays = (opened : LinkParameters) (k : ClientState) (end : End) (events : List Event) →
+EndedClientStays = (opened : LinkParameters) (k : ClientState) (end : End) (events : List RunEvent) →
     (end_state_after (client_rules opened) (record { state = k; ended = Some end }) events ≡ record { state = k; ended = Some end })
     × (output_for_all (client_rules opened) (record { state = k; ended = Some end }) events ≡ [])
 
 abbrev pub EndedServerStays : Type 0
-EndedServerStays = (opened : LinkParameters) (k : ServerState) (end : End) (events : List Event) →
+EndedServerStays = (opened : LinkParameters) (k : ServerState) (end : End) (events : List RunEvent) →
     (end_state_after (server_rules opened) (record { state = k; ended = Some end }) events ≡ record { state = k; ended = Some end })
     × (output_for_all (server_rules opened) (record { state = k; ended = Some end }) events ≡ [])
 
@@ -195,12 +195,12 @@ GrantsHaveOwnStags = (opened : LinkParameters) (link : ℕ) (side : Side) (run :
 -- The access of a frame that doesn't end a side is allowed by what the side offers as the frame is received: after any events, where
 -- the frame is the next one. So each access before a side's end is allowed, and the first that isn't ends it.
 abbrev pub ClientAllows : Type 0
-ClientAllows = (opened : LinkParameters) (events : List Event) (f : Frame) (segment : Segment) (access : Access) → is_hello f ≡ false → frame_segment f ≡ Ok segment → access_of segment ≡ Some access →
+ClientAllows = (opened : LinkParameters) (events : List RunEvent) (f : Frame) (segment : Segment) (access : Access) → is_hello f ≡ false → frame_segment f ≡ Ok segment → access_of segment ≡ Some access →
     client_end (end_state_after (client_rules opened) (initial_client opened) events).state (FrameReceived f) ≡ None →
     Allowed (region_grants f.end (end_state_after (client_rules opened) (initial_client opened) events).state.regions) access f.end
 
 abbrev pub ServerAllows : Type 0
-ServerAllows = (opened : LinkParameters) (events : List Event) (f : Frame) (segment : Segment) (access : Access) → is_hello f ≡ false → frame_segment f ≡ Ok segment → access_of segment ≡ Some access →
+ServerAllows = (opened : LinkParameters) (events : List RunEvent) (f : Frame) (segment : Segment) (access : Access) → is_hello f ≡ false → frame_segment f ≡ Ok segment → access_of segment ≡ Some access →
     server_end opened (end_state_after (server_rules opened) (initial_server opened) events).state (FrameReceived f) ≡ None →
     Allowed (region_grants f.end (end_state_after (server_rules opened) (initial_server opened) events).state.regions) access f.end
 
@@ -268,14 +268,14 @@ abbrev pub ReadyIsConveyed : Type 0
 ReadyIsConveyed = (k : ServerState) (f : Frame) (segment : Segment) (r : ReadyCall) → frame_segment f ≡ Ok segment → (frame_effect k f).ready ≡ r ∷ [] → IsConveyed k f segment r
 
 -- a server after these events
-abbrev pub server_by : LinkParameters → List Event → ServerState
+abbrev pub server_by : LinkParameters → List RunEvent → ServerState
 server_by opened es = (end_state_after (server_rules opened) (initial_server opened) es).state
 
 -- A message that was received is that of this call: a frame among these events makes it whole. The call has the number of its Send,
 -- its xid and lists, and its stream where that is in the message.
-pub record IsReceivedCall (opened : LinkParameters) (es : List Event) (c : PendingCall) : Type 0 where
-  pub earlier : List Event
-  pub later : List Event
+pub record IsReceivedCall (opened : LinkParameters) (es : List RunEvent) (c : PendingCall) : Type 0 where
+  pub earlier : List RunEvent
+  pub later : List RunEvent
   pub frame : Frame
   pub segment : Segment
   pub message : List ℕ
@@ -292,9 +292,9 @@ pub record IsReceivedCall (opened : LinkParameters) (es : List Event) (c : Pendi
 
 -- The payload of a ready call is conveyed by the lists and the stream of a message that was received, and by the bytes that the
 -- call's sink regions held as a frame of these events was received: the one by which the call became whole.
-pub record WasConveyed (opened : LinkParameters) (es : List Event) (r : ReadyCall) : Type 0 where
-  pub earlier : List Event
-  pub later : List Event
+pub record WasConveyed (opened : LinkParameters) (es : List RunEvent) (r : ReadyCall) : Type 0 where
+  pub earlier : List RunEvent
+  pub later : List RunEvent
   pub frame : Frame
   pub segment : Segment
   pub call : PendingCall
@@ -352,7 +352,7 @@ RefusesSend k f segment number =
 -- A Send that is refused is never executed, whatever the peer sends: no call that is executed after the frame that refuses it has its
 -- number.
 abbrev pub RefusedIsNotExecuted : Type 0
-RefusedIsNotExecuted = (opened : LinkParameters) (link : ℕ) (before : List Mark) (earlier later : List Event) (f : Frame) (segment : Segment) (number : ℕ) →
+RefusedIsNotExecuted = (opened : LinkParameters) (link : ℕ) (before : List Mark) (earlier later : List RunEvent) (f : Frame) (segment : Segment) (number : ℕ) →
     events link Responder before ≡ earlier ++ FrameReceived f ∷ later → is_hello f ≡ false → frame_segment f ≡ Ok segment →
     RefusesSend (end_state_after (server_rules opened) (initial_server opened) earlier).state f segment number →
     (xid : ℕ) (payload : List ℕ) (h : IsExecuted opened link before xid payload) → h.call.number ≢ number

@@ -15,9 +15,9 @@ abbrev pub open_reads : ServerState → List PendingRead
 open_reads k = take open_reads_max k.reads
 
 -- where the next Read Response goes on
-abbrev pub expected_response : ℕ → List PendingRead → Option ExpectedResponse
-expected_response response_bytes [] = None
-expected_response response_bytes (r ∷ reads) = Some (record { sink = r.sink; at = r.at + response_bytes; left = r.size - response_bytes })
+abbrev pub expected_read_response : ℕ → List PendingRead → Option ExpectedResponse
+expected_read_response response_bytes [] = None
+expected_read_response response_bytes (r ∷ reads) = Some (record { sink = r.sink; at = r.at + response_bytes; left = r.size - response_bytes })
 
 -- The sink regions of a call: one for each chunk of its read list that has bytes, in the order of first entries.
 abbrev pub chunks_of : ChunkLists → List ℕ

@@ -27,13 +27,13 @@ use Rattle.nr_reduce.specs.declared.outline.Plan.{Plan}
 use Rattle.nr_reduce.specs.Limits.{numbers_end}
 use Rattle.nr_reduce.specs.Plans.{TooLarge, regions_needed, buffers, plan_of}
 use Rattle.nr_reduce.specs.History.{AcceptedCall, CompletedCall, bytes_sent, bytes_received, written_at, fed_at, other}
-use Rattle.nr_reduce.specs.Events.{Event, events_at}
-use Rattle.nr_reduce.specs.Events.Event.{FrameReceived, CallSubmitted, MemoryRevoked, QueueWritten}
-use Rattle.nr_reduce.specs.EndRules.{Rules, EndState, live, next_end_state, end_state_after, output_for_all}
+use Rattle.nr_reduce.specs.Events.{RunEvent, events_at}
+use Rattle.nr_reduce.specs.Events.RunEvent.{FrameReceived, CallSubmitted, MemoryRevoked, QueueWritten}
+use Rattle.nr_reduce.specs.EndRules.{EndMachine, EndState, live, next_end_state, end_state_after, output_for_all}
 use Rattle.nr_reduce.specs.ClientState.{ClientState, call_payload, plan_for}
 use Rattle.nr_reduce.specs.OfferedRegions.{Region}
 use Rattle.nr_reduce.specs.Client.{client_rules, client_end, response_output, region_of, with_message, with_hello}
-use Rattle.nr_reduce.specs.ClientMessages.{verdict}
+use Rattle.nr_reduce.specs.ClientMessages.{reply_verdict}
 use Rattle.nr_reduce.specs.ServerState.{ServerState}
 use Rattle.nr_reduce.specs.Server.{server_rules, initial_server}
 use Rattle.nr_reduce.specs.Run.{client, server, output_due}
@@ -43,14 +43,14 @@ use Rattle.nr_reduce.specs.Asked.{IsAll}
 use Rattle.nr_reduce.specs.Served.{ServedSoFar}
 use Rattle.nr_reduce.specs.KeptCalls.{kept_verdict}
 use Rattle.nr_reduce.specs.KeptClient.{KeptClient, ClientKeeps, bytes_under, opened_client, kept_revoked, kept_handed_back, kept_completed, kept_placed, kept_received, kept_sent, kept_submitted}
-use Rattle.nr_reduce.specs.Standing.{input_events, ClientStandsFor, ClientRunsOut, ServerStandsFor, ServerRunsOut}
+use Rattle.nr_reduce.specs.Standing.{input_events, ClientRepresents, ClientRunsOut, ServerRepresents, ServerRunsOut}
 
 -- An end stands for no marks as it is opened: a client's queue has its hello.
 abbrev pub ClientBegins : Type 0
-ClientBegins = (opened : LinkParameters) (link : ℕ) → ClientStandsFor opened link (opened_client opened) (initial_input Responder) (own_hello Initiator) []
+ClientBegins = (opened : LinkParameters) (link : ℕ) → ClientRepresents opened link (opened_client opened) (initial_input Responder) (own_hello Initiator) []
 
 abbrev pub ServerBegins : Type 0
-ServerBegins = (opened : LinkParameters) (link : ℕ) → ServerStandsFor opened link (initial_server opened) (initial_input Initiator) [] []
+ServerBegins = (opened : LinkParameters) (link : ℕ) → ServerRepresents opened link (initial_server opened) (initial_input Initiator) [] []
 
 -- The events of a mark follow from the input that an end keeps.
 abbrev pub EventsOfInput : Type 0
@@ -61,7 +61,7 @@ EventsOfInput = (link : ℕ) (side : Side) (run : List Mark) (mark : Mark) →
 
 -- For this end, after `count` bytes were received, what is kept next keeps what its state after a mark asks for, and what is written
 -- at the mark and what is left are the queue and the output that is due for it.
-pub record GoesOn {K S : Type 0} (Keeps : K → EndState S → ℕ → Type 0) (rules : Rules S) (link : ℕ) (side : Side) (next : K) (input : InputState) (queue left : List ℕ) (mark : Mark) (e : EndState S) (count : ℕ) : Type 0 where
+pub record GoesOn {K S : Type 0} (Keeps : K → EndState S → ℕ → Type 0) (rules : EndMachine S) (link : ℕ) (side : Side) (next : K) (input : InputState) (queue left : List ℕ) (mark : Mark) (e : EndState S) (count : ℕ) : Type 0 where
   pub keeps : Keeps next (end_state_after rules e (input_events link side input mark)) (count + length (fed_at link side mark))
   pub output : written_at link side mark ++ left ≡ queue ++ output_for_all rules e (input_events link side input mark)
 
@@ -69,14 +69,14 @@ pub record GoesOn {K S : Type 0} (Keeps : K → EndState S → ℕ → Type 0) (
 -- what it keeps here. Once it has ended its input doesn't matter.
 abbrev pub ClientStandsOn : Type 0
 ClientStandsOn = (opened : LinkParameters) (link : ℕ) (kept next : KeptClient) (input next_input : InputState) (queue left : List ℕ) (run : List Mark) (mark : Mark) →
-    ClientStandsFor opened link kept input queue run →
+    ClientRepresents opened link kept input queue run →
     GoesOn (ClientKeeps opened) (client_rules opened) link Initiator next input queue left mark (client opened link run) (length (bytes_received link Initiator run)) →
     (next.ended ≡ None → next_input ≡ input_after input (fed_at link Initiator mark)) →
-    ClientStandsFor opened link next next_input left (run ++ mark ∷ [])
+    ClientRepresents opened link next next_input left (run ++ mark ∷ [])
 
 -- Whatever else an owner keeps of an end: by its input alone, what one mark more makes of the end's state, of the output that is due,
 -- of the bytes that were sent and received, and of the input of an end that hasn't ended.
-pub record GoesByInput {S : Type 0} (rules : Rules S) (link : ℕ) (side : Side) (state_of : List Mark → EndState S) (due : List Mark → List ℕ) (input : InputState) (run : List Mark) (mark : Mark) : Type 0 where
+pub record GoesByInput {S : Type 0} (rules : EndMachine S) (link : ℕ) (side : Side) (state_of : List Mark → EndState S) (due : List Mark → List ℕ) (input : InputState) (run : List Mark) (mark : Mark) : Type 0 where
   pub state : state_of (run ++ mark ∷ []) ≡ end_state_after rules (state_of run) (input_events link side input mark)
   pub output : due (run ++ mark ∷ []) ≡ due run ++ output_for_all rules (state_of run) (input_events link side input mark)
   pub sent : bytes_sent link side (run ++ mark ∷ []) ≡ bytes_sent link side run ++ written_at link side mark
@@ -96,16 +96,16 @@ ServerGoesByInput = (opened : LinkParameters) (link : ℕ) (input : InputState) 
 -- A server goes on by the events of the mark.
 abbrev pub ServerStandsOn : Type 0
 ServerStandsOn = (opened : LinkParameters) (link : ℕ) (end : EndState ServerState) (input next_input : InputState) (queue left : List ℕ) (run : List Mark) (mark : Mark) →
-    ServerStandsFor opened link end input queue run →
+    ServerRepresents opened link end input queue run →
     written_at link Responder mark ++ left ≡ queue ++ output_for_all (server_rules opened) end (input_events link Responder input mark) →
     ((end_state_after (server_rules opened) end (input_events link Responder input mark)).ended ≡ None → next_input ≡ input_after input (fed_at link Responder mark)) →
-    ServerStandsFor opened link (end_state_after (server_rules opened) end (input_events link Responder input mark)) next_input left (run ++ mark ∷ [])
+    ServerRepresents opened link (end_state_after (server_rules opened) end (input_events link Responder input mark)) next_input left (run ++ mark ∷ [])
 
 -- It runs out of memory at a piece that is fed: after the first n bytes of it a client hadn't ended, what it keeps goes on for these, and
 -- what they make due is queued; and what is left are the first bytes of the queue and of the output that is due for the piece.
 abbrev pub ClientRunsOutAt : Type 0
 ClientRunsOutAt = (opened : LinkParameters) (link : ℕ) (kept next : KeptClient) (input : InputState) (queue queued left : List ℕ) (run : List Mark) (piece : List ℕ) (n : ℕ) →
-    ClientStandsFor opened link kept input queue run →
+    ClientRepresents opened link kept input queue run →
     GoesOn (ClientKeeps opened) (client_rules opened) link Initiator (record next { ended = None }) input queue queued (marks.Fed link Initiator (take n piece)) (client opened link run) (length (bytes_received link Initiator run)) →
     IsPrefixOf queued left →
     IsPrefixOf left (queue ++ output_for_all (client_rules opened) (client opened link run) (input_events link Initiator input (marks.Fed link Initiator piece))) →
@@ -114,7 +114,7 @@ ClientRunsOutAt = (opened : LinkParameters) (link : ℕ) (kept next : KeptClient
 
 abbrev pub ServerRunsOutAt : Type 0
 ServerRunsOutAt = (opened : LinkParameters) (link : ℕ) (end : EndState ServerState) (input : InputState) (queue left : List ℕ) (run : List Mark) (mark : Mark) →
-    ServerStandsFor opened link end input queue run →
+    ServerRepresents opened link end input queue run →
     IsPrefixOf (written_at link Responder mark ++ left) (queue ++ output_for_all (server_rules opened) end (input_events link Responder input mark)) →
     ServerRunsOut opened link (Some ends.Memory) left (run ++ mark ∷ [])
 
@@ -131,14 +131,14 @@ ServerStaysOut = (opened : LinkParameters) (link : ℕ) (ended : Option End) (qu
 -- didn't keeps it in full.
 abbrev pub ClientQueueIsDue : Type 0
 ClientQueueIsDue = (opened : LinkParameters) (link : ℕ) (kept : KeptClient) (input : InputState) (taken left : List ℕ) (stopped run : List Mark) →
-    (ClientStandsFor opened link kept input (taken ++ left) run →
+    (ClientRepresents opened link kept input (taken ++ left) run →
     IsPrefixOf (bytes_sent link Initiator run ++ taken) (output_due opened link Initiator run)
     × (left ≡ [] → IsAll (bytes_sent link Initiator run ++ taken) (output_due opened link Initiator run)))
     × (ClientRunsOut opened link kept (taken ++ left) stopped run → IsPrefixOf (bytes_sent link Initiator run ++ taken) (output_due opened link Initiator run))
 
 abbrev pub ServerQueueIsDue : Type 0
 ServerQueueIsDue = (opened : LinkParameters) (link : ℕ) (end : EndState ServerState) (ended : Option End) (input : InputState) (taken left : List ℕ) (run : List Mark) →
-    (ServerStandsFor opened link end input (taken ++ left) run →
+    (ServerRepresents opened link end input (taken ++ left) run →
     IsPrefixOf (bytes_sent link Responder run ++ taken) (output_due opened link Responder run)
     × (left ≡ [] → IsAll (bytes_sent link Responder run ++ taken) (output_due opened link Responder run)))
     × (ServerRunsOut opened link ended (taken ++ left) run → IsPrefixOf (bytes_sent link Responder run ++ taken) (output_due opened link Responder run))
@@ -148,7 +148,7 @@ ServerQueueIsDue = (opened : LinkParameters) (link : ℕ) (end : EndState Server
 -- By what it keeps it judges a message as the client does, also one that is completed further on.
 abbrev pub KeptJudges : Type 0
 KeptJudges = (opened : LinkParameters) (kept : KeptClient) (k : ClientState) (count place : ℕ) (message : List ℕ) → ClientKeeps opened kept (live k) count → count ≤ place →
-    kept_verdict kept.calls (bytes_under kept.memory) message ≡ verdict k place message
+    kept_verdict kept.calls (bytes_under kept.memory) message ≡ reply_verdict k place message
 
 -- It answers a Read Request that is allowed with the bytes that the client's region holds.
 abbrev pub KeptResponds : Type 0
@@ -212,7 +212,7 @@ KeptTakes = (opened : LinkParameters) (kept : KeptClient) (k : ClientState) (cou
 
 -- after an event that ends the client, with the reason,
 abbrev pub KeptEnds : Type 0
-KeptEnds = (opened : LinkParameters) (kept : KeptClient) (k : ClientState) (end : End) (count : ℕ) (event : Event) → ClientKeeps opened kept (live k) count → client_end k event ≡ Some end →
+KeptEnds = (opened : LinkParameters) (kept : KeptClient) (k : ClientState) (end : End) (count : ℕ) (event : RunEvent) → ClientKeeps opened kept (live k) count → client_end k event ≡ Some end →
     ClientKeeps opened (record kept { ended = Some end }) (next_end_state (client_rules opened) (live k) event) count
 
 -- after a write, with the number of Sends that have wholly left,
@@ -245,14 +245,14 @@ OutcomesStay = (opened : LinkParameters) (link : ℕ) (run more : List Mark) (c 
 
 -- What it keeps stands for one mark more: a revoke,
 abbrev pub RevokeStands : Type 0
-RevokeStands = (opened : LinkParameters) (link : ℕ) (kept : KeptClient) (input : InputState) (queue : List ℕ) (run : List Mark) (xid : ℕ) (bytes : List ℕ) → ClientStandsFor opened link kept input queue run →
-    ClientStandsFor opened link (kept_revoked kept xid) input queue (run ++ marks.Revoke link xid bytes ∷ [])
+RevokeStands = (opened : LinkParameters) (link : ℕ) (kept : KeptClient) (input : InputState) (queue : List ℕ) (run : List Mark) (xid : ℕ) (bytes : List ℕ) → ClientRepresents opened link kept input queue run →
+    ClientRepresents opened link (kept_revoked kept xid) input queue (run ++ marks.Revoke link xid bytes ∷ [])
 
 -- a write of a part of its queue, with the number of Sends that have wholly left by then,
 abbrev pub WroteStands : Type 0
-WroteStands = (opened : LinkParameters) (link : ℕ) (kept : KeptClient) (input : InputState) (taken left : List ℕ) (run : List Mark) (sent : ℕ) → ClientStandsFor opened link kept input (taken ++ left) run →
+WroteStands = (opened : LinkParameters) (link : ℕ) (kept : KeptClient) (input : InputState) (taken left : List ℕ) (run : List Mark) (sent : ℕ) → ClientRepresents opened link kept input (taken ++ left) run →
     ((client opened link run).ended ≡ None → sent ≡ ends_left ((client opened link run).state.written + length taken) (client opened link run).state.send_ends) →
-    ClientStandsFor opened link (kept_sent opened.first_xid sent kept) input left (run ++ marks.Wrote link Initiator taken ∷ [])
+    ClientRepresents opened link (kept_sent opened.first_xid sent kept) input left (run ++ marks.Wrote link Initiator taken ∷ [])
 
 -- also of a client that ran out of memory, as if it was revoked when it stopped,
 abbrev pub RevokeStaysOut : Type 0
@@ -261,8 +261,8 @@ RevokeStaysOut = (opened : LinkParameters) (link : ℕ) (kept : KeptClient) (que
 
 -- and a mark that is no event of it: a refused call, what is handed to its caller, and what happens elsewhere.
 abbrev pub OtherMarkStands : Type 0
-OtherMarkStands = (opened : LinkParameters) (link : ℕ) (kept : KeptClient) (input : InputState) (queue : List ℕ) (run : List Mark) (mark : Mark) → ClientStandsFor opened link kept input queue run →
-    events_at link Initiator run mark ≡ [] → written_at link Initiator mark ≡ [] → fed_at link Initiator mark ≡ [] → ClientStandsFor opened link kept input queue (run ++ mark ∷ [])
+OtherMarkStands = (opened : LinkParameters) (link : ℕ) (kept : KeptClient) (input : InputState) (queue : List ℕ) (run : List Mark) (mark : Mark) → ClientRepresents opened link kept input queue run →
+    events_at link Initiator run mark ≡ [] → written_at link Initiator mark ≡ [] → fed_at link Initiator mark ≡ [] → ClientRepresents opened link kept input queue (run ++ mark ∷ [])
 
 -- ---- Before the client's hello
 

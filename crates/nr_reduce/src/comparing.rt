@@ -3,7 +3,7 @@
 ghost use Rattle.std.specs.Prelude.{◌≡◌, nat_le, ◌&&◌, ◌||◌, ◌==◌};
 ghost use Rattle.std.specs.List.{list_all};
 ghost use Rattle.nr_reduce.specs.Chunks.{are_empty, returns, returns_each, fills_first, returns_none, returns_stream, answers_offer};
-ghost use Rattle.nr_reduce.specs.Views.{returns_one};
+ghost use Rattle.nr_reduce.specs.CodeViews.{returns_one};
 
 use nr_header::{Chunk, ChunkLists, RdmaSegment};
 

@@ -4,7 +4,7 @@ ghost use Rattle.std.specs.Prelude.{◌≡◌, ◌+◌, ◌==◌, ◌<◌, ◌�
 ghost use Rattle.std.specs.List.{list_all};
 ghost use Rattle.nr_xdr.specs.Item.{pad_len};
 ghost use Rattle.nr_reduce.specs.Items.{ends_with_item, reducible_item, stream_of, moved_of, restored_payload};
-ghost use Rattle.nr_reduce.specs.Chunks.{has_length, IsWhole};
+ghost use Rattle.nr_reduce.specs.Chunks.{has_moved_length, IsWhole};
 ghost use Rattle.nr_reduce.specs.Cuts.{cut_of, rebuilt_of, Rebuilds, RebuildsInto};
 
 use crate::fault::{Mismatch, PayloadFault};
@@ -85,8 +85,8 @@ pub fn cut(alloc: Global, payload: &[u8], of: &Of) -> Result<Option<Cut>, Payloa
 }
 
 /// Whether so many bytes are an item's: in a call with or without its pad.
-fn has_length(of: &Of, item: &Item, moved: &[u8]) -> bool
-    ensures { result ≡ has_length of.now item.now moved.now }
+fn has_moved_length(of: &Of, item: &Item, moved: &[u8]) -> bool
+    ensures { result ≡ has_moved_length of.now item.now moved.now }
 {
     let len = item.len as usize;
     match *of {
@@ -155,7 +155,7 @@ pub fn rebuild(
             why: Mismatch::Position,
         });
     }
-    if !has_length(of, &item, moved) {
+    if !has_moved_length(of, &item, moved) {
         return Err(PayloadFault::BadChunks {
             why: Mismatch::Length,
         });
@@ -217,7 +217,7 @@ pub fn rebuild_into(
     if item.pos != pos as usize {
         return Err(Mismatch::Position);
     }
-    if !has_length(of, &item, moved) {
+    if !has_moved_length(of, &item, moved) {
         return Err(Mismatch::Length);
     }
     Ok(restore_into(room, stream, &item, moved))

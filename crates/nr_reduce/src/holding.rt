@@ -4,7 +4,7 @@ ghost use Rattle.std.specs.Prelude.{◌≡◌, ◌↔◌, ◌+◌, ◌≤◌, na
 ghost use Rattle.nr_reduce.specs.Items.{stream_of, moved_of};
 ghost use Rattle.nr_reduce.specs.Chunks.{chunk_total};
 ghost use Rattle.nr_reduce.specs.Holds.{answer_size, fits_reply, answer_for, Holds};
-ghost use Rattle.nr_reduce.specs.Views.{first_total, parts_of, parts_view, answer_view};
+ghost use Rattle.nr_reduce.specs.CodeViews.{first_total, parts_of, parts_view, answer_view};
 
 use crate::cutting::reducible_item;
 use crate::item::{Item, Of};

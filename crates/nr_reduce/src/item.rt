@@ -3,7 +3,7 @@
 ghost use Rattle.std.specs.Prelude.{◌≡◌, ◌+◌, ◌≤◌, Ok, length, IfSome};
 ghost use Rattle.nr_xdr.specs.Item.{pad_len};
 ghost use Rattle.nr_rpc.specs.Reading.{reply_of};
-ghost use Rattle.nr_reduce.specs.Behind.{and_then};
+ghost use Rattle.nr_reduce.specs.AfterFront.{and_then};
 ghost use Rattle.nr_reduce.specs.Items.{from_place, item_at, is_nfs, argument_item, result_item, results_of, call_item, reply_item, item_of};
 
 use crate::limits::{READ, READLINK, SYMLINK, WRITE};
@@ -62,7 +62,7 @@ fn item_here(mut reader: Reader<'_>) -> Option<Item>
 }
 
 /// The item whose length word is next, where what stands before it could be read.
-fn item_behind(front: Option<Reader<'_>>) -> Option<Item>
+fn item_after(front: Option<Reader<'_>>) -> Option<Item>
     ensures { result ≡ and_then front.entry (λ c. item_at (Ok c)) }
 {
     match front {
@@ -86,8 +86,8 @@ fn argument_item(prog: u32, vers: u32, proc: u32, arguments: Reader<'_>) -> Opti
         return None;
     }
     match proc {
-        WRITE => item_behind(skip_to_write_data(arguments)),
-        SYMLINK => item_behind(skip_to_symlink_path(arguments)),
+        WRITE => item_after(skip_to_write_data(arguments)),
+        SYMLINK => item_after(skip_to_symlink_path(arguments)),
         _ => None,
     }
 }
@@ -101,8 +101,8 @@ fn result_item(prog: u32, vers: u32, proc: u32, results: Reader<'_>) -> Option<I
         return None;
     }
     match proc {
-        READ => item_behind(skip_to_read_data(results)),
-        READLINK => item_behind(skip_to_readlink_path(results)),
+        READ => item_after(skip_to_read_data(results)),
+        READLINK => item_after(skip_to_readlink_path(results)),
         _ => None,
     }
 }

@@ -1,7 +1,7 @@
 //! How long a reply may be, by its call alone.
 
 ghost use Rattle.std.specs.Prelude.{◌≡◌, ◌+◌, ◌<◌, ◌≤◌};
-ghost use Rattle.nr_reduce.specs.Behind.{number_behind};
+ghost use Rattle.nr_reduce.specs.AfterFront.{number_after};
 ghost use Rattle.nr_reduce.specs.Largest.{padded_length, by_count, read_reply_max, readdir_reply_max, limit_of, nfs_reply_max, program_reply_max, largest_reply};
 
 use crate::cutting::pad_len;
@@ -15,12 +15,12 @@ use nr_rpc::call_target;
 use nr_xdr::Reader;
 
 /// The reply to any other call, and to one that isn't encoded up to its count.
-const LEAST_REPLY: u32 = 32;
+const REPLY_LIMIT_MIN: u32 = 32;
 
 /// The number behind the fields before it, where these could be read.
-#[tactic(auto, unfolding(crate::specs::Behind::number_behind))]
-pub(crate) fn number_behind(front: Option<Reader<'_>>) -> Option<u32>
-    ensures { result ≡ number_behind front.entry }
+#[tactic(auto, unfolding(crate::specs::Behind::number_after))]
+pub(crate) fn number_after(front: Option<Reader<'_>>) -> Option<u32>
+    ensures { result ≡ number_after front.entry }
 {
     let Some(mut reader) = front else {
         return None;
@@ -46,7 +46,7 @@ fn read_reply_max(count: Option<u32>) -> u32
 {
     match count {
         Some(count) => 128 + rounded(count.min(TRANSFER_MAX)),
-        None => LEAST_REPLY,
+        None => REPLY_LIMIT_MIN,
     }
 }
 
@@ -56,7 +56,7 @@ fn readdir_reply_max(count: Option<u32>) -> u32
 {
     match count {
         Some(count) => (28 + count.min(LISTING_MAX)).max(116),
-        None => LEAST_REPLY,
+        None => REPLY_LIMIT_MIN,
     }
 }
 
@@ -79,7 +79,7 @@ fn limit_of(proc: u32) -> u32
         19 => 164,
         20 => 140,
         21 => 152,
-        _ => LEAST_REPLY,
+        _ => REPLY_LIMIT_MIN,
     }
 }
 
@@ -88,9 +88,9 @@ fn nfs_reply_max(proc: u32, arguments: Reader<'_>) -> u32
     ensures { result ≡ nfs_reply_max proc arguments.entry }
 {
     match proc {
-        READ => read_reply_max(number_behind(skip_to_read_count(arguments))),
-        READDIR => readdir_reply_max(number_behind(skip_to_readdir_count(arguments))),
-        READDIRPLUS => readdir_reply_max(number_behind(skip_to_readdirplus_maxcount(arguments))),
+        READ => read_reply_max(number_after(skip_to_read_count(arguments))),
+        READDIR => readdir_reply_max(number_after(skip_to_readdir_count(arguments))),
+        READDIRPLUS => readdir_reply_max(number_after(skip_to_readdirplus_maxcount(arguments))),
         _ => limit_of(proc),
     }
 }
@@ -103,7 +103,7 @@ fn program_reply_max(prog: u32, vers: u32, proc: u32, arguments: Reader<'_>) -> 
     } else if prog == MOUNT_PROGRAM && vers == MOUNT_VERSION && proc == MNT {
         108
     } else {
-        LEAST_REPLY
+        REPLY_LIMIT_MIN
     }
 }
 
@@ -117,6 +117,6 @@ pub fn largest_reply(payload: &[u8]) -> u32
             let arguments = reader_at(payload, target.args_at);
             program_reply_max(target.prog, target.vers, target.proc, arguments)
         }
-        None => LEAST_REPLY,
+        None => REPLY_LIMIT_MIN,
     }
 }

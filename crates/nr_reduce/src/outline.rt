@@ -3,12 +3,12 @@
 ghost use Rattle.std.specs.Prelude.{◌≡◌, ℕ, ◌+◌, ◌*◌, ◌^◌, ◌<◌, ◌≤◌, Option, None, Some, length};
 ghost use Rattle.nr_reduce.specs.Largest.{largest_reply};
 ghost use Rattle.nr_reduce.specs.Plans.{segments_for, chunk_for, moved_offer, argument_offer, write_offer, write_size, reply_size, plan_size, inline_plan, reduced_plan, long_plan, auto_offer, auto_plan};
-ghost use Rattle.nr_reduce.specs.Outlines.{plan_by, plan_of_sizes, KindFits};
+ghost use Rattle.nr_reduce.specs.PlanSizes.{plan_by, plan_of_sizes, KindFits};
 
 use crate::call::Lengths;
 use crate::cutting::reducible_item;
 use crate::item::{Item, Of, is_nfs, reader_at};
-use crate::largest::{largest_reply, number_behind};
+use crate::largest::{largest_reply, number_after};
 use crate::limits::{READ, READLINK};
 use nr_nfs_base::{LINK_TARGET_MAX, TRANSFER_MAX, skip_to_read_count};
 use nr_rpc::call_target;
@@ -106,7 +106,7 @@ fn argument_offer(prog: u32, vers: u32, proc: u32, arguments: Reader<'_>) -> Opt
         return None;
     }
     match proc {
-        READ => moved_offer(number_behind(skip_to_read_count(arguments))),
+        READ => moved_offer(number_after(skip_to_read_count(arguments))),
         READLINK => Some(LINK_TARGET_MAX),
         _ => None,
     }

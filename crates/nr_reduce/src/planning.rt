@@ -4,7 +4,7 @@ ghost use Rattle.std.specs.Prelude.{◌≡◌, ◌+◌, ◌*◌, ◌^◌, ◌<�
 ghost use Rattle.nr_reduce.specs.Plans.{segments_for, chunk_for, total, given_total, given_region, given_plan, write_size, reply_size, plan_size, within, plan_of};
 ghost use Rattle.nr_reduce.specs.Items.{stream_of, moved_of};
 ghost use Rattle.nr_reduce.specs.Limits.{given_max};
-ghost use Rattle.nr_reduce.specs.Outlines.{plan_of_sizes, KindFits, PlanAnswers};
+ghost use Rattle.nr_reduce.specs.PlanSizes.{plan_of_sizes, KindFits, PlanAnswers};
 
 use crate::call::{Form, Lengths, Offer};
 use crate::fault::PayloadFault;

@@ -3,7 +3,7 @@
 ghost use Rattle.std.specs.Prelude.{◌≡◌, ◌^◌, ◌<◌, ◌++◌, All, length, min, IfOk, IfSome};
 ghost use Rattle.nr_reduce.specs.Chunks.{filled_chunk};
 ghost use Rattle.nr_reduce.specs.Holds.{empty_chunks, written_chunks, answer_lists, answer_body, answer_message};
-ghost use Rattle.nr_reduce.specs.Views.{answer_view, reply_of_answer};
+ghost use Rattle.nr_reduce.specs.CodeViews.{answer_view, reply_of_answer};
 ghost use Rattle.nr_header.specs.Header.{header_encoding};
 ghost use Rattle.nr_header.specs.WithinLimits.{ListsWithin};
 

@@ -8,10 +8,10 @@ use Rattle.nr_regions.specs.declared.region.Region.{Region}
 use Rattle.nr_regions.specs.declared.denied.Denied.{Denied}
 use Rattle.nr_regions.specs.declared.denied.Denied.TheVariants.{NoStag, Bounds, Right as WrongRight}
 use Rattle.nr_regions.specs.RegisteredMemory.{RegisteredMemory, Access, held_region, live_region, same_right, denial_in, region_offer, denial, after_register, after_release, bytes_after_write}
-use Rattle.nr_regions.specs.Access.{Grant, applies, grant_at, grant_offer, grant_denial, Allowed, HasOwnStag, HaveOwnStags, TaggedSegment, access_of, after_segment, contents}
-use Rattle.nr_regions.specs.Events.{Event, after_arrival, after_event, after_events, tagged_segments, IsGranted, StaysOpen}
-use Rattle.nr_regions.specs.Events.Event.{Register, Release, Arrive}
-use Rattle.nr_regions.proofs.Holding.{register_other, release_here, release_other, arrive_other, arrive_here, next-arrive, buf_after, length-buf_after}
+use Rattle.nr_regions.specs.Access.{Grant, applies, grant_at, grant_offer, grant_denial, Allowed, HasOwnStag, HaveOwnStags, TaggedSegment, access_of_tagged, after_segment, contents}
+use Rattle.nr_regions.specs.Events.{MemoryEvent, after_arrival, after_event, after_events, tagged_segments, IsGranted, StaysOpen}
+use Rattle.nr_regions.specs.Events.MemoryEvent.{Register, Release, Arrive}
+use Rattle.nr_regions.proofs.Holding.{register_other, release_here, release_other, arrive_other, arrive_here, next_arrive, buf_after, length_buf_after}
 
 -- memory denies what the grants do, where both offer the same
 pub same_denial : (grants : List Grant) (m : RegisteredMemory) (access : Access) (end : ℕ) → region_offer (live_region m access.stag) ≡ grant_offer (grant_at grants access.stag end) → denial m access ≡ grant_denial grants access end
@@ -24,16 +24,16 @@ after_by None buf r stag e = rw (eq-eqb r.stag stag e) refl
 after_by (Some denied) buf r stag e = rw (eq-eqb r.stag stag e) refl
 
 after_here : (grants : List Grant) (stag : ℕ) (right : Right) (buf : List ℕ) (r : TaggedSegment) → r.stag ≡ stag → grant_offer (grant_at grants stag r.end) ≡ Some (right, length buf)
-    → buf_after (denial_in (Some (right, length buf)) (access_of r)) buf r ≡ after_segment grants stag buf r
+    → buf_after (denial_in (Some (right, length buf)) (access_of_tagged r)) buf r ≡ after_segment grants stag buf r
 unfolding grant_denial
 after_here grants stag right buf r e granted =
-    let same : grant_denial grants (access_of r) r.end ≡ denial_in (Some (right, length buf)) (access_of r) =
-    ap (λ (o : Option (Right × ℕ)). denial_in o (access_of r)) (ap (λ (s : ℕ). grant_offer (grant_at grants s r.end)) e ∙ granted) in
-    after_by (denial_in (Some (right, length buf)) (access_of r)) buf r stag e
+    let same : grant_denial grants (access_of_tagged r) r.end ≡ denial_in (Some (right, length buf)) (access_of_tagged r) =
+    ap (λ (o : Option (Right × ℕ)). denial_in o (access_of_tagged r)) (ap (λ (s : ℕ). grant_offer (grant_at grants s r.end)) e ∙ granted) in
+    after_by (denial_in (Some (right, length buf)) (access_of_tagged r)) buf r stag e
     ∙ ap (λ (d : Option Denied). cond (eqb r.stag stag && is_none d) (bytes_after_write buf r.to r.payload) buf) (sym same)
 
 pub after_other : (grants : List Grant) (stag : ℕ) (buf : List ℕ) (r : TaggedSegment) → (r.stag ≡ stag → ⊥) → after_segment grants stag buf r ≡ buf
-after_other grants stag buf r ne = ap (λ (b : Bool). cond (b && is_none (grant_denial grants (access_of r) r.end)) (bytes_after_write buf r.to r.payload) buf) (ne_eqb r.stag stag ne)
+after_other grants stag buf r ne = ap (λ (b : Bool). cond (b && is_none (grant_denial grants (access_of_tagged r) r.end)) (bytes_after_write buf r.to r.payload) buf) (ne_eqb r.stag stag ne)
 
 after_one : (grants : List Grant) (stag : ℕ) (right : Right) (len : ℕ) (r : TaggedSegment) (m : RegisteredMemory) (buf : List ℕ) → length buf ≡ len
     → held_region m stag ≡ Some (record { right = right; buf = buf }) → IsGranted grants stag right len (Arrive r)
@@ -45,7 +45,7 @@ after_one grants stag right len r m buf is there granted =
           let bytes = after_here grants stag right buf r e offer_is in
           let here = arrive_here m r right buf (ap (held_region m) e ∙ there) in (
             ap (held_region (after_event m (Arrive r))) (sym e) ∙ here ∙ ap (λ (b : List ℕ). Some (record { right = right; buf = b })) bytes,
-            ap length (sym bytes) ∙ length-buf_after right buf r ∙ is,
+            ap length (sym bytes) ∙ length_buf_after right buf r ∙ is,
           )
       | inr ne ↦
           let bytes = after_other grants stag buf r ne in (
@@ -54,7 +54,7 @@ after_one grants stag right len r m buf is there granted =
           )
     ]
 
-pub contents_are : (grants : List Grant) (stag : ℕ) (right : Right) (len : ℕ) (events : List Event) (m : RegisteredMemory) (buf : List ℕ) → length buf ≡ len → stag < m.next
+pub contents_are : (grants : List Grant) (stag : ℕ) (right : Right) (len : ℕ) (events : List MemoryEvent) (m : RegisteredMemory) (buf : List ℕ) → length buf ≡ len → stag < m.next
     → held_region m stag ≡ Some (record { right = right; buf = buf }) → StaysOpen grants stag right len events
     → held_region (after_events m events) stag ≡ Some (record { right = right; buf = contents grants stag buf (tagged_segments events) })
 unfolding after_event after_register after_release
@@ -65,35 +65,35 @@ contents_are grants stag right len (Release other ∷ events) m buf is given the
     contents_are grants stag right len events (after_release m other) buf is given (release_other m other stag (λ e. open_.0 (sym e)) ∙ there) open_.2
 contents_are grants stag right len (Arrive r ∷ events) m buf is given there open_ =
     let next = after_one grants stag right len r m buf is there open_.1 in
-    contents_are grants stag right len events (after_event m (Arrive r)) (after_segment grants stag buf r) next.1 (omega (arith, next-arrive m r)) next.0 open_.2
+    contents_are grants stag right len events (after_event m (Arrive r)) (after_segment grants stag buf r) next.1 (omega (arith, next_arrive m r)) next.0 open_.2
 
 -- STags only rise
-pub next-after_event : (m : RegisteredMemory) (event : Event) → m.next ≤ (after_event m event).next
+pub next_after_event : (m : RegisteredMemory) (event : MemoryEvent) → m.next ≤ (after_event m event).next
 unfolding after_event after_register after_release
-next-after_event m (Register right buf) = omega arith
-next-after_event m (Release stag) = omega arith
-next-after_event m (Arrive r) = omega (arith, next-arrive m r)
+next_after_event m (Register right buf) = omega arith
+next_after_event m (Release stag) = omega arith
+next_after_event m (Arrive r) = omega (arith, next_arrive m r)
 
-pub next-after_events : (events : List Event) (m : RegisteredMemory) → m.next ≤ (after_events m events).next
-next-after_events [] m = omega arith
-next-after_events (event ∷ events) m = omega (arith, next-after_event m event, next-after_events events (after_event m event))
+pub next_after_events : (events : List MemoryEvent) (m : RegisteredMemory) → m.next ≤ (after_events m events).next
+next_after_events [] m = omega arith
+next_after_events (event ∷ events) m = omega (arith, next_after_event m event, next_after_events events (after_event m event))
 
 -- one grant that applies, found and allowed
-same_right-true : (a b : Right) → same_right a b ≡ true → a ≡ b
-same_right-true Fetch Fetch e = refl
-same_right-true Fill Fill e = refl
-same_right-true Sink Sink e = refl
-same_right-true Fetch Fill e = absurd (let wrong : false ≡ true = e in cc)
-same_right-true Fetch Sink e = absurd (let wrong : false ≡ true = e in cc)
-same_right-true Fill Fetch e = absurd (let wrong : false ≡ true = e in cc)
-same_right-true Fill Sink e = absurd (let wrong : false ≡ true = e in cc)
-same_right-true Sink Fetch e = absurd (let wrong : false ≡ true = e in cc)
-same_right-true Sink Fill e = absurd (let wrong : false ≡ true = e in cc)
+same_right_true : (a b : Right) → same_right a b ≡ true → a ≡ b
+same_right_true Fetch Fetch e = refl
+same_right_true Fill Fill e = refl
+same_right_true Sink Sink e = refl
+same_right_true Fetch Fill e = absurd (let wrong : false ≡ true = e in cc)
+same_right_true Fetch Sink e = absurd (let wrong : false ≡ true = e in cc)
+same_right_true Fill Fetch e = absurd (let wrong : false ≡ true = e in cc)
+same_right_true Fill Sink e = absurd (let wrong : false ≡ true = e in cc)
+same_right_true Sink Fetch e = absurd (let wrong : false ≡ true = e in cc)
+same_right_true Sink Fill e = absurd (let wrong : false ≡ true = e in cc)
 
-same_right-self : (a : Right) → same_right a a ≡ true
-same_right-self Fetch = refl
-same_right-self Fill = refl
-same_right-self Sink = refl
+same_right_self : (a : Right) → same_right a a ≡ true
+same_right_self Fetch = refl
+same_right_self Fill = refl
+same_right_self Sink = refl
 
 abbrev some : Denied → Option Denied
 some denied = Some denied
@@ -106,7 +106,7 @@ record Suffices (right : Right) (len : ℕ) (access : Access) : Type 0 where
 suffices_by : (right : Right) (len : ℕ) (access : Access) (short same : Bool) → ltb len (access.to + access.len) ≡ short → same_right right access.right ≡ same
     → cond short (Some Bounds) (cond same None (Some WrongRight)) ≡ None → Suffices right len access
 suffices_by right len access true same p q e = absurd (let wrong : some Bounds ≡ None = e in cc)
-suffices_by right len access false true p q e = record { within = ltb-false _ _ p; right_is = same_right-true right access.right q }
+suffices_by right len access false true p q e = record { within = ltb-false _ _ p; right_is = same_right_true right access.right q }
 suffices_by right len access false false p q e = absurd (let wrong : some WrongRight ≡ None = e in cc)
 
 suffices : (right : Right) (len : ℕ) (access : Access) → denial_in (Some (right, len)) access ≡ None → Suffices right len access
@@ -115,7 +115,7 @@ suffices right len access e = suffices_by right len access (ltb len (access.to +
 not_denied : (right : Right) (len : ℕ) (access : Access) → Suffices right len access → denial_in (Some (right, len)) access ≡ None
 not_denied right len access s =
     λ i. cond (le-ltb len (access.to + access.len) s.within i) (Some Bounds)
-    (cond ((ap (same_right right) (sym s.right_is) ∙ same_right-self right) i) None (Some WrongRight))
+    (cond ((ap (same_right right) (sym s.right_is) ∙ same_right_self right) i) None (Some WrongRight))
 
 -- the grant found stands in the list, and applies
 record Found (grants : List Grant) (stag end : ℕ) (g : Grant) : Type 0 where
@@ -188,9 +188,9 @@ allowed_by grants access end (Some g) e none =
     record { grant = g; there = f.there; stag = c.stag_is; begun = c.begun; not_ended = c.not_ended; within = s.within; right = s.right_is }
 
 -- an access is allowed exactly where nothing denies it
-pub allowed-iff : (grants : List Grant) (access : Access) (end : ℕ) → HaveOwnStags grants → Allowed grants access end ↔ (grant_denial grants access end ≡ None)
+pub allowed_iff : (grants : List Grant) (access : Access) (end : ℕ) → HaveOwnStags grants → Allowed grants access end ↔ (grant_denial grants access end ≡ None)
 unfolding grant_denial grant_at
-allowed-iff grants access end own = (
+allowed_iff grants access end own = (
   λ a.
       let g = a.grant in
       let at = only grants access.stag end g own a.there (record { stag_is = a.stag; begun = a.begun; not_ended = a.not_ended }) in
@@ -204,10 +204,10 @@ allowed-iff grants access end own = (
 none_placed : (m : RegisteredMemory) (s : TaggedSegment) → held_region m s.stag ≡ None → held_region (after_event m (Arrive s)) s.stag ≡ None
 unfolding after_event denial live_region
 none_placed m s none =
-    let no : denial_in (region_offer (held_region m s.stag)) (access_of s) ≡ Some NoStag = ap (λ (o : Option Region). denial_in (region_offer o) (access_of s)) none in
+    let no : denial_in (region_offer (held_region m s.stag)) (access_of_tagged s) ≡ Some NoStag = ap (λ (o : Option Region). denial_in (region_offer o) (access_of_tagged s)) none in
     ap (λ (d : Option Denied). held_region (after_arrival d m s) s.stag) no ∙ none
 
-dead_by : (m : RegisteredMemory) (stag : ℕ) (event : Event) → stag < m.next → held_region m stag ≡ None → held_region (after_event m event) stag ≡ None
+dead_by : (m : RegisteredMemory) (stag : ℕ) (event : MemoryEvent) → stag < m.next → held_region m stag ≡ None → held_region (after_event m event) stag ≡ None
 unfolding after_event
 dead_by m stag (Register right buf) lt none = register_other m right buf stag (λ e. omega arith) ∙ none
 dead_by m stag (Release other) lt none =
@@ -222,7 +222,7 @@ dead_by m stag (Arrive s) lt none =
     ]
 
 -- an STag that was given and is dead stays dead
-pub stays_dead : (events : List Event) (m : RegisteredMemory) (stag : ℕ) → stag < m.next → held_region m stag ≡ None → held_region (after_events m events) stag ≡ None
+pub stays_dead : (events : List MemoryEvent) (m : RegisteredMemory) (stag : ℕ) → stag < m.next → held_region m stag ≡ None → held_region (after_events m events) stag ≡ None
 stays_dead [] m stag lt none = none
 stays_dead (event ∷ events) m stag lt none =
-    stays_dead events (after_event m event) stag (omega (arith, next-after_event m event)) (dead_by m stag event lt none)
+    stays_dead events (after_event m event) stag (omega (arith, next_after_event m event)) (dead_by m stag event lt none)

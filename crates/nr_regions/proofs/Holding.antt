@@ -12,29 +12,29 @@ use Rattle.nr_regions.specs.declared.region.Region.{Region}
 use Rattle.nr_regions.specs.declared.denied.Denied.{Denied}
 use Rattle.nr_regions.specs.declared.denied.Denied.TheVariants.{Bounds, Right as WrongRight}
 use Rattle.nr_regions.specs.RegisteredMemory.{RegisteredMemory, Claim, IsHeld, held_region, live_region, right_for, same_right, denial_in, region_offer, denial, bytes_after_write, after_place, after_place_in, after_register, after_release, claim_of}
-use Rattle.nr_regions.specs.Access.{TaggedSegment, access_of}
-use Rattle.nr_regions.specs.Events.{Event, after_arrival, after_event, IsNoReleaseOf}
-use Rattle.nr_regions.specs.Events.Event.{Register, Release, Arrive}
+use Rattle.nr_regions.specs.Access.{TaggedSegment, access_of_tagged}
+use Rattle.nr_regions.specs.Events.{MemoryEvent, after_arrival, after_event, IsNoReleaseOf}
+use Rattle.nr_regions.specs.Events.MemoryEvent.{Register, Release, Arrive}
 
 -- a map at the key of a change, and at any other
-pub get-insert_here : (m : FinMap nat_cmp Region) (k : ℕ) (v : Region) → get (insert m k v) k ≡ Some v
-get-insert_here m k v =
+pub get_insert_here : (m : FinMap nat_cmp Region) (k : ℕ) (v : Region) → get (insert m k v) k ≡ Some v
+get_insert_here m k v =
     get-insert nat_cmp_total m k v k ∙ ap (λ (b : Bool). cond b (Some v) (get m k)) (unsigned_tied k k ∙ eq-eqb k k refl)
 
-pub get-insert_other : (m : FinMap nat_cmp Region) (k : ℕ) (v : Region) (q : ℕ) → q ≢ k → get (insert m k v) q ≡ get m q
-get-insert_other m k v q ne =
+pub get_insert_other : (m : FinMap nat_cmp Region) (k : ℕ) (v : Region) (q : ℕ) → q ≢ k → get (insert m k v) q ≡ get m q
+get_insert_other m k v q ne =
     get-insert nat_cmp_total m k v q ∙ ap (λ (b : Bool). cond b (Some v) (get m q)) (unsigned_tied q k ∙ ne_eqb q k ne)
 
-pub get-remove_here : (m : FinMap nat_cmp Region) (k : ℕ) → get (remove m k) k ≡ None
-get-remove_here m k =
+pub get_remove_here : (m : FinMap nat_cmp Region) (k : ℕ) → get (remove m k) k ≡ None
+get_remove_here m k =
     get-remove nat_cmp_total m k k ∙ ap (λ (b : Bool). cond b None (get m k)) (unsigned_tied k k ∙ eq-eqb k k refl)
 
-pub get-remove_other : (m : FinMap nat_cmp Region) (k q : ℕ) → q ≢ k → get (remove m k) q ≡ get m q
-get-remove_other m k q ne =
+pub get_remove_other : (m : FinMap nat_cmp Region) (k q : ℕ) → q ≢ k → get (remove m k) q ≡ get m q
+get_remove_other m k q ne =
     get-remove nat_cmp_total m k q ∙ ap (λ (b : Bool). cond b None (get m q)) (unsigned_tied q k ∙ ne_eqb q k ne)
 
-pub length-bytes_after_write : (bytes : List ℕ) (at : ℕ) (over : List ℕ) → at + length over ≤ length bytes → length (bytes_after_write bytes at over) ≡ length bytes
-length-bytes_after_write bytes at over le =
+pub length_bytes_after_write : (bytes : List ℕ) (at : ℕ) (over : List ℕ) → at + length over ≤ length bytes → length (bytes_after_write bytes at over) ≡ length bytes
+length_bytes_after_write bytes at over le =
     omega (arith, length-append (take at bytes) (over ++ drop (at + length over) bytes), length-append over (drop (at + length over) bytes), length-take-le at bytes (omega arith), length-drop (at + length over) bytes)
 
 abbrev some : Denied → Option Denied
@@ -45,39 +45,39 @@ within_by : (short same : Bool) → cond short (Some Bounds) (cond same None (So
 within_by true same e = absurd (let wrong : some Bounds ≡ None = e in cc)
 within_by false same e = refl
 
-pub within : (right : Right) (buf : List ℕ) (r : TaggedSegment) → denial_in (Some (right, length buf)) (access_of r) ≡ None → r.to + length r.payload ≤ length buf
+pub within : (right : Right) (buf : List ℕ) (r : TaggedSegment) → denial_in (Some (right, length buf)) (access_of_tagged r) ≡ None → r.to + length r.payload ≤ length buf
 within right buf r e = ltb-false _ _ (within_by (ltb (length buf) (r.to + length r.payload)) (same_right right (right_for r.kind)) e)
 
-pub live-held : (m : RegisteredMemory) (stag : ℕ) → live_region m stag ≡ held_region m stag
+pub live_held : (m : RegisteredMemory) (stag : ℕ) → live_region m stag ≡ held_region m stag
 unfolding live_region
-live-held m stag = refl
+live_held m stag = refl
 
 pub register_here : (m : RegisteredMemory) (right : Right) (buf : List ℕ) → held_region (after_register m right buf) m.next ≡ Some (record { right = right; buf = buf })
 unfolding held_region after_register
-register_here m right buf = get-insert_here m.held m.next (record { right = right; buf = buf })
+register_here m right buf = get_insert_here m.held m.next (record { right = right; buf = buf })
 
 pub register_other : (m : RegisteredMemory) (right : Right) (buf : List ℕ) (stag : ℕ) → stag ≢ m.next → held_region (after_register m right buf) stag ≡ held_region m stag
 unfolding held_region after_register
-register_other m right buf stag ne = get-insert_other m.held m.next (record { right = right; buf = buf }) stag ne
+register_other m right buf stag ne = get_insert_other m.held m.next (record { right = right; buf = buf }) stag ne
 
 pub release_here : (m : RegisteredMemory) (stag : ℕ) → held_region (after_release m stag) stag ≡ None
 unfolding held_region after_release
-release_here m stag = get-remove_here m.held stag
+release_here m stag = get_remove_here m.held stag
 
 pub release_other : (m : RegisteredMemory) (other stag : ℕ) → stag ≢ other → held_region (after_release m other) stag ≡ held_region m stag
 unfolding held_region after_release
-release_other m other stag ne = get-remove_other m.held other stag ne
+release_other m other stag ne = get_remove_other m.held other stag ne
 
 pub place_here : (m : RegisteredMemory) (stag to : ℕ) (bytes : List ℕ) (region : Region) → held_region m stag ≡ Some region → held_region (after_place m stag to bytes) stag ≡ Some (record { right = region.right; buf = bytes_after_write region.buf to bytes })
 unfolding after_place live_region held_region
 place_here m stag to bytes region e =
     ap (λ (o : Option Region). get (after_place_in o m stag to bytes).held stag) e
-    ∙ get-insert_here m.held stag (record { right = region.right; buf = bytes_after_write region.buf to bytes })
+    ∙ get_insert_here m.held stag (record { right = region.right; buf = bytes_after_write region.buf to bytes })
 
 place_other_by : (m : RegisteredMemory) (other to : ℕ) (bytes : List ℕ) (stag : ℕ) (o : Option Region) → stag ≢ other → get (after_place_in o m other to bytes).held stag ≡ get m.held stag
 place_other_by m other to bytes stag None ne = refl
 place_other_by m other to bytes stag (Some region) ne =
-    get-insert_other m.held other (record { right = region.right; buf = bytes_after_write region.buf to bytes }) stag ne
+    get_insert_other m.held other (record { right = region.right; buf = bytes_after_write region.buf to bytes }) stag ne
 
 pub place_other : (m : RegisteredMemory) (other to : ℕ) (bytes : List ℕ) (stag : ℕ) → stag ≢ other → held_region (after_place m other to bytes) stag ≡ held_region m stag
 unfolding after_place live_region held_region
@@ -87,9 +87,9 @@ next_by : (m : RegisteredMemory) (stag to : ℕ) (bytes : List ℕ) (o : Option 
 next_by m stag to bytes None = refl
 next_by m stag to bytes (Some region) = refl
 
-pub next-after_place : (m : RegisteredMemory) (stag to : ℕ) (bytes : List ℕ) → (after_place m stag to bytes).next ≡ m.next
+pub next_after_place : (m : RegisteredMemory) (stag to : ℕ) (bytes : List ℕ) → (after_place m stag to bytes).next ≡ m.next
 unfolding after_place
-next-after_place m stag to bytes = next_by m stag to bytes (live_region m stag)
+next_after_place m stag to bytes = next_by m stag to bytes (live_region m stag)
 
 -- a tagged segment for another region
 arrive_other_by : (m : RegisteredMemory) (r : TaggedSegment) (stag : ℕ) (d : Option Denied) → stag ≢ r.stag → held_region (after_arrival d m r) stag ≡ held_region m stag
@@ -98,15 +98,15 @@ arrive_other_by m r stag (Some denied) ne = refl
 
 pub arrive_other : (m : RegisteredMemory) (r : TaggedSegment) (stag : ℕ) → stag ≢ r.stag → held_region (after_event m (Arrive r)) stag ≡ held_region m stag
 unfolding after_event
-arrive_other m r stag ne = arrive_other_by m r stag (denial m (access_of r)) ne
+arrive_other m r stag ne = arrive_other_by m r stag (denial m (access_of_tagged r)) ne
 
 next_arrived : (m : RegisteredMemory) (r : TaggedSegment) (d : Option Denied) → (after_arrival d m r).next ≡ m.next
-next_arrived m r None = next-after_place m r.stag r.to r.payload
+next_arrived m r None = next_after_place m r.stag r.to r.payload
 next_arrived m r (Some denied) = refl
 
-pub next-arrive : (m : RegisteredMemory) (r : TaggedSegment) → (after_event m (Arrive r)).next ≡ m.next
+pub next_arrive : (m : RegisteredMemory) (r : TaggedSegment) → (after_event m (Arrive r)).next ≡ m.next
 unfolding after_event
-next-arrive m r = next_arrived m r (denial m (access_of r))
+next_arrive m r = next_arrived m r (denial m (access_of_tagged r))
 
 -- a tagged segment for this region: its bytes after it
 abbrev pub buf_after : Option Denied → List ℕ → TaggedSegment → List ℕ
@@ -117,28 +117,28 @@ arrive_here_by : (m : RegisteredMemory) (r : TaggedSegment) (right : Right) (buf
 arrive_here_by m r right buf None e = place_here m r.stag r.to r.payload (record { right = right; buf = buf }) e
 arrive_here_by m r right buf (Some denied) e = e
 
-denial-region : (m : RegisteredMemory) (r : TaggedSegment) (right : Right) (buf : List ℕ) → held_region m r.stag ≡ Some (record { right = right; buf = buf }) → denial m (access_of r) ≡ denial_in (Some (right, length buf)) (access_of r)
+denial_region : (m : RegisteredMemory) (r : TaggedSegment) (right : Right) (buf : List ℕ) → held_region m r.stag ≡ Some (record { right = right; buf = buf }) → denial m (access_of_tagged r) ≡ denial_in (Some (right, length buf)) (access_of_tagged r)
 unfolding denial live_region
-denial-region m r right buf e = ap (λ (o : Option Region). denial_in (region_offer o) (access_of r)) e
+denial_region m r right buf e = ap (λ (o : Option Region). denial_in (region_offer o) (access_of_tagged r)) e
 
 pub arrive_here : (m : RegisteredMemory) (r : TaggedSegment) (right : Right) (buf : List ℕ) → held_region m r.stag ≡ Some (record { right = right; buf = buf })
-    → held_region (after_event m (Arrive r)) r.stag ≡ Some (record { right = right; buf = buf_after (denial_in (Some (right, length buf)) (access_of r)) buf r })
+    → held_region (after_event m (Arrive r)) r.stag ≡ Some (record { right = right; buf = buf_after (denial_in (Some (right, length buf)) (access_of_tagged r)) buf r })
 unfolding after_event
 arrive_here m r right buf e =
-    ap (λ (d : Option Denied). held_region (after_arrival d m r) r.stag) (denial-region m r right buf e)
-    ∙ arrive_here_by m r right buf (denial_in (Some (right, length buf)) (access_of r)) e
+    ap (λ (d : Option Denied). held_region (after_arrival d m r) r.stag) (denial_region m r right buf e)
+    ∙ arrive_here_by m r right buf (denial_in (Some (right, length buf)) (access_of_tagged r)) e
 
-length_after_by : (d : Option Denied) (right : Right) (buf : List ℕ) (r : TaggedSegment) → denial_in (Some (right, length buf)) (access_of r) ≡ d → length (buf_after d buf r) ≡ length buf
-length_after_by None right buf r e = length-bytes_after_write buf r.to r.payload (within right buf r e)
+length_after_by : (d : Option Denied) (right : Right) (buf : List ℕ) (r : TaggedSegment) → denial_in (Some (right, length buf)) (access_of_tagged r) ≡ d → length (buf_after d buf r) ≡ length buf
+length_after_by None right buf r e = length_bytes_after_write buf r.to r.payload (within right buf r e)
 length_after_by (Some denied) right buf r e = refl
 
-pub length-buf_after : (right : Right) (buf : List ℕ) (r : TaggedSegment) → length (buf_after (denial_in (Some (right, length buf)) (access_of r)) buf r) ≡ length buf
-length-buf_after right buf r = length_after_by (denial_in (Some (right, length buf)) (access_of r)) right buf r refl
+pub length_buf_after : (right : Right) (buf : List ℕ) (r : TaggedSegment) → length (buf_after (denial_in (Some (right, length buf)) (access_of_tagged r)) buf r) ≡ length buf
+length_buf_after right buf r = length_after_by (denial_in (Some (right, length buf)) (access_of_tagged r)) right buf r refl
 
 -- a region is held from its registration on
-pub held-after_register : (m : RegisteredMemory) (right : Right) (buf : List ℕ) → IsHeld (after_register m right buf) (claim_of m buf)
+pub held_after_register : (m : RegisteredMemory) (right : Right) (buf : List ℕ) → IsHeld (after_register m right buf) (claim_of m buf)
 unfolding after_register
-held-after_register m right buf = record { region = record { right = right; buf = buf }; there = register_here m right buf; len = refl; given = omega arith }
+held_after_register m right buf = record { region = record { right = right; buf = buf }; there = register_here m right buf; len = refl; given = omega arith }
 
 -- a claim on what is held in m is one on what is held in n, where n has the region's length and gave its STag
 still : (m n : RegisteredMemory) (claim : Claim) (h : IsHeld m claim) (region : Region) → held_region n claim.stag ≡ Some region → length region.buf ≡ claim.len → m.next ≤ n.next → IsHeld n claim
@@ -148,50 +148,50 @@ arrive_still : (m : RegisteredMemory) (claim : Claim) (r : TaggedSegment) → Is
 arrive_still m claim r h e =
     let right = h.region.right in
     let buf = h.region.buf in
-    let after = buf_after (denial_in (Some (right, length buf)) (access_of r)) buf r in
+    let after = buf_after (denial_in (Some (right, length buf)) (access_of_tagged r)) buf r in
     let there : held_region m r.stag ≡ Some (record { right = right; buf = buf }) = ap (held_region m) e ∙ h.there in
     still m (after_event m (Arrive r)) claim h (record { right = right; buf = after })
     (ap (held_region (after_event m (Arrive r))) (sym e) ∙ arrive_here m r right buf there)
-    (length-buf_after right buf r ∙ h.len) (omega (arith, next-arrive m r))
+    (length_buf_after right buf r ∙ h.len) (omega (arith, next_arrive m r))
 
 -- and stays held until it is released
-pub held-after_event : (m : RegisteredMemory) (claim : Claim) (event : Event) → IsHeld m claim → IsNoReleaseOf claim.stag event → IsHeld (after_event m event) claim
+pub held_after_event : (m : RegisteredMemory) (claim : Claim) (event : MemoryEvent) → IsHeld m claim → IsNoReleaseOf claim.stag event → IsHeld (after_event m event) claim
 unfolding after_event after_register after_release
-held-after_event m claim (Register right buf) h s =
+held_after_event m claim (Register right buf) h s =
     still m (after_register m right buf) claim h h.region (register_other m right buf claim.stag (λ e. omega (arith, h.given, e)) ∙ h.there) h.len (omega arith)
-held-after_event m claim (Release other) h s =
+held_after_event m claim (Release other) h s =
     still m (after_release m other) claim h h.region (release_other m other claim.stag (λ e. s (sym e)) ∙ h.there) h.len (omega arith)
-held-after_event m claim (Arrive r) h s =
+held_after_event m claim (Arrive r) h s =
     elim (cases_eq r.stag claim.stag) [
       | inl e ↦ arrive_still m claim r h e
-      | inr ne ↦ still m (after_event m (Arrive r)) claim h h.region (arrive_other m r claim.stag (λ e. ne (sym e)) ∙ h.there) h.len (omega (arith, next-arrive m r))
+      | inr ne ↦ still m (after_event m (Arrive r)) claim h h.region (arrive_other m r claim.stag (λ e. ne (sym e)) ∙ h.there) h.len (omega (arith, next_arrive m r))
     ]
 
 -- what each call leaves of a claim
-pub held-after_place : (m : RegisteredMemory) (claim : Claim) (kind : Kind) (stag to : ℕ) (bytes : List ℕ) → denial m (record { right = right_for kind; stag = stag; to = to; len = length bytes }) ≡ None
+pub held_after_place : (m : RegisteredMemory) (claim : Claim) (kind : Kind) (stag to : ℕ) (bytes : List ℕ) → denial m (record { right = right_for kind; stag = stag; to = to; len = length bytes }) ≡ None
     → IsHeld m claim → IsHeld (after_place m stag to bytes) claim
 unfolding after_event
-held-after_place m claim kind stag to bytes e h =
+held_after_place m claim kind stag to bytes e h =
     let r : TaggedSegment = record { kind = kind; stag = stag; to = to; payload = bytes; end = 0 } in
     let is : after_event m (Arrive r) ≡ after_place m stag to bytes = ap (λ (d : Option Denied). after_arrival d m r) e in
-    subst (λ (n : RegisteredMemory). IsHeld n claim) is (held-after_event m claim (Arrive r) h tt)
+    subst (λ (n : RegisteredMemory). IsHeld n claim) is (held_after_event m claim (Arrive r) h tt)
 
-pub keeps-place : (r : Result Unit Denied) (m n : RegisteredMemory) (kind : Kind) (stag to : ℕ) (bytes : List ℕ) → result_err r ≡ denial m (record { right = right_for kind; stag = stag; to = to; len = length bytes })
+pub keeps_place : (r : Result Unit Denied) (m n : RegisteredMemory) (kind : Kind) (stag to : ℕ) (bytes : List ℕ) → result_err r ≡ denial m (record { right = right_for kind; stag = stag; to = to; len = length bytes })
     → OnOk r (n ≡ after_place m stag to bytes) → OnErr r (n ≡ m) → (claim : Claim) → IsHeld m claim → IsHeld n claim
-keeps-place (Ok x) m n kind stag to bytes e ok err claim h = subst (λ (k : RegisteredMemory). IsHeld k claim) (sym ok) (held-after_place m claim kind stag to bytes (sym e) h)
-keeps-place (Err denied) m n kind stag to bytes e ok err claim h = subst (λ (k : RegisteredMemory). IsHeld k claim) (sym err) h
+keeps_place (Ok x) m n kind stag to bytes e ok err claim h = subst (λ (k : RegisteredMemory). IsHeld k claim) (sym ok) (held_after_place m claim kind stag to bytes (sym e) h)
+keeps_place (Err denied) m n kind stag to bytes e ok err claim h = subst (λ (k : RegisteredMemory). IsHeld k claim) (sym err) h
 
-pub held-register : {E : Type 0} (r : Result Claim E) (m n : RegisteredMemory) (right : Right) (buf : List ℕ) → IfOk r (λ claim. (claim ≡ claim_of m buf) × (n ≡ after_register m right buf)) → IfOk r (λ claim. IsHeld n claim)
-held-register (Ok claim) m n right buf ok =
-    subst (λ (k : RegisteredMemory). IsHeld k claim) (sym ok.1) (subst (λ (c : Claim). IsHeld (after_register m right buf) c) (sym ok.0) (held-after_register m right buf))
-held-register (Err e) m n right buf ok = tt
+pub held_register : {E : Type 0} (r : Result Claim E) (m n : RegisteredMemory) (right : Right) (buf : List ℕ) → IfOk r (λ claim. (claim ≡ claim_of m buf) × (n ≡ after_register m right buf)) → IfOk r (λ claim. IsHeld n claim)
+held_register (Ok claim) m n right buf ok =
+    subst (λ (k : RegisteredMemory). IsHeld k claim) (sym ok.1) (subst (λ (c : Claim). IsHeld (after_register m right buf) c) (sym ok.0) (held_after_register m right buf))
+held_register (Err e) m n right buf ok = tt
 
-pub keeps-register : {E : Type 0} (r : Result Claim E) (m n : RegisteredMemory) (right : Right) (buf : List ℕ) → IfOk r (λ claim. (claim ≡ claim_of m buf) × (n ≡ after_register m right buf)) → OnErr r (n ≡ m)
+pub keeps_register : {E : Type 0} (r : Result Claim E) (m n : RegisteredMemory) (right : Right) (buf : List ℕ) → IfOk r (λ claim. (claim ≡ claim_of m buf) × (n ≡ after_register m right buf)) → OnErr r (n ≡ m)
     → (claim : Claim) → IsHeld m claim → IsHeld n claim
 unfolding after_event
-keeps-register (Ok _) m n right buf ok err claim h = subst (λ (k : RegisteredMemory). IsHeld k claim) (sym ok.1) (held-after_event m claim (Register right buf) h tt)
-keeps-register (Err _) m n right buf ok err claim h = subst (λ (k : RegisteredMemory). IsHeld k claim) (sym err) h
+keeps_register (Ok _) m n right buf ok err claim h = subst (λ (k : RegisteredMemory). IsHeld k claim) (sym ok.1) (held_after_event m claim (Register right buf) h tt)
+keeps_register (Err _) m n right buf ok err claim h = subst (λ (k : RegisteredMemory). IsHeld k claim) (sym err) h
 
-pub keeps-release : (m : RegisteredMemory) (stag : ℕ) (claim : Claim) → claim.stag ≢ stag → IsHeld m claim → IsHeld (after_release m stag) claim
+pub keeps_release : (m : RegisteredMemory) (stag : ℕ) (claim : Claim) → claim.stag ≢ stag → IsHeld m claim → IsHeld (after_release m stag) claim
 unfolding after_event
-keeps-release m stag claim ne h = held-after_event m claim (Release stag) h (λ e. ne (sym e))
+keeps_release m stag claim ne h = held_after_event m claim (Release stag) h (λ e. ne (sym e))

@@ -7,27 +7,27 @@ use Rattle.nr_regions.specs.declared.right.Right.{Right}
 use Rattle.nr_regions.specs.declared.denied.Denied.{Denied}
 use Rattle.nr_regions.specs.declared.denied.Denied.TheVariants.{NoStag}
 use Rattle.nr_regions.specs.RegisteredMemory.{RegisteredMemory, after_register, bytes_after_write, bytes_in, denial_in, held_region}
-use Rattle.nr_regions.specs.Access.{Grant, applies, grant_at, grant_offer, grant_denial, with_ends, TaggedSegment, access_of, after_segment, contents}
-use Rattle.nr_regions.specs.Events.{Event, IsRegisteredAt, IsReleasedAt, after_event, after_events, tagged_segments}
-use Rattle.nr_regions.specs.Events.Event.{Register, Release, Arrive}
+use Rattle.nr_regions.specs.Access.{Grant, applies, grant_at, grant_offer, grant_denial, with_ends, TaggedSegment, access_of_tagged, after_segment, contents}
+use Rattle.nr_regions.specs.Events.{MemoryEvent, IsRegisteredAt, IsReleasedAt, after_event, after_events, tagged_segments}
+use Rattle.nr_regions.specs.Events.MemoryEvent.{Register, Release, Arrive}
 use Rattle.nr_regions.proofs.Holding.{register_here}
 use Rattle.nr_regions.proofs.Contents.{after_other, applies_is, contents_are}
 
 -- ---- Streams in parts
 
-tagged_segments-append : (xs ys : List Event) → tagged_segments (xs ++ ys) ≡ tagged_segments xs ++ tagged_segments ys
-tagged_segments-append [] ys = refl
-tagged_segments-append (Register right buf ∷ xs) ys = tagged_segments-append xs ys
-tagged_segments-append (Release stag ∷ xs) ys = tagged_segments-append xs ys
-tagged_segments-append (Arrive s ∷ xs) ys = ap (λ (segments : List TaggedSegment). s ∷ segments) (tagged_segments-append xs ys)
+tagged_segments_append : (xs ys : List MemoryEvent) → tagged_segments (xs ++ ys) ≡ tagged_segments xs ++ tagged_segments ys
+tagged_segments_append [] ys = refl
+tagged_segments_append (Register right buf ∷ xs) ys = tagged_segments_append xs ys
+tagged_segments_append (Release stag ∷ xs) ys = tagged_segments_append xs ys
+tagged_segments_append (Arrive s ∷ xs) ys = ap (λ (segments : List TaggedSegment). s ∷ segments) (tagged_segments_append xs ys)
 
-contents-append : (grants : List Grant) (stag : ℕ) (buf : List ℕ) (xs ys : List TaggedSegment) → contents grants stag buf (xs ++ ys) ≡ contents grants stag (contents grants stag buf xs) ys
-contents-append grants stag buf [] ys = refl
-contents-append grants stag buf (s ∷ xs) ys = contents-append grants stag (after_segment grants stag buf s) xs ys
+contents_append : (grants : List Grant) (stag : ℕ) (buf : List ℕ) (xs ys : List TaggedSegment) → contents grants stag buf (xs ++ ys) ≡ contents grants stag (contents grants stag buf xs) ys
+contents_append grants stag buf [] ys = refl
+contents_append grants stag buf (s ∷ xs) ys = contents_append grants stag (after_segment grants stag buf s) xs ys
 
-after_events-append : (m : RegisteredMemory) (xs ys : List Event) → after_events m (xs ++ ys) ≡ after_events (after_events m xs) ys
-after_events-append m [] ys = refl
-after_events-append m (event ∷ xs) ys = after_events-append (after_event m event) xs ys
+after_events_append : (m : RegisteredMemory) (xs ys : List MemoryEvent) → after_events m (xs ++ ys) ≡ after_events (after_events m xs) ys
+after_events_append m [] ys = refl
+after_events_append m (event ∷ xs) ys = after_events_append (after_event m event) xs ys
 
 -- ---- Segments to which no grant applies
 
@@ -35,11 +35,11 @@ abbrev NoneApplies : List Grant → ℕ → List TaggedSegment → Type 0
 NoneApplies grants stag [] = Unit {0}
 NoneApplies grants stag (s ∷ segments) = (s.stag ≡ stag → find (applies stag s.end) grants ≡ None) × NoneApplies grants stag segments
 
-denied : (grants : List Grant) (stag : ℕ) (s : TaggedSegment) → s.stag ≡ stag → find (applies stag s.end) grants ≡ None → grant_denial grants (access_of s) s.end ≡ Some NoStag
+denied : (grants : List Grant) (stag : ℕ) (s : TaggedSegment) → s.stag ≡ stag → find (applies stag s.end) grants ≡ None → grant_denial grants (access_of_tagged s) s.end ≡ Some NoStag
 unfolding grant_denial grant_at
 denied grants stag s e none =
-    ap (λ (k : ℕ). denial_in (grant_offer (find (applies k s.end) grants)) (access_of s)) e
-    ∙ ap (λ (o : Option Grant). denial_in (grant_offer o) (access_of s)) none
+    ap (λ (k : ℕ). denial_in (grant_offer (find (applies k s.end) grants)) (access_of_tagged s)) e
+    ∙ ap (λ (o : Option Grant). denial_in (grant_offer o) (access_of_tagged s)) none
 
 not_placed : (b : Bool) (over buf : List ℕ) → cond (b && false) over buf ≡ buf
 not_placed true over buf = refl
@@ -106,20 +106,20 @@ none_earlier grants stag from (s ∷ segments) begins before =
 -- ---- The whole stream
 
 -- what comes after the release changes nothing of the contents
-pub contents_to_release : (grants : List Grant) (stag until : ℕ) (right : Right) (len : ℕ) (buf : List ℕ) (before after : List Event) → IsReleasedAt grants stag right len until before after
+pub contents_to_release : (grants : List Grant) (stag until : ℕ) (right : Right) (len : ℕ) (buf : List ℕ) (before after : List MemoryEvent) → IsReleasedAt grants stag right len until before after
     → contents grants stag buf (tagged_segments before) ≡ contents grants stag buf (tagged_segments (before ++ Release stag ∷ after))
 contents_to_release grants stag until right len buf before after is =
     sym (stay grants stag (contents grants stag buf (tagged_segments before)) (tagged_segments after) (none_later grants stag until (tagged_segments after) is.grant_ends is.later))
-    ∙ sym (contents-append grants stag buf (tagged_segments before) (tagged_segments after))
-    ∙ ap (contents grants stag buf) (sym (tagged_segments-append before (Release stag ∷ after)))
+    ∙ sym (contents_append grants stag buf (tagged_segments before) (tagged_segments after))
+    ∙ ap (contents grants stag buf) (sym (tagged_segments_append before (Release stag ∷ after)))
 
 -- nor does what came before the registration
-contents_from_register : (grants : List Grant) (stag from : ℕ) (buf : List ℕ) (before events : List Event) → IsRegisteredAt grants stag from before
+contents_from_register : (grants : List Grant) (stag from : ℕ) (buf : List ℕ) (before events : List MemoryEvent) → IsRegisteredAt grants stag from before
     → contents grants stag buf (tagged_segments events) ≡ contents grants stag buf (tagged_segments (before ++ events))
 contents_from_register grants stag from buf before events is =
     ap (λ (b : List ℕ). contents grants stag b (tagged_segments events)) (sym (stay grants stag buf (tagged_segments before) (none_earlier grants stag from (tagged_segments before) is.grant_begins is.earlier)))
-    ∙ sym (contents-append grants stag buf (tagged_segments before) (tagged_segments events))
-    ∙ ap (contents grants stag buf) (sym (tagged_segments-append before events))
+    ∙ sym (contents_append grants stag buf (tagged_segments before) (tagged_segments events))
+    ∙ ap (contents grants stag buf) (sym (tagged_segments_append before events))
 
 given : (m : RegisteredMemory) (right : Right) (buf : List ℕ) → m.next < (after_register m right buf).next
 unfolding after_register
@@ -129,19 +129,19 @@ registers : (m : RegisteredMemory) (right : Right) (buf : List ℕ) → after_ev
 unfolding after_event
 registers m right buf = refl
 
-region_at_release : (grants : List Grant) (m : RegisteredMemory) (until : ℕ) (right : Right) (buf : List ℕ) (between after : List Event) → IsReleasedAt grants m.next right (length buf) until between after
+region_at_release : (grants : List Grant) (m : RegisteredMemory) (until : ℕ) (right : Right) (buf : List ℕ) (between after : List MemoryEvent) → IsReleasedAt grants m.next right (length buf) until between after
     → held_region (after_events m (Register right buf ∷ between)) m.next ≡ Some (record { right = right; buf = contents grants m.next buf (tagged_segments between) })
 region_at_release grants m until right buf between after is =
     ap (λ (k : RegisteredMemory). held_region (after_events k between) m.next) (registers m right buf)
     ∙ contents_are grants m.next right (length buf) between (after_register m right buf) buf refl (given m right buf) (register_here m right buf) is.stays_open
 
-pub contents_of_stream : (grants : List Grant) (start : RegisteredMemory) (from until : ℕ) (right : Right) (buf : List ℕ) (before between after : List Event)
+pub contents_of_stream : (grants : List Grant) (start : RegisteredMemory) (from until : ℕ) (right : Right) (buf : List ℕ) (before between after : List MemoryEvent)
     → IsRegisteredAt grants (after_events start before).next from before → IsReleasedAt grants (after_events start before).next right (length buf) until between after
     → bytes_in (held_region (after_events start (before ++ Register right buf ∷ between)) (after_events start before).next)
     ≡ contents grants (after_events start before).next buf (tagged_segments (before ++ Register right buf ∷ (between ++ Release (after_events start before).next ∷ after)))
 contents_of_stream grants start from until right buf before between after begins ends =
     let m = after_events start before in
-    ap (λ (k : RegisteredMemory). bytes_in (held_region k m.next)) (after_events-append start before (Register right buf ∷ between))
+    ap (λ (k : RegisteredMemory). bytes_in (held_region k m.next)) (after_events_append start before (Register right buf ∷ between))
     ∙ ap bytes_in (region_at_release grants m until right buf between after ends)
     ∙ contents_to_release grants m.next until right (length buf) buf between after ends
     ∙ contents_from_register grants m.next from buf before (Register right buf ∷ (between ++ Release m.next ∷ after)) begins
@@ -172,9 +172,9 @@ same_offer (g ∷ grants) stag end until later le more =
     with_end_by g stag end until later grants (eqb g.stag stag) (le-leb end until le) (le-leb end later (omega arith)) (same_offer grants stag end until later le more)
 
 same_denial_by : (grants : List Grant) (s : TaggedSegment) (until later : ℕ) → s.end ≤ until → until ≤ later
-    → grant_denial (with_ends s.stag until grants) (access_of s) s.end ≡ grant_denial (with_ends s.stag later grants) (access_of s) s.end
+    → grant_denial (with_ends s.stag until grants) (access_of_tagged s) s.end ≡ grant_denial (with_ends s.stag later grants) (access_of_tagged s) s.end
 unfolding grant_denial grant_at
-same_denial_by grants s until later le more = ap (λ (o : Option (Right × ℕ)). denial_in o (access_of s)) (same_offer grants s.stag s.end until later le more)
+same_denial_by grants s until later le more = ap (λ (o : Option (Right × ℕ)). denial_in o (access_of_tagged s)) (same_offer grants s.stag s.end until later le more)
 
 same_after : (grants : List Grant) (stag until later : ℕ) (buf : List ℕ) (s : TaggedSegment) → (s.stag ≡ stag → s.end ≤ until) → until ≤ later
     → after_segment (with_ends stag until grants) stag buf s ≡ after_segment (with_ends stag later grants) stag buf s
@@ -182,7 +182,7 @@ same_after grants stag until later buf s within more =
     elim (cases_eq s.stag stag) [
       | inl e ↦
           ap (λ (d : Option Denied). cond (eqb s.stag stag && is_none d) (bytes_after_write buf s.to s.payload) buf)
-          (subst (λ (k : ℕ). grant_denial (with_ends k until grants) (access_of s) s.end ≡ grant_denial (with_ends k later grants) (access_of s) s.end) e
+          (subst (λ (k : ℕ). grant_denial (with_ends k until grants) (access_of_tagged s) s.end ≡ grant_denial (with_ends k later grants) (access_of_tagged s) s.end) e
           (same_denial_by grants s until later (within e) more))
       | inr ne ↦ after_other (with_ends stag until grants) stag buf s ne ∙ sym (after_other (with_ends stag later grants) stag buf s ne)
     ]

@@ -11,9 +11,9 @@ use Rattle.nr_regions.specs.declared.region.Region.{Region}
 use Rattle.nr_regions.specs.RegisteredMemory.{bytes_after_write}
 use Rattle.nr_regions.specs.Table.{table}
 
-find-lookup : (stag : ℕ) (es : List (ℕ × Region)) → find nat_cmp stag es ≡ lookup (nat_eq stag) es
-find-lookup stag [] = refl
-find-lookup stag (e ∷ es) = λ i. cond (unsigned_tied stag e.0 i) (Some e.1) (find-lookup stag es i)
+find_lookup : (stag : ℕ) (es : List (ℕ × Region)) → find nat_cmp stag es ≡ lookup (nat_eq stag) es
+find_lookup stag [] = refl
+find_lookup stag (e ∷ es) = λ i. cond (unsigned_tied stag e.0 i) (Some e.1) (find_lookup stag es i)
 
 turned : (stag q : ℕ) → nat_eq stag q ≡ eq_by_cmp nat_cmp q stag
 turned stag q = sym (unsigned_tied stag q) ∙ (eq_by_cmp_equiv nat_cmp_total).symm stag q
@@ -21,7 +21,7 @@ turned stag q = sym (unsigned_tied stag q) ∙ (eq_by_cmp_equiv nat_cmp_total).s
 module _ {S : Type 0} where
   -- what is found
   pub get-table : (m : HashMap ℕ Region S) (stag : ℕ) → get (table m) stag ≡ hash.get nat_eq m stag
-  get-table m stag = get-from_entries nat_cmp_total m.entries stag ∙ find-lookup stag m.entries
+  get-table m stag = get-from_entries nat_cmp_total m.entries stag ∙ find_lookup stag m.entries
 
   pub table-empty : (m : HashMap ℕ Region S) → hash.IsEmpty m → table m ≡ empty
   table-empty m e = ap from_entries e

@@ -13,7 +13,7 @@ use Rattle.std.specs.FinMap.Entries.{by_order}
 use Rattle.nr_regions.specs.declared.region.Region.{Region}
 use Rattle.nr_regions.specs.RegisteredMemory.{RegionTable, Claim, IsHeld, bytes_after_write, bytes_held, held_region}
 use Rattle.nr_regions.specs.Table.{IsSound}
-use Rattle.nr_regions.proofs.Holding.{get-insert_here, get-insert_other, get-remove_here, get-remove_other, length-bytes_after_write}
+use Rattle.nr_regions.proofs.Holding.{get_insert_here, get_insert_other, get_remove_here, get_remove_other, length_bytes_after_write}
 use Rattle.nr_regions.proofs.Tables.{fact_at}
 
 abbrev size : Region → ℕ
@@ -50,21 +50,21 @@ total_insert m k v none = ap sum_of (entries-insert nat_cmp_total m k v) ∙ sum
 again : (m : FinMap nat_cmp Region) (k : ℕ) (w : Region) (q : ℕ) → get (insert (remove m k) k w) q ≡ get (insert m k w) q
 again m k w q =
     elim (cases_eq q k) [
-      | inl e ↦ rw e (get-insert_here (remove m k) k w ∙ sym (get-insert_here m k w))
-      | inr ne ↦ get-insert_other (remove m k) k w q ne ∙ get-remove_other m k q ne ∙ sym (get-insert_other m k w q ne)
+      | inl e ↦ rw e (get_insert_here (remove m k) k w ∙ sym (get_insert_here m k w))
+      | inr ne ↦ get_insert_other (remove m k) k w q ne ∙ get_remove_other m k q ne ∙ sym (get_insert_other m k w q ne)
     ]
 
 as_before : (m : FinMap nat_cmp Region) (k : ℕ) (v : Region) (q : ℕ) → get m k ≡ Some v → get (insert m k v) q ≡ get m q
 as_before m k v q there =
     elim (cases_eq q k) [
-      | inl e ↦ rw e (get-insert_here m k v ∙ sym there)
-      | inr ne ↦ get-insert_other m k v q ne
+      | inl e ↦ rw e (get_insert_here m k v ∙ sym there)
+      | inr ne ↦ get_insert_other m k v q ne
     ]
 
 total_change : (m : FinMap nat_cmp Region) (k : ℕ) (w : Region) → total (insert m k w) ≡ size w + total (remove m k)
 total_change m k w =
     ap total (sym (same_map nat_cmp_total nat_cmp-IsAntisymmetric (insert (remove m k) k w) (insert m k w) (again m k w)))
-    ∙ total_insert (remove m k) k w (get-remove_here m k)
+    ∙ total_insert (remove m k) k w (get_remove_here m k)
 
 total_remove : (m : FinMap nat_cmp Region) (k : ℕ) (v : Region) → get m k ≡ Some v → total m ≡ size v + total (remove m k)
 total_remove m k v there =
@@ -83,60 +83,60 @@ not_there (Some region) e = absurd (let wrong : true ≡ false = e in cc)
 there_is : (o : Option Region) (region : Region) → o ≡ Some region → is_some o ≡ false → ⊥
 there_is o region e f = let wrong : true ≡ false = ap is_some (sym e) ∙ f in absurd cc
 
-pub sound-initial : (first : ℕ) → first ≤ 2 ^ 32 → IsSound first 0 empty
+pub sound_initial : (first : ℕ) → first ≤ 2 ^ 32 → IsSound first 0 empty
 unfolding bytes_held
-sound-initial first fits = record {
+sound_initial first fits = record {
   next_fits = fits;
   not_given = λ stag le. ap is_some (get-empty nat_cmp stag);
   bytes_are = sym total_empty;
   bytes_fit = omega arith;
 }
 
-pub sound-register : (next bytes : ℕ) (held : FinMap nat_cmp Region) (region : Region) → IsSound next bytes held → next < 2 ^ 32 → length region.buf < 2 ^ 64
+pub sound_register : (next bytes : ℕ) (held : FinMap nat_cmp Region) (region : Region) → IsSound next bytes held → next < 2 ^ 32 → length region.buf < 2 ^ 64
     → IsSound (next + 1) (bytes + length region.buf) (insert held next region)
 unfolding bytes_held
-sound-register next bytes held region s lt small =
+sound_register next bytes held region s lt small =
     let none = not_there (get held next) (s.not_given next (omega arith)) in record {
       next_fits = omega arith;
-      not_given = λ stag le. ap is_some (get-insert_other held next region stag (λ e. omega arith)) ∙ s.not_given stag (omega arith);
+      not_given = λ stag le. ap is_some (get_insert_other held next region stag (λ e. omega arith)) ∙ s.not_given stag (omega arith);
       bytes_are = omega (arith, s.bytes_are, total_insert held next region none);
       bytes_fit = omega (arith, s.bytes_fit);
     }
 
 -- the region's length is among the bytes
-pub sound-counts : (next bytes : ℕ) (held : FinMap nat_cmp Region) (stag : ℕ) (region : Region) → IsSound next bytes held → get held stag ≡ Some region → length region.buf ≤ bytes
+pub sound_counts : (next bytes : ℕ) (held : FinMap nat_cmp Region) (stag : ℕ) (region : Region) → IsSound next bytes held → get held stag ≡ Some region → length region.buf ≤ bytes
 unfolding bytes_held
-sound-counts next bytes held stag region s there = omega (arith, s.bytes_are, total_remove held stag region there)
+sound_counts next bytes held stag region s there = omega (arith, s.bytes_are, total_remove held stag region there)
 
-pub sound-release : (next bytes : ℕ) (held : FinMap nat_cmp Region) (stag : ℕ) (region : Region) → IsSound next bytes held → get held stag ≡ Some region
+pub sound_release : (next bytes : ℕ) (held : FinMap nat_cmp Region) (stag : ℕ) (region : Region) → IsSound next bytes held → get held stag ≡ Some region
     → IsSound next (bytes - length region.buf) (remove held stag)
 unfolding bytes_held
-sound-release next bytes held stag region s there = record {
+sound_release next bytes held stag region s there = record {
   next_fits = s.next_fits;
-  not_given = λ q le. ap is_some (get-remove_other held stag q (λ e. there_is (get held stag) region there (s.not_given stag (omega arith)))) ∙ s.not_given q le;
+  not_given = λ q le. ap is_some (get_remove_other held stag q (λ e. there_is (get held stag) region there (s.not_given stag (omega arith)))) ∙ s.not_given q le;
   bytes_are = omega (arith, s.bytes_are, total_remove held stag region there);
   bytes_fit = omega (arith, s.bytes_fit);
 }
 
-pub sound-place : (next bytes : ℕ) (held : FinMap nat_cmp Region) (stag : ℕ) (region after : Region) → IsSound next bytes held → get held stag ≡ Some region
+pub sound_place : (next bytes : ℕ) (held : FinMap nat_cmp Region) (stag : ℕ) (region after : Region) → IsSound next bytes held → get held stag ≡ Some region
     → length after.buf ≡ length region.buf → IsSound next bytes (insert held stag after)
 unfolding bytes_held
-sound-place next bytes held stag region after s there len = record {
+sound_place next bytes held stag region after s there len = record {
   next_fits = s.next_fits;
-  not_given = λ q le. ap is_some (get-insert_other held stag after q (λ e. there_is (get held stag) region there (s.not_given stag (omega arith)))) ∙ s.not_given q le;
+  not_given = λ q le. ap is_some (get_insert_other held stag after q (λ e. there_is (get held stag) region there (s.not_given stag (omega arith)))) ∙ s.not_given q le;
   bytes_are = omega (arith, s.bytes_are, total_remove held stag region there, total_change held stag after);
   bytes_fit = s.bytes_fit;
 }
 
 -- bytes written over those of the region that is found
-pub sound-written : (next bytes : ℕ) (held after : FinMap nat_cmp Region) (stag to : ℕ) (payload : List ℕ) (region : Region) → IsSound next bytes held → get held stag ≡ Some region
+pub sound_written : (next bytes : ℕ) (held after : FinMap nat_cmp Region) (stag to : ℕ) (payload : List ℕ) (region : Region) → IsSound next bytes held → get held stag ≡ Some region
     → to + length payload ≤ length region.buf → IfSome (get held stag) (λ r. after ≡ insert held stag (record { right = r.right; buf = bytes_after_write r.buf to payload }))
     → IsSound next bytes after
-sound-written next bytes held after stag to payload region s there le is =
+sound_written next bytes held after stag to payload region s there le is =
     let w : Region = record { right = region.right; buf = bytes_after_write region.buf to payload } in
     subst (λ (m : FinMap nat_cmp Region). IsSound next bytes m)
     (sym (fact_at (get held stag) region (λ r. after ≡ insert held stag (record { right = r.right; buf = bytes_after_write r.buf to payload })) there is))
-    (sound-place next bytes held stag region w s there (length-bytes_after_write region.buf to payload le))
+    (sound_place next bytes held stag region w s there (length_bytes_after_write region.buf to payload le))
 
 -- what a claim on the table's memory says of the map
 pub held_there : (held : FinMap nat_cmp Region) (next room : ℕ) (t : RegionTable) (claim : Claim) (h : IsHeld t.memory claim)

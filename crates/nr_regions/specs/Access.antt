@@ -66,13 +66,13 @@ pub record TaggedSegment : Type 0 where
   pub payload : List ℕ
   pub end : ℕ
 
-abbrev pub access_of : TaggedSegment → Access
-access_of s = record { right = right_for s.kind; stag = s.stag; to = s.to; len = length s.payload }
+abbrev pub access_of_tagged : TaggedSegment → Access
+access_of_tagged s = record { right = right_for s.kind; stag = s.stag; to = s.to; len = length s.payload }
 
 -- an allowed segment for the region under this STag writes its payload over the region's bytes, any other writes nothing
 abbrev pub after_segment : List Grant → ℕ → List ℕ → TaggedSegment → List ℕ
 after_segment grants stag bytes s =
-    if s.stag == stag && is_none (grant_denial grants (access_of s) s.end) then bytes_after_write bytes s.to s.payload else bytes
+    if s.stag == stag && is_none (grant_denial grants (access_of_tagged s) s.end) then bytes_after_write bytes s.to s.payload else bytes
 
 -- the bytes of a region that was registered with these, after some segments, the later over the earlier
 abbrev pub contents : List Grant → ℕ → List ℕ → List TaggedSegment → List ℕ

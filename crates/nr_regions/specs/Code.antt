@@ -16,13 +16,13 @@ number_of Sink = 2
 abbrev pub right_of : ℕ → Right
 right_of n = if n == 0 then Fetch else (if n == 1 then Fill else Sink)
 
-pub right_of-number_of : (right : Right) → right_of (number_of right) ≡ right
-right_of-number_of Fetch = refl
-right_of-number_of Fill = refl
-right_of-number_of Sink = refl
+pub right_of_number_of : (right : Right) → right_of (number_of right) ≡ right
+right_of_number_of Fetch = refl
+right_of_number_of Fill = refl
+right_of_number_of Sink = refl
 
 abbrev pub right_code : Coded Right
-right_code = code_by ℕ coded_ℕ number_of right_of right_of-number_of
+right_code = code_by ℕ coded_ℕ number_of right_of right_of_number_of
 
 abbrev pub region_code : Coded Region
 region_code = code_by (Right × List ℕ) (coded× right_code (coded_list coded_ℕ)) (λ r. (r.right, r.buf)) (λ p. record { right = p.0; buf = p.1 }) (λ _. refl)

@@ -3,8 +3,8 @@
 ghost use Rattle.std.specs.Prelude.{◌≡◌, ℕ, ◌<◌, ◌≤◌, ◌↔◌, List, ◌∷◌, ◌++◌, None, Some, All, length};
 ghost use Rattle.nr_regions.specs.Access.{Allowed, Grant, HaveOwnStags, TaggedSegment, contents, grant_at, grant_denial, grant_offer, with_ends};
 ghost use Rattle.nr_regions.specs.RegisteredMemory.{Access, Claim, IsHeld, RegisteredMemory, after_register, after_release, bytes_in, claim_of, denial, held_region, live_region, region_offer};
-ghost use Rattle.nr_regions.specs.Events.{Event, IsNoReleaseOf, IsRegisteredAt, IsReleasedAt, StaysOpen, after_event, after_events, tagged_segments};
-ghost use Rattle.nr_regions.specs.Events.Event.{Register, Release};
+ghost use Rattle.nr_regions.specs.Events.{MemoryEvent, IsNoReleaseOf, IsRegisteredAt, IsReleasedAt, StaysOpen, after_event, after_events, tagged_segments};
+ghost use Rattle.nr_regions.specs.Events.MemoryEvent.{Register, Release};
 
 use crate::region::Region;
 use crate::right::Right;
@@ -12,14 +12,14 @@ use crate::right::Right;
 /// A region is held from `register` until its STag is released, whatever else happens.
 pub fn held_until_release()
     ensures begins { (m : RegisteredMemory) (right : Right) (buf : List ℕ) → IsHeld (after_register m right buf) (claim_of m buf) }
-    ensures lasts { (m : RegisteredMemory) (claim : Claim) (event : Event) → IsHeld m claim → IsNoReleaseOf claim.stag event →
+    ensures lasts { (m : RegisteredMemory) (claim : Claim) (event : MemoryEvent) → IsHeld m claim → IsNoReleaseOf claim.stag event →
         IsHeld (after_event m event) claim }
     // From its release on the STag is dead.
     ensures dead { (m : RegisteredMemory) (stag : ℕ) → live_region (after_release m stag) stag ≡ None }
     // An STag that was given and is dead stays dead.
-    ensures stays_dead { (m : RegisteredMemory) (stag : ℕ) (events : List Event) → stag < m.next → live_region m stag ≡ None →
+    ensures stays_dead { (m : RegisteredMemory) (stag : ℕ) (events : List MemoryEvent) → stag < m.next → live_region m stag ≡ None →
         live_region (after_events m events) stag ≡ None }
-    ensures rises { (m : RegisteredMemory) (events : List Event) → m.next ≤ (after_events m events).next }
+    ensures rises { (m : RegisteredMemory) (events : List MemoryEvent) → m.next ≤ (after_events m events).next }
 {}
 
 /// The grants allow an access exactly where they don't deny it, and memory that offers the same as the grants denies the
@@ -35,7 +35,7 @@ pub fn allowed_accesses()
 pub fn contents_while_open()
     // A region that stays open holds what it held with the payload of each allowed tagged segment over it, the later over
     // the earlier.
-    ensures contents { (grants : List Grant) (m : RegisteredMemory) (stag : ℕ) (right : Right) (buf : List ℕ) (events : List Event) →
+    ensures contents { (grants : List Grant) (m : RegisteredMemory) (stag : ℕ) (right : Right) (buf : List ℕ) (events : List MemoryEvent) →
         stag < m.next → live_region m stag ≡ Some (record { right = right; buf = buf }) →
         StaysOpen grants stag right (length buf) events →
         live_region (after_events m events) stag ≡ Some (record { right = right; buf = contents grants stag buf (tagged_segments events) }) }
@@ -50,12 +50,12 @@ pub fn contents_while_open()
 pub fn contents_at_release()
     // The region as it is before the release, by the tagged segments from the registration on, those after the release
     // among them.
-    ensures region { (grants : List Grant) (m : RegisteredMemory) (stag until : ℕ) (right : Right) (buf : List ℕ) (before after : List Event) →
+    ensures region { (grants : List Grant) (m : RegisteredMemory) (stag until : ℕ) (right : Right) (buf : List ℕ) (before after : List MemoryEvent) →
         stag < m.next → live_region m stag ≡ Some (record { right = right; buf = buf }) →
         IsReleasedAt grants stag right (length buf) until before after →
         live_region (after_events m before) stag ≡ Some (record { right = right; buf = contents grants stag buf (tagged_segments (before ++ Release stag ∷ after)) }) }
     // What `Regions::release` answers, by the tagged segments of the whole stream, those before the registration among them.
-    ensures whole_stream { (grants : List Grant) (start : RegisteredMemory) (from until : ℕ) (right : Right) (buf : List ℕ) (before between after : List Event) →
+    ensures whole_stream { (grants : List Grant) (start : RegisteredMemory) (from until : ℕ) (right : Right) (buf : List ℕ) (before between after : List MemoryEvent) →
         let stag = (after_events start before).next in
         IsRegisteredAt grants stag from before → IsReleasedAt grants stag right (length buf) until between after →
         bytes_in (held_region (after_events start (before ++ Register right buf ∷ between)) stag)

@@ -48,7 +48,7 @@ impl Model for Regions {
 }
 
 /// The region that an access may reach, or why the access is denied.
-fn judge(
+fn check_access(
     held: &HashMap<u32, Region>,
     right: Right,
     stag: u32,
@@ -235,7 +235,7 @@ impl Regions {
         ensures err { OnErr result (self.new.memory ≡ self.old.memory) }
         ensures room { self.new.room ≡ self.old.room }
     {
-        match judge(&self.held, right_for(kind), stag, to, bytes.len() as u64) {
+        match check_access(&self.held, right_for(kind), stag, to, bytes.len() as u64) {
             Ok(_) => {
                 write_over(&mut self.held, stag, to as usize, bytes);
                 Ok(())
@@ -249,7 +249,7 @@ impl Regions {
     pub fn denial(&self, kind: Kind, stag: u32, to: u64, len: u64) -> Option<Denied>
         ensures { result ≡ denial self.now.memory (record { right = right_for kind; stag = stag; to = to; len = len }) }
     {
-        judge(&self.held, right_for(kind), stag, to, len).err()
+        check_access(&self.held, right_for(kind), stag, to, len).err()
     }
 
     /// The bytes that a peer's Read Request asks for. An `Err` says why the access is denied, the first reason that
@@ -260,7 +260,7 @@ impl Regions {
         ensures ok { IfOk result (λ bytes. bytes.now
             ≡ bytes_at self.now.memory (record { right = Right.Fetch; stag = stag; to = to; len = len })) }
     {
-        match judge(&self.held, Right::Fetch, stag, to, len) {
+        match check_access(&self.held, Right::Fetch, stag, to, len) {
             Ok(region) => {
                 let (_, behind) = region.buf.as_slice().split_at(to as usize);
                 let (bytes, _) = behind.split_at(len as usize);

@@ -6,7 +6,7 @@ use Rattle.nr_xdr.specs.Item.{Item, IsBytes}
 use Rattle.nr_xdr.specs.Item.Item.{Unsigned}
 use Rattle.nr_xdr.specs.Items.{encodings, TakesAll}
 use Rattle.nr_xdr.specs.Reading.{Cursor, Takes}
-use Rattle.nr_xdr.proofs.Chains.{standing, each_takes, each_between, encodings_read, IsBytes-behind, IsBytes-opaque}
+use Rattle.nr_xdr.proofs.Chains.{standing, each_takes, each_between, encodings_read, IsBytes_behind, IsBytes_opaque}
 use Rattle.nr_rpc.specs.Constants.{AUTH_BODY_MAX, RPC_VERSION, CALL}
 use Rattle.nr_rpc.specs.declared.fault.HeadFault.{HeadFault}
 use Rattle.nr_rpc.specs.declared.cred.Cred.{Cred}
@@ -18,7 +18,7 @@ use Rattle.nr_xdr.specs.Sequencing.{◌>>=◌, number_at}
 use Rattle.nr_rpc.specs.Reading.{cred_of, pair_at, procedure_at, version2_at, call_at, head_of, call_of, GivesCall, head_xid, xid_of_call}
 use Rattle.nr_xdr.proofs.SequencingSteps.{bind_ok, chosen, done, ok_is, number_step, number_again}
 use Rattle.nr_rpc.proofs.HeadSteps.{expect_step, expect_again, auth_step, auth_again, TakesAuth, pair_step, pair_again}
-use Rattle.nr_rpc.proofs.Credentials.{cred_takes, cred_again, cred_written, auth_of-fits}
+use Rattle.nr_rpc.proofs.Credentials.{cred_takes, cred_again, cred_written, auth_of_fits}
 
 -- a call head that was read
 pub record TakesVersion2 (xid prog vers proc : ℕ) (auth verifier : Auth) (c after : Cursor) : Type 0 where
@@ -160,14 +160,14 @@ call_begins bytes head fits e =
 -- bytes of a credential are bytes
 auth_bytes : (xid prog vers proc : ℕ) (auth verifier : Auth) (c after : Cursor) → IsBytes c.rest → TakesAll c after (version2_items xid prog vers proc auth verifier) → IsBytes auth.body
 auth_bytes xid prog vers proc auth verifier c after fits (a, ta, (b, tb, (d, td, (f, tf, (g, tg, (h, th, (i, ti, (j, tj, others)))))))) =
-    let fa = IsBytes-behind c a _ ta fits in
-    let fb = IsBytes-behind a b _ tb fa in
-    let fd = IsBytes-behind b d _ td fb in
-    let ff = IsBytes-behind d f _ tf fd in
-    let fg = IsBytes-behind f g _ tg ff in
-    let fh = IsBytes-behind g h _ th fg in
-    let fi = IsBytes-behind h i _ ti fh in
-    IsBytes-opaque i j auth.body tj fi
+    let fa = IsBytes_behind c a _ ta fits in
+    let fb = IsBytes_behind a b _ tb fa in
+    let fd = IsBytes_behind b d _ td fb in
+    let ff = IsBytes_behind d f _ tf fd in
+    let fg = IsBytes_behind f g _ tg ff in
+    let fh = IsBytes_behind g h _ th fg in
+    let fi = IsBytes_behind h i _ ti fh in
+    IsBytes_opaque i j auth.body tj fi
 
 -- one reading gives one head, and one rest
 pub one_answer : {A : Type 0} (a b : A) (c d : Cursor) (read : Result (A × Cursor) ℕ) → read ≡ Ok (a, c) → read ≡ Ok (b, d) → (a ≡ b) × (c.rest ≡ d.rest)
@@ -229,7 +229,7 @@ call_written (calls.Version2 xid prog vers proc cred args_at) args can fits =
     let auth = auth_of cred in
     let items = version2_items xid prog vers proc auth no_verifier in
     let bytes = encodings items ++ args in
-    let auth_fits = auth_of-fits cred can fits.4 in
+    let auth_fits = auth_of_fits cred can fits.4 in
     let each = each_takes items (encodings items) args (standing 0 bytes) (encodings_read items (fits.0, (omega arith, (omega arith, (fits.1, (fits.2, (fits.3, (auth_fits.0, (omega arith, (omega arith, (omega arith, tt))))))))))) refl in
     let place : 0 + length (encodings items) ≡ length (encodings items) = omega arith in
     ap head_of (version2_found xid prog vers proc auth no_verifier (standing 0 bytes) (standing (0 + length (encodings items)) args) each auth_fits.1 (omega arith))

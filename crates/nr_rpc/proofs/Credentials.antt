@@ -9,7 +9,7 @@ use Rattle.nr_xdr.specs.Item.Item.{Unsigned, Opaque}
 use Rattle.nr_xdr.specs.Items.{ReadsAll, encodings, TakesAll}
 use Rattle.nr_xdr.specs.Reading.{Cursor, Takes, unsigned_at}
 use Rattle.nr_xdr.proofs.Chains.{standing, each_takes, each_between, encodings_read}
-use Rattle.nr_xdr.proofs.WordBytes.{length-word}
+use Rattle.nr_xdr.proofs.WordBytes.{length_word}
 use Rattle.nr_rpc.specs.Constants.{AUTH_BODY_MAX, MACHINE_MAX, GIDS_MAX, AUTH_NONE, AUTH_SYS}
 use Rattle.nr_rpc.specs.declared.cred.Cred.{Cred}
 use Rattle.nr_rpc.specs.declared.cred.Cred.TheVariants as creds
@@ -226,38 +226,38 @@ cred_again (creds.Other flavor) auth fits (is, apart, not_sys) =
     ]
 
 -- the length of numbers, and of the body of AUTH_SYS
-pub length-numbers : (ns : List ℕ) → length (encodings (map Unsigned ns)) ≡ 4 * length ns
-length-numbers [] = refl
-length-numbers (n ∷ ns) = omega (arith, length-append (word n) (encodings (map Unsigned ns)), length-word n, length-numbers ns)
+pub length_numbers : (ns : List ℕ) → length (encodings (map Unsigned ns)) ≡ 4 * length ns
+length_numbers [] = refl
+length_numbers (n ∷ ns) = omega (arith, length-append (word n) (encodings (map Unsigned ns)), length_word n, length_numbers ns)
 
 opaque_len : List ℕ → ℕ
 opaque_len bytes = 4 + (length bytes + pad_len (length bytes))
 
-length-opaque : (bytes : List ℕ) → length (encoding (Opaque bytes)) ≡ opaque_len bytes
+length_opaque : (bytes : List ℕ) → length (encoding (Opaque bytes)) ≡ opaque_len bytes
 unfolding opaque_len
-length-opaque bytes =
+length_opaque bytes =
     let pad : List ℕ = replicate (pad_len (length bytes)) 0 in
-    omega (arith, length-append (word (length bytes)) (bytes ++ pad), length-append bytes pad, length-word (length bytes), length-replicate {A = ℕ} (pad_len (length bytes)) 0)
+    omega (arith, length-append (word (length bytes)) (bytes ++ pad), length-append bytes pad, length_word (length bytes), length-replicate {A = ℕ} (pad_len (length bytes)) 0)
 
-pad_len-below : (n : ℕ) → pad_len n < 4
+pad_len_below : (n : ℕ) → pad_len n < 4
 unfolding pad_len
-pad_len-below n = omega arith
+pad_len_below n = omega arith
 
-pub length-sys : (stamp : ℕ) (machine : List ℕ) (uid gid : ℕ) (gids : List ℕ) → length machine ≤ MACHINE_MAX → length gids ≤ GIDS_MAX
+pub length_sys : (stamp : ℕ) (machine : List ℕ) (uid gid : ℕ) (gids : List ℕ) → length machine ≤ MACHINE_MAX → length gids ≤ GIDS_MAX
     → length (encodings (sys_items stamp machine uid gid gids)) ≤ AUTH_BODY_MAX
 unfolding opaque_len
-length-sys stamp machine uid gid gids machine_within gids_within =
+length_sys stamp machine uid gid gids machine_within gids_within =
     let last = word (length gids) ++ encodings (map Unsigned gids) in
     let group = word gid ++ last in
     let user = word uid ++ group in
     let name = encoding (Opaque machine) ++ user in
-    omega (arith, length-append (word stamp) name, length-word stamp, length-append (encoding (Opaque machine)) user, length-opaque machine, pad_len-below (length machine), length-append (word uid) group, length-word uid, length-append (word gid) last, length-word gid, length-append (word (length gids)) (encodings (map Unsigned gids)), length-word (length gids), length-numbers gids)
+    omega (arith, length-append (word stamp) name, length_word stamp, length-append (encoding (Opaque machine)) user, length_opaque machine, pad_len_below (length machine), length-append (word uid) group, length_word uid, length-append (word gid) last, length_word gid, length-append (word (length gids)) (encodings (map Unsigned gids)), length_word (length gids), length_numbers gids)
 
 -- the credential that is written fits its items, and its body's limit
-pub auth_of-fits : (cred : Cred) → CanWriteCred cred → CredFits cred → ((auth_of cred).flavor < 2 ^ 32) × (length (auth_of cred).body ≤ AUTH_BODY_MAX)
-auth_of-fits creds.None can fits = (omega arith, omega arith)
-auth_of-fits (creds.Sys stamp machine uid gid gids) can fits = (omega arith, length-sys stamp machine uid gid gids can.0 can.1)
-auth_of-fits (creds.Other flavor) can fits = (fits, omega arith)
+pub auth_of_fits : (cred : Cred) → CanWriteCred cred → CredFits cred → ((auth_of cred).flavor < 2 ^ 32) × (length (auth_of cred).body ≤ AUTH_BODY_MAX)
+auth_of_fits creds.None can fits = (omega arith, omega arith)
+auth_of_fits (creds.Sys stamp machine uid gid gids) can fits = (omega arith, length_sys stamp machine uid gid gids can.0 can.1)
+auth_of_fits (creds.Other flavor) can fits = (fits, omega arith)
 
 nothing_reads : whole_value (sys_at (standing 0 [])) ≡ None
 unfolding sys_at unsigned_at

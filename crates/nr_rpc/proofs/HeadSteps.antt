@@ -4,7 +4,7 @@ use Rattle.std.proofs.lemmas.Bool.{eqb-true}
 use Rattle.nr_xdr.specs.Item.{IsBytes}
 use Rattle.nr_xdr.specs.Item.Item.{Unsigned, Opaque}
 use Rattle.nr_xdr.specs.Reading.{Cursor, Takes, opaque_at}
-use Rattle.nr_xdr.proofs.Chains.{IsBytes-opaque}
+use Rattle.nr_xdr.proofs.Chains.{IsBytes_opaque}
 use Rattle.nr_rpc.specs.Constants.{AUTH_BODY_MAX}
 use Rattle.nr_rpc.specs.Credential.{Auth}
 use Rattle.nr_xdr.specs.Sequencing.{◌>>=◌, or_place, number_at}
@@ -79,7 +79,7 @@ auth_step c f y fits e =
     let body = opaque_step AUTH_BODY_MAX flavor.0.1 (λ body. Ok (record { flavor = flavor.0.0; body = body.0 }, body.1)) a.0 flavor.2 flavor.3 in
     let made : Auth × Cursor = (record { flavor = flavor.0.0; body = body.0.0 }, body.0.1) in
     let taken : TakesAuth made.0 c made.1 = record { behind_flavor = flavor.0.1; flavor = flavor.1; body = body.1; within = body.2 } in
-    let bytes : IsBytes body.0.0 = IsBytes-opaque flavor.0.1 body.0.1 body.0.0 body.1 flavor.2 in
+    let bytes : IsBytes body.0.0 = IsBytes_opaque flavor.0.1 body.0.1 body.0.0 body.1 flavor.2 in
     let is = ok_is made a.0 body.4 in (
       a.0,
       subst (λ (x : Auth × Cursor). TakesAuth x.0 c x.1) is taken,

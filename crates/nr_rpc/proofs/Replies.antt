@@ -190,11 +190,11 @@ one_reply a b x y more others reads_a reads_b e =
     let second = reply_found b c (standing (0 + length y) others) (reads_reply b (x ++ more) y others reads_b e) in
     one_answer a b (standing (0 + length x) more) (standing (0 + length y) others) (reply_at c) first second
 
-reply_items-fit : (head : ReplyHead) → ReplyFits head → AllFit (reply_items head no_verifier)
-reply_items-fit (replies.Accepted xid stat results_at) fits = (fits.0, (omega arith, (omega arith, (omega arith, (omega arith, (fits.1, tt))))))
-reply_items-fit (replies.ProgMismatch xid low high) fits = (fits.0, (omega arith, (omega arith, (omega arith, (omega arith, (omega arith, (fits.1, (fits.2, tt))))))))
-reply_items-fit (replies.RpcMismatch xid low high) fits = (fits.0, (omega arith, (omega arith, (omega arith, (fits.1, (fits.2, tt))))))
-reply_items-fit (replies.AuthError xid stat) fits = (fits.0, (omega arith, (omega arith, (omega arith, (fits.1, tt)))))
+reply_items_fit : (head : ReplyHead) → ReplyFits head → AllFit (reply_items head no_verifier)
+reply_items_fit (replies.Accepted xid stat results_at) fits = (fits.0, (omega arith, (omega arith, (omega arith, (omega arith, (fits.1, tt))))))
+reply_items_fit (replies.ProgMismatch xid low high) fits = (fits.0, (omega arith, (omega arith, (omega arith, (omega arith, (omega arith, (fits.1, (fits.2, tt))))))))
+reply_items_fit (replies.RpcMismatch xid low high) fits = (fits.0, (omega arith, (omega arith, (omega arith, (fits.1, (fits.2, tt))))))
+reply_items_fit (replies.AuthError xid stat) fits = (fits.0, (omega arith, (omega arith, (omega arith, (fits.1, tt)))))
 
 again_items : (head : ReplyHead) → reply_items (reply_again head) no_verifier ≡ reply_items head no_verifier
 again_items (replies.Accepted xid stat results_at) = refl
@@ -215,7 +215,7 @@ reply_written head results can fits =
     let reads : ReadsReply (reply_again head) (reply_head head) = record {
       verifier = no_verifier;
       body = omega arith;
-      items = subst (λ (is : List Item). ReadsAll is (reply_head head)) (sym (again_items head)) (encodings_read items (reply_items-fit head fits));
+      items = subst (λ (is : List Item). ReadsAll is (reply_head head)) (sym (again_items head)) (encodings_read items (reply_items_fit head fits));
       accepted = again_accepted head can;
     } in
     begins_reply (reply_encoding head results) (reply_again head) (reply_head head, results, reads, refl)

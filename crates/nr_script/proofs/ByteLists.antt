@@ -10,12 +10,12 @@ use Rattle.nr_xdr.specs.Item.Item.{Unsigned, Hyper, Boolean, Opaque, Fixed}
 use Rattle.nr_xdr.specs.Items.{encodings}
 use Rattle.nr_wire.specs.Fields.{half_word}
 
-pub no-bytes : IsBytes []
-no-bytes = λ i. omega arith
+pub no_bytes_lem : IsBytes []
+no_bytes_lem = λ i. omega arith
 
-pub bytes-more : (b : ℕ) (bytes : List ℕ) → b < 256 → IsBytes bytes → IsBytes (b ∷ bytes)
-bytes-more b bytes lt h zero = lt
-bytes-more b bytes lt h (suc i) = h i
+pub bytes_more : (b : ℕ) (bytes : List ℕ) → b < 256 → IsBytes bytes → IsBytes (b ∷ bytes)
+bytes_more b bytes lt h zero = lt
+bytes_more b bytes lt h (suc i) = h i
 
 pub bytes_both : (x y : List ℕ) → IsBytes x → IsBytes y → IsBytes (x ++ y)
 bytes_both x y h k i =
@@ -26,41 +26,41 @@ bytes_both x y h k i =
           subst (λ (n : ℕ). get_or (x ++ y) n 0 < 256) at (rw (get_or-append-add x y (i - length x) 0) (k (i - length x)))
     ]
 
-pub zeros-bytes : (n : ℕ) → IsBytes (replicate n 0)
-zeros-bytes zero = no-bytes
-zeros-bytes (suc n) = bytes-more 0 (replicate n 0) (omega arith) (zeros-bytes n)
+pub zeros_bytes : (n : ℕ) → IsBytes (replicate n 0)
+zeros_bytes zero = no_bytes_lem
+zeros_bytes (suc n) = bytes_more 0 (replicate n 0) (omega arith) (zeros_bytes n)
 
-byte-below : (i n : ℕ) → byte_at i n < 256
-byte-below zero n = omega arith
-byte-below (suc i) n = omega arith
+byte_below : (i n : ℕ) → byte_at i n < 256
+byte_below zero n = omega arith
+byte_below (suc i) n = omega arith
 
-bytes-first : (k n : ℕ) → IsBytes (bytes_high_first k n)
-bytes-first zero n = no-bytes
-bytes-first (suc k) n = bytes-more (byte_at k n) (bytes_high_first k n) (byte-below k n) (bytes-first k n)
+bytes_first : (k n : ℕ) → IsBytes (bytes_high_first k n)
+bytes_first zero n = no_bytes_lem
+bytes_first (suc k) n = bytes_more (byte_at k n) (bytes_high_first k n) (byte_below k n) (bytes_first k n)
 
-pub word-bytes : (n : ℕ) → IsBytes (word n)
+pub word_bytes : (n : ℕ) → IsBytes (word n)
 unfolding word
-word-bytes n = bytes-first 4 n
+word_bytes n = bytes_first 4 n
 
-pub hyper-bytes : (n : ℕ) → IsBytes (hyper n)
+pub hyper_bytes : (n : ℕ) → IsBytes (hyper n)
 unfolding hyper
-hyper-bytes n = bytes-first 8 n
+hyper_bytes n = bytes_first 8 n
 
-pub half-bytes : (n : ℕ) → IsBytes (half_word n)
+pub half_bytes : (n : ℕ) → IsBytes (half_word n)
 unfolding half_word
-half-bytes n = bytes-first 2 n
+half_bytes n = bytes_first 2 n
 
 pub decided : (xs : List ℕ) → list_all (λ b. nat_lt b 256) xs ≡ true → IsBytes xs
-decided [] e = no-bytes
+decided [] e = no_bytes_lem
 decided (x ∷ xs) e = by (ltb x 256) refl e (λ more. decided xs more)
   where
     by : (b : Bool) → ltb x 256 ≡ b → b && list_all (λ b. nat_lt b 256) xs ≡ true → (list_all (λ b. nat_lt b 256) xs ≡ true → IsBytes xs) → IsBytes (x ∷ xs)
-    by true is e more = bytes-more x xs (ltb-true x 256 is) (more e)
+    by true is e more = bytes_more x xs (ltb-true x 256 is) (more e)
     by false is e more = absurd cc
 
-pub flat-bytes : {X : Type 0} (f : X → List ℕ) (xs : List X) → ((x : X) → IsBytes (f x)) → IsBytes (flat_map f xs)
-flat-bytes f [] h = no-bytes
-flat-bytes f (x ∷ xs) h = bytes_both (f x) (flat_map f xs) (h x) (flat-bytes f xs h)
+pub flat_bytes : {X : Type 0} (f : X → List ℕ) (xs : List X) → ((x : X) → IsBytes (f x)) → IsBytes (flat_map f xs)
+flat_bytes f [] h = no_bytes_lem
+flat_bytes f (x ∷ xs) h = bytes_both (f x) (flat_map f xs) (h x) (flat_bytes f xs h)
 
 -- ===== items
 
@@ -75,15 +75,15 @@ OfBytes (Fixed bytes) = IsBytes bytes
 abbrev pub AreOfBytes : List Item → Type 0
 AreOfBytes items = AllByRecursion OfBytes items
 
-item-bytes : (item : Item) → OfBytes item → IsBytes (encoding item)
-item-bytes (Unsigned n) h = word-bytes n
-item-bytes (Hyper n) h = hyper-bytes n
-item-bytes (Boolean b) h = word-bytes _
-item-bytes (Opaque bytes) h =
-    bytes_both (word (length bytes)) (bytes ++ replicate (pad_len (length bytes)) 0) (word-bytes (length bytes))
-    (bytes_both bytes (replicate (pad_len (length bytes)) 0) h (zeros-bytes (pad_len (length bytes))))
-item-bytes (Fixed bytes) h = bytes_both bytes (replicate (pad_len (length bytes)) 0) h (zeros-bytes (pad_len (length bytes)))
+item_bytes : (item : Item) → OfBytes item → IsBytes (encoding item)
+item_bytes (Unsigned n) h = word_bytes n
+item_bytes (Hyper n) h = hyper_bytes n
+item_bytes (Boolean b) h = word_bytes _
+item_bytes (Opaque bytes) h =
+    bytes_both (word (length bytes)) (bytes ++ replicate (pad_len (length bytes)) 0) (word_bytes (length bytes))
+    (bytes_both bytes (replicate (pad_len (length bytes)) 0) h (zeros_bytes (pad_len (length bytes))))
+item_bytes (Fixed bytes) h = bytes_both bytes (replicate (pad_len (length bytes)) 0) h (zeros_bytes (pad_len (length bytes)))
 
-pub items-bytes : (items : List Item) → AreOfBytes items → IsBytes (encodings items)
-items-bytes [] h = no-bytes
-items-bytes (item ∷ items) h = bytes_both (encoding item) (encodings items) (item-bytes item h.0) (items-bytes items h.1)
+pub items_bytes : (items : List Item) → AreOfBytes items → IsBytes (encodings items)
+items_bytes [] h = no_bytes_lem
+items_bytes (item ∷ items) h = bytes_both (encoding item) (encodings items) (item_bytes item h.0) (items_bytes items h.1)

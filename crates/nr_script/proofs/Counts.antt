@@ -9,49 +9,49 @@ use Rattle.nr_script.specs.declared.script.Line.TheVariants as lines
 use Rattle.nr_script.specs.Counts.{caller, CountsAre, counted}
 use Rattle.nr_script.specs.Script.{is_call_of, calls_of, seconds_in, seconds_after}
 
-pub seconds-more : (before : List Line) (line : Line) → seconds_after (before ++ line ∷ []) ≡ seconds_after before + seconds_in line
+pub seconds_more : (before : List Line) (line : Line) → seconds_after (before ++ line ∷ []) ≡ seconds_after before + seconds_in line
 unfolding seconds_after
-seconds-more before line = sum_by-append seconds_in before (line ∷ []) ∙ omega arith
+seconds_more before line = sum_by-append seconds_in before (line ∷ []) ∙ omega arith
 
-pub no-calls : (i : ℕ) → calls_of i [] ≡ 0
+pub no_calls_lem : (i : ℕ) → calls_of i [] ≡ 0
 unfolding calls_of
-no-calls i = refl
+no_calls_lem i = refl
 
-pub no-seconds : seconds_after [] ≡ 0
+pub no_seconds : seconds_after [] ≡ 0
 unfolding seconds_after
-no-seconds = refl
+no_seconds = refl
 
-pub few-calls : (client : ℕ) (before : List Line) → calls_of client before ≤ length before
+pub few_calls_lem : (client : ℕ) (before : List Line) → calls_of client before ≤ length before
 unfolding calls_of
-few-calls client before = count_by-le-length (is_call_of client) before
+few_calls_lem client before = count_by-le-length (is_call_of client) before
 
-count-more : (p : Line → Bool) (before : List Line) (line : Line) → count_by p (before ++ line ∷ []) ≡ count_by p before + cond (p line) 1 0
-count-more p before line =
+count_more_lem : (p : Line → Bool) (before : List Line) (line : Line) → count_by p (before ++ line ∷ []) ≡ count_by p before + cond (p line) 1 0
+count_more_lem p before line =
     sum_by-append (λ l. cond (p l) 1 0) before (line ∷ [])
     ∙ (let sum : count_by p before + (0 + cond (p line) 1 0) ≡ count_by p before + cond (p line) 1 0 = omega arith in sum)
 
-pub calls-more : (client : ℕ) (before : List Line) (line : Line) → calls_of client (before ++ line ∷ []) ≡ calls_of client before + cond (is_call_of client line) 1 0
+pub calls_more : (client : ℕ) (before : List Line) (line : Line) → calls_of client (before ++ line ∷ []) ≡ calls_of client before + cond (is_call_of client line) 1 0
 unfolding calls_of
-calls-more client before line = count-more (is_call_of client) before line
+calls_more client before line = count_more_lem (is_call_of client) before line
 
 nothing : (i : ℕ) → false ≡ eqb 0 (i + 1)
 nothing i = sym (ne_eqb 0 (i + 1) (λ e. omega (arith, e)))
 
-caller-is : (i : ℕ) (line : Line) → is_call_of (i + 1) line ≡ eqb (caller line) (i + 1)
-caller-is i (lines.Call client form prog vers proc args) = refl
-caller-is i (lines.Cred client cred) = nothing i
-caller-is i (lines.Up client most) = nothing i
-caller-is i (lines.Down client most) = nothing i
-caller-is i (lines.Work client) = nothing i
-caller-is i (lines.Tick seconds) = nothing i
-caller-is i (lines.Forget client number) = nothing i
-caller-is i (lines.Revoke client number) = nothing i
-caller-is i (lines.Drop client) = nothing i
-caller-is i (lines.Raw client side bytes) = nothing i
-caller-is i lines.Drain = nothing i
+caller_is : (i : ℕ) (line : Line) → is_call_of (i + 1) line ≡ eqb (caller line) (i + 1)
+caller_is i (lines.Call client form prog vers proc args) = refl
+caller_is i (lines.Cred client cred) = nothing i
+caller_is i (lines.Up client most) = nothing i
+caller_is i (lines.Down client most) = nothing i
+caller_is i (lines.Work client) = nothing i
+caller_is i (lines.Tick seconds) = nothing i
+caller_is i (lines.Forget client number) = nothing i
+caller_is i (lines.Revoke client number) = nothing i
+caller_is i (lines.Drop client) = nothing i
+caller_is i (lines.Raw client side bytes) = nothing i
+caller_is i lines.Drain = nothing i
 
-counted-at : (c i : ℕ) (counts : List ℕ) (n : ℕ) → length counts ≡ 16 → i < 16 → slice_index counts i ≡ n → slice_index (counted counts c) i ≡ n + cond (eqb c (i + 1)) 1 0
-counted-at c i counts n all lt e = by (leb 1 c) refl (leb c 16) refl (eqb c (i + 1)) refl
+counted_at : (c i : ℕ) (counts : List ℕ) (n : ℕ) → length counts ≡ 16 → i < 16 → slice_index counts i ≡ n → slice_index (counted counts c) i ≡ n + cond (eqb c (i + 1)) 1 0
+counted_at c i counts n all lt e = by (leb 1 c) refl (leb c 16) refl (eqb c (i + 1)) refl
   where
     still : slice_index counts i ≡ n + 0
     still = e ∙ (let z : n ≡ n + 0 = omega arith in z)
@@ -72,32 +72,32 @@ counted-at c i counts n all lt e = by (leb 1 c) refl (leb c 16) refl (eqb c (i +
     by false l false h true s = absurd (let is = eqb-true c (i + 1) s in let low = leb-false 1 c l in omega (arith, is, low))
     by false l false h false s = still
 
-counted-length : (c : ℕ) (counts : List ℕ) → length (counted counts c) ≡ length counts
-counted-length c counts = by (leb 1 c && leb c 16)
+counted_length : (c : ℕ) (counts : List ℕ) → length (counted counts c) ≡ length counts
+counted_length c counts = by (leb 1 c && leb c 16)
   where
     by : (b : Bool) → length (cond b (slice_set counts (c - 1) (slice_index counts (c - 1) + 1)) counts) ≡ length counts
     by true = length-set counts (c - 1) (slice_index counts (c - 1) + 1)
     by false = refl
 
-pub counted-are : (counts : List ℕ) (before : List Line) (line : Line) → CountsAre counts before → CountsAre (counted counts (caller line)) (before ++ line ∷ [])
-counted-are counts before line h = record {
-  all = counted-length (caller line) counts ∙ h.all;
+pub counted_are : (counts : List ℕ) (before : List Line) (line : Line) → CountsAre counts before → CountsAre (counted counts (caller line)) (before ++ line ∷ [])
+counted_are counts before line h = record {
+  all = counted_length (caller line) counts ∙ h.all;
   each = λ i lt.
-      counted-at (caller line) i counts (calls_of (i + 1) before) h.all lt (h.each i lt)
-      ∙ ap (λ (b : Bool). calls_of (i + 1) before + cond b 1 0) (sym (caller-is i line)) ∙ sym (calls-more (i + 1) before line);
+      counted_at (caller line) i counts (calls_of (i + 1) before) h.all lt (h.each i lt)
+      ∙ ap (λ (b : Bool). calls_of (i + 1) before + cond b 1 0) (sym (caller_is i line)) ∙ sym (calls_more (i + 1) before line);
 }
 
-zeros-at : (n i : ℕ) → slice_index (replicate n 0) i ≡ 0
-zeros-at zero i = refl
-zeros-at (suc n) zero = refl
-zeros-at (suc n) (suc i) = zeros-at n i
+zeros_at : (n i : ℕ) → slice_index (replicate n 0) i ≡ 0
+zeros_at zero i = refl
+zeros_at (suc n) zero = refl
+zeros_at (suc n) (suc i) = zeros_at n i
 
-pub none-counted : CountsAre (replicate 16 0) []
-none-counted = record { all = refl; each = λ i lt. zeros-at 16 i ∙ sym (no-calls (i + 1)) }
+pub none_counted : CountsAre (replicate 16 0) []
+none_counted = record { all = refl; each = λ i lt. zeros_at 16 i ∙ sym (no_calls_lem (i + 1)) }
 
 pub room : (counts : List ℕ) (before : List Line) → CountsAre counts before → length before < 2 ^ 63 → (i : ℕ) → slice_index counts i < 2 ^ 63
 room counts before h short i = by (leb 16 i) refl
   where
     by : (b : Bool) → leb 16 i ≡ b → slice_index counts i < 2 ^ 63
     by true e = (let past = leb-true 16 i e in let none : slice_index counts i ≡ 0 = get_or_past counts i 0 (omega (arith, past, h.all)) in omega (arith, none))
-    by false e = (let lt = leb-false 16 i e in let is = h.each i (omega (arith, lt)) in let few = few-calls (i + 1) before in omega (arith, is, few, short))
+    by false e = (let lt = leb-false 16 i e in let is = h.each i (omega (arith, lt)) in let few = few_calls_lem (i + 1) before in omega (arith, is, few, short))

@@ -9,8 +9,8 @@ use Rattle.nr_script.specs.declared.script.Line.TheVariants as lines
 use Rattle.nr_script.specs.Generator.{written_bytes, drawn_turn, after_drawn_turn, drawn_lines}
 
 -- a sum's remainder, of a remainder
-pub mod-plus : (x c m : ℕ) → (x % m + c) % m ≡ (x + c) % m
-mod-plus x c m =
+pub mod_plus : (x c m : ℕ) → (x % m + c) % m ≡ (x + c) % m
+mod_plus x c m =
     sym (add-mul-mod_self_left (x % m + c) m (x / m))
     ∙ ap (λ n. n % m) (let e : x % m + m * (x / m) ≡ x = mod-add-div x m in let sum : (x % m + c) + m * (x / m) ≡ x + c = omega (arith, e) in sum)
 
@@ -22,20 +22,20 @@ turn_more clients calls i state front all lt e =
     append_assoc front (drawn_turn clients state) (drawn_lines clients (calls - (i + 1)) (after_drawn_turn state))
     ∙ (rw left at e)
 
-range-more : (a n : ℕ) → range_with_len a (n + 1) ≡ range_with_len a n ++ (a + n) ∷ []
-range-more a zero = ap (λ m. m ∷ []) (let e : a ≡ a + 0 = omega arith in e)
-range-more a (suc n) =
+range_more_lem : (a n : ℕ) → range_with_len a (n + 1) ≡ range_with_len a n ++ (a + n) ∷ []
+range_more_lem a zero = ap (λ m. m ∷ []) (let e : a ≡ a + 0 = omega arith in e)
+range_more_lem a (suc n) =
     let one : suc n + 1 ≡ suc (n + 1) = omega arith in
     let next : (a + 1) + n ≡ a + suc n = omega arith in
-    rw (one) (ap (λ (l : List ℕ). a ∷ l) (rw next at (range-more (a + 1) n)))
+    rw (one) (ap (λ (l : List ℕ). a ∷ l) (rw next at (range_more_lem (a + 1) n)))
 
-map-more : (f : ℕ → ℕ) (xs : List ℕ) (x : ℕ) → map f (xs ++ x ∷ []) ≡ map f xs ++ f x ∷ []
-map-more f [] x = refl
-map-more f (y ∷ xs) x = ap (λ (l : List ℕ). f y ∷ l) (map-more f xs x)
+map_more : (f : ℕ → ℕ) (xs : List ℕ) (x : ℕ) → map f (xs ++ x ∷ []) ≡ map f xs ++ f x ∷ []
+map_more f [] x = refl
+map_more f (y ∷ xs) x = ap (λ (l : List ℕ). f y ∷ l) (map_more f xs x)
 
 -- one byte more of a WRITE
 pub written_more : (offset place : ℕ) → written_bytes offset (place + 1) ≡ written_bytes offset place ++ ((offset + place) % 256) ∷ []
-written_more offset place = ap (map (λ p. p % 256)) (range-more offset place) ∙ map-more (λ p. p % 256) (range_with_len offset place) (offset + place)
+written_more offset place = ap (map (λ p. p % 256)) (range_more_lem offset place) ∙ map_more (λ p. p % 256) (range_with_len offset place) (offset + place)
 
 pub written_len : (offset count : ℕ) → length (written_bytes offset count) ≡ count
 written_len offset count = length-map-range_with_len (λ p. p % 256) offset count

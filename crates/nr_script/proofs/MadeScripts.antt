@@ -12,57 +12,57 @@ use Rattle.nr_script.specs.declared.script.Line.{Line}
 use Rattle.nr_script.specs.Limits.{most_clients, default_capacity}
 use Rattle.nr_script.specs.Script.{may_follow, is_client, FollowOn, HasWritableCred, IsTypedLine, IsScript}
 use Rattle.nr_script.specs.Generator.{next, drawn, below, file_args, read_args, written_bytes, file_sync, write_head, write_args, readdir_args, proc_drawn, args_drawn, after_args, move_lines, call_line, turn_lines, drawn_turn, after_drawn_turn, drawn_lines, drawn_credits, made_script, offsets_end, read_counts_end, write_counts_end, listing_count}
-use Rattle.nr_script.proofs.ByteLists.{no-bytes, bytes-more, bytes_both, hyper-bytes, items-bytes}
+use Rattle.nr_script.proofs.ByteLists.{no_bytes_lem, bytes_more, bytes_both, hyper_bytes, items_bytes}
 
-each-append : {X : Type 0} (P : X → Type 0) (xs ys : List X) → AllByRecursion P xs → AllByRecursion P ys → AllByRecursion P (xs ++ ys)
-each-append P [] ys h k = k
-each-append P (x ∷ xs) ys h k = (h.0, each-append P xs ys h.1 k)
+each_append : {X : Type 0} (P : X → Type 0) (xs ys : List X) → AllByRecursion P xs → AllByRecursion P ys → AllByRecursion P (xs ++ ys)
+each_append P [] ys h k = k
+each_append P (x ∷ xs) ys h k = (h.0, each_append P xs ys h.1 k)
 
 -- ===== arguments
 
-file-bytes : (file : ℕ) → IsBytes (file_args file)
-file-bytes file = items-bytes (Opaque (hyper file) ∷ []) (hyper-bytes file, tt)
+file_bytes : (file : ℕ) → IsBytes (file_args file)
+file_bytes file = items_bytes (Opaque (hyper file) ∷ []) (hyper_bytes file, tt)
 
-read-bytes : (offset count : ℕ) → IsBytes (read_args offset count)
-read-bytes offset count = items-bytes (Opaque (hyper 2) ∷ Hyper offset ∷ Unsigned count ∷ []) (hyper-bytes 2, (tt, (tt, tt)))
+read_bytes_lem : (offset count : ℕ) → IsBytes (read_args offset count)
+read_bytes_lem offset count = items_bytes (Opaque (hyper 2) ∷ Hyper offset ∷ Unsigned count ∷ []) (hyper_bytes 2, (tt, (tt, tt)))
 
-places-bytes : (places : List ℕ) → IsBytes (map (λ place. place % 256) places)
-places-bytes [] = no-bytes
-places-bytes (place ∷ places) = bytes-more (place % 256) (map (λ place. place % 256) places) (mod_below place 256 (omega arith)) (places-bytes places)
+places_bytes : (places : List ℕ) → IsBytes (map (λ place. place % 256) places)
+places_bytes [] = no_bytes_lem
+places_bytes (place ∷ places) = bytes_more (place % 256) (map (λ place. place % 256) places) (mod_below place 256 (omega arith)) (places_bytes places)
 
-write-bytes : (offset count : ℕ) → IsBytes (write_args offset count)
-write-bytes offset count =
+write_bytes : (offset count : ℕ) → IsBytes (write_args offset count)
+write_bytes offset count =
     bytes_both (write_head offset count) (encodings (Opaque (written_bytes offset count) ∷ []))
-    (items-bytes (Opaque (hyper 2) ∷ Hyper offset ∷ Unsigned count ∷ Unsigned file_sync ∷ []) (hyper-bytes 2, (tt, (tt, (tt, tt)))))
-    (items-bytes (Opaque (written_bytes offset count) ∷ []) (places-bytes (range_with_len offset count), tt))
+    (items_bytes (Opaque (hyper 2) ∷ Hyper offset ∷ Unsigned count ∷ Unsigned file_sync ∷ []) (hyper_bytes 2, (tt, (tt, (tt, tt)))))
+    (items_bytes (Opaque (written_bytes offset count) ∷ []) (places_bytes (range_with_len offset count), tt))
 
-readdir-bytes : (count : ℕ) → IsBytes (readdir_args count)
-readdir-bytes count = items-bytes (Opaque (hyper 4) ∷ Hyper 0 ∷ Hyper 0 ∷ Unsigned count ∷ []) (hyper-bytes 4, (tt, (tt, (tt, tt))))
+readdir_bytes : (count : ℕ) → IsBytes (readdir_args count)
+readdir_bytes count = items_bytes (Opaque (hyper 4) ∷ Hyper 0 ∷ Hyper 0 ∷ Unsigned count ∷ []) (hyper_bytes 4, (tt, (tt, (tt, tt))))
 
 -- ===== calls
 
-small-if : (b : Bool) (x y : ℕ) → x < 2 ^ 32 → y < 2 ^ 32 → cond b x y < 2 ^ 32
-small-if true x y h g = h
-small-if false x y h g = g
+small_if : (b : Bool) (x y : ℕ) → x < 2 ^ 32 → y < 2 ^ 32 → cond b x y < 2 ^ 32
+small_if true x y h g = h
+small_if false x y h g = g
 
-bytes-if : (b : Bool) (x y : List ℕ) → IsBytes x → IsBytes y → IsBytes (cond b x y)
-bytes-if true x y h g = h
-bytes-if false x y h g = g
+bytes_if : (b : Bool) (x y : List ℕ) → IsBytes x → IsBytes y → IsBytes (cond b x y)
+bytes_if true x y h g = h
+bytes_if false x y h g = g
 
-proc-small : (kind : ℕ) → proc_drawn kind < 2 ^ 32
+proc_small : (kind : ℕ) → proc_drawn kind < 2 ^ 32
 unfolding proc_drawn
-proc-small kind =
-    small-if (eqb kind 0) _ _ (omega arith) (small-if (eqb kind 1) _ _ (omega arith) (small-if (eqb kind 2) _ _ (omega arith)
-    (small-if (eqb kind 3) _ _ (omega arith) (small-if (eqb kind 4) _ _ (omega arith) (omega arith)))))
+proc_small kind =
+    small_if (eqb kind 0) _ _ (omega arith) (small_if (eqb kind 1) _ _ (omega arith) (small_if (eqb kind 2) _ _ (omega arith)
+    (small_if (eqb kind 3) _ _ (omega arith) (small_if (eqb kind 4) _ _ (omega arith) (omega arith)))))
 
-args-bytes : (kind state : ℕ) → IsBytes (args_drawn kind state)
+args_bytes : (kind state : ℕ) → IsBytes (args_drawn kind state)
 unfolding args_drawn
-args-bytes kind state =
-    bytes-if (eqb kind 0) _ _ no-bytes
-    (bytes-if (eqb kind 1) _ _ (file-bytes 2)
-    (bytes-if (eqb kind 2) _ _ (read-bytes (below offsets_end (next state)) (below read_counts_end (next (next state))))
-    (bytes-if (eqb kind 3) _ _ (write-bytes (below offsets_end (next state)) (below write_counts_end (next (next state))))
-    (bytes-if (eqb kind 4) _ _ (readdir-bytes listing_count) (file-bytes 3)))))
+args_bytes kind state =
+    bytes_if (eqb kind 0) _ _ no_bytes_lem
+    (bytes_if (eqb kind 1) _ _ (file_bytes 2)
+    (bytes_if (eqb kind 2) _ _ (read_bytes_lem (below offsets_end (next state)) (below read_counts_end (next (next state))))
+    (bytes_if (eqb kind 3) _ _ (write_bytes (below offsets_end (next state)) (below write_counts_end (next (next state))))
+    (bytes_if (eqb kind 4) _ _ (readdir_bytes listing_count) (file_bytes 3)))))
 
 -- ===== lines
 
@@ -72,8 +72,8 @@ record LineIsMade (opening : Opening) (line : Line) : Type 0 where
   typed : IsTypedLine line
   cred : HasWritableCred line
 
-client-is : (opening : Opening) (state : ℕ) → 1 ≤ opening.clients → is_client opening (below opening.clients state + 1) ≡ true
-client-is opening state some =
+client_is_lem : (opening : Opening) (state : ℕ) → 1 ≤ opening.clients → is_client opening (below opening.clients state + 1) ≡ true
+client_is_lem opening state some =
     let low = mod_below (drawn state) opening.clients (omega (arith, some)) in
     both (leb 1 (below opening.clients state + 1)) (leb (below opening.clients state + 1) opening.clients)
     (le-leb 1 (below opening.clients state + 1) (omega arith)) (le-leb (below opening.clients state + 1) opening.clients (omega (arith, low)))
@@ -85,50 +85,50 @@ client-is opening state some =
 abbrev AreMade : Opening → List Line → Type 0
 AreMade opening all = AllByRecursion (LineIsMade opening) all
 
-move-if : (opening : Opening) (b : Bool) (x y : List Line) → AreMade opening x → AreMade opening y → AreMade opening (cond b x y)
-move-if opening true x y h g = h
-move-if opening false x y h g = g
+move_if : (opening : Opening) (b : Bool) (x y : List Line) → AreMade opening x → AreMade opening y → AreMade opening (cond b x y)
+move_if opening true x y h g = h
+move_if opening false x y h g = g
 
-move-made : (opening : Opening) (client kind state : ℕ) → is_client opening client ≡ true → AreMade opening (move_lines client kind state)
+move_made : (opening : Opening) (client kind state : ℕ) → is_client opening client ≡ true → AreMade opening (move_lines client kind state)
 unfolding move_lines
-move-made opening client kind state is =
-    move-if opening (eqb kind 0) _ _ tt
-    (move-if opening (eqb kind 1) _ _ (record { follows = λ before. is; typed = tt; cred = tt }, tt)
-    (move-if opening (eqb kind 2) _ _ (record { follows = λ before. is; typed = tt; cred = tt }, tt)
-    (move-if opening (eqb kind 3) _ _ (record { follows = λ before. is; typed = tt; cred = tt }, tt) (record { follows = λ before. refl; typed = tt; cred = tt }, tt))))
+move_made opening client kind state is =
+    move_if opening (eqb kind 0) _ _ tt
+    (move_if opening (eqb kind 1) _ _ (record { follows = λ before. is; typed = tt; cred = tt }, tt)
+    (move_if opening (eqb kind 2) _ _ (record { follows = λ before. is; typed = tt; cred = tt }, tt)
+    (move_if opening (eqb kind 3) _ _ (record { follows = λ before. is; typed = tt; cred = tt }, tt) (record { follows = λ before. refl; typed = tt; cred = tt }, tt))))
 
-call-line-made : (opening : Opening) (client kind state : ℕ) → is_client opening client ≡ true → LineIsMade opening (call_line client kind state)
-call-line-made opening client kind state is =
-    record { follows = λ before. is; typed = (tt, omega arith, omega arith, proc-small kind, args-bytes kind state); cred = tt }
+call_line_made : (opening : Opening) (client kind state : ℕ) → is_client opening client ≡ true → LineIsMade opening (call_line client kind state)
+call_line_made opening client kind state is =
+    record { follows = λ before. is; typed = (tt, omega arith, omega arith, proc_small kind, args_bytes kind state); cred = tt }
 
-turn-made : (opening : Opening) (client kind state : ℕ) → is_client opening client ≡ true → AreMade opening (turn_lines client kind state)
-turn-made opening client kind state is =
-    (call-line-made opening client kind state is, move-made opening client (below 5 (next (after_args kind state))) (next (after_args kind state)) is)
+turn_made : (opening : Opening) (client kind state : ℕ) → is_client opening client ≡ true → AreMade opening (turn_lines client kind state)
+turn_made opening client kind state is =
+    (call_line_made opening client kind state is, move_made opening client (below 5 (next (after_args kind state))) (next (after_args kind state)) is)
 
-lines-made : (opening : Opening) (calls state : ℕ) → 1 ≤ opening.clients → AreMade opening (drawn_lines opening.clients calls state)
-lines-made opening zero state some = (record { follows = λ before. refl; typed = tt; cred = tt }, tt)
-lines-made opening (suc calls) state some =
-    each-append (LineIsMade opening) (drawn_turn opening.clients state) (drawn_lines opening.clients calls (after_drawn_turn state))
-    (turn-made opening (below opening.clients (next state) + 1) (below 6 (next (next state))) (next (next state)) (client-is opening (next state) some))
-    (lines-made opening calls (after_drawn_turn state) some)
+lines_made : (opening : Opening) (calls state : ℕ) → 1 ≤ opening.clients → AreMade opening (drawn_lines opening.clients calls state)
+lines_made opening zero state some = (record { follows = λ before. refl; typed = tt; cred = tt }, tt)
+lines_made opening (suc calls) state some =
+    each_append (LineIsMade opening) (drawn_turn opening.clients state) (drawn_lines opening.clients calls (after_drawn_turn state))
+    (turn_made opening (below opening.clients (next state) + 1) (below 6 (next (next state))) (next (next state)) (client_is_lem opening (next state) some))
+    (lines_made opening calls (after_drawn_turn state) some)
 
-all-follow : (opening : Opening) (before all : List Line) → AreMade opening all → FollowOn opening before all
-all-follow opening before [] h = tt
-all-follow opening before (line ∷ all) h = (h.0.follows before, all-follow opening (before ++ line ∷ []) all h.1)
+all_follow : (opening : Opening) (before all : List Line) → AreMade opening all → FollowOn opening before all
+all_follow opening before [] h = tt
+all_follow opening before (line ∷ all) h = (h.0.follows before, all_follow opening (before ++ line ∷ []) all h.1)
 
-all-typed : (opening : Opening) (all : List Line) → AreMade opening all → AllByRecursion IsTypedLine all
-all-typed opening [] h = tt
-all-typed opening (line ∷ all) h = (h.0.typed, all-typed opening all h.1)
+all_typed_lem : (opening : Opening) (all : List Line) → AreMade opening all → AllByRecursion IsTypedLine all
+all_typed_lem opening [] h = tt
+all_typed_lem opening (line ∷ all) h = (h.0.typed, all_typed_lem opening all h.1)
 
-all-creds : (opening : Opening) (all : List Line) → AreMade opening all → AllByRecursion HasWritableCred all
-all-creds opening [] h = tt
-all-creds opening (line ∷ all) h = (h.0.cred, all-creds opening all h.1)
+all_creds : (opening : Opening) (all : List Line) → AreMade opening all → AllByRecursion HasWritableCred all
+all_creds opening [] h = tt
+all_creds opening (line ∷ all) h = (h.0.cred, all_creds opening all h.1)
 
 pub made_is : (seed clients calls : ℕ) → 1 ≤ clients → clients ≤ most_clients → IsScript (made_script seed clients calls)
 unfolding made_script
 made_is seed clients calls some few =
     let opening : Opening = record { clients = clients; credits = drawn_credits; capacity = default_capacity } in
-    let made = lines-made opening calls seed some in
+    let made = lines_made opening calls seed some in
     let all = drawn_lines clients calls seed in
     record {
       some_clients = some;
@@ -136,7 +136,7 @@ made_is seed clients calls some few =
       some_credits = omega arith;
       few_credits = omega arith;
       capacity = omega arith;
-      follow_on = all-follow opening [] all made;
-      creds = all-creds opening all made;
-      typed = all-typed opening all made;
+      follow_on = all_follow opening [] all made;
+      creds = all_creds opening all made;
+      typed = all_typed_lem opening all made;
     }

@@ -18,14 +18,14 @@ both true b e = (refl, e)
 both false b e = absurd cc
 
 -- a numeral has digits alone, of which there is one
-digits-of : (word : List ℕ) → is_numeral word ≡ true → (list_all is_digit word ≡ true) × (0 < length word)
-digits-of [] e = absurd cc
-digits-of (c ∷ []) e = (one (is_digit c) e, omega arith)
+digits_of : (word : List ℕ) → is_numeral word ≡ true → (list_all is_digit word ≡ true) × (0 < length word)
+digits_of [] e = absurd cc
+digits_of (c ∷ []) e = (one (is_digit c) e, omega arith)
   where
     one : (b : Bool) → b ≡ true → b && true ≡ true
     one true e = refl
     one false e = absurd cc
-digits-of (c ∷ d ∷ others) e = ((both (not (eqb c 48)) (list_all is_digit (c ∷ d ∷ others)) e).1, omega arith)
+digits_of (c ∷ d ∷ others) e = ((both (not (eqb c 48)) (list_all is_digit (c ∷ d ∷ others)) e).1, omega arith)
 
 ascii : (word : List ℕ) → list_all is_digit word ≡ true → IsAscii word
 ascii [] e = IsAscii-nil
@@ -36,14 +36,14 @@ ascii (c ∷ word) e =
     IsAscii-cons c word (omega (arith, most)) (ascii word parts.1)
 
 pub not_text : (word : List ℕ) → is_numeral word ≡ true → ¬ (IsUtf8 word) → ⊥
-not_text word e bad = bad (IsUtf8-from_ascii word (ascii word (digits-of word e).0))
+not_text word e bad = bad (IsUtf8-from_ascii word (ascii word (digits_of word e).0))
 
 -- what a numeral is parsed as
 pub parsed : {E : Type 0} (word text : List ℕ) (r : Result ℕ E) (o : Option ℕ) → text ≡ word → is_numeral word ≡ true → ParsesUnsigned 64 10 text r → o ≡ result_ok r →
     o ≡ cond (is_numeral word && ltb (numeral_value word) 18446744073709551616) (Some (numeral_value word)) None
 unfolding numeral_value
 parsed {E = E} word text r o same numeral p e =
-    let digits = digits-of word numeral in
+    let digits = digits_of word numeral in
     e ∙ by r (parse_digits own 64 word r (subst (λ (t : List ℕ). ParsesUnsigned 64 10 t r) same p) digits.0)
     ∙ sym (ap (λ (b : Bool). cond (b && ltb v 18446744073709551616) (Some v) None) numeral)
   where
@@ -56,5 +56,5 @@ parsed {E = E} word text r o same numeral p e =
         sym (ap (λ (b : Bool). cond b (Some v) None) (not-below (ltb v 18446744073709551616) refl))
       where
         not-below : (b : Bool) → ltb v 18446744073709551616 ≡ b → ltb v 18446744073709551616 ≡ false
-        not-below true is = absurd (h ((digits-of word numeral).1, ltb-true v 18446744073709551616 is))
+        not-below true is = absurd (h ((digits_of word numeral).1, ltb-true v 18446744073709551616 is))
         not-below false is = is

@@ -3,12 +3,12 @@ use Rattle.nr_outside.specs.declared.whole.ReadEnd.{ReadEnd}
 use Rattle.nr_outside.specs.declared.whole.ReadEnd.TheVariants as ends
 use Rattle.nr_world.specs.declared.script.ScriptFault.{ScriptFault}
 use Rattle.nr_world.specs.declared.script.ScriptFault.TheVariants as faults
-use Rattle.nr_top.specs.declared.command.Stop.{Stop}
-use Rattle.nr_top.specs.declared.command.Stop.TheVariants as stops
+use Rattle.nr_top.specs.declared.command.Failure.{Failure}
+use Rattle.nr_top.specs.declared.command.Failure.TheVariants as stops
 use Rattle.nr_top.specs.Ends.{Cause}
 use Rattle.nr_top.specs.Ends.Cause.{BadArguments, NoMemory, InputFault, OutputFault, BadScript, OverBudget}
 
-abbrev pub cause_of : Stop → Cause
+abbrev pub cause_of : Failure → Cause
 cause_of stops.Arguments = BadArguments
 cause_of stops.Memory = NoMemory
 cause_of stops.Input = InputFault
@@ -16,11 +16,11 @@ cause_of stops.Output = OutputFault
 cause_of (stops.Script line) = BadScript line
 cause_of stops.Budget = OverBudget
 
-abbrev pub stop_of_read : ReadEnd → Stop
-stop_of_read ends.Failed = stops.Input
-stop_of_read ends.TooLong = stops.Budget
-stop_of_read ends.Memory = stops.Memory
+abbrev pub failure_of_read : ReadEnd → Failure
+failure_of_read ends.Failed = stops.Input
+failure_of_read ends.TooLong = stops.Budget
+failure_of_read ends.Memory = stops.Memory
 
-abbrev pub stop_of_script : ScriptFault → Stop
+abbrev pub stop_of_script : ScriptFault → Failure
 stop_of_script (faults.BadLine line) = stops.Script line
 stop_of_script faults.Memory = stops.Memory

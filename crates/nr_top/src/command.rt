@@ -4,7 +4,7 @@ ghost use Rattle.std.specs.Prelude.{◌≡◌, true, false, map, IfOk, MatchResu
 ghost use Rattle.std.specs.String.{string_bytes};
 ghost use Rattle.nr_top.specs.Arguments.{is_drill};
 ghost use Rattle.nr_top.specs.Causes.{cause_of};
-ghost use Rattle.nr_top.specs.Ends.{Ends, Done, IsPrinted, ReadsScript, Stopped, StoppedReading, Shown, Spoke, Says, input_at, sink_at};
+ghost use Rattle.nr_top.specs.Ends.{Ends, Done, IsPrinted, ReadsScript, Stopped, StoppedReading, Shown, Reported, Reports, input_at, sink_at};
 ghost use Rattle.nr_top.specs.Ends.Cause.{NoMemory, BadArguments, BadScript};
 
 use crate::status::{BAD_ARGUMENTS, BAD_SCRIPT, DONE, FAULT, NO_MEMORY, OVER_BUDGET};
@@ -15,7 +15,7 @@ use std::alloc::Global;
 
 /// Why a command wasn't done.
 #[derive(Clone, Copy)]
-enum Stop {
+enum Failure {
     Arguments,
     Memory,
     Input,
@@ -24,40 +24,40 @@ enum Stop {
     Budget,
 }
 
-impl From<ReadEnd> for Stop {
-    ghost use Rattle.nr_top.specs.Causes.{stop_of_read};
+impl From<ReadEnd> for Failure {
+    ghost use Rattle.nr_top.specs.Causes.{failure_of_read};
 
-    ghost from_gives = { λ end stop. stop ≡ stop_of_read end };
+    ghost from_gives = { λ end stop. stop ≡ failure_of_read end };
 
-    fn from(end: ReadEnd) -> Stop {
+    fn from(end: ReadEnd) -> Failure {
         match end {
-            ReadEnd::Failed => Stop::Input,
-            ReadEnd::TooLong => Stop::Budget,
-            ReadEnd::Memory => Stop::Memory,
+            ReadEnd::Failed => Failure::Input,
+            ReadEnd::TooLong => Failure::Budget,
+            ReadEnd::Memory => Failure::Memory,
         }
     }
 }
 
-impl From<ScriptFault> for Stop {
+impl From<ScriptFault> for Failure {
     ghost use Rattle.nr_top.specs.Causes.{stop_of_script};
 
     ghost from_gives = { λ fault stop. stop ≡ stop_of_script fault };
 
-    fn from(fault: ScriptFault) -> Stop {
+    fn from(fault: ScriptFault) -> Failure {
         match fault {
-            ScriptFault::BadLine { line } => Stop::Script { line },
-            ScriptFault::Memory => Stop::Memory,
+            ScriptFault::BadLine { line } => Failure::Script { line },
+            ScriptFault::Memory => Failure::Memory,
         }
     }
 }
 
-impl From<Memory> for Stop {
-    ghost use Rattle.nr_top.specs.declared.command.Stop.TheVariants as stops;
+impl From<Memory> for Failure {
+    ghost use Rattle.nr_top.specs.declared.command.Failure.TheVariants as stops;
 
     ghost from_gives = { λ _ stop. stop ≡ stops.Memory };
 
-    fn from(_e: Memory) -> Stop {
-        Stop::Memory
+    fn from(_e: Memory) -> Failure {
+        Failure::Memory
     }
 }
 
@@ -69,7 +69,7 @@ fn is_drill(arguments: &[String]) -> bool
 }
 
 /// Reads a script.
-fn read_drill<I: Source>(alloc: Global, input: &mut I) -> Result<Script, Stop>
+fn read_drill<I: Source>(alloc: Global, input: &mut I) -> Result<Script, Failure>
     ensures { MatchResult result
         (λ script. ReadsScript (input_at (I.left input.old) (I.given input.old) (I.faults input.old))
         (input_at (I.left input.new) (I.given input.new) (I.faults input.new)) script)
@@ -90,7 +90,7 @@ fn printed_drill(alloc: Global, script: &Script) -> Result<Octets, Memory>
 }
 
 /// Reads a script and runs it, and gives what is printed of that.
-fn shown_drill<I: Source>(alloc: Global, input: &mut I) -> Result<Octets, Stop>
+fn shown_drill<I: Source>(alloc: Global, input: &mut I) -> Result<Octets, Failure>
     ensures { MatchResult result
         (λ text. Shown (input_at (I.left input.old) (I.given input.old) (I.faults input.old))
         (input_at (I.left input.new) (I.given input.new) (I.faults input.new)) text)
@@ -108,7 +108,7 @@ fn drill<I: Source, O: Sink>(
     arguments: &[String],
     input: &mut I,
     out: &mut O,
-) -> Result<(), Stop>
+) -> Result<(), Failure>
     ensures { MatchResult result
         (λ _. Done (map string_bytes arguments.now) (input_at (I.left input.old) (I.given input.old) (I.faults input.old))
         (input_at (I.left input.new) (I.given input.new) (I.faults input.new))
@@ -118,18 +118,18 @@ fn drill<I: Source, O: Sink>(
         (sink_at (O.taken out.old) (O.faults out.old)) (sink_at (O.taken out.new) (O.faults out.new))) }
 {
     if !is_drill(arguments) {
-        return Err(Stop::Arguments);
+        return Err(Failure::Arguments);
     }
     let printed = shown_drill(alloc, input)?;
     match write_whole(out, printed.as_slice()) {
         Ok(()) => Ok(()),
-        Err(_) => Err(Stop::Output),
+        Err(_) => Err(Failure::Output),
     }
 }
 
 /// Writes a text to `err`, and gives this status, or that of a fault.
-fn speak<E: Sink>(err: &mut E, text: &[u8], status: u8) -> u8
-    ensures { Spoke status text.now result (sink_at (E.taken err.old) (E.faults err.old)) (sink_at (E.taken err.new) (E.faults err.new)) }
+fn write_error<E: Sink>(err: &mut E, text: &[u8], status: u8) -> u8
+    ensures { Reported status text.now result (sink_at (E.taken err.old) (E.faults err.old)) (sink_at (E.taken err.new) (E.faults err.new)) }
 {
     match write_whole(err, text) {
         Ok(()) => status,
@@ -139,39 +139,39 @@ fn speak<E: Sink>(err: &mut E, text: &[u8], status: u8) -> u8
 
 /// Reports the first bad line on `err`, and gives the status. Where there is no memory for the text, that is reported.
 #[tactic(auto, unfolding(crate::specs::Ends::bad_line_text))]
-fn say_bad_line<E: Sink>(alloc: Global, line: u64, err: &mut E) -> u8
-    ensures { Says (BadScript line) result (sink_at (E.taken err.old) (E.faults err.old)) (sink_at (E.taken err.new) (E.faults err.new)) }
+fn report_bad_line<E: Sink>(alloc: Global, line: u64, err: &mut E) -> u8
+    ensures { Reports (BadScript line) result (sink_at (E.taken err.old) (E.faults err.old)) (sink_at (E.taken err.new) (E.faults err.new)) }
 {
     match format!(in alloc; "bad line {line}\n") {
-        Ok(text) => speak(err, text.as_bytes(), BAD_SCRIPT),
-        Err(_) => speak(err, b"memory\n", NO_MEMORY),
+        Ok(text) => write_error(err, text.as_bytes(), BAD_SCRIPT),
+        Err(_) => write_error(err, b"memory\n", NO_MEMORY),
     }
 }
 
 /// Reports on `err` why the command wasn't done, and gives the status.
-fn say<E: Sink>(alloc: Global, stop: Stop, err: &mut E) -> u8
-    ensures { Says (cause_of stop) result (sink_at (E.taken err.old) (E.faults err.old)) (sink_at (E.taken err.new) (E.faults err.new)) }
+fn report_failure<E: Sink>(alloc: Global, stop: Failure, err: &mut E) -> u8
+    ensures { Reports (cause_of stop) result (sink_at (E.taken err.old) (E.faults err.old)) (sink_at (E.taken err.new) (E.faults err.new)) }
 {
     match stop {
-        Stop::Arguments => speak(err, b"bad words\n", BAD_ARGUMENTS),
-        Stop::Memory => speak(err, b"memory\n", NO_MEMORY),
-        Stop::Input => speak(err, b"input fault\n", FAULT),
-        Stop::Output => speak(err, b"output fault\n", FAULT),
-        Stop::Budget => speak(err, b"budget 16777216\n", OVER_BUDGET),
-        Stop::Script { line } => say_bad_line(alloc, line, err),
+        Failure::Arguments => write_error(err, b"bad words\n", BAD_ARGUMENTS),
+        Failure::Memory => write_error(err, b"memory\n", NO_MEMORY),
+        Failure::Input => write_error(err, b"input fault\n", FAULT),
+        Failure::Output => write_error(err, b"output fault\n", FAULT),
+        Failure::Budget => write_error(err, b"budget 16777216\n", OVER_BUDGET),
+        Failure::Script { line } => report_bad_line(alloc, line, err),
     }
 }
 
 /// Reports on `err` why the arguments can't be had, and gives the status: memory ran out for them, or one of them isn't
 /// UTF-8.
 pub fn refuse<E: Sink>(err: &mut E, memory: bool) -> u8
-    ensures memory { memory ≡ true → Says NoMemory result (sink_at (E.taken err.old) (E.faults err.old)) (sink_at (E.taken err.new) (E.faults err.new)) }
-    ensures arguments { memory ≡ false → Says BadArguments result (sink_at (E.taken err.old) (E.faults err.old)) (sink_at (E.taken err.new) (E.faults err.new)) }
+    ensures memory { memory ≡ true → Reports NoMemory result (sink_at (E.taken err.old) (E.faults err.old)) (sink_at (E.taken err.new) (E.faults err.new)) }
+    ensures arguments { memory ≡ false → Reports BadArguments result (sink_at (E.taken err.old) (E.faults err.old)) (sink_at (E.taken err.new) (E.faults err.new)) }
 {
     if memory {
-        speak(err, b"memory\n", NO_MEMORY)
+        write_error(err, b"memory\n", NO_MEMORY)
     } else {
-        speak(err, b"bad words\n", BAD_ARGUMENTS)
+        write_error(err, b"bad words\n", BAD_ARGUMENTS)
     }
 }
 
@@ -198,6 +198,6 @@ pub fn run<I: Source, O: Sink, E: Sink>(
 {
     match drill(alloc, arguments, input, out) {
         Ok(()) => DONE,
-        Err(stop) => say(alloc, stop, err),
+        Err(stop) => report_failure(alloc, stop, err),
     }
 }

@@ -9,12 +9,12 @@ use Rattle.std.specs.FinMap.{FinMap, get, insert, remove, get-insert, get-remove
 use Rattle.nr_nfs_base.specs.declared.time.Time.{Time}
 use Rattle.nr_tree.specs.Entries.{Entry, entry_of_name, is_name, list_without, CookiesAscend, NamesAreValid}
 use Rattle.nr_tree.specs.Tree.{value_at, nodes_with_change, is_dir, entries_in}
-use Rattle.nr_tree.specs.Sane.{IsFitContent}
+use Rattle.nr_tree.specs.Sane.{IsValidContent}
 use Rattle.nr_tree.specs.Changes.{node_with_entry, node_without_entry}
 use Rattle.nr_tree.specs.declared.node.Node.{Node}
 use Rattle.nr_tree.specs.declared.node.Content.{Content}
 use Rattle.nr_tree.specs.declared.node.Content.TheVariants.{Regular, Directory, Block, Character, Link, Socket, Fifo}
-use Rattle.nr_tree.proofs.SkeletonChanges.{with_change-at, value_at-at}
+use Rattle.nr_tree.proofs.SkeletonChanges.{with_change_at, value_at_at}
 
 -- ===== lists
 
@@ -22,17 +22,17 @@ rise_from : (low from : ℕ) (es : List Entry) (next : ℕ) → low ≤ from →
 rise_from low from [] next le r = omega (arith, le, r)
 rise_from low from (e ∷ es) next le r = (omega (arith, le, r.0), r.1)
 
-pub CookiesAscend-append : (from : ℕ) (es : List Entry) (next : ℕ) (e : Entry) → e.cookie ≡ next → CookiesAscend from es next → CookiesAscend from (es ++ e ∷ []) (next + 1)
-CookiesAscend-append from [] next e same r = (omega (arith, same, r), omega (arith, same))
-CookiesAscend-append from (x ∷ es) next e same r = (r.0, CookiesAscend-append (x.cookie + 1) es next e same r.1)
+pub CookiesAscend_append : (from : ℕ) (es : List Entry) (next : ℕ) (e : Entry) → e.cookie ≡ next → CookiesAscend from es next → CookiesAscend from (es ++ e ∷ []) (next + 1)
+CookiesAscend_append from [] next e same r = (omega (arith, same, r), omega (arith, same))
+CookiesAscend_append from (x ∷ es) next e same r = (r.0, CookiesAscend_append (x.cookie + 1) es next e same r.1)
 
 rise_step : (b : Bool) (from : ℕ) (e : Entry) (es rest : List Entry) (next : ℕ) → from ≤ e.cookie → CookiesAscend (e.cookie + 1) es next → CookiesAscend (e.cookie + 1) rest next → CookiesAscend from (cond b es (e ∷ rest)) next
 rise_step true from e es rest next le r k = rise_from from (e.cookie + 1) es next (omega (arith, le)) r
 rise_step false from e es rest next le r k = (le, k)
 
-pub CookiesAscend-list_without : (from : ℕ) (name : List ℕ) (es : List Entry) (next : ℕ) → CookiesAscend from es next → CookiesAscend from (list_without name es) next
-CookiesAscend-list_without from name [] next r = r
-CookiesAscend-list_without from name (e ∷ es) next r = rise_step (is_name name e) from e es (list_without name es) next r.0 r.1 (CookiesAscend-list_without (e.cookie + 1) name es next r.1)
+pub CookiesAscend_list_without : (from : ℕ) (name : List ℕ) (es : List Entry) (next : ℕ) → CookiesAscend from es next → CookiesAscend from (list_without name es) next
+CookiesAscend_list_without from name [] next r = r
+CookiesAscend_list_without from name (e ∷ es) next r = rise_step (is_name name e) from e es (list_without name es) next r.0 r.1 (CookiesAscend_list_without (e.cookie + 1) name es next r.1)
 
 -- a name that isn't found isn't the first one's, and isn't found behind it
 pub found_none : (b : Bool) (x : Entry) (o : Option Entry) → cond b (Some x) o ≡ None → (b ≡ false) × (o ≡ None)
@@ -45,11 +45,11 @@ none_append name (x ∷ es) e z f =
     let p : (is_name name x ≡ false) × (entry_of_name name es ≡ None) = found_none (is_name name x) x (entry_of_name name es) z in
     ap (λ (b : Bool). cond b (Some x) (entry_of_name name (es ++ e ∷ []))) p.0 ∙ none_append name es e p.1 f
 
-pub NamesAreValid-append : (es : List Entry) (e : Entry) → entry_of_name e.name es ≡ None → 0 < length e.name → length e.name ≤ 255 → NamesAreValid es → NamesAreValid (es ++ e ∷ [])
-NamesAreValid-append [] e z some few n = (some, few, refl, tt)
-NamesAreValid-append (x ∷ es) e z some few n =
+pub NamesAreValid_append : (es : List Entry) (e : Entry) → entry_of_name e.name es ≡ None → 0 < length e.name → length e.name ≤ 255 → NamesAreValid es → NamesAreValid (es ++ e ∷ [])
+NamesAreValid_append [] e z some few n = (some, few, refl, tt)
+NamesAreValid_append (x ∷ es) e z some few n =
     let p : (is_name e.name x ≡ false) × (entry_of_name e.name es ≡ None) = found_none (is_name e.name x) x (entry_of_name e.name es) z in
-    (n.0, n.1, none_append x.name es e n.2 (nat_list_eq_equiv.symm x.name e.name ∙ p.0), NamesAreValid-append es e p.1 some few n.3)
+    (n.0, n.1, none_append x.name es e n.2 (nat_list_eq_equiv.symm x.name e.name ∙ p.0), NamesAreValid_append es e p.1 some few n.3)
 
 none_step : (b c : Bool) (x : Entry) (o p : Option Entry) → b ≡ false → o ≡ None → p ≡ None → cond b (Some x) p ≡ None
 none_step true c x o p f z k = absurd cc
@@ -70,9 +70,9 @@ names_step : (b : Bool) (e : Entry) (es rest : List Entry) → NamesAreValid (e 
 names_step true e es rest n z k = n.3
 names_step false e es rest n z k = (n.0, n.1, z, k)
 
-pub NamesAreValid-list_without : (name : List ℕ) (es : List Entry) → NamesAreValid es → NamesAreValid (list_without name es)
-NamesAreValid-list_without name [] n = tt
-NamesAreValid-list_without name (e ∷ es) n = names_step (is_name name e) e es (list_without name es) n (none_without e.name name es n.2) (NamesAreValid-list_without name es n.3)
+pub NamesAreValid_list_without : (name : List ℕ) (es : List Entry) → NamesAreValid es → NamesAreValid (list_without name es)
+NamesAreValid_list_without name [] n = tt
+NamesAreValid_list_without name (e ∷ es) n = names_step (is_name name e) e es (list_without name es) n (none_without e.name name es n.2) (NamesAreValid_list_without name es n.3)
 
 gone_step : (b : Bool) (name : List ℕ) (x : Entry) (es rest : List Entry) → is_name name x ≡ b → (b ≡ true → entry_of_name name es ≡ None) → entry_of_name name rest ≡ None → entry_of_name name (cond b es (x ∷ rest)) ≡ None
 gone_step true name x es rest t h k = h refl
@@ -97,51 +97,51 @@ gone_without name (x ∷ es) n = gone_step (is_name name x) name x es (list_with
 
 -- ===== nodes
 
-pub fit-node_with_entry : (now : Time) (name : List ℕ) (n : ℕ) (b : Bool) (v : Node) (c : Content) → v.content ≡ c → IsFitContent c → entry_of_name name (entries_in v) ≡ None → 0 < length name → length name ≤ 255
-    → IsFitContent (node_with_entry now name n b v).content
-fit-node_with_entry now name n b v (Directory d) e fit z some few =
+pub fit_node_with_entry : (now : Time) (name : List ℕ) (n : ℕ) (b : Bool) (v : Node) (c : Content) → v.content ≡ c → IsValidContent c → entry_of_name name (entries_in v) ≡ None → 0 < length name → length name ≤ 255
+    → IsValidContent (node_with_entry now name n b v).content
+fit_node_with_entry now name n b v (Directory d) e fit z some few =
     let free : entry_of_name name d.list ≡ None = rw (e) at z in
     rw (e) (
-      CookiesAscend-append 1 d.list d.next_cookie (record { cookie = d.next_cookie; name = name; number = n }) refl fit.0,
-      NamesAreValid-append d.list (record { cookie = d.next_cookie; name = name; number = n }) free some few fit.1,
+      CookiesAscend_append 1 d.list d.next_cookie (record { cookie = d.next_cookie; name = name; number = n }) refl fit.0,
+      NamesAreValid_append d.list (record { cookie = d.next_cookie; name = name; number = n }) free some few fit.1,
     )
-fit-node_with_entry now name n b v (Regular bytes) e fit z some few = rw (e) fit
-fit-node_with_entry now name n b v (Block device) e fit z some few = rw (e) tt
-fit-node_with_entry now name n b v (Character device) e fit z some few = rw (e) tt
-fit-node_with_entry now name n b v (Link path) e fit z some few = rw (e) fit
-fit-node_with_entry now name n b v Socket e fit z some few = rw (e) tt
-fit-node_with_entry now name n b v Fifo e fit z some few = rw (e) tt
+fit_node_with_entry now name n b v (Regular bytes) e fit z some few = rw (e) fit
+fit_node_with_entry now name n b v (Block device) e fit z some few = rw (e) tt
+fit_node_with_entry now name n b v (Character device) e fit z some few = rw (e) tt
+fit_node_with_entry now name n b v (Link path) e fit z some few = rw (e) fit
+fit_node_with_entry now name n b v Socket e fit z some few = rw (e) tt
+fit_node_with_entry now name n b v Fifo e fit z some few = rw (e) tt
 
-pub fit-node_without_entry : (now : Time) (name : List ℕ) (b : Bool) (v : Node) (c : Content) → v.content ≡ c → IsFitContent c → IsFitContent (node_without_entry now name b v).content
-fit-node_without_entry now name b v (Directory d) e fit = rw (e) (CookiesAscend-list_without 1 name d.list d.next_cookie fit.0, NamesAreValid-list_without name d.list fit.1)
-fit-node_without_entry now name b v (Regular bytes) e fit = rw (e) fit
-fit-node_without_entry now name b v (Block device) e fit = rw (e) tt
-fit-node_without_entry now name b v (Character device) e fit = rw (e) tt
-fit-node_without_entry now name b v (Link path) e fit = rw (e) fit
-fit-node_without_entry now name b v Socket e fit = rw (e) tt
-fit-node_without_entry now name b v Fifo e fit = rw (e) tt
+pub fit_node_without_entry : (now : Time) (name : List ℕ) (b : Bool) (v : Node) (c : Content) → v.content ≡ c → IsValidContent c → IsValidContent (node_without_entry now name b v).content
+fit_node_without_entry now name b v (Directory d) e fit = rw (e) (CookiesAscend_list_without 1 name d.list d.next_cookie fit.0, NamesAreValid_list_without name d.list fit.1)
+fit_node_without_entry now name b v (Regular bytes) e fit = rw (e) fit
+fit_node_without_entry now name b v (Block device) e fit = rw (e) tt
+fit_node_without_entry now name b v (Character device) e fit = rw (e) tt
+fit_node_without_entry now name b v (Link path) e fit = rw (e) fit
+fit_node_without_entry now name b v Socket e fit = rw (e) tt
+fit_node_without_entry now name b v Fifo e fit = rw (e) tt
 
 -- ===== maps
 
 abbrev pub Fit : FinMap nat_cmp Node → Type 0
-Fit nodes = (n : ℕ) (node : Node) → get nodes n ≡ Some node → IsFitContent node.content
+Fit nodes = (n : ℕ) (node : Node) → get nodes n ≡ Some node → IsValidContent node.content
 
-insert_at : (b : Bool) (w node : Node) (o : Option Node) → cond b (Some w) o ≡ Some node → IsFitContent w.content → (o ≡ Some node → IsFitContent node.content) → IsFitContent node.content
-insert_at true w node o e fit k = let same : w ≡ node = cc in subst (λ (x : Node). IsFitContent x.content) same fit
+insert_at : (b : Bool) (w node : Node) (o : Option Node) → cond b (Some w) o ≡ Some node → IsValidContent w.content → (o ≡ Some node → IsValidContent node.content) → IsValidContent node.content
+insert_at true w node o e fit k = let same : w ≡ node = cc in subst (λ (x : Node). IsValidContent x.content) same fit
 insert_at false w node o e fit k = k e
 
-pub fit-insert : (nodes : FinMap nat_cmp Node) (k : ℕ) (w : Node) → Fit nodes → IsFitContent w.content → Fit (insert nodes k w)
-fit-insert nodes k w all fit n node e = insert_at (eq_by_cmp nat_cmp n k) w node (get nodes n) (sym (get-insert nat_cmp_total nodes k w n) ∙ e) fit (all n node)
+pub fit_insert : (nodes : FinMap nat_cmp Node) (k : ℕ) (w : Node) → Fit nodes → IsValidContent w.content → Fit (insert nodes k w)
+fit_insert nodes k w all fit n node e = insert_at (eq_by_cmp nat_cmp n k) w node (get nodes n) (sym (get-insert nat_cmp_total nodes k w n) ∙ e) fit (all n node)
 
-remove_at : (b : Bool) (node : Node) (o : Option Node) → cond b None o ≡ Some node → (o ≡ Some node → IsFitContent node.content) → IsFitContent node.content
+remove_at : (b : Bool) (node : Node) (o : Option Node) → cond b None o ≡ Some node → (o ≡ Some node → IsValidContent node.content) → IsValidContent node.content
 remove_at true node o e k = absurd cc
 remove_at false node o e k = k e
 
-pub fit-remove : (nodes : FinMap nat_cmp Node) (k : ℕ) → Fit nodes → Fit (remove nodes k)
-fit-remove nodes k all n node e = remove_at (eq_by_cmp nat_cmp n k) node (get nodes n) (sym (get-remove nat_cmp_total nodes k n) ∙ e) (all n node)
+pub fit_remove : (nodes : FinMap nat_cmp Node) (k : ℕ) → Fit nodes → Fit (remove nodes k)
+fit_remove nodes k all n node e = remove_at (eq_by_cmp nat_cmp n k) node (get nodes n) (sym (get-remove nat_cmp_total nodes k n) ∙ e) (all n node)
 
-pub fit-with_change : (nodes : FinMap nat_cmp Node) (k : ℕ) (v : Node) (change : Node → Node) → get nodes k ≡ Some v → Fit nodes → (IsFitContent v.content → IsFitContent (change v).content) → Fit (nodes_with_change nodes k change)
-fit-with_change nodes k v change e all step = subst Fit (sym (with_change-at nodes k v change e)) (fit-insert nodes k (change v) all (step (all k v e)))
+pub fit_with_change : (nodes : FinMap nat_cmp Node) (k : ℕ) (v : Node) (change : Node → Node) → get nodes k ≡ Some v → Fit nodes → (IsValidContent v.content → IsValidContent (change v).content) → Fit (nodes_with_change nodes k change)
+fit_with_change nodes k v change e all step = subst Fit (sym (with_change_at nodes k v change e)) (fit_insert nodes k (change v) all (step (all k v e)))
 
 abbrev pub Named : FinMap nat_cmp Node → ℕ → Type 0
 Named nodes k = (v : Node) × (get nodes k ≡ Some v)
@@ -161,7 +161,7 @@ live_node (Some v) t = (v, refl)
 pub node_at : (nodes : FinMap nat_cmp Node) (k : ℕ) → value_at (λ node. true) false nodes k ≡ true → Named nodes k
 node_at nodes k t = live_node (get nodes k) t
 
-names_by : (v : Node) (c : Content) → v.content ≡ c → IsFitContent c → NamesAreValid (entries_in v)
+names_by : (v : Node) (c : Content) → v.content ≡ c → IsValidContent c → NamesAreValid (entries_in v)
 names_by v (Directory d) e fit = rw (e) fit.1
 names_by v (Regular bytes) e fit = rw (e) tt
 names_by v (Block device) e fit = rw (e) tt
@@ -171,7 +171,7 @@ names_by v Socket e fit = rw (e) tt
 names_by v Fifo e fit = rw (e) tt
 
 -- the names of a directory differ
-pub names-at : (nodes : FinMap nat_cmp Node) (k : ℕ) → Fit nodes → value_at is_dir false nodes k ≡ true → NamesAreValid (value_at entries_in [] nodes k)
-names-at nodes k fit t =
+pub names_at : (nodes : FinMap nat_cmp Node) (k : ℕ) → Fit nodes → value_at is_dir false nodes k ≡ true → NamesAreValid (value_at entries_in [] nodes k)
+names_at nodes k fit t =
     let v : (v : Node) × (get nodes k ≡ Some v) × (is_dir v ≡ true) = directory_at nodes k t in
-    subst NamesAreValid (sym (value_at-at entries_in [] nodes k v.0 v.1)) (names_by v.0 v.0.content refl (fit k v.0 v.1))
+    subst NamesAreValid (sym (value_at_at entries_in [] nodes k v.0 v.1)) (names_by v.0 v.0.content refl (fit k v.0 v.1))

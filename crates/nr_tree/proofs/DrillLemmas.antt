@@ -65,9 +65,9 @@ cookie_up now name n b limit v Fifo e lt = rw (e) (omega arith)
 is_it : (v w : Node) (o : Option Node) → o ≡ Some w → o ≡ Some v → w ≡ v
 is_it v w o a b = let both : Some w ≡ Some v = sym a ∙ b in cc
 
-pub below-add_node : (t : Tree) (now : Time) (d : ℕ) (name : List ℕ) (node : Node) (limit : ℕ) → (d ≡ t.next → ⊥) → IsBelow limit t → (v : Node) × (get t.nodes d ≡ Some v) → next_cookie_of node.content < limit
+pub below_add_node : (t : Tree) (now : Time) (d : ℕ) (name : List ℕ) (node : Node) (limit : ℕ) → (d ≡ t.next → ⊥) → IsBelow limit t → (v : Node) × (get t.nodes d ≡ Some v) → next_cookie_of node.content < limit
     → IsBelow (limit + 1) (tree_with_node t now d name node)
-below-add_node t now d name node limit ne below dir low = record { next = omega (arith, below.next); cookies = λ n v e. by n v e (cases_eq n d) (cases_eq n t.next) } where
+below_add_node t now d name node limit ne below dir low = record { next = omega (arith, below.next); cookies = λ n v e. by n v e (cases_eq n d) (cases_eq n t.next) } where
   by : (n : ℕ) (v : Node) → get (tree_with_node t now d name node).nodes n ≡ Some v → (n ≡ d) ⊎ (n ≡ d → ⊥) → (n ≡ t.next) ⊎ (n ≡ t.next → ⊥) → next_cookie_of v.content < limit + 1
   by n v e (inl z) r =
       subst (λ (x : Node). next_cookie_of x.content < limit + 1)
@@ -91,8 +91,8 @@ pub no_other_at : (now : Time) (q : ℕ) → (q ≡ 1 → ⊥) → get (root_onl
 no_other_at now q ne =
     get-insert nat_cmp_total no_nodes 1 (root_node now) q ∙ ap (λ (b : Bool). cond b (Some (root_node now)) (get no_nodes q)) (other_key q 1 ne) ∙ get-empty nat_cmp q
 
-pub below-root_only : (now : Time) → IsBelow 3 (root_only now)
-below-root_only now = record { next = omega arith; cookies = λ n v e. by n v e (cases_eq n 1) } where
+pub below_root_only : (now : Time) → IsBelow 3 (root_only now)
+below_root_only now = record { next = omega arith; cookies = λ n v e. by n v e (cases_eq n 1) } where
   by : (n : ℕ) (v : Node) → get (root_only now).nodes n ≡ Some v → (n ≡ 1) ⊎ (n ≡ 1 → ⊥) → next_cookie_of v.content < 3
   by n v e (inl z) = subst (λ (x : Node). next_cookie_of x.content < 3) (is_it v (root_node now) (get (root_only now).nodes 1) (root_at now) (ap (get (root_only now).nodes) (sym z) ∙ e)) (omega arith)
   by n v e (inr ne) = let none : None ≡ Some v = sym (no_other_at now n ne) ∙ e in absurd cc
@@ -203,14 +203,14 @@ can_add_link = can_add with_hello 1 link mode_777 1 (Link hello) _ root_hello re
 pub can_add_many : CanAddNode with_link 1 many (many_node 0)
 can_add_many = can_add with_link 1 many mode_777 2 (Directory (record { next_cookie = 1; list = [] })) _ root_link refl refl (omega arith) (omega arith) (omega arith) (new_directory 1)
 
-pub below-hello : IsBelow 4 with_hello
-below-hello = below-add_node with_root time_zero 1 hello hello_node 3 no_two (below-root_only time_zero) (root_node time_zero, root_at time_zero) (omega arith)
+pub below_hello : IsBelow 4 with_hello
+below_hello = below_add_node with_root time_zero 1 hello hello_node 3 no_two (below_root_only time_zero) (root_node time_zero, root_at time_zero) (omega arith)
 
-pub below-link : IsBelow 5 with_link
-below-link = below-add_node with_hello time_zero 1 link link_node 4 no_three below-hello (_, root_hello) (omega arith)
+pub below_link : IsBelow 5 with_link
+below_link = below_add_node with_hello time_zero 1 link link_node 4 no_three below_hello (_, root_hello) (omega arith)
 
-pub below-many : IsBelow 6 with_many
-below-many = below-add_node with_link time_zero 1 many (many_node 0) 5 no_four below-link (_, root_link) (omega arith)
+pub below_many : IsBelow 6 with_many
+below_many = below_add_node with_link time_zero 1 many (many_node 0) 5 no_four below_link (_, root_link) (omega arith)
 
 rest_many : (q : ℕ) → (q ≡ 1 → ⊥) → (q ≡ 4 → ⊥) → get with_many.nodes q ≡ get with_link.nodes q
 rest_many q a b = at_rest with_link time_zero 1 many (many_node 0) no_four q a b
@@ -260,7 +260,7 @@ pub below_as : (i k limit : ℕ) (t new : Tree) (v : Node) → v ≡ file_node �
 below_as i k limit t new v q one low is below made =
     subst (λ (n : ℕ). IsBelow n new) (sym one)
     (subst (IsBelow (limit + 1)) (sym (made ∙ ap (λ (w : Node). tree_with_node t time_zero 4 (file_name i) w) q))
-    (below-add_node t time_zero 4 (file_name i) file_node limit (not_four i t is) below (many_node i, is.many_directory) (omega (arith, low))))
+    (below_add_node t time_zero 4 (file_name i) file_node limit (not_four i t is) below (many_node i, is.many_directory) (omega (arith, low))))
 
 pub on_ok_map : {A E : Type 0} {P Q : Type 0} (r : Result A E) → (P → Q) → OnOk r P → OnOk r Q
 on_ok_map (Ok x) f p = f p

@@ -13,7 +13,7 @@ use Rattle.indexmap.proofs.RemoveLemmas.{moved_last}
 use Rattle.nr_tree.specs.declared.directory.Slot.{Slot}
 use Rattle.nr_tree.specs.Entries.{Entry, entry_of_name, list_without}
 use Rattle.nr_tree.specs.Slots.{slot_entries, entry_of}
-use Rattle.nr_tree.proofs.Slots.{slot_entries-append, number_lookup}
+use Rattle.nr_tree.proofs.Slots.{slot_entries_append, number_lookup}
 
 abbrev Key : Type 0
 Key = Vec ℕ Global
@@ -65,7 +65,7 @@ put_last ps k v last is t =
     let end : last ≡ length (insert_entry same_key ps k v) - 1 = omega (arith, is, q.len_is) in
     ap (λ (n : ℕ). slot_entries (move_index (insert_entry same_key ps k v) (position_or_len (same_key k) (keys_of ps)) n)) end
     ∙ ap slot_entries (moved_last (insert_entry same_key ps k v) (position_or_len (same_key k) (keys_of ps)) (q.key, v) q.at)
-    ∙ slot_entries-append (remove (insert_entry same_key ps k v) (position_or_len (same_key k) (keys_of ps))) q.key v
+    ∙ slot_entries_append (remove (insert_entry same_key ps k v) (position_or_len (same_key k) (keys_of ps))) q.key v
     ∙ (λ i. q.rest i ++ record { cookie = v.cookie; name = q.same i; number = v.number } ∷ [])
 
 no_slot : {A B : Type 0} (f : A → ℕ) (g : B → ℕ) (x : Option A) (y : Option B) → option_map f x ≡ option_map g y → is_some x ≡ true → y ≡ None → ⊥

@@ -16,9 +16,9 @@ append_step : (b : Bool) (x : Entry) (xs ys all : List Entry) → all ≡ xs ++ 
 append_step true x xs ys all e = ap (λ (l : List Entry). x ∷ l) e
 append_step false x xs ys all e = e
 
-after-append : (c : ℕ) (xs ys : List Entry) → entries_after c (xs ++ ys) ≡ entries_after c xs ++ entries_after c ys
-after-append c [] ys = refl
-after-append c (x ∷ xs) ys = append_step (ltb c x.cookie) x (entries_after c xs) (entries_after c ys) (entries_after c (xs ++ ys)) (after-append c xs ys)
+after_append : (c : ℕ) (xs ys : List Entry) → entries_after c (xs ++ ys) ≡ entries_after c xs ++ entries_after c ys
+after_append c [] ys = refl
+after_append c (x ∷ xs) ys = append_step (ltb c x.cookie) x (entries_after c xs) (entries_after c ys) (entries_after c (xs ++ ys)) (after_append c xs ys)
 
 same_cookie : (x y : ℕ) → Some x ≡ Some y → x ≡ y
 same_cookie x y e = cc
@@ -56,7 +56,7 @@ all_from c from (e ∷ es) next (suc i) k up at lt = all_from c (e.cookie + 1) e
 
 pub listed : (c : ℕ) (es : List Entry) (low high : ℕ) → low ≡ high → entries_after c (take low es) ≡ [] → entries_after c (drop high es) ≡ drop high es → drop low es ≡ entries_after c es
 listed c es low high same none all =
-    sym (ap (entries_after c) (sym (take-append-drop low es)) ∙ after-append c (take low es) (drop low es)
+    sym (ap (entries_after c) (sym (take-append-drop low es)) ∙ after_append c (take low es) (drop low es)
     ∙ ap (λ (l : List Entry). l ++ entries_after c (drop low es)) none
     ∙ subst (λ (n : ℕ). entries_after c (drop n es) ≡ drop n es) (sym same) all)
 

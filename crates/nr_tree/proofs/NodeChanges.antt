@@ -9,7 +9,7 @@ use Rattle.std.specs.Cmp.{nat_cmp_total}
 use Rattle.std.specs.FinMap.{FinMap, get, insert, remove, get-insert, get-remove, same_map, nat_cmp-IsAntisymmetric}
 use Rattle.nr_nfs_base.specs.declared.time.Time.{Time}
 use Rattle.nr_tree.specs.Entries.{Entry, is_name, entry_of_name, list_without, entries_with, entries_without, next_entry}
-use Rattle.nr_tree.specs.Skeleton.{one_if}
+use Rattle.nr_tree.specs.DirectoryGraph.{one_if}
 use Rattle.nr_tree.specs.Tree.{nodes_with_change, is_dir, is_directory, entries_in, entries_of}
 use Rattle.nr_tree.specs.Room.{IsSource, HasEntryFor}
 use Rattle.nr_tree.proofs.LastPlace.{same_list}

@@ -7,16 +7,16 @@ use Rattle.std.specs.FinMap.{FinMap, find, get, insert, remove, get-from_entries
 use Rattle.nr_tree.specs.declared.node.Node.{Node}
 use Rattle.nr_tree.specs.Tree.{nodes_of, nodes_with_change}
 use Rattle.std.specs.Option.{option_map_or, option_map}
-use Rattle.nr_tree.specs.Skeleton.{one_if}
+use Rattle.nr_tree.specs.DirectoryGraph.{one_if}
 use Rattle.std.proofs.lemmas.Bool.Decides.{nat_tests}
 
-find-lookup : (q : ℕ) (es : List (ℕ × Node)) → find nat_cmp q es ≡ lookup (is_at (nat_cmp q)) es
-find-lookup q [] = refl
-find-lookup q (e ∷ es) = ap (cond (eq_by_cmp nat_cmp q e.0) (Some e.1)) (find-lookup q es)
+find_lookup : (q : ℕ) (es : List (ℕ × Node)) → find nat_cmp q es ≡ lookup (is_at (nat_cmp q)) es
+find_lookup q [] = refl
+find_lookup q (e ∷ es) = ap (cond (eq_by_cmp nat_cmp q e.0) (Some e.1)) (find_lookup q es)
 
 -- what the map has at a key is what the entries have there
 pub get_node : (es : List (ℕ × Node)) (q : ℕ) → get (nodes_of es) q ≡ lookup (is_at (nat_cmp q)) es
-get_node es q = get-from_entries nat_cmp_total es q ∙ find-lookup q es
+get_node es q = get-from_entries nat_cmp_total es q ∙ find_lookup q es
 
 turned : (a b : ℕ) → is_at (nat_cmp a) b ≡ is_at (nat_cmp b) a
 turned a b = (eq_by_cmp_equiv nat_cmp_total).symm a b

@@ -10,7 +10,7 @@ use Rattle.nr_tree.specs.Tree.{Tree, value_at, is_dir}
 use Rattle.nr_tree.specs.Sane.{IsSane}
 use Rattle.nr_tree.specs.Rules.{first, or_else, ◌⇒◌, on, after, node_of_handle, number_of_handle, was_given, handle_rule, name_rules, change_rules}
 use Rattle.nr_tree.specs.declared.node.Node.{Node}
-use Rattle.nr_tree.proofs.SkeletonChanges.{value_at-at}
+use Rattle.nr_tree.proofs.SkeletonChanges.{value_at_at}
 
 pub passed : (r o : Option Status) → or_else r o ≡ None → (r ≡ None) × (o ≡ None)
 passed None o p = (refl, p)
@@ -63,7 +63,7 @@ is_dir_by false e = absurd cc
 pub is_changeable : (t : Tree) (c : Caller) (h : List ℕ) (v : Node) → node_of_handle t h ≡ Some v → first (change_rules c v) ≡ None → value_at is_dir false t.nodes (number_of_handle h) ≡ true
 is_changeable t c h v e p =
     let all : AllClear (change_rules c v) = all_clear (change_rules c v) p in
-    value_at-at is_dir false t.nodes (number_of_handle h) v (got t h v e) ∙ is_dir_by (is_dir v) (clear (not (is_dir v)) Notdir all.0)
+    value_at_at is_dir false t.nodes (number_of_handle h) v (got t h v e) ∙ is_dir_by (is_dir v) (clear (not (is_dir v)) Notdir all.0)
 
 -- the rules of a name
 pub is_name : (name : List ℕ) → first (name_rules name) ≡ None → (0 < length name) × (length name ≤ 255)
@@ -73,6 +73,6 @@ is_name name p =
     let few : length name ≤ 255 = ltb-false 255 (length name) (clear (ltb 255 (length name)) Nametoolong all.1.1.0) in
     (omega (arith, some), few)
 
-pub sane-after : (t u : Tree) (o : Option Status) → IsSane t → (o ≡ None → IsSane u) → IsSane (after o t u)
-sane-after t u None sane k = k refl
-sane-after t u (Some s) sane k = sane
+pub sane_after : (t u : Tree) (o : Option Status) → IsSane t → (o ≡ None → IsSane u) → IsSane (after o t u)
+sane_after t u None sane k = k refl
+sane_after t u (Some s) sane k = sane

@@ -6,7 +6,7 @@ use Rattle.std.specs.Ordering.{nat_cmp}
 use Rattle.std.specs.FinMap.{FinMap, get}
 use Rattle.nr_nfs_base.specs.declared.time.Time.{Time}
 use Rattle.nr_tree.specs.Entries.{Entry, entry_of_name, list_without, entries_without}
-use Rattle.nr_tree.specs.Skeleton.{one_if}
+use Rattle.nr_tree.specs.DirectoryGraph.{one_if}
 use Rattle.nr_tree.specs.Tree.{Tree, value_at, nodes_with_change, is_dir, is_directory, entries_in}
 use Rattle.nr_tree.specs.Sane.{IsSane, skeleton}
 use Rattle.nr_tree.specs.Room.{HasRoomFor, HasEntryIn, HasEntryFor, IsSource}
@@ -15,11 +15,11 @@ use Rattle.nr_tree.specs.Changes.{next_cookie_of, on_entries, node_with_entry, n
 use Rattle.nr_tree.specs.declared.node.Node.{Node}
 use Rattle.nr_tree.specs.declared.node.Content.{Content}
 use Rattle.nr_tree.specs.declared.node.Content.TheVariants.{Regular, Directory, Block, Character, Link, Socket, Fifo}
-use Rattle.nr_tree.proofs.SkeletonChanges.{value_at-at, same_kind, one_less}
+use Rattle.nr_tree.proofs.SkeletonChanges.{value_at_at, same_kind, one_less}
 use Rattle.nr_tree.proofs.EntryRemoved.{has_entries}
 use Rattle.nr_tree.proofs.Contents.{directory_at}
 use Rattle.nr_tree.proofs.Removals.{removal}
-use Rattle.nr_tree.proofs.Renames.{two_links, not_gone, still_found, sane-tree_with_new_name}
+use Rattle.nr_tree.proofs.Renames.{two_links, not_gone, still_found, sane_tree_with_new_name}
 use Rattle.nr_tree.proofs.RemovalReady.{IsRemovable}
 use Rattle.nr_tree.proofs.StepLemmas.{number_found, has_room, may_leave}
 
@@ -65,8 +65,8 @@ module _ (t : Tree) (from : ℕ) (name : List ℕ) (to : ℕ) (name_to : List �
   source =
       let v : (v : Node) × (get t.nodes from ≡ Some v) × (is_dir v ≡ true) = directory_at t.nodes from is in
       let two : 2 ≤ links_at t from = two_links (skeleton t) from sane.skeleton is in
-      let links : links_at t from ≡ v.0.metadata.links = value_at-at (λ (node : Node). node.metadata.links) 0 t.nodes from v.0 v.1 in
-      let here : is_some (entry_of_name name (entries_in v.0)) ≡ true = ap is_some (ap (entry_of_name name) (sym (value_at-at entries_in [] t.nodes from v.0 v.1)) ∙ found.1) in
+      let links : links_at t from ≡ v.0.metadata.links = value_at_at (λ (node : Node). node.metadata.links) 0 t.nodes from v.0 v.1 in
+      let here : is_some (entry_of_name name (entries_in v.0)) ≡ true = ap is_some (ap (entry_of_name name) (sym (value_at_at entries_in [] t.nodes from v.0 v.1)) ∙ found.1) in
       subst (λ (o : Option Node). IfSome o (IsSource name)) (sym v.1) (v.2, omega (arith, two, links), here)
 
   pub free_room : IsBounded t → entry_at t to name_to ≡ None → IfSome (get t.nodes to) (λ n. HasRoomFor name_to n)
@@ -75,7 +75,7 @@ module _ (t : Tree) (from : ℕ) (name : List ℕ) (to : ℕ) (name_to : List �
   pub sane-rename : (now : Time) → IsSane (tree_with_new_name t now from name to name_to h)
   sane-rename now =
       subst (λ (k : ℕ). IsSane (tree_with_new_name t now from name to name_to k)) found.2
-      (sane-tree_with_new_name t now from name to name_to found.0 sane found.1 (subst (λ (k : ℕ). CanRename t from name to name_to k) (sym found.2) can))
+      (sane_tree_with_new_name t now from name to name_to found.0 sane found.1 (subst (λ (k : ℕ). CanRename t from name to name_to k) (sym found.2) can))
 
   module _ (g : Entry) (target : entry_at t to name_to ≡ Some g) where
     go : (g.number ≡ h → ⊥) × (is_dir_at t g.number ≡ true → entries_at t g.number ≡ [])
@@ -96,8 +96,8 @@ module _ (t : Tree) (from : ℕ) (name : List ℕ) (to : ℕ) (name_to : List �
     pub has_entry : (was : Bool) → IsBounded t → IfSome (get t.nodes to) (HasEntryFor name_to was)
     has_entry was bounded =
         let v : (v : Node) × (get t.nodes to ≡ Some v) × (is_dir v ≡ true) = directory_at t.nodes to can.dir in
-        let links : links_at t to ≡ v.0.metadata.links = value_at-at (λ (node : Node). node.metadata.links) 0 t.nodes to v.0 v.1 in
-        let here : is_some (entry_of_name name_to (entries_in v.0)) ≡ true = ap is_some (ap (entry_of_name name_to) (sym (value_at-at entries_in [] t.nodes to v.0 v.1)) ∙ target) in
+        let links : links_at t to ≡ v.0.metadata.links = value_at_at (λ (node : Node). node.metadata.links) 0 t.nodes to v.0 v.1 in
+        let here : is_some (entry_of_name name_to (entries_in v.0)) ≡ true = ap is_some (ap (entry_of_name name_to) (sym (value_at_at entries_in [] t.nodes to v.0 v.1)) ∙ target) in
         let k : (one_if was ≤ v.0.metadata.links) × (v.0.metadata.links < 2 ^ 31) =
         counted_by (links_at t to) v.0.metadata.links was links (two_links (skeleton t) to sane.skeleton can.dir) (sane.skeleton.links_limit to (sane.skeleton.dirs_live to can.dir)) in
         subst (λ (o : Option Node). IfSome o (HasEntryFor name_to was)) (sym v.1) (has_entry_by name_to v.0 v.0.content refl v.2 here (bounded.cookies to v.0 v.1), k.0, k.1)
@@ -106,8 +106,8 @@ module _ (t : Tree) (from : ℕ) (name : List ℕ) (to : ℕ) (name_to : List �
     has_entry_left now b was bounded z =
         let v : (v : Node) × (get t.nodes to ≡ Some v) × (is_dir v ≡ true) = directory_at t.nodes to can.dir in
         let w : Node = node_without_entry now name b v.0 in
-        let links : links_at t to ≡ v.0.metadata.links = value_at-at (λ (node : Node). node.metadata.links) 0 t.nodes to v.0 v.1 in
-        let es : value_at entries_in [] t.nodes to ≡ entries_in v.0 = value_at-at entries_in [] t.nodes to v.0 v.1 in
+        let links : links_at t to ≡ v.0.metadata.links = value_at_at (λ (node : Node). node.metadata.links) 0 t.nodes to v.0 v.1 in
+        let es : value_at entries_in [] t.nodes to ≡ entries_in v.0 = value_at_at entries_in [] t.nodes to v.0 v.1 in
         let old : entry_of_name name (entries_in v.0) ≡ Some found.0 = ap (entry_of_name name) (sym es) ∙ ap (λ (d : ℕ). entry_of_name name (entries_at t d)) z ∙ found.1 in
         let other : entry_of_name name_to (entries_in v.0) ≡ Some g = ap (entry_of_name name_to) (sym es) ∙ target in
         let stays : entry_of_name name_to (list_without name (entries_in v.0)) ≡ Some g = still_found name_to name (entries_in v.0) g found.0 other old (λ y. go.0 (sym y ∙ found.2)) in

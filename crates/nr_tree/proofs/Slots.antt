@@ -31,10 +31,10 @@ none_of f g (Some x) (Some y) e h = absurd cc
 pub free_slot : (ps : List (Vec ℕ Global × Slot)) (name : List ℕ) → entry_of_name name (slot_entries ps) ≡ None → lookup (λ k. pointwise nat_eq name k.items) ps ≡ None
 free_slot ps name h = none_of (λ (e : Entry). e.number) (λ (s : Slot). s.number) (entry_of_name name (slot_entries ps)) _ (number_lookup ps name) h
 
-pub slot_entries-append : (ps : List (Vec ℕ Global × Slot)) (name : Vec ℕ Global) (slot : Slot)
+pub slot_entries_append : (ps : List (Vec ℕ Global × Slot)) (name : Vec ℕ Global) (slot : Slot)
     → slot_entries (ps ++ (name, slot) ∷ []) ≡ slot_entries ps ++ record { cookie = slot.cookie; name = name.items; number = slot.number } ∷ []
-slot_entries-append [] name slot = refl
-slot_entries-append (p ∷ ps) name slot = ap (λ (t : List Entry). entry_of p ∷ t) (slot_entries-append ps name slot)
+slot_entries_append [] name slot = refl
+slot_entries_append (p ∷ ps) name slot = ap (λ (t : List Entry). entry_of p ∷ t) (slot_entries_append ps name slot)
 
 -- the entry at a place is the slot at that place, with its name
 pub entry_of_slot : (ps : List (Vec ℕ Global × Slot)) (i : ℕ) (p : Vec ℕ Global × Slot) → slice_get ps i ≡ Some p

@@ -2,7 +2,7 @@
 use Rattle.std.proofs.Common.{◌≡◌, ℕ, zero, suc, ◌+◌, ◌<◌, ◌≤◌, Bool, true, false, cond, eqb, not, ◌&&◌, List, [], ◌∷◌, length, None, Some, refl, ap, sym, ◌∙◌, subst, arith, inl, inr, ◌⊎◌, ◌||◌}
 use Rattle.std.proofs.lemmas.Bool.{cases_Bool, both_ways, eq-eqb, ne_eqb, eqb-true, eqb-false, or_cases, and_parts, or_left, or_right, and_from, not-true, not_from_false}
 use Rattle.nr_tree.specs.Entries.{Entry}
-use Rattle.nr_tree.specs.Skeleton.{Skeleton, IsPathUp, LiesBelow, IsConnected, IsSound, name_count_in}
+use Rattle.nr_tree.specs.DirectoryGraph.{DirectoryGraph, IsPathUp, LiesBelow, IsConnected, IsConsistent, name_count_in}
 use Rattle.nr_tree.specs.Within.{walks_to, is_within}
 use Rattle.nr_tree.specs.Tree.{Tree}
 use Rattle.nr_tree.specs.Sane.{IsSane, skeleton}
@@ -76,13 +76,13 @@ none_below : (xs : List ℕ) → AllBelow 0 xs → length xs ≤ 0
 none_below [] a = omega arith
 none_below (x ∷ xs) a = absurd (let lt : x < 0 = a.0 in omega (arith, lt))
 
-pub pigeons : (n : ℕ) (xs : List ℕ) → Differ xs → AllBelow n xs → length xs ≤ n
-pigeons zero xs d a = none_below xs a
-pigeons (suc n) xs d a = omega (arith, but_one n xs d, pigeons n (but n xs) (differ_but n xs d) (below_but n xs a))
+pub pigeonhole : (n : ℕ) (xs : List ℕ) → Differ xs → AllBelow n xs → length xs ≤ n
+pigeonhole zero xs d a = none_below xs a
+pigeonhole (suc n) xs d a = omega (arith, but_one n xs d, pigeonhole n (but n xs) (differ_but n xs d) (below_but n xs a))
 
 -- ===== paths to the root
 
-module _ (s : Skeleton) where
+module _ (s : DirectoryGraph) where
   -- a path to another directory is no longer than the one to the root
   pub shorter : (n : ℕ) (p q : List ℕ) (top : ℕ) → IsPathUp s None n p top → IsPathUp s None n q 1 → length p ≤ length q
   shorter n [] q top c u = omega arith
@@ -110,7 +110,7 @@ module _ (s : Skeleton) where
   differs n [] c = tt
   differs n (x ∷ path) c = (not_on x path c.4, differs x path c.4)
 
-  module _ (sound : IsSound s None) where
+  module _ (sound : IsConsistent s None) where
     each_below : (n : ℕ) (path : List ℕ) → IsPathUp s None n path 1 → (n < s.next) × AllBelow s.next path
     each_below n [] c = (let z : n ≡ 1 = c in let root : 1 < s.next = dir_below s None 1 sound sound.root in omega (arith, z, root), tt)
     each_below n (x ∷ path) c = let r : (x < s.next) × AllBelow s.next path = each_below x path c.4 in (dir_below s None n sound c.0, (r.0, r.1))
@@ -118,7 +118,7 @@ module _ (s : Skeleton) where
     pub short : (n : ℕ) (path : List ℕ) → IsPathUp s None n path 1 → length path < s.next
     short n path c =
         let r : (n < s.next) × AllBelow s.next path = each_below n path c in
-        let few : length (n ∷ path) ≤ s.next = pigeons s.next (n ∷ path) (not_on n path c, differs n path c) (r.0, r.1) in omega (arith, few)
+        let few : length (n ∷ path) ≤ s.next = pigeonhole s.next (n ∷ path) (not_on n path c, differs n path c) (r.0, r.1) in omega (arith, few)
 
     -- a path is walked in as many steps as it has
     walked : (steps n : ℕ) (path : List ℕ) (top : ℕ) → IsPathUp s None n path top → length path ≤ steps → walks_to steps s n top ≡ true
@@ -164,7 +164,7 @@ module _ (s : Skeleton) where
 
 -- ===== a step of the walk
 
-module _ (s : Skeleton) (n top m : ℕ) where
+module _ (s : DirectoryGraph) (n top m : ℕ) where
   pub walk_ends : 0 < m → eqb n top ≡ true → walks_to m s n top ≡ true
   walk_ends lt at = by m lt where
     by : (k : ℕ) → 0 < k → walks_to k s n top ≡ true

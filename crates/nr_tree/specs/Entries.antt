@@ -63,10 +63,10 @@ CookiesAscend from [] next = from ≤ next
 CookiesAscend from (e ∷ es) next = (from ≤ e.cookie) × CookiesAscend (e.cookie + 1) es next
 
 -- the most bytes of a name
-abbrev pub longest_name : ℕ
-longest_name = 255
+abbrev pub name_length_max : ℕ
+name_length_max = 255
 
 -- names differ, and have 1 to 255 bytes
 abbrev pub NamesAreValid : List Entry → Type 0
 NamesAreValid [] = Unit {0}
-NamesAreValid (e ∷ es) = (0 < length e.name) × (length e.name ≤ longest_name) × (entry_of_name e.name es ≡ None) × NamesAreValid es
+NamesAreValid (e ∷ es) = (0 < length e.name) × (length e.name ≤ name_length_max) × (entry_of_name e.name es ≡ None) × NamesAreValid es

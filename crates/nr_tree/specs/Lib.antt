@@ -1,7 +1,7 @@
 pub mod Bytes
 pub mod Entries
 pub mod Slots
-pub mod Skeleton
+pub mod DirectoryGraph
 pub mod Tree
 pub mod Code
 pub mod Room

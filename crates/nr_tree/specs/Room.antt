@@ -1,7 +1,7 @@
 -- Where an entry may be put: a directory in which the name is free, with a cookie and a link left.
 use Rattle.std.specs.Prelude.{ℕ, ◌≡◌, ◌<◌, ◌≤◌, ◌^◌, Bool, true, List, None, is_some, IsTrue}
 use Rattle.nr_tree.specs.Entries.{entry_of_name}
-use Rattle.nr_tree.specs.Skeleton.{one_if}
+use Rattle.nr_tree.specs.DirectoryGraph.{one_if}
 use Rattle.nr_tree.specs.Tree.{is_dir, entries_in}
 use Rattle.nr_tree.specs.declared.node.Node.{Node}
 use Rattle.nr_tree.specs.declared.node.Content.{Content}

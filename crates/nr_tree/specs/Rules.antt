@@ -11,9 +11,9 @@ use Rattle.nr_nfs_base.specs.declared.set_attributes.SetAttributes.{SetAttribute
 use Rattle.nr_nfs_base.specs.declared.set_attributes.SetTime.{SetTime}
 use Rattle.nr_nfs_base.specs.declared.set_attributes.SetTime.TheVariants.{Leave, ServerTime, ClientTime}
 use Rattle.nr_nfs_base.specs.declared.status.Status.TheVariants.{Acces, Notdir, Nospc, Nametoolong, Stale, Badhandle, Inval, Fbig}
-use Rattle.nr_tree.specs.Entries.{longest_name}
+use Rattle.nr_tree.specs.Entries.{name_length_max}
 use Rattle.nr_tree.specs.Tree.{Tree, is_dir}
-use Rattle.nr_tree.specs.Sane.{largest_file}
+use Rattle.nr_tree.specs.Sane.{file_size_max}
 use Rattle.nr_tree.specs.declared.node.Node.{Node}
 use Rattle.nr_tree.specs.declared.rules.Right.{Right}
 use Rattle.nr_tree.specs.declared.rules.Right.TheVariants.{Read, Write, Execute}
@@ -102,7 +102,7 @@ abbrev pub name_rules : List ℕ → List (Option Status)
 name_rules name =
     (length name == 0 ⇒ Acces) ∷
     ((has_byte 0 name || has_byte 47 name) ⇒ Acces) ∷
-    (nat_lt longest_name (length name) ⇒ Nametoolong) ∷ []
+    (nat_lt name_length_max (length name) ⇒ Nametoolong) ∷ []
 
 abbrev pub same_name : List ℕ → List ℕ → Bool
 same_name a b = pointwise nat_eq a b
@@ -155,7 +155,7 @@ time_rule a = (is_invalid_time a.atime || is_invalid_time a.mtime) ⇒ Inval
 -- a size above the most bytes of a file
 abbrev pub is_too_large : Option ℕ → Bool
 is_too_large None = false
-is_too_large (Some size) = nat_lt largest_file size
+is_too_large (Some size) = nat_lt file_size_max size
 
 abbrev pub size_rule : Option ℕ → Option Status
 size_rule size = is_too_large size ⇒ Fbig

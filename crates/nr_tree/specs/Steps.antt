@@ -2,10 +2,10 @@
 use Rattle.std.specs.Prelude.{◌≡◌, ℕ, ◌+◌, ◌<◌, ◌≤◌, ◌^◌, Bool, true, false, List, [], length, Option, None, Some}
 use Rattle.std.specs.Option.{option_map}
 use Rattle.std.specs.FinMap.{get}
-use Rattle.nr_tree.specs.Entries.{Entry, entry_of_name, longest_name}
-use Rattle.nr_tree.specs.Skeleton.{Skeleton, one_if, LiesBelow, most_links}
+use Rattle.nr_tree.specs.Entries.{Entry, entry_of_name, name_length_max}
+use Rattle.nr_tree.specs.DirectoryGraph.{DirectoryGraph, one_if, LiesBelow, links_max}
 use Rattle.nr_tree.specs.Tree.{Tree, value_at, is_dir, is_regular, entries_in}
-use Rattle.nr_tree.specs.Sane.{IsFitContent, skeleton}
+use Rattle.nr_tree.specs.Sane.{IsValidContent, skeleton}
 use Rattle.nr_tree.specs.Changes.{entry_at, next_cookie_of}
 use Rattle.nr_tree.specs.declared.node.Node.{Node}
 
@@ -34,14 +34,14 @@ abbrev pub IsBounded : Tree → Type 0
 IsBounded t = IsBelow (2 ^ 63) t
 
 -- a name that a directory may get: it is free there, and has 1 to 255 bytes
-pub record IsFree (s : Skeleton) (d : ℕ) (name : List ℕ) : Type 0 where
+pub record IsFree (s : DirectoryGraph) (d : ℕ) (name : List ℕ) : Type 0 where
   pub free : entry_of_name name (s.entries d) ≡ None
   pub not_empty : 0 < length name
-  pub not_too_long : length name ≤ longest_name
+  pub not_too_long : length name ≤ name_length_max
 
 -- a node as it is made in a directory: without entries, with the links that it has once it is named there; the first entry of a new directory gets cookie 1
 pub record IsNew (node : Node) (d : ℕ) : Type 0 where
-  pub fit : IsFitContent node.content
+  pub fit : IsValidContent node.content
   pub empty : entries_in node ≡ []
   pub first_cookie : next_cookie_of node.content ≤ 1
   pub parent : node.parent ≡ d
@@ -51,14 +51,14 @@ pub record CanAddNode (t : Tree) (d : ℕ) (name : List ℕ) (node : Node) : Typ
   pub directory : is_dir_at t d ≡ true
   pub free : IsFree (skeleton t) d name
   pub new : IsNew node d
-  pub links : is_dir node ≡ true → links_at t d < most_links
+  pub links : is_dir node ≡ true → links_at t d < links_max
 
 pub record CanAddLink (t : Tree) (d : ℕ) (name : List ℕ) (h : ℕ) : Type 0 where
   pub directory : is_dir_at t d ≡ true
   pub free : IsFree (skeleton t) d name
   pub live : is_live_at t h ≡ true
   pub file : is_dir_at t h ≡ false
-  pub links : links_at t h < most_links
+  pub links : links_at t h < links_max
 
 -- the entry is there, and leads to no directory with entries
 pub record CanRemoveEntry (t : Tree) (d : ℕ) (name : List ℕ) (h : ℕ) : Type 0 where
@@ -66,7 +66,7 @@ pub record CanRemoveEntry (t : Tree) (d : ℕ) (name : List ℕ) (h : ℕ) : Typ
   pub empty : is_dir_at t h ≡ true → entries_at t h ≡ []
 
 -- the target of a RENAME: none, or another node that is no directory with entries
-abbrev pub IsFreeTarget : Skeleton → ℕ → Option Entry → Type 0
+abbrev pub IsFreeTarget : DirectoryGraph → ℕ → Option Entry → Type 0
 IsFreeTarget s h None = Unit {0}
 IsFreeTarget s h (Some g) = (g.number ≡ h → ⊥) × (s.dir g.number ≡ true → s.entries g.number ≡ [])
 
@@ -74,7 +74,7 @@ pub record CanRename (t : Tree) (from : ℕ) (name : List ℕ) (to : ℕ) (name_
   pub entry : option_map (λ (e : Entry). e.number) (entry_at t from name) ≡ Some h
   pub dir : is_dir_at t to ≡ true
   pub not_empty : 0 < length name_to
-  pub not_too_long : length name_to ≤ longest_name
+  pub not_too_long : length name_to ≤ name_length_max
   pub target : IsFreeTarget (skeleton t) h (entry_at t to name_to)
-  pub links : is_dir_at t h ≡ true → (to ≡ from → ⊥) → links_at t to < most_links
+  pub links : is_dir_at t h ≡ true → (to ≡ from → ⊥) → links_at t to < links_max
   pub apart : is_dir_at t h ≡ true → LiesBelow (skeleton t) None to h → ⊥

@@ -1,7 +1,7 @@
 //! Which directories lie below others.
 
 ghost use Rattle.std.specs.Prelude.{◌≡◌, true, false, None};
-ghost use Rattle.nr_tree.specs.Skeleton.{LiesBelow};
+ghost use Rattle.nr_tree.specs.DirectoryGraph.{LiesBelow};
 ghost use Rattle.nr_tree.specs.Sane.{IsSane, skeleton};
 ghost use Rattle.nr_tree.specs.Steps.{is_dir_at};
 ghost use Rattle.nr_tree.specs.Within.{is_within as is_within_by_walk};

@@ -32,16 +32,16 @@ impl Right {
 }
 
 /// The most bytes of a name.
-pub const LONGEST_NAME: u32 = 255;
+pub const NAME_LENGTH_MAX: u32 = 255;
 
 /// The most links of a node.
-pub const MOST_LINKS: u32 = 65_535;
+pub const LINKS_MAX: u32 = 65_535;
 
 /// How many modes there are: a mode has twelve bits (RFC 1813 section 2.5, the mode of `fattr3`).
 pub const MODE_COUNT: u32 = 0o10000;
 
 /// The most bytes of a regular file.
-pub const LARGEST_FILE: u64 = 16_777_216;
+pub const FILE_SIZE_MAX: u64 = 16_777_216;
 
 /// What an entry of the journal costs, beside the bytes of its arguments.
 pub const ENTRY_COST: u64 = 64;
@@ -96,7 +96,7 @@ pub fn check_name(name: &[u8]) -> Result<(), Status>
     if contains_byte(name, 0) || contains_byte(name, b'/') {
         return Err(Status::Acces);
     }
-    if name.len() > LONGEST_NAME as usize {
+    if name.len() > NAME_LENGTH_MAX as usize {
         return Err(Status::Nametoolong);
     }
     Ok(())
@@ -190,11 +190,11 @@ fn is_invalid(time: SetTime) -> bool
     match time {
         SetTime::Leave => false,
         SetTime::ServerTime => false,
-        SetTime::ClientTime(time) => time.nanoseconds >= NANOSECONDS_OF_A_SECOND,
+        SetTime::ClientTime(time) => time.nanoseconds >= NANOS_PER_SEC,
     }
 }
 
-const NANOSECONDS_OF_A_SECOND: u32 = 1_000_000_000;
+const NANOS_PER_SEC: u32 = 1_000_000_000;
 
 /// Whether the times that a call sets may be set.
 pub fn check_times(attributes: &SetAttributes) -> Result<(), Status>
@@ -210,7 +210,7 @@ fn is_above_limit(size: Option<u64>) -> bool
     ensures { result ≡ is_too_large size }
 {
     match size {
-        Some(size) => size > LARGEST_FILE,
+        Some(size) => size > FILE_SIZE_MAX,
         None => false,
     }
 }

@@ -8,7 +8,7 @@ use nr_nfs_base::Time;
 use nr_xdr::Memory;
 
 impl Tree {
-    ghost use Rattle.nr_tree.specs.Sane.{IsSane, largest_file};
+    ghost use Rattle.nr_tree.specs.Sane.{IsSane, file_size_max};
     ghost use Rattle.nr_tree.specs.Steps.{IsBounded, CanAddNode, CanAddLink, CanRemoveEntry, CanRename, is_regular_at, links_at};
     ghost use Rattle.nr_tree.specs.Changes.{tree_with_node, tree_without_entry, tree_with_link, tree_with_bytes, tree_with_size, tree_with_metadata, tree_with_new_name};
 
@@ -88,7 +88,7 @@ impl Tree {
     pub fn write(&mut self, number: u64, offset: u64, bytes: &[u8], now: Time) -> Result<(), Memory>
         requires sane { IsSane self.old }
         requires regular { is_regular_at self.old number ≡ true }
-        requires limit { offset + length bytes.now ≤ largest_file }
+        requires limit { offset + length bytes.now ≤ file_size_max }
         ensures ok { OnOk result (self.new ≡ tree_with_bytes self.old now number offset bytes.now) }
         ensures err { OnErr result (self.new ≡ self.old) }
         ensures sane { IsSane self.new }
@@ -100,7 +100,7 @@ impl Tree {
     pub fn set_size(&mut self, number: u64, size: u64, now: Time) -> Result<(), Memory>
         requires sane { IsSane self.old }
         requires regular { is_regular_at self.old number ≡ true }
-        requires limit { size ≤ largest_file }
+        requires limit { size ≤ file_size_max }
         ensures ok { OnOk result (self.new ≡ tree_with_size self.old now number size) }
         ensures err { OnErr result (self.new ≡ self.old) }
         ensures sane { IsSane self.new }

@@ -7,13 +7,13 @@ use Rattle.nr_wire.specs.declared.stream.Awaited.TheVariants.{Fpdu}
 use Rattle.nr_wire.specs.Stream.{frame_len, is_whole, IsPartial, awaited_after, Split, split, bytes_needed, fields_len, IsFrame}
 use Rattle.nr_wire.specs.Feeding.{Feeding, feeding_in, feeding_after_frames, feeding_after, feeding_step, feeding_after_step, bytes_taken}
 use Rattle.nr_wire.proofs.Frames.{whole_from, partial_from, shorter_than_frame, partial_nil, needed_less, needed_just, partial_not_whole}
-use Rattle.nr_wire.proofs.Splits.{split-whole, split-append, split-Splits, awaited_after-Fpdu}
+use Rattle.nr_wire.proofs.Splits.{split_whole, split_append, split_Splits, awaited_after_Fpdu}
 
 -- what is dropped behind a front
-drop-past : (front back : List ℕ) (n : ℕ) → length front ≤ n → drop n (front ++ back) ≡ drop (n - length front) back
-drop-past [] back n le = ap (λ (k : ℕ). drop k back) (omega arith)
-drop-past (x ∷ front) back zero le = absurd (omega arith)
-drop-past (x ∷ front) back (suc n) le = drop-past front back n (omega arith) ∙ ap (λ (k : ℕ). drop k back) (omega arith)
+drop_past : (front back : List ℕ) (n : ℕ) → length front ≤ n → drop n (front ++ back) ≡ drop (n - length front) back
+drop_past [] back n le = ap (λ (k : ℕ). drop k back) (omega arith)
+drop_past (x ∷ front) back zero le = absurd (omega arith)
+drop_past (x ∷ front) back (suc n) le = drop_past front back n (omega arith) ∙ ap (λ (k : ℕ). drop k back) (omega arith)
 
 module _ {S : Type 0} (ended : S → Bool) (advanced : S → Awaited → List ℕ → S) where
   abbrev kept : Awaited → S → Feeding S
@@ -62,7 +62,7 @@ module _ {S : Type 0} (ended : S → Bool) (advanced : S → Awaited → List �
       let s = split Fpdu (rest ++ more) in
       ap (λ (f : Feeding S). feeding_after ended advanced f more) (frames-going frame frames rest a state e)
       ∙ frames-fed frames rest more Fpdu next (ended next) refl
-      ∙ ap (λ (b : Awaited). feeding_after_frames ended advanced (frames ++ (split b (rest ++ more)).frames) (split b (rest ++ more)).rest Fpdu next) (awaited_after-Fpdu frames)
+      ∙ ap (λ (b : Awaited). feeding_after_frames ended advanced (frames ++ (split b (rest ++ more)).frames) (split b (rest ++ more)).rest Fpdu next) (awaited_after_Fpdu frames)
       ∙ sym (frames-going frame (frames ++ s.frames) s.rest a state e)
 
   pub feeding_after-append : (f : Feeding S) (x y : List ℕ) → feeding_after ended advanced (feeding_after ended advanced f x) y ≡ feeding_after ended advanced f (x ++ y)
@@ -71,7 +71,7 @@ module _ {S : Type 0} (ended : S → Bool) (advanced : S → Awaited → List �
       let s = split f.awaited (f.rest ++ x) in
       frames-fed s.frames s.rest y f.awaited f.state (ended f.state) refl
       ∙ ap (λ (t : Split). feeding_after_frames ended advanced t.frames t.rest f.awaited f.state)
-      (sym (ap (split f.awaited) (sym (append_assoc f.rest x y)) ∙ split-append f.awaited (f.rest ++ x) y))
+      (sym (ap (split f.awaited) (sym (append_assoc f.rest x y)) ∙ split_append f.awaited (f.rest ++ x) y))
 
   -- what is kept is less than a frame
   frames-partial : (frames : List (List ℕ)) (rest : List ℕ) (a : Awaited) (state : S) (w : Bool) → ended state ≡ w → IsPartial (awaited_after a frames) rest
@@ -83,13 +83,13 @@ module _ {S : Type 0} (ended : S → Bool) (advanced : S → Awaited → List �
   frames-partial (frame ∷ frames) rest a state false e p =
       let next = advanced state a frame in
       subst (λ (f : Feeding S). IsPartial f.awaited f.rest) (sym (frames-going frame frames rest a state e))
-      (frames-partial frames rest Fpdu next (ended next) refl (subst (λ (b : Awaited). IsPartial b rest) (sym (awaited_after-Fpdu frames)) p))
+      (frames-partial frames rest Fpdu next (ended next) refl (subst (λ (b : Awaited). IsPartial b rest) (sym (awaited_after_Fpdu frames)) p))
 
   pub feeding_after-partial : (f : Feeding S) (bytes : List ℕ) → IsPartial (feeding_after ended advanced f bytes).awaited (feeding_after ended advanced f bytes).rest
   unfolding feeding_after
   feeding_after-partial f bytes =
       let s = split f.awaited (f.rest ++ bytes) in
-      frames-partial s.frames s.rest f.awaited f.state (ended f.state) refl (split-Splits f.awaited (f.rest ++ bytes)).partial
+      frames-partial s.frames s.rest f.awaited f.state (ended f.state) refl (split_Splits f.awaited (f.rest ++ bytes)).partial
 
   -- one step: the state has ended, or else the awaited frame is whole, or it isn't
   pub feeding_after_step-ended : (f : Feeding S) (piece : List ℕ) → ended f.state ≡ true → feeding_after_step ended advanced f piece ≡ kept f.awaited f.state
@@ -115,18 +115,18 @@ module _ {S : Type 0} (ended : S → Bool) (advanced : S → Awaited → List �
       feeding_after_step-going f piece going
       ∙ ap (λ (w : Bool). cond w (kept Fpdu (advanced f.state f.awaited (take (frame_len f.awaited (f.rest ++ piece)) (f.rest ++ piece)))) (record { awaited = f.awaited; rest = f.rest ++ piece; state = f.state })) e
 
-pub bytes_taken-whole : (a : Awaited) (rest piece : List ℕ) → is_whole a (rest ++ piece) ≡ true → bytes_taken a rest piece ≡ frame_len a (rest ++ piece) - length rest
+pub bytes_taken_whole : (a : Awaited) (rest piece : List ℕ) → is_whole a (rest ++ piece) ≡ true → bytes_taken a rest piece ≡ frame_len a (rest ++ piece) - length rest
 unfolding bytes_taken
-bytes_taken-whole a rest piece e = ap (λ (w : Bool). cond w (frame_len a (rest ++ piece) - length rest) (length piece)) e
+bytes_taken_whole a rest piece e = ap (λ (w : Bool). cond w (frame_len a (rest ++ piece) - length rest) (length piece)) e
 
-pub bytes_taken-partial : (a : Awaited) (rest piece : List ℕ) → is_whole a (rest ++ piece) ≡ false → bytes_taken a rest piece ≡ length piece
+pub bytes_taken_partial : (a : Awaited) (rest piece : List ℕ) → is_whole a (rest ++ piece) ≡ false → bytes_taken a rest piece ≡ length piece
 unfolding bytes_taken
-bytes_taken-partial a rest piece e = ap (λ (w : Bool). cond w (frame_len a (rest ++ piece) - length rest) (length piece)) e
+bytes_taken_partial a rest piece e = ap (λ (w : Bool). cond w (frame_len a (rest ++ piece) - length rest) (length piece)) e
 
 -- the piece is taken as far as it goes
 pub bytes_taken_within : (a : Awaited) (rest piece : List ℕ) (w : Bool) → is_whole a (rest ++ piece) ≡ w → bytes_taken a rest piece ≤ length piece
-bytes_taken_within a rest piece true e = rw (bytes_taken-whole a rest piece e) (omega (arith, (whole_from a (rest ++ piece) e).frame, length-append rest piece))
-bytes_taken_within a rest piece false e = rw (bytes_taken-partial a rest piece e) (omega arith)
+bytes_taken_within a rest piece true e = rw (bytes_taken_whole a rest piece e) (omega (arith, (whole_from a (rest ++ piece) e).frame, length-append rest piece))
+bytes_taken_within a rest piece false e = rw (bytes_taken_partial a rest piece e) (omega arith)
 
 module _ {S : Type 0} (ended : S → Bool) (advanced : S → Awaited → List ℕ → S) where
   step-whole : (f : Feeding S) (piece : List ℕ) → IsPartial f.awaited f.rest → ended f.state ≡ false → is_whole f.awaited (f.rest ++ piece) ≡ true
@@ -137,20 +137,20 @@ module _ {S : Type 0} (ended : S → Bool) (advanced : S → Awaited → List �
       let n = frame_len f.awaited bytes in
       let next = advanced f.state f.awaited (take n bytes) in
       let left : drop (bytes_taken f.awaited f.rest piece) piece ≡ drop n bytes =
-      ap (λ (k : ℕ). drop k piece) (bytes_taken-whole f.awaited f.rest piece e)
-      ∙ sym (drop-past f.rest piece n (shorter_than_frame f.awaited f.rest piece p)) in
+      ap (λ (k : ℕ). drop k piece) (bytes_taken_whole f.awaited f.rest piece e)
+      ∙ sym (drop_past f.rest piece n (shorter_than_frame f.awaited f.rest piece p)) in
       let s = split Fpdu (drop n bytes) in
       ap (λ (g : Feeding S). feeding_after ended advanced g (drop (bytes_taken f.awaited f.rest piece) piece)) (feeding_after_step-whole ended advanced f piece going e)
       ∙ ap (feeding_after ended advanced (record { awaited = Fpdu; rest = []; state = next })) left
       ∙ sym (frames-going ended advanced (take n bytes) s.frames s.rest f.awaited f.state going)
-      ∙ ap (λ (t : Split). feeding_after_frames ended advanced t.frames t.rest f.awaited f.state) (sym (split-whole f.awaited bytes e))
+      ∙ ap (λ (t : Split). feeding_after_frames ended advanced t.frames t.rest f.awaited f.state) (sym (split_whole f.awaited bytes e))
 
   step-partial : (f : Feeding S) (piece : List ℕ) → ended f.state ≡ false → is_whole f.awaited (f.rest ++ piece) ≡ false
       → feeding_after ended advanced (feeding_after_step ended advanced f piece) (drop (bytes_taken f.awaited f.rest piece) piece) ≡ feeding_after ended advanced f piece
   unfolding feeding_after
   step-partial f piece going e =
       let left : drop (bytes_taken f.awaited f.rest piece) piece ≡ [] =
-      ap (λ (k : ℕ). drop k piece) (bytes_taken-partial f.awaited f.rest piece e) ∙ drop_all (length piece) piece (omega arith) in
+      ap (λ (k : ℕ). drop k piece) (bytes_taken_partial f.awaited f.rest piece e) ∙ drop_all (length piece) piece (omega arith) in
       ap (λ (g : Feeding S). feeding_after ended advanced g (drop (bytes_taken f.awaited f.rest piece) piece)) (feeding_after_step-partial ended advanced f piece going e)
       ∙ ap (feeding_after ended advanced (record { awaited = f.awaited; rest = f.rest ++ piece; state = f.state })) left
       ∙ ap (λ (bytes : List ℕ). feeding_after_frames ended advanced (split f.awaited bytes).frames (split f.awaited bytes).rest f.awaited f.state) (append-nil (f.rest ++ piece))
@@ -195,39 +195,39 @@ module _ {S : Type 0} (ended : S → Bool) (advanced : S → Awaited → List �
       (feeding_after-ended ended advanced f bytes e ∙ back, feeding_after_step-ended ended advanced f bytes e ∙ back)
 
 -- A piece in two parts: staging the first of them is feeding it.
-pub feeding_after_step-staged : {S : Type 0} (ended : S → Bool) (advanced : S → Awaited → List ℕ → S) (f : Feeding S) (x y : List ℕ)
+pub feeding_after_step_staged : {S : Type 0} (ended : S → Bool) (advanced : S → Awaited → List ℕ → S) (f : Feeding S) (x y : List ℕ)
     → feeding_after_step ended advanced (record { awaited = f.awaited; rest = f.rest ++ x; state = f.state }) y ≡ feeding_after_step ended advanced f (x ++ y)
 unfolding feeding_after_step
-feeding_after_step-staged ended advanced f x y =
+feeding_after_step_staged ended advanced f x y =
     ap (λ (bytes : List ℕ). cond (ended f.state) (feeding_in ended advanced f.awaited [] f.state) (feeding_step ended advanced f bytes)) (append_assoc f.rest x y)
 
 bytes_taken_staged_by : (a : Awaited) (rest x y : List ℕ) (w : Bool) → is_whole a ((rest ++ x) ++ y) ≡ w → IsPartial a (rest ++ x) → bytes_taken a rest (x ++ y) ≡ length x + bytes_taken a (rest ++ x) y
 bytes_taken_staged_by a rest x y true e p =
     let same : rest ++ (x ++ y) ≡ (rest ++ x) ++ y = sym (append_assoc rest x y) in
     let whole : is_whole a (rest ++ (x ++ y)) ≡ true = ap (is_whole a) same ∙ e in
-    bytes_taken-whole a rest (x ++ y) whole
+    bytes_taken_whole a rest (x ++ y) whole
     ∙ ap (λ (bytes : List ℕ). frame_len a bytes - length rest) same
-    ∙ omega (arith, length-append rest x, shorter_than_frame a (rest ++ x) y p, bytes_taken-whole a (rest ++ x) y e)
+    ∙ omega (arith, length-append rest x, shorter_than_frame a (rest ++ x) y p, bytes_taken_whole a (rest ++ x) y e)
 bytes_taken_staged_by a rest x y false e p =
     let whole : is_whole a (rest ++ (x ++ y)) ≡ false = ap (is_whole a) (sym (append_assoc rest x y)) ∙ e in
-    bytes_taken-partial a rest (x ++ y) whole ∙ omega (arith, length-append x y, bytes_taken-partial a (rest ++ x) y e)
+    bytes_taken_partial a rest (x ++ y) whole ∙ omega (arith, length-append x y, bytes_taken_partial a (rest ++ x) y e)
 
-pub bytes_taken-staged : (a : Awaited) (rest x y : List ℕ) → IsPartial a (rest ++ x) → bytes_taken a rest (x ++ y) ≡ length x + bytes_taken a (rest ++ x) y
-bytes_taken-staged a rest x y p = bytes_taken_staged_by a rest x y (is_whole a ((rest ++ x) ++ y)) refl p
+pub bytes_taken_staged : (a : Awaited) (rest x y : List ℕ) → IsPartial a (rest ++ x) → bytes_taken a rest (x ++ y) ≡ length x + bytes_taken a (rest ++ x) y
+bytes_taken_staged a rest x y p = bytes_taken_staged_by a rest x y (is_whole a ((rest ++ x) ++ y)) refl p
 
 -- fewer bytes than are needed are taken, all of them
-pub bytes_taken-less : (a : Awaited) (rest piece : List ℕ) → length piece < bytes_needed a rest → bytes_taken a rest piece ≡ length piece
-bytes_taken-less a rest piece lt = bytes_taken-partial a rest piece (partial_not_whole a (rest ++ piece) (needed_less a rest piece lt))
+pub bytes_taken_less : (a : Awaited) (rest piece : List ℕ) → length piece < bytes_needed a rest → bytes_taken a rest piece ≡ length piece
+bytes_taken_less a rest piece lt = bytes_taken_partial a rest piece (partial_not_whole a (rest ++ piece) (needed_less a rest piece lt))
 
 -- where the fields are there and as many bytes come as are needed, those are taken, and the frame is whole
-pub bytes_taken-just : (a : Awaited) (rest front back : List ℕ) → IsPartial a rest → fields_len a ≤ length rest → length front ≡ bytes_needed a rest
+pub bytes_taken_just : (a : Awaited) (rest front back : List ℕ) → IsPartial a rest → fields_len a ≤ length rest → length front ≡ bytes_needed a rest
     → (bytes_taken a rest (front ++ back) ≡ length front) × (is_whole a (rest ++ (front ++ back)) ≡ true)
-bytes_taken-just a rest front back p fields e =
+bytes_taken_just a rest front back p fields e =
     let f : IsFrame a (rest ++ front) = (needed_just a rest front p e).1 fields in
     let at = front_frame a (rest ++ front) back f in
     let same : rest ++ (front ++ back) ≡ (rest ++ front) ++ back = sym (append_assoc rest front back) in
     let whole : is_whole a (rest ++ (front ++ back)) ≡ true = ap (is_whole a) same ∙ at.whole in (
-      bytes_taken-whole a rest (front ++ back) whole
+      bytes_taken_whole a rest (front ++ back) whole
           ∙ ap (λ (bytes : List ℕ). frame_len a bytes - length rest) same
           ∙ omega (arith, at.len, length-append rest front),
       whole,

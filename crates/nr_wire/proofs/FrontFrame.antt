@@ -9,7 +9,7 @@ use Rattle.std.proofs.Common.{◌≡◌, ℕ, true, List, ◌++◌, length, take
 use Rattle.std.proofs.lemmas.List.{take_at}
 use Rattle.nr_wire.specs.declared.stream.Awaited.{Awaited}
 use Rattle.nr_wire.specs.Stream.{frame_len, is_whole, IsFrame}
-use Rattle.nr_wire.proofs.Frames.{frame_len-append, is_whole-from, whole-append, Whole}
+use Rattle.nr_wire.proofs.Frames.{frame_len_append, is_whole_from, whole_append, Whole}
 
 pub record Front (a : Awaited) (frame more : List ℕ) : Type 0 where
   pub whole : is_whole a (frame ++ more) ≡ true
@@ -19,22 +19,22 @@ pub record Front (a : Awaited) (frame more : List ℕ) : Type 0 where
 pub front_frame : (a : Awaited) (frame more : List ℕ) → IsFrame a frame → Front a frame more
 front_frame a frame more f =
     let w : Whole a frame = record { fields = f.fields; frame = omega (arith, f.len) } in
-    let len : frame_len a (frame ++ more) ≡ length frame = frame_len-append a frame more f.fields ∙ f.len in
+    let len : frame_len a (frame ++ more) ≡ length frame = frame_len_append a frame more f.fields ∙ f.len in
     record {
-      whole = is_whole-from a (frame ++ more) (whole-append a frame more w);
+      whole = is_whole_from a (frame ++ more) (whole_append a frame more w);
       len = len;
       front = ap (λ (n : ℕ). take n (frame ++ more)) len ∙ take_at frame more (length frame) refl;
     }
 
 -- what stands at the front of some bytes is judged by its frame alone
-pub hello_in-frame : (side : Side) (frame more : List ℕ) → IsFrame (HelloFrom side) frame → hello_in side (frame ++ more) ≡ frame_answer (hello_of side frame) (length frame)
+pub hello_in_frame : (side : Side) (frame more : List ℕ) → IsFrame (HelloFrom side) frame → hello_in side (frame ++ more) ≡ frame_answer (hello_of side frame) (length frame)
 unfolding hello_in
-hello_in-frame side frame more f =
+hello_in_frame side frame more f =
     let at = front_frame (HelloFrom side) frame more f in
     λ i. cond (at.whole i) (frame_answer (hello_of side (at.front i)) (at.len i)) More
 
-pub segment_in-frame : (frame more : List ℕ) → IsFrame Fpdu frame → segment_in (frame ++ more) ≡ frame_answer (segment_of frame) (length frame)
+pub segment_in_frame_lem : (frame more : List ℕ) → IsFrame Fpdu frame → segment_in (frame ++ more) ≡ frame_answer (segment_of frame) (length frame)
 unfolding segment_in
-segment_in-frame frame more f =
+segment_in_frame_lem frame more f =
     let at = front_frame Fpdu frame more f in
     λ i. cond (at.whole i) (frame_answer (segment_of (at.front i)) (at.len i)) More

@@ -7,7 +7,7 @@ use Rattle.std.proofs.lemmas.Bool.Decides.{Decides-eqb}
 use Rattle.std.proofs.lemmas.List.{take_at, drop_at, take-append-drop, length-append, length-take-le, length-drop, drop_more, take_all, take-take, get_or-take, get_or_append_left}
 use Rattle.std.proofs.lemmas.Slice.Eq.{starts_is}
 use Rattle.nr_xdr.specs.Item.{IsBytes}
-use Rattle.nr_xdr.proofs.WordBytes.{IsBytes-take, IsBytes-drop}
+use Rattle.nr_xdr.proofs.WordBytes.{IsBytes_take, IsBytes_drop}
 use Rattle.nr_wire.specs.Constants.{HELLO_LEN, HELLO_REVISION, PRIVATE_MAX}
 use Rattle.nr_wire.specs.declared.hello.Side.{Side}
 use Rattle.nr_wire.specs.declared.hello.Side.TheVariants.{Initiator, Responder}
@@ -17,27 +17,27 @@ use Rattle.nr_wire.specs.Hello.{Hello, key, hello_encoding, flags_of, revision_o
 use Rattle.nr_wire.specs.Next.{Next, hello_in}
 use Rattle.nr_wire.specs.Next.Next.{Whole, More, Bad}
 use Rattle.nr_wire.specs.Stream.{is_whole, IsFrame, IsPartial}
-use Rattle.nr_wire.proofs.HalfWords.{half_word-half_word_of, half_word_of-half_word}
+use Rattle.nr_wire.proofs.HalfWords.{half_word_half_word_of, half_word_of_half_word}
 use Rattle.nr_wire.proofs.Nexts.{answer, fine_from, whole_by, more_iff, bad_iff}
 use Rattle.nr_wire.proofs.FrontFrame.{front_frame}
-use Rattle.nr_wire.proofs.Frames.{Whole as IsWhole, whole_from, is_whole-from, partial_not_whole, partial_from, fields_within, half_word_at-append}
+use Rattle.nr_wire.proofs.Frames.{Whole as IsWhole, whole_from, is_whole_from, partial_not_whole, partial_from, fields_within, half_word_at_append}
 
-pub length-key : (side : Side) → length (key side) ≡ 16
+pub length_key : (side : Side) → length (key side) ≡ 16
 unfolding key
-length-key Initiator = refl
-length-key Responder = refl
+length_key Initiator = refl
+length_key Responder = refl
 
 -- the 20 bytes that open a hello
 opening : Hello → List ℕ
 opening hello = key hello.side ++ (hello.flags ∷ HELLO_REVISION ∷ half_word (length hello.private))
 
-encoding-opening : (hello : Hello) → hello_encoding hello ≡ opening hello ++ hello.private
+encoding_opening : (hello : Hello) → hello_encoding hello ≡ opening hello ++ hello.private
 unfolding hello_encoding opening
-encoding-opening hello = refl
+encoding_opening hello = refl
 
-length-opening : (hello : Hello) → length (opening hello) ≡ 20
+length_opening : (hello : Hello) → length (opening hello) ≡ 20
 unfolding opening key half_word
-length-opening hello = elim hello.side as (λ (s : Side). length (key s ++ (hello.flags ∷ HELLO_REVISION ∷ half_word (length hello.private))) ≡ 20) [ Initiator ↦ refl | Responder ↦ refl ]
+length_opening hello = elim hello.side as (λ (s : Side). length (key s ++ (hello.flags ∷ HELLO_REVISION ∷ half_word (length hello.private))) ≡ 20) [ Initiator ↦ refl | Responder ↦ refl ]
 
 -- its fields
 record Fields (side : Side) (flags n : ℕ) (head : List ℕ) : Type 0 where
@@ -48,8 +48,8 @@ record Fields (side : Side) (flags n : ℕ) (head : List ℕ) : Type 0 where
 
 by_side : (side : Side) (flags n : ℕ) → n < 2 ^ 16 → Fields side flags n (key side ++ (flags ∷ HELLO_REVISION ∷ half_word n))
 unfolding key half_word
-by_side Initiator flags n lt = record { key_is = refl; flags_is = refl; revision_is = refl; private_is = half_word_of-half_word n lt }
-by_side Responder flags n lt = record { key_is = refl; flags_is = refl; revision_is = refl; private_is = half_word_of-half_word n lt }
+by_side Initiator flags n lt = record { key_is = refl; flags_is = refl; revision_is = refl; private_is = half_word_of_half_word n lt }
+by_side Responder flags n lt = record { key_is = refl; flags_is = refl; revision_is = refl; private_is = half_word_of_half_word n lt }
 
 -- why fields are refused
 abbrev flaw_by : Bool → Bool → Bool → Bool → Option ℕ
@@ -65,9 +65,9 @@ as_answer side bytes =
     let frame = take (hello_len side bytes) bytes in
     answer (is_whole (HelloFrom side) bytes) (hello_flaw side (take HELLO_LEN frame)) (record { side = side; flags = flags_of frame; private = drop HELLO_LEN frame }) (hello_len side bytes)
 
-hello_in-answer : (side : Side) (bytes : List ℕ) → hello_in side bytes ≡ as_answer side bytes
+hello_in_answer : (side : Side) (bytes : List ℕ) → hello_in side bytes ≡ as_answer side bytes
 unfolding hello_in hello_of
-hello_in-answer side bytes = refl
+hello_in_answer side bytes = refl
 
 -- a whole hello that isn't refused
 record Encoded (hello : Hello) (frame : List ℕ) : Type 0 where
@@ -84,16 +84,16 @@ encoded hello h =
     let head = opening hello in
     let fields = by_side side hello.flags n (omega (arith, h.1)) in
     let frame = hello_encoding hello in
-    let is : frame ≡ head ++ hello.private = encoding-opening hello in
-    let front : take HELLO_LEN frame ≡ head = ap (take HELLO_LEN) is ∙ take_at head hello.private HELLO_LEN (length-opening hello) in
+    let is : frame ≡ head ++ hello.private = encoding_opening hello in
+    let front : take HELLO_LEN frame ≡ head = ap (take HELLO_LEN) is ∙ take_at head hello.private HELLO_LEN (length_opening hello) in
     let flaw : hello_flaw side (take HELLO_LEN frame) ≡ None = ap (hello_flaw side) front ∙ no_flaw side hello.flags n head fields h.0 h.1 in
-    let size : private_len frame ≡ n = ap private_len is ∙ half_word_at-append 18 head hello.private (omega (arith, length-opening hello)) ∙ fields.private_is in
+    let size : private_len frame ≡ n = ap private_len is ∙ half_word_at_append 18 head hello.private (omega (arith, length_opening hello)) ∙ fields.private_is in
     let len : hello_len side frame ≡ HELLO_LEN + n = λ i. hello_size (flaw i) (size i) in
-    let whole : length frame ≡ HELLO_LEN + n = ap length is ∙ length-append head hello.private ∙ ap (λ (k : ℕ). k + n) (length-opening hello) in
+    let whole : length frame ≡ HELLO_LEN + n = ap length is ∙ length-append head hello.private ∙ ap (λ (k : ℕ). k + n) (length_opening hello) in
     record {
       flaw = flaw;
-      flags = ap flags_of is ∙ get_or_append_left head hello.private 0 16 (omega (arith, length-opening hello)) ∙ fields.flags_is;
-      private = ap (drop HELLO_LEN) is ∙ drop_at head hello.private HELLO_LEN (length-opening hello);
+      flags = ap flags_of is ∙ get_or_append_left head hello.private 0 16 (omega (arith, length_opening hello)) ∙ fields.flags_is;
+      private = ap (drop HELLO_LEN) is ∙ drop_at head hello.private HELLO_LEN (length_opening hello);
       frame_is = record { fields = omega (arith, whole); len = len ∙ sym whole };
     }
 
@@ -106,7 +106,7 @@ hello_again hello more h =
     let bytes = frame ++ more in
     let front = front_frame (HelloFrom side) frame more s.frame_is in
     let value : ◌≡◌ {A = Hello} (record { side = side; flags = flags_of frame; private = drop HELLO_LEN frame }) hello = λ i. record { side = side; flags = s.flags i; private = s.private i } in
-    hello_in-answer side bytes
+    hello_in_answer side bytes
     ∙ whole_by (is_whole (HelloFrom side) bytes) (hello_flaw side (take HELLO_LEN (take (hello_len side bytes) bytes)))
     (record { side = side; flags = flags_of (take (hello_len side bytes) bytes); private = drop HELLO_LEN (take (hello_len side bytes) bytes) }) hello (hello_len side bytes) (length frame)
     (record {
@@ -145,12 +145,12 @@ opening_of side head fits len e =
     let starts : head ≡ key side ++ drop (length (key side)) head = (starts_is Decides-eqb head (key side) (starts_with nat_eq head (key side)) refl).0 p.same_is in
     let two : length (drop 18 head) ≡ 2 = omega (arith, length-drop 18 head) in
     let last : drop 18 head ≡ half_word (private_len head) =
-    sym (ap half_word (ap half_word_of (take_all 2 (drop 18 head) (omega (arith, two)))) ∙ half_word-half_word_of (drop 18 head) two (IsBytes-drop 18 head fits)) in
+    sym (ap half_word (ap half_word_of (take_all 2 (drop 18 head) (omega (arith, two)))) ∙ half_word_half_word_of (drop 18 head) two (IsBytes_drop 18 head fits)) in
     let revision : get_or head 17 0 ≡ HELLO_REVISION = eqb-true _ _ p.revision_is in
     let cells : drop 16 head ≡ flags_of head ∷ HELLO_REVISION ∷ half_word (private_len head) =
     drop_more head 16 0 (omega (arith, len))
     ∙ ap (λ (x : List ℕ). flags_of head ∷ x) (drop_more head 17 0 (omega (arith, len)) ∙ (λ i. revision i ∷ last i)) in
-    starts ∙ ap (λ (n : ℕ). key side ++ drop n head) (length-key side) ∙ ap (λ (x : List ℕ). key side ++ x) cells
+    starts ∙ ap (λ (n : ℕ). key side ++ drop n head) (length_key side) ∙ ap (λ (x : List ℕ). key side ++ x) cells
 
 -- what is read is encoded so
 pub record HelloFound (side : Side) (bytes : List ℕ) (hello : Hello) (len : ℕ) : Type 0 where
@@ -175,12 +175,12 @@ hello_there side bytes fits w e =
     let flaw : hello_flaw side (take HELLO_LEN bytes) ≡ None = ap (hello_flaw side) (sym front) ∙ e in
     let is : size ≡ HELLO_LEN + n = ap (λ (f : Option ℕ). hello_size f n) flaw in
     let n_is : private_len head ≡ n =
-    sym (half_word_at-append 18 head (drop HELLO_LEN bytes) (omega arith))
+    sym (half_word_at_append 18 head (drop HELLO_LEN bytes) (omega arith))
     ∙ ap private_len (ap (λ (x : List ℕ). x ++ drop HELLO_LEN bytes) front ∙ take-append-drop HELLO_LEN bytes) in
     let private = drop HELLO_LEN frame in
     let private_is : length private ≡ n = omega (arith, length-drop HELLO_LEN frame, is) in
     let p = passed_in side head e in
-    let opened = opening_of side head (IsBytes-take HELLO_LEN frame (IsBytes-take size bytes fits)) head_len e in
+    let opened = opening_of side head (IsBytes_take HELLO_LEN frame (IsBytes_take size bytes fits)) head_len e in
     let flags : flags_of head ≡ flags_of frame = get_or-take HELLO_LEN frame 16 0 (omega arith) in
     let below : private_len head ≤ PRIVATE_MAX = ltb-false _ _ p.long_is in
     record {
@@ -196,7 +196,7 @@ hello_found side bytes hello len fits e =
     let size = hello_len side bytes in
     let frame = take size bytes in
     let read : Hello = record { side = side; flags = flags_of frame; private = drop HELLO_LEN frame } in
-    let f = fine_from (is_whole (HelloFrom side) bytes) (hello_flaw side (take HELLO_LEN frame)) read hello size len (sym (hello_in-answer side bytes) ∙ e) in
+    let f = fine_from (is_whole (HelloFrom side) bytes) (hello_flaw side (take HELLO_LEN frame)) read hello size len (sym (hello_in_answer side bytes) ∙ e) in
     let there = hello_there side bytes fits (whole_from (HelloFrom side) bytes f.whole_is) f.flaw_is in
     subst (λ (n : ℕ). HelloFound side bytes hello n) f.len_is (subst (λ (h : Hello). HelloFound side bytes h size) f.value_is there)
 
@@ -204,7 +204,7 @@ pub hello_more : (side : Side) (bytes : List ℕ) → (hello_in side bytes ≡ M
 hello_more side bytes =
     let frame = take (hello_len side bytes) bytes in
     let iff = more_iff (is_whole (HelloFrom side) bytes) (hello_flaw side (take HELLO_LEN frame)) (record { side = side; flags = flags_of frame; private = drop HELLO_LEN frame }) (hello_len side bytes) in
-    let same = hello_in-answer side bytes in (
+    let same = hello_in_answer side bytes in (
       λ e. partial_from (HelloFrom side) bytes (iff.0 (sym same ∙ e)),
       λ p. same ∙ iff.1 (partial_not_whole (HelloFrom side) bytes p),
     )
@@ -220,10 +220,10 @@ pub hello_bad : (side : Side) (bytes : List ℕ) (reason : ℕ) → (hello_in si
 hello_bad side bytes reason =
     let frame = take (hello_len side bytes) bytes in
     let iff = bad_iff (is_whole (HelloFrom side) bytes) (hello_flaw side (take HELLO_LEN frame)) (record { side = side; flags = flags_of frame; private = drop HELLO_LEN frame }) (hello_len side bytes) reason in
-    let same = hello_in-answer side bytes in
+    let same = hello_in_answer side bytes in
     let front = ap (hello_flaw side) (front_of_frame side bytes) in (
       λ e. let p = iff.0 (sym same ∙ e) in ((whole_from (HelloFrom side) bytes p.0).fields, sym front ∙ p.1),
       λ p.
           let len = refused_len side bytes reason p.1 in
-          same ∙ iff.1 (is_whole-from (HelloFrom side) bytes (record { fields = p.0; frame = omega (arith, len, p.0) }), front ∙ p.1),
+          same ∙ iff.1 (is_whole_from (HelloFrom side) bytes (record { fields = p.0; frame = omega (arith, len, p.0) }), front ∙ p.1),
     )

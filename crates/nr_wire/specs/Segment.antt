@@ -159,10 +159,10 @@ flaw_by size tagged ddp rdmap opcode queue =
     else (if is_of_other_queue tagged opcode queue then Some REASON_QUEUE
     else None)))))
 
-unfoldable pub segment_flaw : List ℕ → Option ℕ
-segment_flaw frame =
+unfoldable pub frame_reason : List ℕ → Option ℕ
+frame_reason frame =
     flaw_by (ulpdu_len frame) (is_tagged frame) (ddp_version frame) (rdmap_version frame) (opcode_of frame) (queue_of frame)
 
 -- the segment that a whole FPDU holds, or why it is refused
 unfoldable pub segment_of : List ℕ → Result Segment ℕ
-segment_of frame = value_unless (segment_flaw frame) (segment_by_form (is_tagged frame) frame)
+segment_of frame = value_unless (frame_reason frame) (segment_by_form (is_tagged frame) frame)

@@ -5,7 +5,7 @@ ghost use Rattle.nr_wire.specs.Stream.{IsPartial, is_whole};
 ghost use Rattle.nr_wire.specs.Next.Next.{Whole, More, Bad};
 ghost use Rattle.std.specs.Prelude.{◌≡◌, ◌+◌, ◌-◌, ◌<◌, ◌≤◌, length, IfNone, ℕ, ◌↔◌, List, ◌++◌, take, IsTrue};
 ghost use Rattle.nr_xdr.specs.Item.{pad_len};
-ghost use Rattle.nr_wire.specs.Segment.{fpdu_size, fpdu_len, tail_len, ulpdu_len, header_len, is_tagged, is_tagged_opcode, is_supported, queue_for, is_of_other_form, segment_flaw, segment_of, segment_by_form, Segment as PlainSegment, IsSupported, Reads};
+ghost use Rattle.nr_wire.specs.Segment.{fpdu_size, fpdu_len, tail_len, ulpdu_len, header_len, is_tagged, is_tagged_opcode, is_supported, queue_for, is_of_other_form, frame_reason, segment_of, segment_by_form, Segment as PlainSegment, IsSupported, Reads};
 ghost use Rattle.nr_wire.specs.Next.{segment_in, IfWhole};
 ghost use Rattle.nr_wire.specs.View.{segment as plain, next_segment, result_view};
 
@@ -125,11 +125,11 @@ fn header_len(tagged: bool) -> usize
 }
 
 /// Why a whole FPDU is refused.
-#[tactic(auto, unfolding(crate::specs::Segment::segment_flaw))]
+#[tactic(auto, unfolding(crate::specs::Segment::frame_reason))]
 fn flaw(frame: &[u8]) -> Option<u32>
     requires control { 4 ≤ length frame.now }
     requires whole { LENGTH_LEN + ulpdu_len frame.now ≤ length frame.now }
-    ensures exact { result ≡ segment_flaw frame.now }
+    ensures exact { result ≡ frame_reason frame.now }
     ensures header { IfNone result (header_len (is_tagged frame.now) ≤ ulpdu_len frame.now) }
 {
     let tagged = has_bit(BIT_TAGGED, frame[2]);
@@ -214,7 +214,7 @@ pub fn next_segment(bytes: &[u8]) -> NextSegment<'_>
     ensures more { (next_segment result ≡ More) ↔ IsPartial Awaited.Fpdu bytes.now }
     // Which reason it is.
     ensures bad { (reason : ℕ) → (next_segment result ≡ Bad reason)
-        ↔ (IsTrue (is_whole Awaited.Fpdu bytes.now) × (segment_flaw (take (fpdu_len bytes.now) bytes.now) ≡ Some reason)) }
+        ↔ (IsTrue (is_whole Awaited.Fpdu bytes.now) × (frame_reason (take (fpdu_len bytes.now) bytes.now) ≡ Some reason)) }
     ensures exact { next_segment result ≡ segment_in bytes.now }
 {
     next_segment_inner(bytes)

@@ -4,7 +4,7 @@ use Rattle.std.specs.Prelude.{option_and_then}
 use Rattle.std.proofs.lemmas.Bool.{le-ltb}
 use Rattle.std.proofs.lemmas.List.{take_at, drop_at, length-append}
 use Rattle.nr_xdr.specs.Item.{word, word_of}
-use Rattle.nr_xdr.proofs.WordBytes.{length-word, word_of-word}
+use Rattle.nr_xdr.proofs.WordBytes.{length_word, word_of_word}
 use Rattle.nr_header.specs.Constants.{FIXED_LEN, PAYLOAD_MAX}
 use Rattle.nr_header.specs.WithinLimits.{ListsWithin}
 use Rattle.nr_header.proofs.Messages.{header_written}
@@ -13,23 +13,23 @@ use Rattle.nr_world.specs.declared.mark.Conveyed.{Conveyed}
 use Rattle.nr_world.specs.Messages.{no_lists, header_without_lists, inline_header, inline_message, xid_in, inline_in, by_header, call_in, reply_in, call_xid, reply_xid, under_xid}
 use Rattle.nr_world.specs.Window.{has_words}
 
-pub length-inline_header : (xid credit : ℕ) → length (inline_header xid credit) ≡ 28
+pub length_inline_header : (xid credit : ℕ) → length (inline_header xid credit) ≡ 28
 unfolding inline_header
-length-inline_header xid credit = simp (length-append, length-word) refl
+length_inline_header xid credit = simp (length-append, length_word) refl
 
-pub length-inline_message : (xid credit : ℕ) (payload : List ℕ) → length (inline_message xid credit payload) ≡ 28 + length payload
-length-inline_message xid credit payload = length-append (inline_header xid credit) payload ∙ ap (λ (n : ℕ). n + length payload) (length-inline_header xid credit)
+pub length_inline_message : (xid credit : ℕ) (payload : List ℕ) → length (inline_message xid credit payload) ≡ 28 + length payload
+length_inline_message xid credit payload = length-append (inline_header xid credit) payload ∙ ap (λ (n : ℕ). n + length payload) (length_inline_header xid credit)
 
-pub has_words-message : (xid credit : ℕ) (payload : List ℕ) → has_words (inline_message xid credit payload) ≡ true
-has_words-message xid credit payload = ap not (le-ltb (length (inline_message xid credit payload)) FIXED_LEN (omega (arith, length-inline_message xid credit payload)))
+pub has_words_message : (xid credit : ℕ) (payload : List ℕ) → has_words (inline_message xid credit payload) ≡ true
+has_words_message xid credit payload = ap not (le-ltb (length (inline_message xid credit payload)) FIXED_LEN (omega (arith, length_inline_message xid credit payload)))
 
 -- the message begins with its xid
-pub xid_in-message : (xid credit : ℕ) (payload : List ℕ) → xid < 2 ^ 32 → xid_in (inline_message xid credit payload) ≡ xid
+pub xid_in_message : (xid credit : ℕ) (payload : List ℕ) → xid < 2 ^ 32 → xid_in (inline_message xid credit payload) ≡ xid
 unfolding inline_header
-xid_in-message xid credit payload small =
+xid_in_message xid credit payload small =
     let rest = word 1 ++ (word credit ++ (word 0 ++ (word 0 ++ (word 0 ++ (word 0 ++ payload))))) in
     let parts : inline_message xid credit payload ≡ word xid ++ rest = simp append_assoc in
-    ap (λ (m : List ℕ). word_of (take 4 m)) parts ∙ ap word_of (take_at (word xid) rest 4 (length-word xid)) ∙ word_of-word xid small
+    ap (λ (m : List ℕ). word_of (take 4 m)) parts ∙ ap word_of (take_at (word xid) rest 4 (length_word xid)) ∙ word_of_word xid small
 
 none_of : {X : Type 0} (P : X → Type 0) → All P []
 none_of P e d lt = absurd (omega (arith, lt))
@@ -47,9 +47,9 @@ lists_within = record {
   reply_ends = tt;
 }
 
-pub inline_in-message : (xid credit : ℕ) (payload : List ℕ) → xid < 2 ^ 32 → credit < 2 ^ 32 → length payload ≤ PAYLOAD_MAX → inline_in (inline_message xid credit payload) ≡ Some (record { xid = xid; payload = payload })
+pub inline_in_message : (xid credit : ℕ) (payload : List ℕ) → xid < 2 ^ 32 → credit < 2 ^ 32 → length payload ≤ PAYLOAD_MAX → inline_in (inline_message xid credit payload) ≡ Some (record { xid = xid; payload = payload })
 unfolding inline_in inline_header
-inline_in-message xid credit payload small few short =
+inline_in_message xid credit payload small few short =
     let h = header_without_lists xid credit in
     let m = inline_message xid credit payload in
     let read = header_written h payload (small, (lit< tt, (few, (lit< tt, (tt, (tt, (tt, tt))))))) (lists_within, none_of _, omega (arith, short)) in
@@ -59,16 +59,16 @@ inline_in-message xid credit payload small few short =
 under_own : (xid : ℕ) (payload : List ℕ) (own : Option ℕ) → own ≡ Some xid → under_xid own (record { xid = xid; payload = payload }) ≡ Some (record { xid = xid; payload = payload })
 under_own xid payload own is = rw (is, eq-eqb xid xid refl) refl
 
-pub call_in-message : (xid credit : ℕ) (payload : List ℕ) → xid < 2 ^ 32 → credit < 2 ^ 32 → length payload ≤ PAYLOAD_MAX → call_xid (call_of payload) ≡ Some xid
+pub call_in_message : (xid credit : ℕ) (payload : List ℕ) → xid < 2 ^ 32 → credit < 2 ^ 32 → length payload ≤ PAYLOAD_MAX → call_xid (call_of payload) ≡ Some xid
     → call_in (inline_message xid credit payload) ≡ Some (record { xid = xid; payload = payload })
 unfolding call_in
-call_in-message xid credit payload small few short is =
-    ap (option_and_then (λ (carried : Conveyed). under_xid (call_xid (call_of carried.payload)) carried)) (inline_in-message xid credit payload small few short)
+call_in_message xid credit payload small few short is =
+    ap (option_and_then (λ (carried : Conveyed). under_xid (call_xid (call_of carried.payload)) carried)) (inline_in_message xid credit payload small few short)
     ∙ under_own xid payload (call_xid (call_of payload)) is
 
-pub reply_in-message : (xid credit : ℕ) (payload : List ℕ) → xid < 2 ^ 32 → credit < 2 ^ 32 → length payload ≤ PAYLOAD_MAX → reply_xid (reply_of payload) ≡ Some xid
+pub reply_in_message : (xid credit : ℕ) (payload : List ℕ) → xid < 2 ^ 32 → credit < 2 ^ 32 → length payload ≤ PAYLOAD_MAX → reply_xid (reply_of payload) ≡ Some xid
     → reply_in (inline_message xid credit payload) ≡ Some (record { xid = xid; payload = payload })
 unfolding reply_in
-reply_in-message xid credit payload small few short is =
-    ap (option_and_then (λ (carried : Conveyed). under_xid (reply_xid (reply_of carried.payload)) carried)) (inline_in-message xid credit payload small few short)
+reply_in_message xid credit payload small few short is =
+    ap (option_and_then (λ (carried : Conveyed). under_xid (reply_xid (reply_of carried.payload)) carried)) (inline_in_message xid credit payload small few short)
     ∙ under_own xid payload (reply_xid (reply_of payload)) is

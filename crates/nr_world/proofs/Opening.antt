@@ -20,9 +20,9 @@ use Rattle.nr_world.specs.Follows.{Drill, drill_opened, start, openings, settled
 use Rattle.nr_world.specs.Shown.{seen_of, asked_by}
 use Rattle.nr_world.specs.Driver.{the_link, opened_state}
 use Rattle.nr_world.specs.Stands.{upward, downward, Counts, is_one_of, seen_by, At, Laws, Stands, drill_of, Played}
-use Rattle.nr_world.proofs.Streams.{has_hello-own, hello_in-own, own_hello-frame}
+use Rattle.nr_world.proofs.Streams.{has_hello_own, hello_in_own, own_hello_frame}
 use Rattle.nr_world.proofs.OneMark.{seen_so}
-use Rattle.nr_world.proofs.Settling.{writing-none, writing-some, feeding-some, settled-none}
+use Rattle.nr_world.proofs.Settling.{writing_none, writing_some, feeding_some, settled_none}
 use Rattle.nr_world.proofs.Standing.{take_length, drop_length}
 
 no_hello_yet : has_hello Initiator [] ≡ false
@@ -30,7 +30,7 @@ unfolding has_hello
 no_hello_yet = partial_not_whole (HelloFrom Initiator) [] (partial_nil (HelloFrom Initiator))
 
 hello_now : has_hello Initiator (own_hello Initiator) ≡ true
-hello_now = ap (has_hello Initiator) (sym (append-nil (own_hello Initiator))) ∙ has_hello-own Initiator []
+hello_now = ap (has_hello Initiator) (sym (append-nil (own_hello Initiator))) ∙ has_hello_own Initiator []
 
 abbrev open_marks : List Mark
 open_marks =
@@ -51,16 +51,16 @@ abbrev answered : List ℕ
 answered = answer_to (hello_in Initiator (own_hello Initiator))
 
 hello_called : cond (not (has_hello Initiator []) && has_hello Initiator (own_hello Initiator)) answered [] ≡ own_hello Responder
-hello_called = called (has_hello Initiator []) (has_hello Initiator (own_hello Initiator)) answered no_hello_yet hello_now ∙ ap answer_to (hello_in-own Initiator)
+hello_called = called (has_hello Initiator []) (has_hello Initiator (own_hello Initiator)) answered no_hello_yet hello_now ∙ ap answer_to (hello_in_own Initiator)
 
 -- no call was accepted before, so no Send is due now
 none_asked : (b : Bool) → cond b (asking_each (drill_opened 0) 1 []) [] ≡ []
 none_asked true = refl
 none_asked false = refl
 
-At-open : (credits : ℕ) → At credits open_marks no_counts
+At_open : (credits : ℕ) → At credits open_marks no_counts
 unfolding sent got accepted executed completed journal owed upward downward seen_of seen_by asked_by
-At-open credits = record {
+At_open credits = record {
   up_sent = refl;
   up_got = refl;
   down_sent = refl;
@@ -77,9 +77,9 @@ At-open credits = record {
   seen_are = λ k. sym (ap (λ (b : Bool). seen_so b b (call_states.Answered (Some 0) (outcomes.Reply (null_reply k)))) (none_one k));
 }
 
-Laws-open : (credits : ℕ) → Laws credits open_marks
+Laws_open : (credits : ℕ) → Laws credits open_marks
 unfolding sent got owed
-Laws-open credits = record {
+Laws_open credits = record {
   asked = (λ e. sym (append-nil (own_hello Initiator)), (tt, (tt, (tt, tt))));
   served = (tt, (tt, (λ e. sym (append-nil (own_hello Responder)) ∙ sym (ap (λ (xs : List ℕ). xs ++ []) hello_called), (tt, tt))));
   matched = (tt, (λ e. ([], refl), (tt, (λ e. ([], refl), tt))));
@@ -90,7 +90,7 @@ Laws-open credits = record {
 
 -- a hello has bytes
 some_hello : (side : Side) → 0 < length (own_hello side)
-some_hello side = omega (arith, (own_hello-frame side).fields, fields_some (HelloFrom side))
+some_hello side = omega (arith, (own_hello_frame side).fields, fields_some (HelloFrom side))
 
 abbrev opened_up : Drill
 opened_up = record { marks = marks.Wrote the_link Initiator (own_hello Initiator) ∷ []; ways = record { up = own_hello Initiator; down = [] } ∷ []; seconds = 0 }
@@ -111,7 +111,7 @@ first_settled credits =
     let o = drill_opened credits in
     let bytes : unwritten o the_link Initiator (start 1) ≡ own_hello Initiator = append-nil (own_hello Initiator) in
     let first : writing the_link Initiator (unwritten o the_link Initiator (start 1)) (start 1) ≡ opened_up =
-    ap (λ (b : List ℕ). writing the_link Initiator b (start 1)) bytes ∙ writing-some Initiator (own_hello Initiator) (start 1) (some_hello Initiator) in
+    ap (λ (b : List ℕ). writing the_link Initiator b (start 1)) bytes ∙ writing_some Initiator (own_hello Initiator) (start 1) (some_hello Initiator) in
     ap (λ (x : Drill). writing the_link Responder (unwritten o the_link Responder x) x) first
 
 then_up : (credits : ℕ) → all_up (drill_opened credits) the_link opened_up ≡ opened_down
@@ -123,13 +123,13 @@ then_up credits =
     let fed : feeding the_link Responder (take (length hello) hello) (record { up = drop (length hello) hello; down = [] }) opened_up ≡ fed_drill =
     ap (λ (xs : List ℕ). feeding the_link Responder xs (record { up = drop (length hello) hello; down = [] }) opened_up) (take_length hello)
     ∙ ap (λ (xs : List ℕ). feeding the_link Responder hello (record { up = xs; down = [] }) opened_up) (drop_length hello)
-    ∙ feeding-some Responder hello (record { up = []; down = [] }) opened_up (some_hello Initiator) in
+    ∙ feeding_some Responder hello (record { up = []; down = [] }) opened_up (some_hello Initiator) in
     let none : unwritten o the_link Initiator fed_drill ≡ [] = drop_length (hello ++ []) in
     let some : unwritten o the_link Responder fed_drill ≡ own_hello Responder = ap (λ (xs : List ℕ). xs ++ []) hello_called ∙ append-nil (own_hello Responder) in
     ap (λ (x : Drill). settled o the_link x) fed
-    ∙ ap (λ (x : Drill). writing the_link Responder (unwritten o the_link Responder x) x) (writing-none Initiator (unwritten o the_link Initiator fed_drill) fed_drill none)
+    ∙ ap (λ (x : Drill). writing the_link Responder (unwritten o the_link Responder x) x) (writing_none Initiator (unwritten o the_link Initiator fed_drill) fed_drill none)
     ∙ ap (λ (b : List ℕ). writing the_link Responder b fed_drill) some
-    ∙ writing-some Responder (own_hello Responder) fed_drill (some_hello Responder)
+    ∙ writing_some Responder (own_hello Responder) fed_drill (some_hello Responder)
 
 then_down : (credits : ℕ) → all_down (drill_opened credits) the_link opened_down ≡ opened_all
 unfolding down_by taken accepted
@@ -139,18 +139,18 @@ then_down credits =
     let fed : feeding the_link Initiator (take (length hello) hello) (record { up = []; down = drop (length hello) hello }) opened_down ≡ opened_all =
     ap (λ (xs : List ℕ). feeding the_link Initiator xs (record { up = []; down = drop (length hello) hello }) opened_down) (take_length hello)
     ∙ ap (λ (xs : List ℕ). feeding the_link Initiator hello (record { up = []; down = xs }) opened_down) (drop_length hello)
-    ∙ feeding-some Initiator hello (record { up = []; down = [] }) opened_down (some_hello Responder) in
+    ∙ feeding_some Initiator hello (record { up = []; down = [] }) opened_down (some_hello Responder) in
     ap (λ (x : Drill). settled o the_link (taken the_link x)) fed
-    ∙ settled-none credits opened_all no_counts (At-open credits) refl refl
+    ∙ settled_none credits opened_all no_counts (At_open credits) refl refl
 
-pub opened-stands : (credits : ℕ) → 1 ≤ credits → credits ≤ most_credits → Stands (opened_state credits)
+pub opened_stands_lem : (credits : ℕ) → 1 ≤ credits → credits ≤ most_credits → Stands (opened_state credits)
 unfolding opened_state upward downward
-opened-stands credits some few =
+opened_stands_lem credits some few =
     let up = own_hello Initiator in
     let down = own_hello Responder in
     record {
-      at = At-open credits;
-      laws = Laws-open credits;
+      at = At_open credits;
+      laws = Laws_open credits;
       arrived_is = tt;
       up_is = ap (λ (xs : List ℕ). record { log = xs; place = length xs; faults = 0 }) (sym (append-nil up));
       down_is = ap (λ (xs : List ℕ). record { log = xs; place = length xs; faults = 0 }) (sym (append-nil down));
@@ -175,7 +175,7 @@ played_none credits some few =
     ap (λ (xs : List ℕ). record { marks = open_marks; ways = record { up = xs; down = drop (length (own_hello Responder)) (own_hello Responder) } ∷ []; seconds = 0 }) (drop_length (own_hello Initiator))
     ∙ ap (λ (xs : List ℕ). record { marks = open_marks; ways = record { up = []; down = xs } ∷ []; seconds = 0 }) (drop_length (own_hello Responder)) in
     record {
-      stands = opened-stands credits some few;
+      stands = opened_stands_lem credits some few;
       quiet = refl;
       asked_is = refl;
       credits_are = refl;

@@ -13,10 +13,10 @@ use Rattle.nr_world.specs.Script.Line.{Drain}
 use Rattle.nr_world.specs.Follows.{Drill, drill_opened, start, openings, all_up, all_down, MovesLink, Moves, work_left, IsLess, Drains, Makes, MakeAll, WorksAll}
 use Rattle.nr_world.specs.Driver.{State, the_link, received_calls, worked, received_messages, waits, works_on, asked_one}
 use Rattle.nr_world.specs.Stands.{completed_call, counts_of, Stands, IsQuiet, drill_of, Round, Drained, Called, Played}
-use Rattle.nr_world.proofs.Runs.{length-each}
+use Rattle.nr_world.proofs.Runs.{length_each}
 use Rattle.nr_world.proofs.Standing.{asks, comes}
 use Rattle.nr_world.proofs.Serving.{works}
-use Rattle.nr_world.proofs.Falling.{fell-is}
+use Rattle.nr_world.proofs.Falling.{fell_is}
 use Rattle.nr_world.proofs.Hearing.{hears}
 
 or_true : (b : Bool) → (b || true) ≡ true
@@ -24,8 +24,8 @@ or_true true = refl
 or_true false = refl
 
 -- something moves exactly where a call is out
-either-moves : (a u e h : ℕ) → h ≤ e → e ≤ u → (ltb u a || ltb e a || ltb h a) ≡ ltb h a
-either-moves a u e h he eu =
+either_moves : (a u e h : ℕ) → h ≤ e → e ≤ u → (ltb u a || ltb e a || ltb h a) ≡ ltb h a
+either_moves a u e h he eu =
     elim (cases_lt h a) [
       | inl lt ↦ ap (λ (b : Bool). ltb u a || ltb e a || b) (lt-ltb h a lt) ∙ or_true (ltb u a || ltb e a) ∙ sym (lt-ltb h a lt)
       | inr le ↦
@@ -70,7 +70,7 @@ round_of s st =
           ap (λ (b : Bool). b || works_on t.arrived || waits u.down) up.moved
           ∙ ap (λ (b : Bool). ltb (counts_of s).received_calls s.asked || b || waits u.down) moved_work
           ∙ ap (λ (b : Bool). ltb (counts_of s).received_calls s.asked || ltb s.served s.asked || b) moved_down
-          ∙ either-moves s.asked (counts_of s).received_calls s.served (length s.reports) st.heard_served (omega arith);
+          ∙ either_moves s.asked (counts_of s).received_calls s.served (length s.reports) st.heard_served (omega arith);
       still = λ quiet.
           let first : t ≡ s = up.still (omega (arith, quiet, st.heard_served, st.came_asked)) in
           let second : u ≡ t = work.still (omega (arith, up.served_is, came_all, quiet, st.heard_served, st.came_asked)) in
@@ -79,16 +79,16 @@ round_of s st =
     }
 
 -- a round that moved something changed the marks
-moved-marks : (s v : State) (moved : Bool) → Stands s → Round s v moved → moved ≡ true → v.marks ≢ s.marks
-moved-marks s v moved st r e same =
+moved_marks : (s v : State) (moved : Bool) → Stands s → Round s v moved → moved ≡ true → v.marks ≢ s.marks
+moved_marks s v moved st r e same =
     let more : length s.reports < s.asked = ltb-true (length s.reports) s.asked (sym r.moved_is ∙ e) in
-    let now : length (completed the_link v.marks) ≡ length v.reports = ap length r.stands.at.completed_are ∙ length-each completed_call (length v.reports) in
-    let before : length (completed the_link s.marks) ≡ length s.reports = ap length st.at.completed_are ∙ length-each completed_call (length s.reports) in
+    let now : length (completed the_link v.marks) ≡ length v.reports = ap length r.stands.at.completed_are ∙ length_each completed_call (length v.reports) in
+    let before : length (completed the_link s.marks) ≡ length s.reports = ap length st.at.completed_are ∙ length_each completed_call (length s.reports) in
     absurd (omega (arith, more, now, before, ap (λ (run : List Mark). length (completed the_link run)) same, r.quiet, r.asked_is))
 
 -- on the one link
-fell-links : (s v : State) → IsLess (work_left (drill_opened s.credits) (drill_of v) the_link) (work_left (drill_opened s.credits) (drill_of s) the_link) → IsLess (flat_map (work_left (drill_opened s.credits) (drill_of v)) (links_of 1)) (flat_map (work_left (drill_opened s.credits) (drill_of s)) (links_of 1))
-fell-links s v fell = rw (append-nil (work_left (drill_opened s.credits) (drill_of v) the_link), append-nil (work_left (drill_opened s.credits) (drill_of s) the_link)) fell
+fell_links : (s v : State) → IsLess (work_left (drill_opened s.credits) (drill_of v) the_link) (work_left (drill_opened s.credits) (drill_of s) the_link) → IsLess (flat_map (work_left (drill_opened s.credits) (drill_of v)) (links_of 1)) (flat_map (work_left (drill_opened s.credits) (drill_of s)) (links_of 1))
+fell_links s v fell = rw (append-nil (work_left (drill_opened s.credits) (drill_of v) the_link), append-nil (work_left (drill_opened s.credits) (drill_of s) the_link)) fell
 
 -- how far a drain is: nothing moved yet, or one round moved something
 pub record Draining (start now : State) : Type 0 where
@@ -112,9 +112,9 @@ draining_more start now new d r =
       so_far = inr (
         r.quiet,
         subst (λ (s : State). Moves drill_server (drill_opened s.credits) (links_of 1) (drill_of s) (drill_of new)) first r.makes,
-        (λ same. moved-marks now new true d.stands r refl (same ∙ ap (λ (s : State). s.marks) (sym first))),
+        (λ same. moved_marks now new true d.stands r refl (same ∙ ap (λ (s : State). s.marks) (sym first))),
         subst (λ (s : State). IsLess (flat_map (work_left (drill_opened s.credits) (drill_of new)) (links_of 1)) (flat_map (work_left (drill_opened s.credits) (drill_of s)) (links_of 1))) first
-            (fell-links now new (fell-is now new d.stands r.stands r.credits_are r.asked_is r.quiet out)),
+            (fell_links now new (fell_is now new d.stands r.stands r.credits_are r.asked_is r.quiet out)),
       );
     }
 
@@ -146,13 +146,13 @@ drained_by start now new d r =
 
 -- ---- scripts
 
-MakeAll-append : (credits : ℕ) (xs ys : List Line) (a b c : Drill) → MakeAll drill_server (drill_opened credits) 1 xs a b → MakeAll drill_server (drill_opened credits) 1 ys b c → MakeAll drill_server (drill_opened credits) 1 (xs ++ ys) a c
-MakeAll-append credits [] ys a b c h k = subst (λ (d : Drill). MakeAll drill_server (drill_opened credits) 1 ys d c) h k
-MakeAll-append credits (x ∷ xs) ys a b c h k = (h.0, h.1, MakeAll-append credits xs ys h.0 b c h.2 k)
+MakeAll_append : (credits : ℕ) (xs ys : List Line) (a b c : Drill) → MakeAll drill_server (drill_opened credits) 1 xs a b → MakeAll drill_server (drill_opened credits) 1 ys b c → MakeAll drill_server (drill_opened credits) 1 (xs ++ ys) a c
+MakeAll_append credits [] ys a b c h k = subst (λ (d : Drill). MakeAll drill_server (drill_opened credits) 1 ys d c) h k
+MakeAll_append credits (x ∷ xs) ys a b c h k = (h.0, h.1, MakeAll_append credits xs ys h.0 b c h.2 k)
 
-turns-more : (n : ℕ) → turns n ++ null_call ∷ Drain ∷ [] ≡ turns (suc n)
-turns-more zero = refl
-turns-more (suc n) = ap (λ (xs : List Line). null_call ∷ Drain ∷ xs) (turns-more n)
+turns_more_lem : (n : ℕ) → turns n ++ null_call ∷ Drain ∷ [] ≡ turns (suc n)
+turns_more_lem zero = refl
+turns_more_lem (suc n) = ap (λ (xs : List Line). null_call ∷ Drain ∷ xs) (turns_more_lem n)
 
 pub called_by : (s : State) → Stands s → IsQuiet s → s.asked < most_lines → Called s (asked_one s)
 called_by s st quiet room =
@@ -166,11 +166,11 @@ played_more credits n s t u p c d =
     let drain : Drains drill_server o (links_of 1) d.rounds (drill_of t) (drill_of u) =
     subst (λ (k : ℕ). Drains drill_server (drill_opened k) (links_of 1) d.rounds (drill_of t) (drill_of u)) (c.credits_are ∙ p.credits_are) d.drains in
     let both : MakeAll drill_server o 1 (null_call ∷ Drain ∷ []) (drill_of s) (drill_of u) = (drill_of t, call, (drill_of u, (d.rounds, drain), refl)) in
-    let all = MakeAll-append credits (turns n) (null_call ∷ Drain ∷ []) (openings o (links_of 1) (start 1)) (drill_of s) (drill_of u) p.makes both in
+    let all = MakeAll_append credits (turns n) (null_call ∷ Drain ∷ []) (openings o (links_of 1) (start 1)) (drill_of s) (drill_of u) p.makes both in
     record {
       stands = d.stands;
       quiet = d.quiet;
       asked_is = d.asked_is ∙ c.asked_is ∙ ap (λ (k : ℕ). k + 1) p.asked_is;
       credits_are = d.credits_are ∙ c.credits_are ∙ p.credits_are;
-      makes = subst (λ (xs : List Line). MakeAll drill_server o 1 xs (openings o (links_of 1) (start 1)) (drill_of u)) (turns-more n ∙ ap turns (sym (add-one n))) all;
+      makes = subst (λ (xs : List Line). MakeAll drill_server o 1 xs (openings o (links_of 1) (start 1)) (drill_of u)) (turns_more_lem n ∙ ap turns (sym (add-one n))) all;
     }

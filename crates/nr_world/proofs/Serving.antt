@@ -14,14 +14,14 @@ use Rattle.nr_world.specs.Plain.{null_reply, drill_server}
 use Rattle.nr_world.specs.Follows.{Drill, drill_opened, with_mark, settled, Works, WorksAll}
 use Rattle.nr_world.specs.Driver.{State, the_link, asked_payload, answer, written, answered_with, worked_on, worked, works_on, is_answered, wrote_down, executed_one}
 use Rattle.nr_world.specs.Stands.{each, upward, downward, executed_call, Counts, counts_of, arrived_one, arrived_after, At, Stands, drill_of}
-use Rattle.nr_world.proofs.Runs.{length-each}
-use Rattle.nr_world.proofs.Nulls.{plain_reply-asked}
-use Rattle.nr_world.proofs.Frames.{conveyed_call, calls-upward}
-use Rattle.nr_world.proofs.Marking.{downward-more}
-use Rattle.nr_world.proofs.OneMark.{execute, write_down, At-execute, At-write_down}
-use Rattle.nr_world.proofs.Lawful.{executes-is, Laws-execute, Laws-write_down}
-use Rattle.nr_world.proofs.Settling.{settled-down}
-use Rattle.nr_world.proofs.Standing.{words_of, pipe_is, waiting-written}
+use Rattle.nr_world.proofs.Runs.{length_each}
+use Rattle.nr_world.proofs.Nulls.{plain_reply_asked}
+use Rattle.nr_world.proofs.Frames.{conveyed_call, calls_upward}
+use Rattle.nr_world.proofs.Marking.{downward_more}
+use Rattle.nr_world.proofs.OneMark.{execute, write_down, At_execute, At_write_down}
+use Rattle.nr_world.proofs.Lawful.{executes_is, Laws_execute, Laws_write_down}
+use Rattle.nr_world.proofs.Settling.{settled_down}
+use Rattle.nr_world.proofs.Standing.{words_of, pipe_is, waiting_written}
 
 pub record Worked (s : State) (new : State) : Type 0 where
   pub stands : Stands new
@@ -40,9 +40,9 @@ no_call : (credits : ℕ) (run : List Mark) (n : Counts) → At credits run n �
 unfolding next_call
 no_call credits run n at all small few =
     let calls : received_calls the_link run ≡ each conveyed_call n.received_calls =
-    ap (λ (xs : List ℕ). conveyed call_in (messages Initiator xs)) at.up_got ∙ calls-upward credits n.received_calls small few in
+    ap (λ (xs : List ℕ). conveyed call_in (messages Initiator xs)) at.up_got ∙ calls_upward credits n.received_calls small few in
     slice_get_past (received_calls the_link run) (length (executed the_link run))
-    (omega (arith, ap length calls, length-each conveyed_call n.received_calls, ap length at.executed_are, length-each executed_call n.served))
+    (omega (arith, ap length calls, length_each conveyed_call n.received_calls, ap length at.executed_are, length_each executed_call n.served))
 
 worked_none : (s : State) → s.arrived ≡ None → Stands s → Worked s (worked s)
 unfolding worked
@@ -79,12 +79,12 @@ after_work s k place = record {
   reports = s.reports;
 }
 
-worked-is : (s : State) (call : Conveyed) → s.arrived ≡ Some call → call ≡ conveyed_call (suc s.served) → suc s.served < 2 ^ 32 → worked s ≡ after_work s (suc s.served) s.entries
+worked_is : (s : State) (call : Conveyed) → s.arrived ≡ Some call → call ≡ conveyed_call (suc s.served) → suc s.served < 2 ^ 32 → worked s ≡ after_work s (suc s.served) s.entries
 unfolding worked answer
-worked-is s call arrived is small =
+worked_is s call arrived is small =
     let k = suc s.served in
     ap (worked_on s) (arrived ∙ ap (λ (x : Conveyed). Some x) is)
-    ∙ ap (answered_with s (conveyed_call k)) (plain_reply-asked k small)
+    ∙ ap (answered_with s (conveyed_call k)) (plain_reply_asked k small)
     ∙ ap (λ (n : ℕ). wrote_down (record (executed_one s k (asked_payload k) (null_reply k)) { served = n }) (send n (inline_message k s.credits (null_reply k)))) (add-one s.served)
 
 worked_one : (s : State) (call : Conveyed) → s.arrived ≡ Some call → call ≡ conveyed_call (suc s.served) → Stands s → Worked s (worked s)
@@ -98,32 +98,32 @@ worked_one s call arrived is st =
     let small_k : k < 2 ^ 32 = omega (arith, small, came_is) in
     let later : s.served < n.received_calls = omega (arith, came_is) in
     let new = after_work s k 0 in
-    let same : worked s ≡ new = worked-is s call arrived is small_k ∙ ap (after_work s k) st.no_entries in
+    let same : worked s ≡ new = worked_is s call arrived is small_k ∙ ap (after_work s k) st.no_entries in
     let run = s.marks ++ execute k ∷ [] in
     let n1 : Counts = record n { served = k } in
-    let at1 : At c run n1 = At-execute c s.marks n st.at st.heard_served in
-    let laws1 = Laws-execute c s.marks n st.at st.laws later small w.few in
-    let at2 = At-write_down c run n1 at1 in
-    let laws2 = Laws-write_down c run n1 at1 laws1 refl in
+    let at1 : At c run n1 = At_execute c s.marks n st.at st.heard_served in
+    let laws1 = Laws_execute c s.marks n st.at st.laws later small w.few in
+    let at2 = At_write_down c run n1 at1 in
+    let laws2 = Laws_write_down c run n1 at1 laws1 refl in
     let counts_now : n.received_calls ≡ k + 0 = came_is ∙ sym (add-zero k) in
     let n2 : Counts = record n { served = k; sent_down = k } in
     let at3 : At c (run ++ write_down c k ∷ []) (record n2 { received_calls = k + 0 }) = subst (λ (j : ℕ). At c (run ++ write_down c k ∷ []) (record n2 { received_calls = j })) counts_now at2 in
     let log : s.down.log ≡ downward c s.served = ap (λ (p : PipeState). p.log) st.down_is in
     let place : s.down.place ≡ length (downward c (length s.reports)) = ap (λ (p : PipeState). p.place) st.down_is in
-    let longer : s.down.log ++ answer c k ≡ downward c k = ap (λ (xs : List ℕ). xs ++ answer c k) log ∙ sym (downward-more c s.served) in
+    let longer : s.down.log ++ answer c k ≡ downward c k = ap (λ (xs : List ℕ). xs ++ answer c k) log ∙ sym (downward_more c s.served) in
     let report_served : length s.reports ≡ s.served = omega (arith, st.came_asked, st.one_out, st.heard_served, came_is) in
     let within : s.down.place ≤ length s.down.log = omega (arith, place, ap length log, ap (λ (j : ℕ). length (downward c j)) report_served) in
-    let way = waiting-written s.down (answer c k) within in
+    let way = waiting_written s.down (answer c k) within in
     let d : Drill = with_mark (execute k) (drill_of s) in
     let makes : drill_of new ≡ settled (drill_opened c) the_link d =
     ap (λ (down : List ℕ). record { marks = run ++ write_down c k ∷ []; ways = record { up = waiting_bytes s.up; down = down } ∷ []; seconds = 0 }) way
-    ∙ sym (settled-down c d n1 at1 refl refl small_k) in
+    ∙ sym (settled_down c d n1 at1 refl refl small_k) in
     let one : Works drill_server (drill_opened c) the_link (drill_of s) (drill_of new) = record {
       xid = k;
       payload = asked_payload k;
       place = 0;
       reply = null_reply k;
-      executes = executes-is c s.marks n st.at later small w.few;
+      executes = executes_is c s.marks n st.at later small w.few;
       new_is = makes;
     } in
     subst (λ (t : State). Worked s t) (sym same) (record {
@@ -150,7 +150,7 @@ worked_one s call arrived is st =
       works = (drill_of new, one, (no_call c (run ++ write_down c k ∷ []) (record n2 { received_calls = k + 0 }) at3 (add-zero k) (omega (arith, small_k)) w.few, refl));
       all = sym came_is;
       none_left = refl;
-      moved = ap works_on (arrived ∙ ap (λ (x : Conveyed). Some x) is) ∙ ap is_answered (plain_reply-asked k small_k) ∙ sym (lt-ltb s.served n.received_calls later);
+      moved = ap works_on (arrived ∙ ap (λ (x : Conveyed). Some x) is) ∙ ap is_answered (plain_reply_asked k small_k) ∙ sym (lt-ltb s.served n.received_calls later);
       still = λ e. absurd (omega (arith, e, came_is));
     })
 

@@ -26,11 +26,11 @@ use Rattle.nr_world.specs.Served.{Served, received_calls, next_call}
 use Rattle.nr_world.specs.Completion.{IsComplete}
 use Rattle.nr_world.specs.Plain.{success, null_reply, is_null, reply_to, plain_reply, drill_server}
 use Rattle.nr_world.specs.Staying.{AreWords, IsSettled, IsHandedOver, AllReplied}
-use Rattle.nr_world.proofs.Nulls.{length-null_reply}
-use Rattle.nr_world.proofs.Inline.{has_words-message, length-inline_message}
-use Rattle.nr_world.proofs.Streams.{is_greeted-own}
-use Rattle.nr_world.proofs.StayingLists.{none_behind, all_each, all_both, all_map, all_mapped, filter_map-map, filter-map, list_any-map, found}
-use Rattle.nr_world.proofs.StayingStreams.{sends, AreShort, messages-sends}
+use Rattle.nr_world.proofs.Nulls.{length_null_reply}
+use Rattle.nr_world.proofs.Inline.{has_words_message, length_inline_message}
+use Rattle.nr_world.proofs.Streams.{is_greeted_own}
+use Rattle.nr_world.proofs.StayingLists.{none_behind, all_each, all_both, all_map, all_mapped, filter_map_map, filter_map_lem, list_any_map, found}
+use Rattle.nr_world.proofs.StayingStreams.{sends, AreShort, messages_sends}
 use Rattle.nr_world.proofs.StayingOwed.{ask_message, owed_client}
 use Rattle.nr_world.proofs.StayingAnswers.{reply_message, Client, owed_server, call_of_executed, IsReplied, executed_first}
 use Rattle.nr_world.proofs.StayingCalls.{call_of_accepted, IsCall, IsRead, AreRead, accepted_read, reply_of_executed, AnswersInline, IsAnswered, is_answered}
@@ -63,7 +63,7 @@ module _ (plain : PlainServer) (opened : LinkParameters) (link : ℕ) (run : Lis
 
   got_all : got link Responder run ≡ own_hello Initiator ++ sends 1 (map (ask_message opened) asks)
   got_all =
-      let greeted : is_greeted Responder (got link Initiator run) ≡ true = ap (is_greeted Responder) got_down ∙ is_greeted-own Responder (sends 1 (map (reply_message opened) done)) in
+      let greeted : is_greeted Responder (got link Initiator run) ≡ true = ap (is_greeted Responder) got_down ∙ is_greeted_own Responder (sends 1 (map (reply_message opened) done)) in
       got_up ∙ ap hello_and_asks greeted
 
   asks_read : AreRead opened asks
@@ -76,8 +76,8 @@ module _ (plain : PlainServer) (opened : LinkParameters) (link : ℕ) (run : Lis
       let short : AreShort (map (ask_message opened) asks) =
       all_map (λ message. length message ≤ send_max) (ask_message opened) asks (all_each (IsRead opened) (λ a. length (ask_message opened a) ≤ send_max) (λ a r. r.short) asks asks_read.each) in
       ap (λ (xs : List ℕ). conveyed call_in (messages Initiator xs)) got_all
-      ∙ ap (conveyed call_in) (messages-sends Initiator (map (ask_message opened) asks) few short)
-      ∙ filter_map-map call_in (ask_message opened) call_of_accepted asks (all_each (IsRead opened) (λ a. call_in (ask_message opened a) ≡ Some (call_of_accepted a)) (λ a r. r.read) asks asks_read.each)
+      ∙ ap (conveyed call_in) (messages_sends Initiator (map (ask_message opened) asks) few short)
+      ∙ filter_map_map call_in (ask_message opened) call_of_accepted asks (all_each (IsRead opened) (λ a. call_in (ask_message opened a) ≡ Some (call_of_accepted a)) (λ a r. r.read) asks asks_read.each)
 
   -- and every received call was executed
   all_executed : map call_of_executed done ≡ map call_of_accepted asks
@@ -110,9 +110,9 @@ module _ (plain : PlainServer) (opened : LinkParameters) (link : ℕ) (run : Lis
       let short : AreShort (map (reply_message opened) done) =
       all_map (λ message. length message ≤ send_max) (reply_message opened) done (all_each (IsAnswered opened) (λ e. length (reply_message opened e) ≤ send_max) (λ e r. r.short) done answered) in
       ap (λ (xs : List ℕ). conveyed reply_in (filter has_words (messages Responder xs))) got_down
-      ∙ ap (λ (ms : List (List ℕ)). conveyed reply_in (filter has_words ms)) (messages-sends Responder (map (reply_message opened) done) few short)
-      ∙ ap (conveyed reply_in) (filter-map has_words (reply_message opened) done (λ e. has_words-message e.xid opened.granted e.reply))
-      ∙ filter_map-map reply_in (reply_message opened) reply_of_executed done (all_each (IsAnswered opened) (λ e. reply_in (reply_message opened e) ≡ Some (reply_of_executed e)) (λ e r. r.read) done answered)
+      ∙ ap (λ (ms : List (List ℕ)). conveyed reply_in (filter has_words ms)) (messages_sends Responder (map (reply_message opened) done) few short)
+      ∙ ap (conveyed reply_in) (filter_map_lem has_words (reply_message opened) done (λ e. has_words_message e.xid opened.granted e.reply))
+      ∙ filter_map_map reply_in (reply_message opened) reply_of_executed done (all_each (IsAnswered opened) (λ e. reply_in (reply_message opened e) ≡ Some (reply_of_executed e)) (λ e r. r.read) done answered)
 
   -- so the reply to each accepted call was received
   pub reply_came : AllReplied link run
@@ -120,10 +120,10 @@ module _ (plain : PlainServer) (opened : LinkParameters) (link : ℕ) (run : Lis
       let own = λ (c : Conveyed). eqb c.xid a.xid in
       let there : list_any own (conveyed reply_in (received_messages link run)) ≡ true =
       ap (list_any own) all_heard
-      ∙ list_any-map own reply_of_executed done
-      ∙ sym (list_any-map own call_of_executed done)
+      ∙ list_any_map own reply_of_executed done
+      ∙ sym (list_any_map own call_of_executed done)
       ∙ ap (list_any own) all_executed
-      ∙ list_any-map own call_of_accepted asks
+      ∙ list_any_map own call_of_accepted asks
       ∙ list_any_at (λ (b : Accepted). eqb b.xid a.xid) asks held.0 a held.1 (eq-eqb _ a.xid (ap (λ (b : Accepted). b.xid) held.2)) in
       found own (conveyed reply_in (received_messages link run)) there
 
@@ -169,5 +169,5 @@ drill_inline entries moment payload reply e =
       own = λ xid small is.
           let same : n.0 ≡ xid = same_Some n.0 xid (sym n.1 ∙ is) in
           ap (λ (r : List ℕ). reply_xid (reply_of r)) (sym n.2 ∙ ap null_reply same) ∙ null_own xid small;
-      short = λ xid credit. omega (arith, length-inline_message xid credit reply, ap length n.2, length-null_reply n.0);
+      short = λ xid credit. omega (arith, length_inline_message xid credit reply, ap length n.2, length_null_reply n.0);
     }

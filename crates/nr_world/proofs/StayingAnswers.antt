@@ -19,13 +19,13 @@ use Rattle.nr_world.specs.Messages.{has_hello, call_in, conveyed, messages, send
 use Rattle.nr_world.specs.Owed.{own_hello, answer_to, called_from, called_server, owed}
 use Rattle.nr_world.specs.Along.{Along}
 use Rattle.nr_world.specs.Served.{ServedMark, received_calls, next_call}
-use Rattle.nr_world.proofs.Runs.{called_from-more}
-use Rattle.nr_world.proofs.Streams.{hello_in-own, has_hello-own}
-use Rattle.nr_world.proofs.StayingLists.{Begins, slice_get-more, next_of, all_push}
-use Rattle.nr_world.proofs.StayingStreams.{hello_in-more, has_hello-more, has_hello-none, messages-none, messages-more, sends}
-use Rattle.nr_world.proofs.StayingRuns.{each_keeps, got-more, got-around, got-beyond, executed-more, Executing, executing}
+use Rattle.nr_world.proofs.Runs.{called_from_more}
+use Rattle.nr_world.proofs.Streams.{hello_in_own, has_hello_own}
+use Rattle.nr_world.proofs.StayingLists.{Begins, slice_get_more, next_of, all_push}
+use Rattle.nr_world.proofs.StayingStreams.{hello_in_more, has_hello_more, has_hello_none, messages_none, messages_more, sends}
+use Rattle.nr_world.proofs.StayingRuns.{each_keeps, got_more, got_around, got_beyond, executed_more, Executing, executing}
 use Rattle.nr_world.proofs.StayingRuns.Executing.{NoneDone, OneDone}
-use Rattle.nr_world.proofs.StayingOwed.{sends-push, other_side}
+use Rattle.nr_world.proofs.StayingOwed.{sends_push, other_side}
 
 -- the message of a reply
 abbrev pub reply_message : LinkParameters → Executed → List ℕ
@@ -64,7 +64,7 @@ replies_fed : (opened : LinkParameters) (before : List ℕ) (es : List Executed)
     → (has_hello Initiator before ≡ false → es ≡ []) → (here ≡ true → has_hello Initiator (before ++ bytes) ≡ true → answer_to (hello_in Initiator (before ++ bytes)) ≡ own_hello Responder)
     → AddsReplies opened before es (cond (here && (not (has_hello Initiator before) && has_hello Initiator (before ++ bytes))) (answer_to (hello_in Initiator (before ++ bytes))) []) (cond (here && true) bytes []) []
 replies_fed opened before es bytes true closed is =
-    replies_greeted opened es (answer_to (hello_in Initiator (before ++ bytes))) (has_hello Initiator before) (has_hello Initiator (before ++ bytes)) (has_hello-more Initiator before bytes) closed (is refl)
+    replies_greeted opened es (answer_to (hello_in Initiator (before ++ bytes))) (has_hello Initiator before) (has_hello Initiator (before ++ bytes)) (has_hello_more Initiator before bytes) closed (is refl)
     ∙ ap (replies opened (has_hello Initiator (before ++ bytes))) (sym (append-nil es))
 replies_fed opened before es bytes false closed is = replies_quiet opened before es [] refl
 
@@ -74,15 +74,15 @@ replies_executed opened before es e true whole =
     let there = whole refl in
     ap (λ (b : Bool). replies opened b es ++ send (length es + 1) (reply_message opened e)) there
     ∙ append_assoc (own_hello Responder) (sends 1 (map (reply_message opened) es)) (send (length es + 1) (reply_message opened e))
-    ∙ ap (λ (xs : List ℕ). own_hello Responder ++ xs) (sym (sends-push (reply_message opened) es e))
-    ∙ ap (λ (b : Bool). replies opened b (es ++ e ∷ [])) (sym (has_hello-more Initiator before [] there))
+    ∙ ap (λ (xs : List ℕ). own_hello Responder ++ xs) (sym (sends_push (reply_message opened) es e))
+    ∙ ap (λ (b : Bool). replies opened b (es ++ e ∷ [])) (sym (has_hello_more Initiator before [] there))
 replies_executed opened before es e false whole = replies_quiet opened before es [] refl
 
 -- a call is received only after a whole hello
 none_came : (link : ℕ) (before : List Mark) → has_hello Initiator (got link Responder before) ≡ false → next_call link before ≡ None
 unfolding next_call
 none_came link before e =
-    ap (λ (ms : List (List ℕ)). slice_get (conveyed call_in ms) (length (executed link before))) (messages-none Initiator (got link Responder before) e)
+    ap (λ (ms : List (List ℕ)). slice_get (conveyed call_in ms) (length (executed link before))) (messages_none Initiator (got link Responder before) e)
 
 hello_came : (link : ℕ) (before : List Mark) (call : Conveyed) → next_call link before ≡ Some call → has_hello Initiator (got link Responder before) ≡ true
 hello_came link before call next =
@@ -97,9 +97,9 @@ own_answer : (x y more : List ℕ) → x ++ y ≡ own_hello Initiator ++ more �
 own_answer x y more is there =
     let hello : Hello = record { side = Initiator; flags = 0; private = [] } in
     let found : hello_in Initiator x ≡ Whole hello (length (own_hello Initiator)) =
-    sym (hello_in-more Initiator x y there) ∙ ap (hello_in Initiator) is
-    ∙ hello_in-more Initiator (own_hello Initiator) more (rw append-nil at (has_hello-own Initiator []))
-    ∙ hello_in-own Initiator in
+    sym (hello_in_more Initiator x y there) ∙ ap (hello_in Initiator) is
+    ∙ hello_in_more Initiator (own_hello Initiator) more (rw append-nil at (has_hello_own Initiator []))
+    ∙ hello_in_own Initiator in
     ap answer_to found
 
 module _ (plain : PlainServer) (opened : LinkParameters) (link : ℕ) (run : List Mark) (client : Client link run) where
@@ -109,7 +109,7 @@ module _ (plain : PlainServer) (opened : LinkParameters) (link : ℕ) (run : Lis
   answered before mark rest bytes parts is there =
       own_answer (got link Responder before ++ bytes) (got link Responder rest) client.0
       (ap (λ (xs : List ℕ). (got link Responder before ++ xs) ++ got link Responder rest) (sym is)
-      ∙ sym (got-around link Responder before mark rest) ∙ ap (got link Responder) parts ∙ sym client.1)
+      ∙ sym (got_around link Responder before mark rest) ∙ ap (got link Responder) parts ∙ sym client.1)
       there
 
   adds_replies : (before : List Mark) (mark : Mark) (rest : List Mark) → before ++ mark ∷ rest ≡ run → ServedMark plain opened link before mark
@@ -134,7 +134,7 @@ module _ (plain : PlainServer) (opened : LinkParameters) (link : ℕ) (run : Lis
 
 -- before the hello is whole no call is executed
 still_closed : (before bytes : List ℕ) → has_hello Initiator (before ++ bytes) ≡ false → has_hello Initiator before ≡ false
-still_closed before bytes e = false_from_ne_true (has_hello Initiator before) (λ there. both_ways _ e (has_hello-more Initiator before bytes there))
+still_closed before bytes e = false_from_ne_true (has_hello Initiator before) (λ there. both_ways _ e (has_hello_more Initiator before bytes there))
 
 stays_closed : (plain : PlainServer) (link : ℕ) (before : List Mark) (bytes : List ℕ) (new : List Executed) → Executing plain link before new
     → (has_hello Initiator (got link Responder before) ≡ false → executed link before ≡ [])
@@ -152,16 +152,16 @@ record Owes (opened : LinkParameters) (link : ℕ) (before : List Mark) : Type 0
 
 owes_none : (opened : LinkParameters) (link : ℕ) → Owes opened link []
 unfolding got executed
-owes_none opened link = record { called = ap (λ (b : Bool). replies opened b []) (sym (has_hello-none Initiator)); closed = λ e. refl }
+owes_none opened link = record { called = ap (λ (b : Bool). replies opened b []) (sym (has_hello_none Initiator)); closed = λ e. refl }
 
 owes_more : (plain : PlainServer) (opened : LinkParameters) (link : ℕ) (run : List Mark) → Client link run → (before : List Mark) (mark : Mark) (rest : List Mark) → before ++ mark ∷ rest ≡ run
     → ServedMark plain opened link before mark → Owes opened link before → Owes opened link (before ++ mark ∷ [])
 owes_more plain opened link run client before mark rest parts h o =
     let called = called_server opened link in
-    let g = got-more link Responder before mark in
-    let x = executed-more link before mark in
+    let g = got_more link Responder before mark in
+    let x = executed_more link before mark in
     record {
-      called = called_from-more called [] before mark
+      called = called_from_more called [] before mark
           ∙ ap (λ (xs : List ℕ). xs ++ called before mark) o.called
           ∙ adds_replies plain opened link run client before mark rest parts h o.closed
           ∙ ap (λ (xs : List ℕ). replies opened (has_hello Initiator xs) (executed link before ++ executed_at link mark)) (sym g)
@@ -175,18 +175,18 @@ pub owed_server : (plain : PlainServer) (opened : LinkParameters) (link : ℕ) (
 unfolding owed
 owed_server plain opened link run client along =
     let o = each_keeps (ServedMark plain opened link) (Owes opened link) run (owes_more plain opened link run client) [] run refl along (owes_none opened link) in
-    let there : has_hello Initiator (got link Responder run) ≡ true = ap (has_hello Initiator) (sym client.1) ∙ has_hello-own Initiator client.0 in
+    let there : has_hello Initiator (got link Responder run) ≡ true = ap (has_hello Initiator) (sym client.1) ∙ has_hello_own Initiator client.0 in
     o.called ∙ ap (λ (b : Bool). replies opened b (executed link run)) there
 
 -- ---- the calls that were executed
 
 -- the calls that were received before are a prefix of those received
-pub received_calls-beyond : (link : ℕ) (before rest : List Mark) → Begins (received_calls link before) (received_calls link (before ++ rest))
-received_calls-beyond link before rest =
-    let longer = messages-more Initiator (got link Responder before) (got link Responder rest) in (
+pub received_calls_beyond : (link : ℕ) (before rest : List Mark) → Begins (received_calls link before) (received_calls link (before ++ rest))
+received_calls_beyond link before rest =
+    let longer = messages_more Initiator (got link Responder before) (got link Responder rest) in (
       conveyed call_in longer.0,
       sym (filter_map-append call_in (messages Initiator (got link Responder before)) longer.0)
-          ∙ ap (conveyed call_in) (longer.1 ∙ ap (messages Initiator) (sym (got-beyond link Responder before rest))),
+          ∙ ap (conveyed call_in) (longer.1 ∙ ap (messages Initiator) (sym (got_beyond link Responder before rest))),
     )
 
 -- the xid and the payload of an executed call
@@ -216,12 +216,12 @@ first_more plain link run before rest new parts (OneDone e is h) f =
     let es = executed link before in
     let call = call_of_executed e in
     let firsts = map call_of_executed es in
-    let here = received_calls-beyond link before rest in
+    let here = received_calls_beyond link before rest in
     let all : received_calls link before ++ here.0 ≡ firsts ++ f.calls.0 = here.1 ∙ ap (received_calls link) parts ∙ sym f.calls.1 in
     let at : slice_get (firsts ++ f.calls.0) (length firsts) ≡ Some call =
     ap (slice_get (firsts ++ f.calls.0)) (length-map es call_of_executed)
     ∙ ap (λ (cs : List Conveyed). slice_get cs (length es)) (sym all)
-    ∙ slice_get-more (received_calls link before) here.0 (length es) call h.is_next in
+    ∙ slice_get_more (received_calls link before) here.0 (length es) call h.is_next in
     let next = next_of firsts f.calls.0 call at in
     let one : executed link before ++ e ∷ [] ≡ executed link before ++ new = ap (λ (xs : List Executed). es ++ xs) (sym is) in
     let longer : map call_of_executed (es ++ e ∷ []) ++ next.0 ≡ received_calls link run =
@@ -239,7 +239,7 @@ executed_first plain opened link run along =
     (λ before mark rest parts h f.
     let more = first_more plain link run before (mark ∷ rest) (executed_at link mark) parts (executing plain opened link before mark h) f in
     record {
-      calls = subst (λ (es : List Executed). Begins (map call_of_executed es) (received_calls link run)) (sym (executed-more link before mark)) more.0;
-      replied = subst (AllByRecursion (IsReplied plain)) (sym (executed-more link before mark)) more.1;
+      calls = subst (λ (es : List Executed). Begins (map call_of_executed es) (received_calls link run)) (sym (executed_more link before mark)) more.0;
+      replied = subst (AllByRecursion (IsReplied plain)) (sym (executed_more link before mark)) more.1;
     })
     [] run refl along (first_none plain link run)

@@ -19,9 +19,9 @@ use Rattle.nr_world.specs.Owed.{call_payload}
 use Rattle.nr_world.specs.Along.{Along}
 use Rattle.nr_world.specs.Asked.{AskedMark, Fits}
 use Rattle.nr_world.specs.Staying.{head_of, AreWords, IsInline}
-use Rattle.nr_world.proofs.Inline.{length-inline_message, call_in-message, reply_in-message}
+use Rattle.nr_world.proofs.Inline.{length_inline_message, call_in_message, reply_in_message}
 use Rattle.nr_world.proofs.StayingLists.{all_push, all_both}
-use Rattle.nr_world.proofs.StayingRuns.{each_keeps, accepted-more, accepted-around, Accepting, accepting}
+use Rattle.nr_world.proofs.StayingRuns.{each_keeps, accepted_more, accepted_around, Accepting, accepting}
 use Rattle.nr_world.proofs.StayingRuns.Accepting.{NoneNew, OneNew}
 use Rattle.nr_world.proofs.StayingOwed.{ask_message}
 use Rattle.nr_world.proofs.StayingAnswers.{reply_message, call_of_executed, IsReplied}
@@ -40,7 +40,7 @@ accepted_there : (link : ℕ) (run before rest : List Mark) (mark : Mark) (a : A
 accepted_there link run before rest mark a parts is =
     let calls = accepted link before in
     subst (λ (xs : List Accepted). Contains xs a)
-    (ap (λ (new : List Accepted). (calls ++ new) ++ accepted link rest) (sym is) ∙ sym (accepted-around link before mark rest) ∙ ap (accepted link) parts)
+    (ap (λ (new : List Accepted). (calls ++ new) ++ accepted link rest) (sym is) ∙ sym (accepted_around link before mark rest) ∙ ap (accepted link) parts)
     (Contains-append_left (calls ++ a ∷ []) (accepted link rest) a (Contains-push calls a))
 
 few_more : (opened : LinkParameters) (link : ℕ) (before : List Mark) (new : List Accepted) → 1 ≤ opened.first_xid → ((a : Accepted) → new ≡ a ∷ [] → a.xid < 2 ^ 32)
@@ -62,7 +62,7 @@ accepted_few : (opened : LinkParameters) (link : ℕ) (run : List Mark) → AreW
 accepted_few opened link run words along =
     each_keeps (AskedMark opened link) (λ (before : List Mark). AreFew opened (accepted link before)) run
     (λ before mark rest parts h f.
-    subst (AreFew opened) (sym (accepted-more link before mark))
+    subst (AreFew opened) (sym (accepted_more link before mark))
     (few_more opened link before (accepted_at link mark) words.first
     (λ a is. (words.encoded a (accepted_there link run before rest mark a parts is)).1.0)
     (accepting opened link before mark h) f))
@@ -92,11 +92,11 @@ is_read : (opened : LinkParameters) (a : Accepted) → opened.wished < 2 ^ 32 �
 is_read opened a few short encoded =
     let payload = call_payload a.xid a.call in
     let own = own_xid a encoded.0 encoded.1 in
-    let len = length-inline_message a.xid opened.wished payload in
+    let len = length_inline_message a.xid opened.wished payload in
     record {
       call = record { small = encoded.1.0; own = own };
       short = short;
-      read = call_in-message a.xid opened.wished payload encoded.1.0 few (omega (arith, len, short)) own;
+      read = call_in_message a.xid opened.wished payload encoded.1.0 few (omega (arith, len, short)) own;
     }
 
 pub record AreRead (opened : LinkParameters) (calls : List Accepted) : Type 0 where
@@ -132,9 +132,9 @@ pub record IsAnswered (opened : LinkParameters) (e : Executed) : Type 0 where
 pub is_answered : (plain : PlainServer) (opened : LinkParameters) (e : Executed) → AnswersInline plain → opened.granted < 2 ^ 32 → IsReplied plain e → IsCall (call_of_executed e) → IsAnswered opened e
 is_answered plain opened e inline few replied call =
     let goes = inline replied.0 e.moment e.payload e.reply replied.1 in
-    let len = length-inline_message e.xid opened.granted e.reply in
+    let len = length_inline_message e.xid opened.granted e.reply in
     let short = goes.short e.xid opened.granted in
     record {
       short = short;
-      read = reply_in-message e.xid opened.granted e.reply call.small few (omega (arith, len, short)) (goes.own e.xid call.small call.own);
+      read = reply_in_message e.xid opened.granted e.reply call.small few (omega (arith, len, short)) (goes.own e.xid call.small call.own);
     }

@@ -10,10 +10,10 @@ abbrev pub Begins : {A : Type 0} → List A → List A → Type 0
 Begins {A} xs ys = (more : List A) × (xs ++ more ≡ ys)
 
 -- an element of the prefix is one of the whole list
-pub slice_get-more : {A : Type 0} (xs more : List A) (n : ℕ) (x : A) → slice_get xs n ≡ Some x → slice_get (xs ++ more) n ≡ Some x
-slice_get-more [] more n x e = absurd cc
-slice_get-more (y ∷ xs) more zero x e = e
-slice_get-more (y ∷ xs) more (suc n) x e = slice_get-more xs more n x e
+pub slice_get_more : {A : Type 0} (xs more : List A) (n : ℕ) (x : A) → slice_get xs n ≡ Some x → slice_get (xs ++ more) n ≡ Some x
+slice_get_more [] more n x e = absurd cc
+slice_get_more (y ∷ xs) more zero x e = e
+slice_get_more (y ∷ xs) more (suc n) x e = slice_get_more xs more n x e
 
 -- the element behind a prefix
 pub next_of : {A : Type 0} (xs more : List A) (x : A) → slice_get (xs ++ more) (length xs) ≡ Some x → (others : List A) × (more ≡ x ∷ others)
@@ -52,21 +52,21 @@ all_both P Q R step (x ∷ xs) h k = (step x h.0 k.0, all_both P Q R step xs h.1
 
 -- ---- what is read, kept and found
 
-pub filter_map-map : {A B C : Type 0} (read : B → Option C) (f : A → B) (g : A → C) (xs : List A) → AllByRecursion (λ x. read (f x) ≡ Some (g x)) xs → filter_map read (map f xs) ≡ map g xs
-filter_map-map read f g [] h = refl
-filter_map-map read f g (x ∷ xs) h =
+pub filter_map_map : {A B C : Type 0} (read : B → Option C) (f : A → B) (g : A → C) (xs : List A) → AllByRecursion (λ x. read (f x) ≡ Some (g x)) xs → filter_map read (map f xs) ≡ map g xs
+filter_map_map read f g [] h = refl
+filter_map_map read f g (x ∷ xs) h =
     ap (λ (y : Option _). cons_option y (filter_map read (map f xs))) h.0
-    ∙ ap (λ (ys : List _). g x ∷ ys) (filter_map-map read f g xs h.1)
+    ∙ ap (λ (ys : List _). g x ∷ ys) (filter_map_map read f g xs h.1)
 
-pub filter-map : {A B : Type 0} (p : B → Bool) (f : A → B) (xs : List A) → ((x : A) → p (f x) ≡ true) → filter p (map f xs) ≡ map f xs
-filter-map p f [] h = refl
-filter-map p f (x ∷ xs) h =
+pub filter_map_lem : {A B : Type 0} (p : B → Bool) (f : A → B) (xs : List A) → ((x : A) → p (f x) ≡ true) → filter p (map f xs) ≡ map f xs
+filter_map_lem p f [] h = refl
+filter_map_lem p f (x ∷ xs) h =
     ap (λ (b : Bool). cond b (f x ∷ filter p (map f xs)) (filter p (map f xs))) (h x)
-    ∙ ap (λ (ys : List _). f x ∷ ys) (filter-map p f xs h)
+    ∙ ap (λ (ys : List _). f x ∷ ys) (filter_map_lem p f xs h)
 
-pub list_any-map : {A B : Type 0} (p : B → Bool) (f : A → B) (xs : List A) → list_any p (map f xs) ≡ list_any (λ x. p (f x)) xs
-list_any-map p f [] = refl
-list_any-map p f (x ∷ xs) = ap (λ (b : Bool). p (f x) || b) (list_any-map p f xs)
+pub list_any_map : {A B : Type 0} (p : B → Bool) (f : A → B) (xs : List A) → list_any p (map f xs) ≡ list_any (λ x. p (f x)) xs
+list_any_map p f [] = refl
+list_any_map p f (x ∷ xs) = ap (λ (b : Bool). p (f x) || b) (list_any_map p f xs)
 
 found_by : {A : Type 0} (p : A → Bool) (x : A) (others : Option A) (b : Bool) → (b ≡ false → (y : A) × (others ≡ Some y)) → (y : A) × (cond b (Some x) others ≡ Some y)
 found_by p x others true h = (x, refl)

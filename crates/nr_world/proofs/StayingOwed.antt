@@ -10,23 +10,23 @@ use Rattle.nr_world.specs.Observed.{Accepted, fed, got, accepted_at, accepted}
 use Rattle.nr_world.specs.Messages.{is_greeted, send, inline_message}
 use Rattle.nr_world.specs.Owed.{own_hello, call_payload, asking, asking_each, called_from, called_client, owed}
 use Rattle.nr_world.specs.Along.{Along}
-use Rattle.nr_world.proofs.Runs.{called_from-more}
-use Rattle.nr_world.proofs.StayingStreams.{sends, sends-more, is_greeted-more}
-use Rattle.nr_world.proofs.StayingRuns.{each_keeps, got-more, accepted-more}
+use Rattle.nr_world.proofs.Runs.{called_from_more}
+use Rattle.nr_world.proofs.StayingStreams.{sends, sends_more, is_greeted_more}
+use Rattle.nr_world.proofs.StayingRuns.{each_keeps, got_more, accepted_more}
 
 -- the message of an accepted call
 abbrev pub ask_message : LinkParameters → Accepted → List ℕ
 ask_message opened a = inline_message a.xid opened.wished (call_payload a.xid a.call)
 
-pub asking_each-sends : (opened : LinkParameters) (msn : ℕ) (calls : List Accepted) → asking_each opened msn calls ≡ sends msn (map (ask_message opened) calls)
-asking_each-sends opened msn [] = refl
-asking_each-sends opened msn (a ∷ calls) = ap (λ (xs : List ℕ). asking opened msn a ++ xs) (asking_each-sends opened (msn + 1) calls)
+pub asking_each_sends : (opened : LinkParameters) (msn : ℕ) (calls : List Accepted) → asking_each opened msn calls ≡ sends msn (map (ask_message opened) calls)
+asking_each_sends opened msn [] = refl
+asking_each_sends opened msn (a ∷ calls) = ap (λ (xs : List ℕ). asking opened msn a ++ xs) (asking_each_sends opened (msn + 1) calls)
 
 -- one more Send
-pub sends-push : {A : Type 0} (f : A → List ℕ) (xs : List A) (x : A) → sends 1 (map f (xs ++ x ∷ [])) ≡ sends 1 (map f xs) ++ send (length xs + 1) (f x)
-sends-push f xs x =
+pub sends_push : {A : Type 0} (f : A → List ℕ) (xs : List A) (x : A) → sends 1 (map f (xs ++ x ∷ [])) ≡ sends 1 (map f xs) ++ send (length xs + 1) (f x)
+sends_push f xs x =
     ap (sends 1) (map-append f xs (x ∷ []))
-    ∙ sends-more 1 (map f xs) (f x)
+    ∙ sends_more 1 (map f xs) (f x)
     ∙ ap (λ (n : ℕ). sends 1 (map f xs) ++ send (n + 1) (f x)) (length-map xs f)
 
 -- the Sends of these calls, where the client has the server's hello
@@ -39,7 +39,7 @@ all_asks opened link before = asks opened (is_greeted Responder (got link Initia
 
 asks_submit : (opened : LinkParameters) (calls : List Accepted) (a : Accepted) (here greeted : Bool)
     → asks opened greeted calls ++ cond (here && greeted) (asking opened (length calls + 1) a) [] ≡ asks opened greeted (calls ++ cond here (a ∷ []) [])
-asks_submit opened calls a true true = sym (sends-push (ask_message opened) calls a)
+asks_submit opened calls a true true = sym (sends_push (ask_message opened) calls a)
 asks_submit opened calls a true false = refl
 asks_submit opened calls a false greeted = append-nil (asks opened greeted calls) ∙ ap (asks opened greeted) (sym (append-nil calls))
 
@@ -47,7 +47,7 @@ asks_greeted : (opened : LinkParameters) (calls : List Accepted) (old new : Bool
     → asks opened old calls ++ cond (not old && new) (asking_each opened 1 calls) [] ≡ asks opened new calls
 asks_greeted opened calls true true kept = append-nil (asks opened true calls)
 asks_greeted opened calls true false kept = absurd (let wrong : false ≡ true = kept refl in cc)
-asks_greeted opened calls false true kept = asking_each-sends opened 1 calls
+asks_greeted opened calls false true kept = asking_each_sends opened 1 calls
 asks_greeted opened calls false false kept = refl
 
 -- the output for a mark, by what the mark brings
@@ -65,7 +65,7 @@ asks_quiet opened before calls bytes none =
 asks_fed : (opened : LinkParameters) (before : List ℕ) (calls : List Accepted) (bytes : List ℕ) (here : Bool)
     → AddsAsks opened before calls (cond (here && (not (is_greeted Responder before) && is_greeted Responder (before ++ bytes))) (asking_each opened 1 calls) []) (cond (here && true) bytes []) []
 asks_fed opened before calls bytes true =
-    asks_greeted opened calls (is_greeted Responder before) (is_greeted Responder (before ++ bytes)) (is_greeted-more Responder before bytes)
+    asks_greeted opened calls (is_greeted Responder before) (is_greeted Responder (before ++ bytes)) (is_greeted_more Responder before bytes)
     ∙ ap (asks opened (is_greeted Responder (before ++ bytes))) (sym (append-nil calls))
 asks_fed opened before calls bytes false = asks_quiet opened before calls [] refl
 
@@ -100,8 +100,8 @@ adds_asks opened link before (marks.Drop l) = asks_quiet opened (got link Initia
 one_more_ask : (opened : LinkParameters) (link : ℕ) (before : List Mark) (mark : Mark) → all_asks opened link before ++ called_client opened link before mark ≡ all_asks opened link (before ++ mark ∷ [])
 one_more_ask opened link before mark =
     adds_asks opened link before mark
-    ∙ ap (λ (xs : List ℕ). asks opened (is_greeted Responder xs) (accepted link before ++ accepted_at link mark)) (sym (got-more link Initiator before mark))
-    ∙ ap (asks opened (is_greeted Responder (got link Initiator (before ++ mark ∷ [])))) (sym (accepted-more link before mark))
+    ∙ ap (λ (xs : List ℕ). asks opened (is_greeted Responder xs) (accepted link before ++ accepted_at link mark)) (sym (got_more link Initiator before mark))
+    ∙ ap (asks opened (is_greeted Responder (got link Initiator (before ++ mark ∷ [])))) (sym (accepted_more link before mark))
 
 none_asked : (opened : LinkParameters) (link : ℕ) → [] ≡ all_asks opened link []
 unfolding accepted
@@ -119,7 +119,7 @@ owed_client P opened link run along =
     let is : called_from called [] run ≡ all_asks opened link run =
     each_keeps P (λ (before : List Mark). called_from called [] before ≡ all_asks opened link before) run
     (λ before mark rest e p holds.
-    called_from-more called [] before mark
+    called_from_more called [] before mark
     ∙ ap (λ (xs : List ℕ). xs ++ called before mark) holds
     ∙ one_more_ask opened link before mark)
     [] run refl along (none_asked opened link) in

@@ -14,7 +14,7 @@ use Rattle.nr_world.specs.Observed.{PlainServer, Accepted, Executed, fed, got, a
 use Rattle.nr_world.specs.Along.{Along}
 use Rattle.nr_world.specs.Asked.{AskedMark, Fits}
 use Rattle.nr_world.specs.Served.{ServedMark, Executes}
-use Rattle.nr_world.proofs.Runs.{flat_map-more}
+use Rattle.nr_world.proofs.Runs.{flat_map_more}
 
 -- a fact that each mark keeps, given the marks before it, holds of the whole run
 pub each_keeps : (P : List Mark → Mark → Type 0) (F : List Mark → Type 0) (whole : List Mark)
@@ -25,34 +25,34 @@ each_keeps P F whole step before (mark ∷ run) is along holds =
     each_keeps P F whole step (before ++ mark ∷ []) run (append_assoc before (mark ∷ []) run ∙ is) along.1 (step before mark run is along.0 holds)
 
 -- what one more mark adds
-pub got-more : (link : ℕ) (side : Side) (before : List Mark) (mark : Mark) → got link side (before ++ mark ∷ []) ≡ got link side before ++ fed link side mark
+pub got_more : (link : ℕ) (side : Side) (before : List Mark) (mark : Mark) → got link side (before ++ mark ∷ []) ≡ got link side before ++ fed link side mark
 unfolding got
-got-more link side before mark = flat_map-more (fed link side) before mark
+got_more link side before mark = flat_map_more (fed link side) before mark
 
-pub accepted-more : (link : ℕ) (before : List Mark) (mark : Mark) → accepted link (before ++ mark ∷ []) ≡ accepted link before ++ accepted_at link mark
+pub accepted_more : (link : ℕ) (before : List Mark) (mark : Mark) → accepted link (before ++ mark ∷ []) ≡ accepted link before ++ accepted_at link mark
 unfolding accepted
-accepted-more link before mark = flat_map-more (accepted_at link) before mark
+accepted_more link before mark = flat_map_more (accepted_at link) before mark
 
-pub executed-more : (link : ℕ) (before : List Mark) (mark : Mark) → executed link (before ++ mark ∷ []) ≡ executed link before ++ executed_at link mark
+pub executed_more : (link : ℕ) (before : List Mark) (mark : Mark) → executed link (before ++ mark ∷ []) ≡ executed link before ++ executed_at link mark
 unfolding executed
-executed-more link before mark = flat_map-more (executed_at link) before mark
+executed_more link before mark = flat_map_more (executed_at link) before mark
 
 -- the parts of the whole run, around one mark
 around : {A : Type 0} (f : Mark → List A) (before : List Mark) (mark : Mark) (rest : List Mark) → flat_map f (before ++ mark ∷ rest) ≡ (flat_map f before ++ f mark) ++ flat_map f rest
 around f before mark rest = flat_map-append f before (mark ∷ rest) ∙ sym (append_assoc (flat_map f before) (f mark) (flat_map f rest))
 
-pub got-around : (link : ℕ) (side : Side) (before : List Mark) (mark : Mark) (rest : List Mark) → got link side (before ++ mark ∷ rest) ≡ (got link side before ++ fed link side mark) ++ got link side rest
+pub got_around : (link : ℕ) (side : Side) (before : List Mark) (mark : Mark) (rest : List Mark) → got link side (before ++ mark ∷ rest) ≡ (got link side before ++ fed link side mark) ++ got link side rest
 unfolding got
-got-around link side before mark rest = around (fed link side) before mark rest
+got_around link side before mark rest = around (fed link side) before mark rest
 
-pub accepted-around : (link : ℕ) (before : List Mark) (mark : Mark) (rest : List Mark) → accepted link (before ++ mark ∷ rest) ≡ (accepted link before ++ accepted_at link mark) ++ accepted link rest
+pub accepted_around : (link : ℕ) (before : List Mark) (mark : Mark) (rest : List Mark) → accepted link (before ++ mark ∷ rest) ≡ (accepted link before ++ accepted_at link mark) ++ accepted link rest
 unfolding accepted
-accepted-around link before mark rest = around (accepted_at link) before mark rest
+accepted_around link before mark rest = around (accepted_at link) before mark rest
 
 -- and what was received before is a prefix of the whole
-pub got-beyond : (link : ℕ) (side : Side) (before rest : List Mark) → got link side (before ++ rest) ≡ got link side before ++ got link side rest
+pub got_beyond : (link : ℕ) (side : Side) (before rest : List Mark) → got link side (before ++ rest) ≡ got link side before ++ got link side rest
 unfolding got
-got-beyond link side before rest = flat_map-append (fed link side) before rest
+got_beyond link side before rest = flat_map-append (fed link side) before rest
 
 -- ---- the calls of a mark
 

@@ -16,7 +16,7 @@ use Rattle.nr_wire.specs.Next.Next.{Whole, More}
 use Rattle.nr_wire.specs.Stream.{Split, is_whole, frame_len, IsFrame, AreFrames, Splits}
 use Rattle.nr_wire.proofs.Frames.{whole_from, partial_nil}
 use Rattle.nr_wire.proofs.FrontFrame.{front_frame}
-use Rattle.nr_wire.proofs.Splits.{split-only}
+use Rattle.nr_wire.proofs.Splits.{split_only}
 use Rattle.nr_wire.proofs.Segments.{encoding_again}
 use Rattle.nr_wire.proofs.Hellos.{hello_again}
 use Rattle.nr_world.specs.Constants.{send_max}
@@ -48,9 +48,9 @@ pub record IsSend (frame : List ℕ) (segment : Segment) : Type 0 where
   pub says : segment_of frame ≡ Ok segment
   pub found : segment_in frame ≡ Whole segment (length frame)
 
-pub send-is : (msn : ℕ) (message : List ℕ) → msn < 2 ^ 32 → length message ≤ send_max → IsSend (send msn message) (send_segment msn message)
+pub send_is : (msn : ℕ) (message : List ℕ) → msn < 2 ^ 32 → length message ≤ send_max → IsSend (send msn message) (send_segment msn message)
 unfolding send segment_in
-send-is msn message small short =
+send_is msn message small short =
     let segment = send_segment msn message in
     let frame = encoding segment in
     let read : segment_in (frame ++ []) ≡ Whole segment (length frame) =
@@ -69,9 +69,9 @@ unrefused Initiator = refl
 unrefused Responder = refl
 
 -- a hello without flags and private data
-pub own_hello-frame : (side : Side) → IsFrame (HelloFrom side) (own_hello side)
+pub own_hello_frame : (side : Side) → IsFrame (HelloFrom side) (own_hello side)
 unfolding own_hello hello_in
-own_hello-frame side =
+own_hello_frame side =
     let hello : Hello = record { side = side; flags = 0; private = [] } in
     let frame = hello_encoding hello in
     let read : hello_in side (frame ++ []) ≡ Whole hello (length frame) = hello_again hello [] (unrefused side, lit≤ tt) in
@@ -79,21 +79,21 @@ own_hello-frame side =
     let j = judged_whole (is_whole (HelloFrom side) frame) (hello_of side (take (hello_len side frame) frame)) hello (hello_len side frame) (length frame) found in
     frame_from (HelloFrom side) frame j.is_whole j.len_is
 
-pub hello_in-own : (side : Side) → hello_in side (own_hello side) ≡ Whole (record { side = side; flags = 0; private = [] }) (length (own_hello side))
+pub hello_in_own : (side : Side) → hello_in side (own_hello side) ≡ Whole (record { side = side; flags = 0; private = [] }) (length (own_hello side))
 unfolding own_hello
-hello_in-own side =
+hello_in_own side =
     let hello : Hello = record { side = side; flags = 0; private = [] } in
     let read : hello_in side (hello_encoding hello ++ []) ≡ Whole hello (length (hello_encoding hello)) = hello_again hello [] (unrefused side, lit≤ tt) in
     rw append-nil at read
 
 -- the hello is whole and isn't refused, whatever follows it
-pub is_greeted-own : (side : Side) (more : List ℕ) → is_greeted side (own_hello side ++ more) ≡ true
+pub is_greeted_own : (side : Side) (more : List ℕ) → is_greeted side (own_hello side ++ more) ≡ true
 unfolding is_greeted own_hello
-is_greeted-own side more = ap is_hello (hello_again (record { side = side; flags = 0; private = [] }) more (unrefused side, lit≤ tt))
+is_greeted_own side more = ap is_hello (hello_again (record { side = side; flags = 0; private = [] }) more (unrefused side, lit≤ tt))
 
-pub has_hello-own : (side : Side) (more : List ℕ) → has_hello side (own_hello side ++ more) ≡ true
+pub has_hello_own : (side : Side) (more : List ℕ) → has_hello side (own_hello side ++ more) ≡ true
 unfolding has_hello
-has_hello-own side more = (front_frame (HelloFrom side) (own_hello side) more (own_hello-frame side)).whole
+has_hello_own side more = (front_frame (HelloFrom side) (own_hello side) more (own_hello_frame side)).whole
 
 -- Sends, each of which is a whole message
 pub record AreSends (f g : ℕ → List ℕ) (n : ℕ) : Type 0 where
@@ -103,38 +103,38 @@ pub record AreSends (f g : ℕ → List ℕ) (n : ℕ) : Type 0 where
 fewer : (f g : ℕ → List ℕ) (n : ℕ) → AreSends f g (suc n) → AreSends f g n
 fewer f g n s = record { frames = λ k le. s.frames k (omega arith); parts = λ k le. s.parts k (omega arith) }
 
-joined-concat : (f : ℕ → List ℕ) (n : ℕ) → joined f n ≡ concat (each f n)
-joined-concat f zero = refl
-joined-concat f (suc n) = ap (λ (xs : List ℕ). xs ++ f (suc n)) (joined-concat f n) ∙ ap (λ (xs : List ℕ). concat (each f n) ++ xs) (sym (append-nil (f (suc n)))) ∙ sym (concat-append (each f n) (f (suc n) ∷ []))
+joined_concat : (f : ℕ → List ℕ) (n : ℕ) → joined f n ≡ concat (each f n)
+joined_concat f zero = refl
+joined_concat f (suc n) = ap (λ (xs : List ℕ). xs ++ f (suc n)) (joined_concat f n) ∙ ap (λ (xs : List ℕ). concat (each f n) ++ xs) (sym (append-nil (f (suc n)))) ∙ sym (concat-append (each f n) (f (suc n) ∷ []))
 
-AreFrames-each : (f g : ℕ → List ℕ) (n : ℕ) (more : List (List ℕ)) → AreSends f g n → AreFrames Fpdu more → AreFrames Fpdu (each f n ++ more)
-AreFrames-each f g zero more s h = h
-AreFrames-each f g (suc n) more s h =
+AreFrames_each : (f g : ℕ → List ℕ) (n : ℕ) (more : List (List ℕ)) → AreSends f g n → AreFrames Fpdu more → AreFrames Fpdu (each f n ++ more)
+AreFrames_each f g zero more s h = h
+AreFrames_each f g (suc n) more s h =
     rw (append_assoc (each f n) (f (suc n) ∷ []) more)
-    (AreFrames-each f g n (f (suc n) ∷ more) (fewer f g n s) (s.frames (suc n) (omega arith), h))
+    (AreFrames_each f g n (f (suc n) ∷ more) (fewer f g n s) (s.frames (suc n) (omega arith), h))
 
-messages_from-each : (f g : ℕ → List ℕ) (n : ℕ) (more : List (List ℕ)) → AreSends f g n → messages_from (each f n ++ more) [] ≡ each g n ++ messages_from more []
-messages_from-each f g zero more s = refl
-messages_from-each f g (suc n) more s =
+messages_from_each : (f g : ℕ → List ℕ) (n : ℕ) (more : List (List ℕ)) → AreSends f g n → messages_from (each f n ++ more) [] ≡ each g n ++ messages_from more []
+messages_from_each f g zero more s = refl
+messages_from_each f g (suc n) more s =
     let one : joined_to (part_in (segment_of (f (suc n)))) (messages_from more) [] ≡ g (suc n) ∷ messages_from more [] =
     ap (λ (p : Option Part). joined_to p (messages_from more) []) (s.parts (suc n) (omega arith)) in
     ap (λ (xs : List (List ℕ)). messages_from xs []) (append_assoc (each f n) (f (suc n) ∷ []) more)
-    ∙ messages_from-each f g n (f (suc n) ∷ more) (fewer f g n s)
+    ∙ messages_from_each f g n (f (suc n) ∷ more) (fewer f g n s)
     ∙ ap (λ (xs : List (List ℕ)). each g n ++ xs) one
     ∙ sym (append_assoc (each g n) (g (suc n) ∷ []) (messages_from more []))
 
 -- the messages of a stream with a hello and this many Sends
-pub messages-each : (side : Side) (f g : ℕ → List ℕ) (n : ℕ) → AreSends f g n → messages side (own_hello side ++ joined f n) ≡ each g n
+pub messages_each : (side : Side) (f g : ℕ → List ℕ) (n : ℕ) → AreSends f g n → messages side (own_hello side ++ joined f n) ≡ each g n
 unfolding messages
-messages-each side f g n s =
+messages_each side f g n s =
     let frames = own_hello side ∷ each f n in
-    let fpdus : AreFrames Fpdu (each f n) = rw append-nil at (AreFrames-each f g n [] s tt) in
+    let fpdus : AreFrames Fpdu (each f n) = rw append-nil at (AreFrames_each f g n [] s tt) in
     let parts : Splits (HelloFrom side) (own_hello side ++ joined f n) frames [] = record {
-      whole = ap (λ (xs : List ℕ). own_hello side ++ xs) (joined-concat f n) ∙ sym (append-nil (own_hello side ++ concat (each f n)));
-      each = (own_hello-frame side, fpdus);
+      whole = ap (λ (xs : List ℕ). own_hello side ++ xs) (joined_concat f n) ∙ sym (append-nil (own_hello side ++ concat (each f n)));
+      each = (own_hello_frame side, fpdus);
       partial = partial_nil Fpdu;
     } in
-    let is = split-only (HelloFrom side) (own_hello side ++ joined f n) frames [] parts in
+    let is = split_only (HelloFrom side) (own_hello side ++ joined f n) frames [] parts in
     ap (λ (s : Split). messages_from (drop 1 s.frames) []) is
     ∙ ap (λ (xs : List (List ℕ)). messages_from xs []) (sym (append-nil (each f n)))
-    ∙ messages_from-each f g n [] s ∙ append-nil (each g n)
+    ∙ messages_from_each f g n [] s ∙ append-nil (each g n)

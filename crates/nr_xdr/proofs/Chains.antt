@@ -60,23 +60,23 @@ pub encodings_read : (items : List Item) → AllFit items → ReadsAll items (en
 encodings_read [] fits = refl
 encodings_read (item ∷ items) fits = (encoding item, encodings items, encoding_reads item fits.0, encodings_read items fits.1, refl)
 
-pub IsBytes-right : (x y : List ℕ) → IsBytes (x ++ y) → IsBytes y
-IsBytes-right x y fits i = rw (← get_or-append-add x y i 0) (fits (length x + i))
+pub IsBytes_right : (x y : List ℕ) → IsBytes (x ++ y) → IsBytes y
+IsBytes_right x y fits i = rw (← get_or-append-add x y i 0) (fits (length x + i))
 
-pub IsBytes-left : (x y : List ℕ) → IsBytes (x ++ y) → IsBytes x
-IsBytes-left x y fits i =
+pub IsBytes_left : (x y : List ℕ) → IsBytes (x ++ y) → IsBytes x
+IsBytes_left x y fits i =
     elim (cases_lt i (length x)) [
       | inl lt ↦ rw (← get_or_append_left x y 0 i lt) (fits i)
       | inr le ↦ rw (get_or_past x i 0 le) (omega arith)
     ]
 
 -- what is left behind an item are bytes
-pub IsBytes-behind : (old new : Cursor) (item : Item) → Takes old new item → IsBytes old.rest → IsBytes new.rest
-IsBytes-behind old new item taken fits = IsBytes-right taken.bytes new.rest (subst IsBytes taken.rest fits)
+pub IsBytes_behind : (old new : Cursor) (item : Item) → Takes old new item → IsBytes old.rest → IsBytes new.rest
+IsBytes_behind old new item taken fits = IsBytes_right taken.bytes new.rest (subst IsBytes taken.rest fits)
 
 -- the data of an item are bytes
-pub IsBytes-opaque : (old new : Cursor) (bytes : List ℕ) → Takes old new (Opaque bytes) → IsBytes old.rest → IsBytes bytes
-IsBytes-opaque old new bytes taken fits =
+pub IsBytes_opaque : (old new : Cursor) (bytes : List ℕ) → Takes old new (Opaque bytes) → IsBytes old.rest → IsBytes bytes
+IsBytes_opaque old new bytes taken fits =
     let whole : IsBytes (word (length bytes) ++ (bytes ++ taken.reads.pad)) =
-    subst IsBytes taken.reads.bytes_are (IsBytes-left taken.bytes new.rest (subst IsBytes taken.rest fits)) in
-    IsBytes-left bytes taken.reads.pad (IsBytes-right (word (length bytes)) (bytes ++ taken.reads.pad) whole)
+    subst IsBytes taken.reads.bytes_are (IsBytes_left taken.bytes new.rest (subst IsBytes taken.rest fits)) in
+    IsBytes_left bytes taken.reads.pad (IsBytes_right (word (length bytes)) (bytes ++ taken.reads.pad) whole)

@@ -9,7 +9,7 @@ use Rattle.nr_xdr.specs.declared.fault.ItemFault.TheVariants.{Short, Long}
 use Rattle.nr_xdr.specs.Item.{Reads, IsBytes, word, word_of, hyper, hyper_of, pad_len, bit}
 use Rattle.nr_xdr.specs.Item.Item.{Unsigned, Hyper, Boolean, Opaque, Fixed}
 use Rattle.nr_xdr.specs.Reading.{Cursor, Takes, cursor_past, unsigned_at, hyper_at, boolean_at, boolean_by, opaque_at, opaque_by, fixed_at}
-use Rattle.nr_xdr.proofs.WordBytes.{IsBytes-take, length-word, word-word_of, word_of-word, word_of-below, length-hyper, hyper-hyper_of, hyper_of-hyper, hyper_of-below}
+use Rattle.nr_xdr.proofs.WordBytes.{IsBytes_take, length_word, word_word_of, word_of_word, word_of_below, length_hyper, hyper_hyper_of, hyper_of_hyper, hyper_of_below}
 use Rattle.nr_xdr.proofs.Cursors.{guard_ok, ok_parts, past_takes, takes_past}
 
 -- the first four bytes encode their number
@@ -19,8 +19,8 @@ record FrontWord (bytes : List ℕ) (n : ℕ) : Type 0 where
 
 front_word : (bytes : List ℕ) → IsBytes bytes → 4 ≤ length bytes → FrontWord bytes (word_of (take 4 bytes))
 front_word bytes fits le = record {
-  below = word_of-below (take 4 bytes) (IsBytes-take 4 bytes fits);
-  encoded = sym (word-word_of (take 4 bytes) (length-take-le 4 bytes le) (IsBytes-take 4 bytes fits));
+  below = word_of_below (take 4 bytes) (IsBytes_take 4 bytes fits);
+  encoded = sym (word_word_of (take 4 bytes) (length-take-le 4 bytes le) (IsBytes_take 4 bytes fits));
 }
 
 pub unsigned_takes : (c : Cursor) (n : ℕ) (after : Cursor) → IsBytes c.rest → unsigned_at c ≡ Ok (n, after) → Takes c after (Unsigned n)
@@ -37,8 +37,8 @@ unsigned_takes c n after fits e =
 pub unsigned_again : (c : Cursor) (n : ℕ) (after : Cursor) → Takes c after (Unsigned n) → unsigned_at c ≡ Ok (n, after)
 unfolding unsigned_at
 unsigned_again c n after t =
-    let took = takes_past c after t.bytes 4 t.rest t.place (ap length t.reads.bytes_are ∙ length-word n) in
-    let is : word_of (take 4 c.rest) ≡ n = ap word_of (took.front ∙ t.reads.bytes_are) ∙ word_of-word n t.reads.fits in
+    let took = takes_past c after t.bytes 4 t.rest t.place (ap length t.reads.bytes_are ∙ length_word n) in
+    let is : word_of (take 4 c.rest) ≡ n = ap word_of (took.front ∙ t.reads.bytes_are) ∙ word_of_word n t.reads.fits in
     rw (le-ltb (length c.rest) 4 took.enough, is, took.past) refl
 
 pub hyper_takes : (c : Cursor) (n : ℕ) (after : Cursor) → IsBytes c.rest → hyper_at c ≡ Ok (n, after) → Takes c after (Hyper n)
@@ -47,51 +47,51 @@ hyper_takes c n after fits e =
     let g = guard_ok (ltb (length c.rest) 8) (Short c.place) (Ok (hyper_of (take 8 c.rest), cursor_past 8 c)) (n, after) e in
     let le : 8 ≤ length c.rest = ltb-false _ _ g.0 in
     let parts = ok_parts (hyper_of (take 8 c.rest)) n (cursor_past 8 c) after g.1 in
-    let bytes = IsBytes-take 8 c.rest fits in
-    let encoded : take 8 c.rest ≡ hyper (hyper_of (take 8 c.rest)) = sym (hyper-hyper_of (take 8 c.rest) (length-take-le 8 c.rest le) bytes) in
+    let bytes = IsBytes_take 8 c.rest fits in
+    let encoded : take 8 c.rest ≡ hyper (hyper_of (take 8 c.rest)) = sym (hyper_hyper_of (take 8 c.rest) (length-take-le 8 c.rest le) bytes) in
     let taken : Takes c (cursor_past 8 c) (Hyper (hyper_of (take 8 c.rest))) =
-    past_takes c 8 (Hyper (hyper_of (take 8 c.rest))) le (record { fits = hyper_of-below (take 8 c.rest) bytes; pad = []; pad_is = refl; bytes_are = encoded }) in
+    past_takes c 8 (Hyper (hyper_of (take 8 c.rest))) le (record { fits = hyper_of_below (take 8 c.rest) bytes; pad = []; pad_is = refl; bytes_are = encoded }) in
     subst (λ (m : ℕ). Takes c after (Hyper m)) parts.0 (subst (λ (d : Cursor). Takes c d (Hyper (hyper_of (take 8 c.rest)))) parts.1 taken)
 
 pub hyper_again : (c : Cursor) (n : ℕ) (after : Cursor) → Takes c after (Hyper n) → hyper_at c ≡ Ok (n, after)
 unfolding hyper_at
 hyper_again c n after t =
-    let took = takes_past c after t.bytes 8 t.rest t.place (ap length t.reads.bytes_are ∙ length-hyper n) in
-    let is : hyper_of (take 8 c.rest) ≡ n = ap hyper_of (took.front ∙ t.reads.bytes_are) ∙ hyper_of-hyper n t.reads.fits in
+    let took = takes_past c after t.bytes 8 t.rest t.place (ap length t.reads.bytes_are ∙ length_hyper n) in
+    let is : hyper_of (take 8 c.rest) ≡ n = ap hyper_of (took.front ∙ t.reads.bytes_are) ∙ hyper_of_hyper n t.reads.fits in
     rw (le-ltb (length c.rest) 8 took.enough, is, took.past) refl
 
 -- the number of a boolean that was read
-boolean_by-ok : (n : ℕ) (c : Cursor) (b : Bool) (after : Cursor) → boolean_by n c ≡ Ok (b, after) → (n ≡ bit b) × (cursor_past 4 c ≡ after)
+boolean_by_ok : (n : ℕ) (c : Cursor) (b : Bool) (after : Cursor) → boolean_by n c ≡ Ok (b, after) → (n ≡ bit b) × (cursor_past 4 c ≡ after)
 unfolding boolean_by
-boolean_by-ok n c true after e = grind (arith, nat_tests, e)
-boolean_by-ok n c false after e = grind (arith, nat_tests, e)
+boolean_by_ok n c true after e = grind (arith, nat_tests, e)
+boolean_by_ok n c false after e = grind (arith, nat_tests, e)
 
 pub boolean_takes : (c : Cursor) (b : Bool) (after : Cursor) → IsBytes c.rest → boolean_at c ≡ Ok (b, after) → Takes c after (Boolean b)
 unfolding boolean_at
 boolean_takes c b after fits e =
     let g = guard_ok (ltb (length c.rest) 4) (Short c.place) (boolean_by (word_of (take 4 c.rest)) c) (b, after) e in
     let le : 4 ≤ length c.rest = ltb-false _ _ g.0 in
-    let parts = boolean_by-ok (word_of (take 4 c.rest)) c b after g.1 in
+    let parts = boolean_by_ok (word_of (take 4 c.rest)) c b after g.1 in
     let front = front_word c.rest fits le in
     let taken : Takes c (cursor_past 4 c) (Boolean b) =
     past_takes c 4 (Boolean b) le (record { fits = tt; pad = []; pad_is = refl; bytes_are = front.encoded ∙ ap word parts.0 }) in
     subst (λ (d : Cursor). Takes c d (Boolean b)) parts.1 taken
 
-boolean_by-bit : (b : Bool) (c : Cursor) → boolean_by (bit b) c ≡ Ok (b, cursor_past 4 c)
+boolean_by_bit : (b : Bool) (c : Cursor) → boolean_by (bit b) c ≡ Ok (b, cursor_past 4 c)
 unfolding boolean_by
-boolean_by-bit true c = refl
-boolean_by-bit false c = refl
+boolean_by_bit true c = refl
+boolean_by_bit false c = refl
 
-bit-below : (b : Bool) → bit b < 2 ^ 32
-bit-below true = omega arith
-bit-below false = omega arith
+bit_below : (b : Bool) → bit b < 2 ^ 32
+bit_below true = omega arith
+bit_below false = omega arith
 
 pub boolean_again : (c : Cursor) (b : Bool) (after : Cursor) → Takes c after (Boolean b) → boolean_at c ≡ Ok (b, after)
 unfolding boolean_at
 boolean_again c b after t =
-    let took = takes_past c after t.bytes 4 t.rest t.place (ap length t.reads.bytes_are ∙ length-word (bit b)) in
-    let is : word_of (take 4 c.rest) ≡ bit b = ap word_of (took.front ∙ t.reads.bytes_are) ∙ word_of-word (bit b) (bit-below b) in
-    rw (le-ltb (length c.rest) 4 took.enough, is, boolean_by-bit b c, took.past) refl
+    let took = takes_past c after t.bytes 4 t.rest t.place (ap length t.reads.bytes_are ∙ length_word (bit b)) in
+    let is : word_of (take 4 c.rest) ≡ bit b = ap word_of (took.front ∙ t.reads.bytes_are) ∙ word_of_word (bit b) (bit_below b) in
+    rw (le-ltb (length c.rest) 4 took.enough, is, boolean_by_bit b c, took.past) refl
 
 pub fixed_takes : (c : Cursor) (n : ℕ) (bytes : List ℕ) (after : Cursor) → fixed_at n c ≡ Ok (bytes, after) → Takes c after (Fixed bytes) × (length bytes ≡ n)
 unfolding fixed_at
@@ -133,18 +133,18 @@ record Content (c : Cursor) (max n : ℕ) (bytes : List ℕ) (after : Cursor) : 
   bytes_are : take n (drop 4 c.rest) ≡ bytes
   after_is : cursor_past (4 + (n + pad_len n)) c ≡ after
 
-opaque_by-ok : (max n : ℕ) (c : Cursor) (bytes : List ℕ) (after : Cursor) → opaque_by max n c ≡ Ok (bytes, after) → Content c max n bytes after
+opaque_by_ok : (max n : ℕ) (c : Cursor) (bytes : List ℕ) (after : Cursor) → opaque_by max n c ≡ Ok (bytes, after) → Content c max n bytes after
 unfolding opaque_by
-opaque_by-ok max n c bytes after e =
+opaque_by_ok max n c bytes after e =
     let whole : Result (List ℕ × Cursor) ItemFault = Ok (take n (drop 4 c.rest), cursor_past (4 + (n + pad_len n)) c) in
     let g = guard_ok (ltb max n) (Long c.place n max) (cond (ltb (length c.rest) (4 + (n + pad_len n))) (Err (Short c.place)) whole) (bytes, after) e in
     let h = guard_ok (ltb (length c.rest) (4 + (n + pad_len n))) (Short c.place) whole (bytes, after) g.1 in
     let parts = ok_parts (take n (drop 4 c.rest)) bytes (cursor_past (4 + (n + pad_len n)) c) after h.1 in
     record { within = ltb-false _ _ g.0; enough = ltb-false _ _ h.0; bytes_are = parts.0; after_is = parts.1 }
 
-opaque_by-content : (max n : ℕ) (c : Cursor) (bytes : List ℕ) (after : Cursor) → Content c max n bytes after → opaque_by max n c ≡ Ok (bytes, after)
+opaque_by_content : (max n : ℕ) (c : Cursor) (bytes : List ℕ) (after : Cursor) → Content c max n bytes after → opaque_by max n c ≡ Ok (bytes, after)
 unfolding opaque_by
-opaque_by-content max n c bytes after t =
+opaque_by_content max n c bytes after t =
     rw (le-ltb max n t.within, le-ltb (length c.rest) (4 + (n + pad_len n)) t.enough, t.bytes_are, t.after_is) refl
 
 opaque_reads : (n : ℕ) (rest : List ℕ) → n < 2 ^ 32 → take 4 rest ≡ word n → 4 + (n + pad_len n) ≤ length rest → Reads (Opaque (take n (drop 4 rest))) (take (4 + (n + pad_len n)) rest)
@@ -168,7 +168,7 @@ opaque_takes c max bytes after fits e =
     let n = word_of (take 4 c.rest) in
     let g = guard_ok (ltb (length c.rest) 4) (Short c.place) (opaque_by max n c) (bytes, after) e in
     let le : 4 ≤ length c.rest = ltb-false _ _ g.0 in
-    let t = opaque_by-ok max n c bytes after g.1 in
+    let t = opaque_by_ok max n c bytes after g.1 in
     let front = front_word c.rest fits le in
     let reads = opaque_reads n c.rest front.below front.encoded t.enough in
     let taken : Takes c (cursor_past (4 + (n + pad_len n)) c) (Opaque (take n (drop 4 c.rest))) = past_takes c (4 + (n + pad_len n)) (Opaque (take n (drop 4 c.rest))) t.enough reads in
@@ -184,13 +184,13 @@ opaque_again c max bytes after le t =
     let p = pad_len n in
     let whole : length t.bytes ≡ 4 + (n + p) =
     ap length t.reads.bytes_are ∙ length-append (word n) (bytes ++ t.reads.pad)
-    ∙ omega (arith, length-word n, length-append bytes t.reads.pad, t.reads.pad_is) in
+    ∙ omega (arith, length_word n, length-append bytes t.reads.pad, t.reads.pad_is) in
     let took = takes_past c after t.bytes (4 + (n + p)) t.rest t.place whole in
     let encoded : take (4 + (n + p)) c.rest ≡ word n ++ (bytes ++ t.reads.pad) = took.front ∙ t.reads.bytes_are in
     let count : word_of (take 4 c.rest) ≡ n =
-    ap word_of (front_of_padded 4 (4 + (n + p)) c.rest (word n) (bytes ++ t.reads.pad) (length-word n) (omega arith) encoded) ∙ word_of-word n t.reads.fits in
+    ap word_of (front_of_padded 4 (4 + (n + p)) c.rest (word n) (bytes ++ t.reads.pad) (length_word n) (omega arith) encoded) ∙ word_of_word n t.reads.fits in
     let behind : take (n + p) (drop 4 c.rest) ≡ bytes ++ t.reads.pad =
-    sym (drop-take 4 (n + p) c.rest) ∙ ap (drop 4) encoded ∙ drop_at (word n) (bytes ++ t.reads.pad) 4 (length-word n) in
+    sym (drop-take 4 (n + p) c.rest) ∙ ap (drop 4) encoded ∙ drop_at (word n) (bytes ++ t.reads.pad) 4 (length_word n) in
     let content : take n (drop 4 c.rest) ≡ bytes = front_of_padded n (n + p) (drop 4 c.rest) bytes t.reads.pad refl (omega arith) behind in
     let enough : 4 ≤ length c.rest = omega (arith, took.enough) in
-    rw (le-ltb (length c.rest) 4 enough, count) (opaque_by-content max n c bytes after (record { within = le; enough = took.enough; bytes_are = content; after_is = took.past }))
+    rw (le-ltb (length c.rest) 4 enough, count) (opaque_by_content max n c bytes after (record { within = le; enough = took.enough; bytes_are = content; after_is = took.past }))

@@ -1,5 +1,5 @@
-use Rattle.nr_endpoint.proofs.ClaimLaws.{claims-stay}
+use Rattle.nr_endpoint.proofs.ClaimLaws.{claims_stay_lem}
 use Rattle.nr_endpoint.proofs.laws.claims_stay.Goals as goal
 
 pub returns : goal.returns
-returns c = claims-stay
+returns c = claims_stay_lem

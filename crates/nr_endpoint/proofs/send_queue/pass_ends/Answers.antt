@@ -11,7 +11,7 @@ pub loop-i-preserved : goal.loop-i-preserved
 loop-i-preserved c =
     let ends = c.args.ends.now.items in
     let below : c.loop-i._i < length ends = omega (arith, c.args.ends.now.ok) in
-    let left = c.pass_first-passed.ensures in
+    let left = c.retire_first-passed.ensures in
     record {
       ends = looked_at_more c.args.n c.loop-i._i ends _ _ below c.loop-i.invariant.ends left.left;
       passed = passed_more c.args.n c.loop-i._i _ _ ends _ below c.loop-i.invariant.ends c.loop-i.invariant.passed left.passed;
@@ -21,7 +21,7 @@ pub overflow_add-passed : goal.overflow_add-passed
 overflow_add-passed c =
     let ends = c.args.ends.now.items in
     let below : c.loop-i._i < length ends = omega (arith, c.args.ends.now.ok) in
-    let left = c.pass_first-passed.ensures in
+    let left = c.retire_first-passed.ensures in
     let sum = passed_more c.args.n c.loop-i._i _ _ ends _ below c.loop-i.invariant.ends c.loop-i.invariant.passed left.passed in
     omega (arith, sum, passed_within c.args.n (c.loop-i._i + 1) ends)
 

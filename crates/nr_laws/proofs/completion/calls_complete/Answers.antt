@@ -1,5 +1,5 @@
-use Rattle.nr_laws.proofs.SettledLinks.{calls-complete}
+use Rattle.nr_laws.proofs.SettledLinks.{calls_complete_lem}
 use Rattle.nr_laws.proofs.completion.calls_complete.Goals as goal
 
 pub returns : goal.returns
-returns c = calls-complete
+returns c = calls_complete_lem

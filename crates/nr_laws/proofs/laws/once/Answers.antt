@@ -1,4 +1,4 @@
-use Rattle.nr_laws.proofs.Twice.{no_send_twice, no_call_twice}
+use Rattle.nr_laws.proofs.AtMostOnce.{no_send_twice, no_call_twice}
 use Rattle.nr_laws.proofs.OnceByXid.{no_xid_twice}
 use Rattle.nr_laws.proofs.laws.once.Goals as goal
 

@@ -1,7 +1,7 @@
 use Rattle.std.proofs.Common.{◌≡◌, length, sym, arith}
-use Rattle.nr_reduce.proofs.Compared.{other-count}
+use Rattle.nr_reduce.proofs.Compared.{other_count}
 use Rattle.nr_reduce.proofs.comparing.returns_each.Goals as goal
 
 pub returns-then-offered-back : goal.returns-then-offered-back
 returns-then-offered-back c =
-    sym (other-count c.args.offered.now c.args.back.now (λ e. (let t = c.if-offered-back.true in let h : length c.args.offered.now ≡ length c.args.back.now = e in omega (arith, h, t))))
+    sym (other_count c.args.offered.now c.args.back.now (λ e. (let t = c.if-offered-back.true in let h : length c.args.offered.now ≡ length c.args.back.now = e in omega (arith, h, t))))

@@ -1,5 +1,5 @@
 use Rattle.std.proofs.Common.{arith}
-use Rattle.nr_reduce.proofs.Rooms.{passes}
+use Rattle.nr_reduce.proofs.ChunkSums.{passes}
 use Rattle.nr_reduce.proofs.holding.fits_message.Goals as goal
 
 pub returns-then-need-from : goal.returns-then-need-from

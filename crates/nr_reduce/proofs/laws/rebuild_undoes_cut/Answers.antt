@@ -1,6 +1,6 @@
 use Rattle.nr_reduce.proofs.Recut.{cut_rebuilt}
 use Rattle.nr_reduce.proofs.Undone.{rebuilt}
-use Rattle.nr_reduce.proofs.RefusedChunks.{refused-has-none}
+use Rattle.nr_reduce.proofs.RefusedChunks.{refused_has_none}
 use Rattle.nr_reduce.proofs.laws.rebuild_undoes_cut.Goals as goal
 
 pub returns-clause-rebuilt : goal.returns-clause-rebuilt
@@ -10,4 +10,4 @@ pub returns-clause-conveys : goal.returns-clause-conveys
 returns-clause-conveys c = rebuilt
 
 pub returns-clause-refused : goal.returns-clause-refused
-returns-clause-refused c = refused-has-none
+returns-clause-refused c = refused_has_none

@@ -1,5 +1,5 @@
 use Rattle.std.proofs.Common.{arith}
-use Rattle.nr_reduce.proofs.Ways.{takes_reduced, takes_long, takes_long_whole}
+use Rattle.nr_reduce.proofs.AutoForms.{takes_reduced, takes_long, takes_long_whole}
 use Rattle.nr_reduce.proofs.outline.auto_kind.Goals as goal
 
 pub returns-in-None-clause-plan : goal.returns-in-None-clause-plan

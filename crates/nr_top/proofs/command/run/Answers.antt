@@ -7,11 +7,11 @@ use Rattle.nr_top.proofs.command.run.Goals as goal
 
 pub returns-in-Err : goal.returns-in-Err
 returns-in-Err g c =
-    ends_of (cause_of c.in-Err.stop) (map string_bytes c.args.arguments.now) c.say.result
+    ends_of (cause_of c.in-Err.stop) (map string_bytes c.args.arguments.now) c.report_failure.result
     (input_at (g.I.Source.left c.args.input.now) (g.I.Source.given c.args.input.now) (g.I.Source.faults c.args.input.now))
     (input_at (g.I.Source.left c.drill.new.input) (g.I.Source.given c.drill.new.input) (g.I.Source.faults c.drill.new.input))
     (sink_at (g.O.Sink.taken c.args.out.now) (g.O.Sink.faults c.args.out.now))
     (sink_at (g.O.Sink.taken c.drill.new.out) (g.O.Sink.faults c.drill.new.out))
     (sink_at (g.E.Sink.taken c.args.err.now) (g.E.Sink.faults c.args.err.now))
-    (sink_at (g.E.Sink.taken c.say.new.err) (g.E.Sink.faults c.say.new.err))
-    c.in-Err.ensures c.say.ensures
+    (sink_at (g.E.Sink.taken c.report_failure.new.err) (g.E.Sink.faults c.report_failure.new.err))
+    c.in-Err.ensures c.report_failure.ensures

@@ -2,11 +2,11 @@ use Rattle.std.proofs.Common.{◌≡◌, ℕ, List, subst, sym, arith}
 use Rattle.nr_tree.specs.Changes.{tree_with_node}
 use Rattle.nr_tree.specs.Drill.{time_zero, hello, with_root}
 use Rattle.nr_tree.specs.Steps.{CanAddNode}
-use Rattle.nr_tree.proofs.DrillLemmas.{bounded_as, allowed_as, added_as, can_add_hello, below-root_only}
+use Rattle.nr_tree.proofs.DrillLemmas.{bounded_as, allowed_as, added_as, can_add_hello, below_root_only}
 use Rattle.nr_tree.proofs.drill.add_hello.Goals as goal
 
 pub add_node-requires-clause-bounded : goal.add_node-requires-clause-bounded
-add_node-requires-clause-bounded c = bounded_as c.args.tree.now with_root 3 (omega arith) c.requires.before (below-root_only _)
+add_node-requires-clause-bounded c = bounded_as c.args.tree.now with_root 3 (omega arith) c.requires.before (below_root_only _)
 
 pub add_node-requires-clause-allowed : goal.add_node-requires-clause-allowed
 add_node-requires-clause-allowed c =

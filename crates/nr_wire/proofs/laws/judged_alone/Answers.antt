@@ -1,8 +1,8 @@
-use Rattle.nr_wire.proofs.FrontFrame.{hello_in-frame, segment_in-frame}
+use Rattle.nr_wire.proofs.FrontFrame.{hello_in_frame, segment_in_frame_lem}
 use Rattle.nr_wire.proofs.laws.judged_alone.Goals as goal
 
 pub returns-clause-hello : goal.returns-clause-hello
-returns-clause-hello c = hello_in-frame
+returns-clause-hello c = hello_in_frame
 
 pub returns-clause-segment : goal.returns-clause-segment
-returns-clause-segment c = segment_in-frame
+returns-clause-segment c = segment_in_frame_lem

@@ -2,7 +2,7 @@ use Rattle.std.proofs.Common.{◌≡◌, ap, ◌∙◌, length, List, ℕ, arith
 use Rattle.nr_world.specs.Messages.{inline_message}
 use Rattle.nr_world.specs.Owed.{call_payload}
 use Rattle.nr_world.specs.Driver.{ask}
-use Rattle.nr_world.proofs.Frames.{asked_message, length-asked_message}
+use Rattle.nr_world.proofs.Frames.{asked_message, length_asked_message}
 use Rattle.nr_world.proofs.world.ask_frame.Goals.{After-as_slice-2}
 use Rattle.nr_world.proofs.world.ask_frame.Goals as goal
 
@@ -14,7 +14,7 @@ message_is c =
     ∙ ap (λ (p : List ℕ). inline_message c.args.xid c.args.credits p) (c.as_slice.ensures ∙ c.in-Ok.ensures.ok)
 
 pub send-requires : goal.send-requires
-send-requires c = omega (arith, length-asked_message c.args.credits c.args.xid, ap length (message_is c))
+send-requires c = omega (arith, length_asked_message c.args.credits c.args.xid, ap length (message_is c))
 
 pub returns : goal.returns
 unfolding ask

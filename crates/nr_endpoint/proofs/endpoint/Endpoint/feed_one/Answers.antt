@@ -12,8 +12,8 @@ use Rattle.nr_endpoint.proofs.endpoint.Endpoint.feed_one.Goals as goal
 abbrev the_error : End → Result ℕ End
 the_error e = Err e
 
-some-same : {e f : End} → Some e ≡ Some f → e ≡ f
-some-same is = cc
+some_same : {e f : End} → Some e ≡ Some f → e ≡ f
+some_same is = cc
 
 abbrev end_in : Result ℕ End → End
 end_in (Ok n) = ends.Memory
@@ -48,11 +48,11 @@ returns-clause-stands c = λ other.
 
 pub returns-in-Some-end-clause-state : goal.returns-in-Some-end-clause-state
 returns-in-Some-end-clause-state c = λ other.
-    step_ok c.args.self.now.link c.step-taken.new.self.link c.args.piece.now c.step-taken.ensures.state (ap (λ (e : EndpointState). e.link.state.ended) (sym c.self.view_is) ∙ sym c.end.ensures ∙ c.in_default.is) (λ memory. other (ap (λ (e : End). the_error e) (some-same (sym (ap (λ (e : EndpointState). e.link.state.ended) (sym c.self-2.view_is) ∙ sym c.end-2.ensures ∙ c.in-Some-end.is) ∙ memory))))
+    step_ok c.args.self.now.link c.step-taken.new.self.link c.args.piece.now c.step-taken.ensures.state (ap (λ (e : EndpointState). e.link.state.ended) (sym c.self.view_is) ∙ sym c.end.ensures ∙ c.in_default.is) (λ memory. other (ap (λ (e : End). the_error e) (some_same (sym (ap (λ (e : EndpointState). e.link.state.ended) (sym c.self-2.view_is) ∙ sym c.end-2.ensures ∙ c.in-Some-end.is) ∙ memory))))
 
 pub returns-in-Some-end-clause-stands : goal.returns-in-Some-end-clause-stands
 returns-in-Some-end-clause-stands c = λ other.
-    stands_on c.args.self.now.link (FeedOne c.args.piece.now) c.step-taken.new.self.link (step_ok c.args.self.now.link c.step-taken.new.self.link c.args.piece.now c.step-taken.ensures.state (ap (λ (e : EndpointState). e.link.state.ended) (sym c.self.view_is) ∙ sym c.end.ensures ∙ c.in_default.is) (λ memory. other (ap (λ (e : End). the_error e) (some-same (sym (ap (λ (e : EndpointState). e.link.state.ended) (sym c.self-2.view_is) ∙ sym c.end-2.ensures ∙ c.in-Some-end.is) ∙ memory)))))
+    stands_on c.args.self.now.link (FeedOne c.args.piece.now) c.step-taken.new.self.link (step_ok c.args.self.now.link c.step-taken.new.self.link c.args.piece.now c.step-taken.ensures.state (ap (λ (e : EndpointState). e.link.state.ended) (sym c.self.view_is) ∙ sym c.end.ensures ∙ c.in_default.is) (λ memory. other (ap (λ (e : End). the_error e) (some_same (sym (ap (λ (e : EndpointState). e.link.state.ended) (sym c.self-2.view_is) ∙ sym c.end-2.ensures ∙ c.in-Some-end.is) ∙ memory)))))
 
 pub returns-in-Some-end-clause-memory : goal.returns-in-Some-end-clause-memory
 returns-in-Some-end-clause-memory c = λ memory.

@@ -2,7 +2,7 @@ use Rattle.std.proofs.Common.{◌≡◌, ◌<◌, refl, drop, Bool, List, [], �
 use Rattle.std.proofs.lemmas.List.{length-drop}
 use Rattle.nr_endpoint.specs.Views.{notices, without_first_read}
 use Rattle.nr_endpoint.specs.declared.receive_queue.ReceivedMessage.{ReceivedMessage}
-use Rattle.nr_endpoint.proofs.ReceiveQueueBuffers.{notices-last_read, with_read_told, with_message_told}
+use Rattle.nr_endpoint.proofs.ReceiveQueueBuffers.{notices_last_read, with_read_told, with_message_told}
 use Rattle.nr_endpoint.proofs.ReceiveQueueSteps.{read_told}
 use Rattle.nr_endpoint.proofs.receive_queue.ReceiveQueue.next_event.Goals as goal
 
@@ -19,22 +19,22 @@ invariant_of-self-in-Some c =
     rw (c.pop_front.ensures.capacity, c.take_first_read.ensures.capacity)
     (with_message_told _ _ _ c.in-Some.message c.self.inside.messages.items c.pop_front.new.self.items _ _ _ _ c.self.invariant items)
 
-no-items : (xs ys : List ReceivedMessage) → xs ≡ ys → ys ≡ drop 1 xs → ys ≡ []
-no-items xs [] same rest = refl
-no-items xs (m ∷ ys) same rest = absurd (omega (arith, ap (λ (list : List ReceivedMessage). length list) same, ap (λ (list : List ReceivedMessage). length list) rest, length-drop 1 xs))
+no_items_lem : (xs ys : List ReceivedMessage) → xs ≡ ys → ys ≡ drop 1 xs → ys ≡ []
+no_items_lem xs [] same rest = refl
+no_items_lem xs (m ∷ ys) same rest = absurd (omega (arith, ap (λ (list : List ReceivedMessage). length list) same, ap (λ (list : List ReceivedMessage). length list) rest, length-drop 1 xs))
 
 pub returns-clause-event : goal.returns-clause-event
 returns-clause-event c =
     let left : c.take_first_read.new.messages.items ≡ c.self.inside.messages.items =
     c.take_first_read.ensures.left ∙ ap (λ (b : Bool). if b then without_first_read c.self.inside.messages.items else c.self.inside.messages.items) c.if-take_first_read.false in
-    let none : c.pop_front.new.self.items ≡ [] = no-items c.take_first_read.new.messages.items c.pop_front.new.self.items c.in_default.ensures.items c.pop_front.ensures.rest in
+    let none : c.pop_front.new.self.items ≡ [] = no_items_lem c.take_first_read.new.messages.items c.pop_front.new.self.items c.in_default.ensures.items c.pop_front.ensures.rest in
     let some : 0 < c.self.inside.reads_done = omega (arith, c.if-self-eq0.false) in
-    rw (← c.self.view_is) ((λ i. notices (sym left i) c.self.inside.reads_done) ∙ (λ i. notices (c.in_default.ensures.items i) c.self.inside.reads_done) ∙ notices-last_read c.pop_front.new.self.items c.self.inside.reads_done none some)
+    rw (← c.self.view_is) ((λ i. notices (sym left i) c.self.inside.reads_done) ∙ (λ i. notices (c.in_default.ensures.items i) c.self.inside.reads_done) ∙ notices_last_read c.pop_front.new.self.items c.self.inside.reads_done none some)
 
 pub returns-clause-after : goal.returns-clause-after
 returns-clause-after c =
     let left : c.take_first_read.new.messages.items ≡ c.self.inside.messages.items =
     c.take_first_read.ensures.left ∙ ap (λ (b : Bool). if b then without_first_read c.self.inside.messages.items else c.self.inside.messages.items) c.if-take_first_read.false in
-    let none : c.pop_front.new.self.items ≡ [] = no-items c.take_first_read.new.messages.items c.pop_front.new.self.items c.in_default.ensures.items c.pop_front.ensures.rest in
+    let none : c.pop_front.new.self.items ≡ [] = no_items_lem c.take_first_read.new.messages.items c.pop_front.new.self.items c.in_default.ensures.items c.pop_front.ensures.rest in
     let some : 0 < c.self.inside.reads_done = omega (arith, c.if-self-eq0.false) in
-    rw (← c.self.view_is) (read_told _ _ ((λ i. notices (sym left i) c.self.inside.reads_done) ∙ (λ i. notices (c.in_default.ensures.items i) c.self.inside.reads_done) ∙ notices-last_read c.pop_front.new.self.items c.self.inside.reads_done none some))
+    rw (← c.self.view_is) (read_told _ _ ((λ i. notices (sym left i) c.self.inside.reads_done) ∙ (λ i. notices (c.in_default.ensures.items i) c.self.inside.reads_done) ∙ notices_last_read c.pop_front.new.self.items c.self.inside.reads_done none some))

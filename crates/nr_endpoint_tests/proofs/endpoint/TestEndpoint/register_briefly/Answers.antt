@@ -1,6 +1,6 @@
-use Rattle.nr_endpoint_tests.proofs.Counting.{passing-counted}
+use Rattle.nr_endpoint_tests.proofs.Counting.{passing_counted}
 use Rattle.nr_endpoint_tests.proofs.endpoint.TestEndpoint.register_briefly.Goals as goal
 
 pub invariant_of-self : goal.invariant_of-self
 invariant_of-self g c =
-    passing-counted c.self.inside.endpoint.link c.register.new.self.link c.release.new.self.link _ _ c.in-Ok.registration _ _ _ c.in-Ok.ensures.state c.in-Ok.ensures.claim c.release.ensures.state c.self.invariant
+    passing_counted c.self.inside.endpoint.link c.register.new.self.link c.release.new.self.link _ _ c.in-Ok.registration _ _ _ c.in-Ok.ensures.state c.in-Ok.ensures.claim c.release.ensures.state c.self.invariant

@@ -1,6 +1,6 @@
 use Rattle.std.proofs.Common.{◌<◌, ◌^◌, ◌+◌, length, sym, ap, ◌∙◌, arith}
 use Rattle.nr_script.specs.Script.{seconds_in}
-use Rattle.nr_script.proofs.Counts.{room, counted-are, seconds-more}
+use Rattle.nr_script.proofs.Counts.{room, counted_are, seconds_more}
 use Rattle.nr_script.proofs.draft.Draft.push.Goals as goal
 
 pub count_call-requires-clause-room : goal.count_call-requires-clause-room
@@ -13,6 +13,6 @@ pub invariant_of-self-2 : goal.invariant_of-self-2
 invariant_of-self-2 c =
     rw (c.in_ok-push.ensures.items, c.count_call.ensures, c.caller-client.ensures, c.seconds_in-seconds.ensures) (
       c.self.invariant.0,
-      counted-are c.self.inside.calls c.self.inside.lines.items c.args.line c.self.invariant.1,
-      ap (λ n. n + seconds_in c.args.line) c.self.invariant.2 ∙ sym (seconds-more c.self.inside.lines.items c.args.line),
+      counted_are c.self.inside.calls c.self.inside.lines.items c.args.line c.self.invariant.1,
+      ap (λ n. n + seconds_in c.args.line) c.self.invariant.2 ∙ sym (seconds_more c.self.inside.lines.items c.args.line),
     )

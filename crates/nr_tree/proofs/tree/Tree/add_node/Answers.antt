@@ -1,5 +1,5 @@
 use Rattle.nr_tree.specs.Changes.{tree_with_node}
-use Rattle.nr_tree.proofs.StepLemmas.{has_room, sane-add_node, sane-either}
+use Rattle.nr_tree.proofs.StepLemmas.{has_room, sane_add_node, sane_either}
 use Rattle.nr_tree.proofs.tree.Tree.add_node.Goals as goal
 
 pub add_node_inner-requires-clause-free : goal.add_node_inner-requires-clause-free
@@ -7,5 +7,5 @@ add_node_inner-requires-clause-free c = has_room c.args.self.now c.args.dir c.ar
 
 pub returns-clause-sane : goal.returns-clause-sane
 returns-clause-sane c =
-    sane-either c.add_node_inner.result c.args.self.now _ (tree_with_node c.args.self.now c.args.now c.args.dir c.args.name.items c.args.node) c.add_node_inner.ensures.ok c.add_node_inner.ensures.err c.requires.sane
-    (sane-add_node c.args.self.now c.args.now c.args.dir c.args.name.items c.args.node c.requires.sane c.requires.allowed)
+    sane_either c.add_node_inner.result c.args.self.now _ (tree_with_node c.args.self.now c.args.now c.args.dir c.args.name.items c.args.node) c.add_node_inner.ensures.ok c.add_node_inner.ensures.err c.requires.sane
+    (sane_add_node c.args.self.now c.args.now c.args.dir c.args.name.items c.args.node c.requires.sane c.requires.allowed)

@@ -18,22 +18,22 @@ no_send_twice opened link run before between xid yid moment now payload asked pl
     executes_once IsPrefixOf opened link run before between h.after xid yid moment now payload asked place later reply answer
     (h.is ∙ append_assoc before (marks.Execute link xid moment payload place reply ∷ between) (marks.Execute link yid now asked later answer ∷ h.after)) served
 
-completed-append : (link : ℕ) (xs ys : List Mark) → completed_calls link (xs ++ ys) ≡ completed_calls link xs ++ completed_calls link ys
+completed_append : (link : ℕ) (xs ys : List Mark) → completed_calls link (xs ++ ys) ≡ completed_calls link xs ++ completed_calls link ys
 unfolding completed_calls
-completed-append link xs ys = flat_map-append (completed_at link) xs ys
+completed_append link xs ys = flat_map-append (completed_at link) xs ys
 
-completed-there : (link xid : ℕ) (outcome : Outcome) (before between : List Mark) → Contains (completed_calls link (before ++ marks.Done link xid outcome ∷ between)) (record { xid = xid; outcome = outcome })
+completed_there : (link xid : ℕ) (outcome : Outcome) (before between : List Mark) → Contains (completed_calls link (before ++ marks.Done link xid outcome ∷ between)) (record { xid = xid; outcome = outcome })
 unfolding completed_calls
-completed-there link xid outcome before between =
+completed_there link xid outcome before between =
     let done = marks.Done link xid outcome in
     let c : CompletedCall = record { xid = xid; outcome = outcome } in
     let here : completed_at link done ≡ c ∷ [] = ap (λ (b : Bool). cond b (c ∷ []) []) (eq-eqb link link refl) in
     let one : Contains (completed_at link done) c = subst (λ (cs : List CompletedCall). Contains cs c) (sym here) (Contains-push [] c) in
-    subst (λ (cs : List CompletedCall). Contains cs c) (sym (completed-append link before (done ∷ between)))
+    subst (λ (cs : List CompletedCall). Contains cs c) (sym (completed_append link before (done ∷ between)))
     (Contains-append_right (completed_calls link before) (completed_calls link (done ∷ between)) c
     (Contains-append_left (completed_at link done) (completed_calls link between) c one))
 
 pub no_call_twice : NoCallTwice
 no_call_twice opened link run before between xid yid outcome later asked h same =
     completes_once IsPrefixOf opened link yid later run (before ++ marks.Done link xid outcome ∷ between) h.after h.is asked
-    (record { xid = xid; outcome = outcome }) (completed-there link xid outcome before between) same
+    (record { xid = xid; outcome = outcome }) (completed_there link xid outcome before between) same

@@ -91,8 +91,8 @@ abbrev pub lengths : Option (List ℕ) → List ℕ
 lengths None = []
 lengths (Some ns) = ns
 
-abbrev pub offering : List ReadSegment → (ws rs : ℕ) → (w r : Option (List ℕ)) → ChunkLists
-offering read ws rs w r = record { read = read; write = write_list ws w; reply = reply_chunk rs r }
+abbrev pub offered_lists : List ReadSegment → (ws rs : ℕ) → (w r : Option (List ℕ)) → ChunkLists
+offered_lists read ws rs w r = record { read = read; write = write_list ws w; reply = reply_chunk rs r }
 
 -- the regions have the lengths of their chunks, and are two
 pub record RegionsHaveLengths (initial : Bytes) (ws rs : ℕ) (w r : Option (List ℕ)) : Type 0 where

@@ -1,6 +1,6 @@
 use Rattle.std.proofs.Common.{◌≡◌, true, length, ◌+◌, rules}
 use Rattle.nr_endpoint.proofs.SendQueues.{written_both}
-use Rattle.nr_endpoint.proofs.send_queue.write_both.Goals as goal
+use Rattle.nr_endpoint.proofs.send_queue.write_queue.Goals as goal
 
 pub returns-clause-written : goal.returns-clause-written
 returns-clause-written g c =

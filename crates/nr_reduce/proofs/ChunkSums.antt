@@ -9,7 +9,7 @@ use Rattle.nr_reduce.specs.declared.item.Of.{Of}
 use Rattle.nr_reduce.specs.Chunks.{chunk_total}
 use Rattle.nr_reduce.specs.Items.{reducible_item}
 use Rattle.nr_reduce.specs.Holds.{parts_by, parts_in, answer_size}
-use Rattle.nr_reduce.specs.Views.{first_total, parts_for, parts_of}
+use Rattle.nr_reduce.specs.CodeViews.{first_total, parts_for, parts_of}
 
 pub parts_by_total : (of : Of) (chunks : List (List RdmaSegment)) (reply : List ℕ) → parts_in of chunks reply ≡ parts_of of (first_total chunks) reply
 unfolding parts_of

@@ -13,5 +13,5 @@ abbrev pub value_of : Result (ℕ × Cursor) ItemFault → Option ℕ
 value_of (Ok n) = Some n.0
 value_of (Err e) = None
 
-unfoldable pub number_behind : Option Cursor → Option ℕ
-number_behind front = and_then front (λ at. value_of (unsigned_at at))
+unfoldable pub number_after : Option Cursor → Option ℕ
+number_after front = and_then front (λ at. value_of (unsigned_at at))

@@ -7,7 +7,7 @@ use Rattle.nr_reduce.specs.declared.outline.Plan.{Plan}
 use Rattle.nr_reduce.specs.declared.outline.MessageKind.TheVariants.{Short, Chunked, Long}
 use Rattle.nr_reduce.specs.Items.{reducible_item}
 use Rattle.nr_reduce.specs.Plans.{plan_size, reduced_plan_by, reduced_plan, long_plan, first_within, auto_plan}
-use Rattle.nr_reduce.specs.Outlines.{plan_by}
+use Rattle.nr_reduce.specs.PlanSizes.{plan_by}
 
 picked : (up : ℕ) (p q r : Plan) (a b : Bool) → leb (plan_size p) up ≡ a → (not (eqb (length q.read) 0) && leb (plan_size q) up) ≡ b → cond a p (cond b q r) ≡ first_within up p q r
 picked up p q r a b e f = λ i. cond (sym e i) p (cond (sym f i) q r)

@@ -4,7 +4,7 @@ use Rattle.nr_regions.specs.RegisteredMemory.{bytes_at}
 use Rattle.nr_endpoint.specs.LinkState.{LinkState}
 use Rattle.nr_endpoint.specs.Views.{expected, read_request_view}
 use Rattle.nr_endpoint.proofs.Taken.{counted_request, took_request}
-use Rattle.nr_endpoint.proofs.link.Link.take_request.Goals as goal
+use Rattle.nr_endpoint.proofs.link.LinkSide.apply_request.Goals as goal
 
 pub invariant_of-self-2 : goal.invariant_of-self-2
 invariant_of-self-2 c =

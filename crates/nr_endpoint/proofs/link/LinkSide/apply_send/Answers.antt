@@ -2,7 +2,7 @@ use Rattle.std.proofs.Common.{ℕ, ◌+◌, ◌≤◌, length, sym, subst, arith
 use Rattle.nr_link.specs.ReceiveState.{begun_bytes}
 use Rattle.nr_endpoint.specs.EndpointState.{LinkView}
 use Rattle.nr_endpoint.proofs.Taken.{counted_send, took_send}
-use Rattle.nr_endpoint.proofs.link.Link.take_send.Goals as goal
+use Rattle.nr_endpoint.proofs.link.LinkSide.apply_send.Goals as goal
 
 pub receive-requires-clause-fits : goal.receive-requires-clause-fits
 receive-requires-clause-fits c = λ is.

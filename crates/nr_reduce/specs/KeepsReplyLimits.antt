@@ -24,7 +24,7 @@ xid_of_reply (Err at) = None
 -- A payload without a call head has no reply. A reply begins with a reply head of the call's xid (RFC 5531 section 9), and is no longer than
 -- the call lets it be. What the call offers in the form Auto holds it, where a Send back may have send_max bytes; and one that adds an entry
 -- to the journal fits every offer within the limits of a header, so that no change is made whose reply can't be sent.
-pub record IsPlain (plain : PlainServer) : Type 0 where
+pub record KeepsReplyLimits (plain : PlainServer) : Type 0 where
   pub call : (J : List Entry) (m : Moment) (payload reply : List ℕ) → plain.Replies J m payload reply → IsOk (call_of payload)
   pub xid : (J : List Entry) (m : Moment) (payload reply : List ℕ) → IsBytes payload → plain.Replies J m payload reply →
       xid_of_reply (reply_of reply) ≡ xid_of_call (call_of payload)

@@ -16,15 +16,15 @@ use Rattle.nr_rpc.specs.declared.head.ReplyHead.{ReplyHead}
 use Rattle.nr_rpc.specs.Reading.{reply_of}
 use Rattle.nr_reduce.specs.declared.call.Outcome.{Outcome}
 use Rattle.nr_reduce.specs.declared.call.Outcome.TheVariants as outcomes
-use Rattle.nr_reduce.specs.ClientState.{ClientState, OutstandingCall, memory_at}
+use Rattle.nr_reduce.specs.ClientState.{ClientState, OutstandingCall, client_memory_at}
 use Rattle.nr_reduce.specs.Plans.{lists_of}
 use Rattle.nr_reduce.specs.Chunks.{answers_offer, reply_conveyed}
-use Rattle.nr_reduce.specs.ClientMessages.{Verdict, verdict, by_body, by_lists, by_payload, by_head, reply_xid}
-use Rattle.nr_reduce.specs.ClientMessages.Verdict.{EndsLink, GivesOutcome}
+use Rattle.nr_reduce.specs.ClientMessages.{ReplyVerdict, reply_verdict, reply_by_body, by_lists, reply_by_payload, reply_by_head, reply_xid}
+use Rattle.nr_reduce.specs.ClientMessages.ReplyVerdict.{EndsLink, GivesOutcome}
 use Rattle.nr_reduce.specs.Holds.{Answer, answer_message, answer_body, answer_lists}
-use Rattle.nr_laws.proofs.DoneCalls.{gives-by}
-use Rattle.nr_laws.proofs.Replied.{word-behind, kind-word, same-body}
-use Rattle.nr_laws.proofs.HeaderXid.{first-word}
+use Rattle.nr_laws.proofs.DoneCalls.{gives_by}
+use Rattle.nr_laws.proofs.Replied.{word_behind_lem, kind_word, same_body_lem}
+use Rattle.nr_laws.proofs.HeaderXid.{first_word_lem}
 
 -- ---- A message with a stream, or one in a chunk
 
@@ -48,8 +48,8 @@ pub record Plainly (m : List ℕ) : Type 0 where
 words : (a c d : ℕ) (r s : List ℕ) → d < 4294967296 → (word_at 4 ((word a ++ (word 1 ++ (word c ++ (word d ++ r)))) ++ s) ≡ 1) × (word_at 12 ((word a ++ (word 1 ++ (word c ++ (word d ++ r)))) ++ s) ≡ d)
 words a c d r s fits =
     let e = quad (word a) (word 1) (word c) (word d) r s in (
-      ap (λ (x : List ℕ). word_at 4 x) e ∙ word-behind a 4 0 (word 1 ++ (word c ++ (word d ++ (r ++ s)))) (omega arith) ∙ first-word 1 (word c ++ (word d ++ (r ++ s))) (omega arith),
-      ap (λ (x : List ℕ). word_at 12 x) e ∙ kind-word a 1 c d (r ++ s) fits,
+      ap (λ (x : List ℕ). word_at 4 x) e ∙ word_behind_lem a 4 0 (word 1 ++ (word c ++ (word d ++ (r ++ s)))) (omega arith) ∙ first_word_lem 1 (word c ++ (word d ++ (r ++ s))) (omega arith),
+      ap (λ (x : List ℕ). word_at 12 x) e ∙ kind_word a 1 c d (r ++ s) fits,
     )
 
 pub plainly : (xid credit : ℕ) (b : Body) (s : List ℕ) → IsStreamBody b → Plainly (header_encoding (record { xid = xid; credit = credit; body = b }) ++ s)
@@ -58,26 +58,26 @@ plainly xid credit (Nomsg lists) s (Long l) = (let w = words xid credit 1 (encod
 plainly xid credit (ErrVers version low high) s w = elim w [ ]
 plainly xid credit (ErrChunk version) s w = elim w [ ]
 
-answer-stream : (offer : ChunkLists) (a : Answer) → IsStreamBody (answer_body offer a)
-answer-stream offer a = by a.long
+answer_stream : (offer : ChunkLists) (a : Answer) → IsStreamBody (answer_body offer a)
+answer_stream offer a = by a.long
   where
     by : (b : Bool) → IsStreamBody (cond b (Nomsg (answer_lists offer a)) (Msg (answer_lists offer a) 0))
     by true = Long (answer_lists offer a)
     by false = Inline (answer_lists offer a) 0
 
-pub answer-plainly : (xid credit : ℕ) (offer : ChunkLists) (a : Answer) → Plainly (answer_message xid credit offer a)
+pub answer_plainly : (xid credit : ℕ) (offer : ChunkLists) (a : Answer) → Plainly (answer_message xid credit offer a)
 unfolding answer_message
-answer-plainly xid credit offer a = plainly xid credit (answer_body offer a) (cond a.long [] a.stream) (answer-stream offer a)
+answer_plainly xid credit offer a = plainly xid credit (answer_body offer a) (cond a.long [] a.stream) (answer_stream offer a)
 
 -- ---- Its header
 
-header-body : (x credit : ℕ) (r : Result Body HeaderFault) (h : Header) → header_by x credit r ≡ Ok h → r ≡ Ok h.body
-header-body x credit (Ok b) h e = ap (λ (y : Body). Ok y) (same-body x credit b h e)
-header-body x credit (Err fault) h e = absurd cc
+header_body : (x credit : ℕ) (r : Result Body HeaderFault) (h : Header) → header_by x credit r ≡ Ok h → r ≡ Ok h.body
+header_body x credit (Ok b) h e = ap (λ (y : Body). Ok y) (same_body_lem x credit b h e)
+header_body x credit (Err fault) h e = absurd cc
 
-msg-is : (c : Cursor) (b : Body) → in_lists (msg_at c) ≡ Ok b → IsStreamBody b
+msg_is_lem : (c : Cursor) (b : Body) → in_lists (msg_at c) ≡ Ok b → IsStreamBody b
 unfolding msg_at
-msg-is c b e = by (lists_at false c) e
+msg_is_lem c b e = by (lists_at false c) e
   where
     sums : (l : ChunkLists) (at : ℕ) (d : Bool) → in_lists (cond d (Err at) (Ok (Msg l at))) ≡ Ok b → IsStreamBody b
     sums l at true e = absurd cc
@@ -87,9 +87,9 @@ msg-is c b e = by (lists_at false c) e
     by (Ok l) e = sums l.0 l.1.place (sums_pass l.0 (length l.1.rest)) e
     by (Err at) e = absurd cc
 
-nomsg-is : (c : Cursor) (b : Body) → in_lists (nomsg_at c) ≡ Ok b → IsStreamBody b
+nomsg_is_lem : (c : Cursor) (b : Body) → in_lists (nomsg_at c) ≡ Ok b → IsStreamBody b
 unfolding nomsg_at
-nomsg-is c b e = by (lists_at true c) e
+nomsg_is_lem c b e = by (lists_at true c) e
   where
     sums : (l : ChunkLists) (at : ℕ) (d : Bool) → in_lists (cond d (Err at) (Ok (Nomsg l))) ≡ Ok b → IsStreamBody b
     sums l at true e = absurd cc
@@ -99,42 +99,42 @@ nomsg-is c b e = by (lists_at true c) e
     by (Ok l) e = sums l.0 l.1.place (Rattle.std.proofs.Common.◌||◌ (sums_pass l.0 0) (ltb 0 (length l.1.rest))) e
     by (Err at) e = absurd cc
 
-version1-is : (kind : ℕ) (m : List ℕ) (b : Body) → IsPlainKind kind → version1_of kind m ≡ Ok b → IsStreamBody b
+version1_is_lem : (kind : ℕ) (m : List ℕ) (b : Body) → IsPlainKind kind → version1_of kind m ≡ Ok b → IsStreamBody b
 unfolding version1_of
-version1-is kind m b (OfMsg is) e = msg-is (record { place = 16; rest = drop 16 m }) b (ap (λ (k : ℕ). version1_of k m) (sym is) ∙ e)
-version1-is kind m b (OfNomsg is) e = nomsg-is (record { place = 16; rest = drop 16 m }) b (ap (λ (k : ℕ). version1_of k m) (sym is) ∙ e)
+version1_is_lem kind m b (OfMsg is) e = msg_is_lem (record { place = 16; rest = drop 16 m }) b (ap (λ (k : ℕ). version1_of k m) (sym is) ∙ e)
+version1_is_lem kind m b (OfNomsg is) e = nomsg_is_lem (record { place = 16; rest = drop 16 m }) b (ap (λ (k : ℕ). version1_of k m) (sym is) ∙ e)
 
-no-error : (kind : ℕ) (m : List ℕ) → IsPlainKind kind → error_by kind m ≡ None
-no-error kind m (OfMsg is) = ap (λ (k : ℕ). error_by k m) is
-no-error kind m (OfNomsg is) = ap (λ (k : ℕ). error_by k m) is
+no_error_lem : (kind : ℕ) (m : List ℕ) → IsPlainKind kind → error_by kind m ≡ None
+no_error_lem kind m (OfMsg is) = ap (λ (k : ℕ). error_by k m) is
+no_error_lem kind m (OfNomsg is) = ap (λ (k : ℕ). error_by k m) is
 
-pub plain-header : (m : List ℕ) (h : Header) → IsPlainKind (word_at 12 m) → header_of m ≡ Ok h → IsStreamBody h.body
+pub plain_header : (m : List ℕ) (h : Header) → IsPlainKind (word_at 12 m) → header_of m ≡ Ok h → IsStreamBody h.body
 unfolding header_of body_by
-plain-header m h kind is = by (ltb (length m) 16) is
+plain_header m h kind is = by (ltb (length m) 16) is
   where
     by_version : (b : Bool) → cond b (version1_of (word_at 12 m) m) (Err (faults.Version (word_at 4 m))) ≡ Ok h.body → IsStreamBody h.body
-    by_version true e = version1-is (word_at 12 m) m h.body kind e
+    by_version true e = version1_is_lem (word_at 12 m) m h.body kind e
     by_version false e = absurd cc
 
     by : (b : Bool) → cond b (Err faults.Short) (header_by (word_at 0 m) (word_at 8 m) (body_by (error_by (word_at 12 m) m) (word_at 4 m) (word_at 12 m) m)) ≡ Ok h → IsStreamBody h.body
     by true e = absurd cc
     by false e = by_version (eqb (word_at 4 m) 1)
-        (ap (λ (o : Option Body). body_by o (word_at 4 m) (word_at 12 m) m) (sym (no-error (word_at 12 m) m kind))
-        ∙ header-body (word_at 0 m) (word_at 8 m) (body_by (error_by (word_at 12 m) m) (word_at 4 m) (word_at 12 m) m) h e)
+        (ap (λ (o : Option Body). body_by o (word_at 4 m) (word_at 12 m) m) (sym (no_error_lem (word_at 12 m) m kind))
+        ∙ header_body (word_at 0 m) (word_at 8 m) (body_by (error_by (word_at 12 m) m) (word_at 4 m) (word_at 12 m) m) h e)
 
 -- ---- What it brings
 
 pub data IsReply : Outcome → Type 0 where
   AReply : (p : List ℕ) → IsReply (outcomes.Reply p)
 
-lists-reply : (k : ClientState) (place : ℕ) (o : OutstandingCall) (inline : Option (List ℕ)) (lists : ChunkLists) (b : Bool) (xid : ℕ) (outcome : Outcome) → by_lists k place o inline lists b ≡ GivesOutcome xid (Some outcome) → IsReply outcome
-lists-reply k place o inline lists false xid outcome e = absurd cc
-lists-reply k place o inline lists true xid outcome e = by o.is_revoked e
+lists_reply : (k : ClientState) (place : ℕ) (o : OutstandingCall) (inline : Option (List ℕ)) (lists : ChunkLists) (b : Bool) (xid : ℕ) (outcome : Outcome) → by_lists k place o inline lists b ≡ GivesOutcome xid (Some outcome) → IsReply outcome
+lists_reply k place o inline lists false xid outcome e = absurd cc
+lists_reply k place o inline lists true xid outcome e = by o.is_revoked e
   where
     same : (p : List ℕ) (x : ℕ) → GivesOutcome x (Some (outcomes.Reply p)) ≡ GivesOutcome xid (Some outcome) → IsReply outcome
-    same p x e = subst IsReply (let s : ◌≡◌ {A = Verdict} (GivesOutcome x (Some (outcomes.Reply p))) (GivesOutcome xid (Some outcome)) = e in cc) (AReply p)
+    same p x e = subst IsReply (let s : ◌≡◌ {A = ReplyVerdict} (GivesOutcome x (Some (outcomes.Reply p))) (GivesOutcome xid (Some outcome)) = e in cc) (AReply p)
 
-    by_reply : (p : List ℕ) (r : Result ReplyHead ℕ) → by_head o.xid p r ≡ GivesOutcome xid (Some outcome) → IsReply outcome
+    by_reply : (p : List ℕ) (r : Result ReplyHead ℕ) → reply_by_head o.xid p r ≡ GivesOutcome xid (Some outcome) → IsReply outcome
     by_reply p (Ok head) e = by_eq (eqb (reply_xid head) o.xid) e
       where
         by_eq : (b : Bool) → cond b (GivesOutcome o.xid (Some (outcomes.Reply p))) (EndsLink Rattle.nr_link.specs.Reasons.REASON_XID) ≡ GivesOutcome xid (Some outcome) → IsReply outcome
@@ -142,22 +142,22 @@ lists-reply k place o inline lists true xid outcome e = by o.is_revoked e
         by_eq false e = absurd cc
     by_reply p (Err at) e = absurd cc
 
-    by_out : (r : Option (List ℕ)) → by_payload o.xid r ≡ GivesOutcome xid (Some outcome) → IsReply outcome
+    by_out : (r : Option (List ℕ)) → reply_by_payload o.xid r ≡ GivesOutcome xid (Some outcome) → IsReply outcome
     by_out None e = absurd cc
     by_out (Some p) e = by_reply p (reply_of p) e
 
-    by : (b : Bool) → cond b (GivesOutcome o.xid None) (by_payload o.xid (reply_conveyed o.call.prog o.call.vers o.call.proc inline lists (memory_at k place))) ≡ GivesOutcome xid (Some outcome) → IsReply outcome
+    by : (b : Bool) → cond b (GivesOutcome o.xid None) (reply_by_payload o.xid (reply_conveyed o.call.prog o.call.vers o.call.proc inline lists (client_memory_at k place))) ≡ GivesOutcome xid (Some outcome) → IsReply outcome
     by true e = absurd cc
-    by false e = by_out (reply_conveyed o.call.prog o.call.vers o.call.proc inline lists (memory_at k place)) e
+    by false e = by_out (reply_conveyed o.call.prog o.call.vers o.call.proc inline lists (client_memory_at k place)) e
 
 -- such a message brings a reply, or nothing
-pub plain-reply : (k : ClientState) (place : ℕ) (m : List ℕ) (xid : ℕ) (outcome : Outcome) → IsPlainKind (word_at 12 m) → verdict k place m ≡ GivesOutcome xid (Some outcome) → IsReply outcome
-plain-reply k place m xid outcome kind e =
-    let g = gives-by k place m xid (Some outcome) e in
-    by g.call g.header.body (plain-header m g.header kind g.is_header) g.by_its_body
+pub plain_reply_lem : (k : ClientState) (place : ℕ) (m : List ℕ) (xid : ℕ) (outcome : Outcome) → IsPlainKind (word_at 12 m) → reply_verdict k place m ≡ GivesOutcome xid (Some outcome) → IsReply outcome
+plain_reply_lem k place m xid outcome kind e =
+    let g = gives_by k place m xid (Some outcome) e in
+    by g.call g.header.body (plain_header m g.header kind g.is_header) g.by_its_body
   where
-    by : (o : OutstandingCall) (b : Body) → IsStreamBody b → by_body k place o m b ≡ GivesOutcome xid (Some outcome) → IsReply outcome
-    by o (Msg lists at) (Inline l a) e = lists-reply k place o (Some (drop at m)) lists (answers_offer false (lists_of o.stag o.plan) lists) xid outcome e
-    by o (Nomsg lists) (Long l) e = lists-reply k place o None lists (answers_offer true (lists_of o.stag o.plan) lists) xid outcome e
+    by : (o : OutstandingCall) (b : Body) → IsStreamBody b → reply_by_body k place o m b ≡ GivesOutcome xid (Some outcome) → IsReply outcome
+    by o (Msg lists at) (Inline l a) e = lists_reply k place o (Some (drop at m)) lists (answers_offer false (lists_of o.stag o.plan) lists) xid outcome e
+    by o (Nomsg lists) (Long l) e = lists_reply k place o None lists (answers_offer true (lists_of o.stag o.plan) lists) xid outcome e
     by o (ErrVers version low high) w e = elim w [ ]
     by o (ErrChunk version) w e = elim w [ ]

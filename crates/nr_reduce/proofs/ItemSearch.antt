@@ -7,8 +7,8 @@ use Rattle.nr_xdr.specs.Items.{TakesAll}
 use Rattle.nr_xdr.specs.Reading.{Cursor, Takes}
 use Rattle.nr_xdr.specs.Sequencing.{◌>>=◌, number_at}
 use Rattle.nr_xdr.proofs.SequencingSteps.{bind_ok, ok_is, chosen, number_step, number_again}
-use Rattle.nr_xdr.proofs.WordBytes.{length-word}
-use Rattle.nr_xdr.proofs.Chains.{standing, IsBytes-right, IsBytes-left}
+use Rattle.nr_xdr.proofs.WordBytes.{length_word}
+use Rattle.nr_xdr.proofs.Chains.{standing, IsBytes_right, IsBytes_left}
 use Rattle.nr_rpc.specs.Reading.{call_of, reply_of, target_of}
 use Rattle.nr_rpc.specs.declared.head.CallHead.{CallHead}
 use Rattle.nr_rpc.specs.declared.head.CallHead.TheVariants as calls
@@ -41,15 +41,15 @@ pub record Retakes (items : List XdrItem) (old new : Cursor) : Type 0 where
   pub place : new.place ≡ old.place + length bytes
   pub again : (more : List ℕ) → TakesAll (standing old.place (bytes ++ more)) (standing new.place more) items
 
-retakes : (items : List XdrItem) (old new : Cursor) → TakesAll old new items → Retakes items old new
-retakes [] old new e = record {
+takes_all_again : (items : List XdrItem) (old new : Cursor) → TakesAll old new items → Retakes items old new
+takes_all_again [] old new e = record {
   bytes = [];
   rest = ap (λ (c : Cursor). c.rest) e;
   place = omega (arith, ap (λ (c : Cursor). c.place) e);
   again = λ more. ap (λ (c : Cursor). standing c.place more) e;
 }
-retakes (item ∷ items) old new (middle, taken, others) =
-    let r = retakes items middle new others in record {
+takes_all_again (item ∷ items) old new (middle, taken, others) =
+    let r = takes_all_again items middle new others in record {
       bytes = taken.bytes ++ r.bytes;
       rest = taken.rest ∙ ap (λ (xs : List ℕ). taken.bytes ++ xs) r.rest ∙ sym (append_assoc taken.bytes r.bytes new.rest);
       place = omega (arith, taken.place, r.place, length-append taken.bytes r.bytes);
@@ -67,7 +67,7 @@ of_codec : {A : Type 0} (c : Codec A) → Lawful c → Local (λ at. c.read at >
 of_codec {A} c lawful at after fits e =
     let b = bind_ok (c.read at) (λ x. Ok x.1) after e in
     let taken = lawful.read_is_encoded at b.0.0 b.0.1 fits b.1 in
-    let r = retakes (c.items b.0.0) at b.0.1 taken.1 in
+    let r = takes_all_again (c.items b.0.0) at b.0.1 taken.1 in
     subst (λ (a : Cursor). Reaches (λ at. c.read at >>= λ x. Ok x.1) at a) (ok_is b.0.1 after b.2) (record {
       bytes = r.bytes;
       rest = r.rest;
@@ -95,12 +95,12 @@ found read local c i fits e =
     let r = by_ok (read c >>= number_at) i e in
     let b = bind_ok (read c) number_at r.0 r.1 in
     let p = local c b.0 fits b.1 in
-    let inside : IsBytes b.0.rest = IsBytes-right p.bytes b.0.rest (subst IsBytes p.rest fits) in
+    let inside : IsBytes b.0.rest = IsBytes_right p.bytes b.0.rest (subst IsBytes p.rest fits) in
     let step : (number_at b.0 >>= λ (x : ℕ × Cursor). Ok x) ≡ Ok r.0 = ap (λ (q : Result (ℕ × Cursor) ℕ). q >>= λ (x : ℕ × Cursor). Ok x) b.2 in
     let s = number_step b.0 (λ (x : ℕ × Cursor). Ok x) r.0 inside step in
     let same : s.0 ≡ r.0 = ok_is s.0 r.0 s.3 in
     let taken : Takes b.0 r.0.1 (Unsigned r.0.0) = subst (λ (x : ℕ × Cursor). Takes b.0 x.1 (Unsigned x.0)) same s.1 in
-    let len : length taken.bytes ≡ 4 = ap length taken.reads.bytes_are ∙ length-word r.0.0 in record {
+    let len : length taken.bytes ≡ 4 = ap length taken.reads.bytes_are ∙ length_word r.0.0 in record {
       bytes = p.bytes ++ taken.bytes;
       behind = r.0.1.rest;
       rest = p.rest ∙ ap (λ (xs : List ℕ). p.bytes ++ xs) taken.rest ∙ sym (append_assoc p.bytes taken.bytes r.0.1.rest);
@@ -136,11 +136,11 @@ pub record Stands (of : Of) (payload : List ℕ) (i : Item) : Type 0 where
   pub enough : i.pos ≤ length payload
   pub again : item_of of (take i.pos payload) ≡ Some i
 
-IsBytes-drop : (n : ℕ) (xs : List ℕ) → IsBytes xs → IsBytes (drop n xs)
-IsBytes-drop n xs fits = IsBytes-right (take n xs) (drop n xs) (subst IsBytes (sym (take-append-drop n xs)) fits)
+IsBytes_drop : (n : ℕ) (xs : List ℕ) → IsBytes xs → IsBytes (drop n xs)
+IsBytes_drop n xs fits = IsBytes_right (take n xs) (drop n xs) (subst IsBytes (sym (take-append-drop n xs)) fits)
 
-pub IsBytes-take : (n : ℕ) (xs : List ℕ) → IsBytes xs → IsBytes (take n xs)
-IsBytes-take n xs fits = IsBytes-left (take n xs) (drop n xs) (subst IsBytes (sym (take-append-drop n xs)) fits)
+pub IsBytes_take : (n : ℕ) (xs : List ℕ) → IsBytes xs → IsBytes (take n xs)
+IsBytes_take n xs fits = IsBytes_left (take n xs) (drop n xs) (subst IsBytes (sym (take-append-drop n xs)) fits)
 
 local_data : Local before_data
 unfolding before_data
@@ -162,7 +162,7 @@ local_read = of_codec read_res_front (success_lawful ⊠ read_ok_front_lawful)
 after_head : (read : Cursor → Result Cursor ℕ) → Local read → (payload front behind : List ℕ) (start : ℕ) (i : Item) → IsBytes payload → payload ≡ front ++ behind → start ≡ length front → item_at (read (from_place start payload)) ≡ Some i
     → (4 ≤ i.pos) × (i.pos ≤ length payload) × ((bytes : List ℕ) × (take i.pos payload ≡ front ++ bytes)) × (item_at (read (from_place start (take i.pos payload))) ≡ Some i)
 after_head read local payload front behind start i fits parts at e =
-    let f = found read local (from_place start payload) i (IsBytes-drop start payload fits) e in
+    let f = found read local (from_place start payload) i (IsBytes_drop start payload fits) e in
     let c = cut_at payload front behind f.bytes f.behind start i.pos parts at f.rest f.place in (
       omega (arith, f.least, f.place),
       c.enough,
@@ -178,7 +178,7 @@ in_call payload i (Ok (calls.Version2 xid prog vers proc cred args_at)) fits is 
     let begins = call_begins payload head fits is in
     let at : args_at ≡ length begins.0 = begins.2.6 in
     let same : (bytes : List ℕ) → take i.pos payload ≡ begins.0 ++ bytes → call_of (take i.pos payload) ≡ Ok head =
-    λ bytes stream. begins_call (take i.pos payload) head (IsBytes-take i.pos payload fits) (begins.0, bytes, begins.2, stream) in
+    λ bytes stream. begins_call (take i.pos payload) head (IsBytes_take i.pos payload fits) (begins.0, bytes, begins.2, stream) in
     let by_target : (bytes : List ℕ) → take i.pos payload ≡ begins.0 ++ bytes → call_item (take i.pos payload) ≡ target_item (take i.pos payload) (Some target) =
     λ bytes stream. ap (λ (r : Result CallHead ℕ). target_item (take i.pos payload) (target_of r)) (same bytes stream) in
     elim (chosen (is_nfs prog vers && eqb proc WRITE) (item_at (before_data (from_place args_at payload)))
