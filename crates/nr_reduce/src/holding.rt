@@ -88,7 +88,7 @@ fn reduced<'a>(item: Item, reply: &'a [u8]) -> Parts<'a>
 }
 
 /// The parts of a reply, where so many bytes may move.
-#[tactic(auto, unfolding(crate::specs::Views::parts_of))]
+#[tactic(auto, unfolding(crate::specs::CodeViews::parts_of))]
 fn parted<'a>(of: &Of, room: Option<u128>, reply: &'a [u8]) -> Option<Parts<'a>>
     ensures { option_map parts_view result ≡ parts_of of.now room reply.now }
 {
@@ -113,7 +113,7 @@ fn parted<'a>(of: &Of, room: Option<u128>, reply: &'a [u8]) -> Option<Parts<'a>>
 /// message has at most `down` bytes. Where the first write chunk has a segment and the reply an item, that moves, and must
 /// not be longer than the chunk. The rest goes behind a header that repeats the write list, where both are within `down`;
 /// else in the reply chunk, where that is long enough. `None` where neither is so. Takes no memory.
-#[tactic(auto, using(crate::proofs::Rooms::parts_by_total), unfolding(crate::specs::Holds::answer_for))]
+#[tactic(auto, using(crate::proofs::ChunkSums::parts_by_total), unfolding(crate::specs::Holds::answer_for))]
 pub fn answer_for<'a>(
     offer: &ChunkLists,
     prog: u32,

@@ -18,7 +18,7 @@ use nr_xdr::Reader;
 const REPLY_LIMIT_MIN: u32 = 32;
 
 /// The number behind the fields before it, where these could be read.
-#[tactic(auto, unfolding(crate::specs::Behind::number_after))]
+#[tactic(auto, unfolding(crate::specs::AfterFront::number_after))]
 pub(crate) fn number_after(front: Option<Reader<'_>>) -> Option<u32>
     ensures { result ≡ number_after front.entry }
 {
