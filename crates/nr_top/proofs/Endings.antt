@@ -8,7 +8,7 @@ use Rattle.nr_world.specs.Shown.{shown, text_of}
 use Rattle.nr_top.specs.Ends.Cause.{BadArguments, NoMemory, InputFault, OutputFault, BadScript, OverBudget}
 use Rattle.nr_top.specs.Statuses as statuses
 use Rattle.nr_top.specs.Arguments.{is_drill, due_status}
-use Rattle.nr_top.specs.Ends.{InputAt, IsPrinted, SinkAt, Wrote, BadLine, TooLong, Cause, FaultReport, printed, memory_text, bad_line_text, budget_text, Ends, Stopped, Reported, Reports}
+use Rattle.nr_top.specs.Ends.{InputAt, IsPrinted, SinkAt, Wrote, BadLine, TooLong, Cause, FaultReport, printed, memory_text, bad_line_text, budget_text, Ends, Stopped, Reported, ReportsFailure}
 
 -- what is printed of a report is what is shown of its marks
 pub printed_is : (script : ScriptLines) (report : Report) (text : List ℕ) → Reports script report → text ≡ text_of report.calls report.links (length report.journal) → text ≡ printed script report.marks
@@ -31,11 +31,11 @@ report_fault arguments status input input' out out' err err' is told = record {
 }
 
 -- what is written for a cause with this status
-with_status : (cause : Cause) (status : ℕ) (err err' : SinkAt) → status ≡ statuses.fault → Reports cause status err err' → Reports cause statuses.fault err err'
-with_status cause status err err' is said = subst (λ (s : ℕ). Reports cause s err err') is said
+with_status : (cause : Cause) (status : ℕ) (err err' : SinkAt) → status ≡ statuses.fault → ReportsFailure cause status err err' → ReportsFailure cause statuses.fault err err'
+with_status cause status err err' is said = subst (λ (s : ℕ). ReportsFailure cause s err err') is said
 
 -- the text of a cause was written, or the fault count of err rose
-said_or : {due : ℕ} {text : List ℕ} (cause : Cause) (arguments : List (List ℕ)) (status : ℕ) (input input' : InputAt) (out out' err err' : SinkAt) → Stopped cause arguments input input' out out' → Reports cause status err err'
+said_or : {due : ℕ} {text : List ℕ} (cause : Cause) (arguments : List (List ℕ)) (status : ℕ) (input input' : InputAt) (out out' err err' : SinkAt) → Stopped cause arguments input input' out out' → ReportsFailure cause status err err'
     → Reported due text status err err' → (status ≡ due → Wrote err err' text → Ends arguments status input input' out out' err err') → Ends arguments status input input' out out' err err'
 said_or cause arguments status input input' out out' err err' stopped said (inl spoke) make = make spoke.0 spoke.1
 said_or cause arguments status input input' out out' err err' stopped said (inr failed) make =
@@ -121,7 +121,7 @@ without_text number arguments input input' out out' stopped =
     (stopped.0.line, (stopped.0.text, stopped.0.whole.handed, stopped.0.whole.within), stopped.0.whole.unfailing, stopped.1)
 
 -- a cause and what is written for it make an end
-pub ends_of : (cause : Cause) (arguments : List (List ℕ)) (status : ℕ) (input input' : InputAt) (out out' err err' : SinkAt) → Stopped cause arguments input input' out out' → Reports cause status err err' → Ends arguments status input input' out out' err err'
+pub ends_of : (cause : Cause) (arguments : List (List ℕ)) (status : ℕ) (input input' : InputAt) (out out' err err' : SinkAt) → Stopped cause arguments input input' out out' → ReportsFailure cause status err err' → Ends arguments status input input' out out' err err'
 ends_of BadArguments arguments status input input' out out' err err' stopped said =
     said_or BadArguments arguments status input input' out out' err err' stopped said said (bad_arguments arguments status input input' out out' err err' stopped)
 ends_of NoMemory arguments status input input' out out' err err' stopped said =

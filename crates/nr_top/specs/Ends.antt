@@ -162,18 +162,18 @@ pub record Shown (input input' : InputAt) (text : List ℕ) : Type 0 where
   pub prints : IsPrinted script text
 
 -- What is written for a cause. The text with the number of a line needs memory; where there is none, that is written.
-abbrev pub Reports : Cause → ℕ → SinkAt → SinkAt → Type 0
-Reports BadArguments status err err' = Reported statuses.bad_arguments (codes "bad words\n") status err err'
-Reports NoMemory status err err' = Reported statuses.no_memory memory_text status err err'
-Reports InputFault status err err' = Reported statuses.fault (codes "input fault\n") status err err'
-Reports OutputFault status err err' = Reported statuses.fault (codes "output fault\n") status err err'
-Reports (BadScript number) status err err' = Reported statuses.bad_script (bad_line_text number) status err err' ⊎ Reported statuses.no_memory memory_text status err err'
-Reports OverBudget status err err' = Reported statuses.over_budget budget_text status err err'
+abbrev pub ReportsFailure : Cause → ℕ → SinkAt → SinkAt → Type 0
+ReportsFailure BadArguments status err err' = Reported statuses.bad_arguments (codes "bad words\n") status err err'
+ReportsFailure NoMemory status err err' = Reported statuses.no_memory memory_text status err err'
+ReportsFailure InputFault status err err' = Reported statuses.fault (codes "input fault\n") status err err'
+ReportsFailure OutputFault status err err' = Reported statuses.fault (codes "output fault\n") status err err'
+ReportsFailure (BadScript number) status err err' = Reported statuses.bad_script (bad_line_text number) status err err' ⊎ Reported statuses.no_memory memory_text status err err'
+ReportsFailure OverBudget status err err' = Reported statuses.over_budget budget_text status err err'
 
 -- Why the command wasn't done, where a fault count rose, and what was written for it: for a fault of the input or of
 -- the output the whole text, or a proper prefix, where err failed too; for another cause a proper prefix.
 abbrev pub FaultReport : List (List ℕ) → InputAt → InputAt → SinkAt → SinkAt → SinkAt → SinkAt → Type 0
-FaultReport arguments input input' out out' err err' = (cause : Cause) × Stopped cause arguments input input' out out' × Reports cause statuses.fault err err'
+FaultReport arguments input input' out out' err err' = (cause : Cause) × Stopped cause arguments input input' out out' × ReportsFailure cause statuses.fault err err'
 
 -- What the status of a run says.
 pub record Ends (arguments : List (List ℕ)) (status : ℕ) (input input' : InputAt) (out out' err err' : SinkAt) : Type 0 where

@@ -4,7 +4,7 @@ ghost use Rattle.std.specs.Prelude.{◌≡◌, true, false, map, IfOk, MatchResu
 ghost use Rattle.std.specs.String.{string_bytes};
 ghost use Rattle.nr_top.specs.Arguments.{is_drill};
 ghost use Rattle.nr_top.specs.Causes.{cause_of};
-ghost use Rattle.nr_top.specs.Ends.{Ends, Done, IsPrinted, ReadsScript, Stopped, StoppedReading, Shown, Reported, Reports, input_at, sink_at};
+ghost use Rattle.nr_top.specs.Ends.{Ends, Done, IsPrinted, ReadsScript, Stopped, StoppedReading, Shown, Reported, ReportsFailure, input_at, sink_at};
 ghost use Rattle.nr_top.specs.Ends.Cause.{NoMemory, BadArguments, BadScript};
 
 use crate::status::{BAD_ARGUMENTS, BAD_SCRIPT, DONE, FAULT, NO_MEMORY, OVER_BUDGET};
@@ -140,7 +140,7 @@ fn write_error<E: Sink>(err: &mut E, text: &[u8], status: u8) -> u8
 /// Reports the first bad line on `err`, and gives the status. Where there is no memory for the text, that is reported.
 #[tactic(auto, unfolding(crate::specs::Ends::bad_line_text))]
 fn report_bad_line<E: Sink>(alloc: Global, line: u64, err: &mut E) -> u8
-    ensures { Reports (BadScript line) result (sink_at (E.taken err.old) (E.faults err.old)) (sink_at (E.taken err.new) (E.faults err.new)) }
+    ensures { ReportsFailure (BadScript line) result (sink_at (E.taken err.old) (E.faults err.old)) (sink_at (E.taken err.new) (E.faults err.new)) }
 {
     match format!(in alloc; "bad line {line}\n") {
         Ok(text) => write_error(err, text.as_bytes(), BAD_SCRIPT),
@@ -150,7 +150,7 @@ fn report_bad_line<E: Sink>(alloc: Global, line: u64, err: &mut E) -> u8
 
 /// Reports on `err` why the command wasn't done, and gives the status.
 fn report_failure<E: Sink>(alloc: Global, stop: Failure, err: &mut E) -> u8
-    ensures { Reports (cause_of stop) result (sink_at (E.taken err.old) (E.faults err.old)) (sink_at (E.taken err.new) (E.faults err.new)) }
+    ensures { ReportsFailure (cause_of stop) result (sink_at (E.taken err.old) (E.faults err.old)) (sink_at (E.taken err.new) (E.faults err.new)) }
 {
     match stop {
         Failure::Arguments => write_error(err, b"bad words\n", BAD_ARGUMENTS),
@@ -165,8 +165,8 @@ fn report_failure<E: Sink>(alloc: Global, stop: Failure, err: &mut E) -> u8
 /// Reports on `err` why the arguments can't be had, and gives the status: memory ran out for them, or one of them isn't
 /// UTF-8.
 pub fn refuse<E: Sink>(err: &mut E, memory: bool) -> u8
-    ensures memory { memory ≡ true → Reports NoMemory result (sink_at (E.taken err.old) (E.faults err.old)) (sink_at (E.taken err.new) (E.faults err.new)) }
-    ensures arguments { memory ≡ false → Reports BadArguments result (sink_at (E.taken err.old) (E.faults err.old)) (sink_at (E.taken err.new) (E.faults err.new)) }
+    ensures memory { memory ≡ true → ReportsFailure NoMemory result (sink_at (E.taken err.old) (E.faults err.old)) (sink_at (E.taken err.new) (E.faults err.new)) }
+    ensures arguments { memory ≡ false → ReportsFailure BadArguments result (sink_at (E.taken err.old) (E.faults err.old)) (sink_at (E.taken err.new) (E.faults err.new)) }
 {
     if memory {
         write_error(err, b"memory\n", NO_MEMORY)
