@@ -120,7 +120,7 @@ goes_on_lem {S} rules r e stays = by r.ended refl stays
     by (Some end) is stays = absurd (let t : Some end ≡ None = stays in cc)
 
 -- a Read Request is an access to what it asks for
-pub request_access : (s : Segment) (q : ReadRequest) → read_request_of s ≡ Some q → ending.access_of_tagged s ≡ Some (record { right = Fetch; stag = q.stag; to = q.to; len = q.size })
+pub request_access : (s : Segment) (q : ReadRequest) → read_request_of s ≡ Some q → ending.access_of s ≡ Some (record { right = Fetch; stag = q.stag; to = q.to; len = q.size })
 request_access (Tagged last opcode stag to payload) q e = absurd cc
 request_access (Untagged last opcode w queue msn offset payload) q e = by (eqb opcode OPCODE_READ_REQUEST) e
   where

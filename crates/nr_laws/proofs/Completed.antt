@@ -62,7 +62,7 @@ pub call_plainly : (xid credit stag : ℕ) (p : Plan) → Plainly (call_message 
 unfolding call_message
 call_plainly xid credit stag p = plainly xid credit (plans.body_by p.read_at (lists_of stag p)) p.inline (call_stream_lem p.read_at (lists_of stag p))
 
-abbrev NotOther : ReplyVerdict → Type 0
+abbrev NotOther : client_messages.ReplyVerdict → Type 0
 NotOther (EndsLink reason) = Unit {0}
 NotOther OtherVersion = ⊥
 NotOther BadChunks = Unit {0}
@@ -102,7 +102,7 @@ pub version_not : (k : ServerState) (m : List ℕ) → word_at 4 m ≡ 1 → ver
 unfolding verdict
 version_not k m own e = subst NotOther (ap (λ (b : Bool). cond (not b) OtherVersion rest) (sym (eq-eqb (word_at 4 m) 1 own)) ∙ e) (by (eqb (word_at 12 m) 3 || eqb (word_at 12 m) 4) (is_pending k (word_at 0 m)))
   where
-    rest : ReplyVerdict
+    rest : client_messages.ReplyVerdict
     rest = cond (eqb (word_at 12 m) 3 || eqb (word_at 12 m) 4) (EndsLink REASON_KIND) (cond (is_pending k (word_at 0 m)) (EndsLink REASON_CALL) (by_header k m (header_of m)))
 
     by : (b c : Bool) → NotOther (cond b (EndsLink REASON_KIND) (cond c (EndsLink REASON_CALL) (by_header k m (header_of m))))
@@ -126,20 +126,20 @@ pub data IsChunk : Outcome → Type 0 where
   AChunk : IsChunk outcomes.Chunk
 
 -- it brings Chunk alone
-pub chunk_brings : (k : ClientState) (place : ℕ) (m : List ℕ) (xid : ℕ) (outcome : Outcome) (x credit : ℕ) → m ≡ chunk_error x credit → client_messages.verdict k place m ≡ GivesOutcome xid (Some outcome) → IsChunk outcome
+pub chunk_brings : (k : ClientState) (place : ℕ) (m : List ℕ) (xid : ℕ) (outcome : Outcome) (x credit : ℕ) → m ≡ chunk_error x credit → client_messages.reply_verdict k place m ≡ GivesOutcome xid (Some outcome) → IsChunk outcome
 chunk_brings k place m xid outcome x credit is e =
     let g = gives_by k place m xid (Some outcome) e in
     let w = chunk_words x credit in
     let read = error_read m g.header (ap (λ (y : List ℕ). word_at 12 y) is ∙ w.0) g.is_header in
     by g.call g.header.body (eqb (length m) 28) (eqb (length m) 20) (ap (λ (n : ℕ). cond (eqb (length m) 28 && eqb n 1) (Some (ErrVers (word_at 4 m) (word_at 20 m) (word_at 24 m))) (cond (eqb (length m) 20 && eqb n 2) (Some (ErrChunk (word_at 4 m))) None)) (sym (ap (λ (y : List ℕ). word_at 16 y) is ∙ w.1)) ∙ read) g.by_its_body
   where
-    give : (o : OutstandingCall) (v : ℕ) (b : Body) → ErrChunk v ≡ b → client_messages.by_body k place o m b ≡ GivesOutcome xid (Some outcome) → IsChunk outcome
+    give : (o : OutstandingCall) (v : ℕ) (b : Body) → ErrChunk v ≡ b → client_messages.reply_by_body k place o m b ≡ GivesOutcome xid (Some outcome) → IsChunk outcome
     give o v b same e =
-        let f = ap (λ (y : Body). client_messages.by_body k place o m y) same ∙ e in
+        let f = ap (λ (y : Body). client_messages.reply_by_body k place o m y) same ∙ e in
         subst IsChunk (let s : ◌≡◌ {A = client_messages.ReplyVerdict} (GivesOutcome o.xid (Some outcomes.Chunk)) (GivesOutcome xid (Some outcome)) = f in cc) AChunk
 
     by : (o : OutstandingCall) (b : Body) (c d : Bool) → cond (c && false) (Some (ErrVers (word_at 4 m) (word_at 20 m) (word_at 24 m))) (cond (d && true) (Some (ErrChunk (word_at 4 m))) None) ≡ Some b
-        → client_messages.by_body k place o m b ≡ GivesOutcome xid (Some outcome) → IsChunk outcome
+        → client_messages.reply_by_body k place o m b ≡ GivesOutcome xid (Some outcome) → IsChunk outcome
     by o b true true r e = give o (word_at 4 m) b (let s : Some (ErrChunk (word_at 4 m)) ≡ Some b = r in cc) e
     by o b true false r e = absurd cc
     by o b false true r e = give o (word_at 4 m) b (let s : Some (ErrChunk (word_at 4 m)) ≡ Some b = r in cc) e
