@@ -62,7 +62,7 @@ pub call_plainly : (xid credit stag : ℕ) (p : Plan) → Plainly (call_message 
 unfolding call_message
 call_plainly xid credit stag p = plainly xid credit (plans.body_by p.read_at (lists_of stag p)) p.inline (call_stream_lem p.read_at (lists_of stag p))
 
-abbrev NotOther : client_messages.ReplyVerdict → Type 0
+abbrev NotOther : Verdict → Type 0
 NotOther (EndsLink reason) = Unit {0}
 NotOther OtherVersion = ⊥
 NotOther BadChunks = Unit {0}
@@ -102,7 +102,7 @@ pub version_not : (k : ServerState) (m : List ℕ) → word_at 4 m ≡ 1 → ver
 unfolding verdict
 version_not k m own e = subst NotOther (ap (λ (b : Bool). cond (not b) OtherVersion rest) (sym (eq-eqb (word_at 4 m) 1 own)) ∙ e) (by (eqb (word_at 12 m) 3 || eqb (word_at 12 m) 4) (is_pending k (word_at 0 m)))
   where
-    rest : client_messages.ReplyVerdict
+    rest : Verdict
     rest = cond (eqb (word_at 12 m) 3 || eqb (word_at 12 m) 4) (EndsLink REASON_KIND) (cond (is_pending k (word_at 0 m)) (EndsLink REASON_CALL) (by_header k m (header_of m)))
 
     by : (b c : Bool) → NotOther (cond b (EndsLink REASON_KIND) (cond c (EndsLink REASON_CALL) (by_header k m (header_of m))))
