@@ -257,6 +257,13 @@ impl Endpoint {
         self.link.send_queue.sends_left()
     }
 
+    /// How many Sends haven't wholly left the queue.
+    pub fn sends_waiting(&self) -> usize
+        ensures { result ≡ length self.now.link.state.send_queue.send_ends }
+    {
+        self.link.send_queue.sends_waiting()
+    }
+
     /// Why the side takes no more input, once it has ended.
     pub fn end(&self) -> Option<End>
         ensures { result ≡ self.now.link.state.ended }

@@ -373,6 +373,13 @@ impl SendQueue {
         self.sends_left
     }
 
+    /// How many Sends haven't wholly left.
+    pub fn sends_waiting(&self) -> usize
+        ensures { result ≡ length self.now.send_ends }
+    {
+        self.send_ends.len()
+    }
+
     /// How many bytes the queue has.
     pub fn len(&self) -> usize
         ensures { result ≡ length self.now.hello + length self.now.fpdus }
