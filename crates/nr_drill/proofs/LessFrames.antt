@@ -1,7 +1,7 @@
 -- There is a Send of each call that a client accepted among the frames that its server received and those that wait for it.
 use Rattle.std.specs.Prelude.{◌<◌, filter}
 use Rattle.std.specs.List.{concat}
-use Rattle.std.proofs.Common.{◌≡◌, ◌≢◌, ℕ, suc, ◌+◌, arith, cond, eqb, ne_eqb, inl, inr, map, Bool, true, false, List, [], ◌∷◌, ◌++◌, length, drop, None, Ok, refl, sym, ap, ◌∙◌, append-nil, append_assoc, length-append}
+use Rattle.std.proofs.Common.{◌≡◌, ◌≢◌, ℕ, suc, ◌+◌, arith, cond, eqb, ne_eqb, inl, inr, map, Bool, true, false, List, [], ◌∷◌, ◌++◌, length, drop, None, Ok, refl, sym, ap, ◌∙◌, append-nil, append_assoc, length-append, ◌&&◌, Option}
 use Rattle.std.proofs.Math.Seq.{drop-append_seam}
 use Rattle.std.proofs.lemmas.List.{length-map}
 use Rattle.std.proofs.lemmas.List.Elements.{filter-append}
@@ -33,11 +33,12 @@ use Rattle.nr_reduce.specs.Asked.{AskedSoFar}
 use Rattle.nr_laws.specs.Typed.{IsTyped}
 use Rattle.nr_laws.proofs.Outputs.{Output, bytes_of, bytes_of_all, message_of_call}
 use Rattle.nr_laws.proofs.Outputs.Output.{AHello, ASegment}
-use Rattle.nr_laws.proofs.Messages.{message_in, messages}
+use Rattle.nr_link.specs.ReceiveState.{begun_bytes}
+use Rattle.nr_laws.proofs.Completions.{completed_by, begun_by, completed_from}
 use Rattle.nr_laws.proofs.Brought.{AreFrom, encoding_is, hello_is}
 use Rattle.nr_laws.proofs.EventOutputs.{whole_bytes}
 use Rattle.nr_laws.proofs.ClientSays.{HasHello, accepted_in, asked}
-use Rattle.nr_laws.proofs.ClientRun.{client_outs, client_tells}
+use Rattle.nr_laws.proofs.ClientRun.{client_outs, client_outputs}
 use Rattle.nr_reduce.proofs.Waiting.{start}
 use Rattle.nr_drill.specs.WorkLeft.{is_send, is_send_segment}
 use Rattle.nr_drill.proofs.LessUp.{some_bytes_lem}
@@ -108,31 +109,32 @@ one_more_lem : (f : Frame) (fs : List Frame) (b : Bool) → is_send f ≡ b → 
 one_more_lem f fs true is = ap (λ (b : Bool). length (cond b (f ∷ filter is_send fs) (filter is_send fs))) is
 one_more_lem f fs false is = ap (λ (b : Bool). length (cond b (f ∷ filter is_send fs) (filter is_send fs))) is
 
-counted : (segment : Segment) (ms : List (List ℕ)) (n : ℕ) → n ≡ length ms → cond (is_send_segment (Ok segment)) (suc n) n ≡ length (message_in segment ++ ms)
-counted (Tagged last opcode stag to payload) ms n is = is
-counted (Untagged last opcode w queue msn offset payload) ms n is = by (eqb opcode OPCODE_SEND)
+counted : (b : Option (List ℕ)) (segment : Segment) (ms : List (List ℕ)) (n : ℕ) → n ≡ length ms → cond (is_send_segment (Ok segment)) (suc n) n ≡ length (completed_by b segment ++ ms)
+counted b (Tagged last opcode stag to payload) ms n is = is
+counted b (Untagged last opcode w queue msn offset payload) ms n is = by (eqb opcode OPCODE_SEND && last)
   where
-    by : (b : Bool) → cond b (suc n) n ≡ length (cond b (payload ∷ []) [] ++ ms)
+    by : (c : Bool) → cond c (suc n) n ≡ length (cond c ((begun_bytes b ++ payload) ∷ []) [] ++ ms)
     by true = ap suc is
     by false = is
 
--- as many as there are messages
-segments_sends : (place : ℕ) (outs : List Output) → 0 < place → AreFrom Fpdu outs → sends_among (frames_from place (map bytes_of outs)) ≡ length (messages outs)
+-- as many as the messages that they complete
+segments_sends : (b : Option (List ℕ)) (place : ℕ) (outs : List Output) → 0 < place → AreFrom Fpdu outs → sends_among (frames_from place (map bytes_of outs)) ≡ length (completed_from b outs)
 unfolding frame_segment
-segments_sends place [] some h = refl
-segments_sends place (AHello bytes ∷ outs) some h = absurd h
-segments_sends place (ASegment s ∷ outs) some h =
+segments_sends b place [] some h = refl
+segments_sends b place (AHello bytes ∷ outs) some h = absurd h
+segments_sends b place (ASegment s ∷ outs) some h =
     let f : Frame = record { at = place; end = place + length (encoding s); bytes = encoding s } in
     let later = frames_from (place + length (encoding s)) (map bytes_of outs) in
     let appended : is_hello f ≡ false = ne_eqb place 0 (λ e. omega (arith, e, some)) in
     let read : is_send f ≡ is_send_segment (Ok s) = (λ i. cond (appended i) false (is_send_segment (segment_of (encoding s)))) ∙ ap is_send_segment (encoding_is s h.0).says in
-    one_more_lem f later (is_send_segment (Ok s)) read ∙ counted s (messages outs) (sends_among later) (segments_sends (place + length (encoding s)) outs (omega (arith, some)) h.1)
+    one_more_lem f later (is_send_segment (Ok s)) read
+    ∙ counted b s (completed_from (begun_by b s) outs) (sends_among later) (segments_sends (begun_by b s) (place + length (encoding s)) outs (omega (arith, some)) h.1)
 
-stream_sends : (outs : List Output) → AreFrom Fpdu outs → sends_among (frames_of Initiator (own_hello Initiator ++ bytes_of_all outs)) ≡ length (messages outs)
+stream_sends : (outs : List Output) → AreFrom Fpdu outs → sends_among (frames_of Initiator (own_hello Initiator ++ bytes_of_all outs)) ≡ length (completed_from None outs)
 stream_sends outs h =
     let n = length (own_hello Initiator) in
     let some : 0 < 0 + n = (let a = (hello_is Initiator).is_frame.fields in let b = fields_some (HelloFrom Initiator) in omega (arith, a, b)) in
-    ap sends_among (stream_frames outs h) ∙ segments_sends (0 + n) outs some h
+    ap sends_among (stream_frames outs h) ∙ segments_sends None (0 + n) outs some h
 
 -- ===== on a link whose client hasn't ended
 
@@ -156,14 +158,14 @@ pub sends_waiting : (o : LinkParameters) (link : ℕ) (run : List Mark) (way : L
     length (filter is_send (frames_of Initiator (bytes_received link Responder run))) + length (filter is_send (frames_completed Initiator (bytes_received link Responder run) way)) ≡ (client o link run).state.calls_accepted
 sends_waiting o link run way typed asked_so lives heard carried =
     let got = bytes_received link Responder run in
-    let t = client_tells o link run typed asked_so in
+    let t = client_outputs o link run typed asked_so in
     let k = (client o link run).state in
     let calls = asked o (events link Initiator run) in
     let knows : k.has_hello ≡ true = has_hello_lem (whole_bytes link Initiator run) k.has_hello (whole_some link run heard) (t.says.greeted lives) in
-    let all : sends_among (frames_of Initiator (got ++ way)) ≡ length (messages (client_outs o link run)) =
+    let all : sends_among (frames_of Initiator (got ++ way)) ≡ length (completed_from None (client_outs o link run)) =
     ap (λ (xs : List ℕ). sends_among (frames_of Initiator xs)) (carried ∙ t.bytes) ∙ stream_sends (client_outs o link run) t.says.words in
-    let said : length (messages (client_outs o link run)) ≡ length calls =
-    ap (λ (ms : List (List ℕ)). length ms) (t.says.said ∙ (λ i. cond (knows i) (map (message_of_call o) calls) [])) ∙ length-map calls (message_of_call o) in
+    let said : length (completed_from None (client_outs o link run)) ≡ length calls =
+    ap (λ (ms : List (List ℕ)). length ms) (t.says.completes.completed ∙ (λ i. cond (knows i) (map (message_of_call o) calls) [])) ∙ length-map calls (message_of_call o) in
     let accepted : length calls ≡ k.calls_accepted = as_many_calls (start o) o.first_stag (accepted_in (events link Initiator run)) ∙ sym t.says.count in
     let both : sends_among (frames_of Initiator (got ++ way)) ≡ sends_among (frames_of Initiator got) + sends_among (frames_completed Initiator got way) =
     ap sends_among (frames_one Initiator got way) ∙ ap (λ (fs : List Frame). length fs) (filter-append is_send (frames_of Initiator got) (frames_completed Initiator got way))

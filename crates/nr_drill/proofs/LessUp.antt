@@ -105,7 +105,7 @@ tagged_lessens k place opcode last = by (eqb opcode OPCODE_READ_RESPONSE && last
 effect_lessens : (k : ServerState) (f : Frame) (r : Result Segment ℕ) → is_send_segment r ≡ false → Lessens k (effect_in k f r)
 effect_lessens k f (Err reason) e = nothing_done k
 effect_lessens k f (Ok (Untagged last opcode w queue msn offset payload)) e =
-    subst (λ (b : Bool). Lessens k (by_message k f.end (cond (b && last) (Some (begun_bytes k.received.begun ++ payload)) None))) (sym e) (nothing_done k)
+    subst (λ (b : Bool). Lessens k (by_message k f.end (cond b (Some (begun_bytes k.received.begun ++ payload)) None))) (sym e) (nothing_done k)
 effect_lessens k f (Ok (Tagged last opcode stag to payload)) e = tagged_lessens (with_access k f (Tagged last opcode stag to payload)) f.end opcode last
 
 -- ===== and what such frames make of it

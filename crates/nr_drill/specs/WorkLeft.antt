@@ -1,5 +1,5 @@
 -- The work left in a drain, as numbers of which the first that a step changes falls.
-use Rattle.std.specs.Prelude.{◌≡◌, ℕ, ◌+◌, ◌<◌, ◌⊎◌, Bool, false, ◌==◌, if◌then◌else◌, List, [], ◌∷◌, ◌++◌, length, filter, sum_by, is_none, Option, Result, Ok, Err}
+use Rattle.std.specs.Prelude.{◌≡◌, ℕ, ◌+◌, ◌<◌, ◌⊎◌, Bool, false, ◌==◌, ◌&&◌, if◌then◌else◌, List, [], ◌∷◌, ◌++◌, length, filter, sum_by, is_none, Option, Result, Ok, Err}
 use Rattle.nr_wire.specs.declared.hello.Side.TheVariants.{Initiator, Responder}
 use Rattle.nr_wire.specs.Constants.{OPCODE_SEND}
 use Rattle.nr_wire.specs.Segment.{Segment}
@@ -11,16 +11,16 @@ use Rattle.nr_reduce.specs.History.{bytes_received}
 use Rattle.nr_reduce.specs.Run.{server, end_of_side}
 use Rattle.nr_drill.specs.Drill.{Setting, Drill, pipes_of, unwritten, after_all_up, after_work, after_all_down}
 
--- a Send's segment (RFC 5040 section 4)
+-- the last segment of a Send (RFC 5040 section 4)
 abbrev pub is_send_segment : Result Segment ℕ → Bool
-is_send_segment (Ok (Untagged last opcode word queue msn offset payload)) = opcode == OPCODE_SEND
+is_send_segment (Ok (Untagged last opcode word queue msn offset payload)) = opcode == OPCODE_SEND && last
 is_send_segment (Ok (Tagged last opcode stag to payload)) = false
 is_send_segment (Err reason) = false
 
 abbrev pub is_send : Frame → Bool
 is_send f = if is_hello f then false else is_send_segment (frame_segment f)
 
--- the bytes of the frames of Sends that wait for the server, or that its client has yet to write
+-- the bytes of the last frames of Sends that wait for the server, or that its client has yet to write
 abbrev pub frame_len : Frame → ℕ
 frame_len f = length f.bytes
 
@@ -32,8 +32,8 @@ send_bytes_left s d link =
 abbrev pub stays : Option End → ℕ
 stays end = if is_none end then 1 else 0
 
--- Of a link: the sides that haven't ended; the bytes of Sends still to go up; the Read Requests that are open or owed; the calls that are
--- complete and not executed; the bytes that wait for the client; those that wait for the server.
+-- Of a link: the sides that haven't ended; the bytes of the last frames of Sends still to go up; the Read Requests that are open or
+-- owed; the calls that are complete and not executed; the bytes that wait for the client; those that wait for the server.
 unfoldable pub work_left : Setting → Drill → ℕ → List ℕ
 work_left s d link =
     let opened = s.opened link in

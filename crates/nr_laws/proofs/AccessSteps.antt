@@ -1,13 +1,11 @@
 -- What a server accesses stays offered behind each frame that a side of a matched link receives.
-use Rattle.std.proofs.Common.{◌≡◌, ℕ, ◌+◌, ◌≤◌, ◌<◌, true, eqb, List, [], ◌∷◌, ◌++◌, Ok, refl, sym, ap, subst, ◌∙◌, arith}
+use Rattle.std.proofs.Common.{◌≡◌, ℕ, ◌≤◌, ◌<◌, true, eqb, List, [], ◌∷◌, ◌++◌, Ok, refl, sym, ap, subst, ◌∙◌, arith}
 use Rattle.std.specs.List.{AllByRecursion, list_any}
 use Rattle.std.proofs.lemmas.Bool.{eq-eqb}
 use Rattle.nr_wire.specs.declared.hello.Side.TheVariants.{Initiator, Responder}
-use Rattle.nr_wire.specs.Constants.{OPCODE_SEND, QUEUE_SEND}
 use Rattle.nr_wire.specs.Segment.{Segment}
-use Rattle.nr_wire.specs.Segment.Segment.{Tagged, Untagged}
+use Rattle.nr_wire.specs.Segment.Segment.{Tagged}
 use Rattle.nr_link.specs.Frames.{Frame}
-use Rattle.nr_link.specs.Output.{msn_word}
 use Rattle.nr_link.specs.Ending.{frame_segment}
 use Rattle.nr_reduce.specs.declared.mark.LinkParameters.{LinkParameters}
 use Rattle.nr_reduce.specs.Plans.{one_if}
@@ -17,8 +15,8 @@ use Rattle.nr_reduce.specs.ServerState.{ServerState, PendingCall}
 use Rattle.nr_reduce.specs.Client.{client_state_after}
 use Rattle.nr_reduce.specs.Server.{server_state_after}
 use Rattle.nr_reduce.specs.ServerFrames.{frame_effect}
-use Rattle.nr_laws.proofs.FrameContents.{FrameContent, numbered_segment, frame_bytes, total_of, sends_in, requests_in, client_frames, server_frames, Carries}
-use Rattle.nr_laws.proofs.FrameContents.FrameContent.{HelloFrame, SendFrame, RequestFrame, TaggedFrame}
+use Rattle.nr_laws.proofs.FrameContents.{FrameContent, numbered_segment, frame_bytes, total_of, sends_in, requests_in, client_frames, server_frames, Carries, last_segment, part_segment}
+use Rattle.nr_laws.proofs.FrameContents.FrameContent.{HelloFrame, PartFrame, SendFrame, RequestFrame, TaggedFrame}
 use Rattle.nr_laws.proofs.LinkInvariants.{Transit}
 use Rattle.nr_laws.proofs.Totals.{total_append}
 use Rattle.nr_laws.proofs.CompletedFrames.{is_piece}
@@ -29,9 +27,10 @@ use Rattle.nr_laws.proofs.GuardsAtServer.{each_at}
 use Rattle.nr_laws.proofs.AnsweredCalls.{message_xids, times, executed_less}
 use Rattle.nr_laws.proofs.AnsweredSteps.{given_to}
 use Rattle.nr_laws.proofs.OfferedAccesses.{MessageOffered, AccessesAgree}
-use Rattle.nr_laws.proofs.EffectsOffered.{EffectOffered, effect_send, effect_tagged}
+use Rattle.nr_laws.proofs.EffectsOffered.{EffectOffered, effect_send, effect_tagged, effect_part}
 use Rattle.nr_laws.proofs.AccessesAtClient.{accessed_hello_down, accessed_piece_down}
 use Rattle.nr_laws.proofs.AccessesAtServer.{accessed_hello_up, accessed_frame_up}
+use Rattle.nr_laws.proofs.SendFrames.{at_front}
 
 -- ---- The client
 
@@ -54,7 +53,7 @@ accessed_down opened k s u [] all_up all_down w p rest n r place at l first send
     subst (λ (q : FrameContent). AccessesAgree opened (client_state_after opened k (FrameReceived f)) s (q ∷ []) (all_up ++ client_frames opened k (FrameReceived f)) all_down at) (sym hello)
     (accessed_hello_down opened k s [] all_up all_down at f h (ap (λ (x : ℕ). eqb x 0) is))
 accessed_down opened k s u (q ∷ d) all_up all_down w p rest n r place at l first sends requests is h =
-    accessed_piece_down opened k s (q ∷ d) all_up all_down at p (frame_of (frame_bytes Responder (numbered_segment n r p)) place) h l.counts.whole_down
+    accessed_piece_down opened k s (q ∷ d) all_up all_down at p (rest ++ w.queued_down) (frame_of (frame_bytes Responder (numbered_segment n r p)) place) h (at_front k.received.begun w.down w.queued_down p rest first l.counts.whole_down)
     (front_piece_down opened k s u q d all_up all_down w p rest n r place l first sends requests is)
 
 -- ---- The server
@@ -62,12 +61,16 @@ accessed_down opened k s u (q ∷ d) all_up all_down w p rest n r place at l fir
 piece_offered : (opened : LinkParameters) (k : ClientState) (s : ServerState) (u d all_up all_down : List FrameContent) (w : Transit) (p : FrameContent) (rest : List FrameContent) (at : ℕ) (f : Frame) → EndsAgree opened k s u d all_up all_down w → w.up ≡ p ∷ rest → Carries s.received.sends s.received.requests f p
     → AccessesAgree opened k s d all_up all_down at → EffectOffered k.regions (frame_effect s f)
 piece_offered opened k s u d all_up all_down w HelloFrame rest at f l first piece h = absurd (let wrong = piece.is_segment in cc)
+piece_offered opened k s u d all_up all_down w (PartFrame offset payload) rest at f l first piece h =
+    let segment : Segment = part_segment s.received.sends offset payload in
+    let reads : frame_segment f ≡ Ok segment = segment_is s.received.sends s.received.requests f (PartFrame offset payload) segment piece refl in
+    effect_part k.regions s f offset payload h.calls h.waiting reads
 piece_offered opened k s u d all_up all_down w (SendFrame message) rest at f l first piece h =
-    let segment : Segment = Untagged true OPCODE_SEND 0 QUEUE_SEND (msn_word (s.received.sends + 1)) 0 message in
+    let segment : Segment = last_segment s.received.sends message in
     let reads : frame_segment f ≡ Ok segment = segment_is s.received.sends s.received.requests f (SendFrame message) segment piece refl in
     let own : MessageOffered k.regions (SendFrame message) =
     each_at (MessageOffered k.regions) u (SendFrame message) (rest ++ w.queued_up) (subst (AllByRecursion (MessageOffered k.regions)) (sym l.parts_up ∙ ap (λ (ps : List FrameContent). u ++ (ps ++ w.queued_up)) first) h.up_said) in
-    effect_send k.regions s f message l.counts.whole_up own h.calls h.waiting reads
+    effect_send k.regions s f message (at_front s.received.begun w.up w.queued_up (SendFrame message) rest first l.counts.whole_up).1 own h.calls h.waiting reads
 piece_offered opened k s u d all_up all_down w (RequestFrame sink at_sink size stag to) rest at f l first piece h =
     absurd (omega (arith, l.no_reads, ap (total_of requests_in) l.parts_up, total_append requests_in u (w.up ++ w.queued_up), total_append requests_in w.up w.queued_up, ap (total_of requests_in) first))
 piece_offered opened k s u d all_up all_down w (TaggedFrame last opcode stag to payload) rest at f l first piece h =

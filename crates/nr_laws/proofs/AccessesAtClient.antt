@@ -4,7 +4,7 @@ use Rattle.std.specs.List.{AllByRecursion, range_with_len}
 use Rattle.std.proofs.lemmas.Bool.{eqb-true, eq-eqb}
 use Rattle.nr_xdr.specs.Item.{IsBytes}
 use Rattle.nr_xdr.specs.Fields.{word_at}
-use Rattle.nr_wire.specs.Constants.{OPCODE_SEND, OPCODE_READ_REQUEST, OPCODE_READ_RESPONSE, QUEUE_SEND, QUEUE_READ_REQUEST}
+use Rattle.nr_wire.specs.Constants.{OPCODE_READ_REQUEST, OPCODE_READ_RESPONSE, QUEUE_READ_REQUEST}
 use Rattle.nr_wire.specs.Segment.{Segment}
 use Rattle.nr_wire.specs.Segment.Segment.{Tagged, Untagged}
 use Rattle.nr_link.specs.Frames.{Frame, is_hello}
@@ -23,16 +23,19 @@ use Rattle.nr_reduce.specs.ClientState.{ClientState, OutstandingCall, call_paylo
 use Rattle.nr_reduce.specs.Client.{client_state_after, outstanding_of, region_of, with_segment, segment_request, with_hello}
 use Rattle.nr_reduce.specs.ServerState.{ServerState}
 use Rattle.nr_laws.specs.Typed.{IsTypedForm}
-use Rattle.nr_laws.proofs.FrameContents.{FrameContent, call_frame, client_frames, response_frames, tagged_frame, tagged_frames, Carries}
-use Rattle.nr_laws.proofs.FrameContents.FrameContent.{HelloFrame, SendFrame, RequestFrame, TaggedFrame}
+use Rattle.nr_laws.proofs.FrameContents.{FrameContent, client_frames, response_frames, tagged_frame, tagged_frames, Carries, SentMessage, CompletesMessage, last_segment, part_segment, send_frames, calls_frames}
+use Rattle.nr_laws.proofs.FrameContents.FrameContent.{HelloFrame, PartFrame, SendFrame, RequestFrame, TaggedFrame}
 use Rattle.nr_laws.proofs.TotalsAtServer.{segment_is}
 use Rattle.nr_laws.proofs.TotalsAtClient.{after_is_lem, says_is, request_payload}
 use Rattle.nr_laws.proofs.ClientFrame.{says_hello, after_hello}
 use Rattle.nr_laws.proofs.OwnEvents.{planned}
 use Rattle.nr_laws.proofs.AnsweredCalls.{message_xids, times, xids_append, times_append}
 use Rattle.nr_laws.proofs.OfferedPlans.{planned_offered}
-use Rattle.nr_laws.proofs.OfferedAccesses.{CallOffered, MessageOffered, CallAsked, ReadOffered, IsLive, IsEarly, AccessesAgree, OffersMore, offers_same, offers_left, offers_right, offers_closed, lists_more, message_more, read_more_lem, accesses_more}
+use Rattle.nr_laws.proofs.OfferedAccesses.{CallOffered, MessageOffered, CallAsked, ReadOffered, IsLive, IsEarly, AccessesAgree, OffersMore, offers_same, offers_left, offers_right, offers_closed, lists_more, message_more, read_more_lem, accesses_more, SendOffered, send_more}
 use Rattle.nr_laws.proofs.Basics.{each_append, each_all, each_kept}
+use Rattle.nr_laws.proofs.SendFrames.{each_send, each_sends}
+use Rattle.nr_laws.proofs.Outputs.{message_of_call}
+use Rattle.nr_laws.proofs.LinkInvariants.{AreSends}
 
 -- ---- More regions, and more that is received
 
@@ -73,18 +76,18 @@ accessed_submit opened k s d all_up all_down place a plan h is small stags bytes
     let o = outstanding_of k a in
     let new : List Region = map (region_of a.xid place) (buffers k.stag o.plan) in
     let same : o.plan ≡ plan = planned (call_payload a.xid a.call) (plan_for k a.xid a.call a.form) plan is in
-    let own : MessageOffered new (call_frame opened o) =
-    subst (λ (p : Plan). MessageOffered (map (region_of a.xid place) (buffers k.stag p)) (SendFrame (call_message a.xid opened.wished k.stag p))) (sym same)
+    let own : SendOffered new (message_of_call opened o) =
+    subst (λ (p : Plan). SendOffered (map (region_of a.xid place) (buffers k.stag p)) (call_message a.xid opened.wished k.stag p)) (sym same)
     (planned_offered (call_payload a.xid a.call) a.form a.xid opened.wished place k.stag plan (limited_plan k a.xid a.call a.form (Ok plan) limits is) bytes typed small stags) in
-    let one : CallAsked opened t.regions o = message_more new t.regions (offers_right k.regions new) (call_frame opened o) own in
+    let one : CallAsked opened t.regions o = send_more new t.regions (offers_right k.regions new) (message_of_call opened o) own in
     goes_on_lem opened k t s d d all_up (client_frames opened k (CallSubmitted place a)) all_down place h (offers_left k.regions new)
     (each_append (IsEarly place) k.regions new h.early (new_early a.xid place (buffers k.stag o.plan)))
     (each_append (IsLive (message_xids d)) k.regions new h.lives (new_live (message_xids d) a.xid place (buffers k.stag o.plan)))
     (by t.regions o one k.has_hello)
-    (each_append (CallAsked opened t.regions) k.outstanding (o ∷ []) (each_all (CallAsked opened k.regions) (CallAsked opened t.regions) k.outstanding (λ x. message_more k.regions t.regions (offers_left k.regions new) (call_frame opened x)) h.asked) (one, tt))
+    (each_append (CallAsked opened t.regions) k.outstanding (o ∷ []) (each_all (CallAsked opened k.regions) (CallAsked opened t.regions) k.outstanding (λ x. send_more k.regions t.regions (offers_left k.regions new) (message_of_call opened x)) h.asked) (one, tt))
   where
-    by : (regions : List Region) (o : OutstandingCall) → CallAsked opened regions o → (b : Bool) → AllByRecursion (MessageOffered regions) (cond b (call_frame opened o ∷ []) [])
-    by regions o one true = (one, tt)
+    by : (regions : List Region) (o : OutstandingCall) → CallAsked opened regions o → (b : Bool) → AllByRecursion (MessageOffered regions) (cond b (send_frames (message_of_call opened o)) [])
+    by regions o one true = each_send (MessageOffered regions) (λ offset payload. tt) (message_of_call opened o) one
     by regions o one false = tt
 
 -- ---- A queue is written
@@ -97,16 +100,15 @@ accessed_written_up taken opened k s d all_up all_down place h =
 
 -- ---- A frame is received
 
-asked_said : (opened : LinkParameters) (regions : List Region) (os : List OutstandingCall) → AllByRecursion (CallAsked opened regions) os → AllByRecursion (MessageOffered regions) (map (call_frame opened) os)
-asked_said opened regions [] h = tt
-asked_said opened regions (o ∷ os) h = (h.0, asked_said opened regions os h.1)
+asked_said : (opened : LinkParameters) (regions : List Region) (os : List OutstandingCall) → AllByRecursion (CallAsked opened regions) os → AllByRecursion (MessageOffered regions) (calls_frames opened os)
+asked_said opened regions os h = each_sends (MessageOffered regions) (λ offset payload. tt) (message_of_call opened) os h
 
 pub accessed_hello_down : (opened : LinkParameters) (k : ClientState) (s : ServerState) (d all_up all_down : List FrameContent) (place : ℕ) (f : Frame) → AccessesAgree opened k s d all_up all_down place → is_hello f ≡ true
     → AccessesAgree opened (client_state_after opened k (FrameReceived f)) s (d ++ HelloFrame ∷ []) (all_up ++ client_frames opened k (FrameReceived f)) all_down place
 accessed_hello_down opened k s d all_up all_down place f h is =
     subst (λ (t : ClientState). AccessesAgree opened t s (d ++ HelloFrame ∷ []) (all_up ++ client_frames opened k (FrameReceived f)) all_down place) (sym (after_hello opened k f is))
     (subst (λ (ps : List FrameContent). AccessesAgree opened (with_hello opened k) s (d ++ HelloFrame ∷ []) (all_up ++ ps) all_down place) (sym (says_hello opened k f is))
-    (goes_on_lem opened k (with_hello opened k) s d (d ++ HelloFrame ∷ []) all_up (map (call_frame opened) k.outstanding) all_down place h (offers_same k.regions) h.early
+    (goes_on_lem opened k (with_hello opened k) s d (d ++ HelloFrame ∷ []) all_up (calls_frames opened k.outstanding) all_down place h (offers_same k.regions) h.early
     (each_all (IsLive (message_xids d)) (IsLive (message_xids (d ++ HelloFrame ∷ []))) k.regions (more_live d (HelloFrame ∷ [])) h.lives) (asked_said opened k.regions k.outstanding h.asked) h.asked))
 
 -- what the client says for a Read Request are no messages
@@ -132,7 +134,7 @@ other_frame opened k s d all_up all_down place p f segment h behind is same outs
     (subst (AllByRecursion (IsEarly place)) (sym same) h.early)
     (subst (AllByRecursion (IsLive (message_xids (d ++ p ∷ [])))) (sym same) (each_all (IsLive (message_xids d)) (IsLive (message_xids (d ++ p ∷ []))) k.regions (more_live d (p ∷ [])) h.lives))
     (response_said t.regions k f.end (segment_request (Ok segment)))
-    (subst (AllByRecursion (CallAsked opened t.regions)) (sym outs) (each_all (CallAsked opened k.regions) (CallAsked opened t.regions) k.outstanding (λ o. message_more k.regions t.regions more (call_frame opened o)) h.asked))))
+    (subst (AllByRecursion (CallAsked opened t.regions)) (sym outs) (each_all (CallAsked opened k.regions) (CallAsked opened t.regions) k.outstanding (λ o. send_more k.regions t.regions more (message_of_call opened o)) h.asked))))
 
 -- a message closes the regions of the call that it answers
 closed_early : (test : Region → Bool) (end place : ℕ) (regions : List Region) → AllByRecursion (IsEarly place) regions → AllByRecursion (IsEarly place) (regions_closed test end regions)
@@ -144,30 +146,30 @@ closed_early test end place (g ∷ regions) h = (by (test g), closed_early test 
     by true = h.0
     by false = h.0
 
-closed_live : (end : ℕ) (d : List FrameContent) (message : List ℕ) (regions : List Region) → AllByRecursion (IsLive (message_xids d)) regions
-    → AllByRecursion (IsLive (message_xids (d ++ SendFrame message ∷ []))) (regions_closed (λ r. eqb r.call (word_at 0 message)) end regions)
+closed_live : (end : ℕ) (d : List FrameContent) (message : SentMessage) (regions : List Region) → AllByRecursion (IsLive (message_xids d)) regions
+    → AllByRecursion (IsLive (message_xids (d ++ SendFrame message ∷ []))) (regions_closed (λ r. eqb r.call (word_at 0 message.bytes)) end regions)
 unfolding regions_closed
 closed_live end d message [] h = tt
-closed_live end d message (g ∷ regions) h = (by (eqb g.call (word_at 0 message)) refl, closed_live end d message regions h.1)
+closed_live end d message (g ∷ regions) h = (by (eqb g.call (word_at 0 message.bytes)) refl, closed_live end d message regions h.1)
   where
-    more : times g.call (message_xids (d ++ SendFrame message ∷ [])) ≡ times g.call (message_xids d) + times g.call (word_at 0 message ∷ [])
-    more = ap (λ (xs : List ℕ). times g.call xs) (xids_append d (SendFrame message ∷ [])) ∙ times_append g.call (message_xids d) (word_at 0 message ∷ [])
+    more : times g.call (message_xids (d ++ SendFrame message ∷ [])) ≡ times g.call (message_xids d) + times g.call (word_at 0 message.bytes ∷ [])
+    more = ap (λ (xs : List ℕ). times g.call xs) (xids_append d (SendFrame message ∷ [])) ∙ times_append g.call (message_xids d) (word_at 0 message.bytes ∷ [])
 
-    by : (b : Bool) → eqb g.call (word_at 0 message) ≡ b → IsLive (message_xids (d ++ SendFrame message ∷ [])) (closed_if b end g)
+    by : (b : Bool) → eqb g.call (word_at 0 message.bytes) ≡ b → IsLive (message_xids (d ++ SendFrame message ∷ [])) (closed_if b end g)
     by true e =
-        let same : eqb (word_at 0 message) g.call ≡ true = eq-eqb (word_at 0 message) g.call (sym (eqb-true g.call (word_at 0 message) e)) in
+        let same : eqb (word_at 0 message.bytes) g.call ≡ true = eq-eqb (word_at 0 message.bytes) g.call (sym (eqb-true g.call (word_at 0 message.bytes) e)) in
         inr (omega (arith, more, ap (λ (b : Bool). Rattle.nr_reduce.specs.Plans.one_if b) same))
     by false e = more_live d (SendFrame message ∷ []) g h.0
 
-message_frame : (opened : LinkParameters) (k : ClientState) (s : ServerState) (d all_up all_down : List FrameContent) (place : ℕ) (message : List ℕ) (f : Frame) → AccessesAgree opened k s d all_up all_down place → k.received.begun ≡ None
+message_frame : (opened : LinkParameters) (k : ClientState) (s : ServerState) (d all_up all_down : List FrameContent) (place : ℕ) (message : SentMessage) (f : Frame) → AccessesAgree opened k s d all_up all_down place → CompletesMessage k.received message
     → Carries k.received.sends k.received.requests f (SendFrame message)
     → AccessesAgree opened (client_state_after opened k (FrameReceived f)) s (d ++ SendFrame message ∷ []) (all_up ++ client_frames opened k (FrameReceived f)) all_down place
-message_frame opened k s d all_up all_down place message f h none piece =
-    let segment : Segment = Untagged true OPCODE_SEND 0 QUEUE_SEND (msn_word (k.received.sends + 1)) 0 message in
+message_frame opened k s d all_up all_down place message f h completes piece =
+    let segment : Segment = last_segment k.received.sends message in
     let is : frame_segment f ≡ Ok segment = segment_is k.received.sends k.received.requests f (SendFrame message) segment piece refl in
     let t = with_segment k f (Ok segment) in
-    let whole : List ℕ = begun_bytes k.received.begun ++ message in
-    let same : message ≡ whole = ap (λ (b : Option (List ℕ)). begun_bytes b ++ message) (sym none) in
+    let whole : List ℕ = begun_bytes k.received.begun ++ message.payload in
+    let same : message.bytes ≡ whole = sym completes in
     let regions : List Region = regions_closed (λ r. eqb r.call (word_at 0 whole)) f.end k.regions in
     let more : OffersMore k.regions regions = offers_closed (λ r. eqb r.call (word_at 0 whole)) f.end k.regions in
     subst (λ (x : ClientState). AccessesAgree opened x s (d ++ SendFrame message ∷ []) (all_up ++ client_frames opened k (FrameReceived f)) all_down place) (sym (after_is_lem opened k f (Ok segment) piece.behind is))
@@ -176,17 +178,21 @@ message_frame opened k s d all_up all_down place message f h none piece =
     (closed_early (λ r. eqb r.call (word_at 0 whole)) f.end place k.regions h.early)
     (subst (λ (m : List ℕ). AllByRecursion (IsLive (message_xids (d ++ SendFrame message ∷ []))) (regions_closed (λ r. eqb r.call (word_at 0 m)) f.end k.regions)) same (closed_live f.end d message k.regions h.lives))
     tt
-    (each_kept (CallAsked opened regions) (λ o. not (eqb o.xid (word_at 0 whole))) k.outstanding (each_all (CallAsked opened k.regions) (CallAsked opened regions) k.outstanding (λ o. message_more k.regions regions more (call_frame opened o)) h.asked))))
+    (each_kept (CallAsked opened regions) (λ o. not (eqb o.xid (word_at 0 whole))) k.outstanding (each_all (CallAsked opened k.regions) (CallAsked opened regions) k.outstanding (λ o. send_more k.regions regions more (message_of_call opened o)) h.asked))))
 
-pub accessed_piece_down : (opened : LinkParameters) (k : ClientState) (s : ServerState) (d all_up all_down : List FrameContent) (place : ℕ) (p : FrameContent) (f : Frame) → AccessesAgree opened k s d all_up all_down place → k.received.begun ≡ None
+pub accessed_piece_down : (opened : LinkParameters) (k : ClientState) (s : ServerState) (d all_up all_down : List FrameContent) (place : ℕ) (p : FrameContent) (ps : List FrameContent) (f : Frame) → AccessesAgree opened k s d all_up all_down place → AreSends k.received.begun (p ∷ ps)
     → Carries k.received.sends k.received.requests f p → AccessesAgree opened (client_state_after opened k (FrameReceived f)) s (d ++ p ∷ []) (all_up ++ client_frames opened k (FrameReceived f)) all_down place
-accessed_piece_down opened k s d all_up all_down place HelloFrame f h none piece = absurd (let wrong = piece.is_segment in cc)
-accessed_piece_down opened k s d all_up all_down place (SendFrame message) f h none piece = message_frame opened k s d all_up all_down place message f h none piece
-accessed_piece_down opened k s d all_up all_down place (RequestFrame sink at size stag to) f h none piece =
+accessed_piece_down opened k s d all_up all_down place HelloFrame ps f h sends piece = absurd (let wrong = piece.is_segment in cc)
+accessed_piece_down opened k s d all_up all_down place (PartFrame offset payload) ps f h sends piece =
+    let segment : Segment = part_segment k.received.sends offset payload in
+    let is : frame_segment f ≡ Ok segment = segment_is k.received.sends k.received.requests f (PartFrame offset payload) segment piece refl in
+    other_frame opened k s d all_up all_down place (PartFrame offset payload) f segment h piece.behind is refl refl
+accessed_piece_down opened k s d all_up all_down place (SendFrame message) ps f h sends piece = message_frame opened k s d all_up all_down place message f h sends.1 piece
+accessed_piece_down opened k s d all_up all_down place (RequestFrame sink at size stag to) ps f h sends piece =
     let segment : Segment = Untagged true OPCODE_READ_REQUEST 0 QUEUE_READ_REQUEST (msn_word (k.received.requests + 1)) 0 (request_payload sink at size stag to) in
     let is : frame_segment f ≡ Ok segment = segment_is k.received.sends k.received.requests f (RequestFrame sink at size stag to) segment piece refl in
     other_frame opened k s d all_up all_down place (RequestFrame sink at size stag to) f segment h piece.behind is refl refl
-accessed_piece_down opened k s d all_up all_down place (TaggedFrame last opcode stag to payload) f h none piece =
+accessed_piece_down opened k s d all_up all_down place (TaggedFrame last opcode stag to payload) ps f h sends piece =
     let segment : Segment = Tagged last opcode stag to payload in
     let is : frame_segment f ≡ Ok segment = segment_is k.received.sends k.received.requests f (TaggedFrame last opcode stag to payload) segment piece refl in
     other_frame opened k s d all_up all_down place (TaggedFrame last opcode stag to payload) f segment h piece.behind is refl refl

@@ -2,15 +2,14 @@
 use Rattle.std.proofs.Common.{◌≡◌, ℕ, ◌+◌, ◌<◌, true, false, cond, eqb, List, [], ◌∷◌, ◌++◌, length, replicate, Option, Some, None, Result, Ok, refl, sym, ap, subst, ◌∙◌, arith, append_assoc, append-nil}
 use Rattle.nr_xdr.specs.Item.{IsBytes}
 use Rattle.nr_xdr.proofs.Chains.{IsBytes_left, IsBytes_right}
-use Rattle.nr_wire.specs.Constants.{OPCODE_SEND, QUEUE_SEND}
 use Rattle.nr_wire.specs.declared.hello.Side.TheVariants.{Initiator, Responder}
 use Rattle.nr_wire.specs.Hello.{hello_of}
 use Rattle.nr_wire.specs.Fields.{half_word}
 use Rattle.nr_wire.specs.Segment.{Segment, encoding, header, payload_in, ulpdu_size, tail_len}
-use Rattle.nr_wire.specs.Segment.Segment.{Tagged, Untagged}
+use Rattle.nr_wire.specs.Segment.Segment.{Tagged}
 use Rattle.nr_link.specs.declared.end.End.{End}
 use Rattle.nr_link.specs.Frames.{Frame, is_hello}
-use Rattle.nr_link.specs.Output.{msn_word, own_hello}
+use Rattle.nr_link.specs.Output.{own_hello}
 use Rattle.nr_link.specs.Ending.{frame_segment, frame_end, hello_end}
 use Rattle.nr_reduce.specs.declared.mark.LinkParameters.{LinkParameters}
 use Rattle.nr_reduce.specs.Events.RunEvent.{FrameReceived}
@@ -18,20 +17,23 @@ use Rattle.nr_reduce.specs.OfferedRegions.{region_grants}
 use Rattle.nr_reduce.specs.ClientState.{ClientState}
 use Rattle.nr_reduce.specs.ServerState.{ServerState}
 use Rattle.nr_reduce.specs.ServerFrames.{FrameEffect, effect_in, frame_effect}
-use Rattle.nr_reduce.specs.Server.{server_end, server_state_after, server_output, readiness, or_refusal, refusal_end, newly_open_reads, effect_output, with_effect, with_own_hello}
-use Rattle.nr_laws.proofs.FrameContents.{FrameContent, numbered_segment, frame_bytes, output_bytes, total_of, sends_in, requests_in, hellos_in, effect_frames, server_frames, Carries}
-use Rattle.nr_laws.proofs.FrameContents.FrameContent.{HelloFrame, SendFrame, RequestFrame, TaggedFrame}
+use Rattle.nr_reduce.specs.Server.{server_end, server_state_after, server_output, readiness, or_refusal, refusal_end, newly_open_reads, effect_output, with_effect, with_own_hello, received_by}
+use Rattle.nr_laws.proofs.FrameContents.{FrameContent, numbered_segment, frame_bytes, output_bytes, total_of, sends_in, requests_in, hellos_in, effect_frames, server_frames, Carries, SentMessage, CompletesMessage, part_segment, last_segment}
+use Rattle.nr_laws.proofs.FrameContents.FrameContent.{HelloFrame, PartFrame, SendFrame, RequestFrame, TaggedFrame}
 use Rattle.nr_laws.proofs.LinkInvariants.{Transit, TotalsAgree, PendingAgree}
 use Rattle.nr_laws.proofs.Totals.{total_append}
 use Rattle.nr_laws.proofs.CompletedFrames.{is_piece}
-use Rattle.nr_laws.proofs.TotalsAtServer.{totals_hello_up, totals_send_up, totals_tagged_up, after_is_lem, step_is, segment_is, with_by, reads_said, hello_said}
-use Rattle.nr_laws.proofs.PendingFrames.{pending_agree_send_up, pending_agree_tagged_up}
+use Rattle.nr_laws.proofs.TotalsAtServer.{totals_hello_up, totals_send_up, totals_tagged_up, after_is_lem, step_is, segment_is, with_by, reads_said, hello_said, totals_part_up}
+use Rattle.nr_laws.proofs.PendingFrames.{pending_agree_send_up, pending_agree_tagged_up, pending_agree_part_up}
 use Rattle.nr_laws.proofs.OwnXids.{OwnXids}
 use Rattle.nr_laws.proofs.OutputFrames.{step_said}
 use Rattle.nr_laws.proofs.Writable.{IsWritable, IsOutput, proper_one, stream_more, stream_none, stream_first, stream_at_lem}
 use Rattle.nr_laws.proofs.ServerOutputs.{CallsFit}
-use Rattle.nr_laws.proofs.ServerOutput.{SaysFine, fine_send, fine_tagged}
+use Rattle.nr_laws.proofs.ServerOutput.{SaysFine, fine_send, fine_tagged, fine_part}
 use Rattle.nr_laws.proofs.Outputs.{CallsShort}
+use Rattle.nr_laws.proofs.SendFrames.{at_front}
+use Rattle.nr_laws.proofs.Bytes.{bytes_both}
+use Rattle.nr_link.specs.ReceiveState.{ReceiveState, begun_bytes}
 
 -- `u` and `d` are what the server and the client received, `all_up` and `all_down` what the client and the server sent or queued
 pub record EndsAgree (opened : LinkParameters) (k : ClientState) (s : ServerState) (u d all_up all_down : List FrameContent) (w : Transit) : Type 0 where
@@ -52,6 +54,7 @@ pub record EndsAgree (opened : LinkParameters) (k : ClientState) (s : ServerStat
   pub sends_down : k.received.sends ≡ total_of sends_in d
   pub requests_down : k.received.requests ≡ total_of requests_in d
   pub requests_sent : s.requests_sent ≡ total_of requests_in all_down
+  pub bytes_up : IsBytes (begun_bytes s.received.begun)
 
 -- the first frame is at place 0, and no other is
 abbrev pub IsPlace : List FrameContent → ℕ → Type 0
@@ -102,9 +105,9 @@ taken_up w rest said = record { queued_up = w.queued_up; up = rest; queued_down 
 
 server_linked : (opened : LinkParameters) (k : ClientState) (s t : ServerState) (u d all_up all_down : List FrameContent) (w : Transit) (p : FrameContent) (rest said : List FrameContent) → EndsAgree opened k s u d all_up all_down w → w.up ≡ p ∷ rest
     → TotalsAgree k t (taken_up w rest said) → PendingAgree t → CallsFit t.calls → IsOutput (all_down ++ said) → total_of hellos_in said ≡ hellos_in p
-    → t.received.sends ≡ s.received.sends + sends_in p → t.received.requests ≡ s.received.requests + requests_in p → t.requests_sent ≡ s.requests_sent + total_of requests_in said
+    → t.received.sends ≡ s.received.sends + sends_in p → t.received.requests ≡ s.received.requests + requests_in p → t.requests_sent ≡ s.requests_sent + total_of requests_in said → IsBytes (begun_bytes t.received.begun)
     → EndsAgree opened k t (u ++ p ∷ []) d all_up (all_down ++ said) (taken_up w rest said)
-server_linked opened k s t u d all_up all_down w p rest said l first counts waits fits stream hellos sends requests asked = record {
+server_linked opened k s t u d all_up all_down w p rest said l first counts waits fits stream hellos sends requests asked begun = record {
   parts_up = append_assoc u (p ∷ []) (rest ++ w.queued_up) ∙ ap (λ (ps : List FrameContent). u ++ (ps ++ w.queued_up)) (sym first) ∙ l.parts_up;
   parts_down =
       ap (λ (ps : List FrameContent). d ++ ps) (sym (append_assoc w.down w.queued_down said)) ∙ sym (append_assoc d (w.down ++ w.queued_down) said) ∙ ap (λ (ps : List FrameContent). ps ++ said) l.parts_down;
@@ -123,6 +126,7 @@ server_linked opened k s t u d all_up all_down w p rest said l first counts wait
   sends_down = l.sends_down;
   requests_down = l.requests_down;
   requests_sent = omega (arith, asked, l.requests_sent, total_append requests_in all_down said);
+  bytes_up = begun;
 }
 
 -- the messages of the server so far
@@ -165,16 +169,17 @@ took_hello opened k s u d all_up all_down w rest f l first none is =
           server_linked opened k s (server_state_after opened s (FrameReceived f)) u d all_up all_down w HelloFrame rest (HelloFrame ∷ []) l first counts
           (subst (λ (t : ServerState). PendingAgree t) (sym after) (waits_greeted s l.waits)) (subst (λ (t : ServerState). CallsFit t.calls) (sym after) l.fits)
           (subst (λ (ps : List FrameContent). IsOutput (ps ++ HelloFrame ∷ [])) (sym empty) tt) refl
-          (omega (arith, ap (λ (t : ServerState). t.received.sends) after)) (omega (arith, ap (λ (t : ServerState). t.received.requests) after)) (omega (arith, ap (λ (t : ServerState). t.requests_sent) after));
+          (omega (arith, ap (λ (t : ServerState). t.received.sends) after)) (omega (arith, ap (λ (t : ServerState). t.received.requests) after)) (omega (arith, ap (λ (t : ServerState). t.requests_sent) after))
+          (subst (λ (t : ServerState). IsBytes (begun_bytes t.received.begun)) (sym after) l.bytes_up);
     }
 
 -- another frame, by what its effect sends
 took_frame : (opened : LinkParameters) (k : ClientState) (s : ServerState) (u d all_up all_down : List FrameContent) (w : Transit) (p : FrameContent) (rest : List FrameContent) (f : Frame) (r : Result Segment ℕ) → EndsAgree opened k s u d all_up all_down w → w.up ≡ p ∷ rest
     → is_hello f ≡ false → frame_segment f ≡ r → 0 < total_of hellos_in all_down → hellos_in p ≡ 0 → SaysFine (frame_effect s f)
     → TotalsAgree k (server_state_after opened s (FrameReceived f)) (taken_up w rest (effect_frames (frame_effect s f))) → PendingAgree (server_state_after opened s (FrameReceived f))
-    → (with_by s f r (effect_in s f r)).received.sends ≡ s.received.sends + sends_in p → (with_by s f r (effect_in s f r)).received.requests ≡ s.received.requests + requests_in p
+    → (with_by s f r (effect_in s f r)).received.sends ≡ s.received.sends + sends_in p → (with_by s f r (effect_in s f r)).received.requests ≡ s.received.requests + requests_in p → IsBytes (begun_bytes (received_by s.received r).begun)
     → ServerTook opened k s u d all_up all_down w p rest f
-took_frame opened k s u d all_up all_down w p rest f r l first behind is some no_hello fine counts waits sends requests =
+took_frame opened k s u d all_up all_down w p rest f r l first behind is some no_hello fine counts waits sends requests begun =
     let said = effect_frames (frame_effect s f) in
     let after = after_is_lem opened s f r behind is in
     let effect = step_is s f r is in
@@ -182,7 +187,7 @@ took_frame opened k s u d all_up all_down w p rest f r l first behind is some no
       said = said;
       said_is = sym (says_frame opened s f behind);
       output =
-          output_frame opened s f behind ∙ step_said s (frame_effect s f) fine.short
+          output_frame opened s f behind ∙ step_said s (frame_effect s f)
           ∙ (λ i. output_bytes Responder (messages_said opened k s u d all_up all_down w l i) (l.requests_sent i) said);
       linked =
           server_linked opened k s (server_state_after opened s (FrameReceived f)) u d all_up all_down w p rest said l first counts waits
@@ -190,22 +195,38 @@ took_frame opened k s u d all_up all_down w p rest f r l first behind is some no
           (stream_more all_down said l.stream_down some fine.proper)
           (hello_said (frame_effect s f) ∙ sym no_hello)
           (ap (λ (t : ServerState). t.received.sends) after ∙ sends) (ap (λ (t : ServerState). t.received.requests) after ∙ requests)
-          (omega (arith, ap (λ (t : ServerState). t.requests_sent) after, ap (λ (e : FrameEffect). length (newly_open_reads e)) effect, reads_said (frame_effect s f)));
+          (omega (arith, ap (λ (t : ServerState). t.requests_sent) after, ap (λ (e : FrameEffect). length (newly_open_reads e)) effect, reads_said (frame_effect s f)))
+          (subst (λ (t : ServerState). IsBytes (begun_bytes t.received.begun)) (sym after) begun);
     }
+
+no_bytes : IsBytes []
+no_bytes = λ i. omega arith
+
+-- the bytes of a message that a segment completes
+pub message_bytes : (h : ReceiveState) (message : SentMessage) → CompletesMessage h message → IsBytes (begun_bytes h.begun) → IsBytes message.payload → IsBytes message.bytes
+message_bytes h message completes front rest = subst IsBytes completes (bytes_both (begun_bytes h.begun) message.payload front rest)
 
 -- a frame behind the hello
 took_piece : (opened : LinkParameters) (k : ClientState) (s : ServerState) (u d all_up all_down : List FrameContent) (w : Transit) (p : FrameContent) (rest : List FrameContent) (f : Frame) → EndsAgree opened k s u d all_up all_down w → w.up ≡ p ∷ rest
     → IsWritable p → 0 < total_of hellos_in all_down → Carries s.received.sends s.received.requests f p → IsBytes f.bytes → f.bytes ≡ frame_bytes Initiator (numbered_segment s.received.sends s.received.requests p)
     → server_end opened s (FrameReceived f) ≡ None → ServerTook opened k s u d all_up all_down w p rest f
 took_piece opened k s u d all_up all_down w HelloFrame rest f l first proper some piece bytes is stays = absurd proper
+took_piece opened k s u d all_up all_down w (PartFrame offset payload) rest f l first proper some piece bytes is stays =
+    let segment : Segment = part_segment s.received.sends offset payload in
+    let reads : frame_segment f ≡ Ok segment = segment_is s.received.sends s.received.requests f (PartFrame offset payload) segment piece refl in
+    took_frame opened k s u d all_up all_down w (PartFrame offset payload) rest f (Ok segment) l first piece.behind reads some refl (fine_part s f offset payload l.fits reads)
+    (totals_part_up opened k s w f offset payload rest l.counts first piece)
+    (pending_agree_part_up opened s f offset payload l.waits piece) (omega arith) (omega arith)
+    (bytes_both (begun_bytes s.received.begun) payload l.bytes_up (payload_bytes segment (subst IsBytes is bytes)))
 took_piece opened k s u d all_up all_down w (SendFrame message) rest f l first proper some piece bytes is stays =
-    let segment : Segment = Untagged true OPCODE_SEND 0 QUEUE_SEND (msn_word (s.received.sends + 1)) 0 message in
+    let segment : Segment = last_segment s.received.sends message in
     let reads : frame_segment f ≡ Ok segment = segment_is s.received.sends s.received.requests f (SendFrame message) segment piece refl in
     let goes_on = not_refused_lem opened s f piece.behind stays in
-    let fine = fine_send s f message l.counts.whole_up (payload_bytes segment (subst IsBytes is bytes)) l.fits reads in
+    let front = at_front s.received.begun w.up w.queued_up (SendFrame message) rest first l.counts.whole_up in
+    let fine = fine_send s f message front.1 (message_bytes s.received message front.1 l.bytes_up (payload_bytes segment (subst IsBytes is bytes))) l.fits reads in
     took_frame opened k s u d all_up all_down w (SendFrame message) rest f (Ok segment) l first piece.behind reads some refl fine
     (totals_send_up opened k s w f message rest l.counts first piece goes_on)
-    (pending_agree_send_up opened s f message l.waits piece goes_on) refl (omega arith)
+    (pending_agree_send_up opened s f message l.waits piece goes_on) refl (omega arith) no_bytes
 took_piece opened k s u d all_up all_down w (RequestFrame sink at size stag to) rest f l first proper some piece bytes is stays =
     absurd (omega (arith, l.no_reads, ap (total_of requests_in) l.parts_up, total_append requests_in u (w.up ++ w.queued_up), total_append requests_in w.up w.queued_up, ap (total_of requests_in) first))
 took_piece opened k s u d all_up all_down w (TaggedFrame last opcode stag to payload) rest f l first proper some piece bytes is stays =
@@ -214,7 +235,7 @@ took_piece opened k s u d all_up all_down w (TaggedFrame last opcode stag to pay
     let goes_on = not_refused_lem opened s f piece.behind stays in
     took_frame opened k s u d all_up all_down w (TaggedFrame last opcode stag to payload) rest f (Ok segment) l first piece.behind reads some refl (fine_tagged s f last opcode stag to payload l.fits reads)
     (totals_tagged_up opened k s w f last opcode stag to payload rest l.counts l.waits.numbers first piece)
-    (pending_agree_tagged_up opened s f last opcode stag to payload l.waits piece goes_on) (omega arith) (omega arith)
+    (pending_agree_tagged_up opened s f last opcode stag to payload l.waits piece goes_on) (omega arith) (omega arith) l.bytes_up
 
 pub server_took : (opened : LinkParameters) (k : ClientState) (s : ServerState) (u d all_up all_down : List FrameContent) (w : Transit) (p : FrameContent) (rest : List FrameContent) (n r place : ℕ) → EndsAgree opened k s u d all_up all_down w → w.up ≡ p ∷ rest
     → n ≡ total_of sends_in u → r ≡ total_of requests_in u → IsPlace u place → IsBytes (frame_bytes Initiator (numbered_segment n r p))
@@ -239,6 +260,7 @@ server_took opened k s (q ∷ u) d all_up all_down w p rest n r place l first se
   where
     hello-there : (q : FrameContent) (ps qs : List FrameContent) → IsOutput (q ∷ ps ++ qs) → 0 < total_of hellos_in (q ∷ ps)
     hello-there HelloFrame ps qs h = omega arith
+    hello-there (PartFrame offset payload) ps qs h = absurd h
     hello-there (SendFrame message) ps qs h = absurd h
     hello-there (RequestFrame sink at size stag to) ps qs h = absurd h
     hello-there (TaggedFrame last opcode stag to payload) ps qs h = absurd h

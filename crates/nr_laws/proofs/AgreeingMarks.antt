@@ -34,7 +34,7 @@ use Rattle.nr_reduce.specs.Credits.{WithinGrant, calls_outstanding, credits_gran
 use Rattle.nr_reduce.specs.Asked.{IsAccepted}
 use Rattle.nr_reduce.specs.Served.{IsExecuted, first_ready, next_call}
 use Rattle.nr_laws.proofs.FrameContents.{FrameContent, output_bytes, total_of, sends_in, requests_in, hellos_in}
-use Rattle.nr_laws.proofs.FrameContents.FrameContent.{HelloFrame, SendFrame, RequestFrame, TaggedFrame}
+use Rattle.nr_laws.proofs.FrameContents.FrameContent.{HelloFrame, PartFrame, SendFrame, RequestFrame, TaggedFrame}
 use Rattle.nr_laws.proofs.LinkInvariants.{Transit}
 use Rattle.nr_laws.proofs.PendingExecuted.{executed_there}
 use Rattle.nr_laws.proofs.TotalsAtClient.{up_more}
@@ -249,6 +249,7 @@ first_is (x ∷ rest) r e = (rest, (let same : x ≡ r = cc in ap (λ (y : Ready
 begun : (ps : List FrameContent) → IsOutput ps → 0 < total_of sends_in ps → 0 < total_of hellos_in ps
 begun [] h some = absurd (omega (arith, some))
 begun (HelloFrame ∷ ps) h some = omega arith
+begun (PartFrame offset payload ∷ ps) h some = absurd h
 begun (SendFrame message ∷ ps) h some = absurd h
 begun (RequestFrame sink at size stag to ∷ ps) h some = absurd h
 begun (TaggedFrame last opcode stag to payload ∷ ps) h some = absurd h

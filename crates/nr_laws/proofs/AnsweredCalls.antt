@@ -1,18 +1,18 @@
 -- Each message of a server answers one call that was received: the xids of the messages and those of the pending calls are distinct.
-use Rattle.std.proofs.Common.{◌≡◌, ℕ, ◌+◌, ◌≤◌, ◌<◌, ◌^◌, Bool, true, false, cond, not, ◌||◌, eqb, min, List, [], ◌∷◌, ◌++◌, length, map, take, drop, filter, Option, Some, None, Ok, refl, sym, ap, ◌∙◌, arith}
+use Rattle.std.proofs.Common.{◌≡◌, ℕ, ◌+◌, ◌≤◌, ◌<◌, ◌^◌, Bool, true, false, cond, not, ◌||◌, eqb, min, List, [], ◌∷◌, ◌++◌, length, map, take, drop, filter, Option, Some, None, Ok, refl, sym, ap, ◌∙◌, arith, append-nil}
 use Rattle.std.specs.List.{list_any, find, range_with_len}
 use Rattle.std.proofs.lemmas.Bool.{eqb-true, eq-eqb}
 use Rattle.std.proofs.lemmas.List.{map-append}
 use Rattle.nr_xdr.specs.Fields.{word_at}
-use Rattle.nr_wire.specs.Constants.{OPCODE_SEND, OPCODE_WRITE, QUEUE_SEND}
-use Rattle.nr_wire.specs.Segment.Segment.{Tagged, Untagged}
+use Rattle.nr_wire.specs.Constants.{OPCODE_WRITE}
+use Rattle.nr_wire.specs.Segment.Segment.{Tagged}
 use Rattle.nr_header.specs.declared.header.RdmaSegment.{RdmaSegment}
 use Rattle.nr_header.specs.declared.header.ChunkLists.{ChunkLists}
 use Rattle.nr_link.specs.Frames.{Frame}
-use Rattle.nr_link.specs.Output.{msn_word, segment_count}
+use Rattle.nr_link.specs.Output.{segment_count}
 use Rattle.nr_link.specs.Ending.{frame_segment}
 use Rattle.nr_reduce.specs.Plans.{one_if}
-use Rattle.nr_reduce.specs.Holds.{Answer, answer_message, first_chunk, no_segments}
+use Rattle.nr_reduce.specs.Holds.{Answer, answer_message, first_chunk, no_segments, chunk_error}
 use Rattle.nr_reduce.specs.ClientState.{OutstandingCall}
 use Rattle.nr_reduce.specs.ServerState.{PendingCall, PendingRead, ServerState, credit_word}
 use Rattle.nr_reduce.specs.ServerReads.{regions_of, reads_of}
@@ -21,8 +21,8 @@ use Rattle.nr_reduce.specs.ServerMessages.CallVerdict.{Refuses, IsReady}
 use Rattle.nr_reduce.specs.ServerMessages.Verdict.{MakesPending}
 use Rattle.nr_reduce.specs.ServerFrames.{FrameEffect, no_effect, with_verdict, frame_effect}
 use Rattle.nr_reduce.specs.Server.{newly_open_reads}
-use Rattle.nr_laws.proofs.FrameContents.{FrameContent, effect_frames, request_frame, write_frames, answer_frames, tagged_frames}
-use Rattle.nr_laws.proofs.FrameContents.FrameContent.{HelloFrame, SendFrame, RequestFrame, TaggedFrame}
+use Rattle.nr_laws.proofs.FrameContents.{FrameContent, effect_frames, request_frame, write_frames, answer_frames, tagged_frames, SentMessage, CompletesMessage, last_segment, send_frames, errors_frames, part_frame, last_part, last_index}
+use Rattle.nr_laws.proofs.FrameContents.FrameContent.{HelloFrame, PartFrame, SendFrame, RequestFrame, TaggedFrame}
 use Rattle.nr_laws.proofs.PendingSends.{verdict_new}
 use Rattle.nr_laws.proofs.HeaderXid.{answer_xid, chunk_error_xid, version_error_xid}
 use Rattle.nr_laws.proofs.EachEffect.{send_effect, tagged_effect_lem}
@@ -31,7 +31,8 @@ use Rattle.nr_laws.proofs.EachEffect.{send_effect, tagged_effect_lem}
 abbrev pub message_xids : List FrameContent → List ℕ
 message_xids [] = []
 message_xids (HelloFrame ∷ ps) = message_xids ps
-message_xids (SendFrame message ∷ ps) = word_at 0 message ∷ message_xids ps
+message_xids (PartFrame offset payload ∷ ps) = message_xids ps
+message_xids (SendFrame message ∷ ps) = word_at 0 message.bytes ∷ message_xids ps
 message_xids (RequestFrame sink at size stag to ∷ ps) = message_xids ps
 message_xids (TaggedFrame last opcode stag to payload ∷ ps) = message_xids ps
 
@@ -48,7 +49,8 @@ outstanding_xids calls = map (λ (o : OutstandingCall). o.xid) calls
 pub xids_append : (ps qs : List FrameContent) → message_xids (ps ++ qs) ≡ message_xids ps ++ message_xids qs
 xids_append [] qs = refl
 xids_append (HelloFrame ∷ ps) qs = xids_append ps qs
-xids_append (SendFrame message ∷ ps) qs = ap (λ (xs : List ℕ). word_at 0 message ∷ xs) (xids_append ps qs)
+xids_append (PartFrame offset payload ∷ ps) qs = xids_append ps qs
+xids_append (SendFrame message ∷ ps) qs = ap (λ (xs : List ℕ). word_at 0 message.bytes ∷ xs) (xids_append ps qs)
 xids_append (RequestFrame sink at size stag to ∷ ps) qs = xids_append ps qs
 xids_append (TaggedFrame last opcode stag to payload ∷ ps) qs = xids_append ps qs
 
@@ -58,13 +60,27 @@ times_append x (y ∷ xs) ys = omega (arith, times_append x xs ys)
 
 -- ---- What is sent
 
-effect_errors : (messages : List (List ℕ)) (reads : List PendingRead) → message_xids (map SendFrame messages ++ map request_frame reads) ≡ map (λ (m : List ℕ). word_at 0 m) messages
-effect_errors [] [] = refl
-effect_errors [] (r ∷ reads) = effect_errors [] reads
-effect_errors (m ∷ messages) reads = ap (λ (xs : List ℕ). word_at 0 m ∷ xs) (effect_errors messages reads)
+pub send_xids : (message : List ℕ) → message_xids (send_frames message) ≡ word_at 0 message ∷ []
+unfolding send_frames
+send_xids message = by (range_with_len 0 (last_index message))
+  where
+    by : (is : List ℕ) → message_xids (map (part_frame message) is ++ SendFrame (last_part message) ∷ []) ≡ word_at 0 message ∷ []
+    by [] = refl
+    by (i ∷ is) = by is
+
+errors_xids : (messages : List (List ℕ)) → message_xids (errors_frames messages) ≡ map (λ (m : List ℕ). word_at 0 m) messages
+errors_xids [] = refl
+errors_xids (m ∷ messages) = xids_append (send_frames m) (errors_frames messages) ∙ (λ i. send_xids m i ++ errors_xids messages i)
+
+requests_xids : (reads : List PendingRead) → message_xids (map request_frame reads) ≡ []
+requests_xids [] = refl
+requests_xids (r ∷ reads) = requests_xids reads
 
 pub effect_xids : (s : FrameEffect) → message_xids (effect_frames s) ≡ map (λ (m : List ℕ). word_at 0 m) s.errors
-effect_xids s = effect_errors s.errors (newly_open_reads s)
+effect_xids s =
+    xids_append (errors_frames s.errors) (map request_frame (newly_open_reads s))
+    ∙ (λ i. errors_xids s.errors i ++ requests_xids (newly_open_reads s) i)
+    ∙ append-nil (map (λ (m : List ℕ). word_at 0 m) s.errors)
 
 writes_none : (chunk : List RdmaSegment) (bytes : List ℕ) → message_xids (write_frames chunk bytes) ≡ []
 unfolding tagged_frames
@@ -83,12 +99,12 @@ writes_none (p ∷ chunk) bytes =
 
 -- of an executed call: one message, of its xid
 pub answer_xids : (k : ServerState) (xid : ℕ) (offer : ChunkLists) (o : Option Answer) → xid < 2 ^ 32 → message_xids (answer_frames k xid offer o) ≡ xid ∷ []
-answer_xids k xid offer None lt = ap (λ (x : ℕ). x ∷ []) (chunk_error_xid xid (credit_word k) lt)
+answer_xids k xid offer None lt = send_xids (chunk_error xid (credit_word k)) ∙ ap (λ (x : ℕ). x ∷ []) (chunk_error_xid xid (credit_word k) lt)
 answer_xids k xid offer (Some a) lt =
     let long = cond a.long (write_frames (no_segments offer.reply) a.stream) [] in
-    let last = SendFrame (answer_message xid (credit_word k) offer a) ∷ [] in
+    let last = send_frames (answer_message xid (credit_word k) offer a) in
     xids_append (write_frames (first_chunk offer.write) a.moved) (long ++ last)
-    ∙ (λ i. writes_none (first_chunk offer.write) a.moved i ++ (xids_append long last ∙ (λ j. by a.long j ++ message_xids last)) i)
+    ∙ (λ i. writes_none (first_chunk offer.write) a.moved i ++ (xids_append long last ∙ (λ j. by a.long j ++ send_xids (answer_message xid (credit_word k) offer a) j)) i)
     ∙ ap (λ (x : ℕ). x ∷ []) (answer_xid xid (credit_word k) offer a lt)
   where
     by : (b : Bool) → message_xids (cond b (write_frames (no_segments offer.reply) a.stream) []) ≡ []
@@ -159,21 +175,21 @@ pending_judged : (calls : List PendingCall) (new : ℕ → ℕ) (o : CallVerdict
 pending_judged calls new (Refuses reason) s h = h
 pending_judged calls new (IsReady r) s h = h
 
-pub pending_send : (k : ServerState) (f : Frame) (message : List ℕ) → k.received.begun ≡ None → word_at 0 message < 2 ^ 32 → frame_segment f ≡ Ok (Untagged true OPCODE_SEND 0 QUEUE_SEND (msn_word (k.received.sends + 1)) 0 message)
-    → AnswersPending k.calls (λ x. one_if (eqb (word_at 0 message) x)) (frame_effect k f)
-pending_send k f message none lt is =
-    send_effect k (λ m. word_at 0 m ≡ word_at 0 message) (AnswersPending k.calls new) (record {
+pub pending_send : (k : ServerState) (f : Frame) (message : SentMessage) → CompletesMessage k.received message → word_at 0 message.bytes < 2 ^ 32 → frame_segment f ≡ Ok (last_segment k.received.sends message)
+    → AnswersPending k.calls (λ x. one_if (eqb (word_at 0 message.bytes) x)) (frame_effect k f)
+pending_send k f message completes lt is =
+    send_effect k (λ m. word_at 0 m ≡ word_at 0 message.bytes) (AnswersPending k.calls new) (record {
       judged = λ t place c s h. pending_judged k.calls new (by_payload c (payload_of t place c)) s h;
       ends = λ m reason own is x. omega arith;
       version = λ m own x. omega (arith, ap (λ (n : ℕ). one_if (eqb n x)) (version_error_xid (word_at 0 m) (word_at 4 m) (credit_word k) (omega (arith, own, lt)) ∙ own));
       chunks = λ m own x. omega (arith, ap (λ (n : ℕ). one_if (eqb n x)) (chunk_error_xid (word_at 0 m) (credit_word k) (omega (arith, own, lt)) ∙ own));
       pending = pending;
-    }) f message none refl is
+    }) f message completes refl is
   where
     new : ℕ → ℕ
-    new x = one_if (eqb (word_at 0 message) x)
+    new x = one_if (eqb (word_at 0 message.bytes) x)
 
-    pending : (place : ℕ) (m : List ℕ) (c : PendingCall) → word_at 0 m ≡ word_at 0 message → verdict k m ≡ MakesPending c
+    pending : (place : ℕ) (m : List ℕ) (c : PendingCall) → word_at 0 m ≡ word_at 0 message.bytes → verdict k m ≡ MakesPending c
         → AnswersPending k.calls new (record (no_effect k) { calls = k.calls ++ c ∷ []; reads = k.reads ++ reads_of (k.regions ++ regions_of k place c) c; regions = k.regions ++ regions_of k place c })
     pending place m c own is x =
         let own_xid = (verdict_new k m c is).0.own ∙ own in

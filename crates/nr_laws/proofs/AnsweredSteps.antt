@@ -11,7 +11,7 @@ use Rattle.nr_reduce.specs.Written.{ends_left}
 use Rattle.nr_reduce.specs.ClientState.{ClientState, OutstandingCall, is_sent}
 use Rattle.nr_reduce.specs.ClientMessages.{answered_call}
 use Rattle.nr_reduce.specs.ServerState.{ServerState, PendingCall}
-use Rattle.nr_laws.proofs.FrameContents.{FrameContent}
+use Rattle.nr_laws.proofs.FrameContents.{FrameContent, SentMessage}
 use Rattle.nr_laws.proofs.FrameContents.FrameContent.{SendFrame}
 use Rattle.nr_laws.proofs.LinkInvariants.{Transit}
 use Rattle.nr_laws.proofs.AnsweredCalls.{message_xids, times, call_xids, outstanding_xids, xids_append, times_append}
@@ -101,24 +101,24 @@ others_times x xid (o ∷ os) ne = by (eqb o.xid xid) refl (others_times x xid o
         omega (arith, same, ap one_if other)
     by false is same = omega (arith, same)
 
-pub answered_message_lem : (first : ℕ) (k t : ClientState) (s : ServerState) (u d all_down : List FrameContent) (w v : Transit) (message : List ℕ) → t.outstanding ≡ filter (λ (o : OutstandingCall). not (eqb o.xid (word_at 0 message))) k.outstanding → t.calls_accepted ≡ k.calls_accepted
+pub answered_message_lem : (first : ℕ) (k t : ClientState) (s : ServerState) (u d all_down : List FrameContent) (w v : Transit) (message : SentMessage) → t.outstanding ≡ filter (λ (o : OutstandingCall). not (eqb o.xid (word_at 0 message.bytes))) k.outstanding → t.calls_accepted ≡ k.calls_accepted
     → Answered first k s u d all_down w → Answered first t s u (d ++ SendFrame message ∷ []) all_down v
 answered_message_lem first k t s u d all_down w v message left accepted h = record {
   once = h.once;
   later = h.later;
   earlier = h.earlier;
-  open_calls = λ x le lt. open_call x le (omega (arith, lt, accepted)) (eqb (word_at 0 message) x) refl;
+  open_calls = λ x le lt. open_call x le (omega (arith, lt, accepted)) (eqb (word_at 0 message.bytes) x) refl;
   room = omega (arith, accepted, h.room);
 }
   where
-    more : (x : ℕ) → times x (message_xids (d ++ SendFrame message ∷ [])) ≡ times x (message_xids d) + (one_if (eqb (word_at 0 message) x) + 0)
+    more : (x : ℕ) → times x (message_xids (d ++ SendFrame message ∷ [])) ≡ times x (message_xids d) + (one_if (eqb (word_at 0 message.bytes) x) + 0)
     more x = said_more_lem x d (SendFrame message ∷ [])
 
-    open_call : (x : ℕ) → first ≤ x → x < first + k.calls_accepted → (b : Bool) → eqb (word_at 0 message) x ≡ b → 1 ≤ times x (outstanding_xids t.outstanding) + times x (message_xids (d ++ SendFrame message ∷ []))
+    open_call : (x : ℕ) → first ≤ x → x < first + k.calls_accepted → (b : Bool) → eqb (word_at 0 message.bytes) x ≡ b → 1 ≤ times x (outstanding_xids t.outstanding) + times x (message_xids (d ++ SendFrame message ∷ []))
     open_call x le lt true is = omega (arith, more x, ap one_if is)
     open_call x le lt false is =
-        let other : eqb x (word_at 0 message) ≡ false = ne_eqb x (word_at 0 message) (λ e. absurd (let wrong : true ≡ false = sym (eq-eqb (word_at 0 message) x (sym e)) ∙ is in cc)) in
-        omega (arith, more x, h.open_calls x le lt, ap (λ (os : List OutstandingCall). times x (outstanding_xids os)) left, others_times x (word_at 0 message) k.outstanding other)
+        let other : eqb x (word_at 0 message.bytes) ≡ false = ne_eqb x (word_at 0 message.bytes) (λ e. absurd (let wrong : true ≡ false = sym (eq-eqb (word_at 0 message.bytes) x (sym e)) ∙ is in cc)) in
+        omega (arith, more x, h.open_calls x le lt, ap (λ (os : List OutstandingCall). times x (outstanding_xids os)) left, others_times x (word_at 0 message.bytes) k.outstanding other)
 
 -- a frame without a message
 pub answered_same : (first : ℕ) (k t : ClientState) (s : ServerState) (u d all_down : List FrameContent) (w v : Transit) (p : FrameContent) → t.outstanding ≡ k.outstanding → t.calls_accepted ≡ k.calls_accepted → message_xids (p ∷ []) ≡ []
@@ -189,10 +189,10 @@ found_sent sent x (o ∷ os) own some = by (eqb o.xid x) refl (found_sent sent x
         let m = later (omega (arith, some, ap one_if is)) in
         (m.0, (λ i. cond (is i && sent o) (Some o) (find (λ (z : OutstandingCall). eqb z.xid x && sent z) os)) ∙ m.1)
 
-pub answers_one : (first : ℕ) (k : ClientState) (s : ServerState) (u d all_down : List FrameContent) (w : Transit) (message : List ℕ) (rest : List FrameContent) → all_down ≡ d ++ SendFrame message ∷ rest → s.received.sends ≤ k.calls_accepted → k.first_xid ≡ first → s.received.sends ≤ ends_left k.written k.send_ends
-    → Answered first k s u d all_down w → (o : OutstandingCall) × (answered_call k (word_at 0 message) ≡ Some o)
+pub answers_one : (first : ℕ) (k : ClientState) (s : ServerState) (u d all_down : List FrameContent) (w : Transit) (message : SentMessage) (rest : List FrameContent) → all_down ≡ d ++ SendFrame message ∷ rest → s.received.sends ≤ k.calls_accepted → k.first_xid ≡ first → s.received.sends ≤ ends_left k.written k.send_ends
+    → Answered first k s u d all_down w → (o : OutstandingCall) × (answered_call k (word_at 0 message.bytes) ≡ Some o)
 answers_one first k s u d all_down w message rest parts sends own left h =
-    let x = word_at 0 message in
+    let x = word_at 0 message.bytes in
     let there : times x (message_xids all_down) ≡ times x (message_xids d) + (1 + times x (message_xids rest)) =
     ap (λ (ps : List FrameContent). times x (message_xids ps)) parts ∙ said_more_lem x d (SendFrame message ∷ rest)
     ∙ ap (λ (b : Bool). times x (message_xids d) + (one_if b + times x (message_xids rest))) (eq-eqb x x refl) in

@@ -23,11 +23,11 @@ use Rattle.nr_reduce.specs.Client.{client_rules, client_end, client_state_after,
 use Rattle.nr_reduce.specs.RunLaws.{outstanding_from, as_submitted}
 use Rattle.nr_reduce.proofs.Sizes.{message_size}
 use Rattle.nr_laws.proofs.EventOutputs.{IsNext, place_after, outputs_by, outputs_in}
-use Rattle.nr_laws.proofs.Outputs.{Output, IsShort, FitsSegment, CallsShort, message_of_call, message_outputs, call_sends, client_says, response_outputs, response_segments, final_outputs, terminate_segment, CallShort}
+use Rattle.nr_laws.proofs.Outputs.{Output, IsShort, CallsShort, message_of_call, message_outputs, call_sends, client_says, response_outputs, response_segments, final_outputs, terminate_segment, CallShort}
 use Rattle.nr_laws.proofs.Outputs.Output.{ASegment}
 use Rattle.nr_laws.proofs.Brought.{AreFrom}
 use Rattle.nr_laws.proofs.Words.{message_words, terminate_word_lem, from_append, payload_bytes_lem}
-use Rattle.nr_laws.proofs.Messages.{messages, messages_message, messages_append, messages_calls, messages_tagged, tagged_response, messages_final}
+use Rattle.nr_laws.proofs.TaggedSegments.{tagged_response}
 use Rattle.nr_laws.proofs.Completions.{Completes, completes_none, completes_append, completes_message, completes_calls, completes_tagged, completes_final}
 use Rattle.nr_laws.proofs.ClientSays.{IsGoodCall, ClientGood, accepted_in, accepted_append, asked, HasHello, ClientSays, short_revoked, submitted_messages, map_more, client_has_no_fault, formed, response_words}
 use Rattle.nr_laws.proofs.Basics.{above_zero, each_append, each_kept}
@@ -53,22 +53,21 @@ calls_words opened msn (o ∷ os) h =
 
 -- some outputs that bring no message
 record IsQuiet (outs : List Output) : Type 0 where
-  messages_are : messages outs ≡ []
   words : AreFrom Fpdu outs
   completes : Completes outs []
 
 quiet_none : IsQuiet []
-quiet_none = record { messages_are = refl; words = tt; completes = completes_none }
+quiet_none = record { words = tt; completes = completes_none }
 
 quiet_final : (end : Stop) → IsQuiet (final_outputs end)
-quiet_final end = record { messages_are = messages_final end; words = final_words end; completes = completes_final end }
+quiet_final end = record { words = final_words end; completes = completes_final end }
 
 quiet_response : (k : ClientState) (place : ℕ) (o : Option ReadRequest) → ((q : ReadRequest) → o ≡ Some q → AreFrom Fpdu (response_outputs k place (Some q))) → IsQuiet (response_outputs k place o)
 quiet_response k place None h = quiet_none
 quiet_response k place (Some q) h =
     let held : List ℕ = take q.size (drop q.to (client_memory_at k place q.stag)) in
     let tagged = tagged_response q.sink q.sink_to held in
-    record { messages_are = messages_tagged (response_segments q.sink q.sink_to held) tagged; words = h q refl; completes = completes_tagged (response_segments q.sink q.sink_to held) tagged }
+    record { words = h q refl; completes = completes_tagged (response_segments q.sink q.sink_to held) tagged }
 
 segment_quiet : (k : ClientState) (f : Frame) → IsBytes f.bytes → is_hello f ≡ false → client_end k (FrameReceived f) ≡ None → IsQuiet (response_outputs k f.end (segment_request (frame_segment f)))
 unfolding frame_segment
@@ -107,8 +106,6 @@ quiet_step opened es e place later k after ended now outs more none s q p =
       greeted = s.greeted;
       waits = λ no_hello. (let was : k.has_hello ≡ false = sym s.hello ∙ no_hello in
           s.waits was ∙ p.waits was ∙ ap (λ (xs : List AcceptedCall). outstanding_from (start opened) opened.first_stag xs) (sym same));
-      said = λ fits. messages_append outs more ∙ ap (λ (ms : List (List ℕ)). messages outs ++ ms) q.messages_are ∙ append-nil (messages outs)
-          ∙ p.said fits ∙ (λ i. cond (sym s.hello i) (map (message_of_call opened) (outstanding_from (start opened) opened.first_stag (sym same i))) []);
       words = from_append outs more p.words q.words;
       completes = subst (λ (ms : List (List ℕ)). Completes (outs ++ more) ms)
           (append-nil (cond k.has_hello (map (message_of_call opened) (asked opened es)) [])
@@ -166,12 +163,6 @@ hello_step opened es place k outs f first at goes p =
       count = p.count ∙ ap (λ (xs : List AcceptedCall). length xs) (sym same);
       greeted = λ e. inr (omega (arith, goes), refl);
       waits = λ e. absurd cc;
-      said = λ fits. messages_append outs (call_sends opened 1 k.outstanding)
-          ∙ ap (λ (ms : List (List ℕ)). ms ++ messages (call_sends opened 1 k.outstanding)) (p.said fits ∙ ap (λ (b : Bool). cond b (map (message_of_call opened) (asked opened es)) []) no_hello)
-          ∙ messages_calls fits opened 1 k.outstanding p.short
-          ∙ sym (submitted_messages opened k.outstanding)
-          ∙ ap (λ (os : List OutstandingCall). map (message_of_call opened) os) (p.waits no_hello)
-          ∙ ap (λ (xs : List AcceptedCall). map (message_of_call opened) (outstanding_from (start opened) opened.first_stag xs)) (sym same);
       words = from_append outs (call_sends opened 1 k.outstanding) p.words (calls_words opened 1 k.outstanding p.short);
       completes = subst (λ (ms : List (List ℕ)). Completes (outs ++ call_sends opened 1 k.outstanding) ms)
           (sym (submitted_messages opened k.outstanding)
@@ -211,7 +202,6 @@ call_step opened es place p k outs a plan planned l h =
       count = (let c = h.count in let l = ap (λ (xs : List AcceptedCall). length xs) more in let n = length-append before (a ∷ []) in omega (arith, c, l, n));
       greeted = h.greeted;
       waits = λ no_hello. submitted_append k.outstanding (own ∷ []) ∙ ap (λ (os : List OutstandingCall). os ++ own ∷ []) (h.waits no_hello) ∙ sym all;
-      said = λ fits. messages_append outs (says k.has_hello) ∙ by k.has_hello refl fits short own all;
       words = from_append outs (says k.has_hello) h.words (words_by k.has_hello short);
       completes = completes_by k.has_hello refl all;
     }
@@ -232,15 +222,6 @@ call_step opened es place p k outs a plan planned l h =
         (subst (λ (c : Bool). Completes outs (cond c (map (message_of_call opened) (asked opened es)) [])) is h.completes) (completes_message (k.calls_accepted + 1) (message_of_call opened (outstanding_of k a))))
     completes_by false is all =
         completes_append outs [] [] [] (subst (λ (c : Bool). Completes outs (cond c (map (message_of_call opened) (asked opened es)) [])) is h.completes) completes_none
-
-    by : (b : Bool) → k.has_hello ≡ b → FitsSegment → IsShort (message_of_call opened (outstanding_of k a)) → (own : OutstandingCall) → asked opened (es ++ CallSubmitted p a ∷ []) ≡ asked opened es ++ outstanding_of k a ∷ []
-        → messages outs ++ messages (says b) ≡ cond b (map (message_of_call opened) (asked opened (es ++ CallSubmitted p a ∷ []))) []
-    by true is fits s own all =
-        ap (λ (ms : List (List ℕ)). ms ++ messages (says true)) (h.said fits ∙ ap (λ (b : Bool). cond b (map (message_of_call opened) (asked opened es)) []) is)
-        ∙ ap (λ (ms : List (List ℕ)). map (message_of_call opened) (asked opened es) ++ ms) (messages_message (k.calls_accepted + 1) (message_of_call opened (outstanding_of k a)) (fits (message_of_call opened (outstanding_of k a)) s))
-        ∙ sym (map_more opened (asked opened es) (outstanding_of k a ∷ []))
-        ∙ ap (λ (os : List OutstandingCall). map (message_of_call opened) os) (sym all)
-    by false is fits s own all = append-nil (messages outs) ∙ h.said fits ∙ ap (λ (b : Bool). cond b (map (message_of_call opened) (asked opened es)) []) is
 
 -- ---- Each event
 

@@ -1,8 +1,8 @@
 -- A client that a frame doesn't end keeps all that holds between both ends.
-use Rattle.std.proofs.Common.{◌≡◌, ℕ, ◌+◌, ◌≤◌, ◌^◌, Bool, true, false, cond, not, ◌||◌, eqb, ltb, List, [], ◌∷◌, ◌++◌, length, map, take, drop, filter, Option, Some, None, Result, Ok, refl, sym, ap, subst, ◌∙◌, arith, lit<, append_assoc, length-take, ◌⊎◌, inl, inr}
+use Rattle.std.proofs.Common.{◌≡◌, ℕ, ◌+◌, ◌≤◌, ◌^◌, Bool, true, false, cond, not, ◌||◌, eqb, ltb, List, [], ◌∷◌, ◌++◌, length, take, drop, filter, Option, Some, None, Result, Ok, refl, sym, ap, subst, ◌∙◌, arith, lit<, append_assoc, length-take, ◌⊎◌, inl, inr}
 use Rattle.std.proofs.lemmas.Bool.{ltb-false}
 use Rattle.nr_xdr.specs.Item.{IsBytes}
-use Rattle.nr_wire.specs.Constants.{OPCODE_READ_REQUEST, OPCODE_READ_RESPONSE, OPCODE_SEND, QUEUE_SEND, QUEUE_READ_REQUEST}
+use Rattle.nr_wire.specs.Constants.{OPCODE_READ_REQUEST, OPCODE_READ_RESPONSE, QUEUE_READ_REQUEST}
 use Rattle.nr_wire.specs.declared.hello.Side.TheVariants.{Initiator, Responder}
 use Rattle.nr_wire.specs.Hello.{hello_of}
 use Rattle.nr_wire.specs.Segment.{Segment}
@@ -21,21 +21,23 @@ use Rattle.nr_reduce.specs.OfferedRegions.{region_grants}
 use Rattle.nr_reduce.specs.ClientState.{ClientState, OutstandingCall, client_memory_at}
 use Rattle.nr_reduce.specs.ServerState.{ServerState}
 use Rattle.nr_reduce.specs.Client.{client_end, client_state_after, client_output, client_readiness, or_message_end, segment_request, calls_output, response_output, with_segment, with_hello}
-use Rattle.nr_laws.proofs.FrameContents.{FrameContent, numbered_segment, frame_bytes, output_bytes, total_of, sends_in, requests_in, hellos_in, call_frame, client_frames, response_frames, tagged_frames, Carries}
-use Rattle.nr_laws.proofs.FrameContents.FrameContent.{HelloFrame, SendFrame, RequestFrame, TaggedFrame}
+use Rattle.nr_laws.proofs.FrameContents.{FrameContent, numbered_segment, frame_bytes, output_bytes, total_of, sends_in, requests_in, hellos_in, client_frames, response_frames, tagged_frames, Carries, part_segment, last_segment, send_frames, calls_frames}
+use Rattle.nr_laws.proofs.FrameContents.FrameContent.{HelloFrame, PartFrame, SendFrame, RequestFrame, TaggedFrame}
 use Rattle.nr_laws.proofs.LinkInvariants.{Transit, TotalsAgree, calls_sent, hello_bit}
-use Rattle.nr_laws.proofs.Totals.{total_append, total_map_zero}
+use Rattle.nr_laws.proofs.Totals.{total_append}
 use Rattle.nr_laws.proofs.CompletedFrames.{is_piece}
 use Rattle.nr_laws.proofs.TotalsAtServer.{segment_is}
-use Rattle.nr_laws.proofs.TotalsAtClient.{totals_hello_down, totals_send_down, totals_read_down, totals_tagged_down, down_one, after_is_lem, says_is, request_payload, tagged_none, bit_of}
+use Rattle.nr_laws.proofs.TotalsAtClient.{totals_hello_down, totals_send_down, totals_read_down, totals_tagged_down, down_one, after_is_lem, says_is, request_payload, tagged_none, bit_of, totals_part_down}
 use Rattle.nr_laws.proofs.OwnXids.{OwnXids, own_xids_came, segment_out}
 use Rattle.nr_laws.proofs.OutputFrames.{outs_said, response_said}
-use Rattle.nr_laws.proofs.Writable.{IsWritable, AreWritable, IsOutput, proper_one, stream_more, stream_first, stream_at_lem, tagged_proper}
+use Rattle.nr_laws.proofs.Writable.{IsWritable, AreWritable, IsOutput, proper_one, stream_more, stream_first, stream_at_lem, tagged_proper, all_proper_append}
 use Rattle.nr_laws.proofs.AgreeingEnds.{EndsAgree, IsPlace, frame_of, payload_bytes}
-use Rattle.nr_laws.proofs.Outputs.{CallsShort, CallShort}
+use Rattle.nr_laws.proofs.Outputs.{CallsShort, CallShort, message_of_call}
 use Rattle.nr_laws.proofs.Words.{word_below_lem, hyper_below_lem}
 use Rattle.nr_reduce.proofs.Touches.{no_flaw}
 use Rattle.nr_laws.proofs.Basics.{each_kept}
+use Rattle.nr_laws.proofs.SendFrames.{sends_zero}
+use Rattle.nr_laws.proofs.ServerOutput.{short_proper}
 
 -- ---- A Read Request that doesn't end a client ends within 2 ^ 64 bytes of its sink
 
@@ -115,6 +117,7 @@ client_linked opened k t s u d all_up all_down w p rest said l first counts outs
   sends_down = omega (arith, sends, l.sends_down, total_append sends_in d (p ∷ []));
   requests_down = omega (arith, requests, l.requests_down, total_append requests_in d (p ∷ []));
   requests_sent = l.requests_sent;
+  bytes_up = l.bytes_up;
 }
 
 pub record ClientTook (opened : LinkParameters) (k : ClientState) (s : ServerState) (u d all_up all_down : List FrameContent) (w : Transit) (p : FrameContent) (rest : List FrameContent) (f : Frame) : Type 0 where
@@ -131,17 +134,17 @@ output_frame : (opened : LinkParameters) (k : ClientState) (f : Frame) (r : Resu
 unfolding client_output
 output_frame opened k f r behind is = λ i. cond (behind i) (calls_output opened 1 k.outstanding) (response_output k f.end (segment_request (is i)))
 
-pub says_hello : (opened : LinkParameters) (k : ClientState) (f : Frame) → is_hello f ≡ true → client_frames opened k (FrameReceived f) ≡ map (call_frame opened) k.outstanding
+pub says_hello : (opened : LinkParameters) (k : ClientState) (f : Frame) → is_hello f ≡ true → client_frames opened k (FrameReceived f) ≡ calls_frames opened k.outstanding
 unfolding client_frames
-says_hello opened k f is = λ i. cond (is i) (map (call_frame opened) k.outstanding) (response_frames k f.end (segment_request (frame_segment f)))
+says_hello opened k f is = λ i. cond (is i) (calls_frames opened k.outstanding) (response_frames k f.end (segment_request (frame_segment f)))
 
 pub after_hello : (opened : LinkParameters) (k : ClientState) (f : Frame) → is_hello f ≡ true → client_state_after opened k (FrameReceived f) ≡ with_hello opened k
 unfolding client_state_after
 after_hello opened k f is = λ i. cond (is i) (with_hello opened k) (with_segment k f (frame_segment f))
 
-asks_proper : (opened : LinkParameters) (os : List OutstandingCall) → CallsShort opened os → AreWritable (map (call_frame opened) os)
+asks_proper : (opened : LinkParameters) (os : List OutstandingCall) → CallsShort opened os → AreWritable (calls_frames opened os)
 asks_proper opened [] h = tt
-asks_proper opened (o ∷ os) h = (h.0, asks_proper opened os h.1)
+asks_proper opened (o ∷ os) h = all_proper_append (send_frames (message_of_call opened o)) (calls_frames opened os) (short_proper (message_of_call opened o) h.0) (asks_proper opened os h.1)
 
 -- the calls of a client so far
 pub calls_said : (opened : LinkParameters) (k : ClientState) (s : ServerState) (u d all_up all_down : List FrameContent) (w : Transit) → EndsAgree opened k s u d all_up all_down w → total_of sends_in all_up ≡ calls_sent k
@@ -152,7 +155,7 @@ calls_said opened k s u d all_up all_down w l =
 took_hello : (opened : LinkParameters) (k : ClientState) (s : ServerState) (u d all_up all_down : List FrameContent) (w : Transit) (rest : List FrameContent) (f : Frame) → EndsAgree opened k s u d all_up all_down w → w.down ≡ HelloFrame ∷ rest
     → is_hello f ≡ true → ClientTook opened k s u d all_up all_down w HelloFrame rest f
 took_hello opened k s u d all_up all_down w rest f l first is =
-    let said = map (call_frame opened) k.outstanding in
+    let said = calls_frames opened k.outstanding in
     let says = says_hello opened k f is in
     let after = after_hello opened k f is in
     let none : hello_bit k.has_hello ≡ 0 = omega (arith, l.counts.hello, ap (total_of hellos_in) first) in
@@ -162,11 +165,11 @@ took_hello opened k s u d all_up all_down w rest f l first is =
     record {
       said = said;
       said_is = sym says;
-      output = output_hello opened k f is ∙ outs_said opened 0 0 k.outstanding l.short ∙ (λ i. output_bytes Initiator (sym calls i) (sym l.no_reads i) said);
+      output = output_hello opened k f is ∙ outs_said opened 0 0 k.outstanding ∙ (λ i. output_bytes Initiator (sym calls i) (sym l.no_reads i) said);
       linked =
           client_linked opened k (client_state_after opened k (FrameReceived f)) s u d all_up all_down w HelloFrame rest said l first counts (own_xids_came opened k f l.outs)
           (subst (λ (t : ClientState). CallsShort opened t.outstanding) (sym after) l.short) (asks_proper opened k.outstanding l.short)
-          (total_map_zero hellos_in (call_frame opened) k.outstanding (λ o. refl)) (total_map_zero requests_in (call_frame opened) k.outstanding (λ o. refl))
+          (sends_zero hellos_in (message_of_call opened) k.outstanding (λ offset payload. refl) (λ m. refl)) (sends_zero requests_in (message_of_call opened) k.outstanding (λ offset payload. refl) (λ m. refl))
           (omega (arith, ap (λ (t : ClientState). t.received.sends) after)) (omega (arith, ap (λ (t : ClientState). t.received.requests) after));
     }
 
@@ -194,8 +197,13 @@ took_piece : (opened : LinkParameters) (k : ClientState) (s : ServerState) (u d 
     → IsWritable p → Carries k.received.sends k.received.requests f p → IsBytes f.bytes → f.bytes ≡ frame_bytes Responder (numbered_segment k.received.sends k.received.requests p)
     → client_end k (FrameReceived f) ≡ None → ClientTook opened k s u d all_up all_down w p rest f
 took_piece opened k s u d all_up all_down w HelloFrame rest f l first proper piece bytes is stays = absurd proper
+took_piece opened k s u d all_up all_down w (PartFrame offset payload) rest f l first proper piece bytes is stays =
+    let segment : Segment = part_segment k.received.sends offset payload in
+    let reads : frame_segment f ≡ Ok segment = segment_is k.received.sends k.received.requests f (PartFrame offset payload) segment piece refl in
+    took_frame opened k s u d all_up all_down w (PartFrame offset payload) rest [] f (Ok segment) l first piece.behind reads refl refl tt refl refl
+    (totals_part_down opened k s w f offset payload rest l.counts first piece) (omega arith) (omega arith)
 took_piece opened k s u d all_up all_down w (SendFrame message) rest f l first proper piece bytes is stays =
-    let segment : Segment = Untagged true OPCODE_SEND 0 QUEUE_SEND (msn_word (k.received.sends + 1)) 0 message in
+    let segment : Segment = last_segment k.received.sends message in
     let reads : frame_segment f ≡ Ok segment = segment_is k.received.sends k.received.requests f (SendFrame message) segment piece refl in
     took_frame opened k s u d all_up all_down w (SendFrame message) rest [] f (Ok segment) l first piece.behind reads refl refl tt refl refl
     (totals_send_down opened k s w f message rest l.counts first piece stays l.outs.apart) refl (omega arith)

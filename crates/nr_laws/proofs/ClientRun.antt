@@ -27,13 +27,10 @@ use Rattle.nr_reduce.specs.Asked.{AskedMark, AskedSoFar, IsAccepted}
 use Rattle.nr_reduce.proofs.Steps.{events_one, output_for_all_append, end_state_after_append}
 use Rattle.nr_reduce.proofs.Standing.{AtEachMark_more}
 use Rattle.nr_laws.specs.Typed.{TypedMark, IsTyped}
-use Rattle.nr_wire.specs.declared.stream.Awaited.TheVariants.{Fpdu}
-use Rattle.nr_laws.proofs.Brought.{AreFrom}
-use Rattle.nr_laws.proofs.Messages.{messages}
 use Rattle.nr_laws.proofs.Completions.{completed_from, completes_none}
 use Rattle.nr_laws.proofs.EventOutputs.{IsNext, Goes, goes_from, goes_nothing, FirstGood, along, outputs_by, outputs_in, outputs_for, outputs_all, place_after, places_after, whole_bytes}
-use Rattle.nr_laws.proofs.Outputs.{Output, fits_segment, bytes_of_all, bytes_append, message_of_call, client_says, client_said, final_outputs, final_said}
-use Rattle.nr_laws.proofs.ClientSays.{ClientGood, accepted_in, accepted_append, asked, HasHello, ClientSays, Says}
+use Rattle.nr_laws.proofs.Outputs.{Output, bytes_of_all, bytes_append, message_of_call, client_says, client_said, final_outputs, final_said}
+use Rattle.nr_laws.proofs.ClientSays.{ClientGood, accepted_in, accepted_append, asked, ClientSays, Says}
 use Rattle.nr_laws.proofs.ClientAlong.{client_step}
 use Rattle.nr_reduce.proofs.Waiting.{start, stag_behind, from_append}
 use Rattle.nr_laws.proofs.Basics.{first_is_lem}
@@ -123,7 +120,7 @@ tells_step opened es place r outs e next good t =
 
 tells_nothing : (opened : LinkParameters) → Tells opened [] 0 (initial_client opened) []
 tells_nothing opened = record {
-  says = record { short = tt; stag = refl; count = refl; greeted = λ e. inl (refl, refl); waits = λ e. refl; said = λ fits. refl; words = tt; completes = completes_none };
+  says = record { short = tt; stag = refl; count = refl; greeted = λ e. inl (refl, refl); waits = λ e. refl; words = tt; completes = completes_none };
   state = refl;
   bytes = refl;
 }
@@ -142,25 +139,6 @@ client_outputs opened link run typed asked =
     record {
       says = subst (λ (p : ℕ). ClientSays opened es p (client opened link run).state (client opened link run).ended (client_outs opened link run)) g.place t.says;
       bytes = ap (λ (xs : List ℕ). own_hello Initiator ++ xs) t.bytes;
-    }
-
--- each call is one segment, as the limits are
-pub record SaysSends (opened : LinkParameters) (link : ℕ) (run : List Mark) : Type 0 where
-  pub count : (client opened link run).state.calls_accepted ≡ length (accepted_in (events link Initiator run))
-  pub greeted : (client opened link run).ended ≡ None → HasHello (whole_bytes link Initiator run) (client opened link run).state.has_hello
-  pub said : messages (client_outs opened link run) ≡ cond (client opened link run).state.has_hello (map (message_of_call opened) (asked opened (events link Initiator run))) []
-  pub words : AreFrom Fpdu (client_outs opened link run)
-
-pub record TellsSends (opened : LinkParameters) (link : ℕ) (run : List Mark) : Type 0 where
-  pub says : SaysSends opened link run
-  pub bytes : output_due opened link Initiator run ≡ own_hello Initiator ++ bytes_of_all (client_outs opened link run)
-
-pub client_tells : (opened : LinkParameters) (link : ℕ) (run : List Mark) → IsTyped run → AskedSoFar opened link run → TellsSends opened link run
-client_tells opened link run typed asked =
-    let t = client_outputs opened link run typed asked in
-    record {
-      says = record { count = t.says.count; greeted = t.says.greeted; said = t.says.said fits_segment; words = t.says.words };
-      bytes = t.bytes;
     }
 
 -- ---- Each of its messages is that of an accepted call

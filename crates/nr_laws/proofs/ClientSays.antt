@@ -33,10 +33,9 @@ use Rattle.nr_reduce.specs.Client.{client_end, client_readiness, or_message_end,
 use Rattle.nr_reduce.specs.SubmitAnswer.{next_xid}
 use Rattle.nr_reduce.specs.RunLaws.{outstanding_from, as_submitted}
 use Rattle.nr_laws.specs.Typed.{IsTypedForm}
-use Rattle.nr_laws.proofs.Outputs.{Output, IsShort, FitsSegment, CallsShort, message_of_call, response_outputs}
+use Rattle.nr_laws.proofs.Outputs.{Output, IsShort, CallsShort, message_of_call, response_outputs}
 use Rattle.nr_laws.proofs.Brought.{AreFrom}
 use Rattle.nr_laws.proofs.Words.{responses_words, RangeEnds, word_below_lem, hyper_below_lem, payload_by}
-use Rattle.nr_laws.proofs.Messages.{messages}
 use Rattle.nr_laws.proofs.Completions.{Completes}
 use Rattle.nr_reduce.proofs.Waiting.{start, stag_behind}
 use Rattle.nr_reduce.proofs.Touches.{AreNone, all_none, no_flaw}
@@ -98,8 +97,6 @@ pub record ClientSays (opened : LinkParameters) (es : List RunEvent) (place : �
   pub count : k.calls_accepted ≡ length (accepted_in es)
   pub greeted : ended ≡ None → HasHello place k.has_hello
   pub waits : k.has_hello ≡ false → map as_submitted k.outstanding ≡ asked opened es
-  -- if each of its messages fits one segment, its Send segments carry them
-  pub said : FitsSegment → messages outs ≡ cond k.has_hello (map (message_of_call opened) (asked opened es)) []
   pub words : AreFrom Fpdu outs
   pub completes : Completes outs (cond k.has_hello (map (message_of_call opened) (asked opened es)) [])
 

@@ -2,7 +2,7 @@
 -- else the guards are kept.
 use Rattle.std.proofs.Common.{◌≡◌, ℕ, ◌+◌, ◌≤◌, ◌<◌, ◌^◌, Bool, true, false, cond, eqb, List, [], ◌∷◌, ◌++◌, drop, Option, Some, None, Result, Ok, Err, refl, sym, ap, subst, ◌∙◌, arith, ◌⊎◌, inl, inr}
 use Rattle.nr_xdr.specs.Fields.{word_at}
-use Rattle.nr_wire.specs.Constants.{OPCODE_WRITE, OPCODE_READ_REQUEST, OPCODE_SEND, QUEUE_SEND, QUEUE_READ_REQUEST}
+use Rattle.nr_wire.specs.Constants.{OPCODE_WRITE, OPCODE_READ_REQUEST, QUEUE_READ_REQUEST}
 use Rattle.nr_wire.specs.declared.hello.Side.TheVariants.{Responder}
 use Rattle.nr_wire.specs.Hello.{hello_of}
 use Rattle.nr_wire.specs.Segment.{Segment}
@@ -38,15 +38,15 @@ use Rattle.nr_reduce.specs.Client.{client_end, client_state_after, client_readin
 use Rattle.nr_reduce.specs.ServerState.{ServerState}
 use Rattle.nr_laws.specs.EndCauses.{IsDenied}
 use Rattle.nr_laws.proofs.EndReasons.{IsMessageReason, EndsForMessage}
-use Rattle.nr_laws.proofs.FrameContents.{FrameContent, numbered_segment, frame_bytes, total_of, sends_in, requests_in, hellos_in, client_frames, Carries}
-use Rattle.nr_laws.proofs.FrameContents.FrameContent.{HelloFrame, SendFrame, RequestFrame, TaggedFrame}
+use Rattle.nr_laws.proofs.FrameContents.{FrameContent, numbered_segment, frame_bytes, total_of, sends_in, requests_in, hellos_in, client_frames, Carries, last_segment}
+use Rattle.nr_laws.proofs.FrameContents.FrameContent.{HelloFrame, PartFrame, SendFrame, RequestFrame, TaggedFrame}
 use Rattle.nr_laws.proofs.LinkInvariants.{Transit, hello_bit}
 use Rattle.nr_laws.proofs.Totals.{total_append}
 use Rattle.nr_laws.proofs.Brought.{hello_is}
 use Rattle.nr_laws.proofs.CompletedFrames.{is_piece}
 use Rattle.nr_laws.proofs.FaultlessSegments.{request_flaw, write_flaw}
 use Rattle.nr_laws.proofs.FreeReceives.{requests}
-use Rattle.nr_laws.proofs.EndsOfFrames.{client_by_lem, client_send}
+use Rattle.nr_laws.proofs.EndsOfFrames.{client_by_lem, client_send, client_part}
 use Rattle.nr_laws.proofs.TotalsAtServer.{segment_is}
 use Rattle.nr_laws.proofs.TotalsAtClient.{down_one, request_payload}
 use Rattle.nr_laws.proofs.AnswerLists.{IsRead}
@@ -58,12 +58,13 @@ use Rattle.nr_laws.proofs.ClientFrame.{calls_said}
 use Rattle.nr_laws.proofs.AnsweredSteps.{answers_one}
 use Rattle.nr_laws.proofs.GuardsAtServer.{sent_most}
 use Rattle.nr_laws.proofs.Guards.{Guards}
-use Rattle.nr_laws.proofs.GuardsAtClient.{front_down, asked_of, guards_hello_down, guards_send_down, guards_read_down, guards_tagged_down}
+use Rattle.nr_laws.proofs.GuardsAtClient.{front_down, asked_of, guards_hello_down, guards_send_down, guards_read_down, guards_tagged_down, guards_part_down}
 use Rattle.nr_laws.proofs.Basics.{some_not}
 use Rattle.nr_laws.proofs.HeaderXid.{header_xid}
 use Rattle.nr_reduce.specs.EndRules.{EndState}
 use Rattle.nr_laws.proofs.EndsWaiting.{left_waiting}
 use Rattle.nr_reduce.proofs.CountedBytes.{first_xid_is}
+use Rattle.nr_laws.proofs.SendFrames.{at_front}
 
 -- ---- A message
 
@@ -166,19 +167,25 @@ step_piece : (opened : LinkParameters) (k : ClientState) (s : ServerState) (u d 
     → IsWritable p → Carries k.received.sends k.received.requests f p → k.has_hello ≡ true → ClientStep opened k s u d all_up all_down w place p rest f
 unfolding frame_end
 step_piece opened k s u d all_up all_down w place HelloFrame rest f o l g first proper piece hello = absurd proper
+step_piece opened k s u d all_up all_down w place (PartFrame offset payload) rest f o l g first proper piece hello =
+    let none = client_part k s w f offset payload rest l.counts first piece in
+    record {
+      only = λ end e. absurd (some_not end (sym e ∙ none));
+      kept = λ stays. guards_part_down opened k s u d all_up all_down w place offset payload rest f g first piece hello stays;
+    }
 step_piece opened k s u d all_up all_down w place (SendFrame message) rest f o l g first proper piece hello =
-    let segment : Segment = Untagged true OPCODE_SEND 0 QUEUE_SEND (msn_word (k.received.sends + 1)) 0 message in
+    let segment : Segment = last_segment k.received.sends message in
     let reads : frame_segment f ≡ Ok segment = segment_is k.received.sends k.received.requests f (SendFrame message) segment piece refl in
-    let reply : IsReply opened.granted message = front_down opened k s u d all_up all_down w place (SendFrame message) rest l g first in
-    let whole : List ℕ = begun_bytes k.received.begun ++ message in
-    let same : whole ≡ message = ap (λ (b : Option (List ℕ)). begun_bytes b ++ message) l.counts.whole_down in
+    let reply : IsReply opened.granted message.bytes = front_down opened k s u d all_up all_down w place (SendFrame message) rest l g first in
+    let whole : List ℕ = begun_bytes k.received.begun ++ message.payload in
+    let same : whole ≡ message.bytes = (at_front k.received.begun w.down w.queued_down (SendFrame message) rest first l.counts.whole_down).1 in
     let sent = calls_said opened k s u d all_up all_down w l in
     let answers = answers_one opened.first_xid k s u d all_down w message (rest ++ w.queued_down) (sym l.parts_down ∙ ap (λ (ps : List FrameContent). d ++ (ps ++ w.queued_down)) first)
     (omega (arith, sent, sent_most k, l.sends_up, ap (total_of sends_in) l.parts_up, total_append sends_in u (w.up ++ w.queued_up)))
     (sym (ap (λ (r : EndState ClientState). r.state.first_xid) g.reached.1) ∙ first_xid_is opened g.reached.0)
     (omega (arith, l.counts.calls_up, l.counts.sends, l.counts.all_sends, left_waiting k.written k.send_ends)) g.answered in
     let ends : client_end k (FrameReceived f) ≡ end_of_verdict f (reply_verdict k f.end whole) =
-    client_send opened k s w f message l.counts piece reply.least reply.most (subst (λ (r : EndState ClientState). ClientLimits r.state) g.reached.1 (client_limits opened g.reached.0)) ∙ ap (λ (r : Result Segment ℕ). client_message_end k f (segment_message k r)) reads in
+    client_send opened k s w f message rest l.counts first piece reply.least reply.most (subst (λ (r : EndState ClientState). ClientLimits r.state) g.reached.1 (client_limits opened g.reached.0)) ∙ ap (λ (r : Result Segment ℕ). client_message_end k f (segment_message k r)) reads in
     record {
       only = λ end e. inl (reply_end f (reply_verdict k f.end whole) end (reason_verdict k f.end whole (subst IsRead (sym same) reply.read) answers.0 (ap (λ (xs : List ℕ). answered_call k (word_at 0 xs)) same ∙ answers.1)) (sym ends ∙ e));
       kept = λ stays. guards_send_down opened k s u d all_up all_down w place message rest f o l g first piece hello stays;
@@ -223,9 +230,11 @@ stream_one (HelloFrame ∷ ps) h = omega (arith, none-more ps h)
     none-more : (ps : List FrameContent) → AreWritable ps → total_of hellos_in ps ≡ 0
     none-more [] h = refl
     none-more (HelloFrame ∷ ps) h = absurd h.0
+    none-more (PartFrame offset payload ∷ ps) h = omega (arith, none-more ps h.1)
     none-more (SendFrame message ∷ ps) h = omega (arith, none-more ps h.1)
     none-more (RequestFrame sink at size stag to ∷ ps) h = omega (arith, none-more ps h.1)
     none-more (TaggedFrame last opcode stag to payload ∷ ps) h = omega (arith, none-more ps h.1)
+stream_one (PartFrame offset payload ∷ ps) h = absurd h
 stream_one (SendFrame message ∷ ps) h = absurd h
 stream_one (RequestFrame sink at size stag to ∷ ps) h = absurd h
 stream_one (TaggedFrame last opcode stag to payload ∷ ps) h = absurd h

@@ -15,7 +15,7 @@ use Rattle.nr_laws.specs.MessageSegments.{message_segments, messages_completed, 
 use Rattle.nr_laws.proofs.SegmentedMessages.{message_is_received}
 use Rattle.nr_laws.proofs.Outputs.{Output, message_outputs, call_sends, message_sends, message_of_call, request_outputs, final_outputs, terminate_segment}
 use Rattle.nr_laws.proofs.Outputs.Output.{AHello, ASegment}
-use Rattle.nr_laws.proofs.Messages.{AreTagged}
+use Rattle.nr_laws.proofs.TaggedSegments.{AreTagged}
 
 -- the message that a segment completes if these bytes of a Send have begun, and the bytes that have begun after it
 abbrev pub completed_by : Option (List ℕ) → Segment → List (List ℕ)

@@ -1,7 +1,7 @@
 -- A rule that each part of an effect keeps holds of the effect of each frame at a server; likewise of the verdict on each message.
-use Rattle.std.proofs.Common.{◌≡◌, ℕ, ◌+◌, ◌-◌, Bool, true, false, cond, not, ◌&&◌, ◌||◌, eqb, ltb, List, [], ◌∷◌, ◌++◌, length, drop, Option, None, Some, Result, Ok, Err, refl, sym, ap, subst}
+use Rattle.std.proofs.Common.{◌≡◌, ℕ, ◌+◌, ◌-◌, Bool, true, false, cond, not, ◌&&◌, ◌||◌, eqb, ltb, List, [], ◌∷◌, ◌++◌, length, drop, Option, None, Some, Result, Ok, Err, refl, sym, subst}
 use Rattle.nr_xdr.specs.Fields.{word_at}
-use Rattle.nr_wire.specs.Constants.{OPCODE_READ_RESPONSE, OPCODE_SEND, QUEUE_SEND}
+use Rattle.nr_wire.specs.Constants.{OPCODE_READ_RESPONSE}
 use Rattle.nr_wire.specs.Segment.{Segment}
 use Rattle.nr_wire.specs.Segment.Segment.{Tagged, Untagged}
 use Rattle.nr_header.specs.declared.fault.HeaderFault.{HeaderFault}
@@ -13,7 +13,6 @@ use Rattle.nr_header.specs.Reading.{header_of}
 use Rattle.nr_link.specs.Frames.{Frame}
 use Rattle.nr_link.specs.Ending.{frame_segment}
 use Rattle.nr_link.specs.ReceiveState.{message_completed, begun_bytes}
-use Rattle.nr_link.specs.Output.{msn_word}
 use Rattle.nr_reduce.specs.Chunks.{is_read_chunk_of_item}
 use Rattle.nr_reduce.specs.Holds.{chunk_error, version_error}
 use Rattle.nr_reduce.specs.RunLaws.{ends_response}
@@ -24,6 +23,7 @@ use Rattle.nr_reduce.specs.ServerMessages.CallVerdict.{Refuses, IsReady}
 use Rattle.nr_reduce.specs.OfferedRegions.{Region}
 use Rattle.nr_reduce.specs.ServerMessages.Verdict.{EndsLink, OtherVersion, BadChunks, MakesPending}
 use Rattle.nr_reduce.specs.ServerFrames.{FrameEffect, no_effect, with_verdict, ready_if_whole, message_effect, with_refused_call, is_stream_read, read_effect, call_of_number, response_effect, by_message, with_access, effect_in, frame_effect}
+use Rattle.nr_laws.proofs.FrameContents.{SentMessage, part_segment, last_segment, CompletesMessage}
 
 -- ---- The verdict on a message
 
@@ -160,14 +160,18 @@ response_rule k P h f segment e of_message (OfCall r reads c last own found is) 
 pub tagged_effect_lem : (k : ServerState) (P : FrameEffect → Type 0) → ResponseRule k P → (f : Frame) (last : Bool) (opcode stag to : ℕ) (payload : List ℕ) → frame_segment f ≡ Ok (Tagged last opcode stag to payload) → P (frame_effect k f)
 tagged_effect_lem k P h f last opcode stag to payload is = (let segment = Tagged last opcode stag to payload in response_rule k P h f segment (frame_effect k f) (λ message whole e. absurd cc) (effect_case k f segment is))
 
--- a Send of one segment
-pub send_effect : (k : ServerState) (Good : List ℕ → Type 0) (P : FrameEffect → Type 0) → MessageRule k Good P → (f : Frame) (message : List ℕ) → k.received.begun ≡ None → Good message
-    → frame_segment f ≡ Ok (Untagged true OPCODE_SEND 0 QUEUE_SEND (msn_word (k.received.sends + 1)) 0 message) → P (frame_effect k f)
+-- a segment of a Send that isn't its last has no effect
+pub part_effect : (k : ServerState) (P : FrameEffect → Type 0) → P (no_effect k) → (f : Frame) (offset : ℕ) (payload : List ℕ) → frame_segment f ≡ Ok (part_segment k.received.sends offset payload) → P (frame_effect k f)
 unfolding frame_effect
-send_effect k Good P h f message none good is =
-    let whole : List ℕ = begun_bytes k.received.begun ++ message in
-    let same : message ≡ whole = ap (λ (b : Option (List ℕ)). begun_bytes b ++ message) (sym none) in
-    subst (λ (r : Result Segment ℕ). P (effect_in k f r)) (sym is) (message_rule k Good P h f.end whole (verdict k whole) (subst Good same good) refl)
+part_effect k P same f offset payload is = subst (λ (r : Result Segment ℕ). P (effect_in k f r)) (sym is) same
+
+-- the last segment of a Send
+pub send_effect : (k : ServerState) (Good : List ℕ → Type 0) (P : FrameEffect → Type 0) → MessageRule k Good P → (f : Frame) (message : SentMessage) → CompletesMessage k.received message → Good message.bytes
+    → frame_segment f ≡ Ok (last_segment k.received.sends message) → P (frame_effect k f)
+unfolding frame_effect
+send_effect k Good P h f message completes good is =
+    let whole : List ℕ = begun_bytes k.received.begun ++ message.payload in
+    subst (λ (r : Result Segment ℕ). P (effect_in k f r)) (sym is) (message_rule k Good P h f.end whole (verdict k whole) (subst Good (sym completes) good) refl)
 
 pub each_effect : (k : ServerState) (Good : List ℕ → Type 0) (P : FrameEffect → Type 0) → MessageRule k Good P → ResponseRule k P → (f : Frame)
     → ((s : Segment) (m : List ℕ) → frame_segment f ≡ Ok s → message_completed k.received s ≡ Some m → Good m) → P (frame_effect k f)

@@ -84,6 +84,7 @@ starts opened link = record {
       sends_down = refl;
       requests_down = refl;
       requests_sent = refl;
+      bytes_up = λ i. omega arith;
     };
     frames_up = refl;
     frames_down = refl;

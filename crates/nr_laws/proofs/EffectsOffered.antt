@@ -1,13 +1,11 @@
 -- Behind a frame that a server receives each read that waits, or is newly open, is of a pending call that offers it.
-use Rattle.std.proofs.Common.{◌≡◌, ℕ, zero, suc, ◌+◌, ◌-◌, ◌≤◌, Bool, true, false, cond, not, eqb, List, [], ◌∷◌, ◌++◌, length, take, drop, filter, None, Ok, refl, sym, ap, subst, ◌∙◌, arith, inl, inr, length-take}
+use Rattle.std.proofs.Common.{◌≡◌, ℕ, zero, suc, ◌-◌, ◌≤◌, Bool, true, false, cond, not, eqb, List, [], ◌∷◌, ◌++◌, length, take, drop, filter, Ok, refl, sym, ap, subst, ◌∙◌, arith, inl, inr, length-take}
 use Rattle.std.specs.List.{AllByRecursion}
 use Rattle.nr_xdr.specs.Fields.{word_at}
-use Rattle.nr_wire.specs.Constants.{OPCODE_SEND, QUEUE_SEND}
-use Rattle.nr_wire.specs.Segment.Segment.{Tagged, Untagged}
+use Rattle.nr_wire.specs.Segment.Segment.{Tagged}
 use Rattle.nr_header.specs.declared.header.ReadSegment.{ReadSegment}
 use Rattle.nr_link.specs.Frames.{Frame}
 use Rattle.nr_link.specs.Limits.{open_reads_max}
-use Rattle.nr_link.specs.Output.{msn_word}
 use Rattle.nr_link.specs.Ending.{frame_segment}
 use Rattle.nr_reduce.specs.Chunks.{total_at}
 use Rattle.nr_reduce.specs.OfferedRegions.{Region}
@@ -17,12 +15,12 @@ use Rattle.nr_reduce.specs.ServerMessages.{CallVerdict, by_payload, payload_of, 
 use Rattle.nr_reduce.specs.ServerMessages.CallVerdict.{Refuses, IsReady}
 use Rattle.nr_reduce.specs.ServerMessages.Verdict.{MakesPending}
 use Rattle.nr_reduce.specs.ServerFrames.{FrameEffect, no_effect, with_verdict, with_refused_call, frame_effect}
-use Rattle.nr_laws.proofs.FrameContents.FrameContent.{SendFrame}
 use Rattle.nr_laws.proofs.PendingSends.{verdict_new}
 use Rattle.nr_laws.proofs.ServerReadsOfRuns.{verdict_lists}
-use Rattle.nr_laws.proofs.OfferedAccesses.{EntryOffered, ListsOffered, CallOffered, MessageOffered, ReadOffered}
+use Rattle.nr_laws.proofs.OfferedAccesses.{EntryOffered, ListsOffered, CallOffered, ReadOffered, SendOffered}
 use Rattle.nr_laws.proofs.Basics.{each_append, each_drop, each_all, each_filter, each_kept}
-use Rattle.nr_laws.proofs.EachEffect.{send_effect, tagged_effect_lem}
+use Rattle.nr_laws.proofs.EachEffect.{send_effect, tagged_effect_lem, part_effect}
+use Rattle.nr_laws.proofs.FrameContents.{SentMessage, CompletesMessage, last_segment, part_segment}
 
 -- ---- Lists
 
@@ -109,21 +107,21 @@ refused_more regions k c s h =
       few = h.few;
     }
 
-pub effect_send : (regions : List Region) (k : ServerState) (f : Frame) (message : List ℕ) → k.received.begun ≡ None → MessageOffered regions (SendFrame message) → AllByRecursion (CallOffered regions) k.calls → AllByRecursion (ReadOffered regions k.calls) (drop open_reads_max k.reads)
-    → frame_segment f ≡ Ok (Untagged true OPCODE_SEND 0 QUEUE_SEND (msn_word (k.received.sends + 1)) 0 message) → EffectOffered regions (frame_effect k f)
-effect_send regions k f message none own calls waiting is =
-    send_effect k (λ m. MessageOffered regions (SendFrame m)) (EffectOffered regions) (record {
+pub effect_send : (regions : List Region) (k : ServerState) (f : Frame) (message : SentMessage) → CompletesMessage k.received message → SendOffered regions message.bytes → AllByRecursion (CallOffered regions) k.calls → AllByRecursion (ReadOffered regions k.calls) (drop open_reads_max k.reads)
+    → frame_segment f ≡ Ok (last_segment k.received.sends message) → EffectOffered regions (frame_effect k f)
+effect_send regions k f message completes own calls waiting is =
+    send_effect k (SendOffered regions) (EffectOffered regions) (record {
       judged = λ t place c s g. judged_more regions (by_payload c (payload_of t place c)) s g;
       ends = λ message reason own is. record { calls = h.calls; waiting = h.waiting; few = h.few };
       version = λ message own. record { calls = h.calls; waiting = h.waiting; few = h.few };
       chunks = λ message own. record { calls = h.calls; waiting = h.waiting; few = h.few };
       pending = pending;
-    }) f message none own is
+    }) f message completes own is
   where
     h : EffectOffered regions (no_effect k)
     h = none_more regions k calls waiting
 
-    pending : (place : ℕ) (message : List ℕ) (c : PendingCall) → MessageOffered regions (SendFrame message) → verdict k message ≡ MakesPending c
+    pending : (place : ℕ) (message : List ℕ) (c : PendingCall) → SendOffered regions message → verdict k message ≡ MakesPending c
         → EffectOffered regions (record (no_effect k) { calls = k.calls ++ c ∷ []; reads = k.reads ++ reads_of (k.regions ++ regions_of k place c) c; regions = k.regions ++ regions_of k place c })
     pending place message c own is =
         let sinks = k.regions ++ regions_of k place c in
@@ -138,6 +136,11 @@ effect_send regions k f message none own calls waiting is =
               (each_all (ReadOffered regions (c ∷ [])) (ReadOffered regions (k.calls ++ c ∷ [])) (reads_of sinks c) (read_right regions k.calls (c ∷ [])) (new_reads regions sinks c [] c.lists.read one.read));
           few = h.few;
         }
+
+-- a segment of a Send that isn't its last
+pub effect_part : (regions : List Region) (k : ServerState) (f : Frame) (offset : ℕ) (payload : List ℕ) → AllByRecursion (CallOffered regions) k.calls → AllByRecursion (ReadOffered regions k.calls) (drop open_reads_max k.reads)
+    → frame_segment f ≡ Ok (part_segment k.received.sends offset payload) → EffectOffered regions (frame_effect k f)
+effect_part regions k f offset payload calls waiting is = part_effect k (EffectOffered regions) (none_more regions k calls waiting) f offset payload is
 
 pub effect_tagged : (regions : List Region) (k : ServerState) (f : Frame) (last : Bool) (opcode stag to : ℕ) (payload : List ℕ) → AllByRecursion (CallOffered regions) k.calls → AllByRecursion (ReadOffered regions k.calls) (drop open_reads_max k.reads)
     → frame_segment f ≡ Ok (Tagged last opcode stag to payload) → EffectOffered regions (frame_effect k f)

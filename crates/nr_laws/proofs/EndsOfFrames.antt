@@ -1,5 +1,5 @@
 -- What a frame of a matched link may end a side for: an access that is denied, and what a message is.
-use Rattle.std.proofs.Common.{◌≡◌, ℕ, ◌≤◌, ◌<◌, Bool, false, cond, List, [], ◌∷◌, ◌++◌, length, take, drop, Option, None, Result, Ok, refl, sym, ap, subst, ◌∙◌, arith, lt-ltb, append_assoc, take-append-drop}
+use Rattle.std.proofs.Common.{◌≡◌, ℕ, ◌≤◌, ◌<◌, Bool, false, cond, List, [], ◌∷◌, ◌++◌, length, take, drop, Option, None, Result, Ok, refl, sym, ap, subst, ◌∙◌, arith, append_assoc, take-append-drop, true, ◌||◌}
 use Rattle.nr_wire.specs.Constants.{OPCODE_READ_RESPONSE}
 use Rattle.nr_wire.specs.declared.hello.Side.TheVariants.{Initiator, Responder}
 use Rattle.nr_wire.specs.Hello.{hello_of}
@@ -12,22 +12,24 @@ use Rattle.nr_reduce.specs.declared.mark.LinkParameters.{LinkParameters}
 use Rattle.nr_reduce.specs.Limits.{send_max}
 use Rattle.nr_link.specs.Limits.{open_reads_max}
 use Rattle.nr_link.specs.Frames.{Frame, is_hello}
-use Rattle.nr_link.specs.SegmentFaults.{SegmentReason, first_fault, missing_fault}
+use Rattle.nr_link.specs.SegmentFaults.{SegmentReason, first_fault, missing_fault, is_begun}
 use Rattle.nr_link.specs.Ending.{frame_end, frame_end_by, missing_access, end_of_fault, frame_segment, hello_end}
 use Rattle.nr_reduce.specs.OfferedRegions.{region_grants}
 use Rattle.nr_reduce.specs.Events.RunEvent.{FrameReceived}
 use Rattle.nr_reduce.specs.ClientState.{ClientState}
 use Rattle.nr_reduce.specs.Client.{client_readiness as client_readiness, client_end, or_message_end, client_message_end, segment_message}
-use Rattle.nr_reduce.specs.ServerState.{ServerState, PendingRead, receives_in_use}
+use Rattle.nr_reduce.specs.ServerState.{ServerState, PendingRead}
 use Rattle.nr_reduce.specs.Server.{readiness, server_end, or_refusal, refusal_end}
 use Rattle.nr_reduce.specs.ServerFrames.{frame_effect}
-use Rattle.nr_laws.proofs.FrameContents.{FrameContent, Carries, total_of, sends_in}
-use Rattle.nr_laws.proofs.FrameContents.FrameContent.{SendFrame, TaggedFrame}
+use Rattle.nr_laws.proofs.FrameContents.{FrameContent, Carries, total_of, sends_in, SentMessage, part_segment}
+use Rattle.nr_laws.proofs.FrameContents.FrameContent.{PartFrame, SendFrame, TaggedFrame}
 use Rattle.nr_laws.proofs.LinkInvariants.{Transit, TotalsAgree, ReadsAgree, AreResponses, WithinWindow}
 use Rattle.nr_laws.proofs.FreeReceives.{receives}
-use Rattle.nr_laws.proofs.FaultlessSegments.{send_frame, response_flaw}
+use Rattle.nr_laws.proofs.FaultlessSegments.{send_frame, response_flaw, part_frame_end}
 use Rattle.nr_laws.proofs.TotalsAtServer.{segment_is}
 use Rattle.nr_laws.proofs.ExpectedResponses.{is_expected_lem}
+use Rattle.nr_laws.proofs.SendFrames.{at_front, send_goes_on}
+use Rattle.nr_link.specs.ReceiveState.{begun_bytes}
 
 -- ---- The server
 
@@ -36,13 +38,24 @@ unfolding server_end
 server_by_lem opened s f first_fault behind is = λ i. cond (behind i) (hello_end (hello_of Initiator f.bytes)) (or_refusal s f (is i))
 
 -- a Send: none of the link's reasons, and never for want of a receive
-pub server_send : (opened : LinkParameters) (k : ClientState) (s : ServerState) (w : Transit) (f : Frame) (message : List ℕ) (rest : List FrameContent) → TotalsAgree k s w → WithinWindow opened k → w.up ≡ SendFrame message ∷ rest
-    → Carries s.received.sends s.received.requests f (SendFrame message) → 16 ≤ length message → length message ≤ send_max → ServerLimits s → server_end opened s (FrameReceived f) ≡ refusal_end f (frame_effect s f).refusal
+pub server_send : (opened : LinkParameters) (k : ClientState) (s : ServerState) (w : Transit) (f : Frame) (message : SentMessage) (rest : List FrameContent) → TotalsAgree k s w → WithinWindow opened k → w.up ≡ SendFrame message ∷ rest
+    → Carries s.received.sends s.received.requests f (SendFrame message) → 16 ≤ length message.bytes → length message.bytes ≤ send_max → ServerLimits s → server_end opened s (FrameReceived f) ≡ refusal_end f (frame_effect s f).refusal
 server_send opened k s w f message rest c g head p long short limits =
     let up = limits.up in
-    let some : 0 < total_of sends_in w.up = omega (arith, ap (total_of sends_in) head) in
+    let some : 0 < total_of sends_in (w.up ++ w.queued_up) = omega (arith, ap (λ (ps : List FrameContent). total_of sends_in (ps ++ w.queued_up)) head) in
+    let front = at_front s.received.begun w.up w.queued_up (SendFrame message) rest head c.whole_up in
     server_by_lem opened s f None p.behind
-    (send_frame (readiness opened s) (region_grants f.end s.regions) s.received.sends s.received.requests f message p refl c.whole_up (lt-ltb (receives_in_use s) opened.granted (receives opened k s w c g some)) refl long (omega (arith, short, up)))
+    (send_frame (readiness opened s) (region_grants f.end s.regions) s.received.sends s.received.requests f message p refl front.0 front.1 (receives opened k s w c g some) refl long (omega (arith, short, up)))
+
+-- a segment of a Send that isn't its last: nothing
+pub server_part : (opened : LinkParameters) (k : ClientState) (s : ServerState) (w : Transit) (f : Frame) (offset : ℕ) (payload : List ℕ) (rest : List FrameContent) → TotalsAgree k s w → WithinWindow opened k → w.up ≡ PartFrame offset payload ∷ rest
+    → Carries s.received.sends s.received.requests f (PartFrame offset payload) → server_end opened s (FrameReceived f) ≡ refusal_end f (frame_effect s f).refusal
+server_part opened k s w f offset payload rest c g head p =
+    let front = at_front s.received.begun w.up w.queued_up (PartFrame offset payload) rest head c.whole_up in
+    let some : 0 < total_of sends_in (w.up ++ w.queued_up) =
+    omega (arith, ap (λ (ps : List FrameContent). total_of sends_in (ps ++ w.queued_up)) head, send_goes_on (begun_bytes s.received.begun ++ payload) (rest ++ w.queued_up) front.1) in
+    server_by_lem opened s f None p.behind
+    (part_frame_end (readiness opened s) (region_grants f.end s.regions) s.received.sends s.received.requests f offset payload p refl front.0 (receives opened k s w c g some) refl)
 
 -- a segment of a Response: only what its access lacks
 lacks_none : (f : Frame) (segment : Segment) (lack : Option Denied) → lack ≡ None → end_of_fault f segment (first_fault (missing_fault lack ∷ [])) ≡ None
@@ -74,10 +87,26 @@ pub client_by_lem : (k : ClientState) (f : Frame) (found : Option End) → is_he
 unfolding client_end
 client_by_lem k f found behind is = λ i. cond (behind i) (hello_end (hello_of Responder f.bytes)) (or_message_end k f (is i))
 
+or_true : (b : Bool) → (b || true) ≡ true
+or_true true = refl
+or_true false = refl
+
 -- a message: its verdict alone
-pub client_send : (opened : LinkParameters) (k : ClientState) (s : ServerState) (w : Transit) (f : Frame) (message : List ℕ) → TotalsAgree k s w
-    → Carries k.received.sends k.received.requests f (SendFrame message) → 16 ≤ length message → length message ≤ send_max → ClientLimits k → client_end k (FrameReceived f) ≡ client_message_end k f (segment_message k (frame_segment f))
-client_send opened k s w f message c p long short limits =
+pub client_send : (opened : LinkParameters) (k : ClientState) (s : ServerState) (w : Transit) (f : Frame) (message : SentMessage) (rest : List FrameContent) → TotalsAgree k s w → w.down ≡ SendFrame message ∷ rest
+    → Carries k.received.sends k.received.requests f (SendFrame message) → 16 ≤ length message.bytes → length message.bytes ≤ send_max → ClientLimits k → client_end k (FrameReceived f) ≡ client_message_end k f (segment_message k (frame_segment f))
+client_send opened k s w f message rest c head p long short limits =
     let down = limits.down in
+    let front = at_front k.received.begun w.down w.queued_down (SendFrame message) rest head c.whole_down in
     client_by_lem k f None p.behind
-    (send_frame (client_readiness k) (region_grants f.end k.regions) k.received.sends k.received.requests f message p refl c.whole_down refl refl long (omega (arith, short, down)))
+    (send_frame (client_readiness k) (region_grants f.end k.regions) k.received.sends k.received.requests f message p refl front.0 front.1 (or_true (is_begun k.received.begun)) refl long (omega (arith, short, down)))
+
+-- a segment of a Send that isn't its last: nothing
+pub client_part : (k : ClientState) (s : ServerState) (w : Transit) (f : Frame) (offset : ℕ) (payload : List ℕ) (rest : List FrameContent) → TotalsAgree k s w → w.down ≡ PartFrame offset payload ∷ rest
+    → Carries k.received.sends k.received.requests f (PartFrame offset payload) → client_end k (FrameReceived f) ≡ None
+client_part k s w f offset payload rest c head p =
+    let segment : Segment = part_segment k.received.sends offset payload in
+    let is : frame_segment f ≡ Ok segment = segment_is k.received.sends k.received.requests f (PartFrame offset payload) segment p refl in
+    let front = at_front k.received.begun w.down w.queued_down (PartFrame offset payload) rest head c.whole_down in
+    client_by_lem k f None p.behind
+    (part_frame_end (client_readiness k) (region_grants f.end k.regions) k.received.sends k.received.requests f offset payload p refl front.0 (or_true (is_begun k.received.begun)) refl)
+    ∙ ap (λ (r : Result Segment ℕ). client_message_end k f (segment_message k r)) is

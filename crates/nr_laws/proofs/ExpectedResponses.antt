@@ -7,8 +7,8 @@ use Rattle.nr_link.specs.Output.{segment_count, segment_payload}
 use Rattle.nr_link.specs.SegmentFaults.{is_expected}
 use Rattle.nr_reduce.specs.ServerState.{ServerState, PendingRead}
 use Rattle.nr_reduce.specs.ServerReads.{expected_read_response}
-use Rattle.nr_laws.proofs.FrameContents.{FrameContent, tagged_frame, tagged_frames}
-use Rattle.nr_laws.proofs.FrameContents.FrameContent.{HelloFrame, SendFrame, RequestFrame, TaggedFrame}
+use Rattle.nr_laws.proofs.FrameContents.{FrameContent, tagged_frame, tagged_frames, send_frames, sends_frames, part_frame, last_part, last_index}
+use Rattle.nr_laws.proofs.FrameContents.FrameContent.{HelloFrame, PartFrame, SendFrame, RequestFrame, TaggedFrame}
 use Rattle.nr_laws.proofs.LinkInvariants.{AreResponses, ContinuesRead}
 
 -- ---- Answers behind answers
@@ -22,11 +22,25 @@ pub answers_append : (came : ℕ) (rs : List PendingRead) (ps : List FrameConten
 answers_append came rs [] others more h k =
     subst (λ (c : ℕ). AreResponses c (rs ++ others) more) (sym h.0) (subst (λ (qs : List PendingRead). AreResponses 0 (qs ++ others) more) (sym h.1) k)
 answers_append came rs (HelloFrame ∷ ps) others more h k = answers_append came rs ps others more h k
+answers_append came rs (PartFrame offset payload ∷ ps) others more h k = answers_append came rs ps others more h k
 answers_append came rs (SendFrame message ∷ ps) others more h k = answers_append came rs ps others more h k
 answers_append came rs (RequestFrame sink at size stag to ∷ ps) others more h k = answers_append came rs ps others more h k
 answers_append came [] (TaggedFrame last opcode stag to payload ∷ ps) others more h k = absurd h
 answers_append came (r ∷ rs) (TaggedFrame last opcode stag to payload ∷ ps) others more h k =
     (h.0, h.1, h.2, goes_more last came (length payload) r rs others (λ c qs. AreResponses c qs ps) (λ c qs. AreResponses c qs (ps ++ more)) (λ c qs later. answers_append c qs ps others more later k) h.3)
+
+-- messages are no responses
+pub send_answers : (message : List ℕ) → AreResponses 0 [] (send_frames message)
+unfolding send_frames
+send_answers message = by (range_with_len 0 (last_index message))
+  where
+    by : (is : List ℕ) → AreResponses 0 [] (map (part_frame message) is ++ SendFrame (last_part message) ∷ [])
+    by [] = (refl, refl)
+    by (i ∷ is) = by is
+
+pub sends_answers : {X : Type 0} (f : X → List ℕ) (xs : List X) → AreResponses 0 [] (sends_frames f xs)
+sends_answers f [] = (refl, refl)
+sends_answers f (x ∷ xs) = answers_append 0 [] (send_frames (f x)) [] (sends_frames f xs) (send_answers (f x)) (sends_answers f xs)
 
 -- ---- A response as it is cut
 

@@ -1,8 +1,8 @@
 -- Of the segments of a matched link none breaks a rule of the link, apart from the access to memory and the expected response.
-use Rattle.std.proofs.Common.{◌≡◌, ℕ, ◌+◌, ◌≤◌, ◌<◌, ◌^◌, Bool, true, not, cond, ◌||◌, eqb, ltb, List, [], ◌∷◌, ◌++◌, length, Option, None, Some, Result, Ok, refl, sym, ap, ◌∙◌, eq-eqb, le-ltb}
+use Rattle.std.proofs.Common.{◌≡◌, ℕ, ◌+◌, ◌≤◌, ◌<◌, ◌^◌, Bool, true, not, cond, ◌||◌, eqb, ltb, List, [], ◌∷◌, length, Option, None, Some, Result, Ok, refl, sym, ap, ◌∙◌, eq-eqb, le-ltb}
 use Rattle.std.proofs.lemmas.Bool.{lt-leb}
 use Rattle.std.proofs.lemmas.Option.{same_Some}
-use Rattle.nr_wire.specs.Constants.{OPCODE_WRITE, OPCODE_READ_REQUEST, OPCODE_READ_RESPONSE, OPCODE_SEND, QUEUE_SEND, QUEUE_READ_REQUEST}
+use Rattle.nr_wire.specs.Constants.{OPCODE_WRITE, OPCODE_READ_REQUEST, OPCODE_READ_RESPONSE, QUEUE_READ_REQUEST}
 use Rattle.nr_wire.specs.Segment.{Segment}
 use Rattle.nr_wire.specs.Segment.Segment.{Tagged, Untagged}
 use Rattle.nr_regions.specs.declared.denied.Denied.{Denied}
@@ -15,29 +15,39 @@ use Rattle.nr_link.specs.SegmentFaults.{Readiness, SegmentReason, segment_reason
 use Rattle.nr_link.specs.ReceiveState.{begun_bytes, read_request_in}
 use Rattle.nr_link.specs.SegmentFaults.SegmentReason.{NoBuffer}
 use Rattle.nr_link.specs.Ending.{frame_end, frame_end_by, end_of_fault, frame_segment}
-use Rattle.nr_laws.proofs.FrameContents.{Carries}
-use Rattle.nr_laws.proofs.FrameContents.FrameContent.{SendFrame}
+use Rattle.nr_laws.proofs.FrameContents.{Carries, SentMessage, CompletesMessage, part_segment, last_segment}
+use Rattle.nr_laws.proofs.FrameContents.FrameContent.{PartFrame, SendFrame}
 
 itself : (n : ℕ) → eqb n n ≡ true
 itself n = eq-eqb n n refl
 
-pub send_flaw : {D : Type 0} (r : Readiness D) (m : List ℕ) → r.received.begun ≡ None → r.has_receive ≡ true → r.missing ≡ None → 16 ≤ length m → length m ≤ r.message_max
-    → segment_reason r (Untagged true OPCODE_SEND 0 QUEUE_SEND (msn_word (r.received.sends + 1)) 0 m) ≡ None
+pub send_flaw : {D : Type 0} (r : Readiness D) (m : SentMessage) → m.offset ≡ length (begun_bytes r.received.begun) → CompletesMessage r.received m → (is_begun r.received.begun || r.has_receive) ≡ true → r.missing ≡ None → 16 ≤ length m.bytes → length m.bytes ≤ r.message_max
+    → segment_reason r (last_segment r.received.sends m) ≡ None
 unfolding segment_reason
-send_flaw r m b h l long short =
+send_flaw r m starts whole h l long short =
     (λ i. first_fault (reason_if REASON_MSN (not (itself (msn_word (r.received.sends + 1)) i))
-    ∷ reason_if REASON_OFFSET (not (eqb 0 (length (begun_bytes (b i)))))
-    ∷ cond (is_begun (b i) || h i) None (Some (NoBuffer (msn_word (r.received.sends + 1))))
+    ∷ reason_if REASON_OFFSET (not (eq-eqb m.offset (length (begun_bytes r.received.begun)) starts i))
+    ∷ cond (h i) None (Some (NoBuffer (msn_word (r.received.sends + 1))))
     ∷ None
     ∷ missing_fault (l i)
     ∷ None
-    ∷ reason_if REASON_LONG (ltb r.message_max (length (begun_bytes (b i) ++ m)))
-    ∷ reason_if REASON_SHORT (ltb (length (begun_bytes (b i) ++ m)) 16)
+    ∷ reason_if REASON_LONG (ltb r.message_max (length (whole i)))
+    ∷ reason_if REASON_SHORT (ltb (length (whole i)) 16)
     ∷ None ∷ []))
     ∙ (λ i. first_fault (None ∷ None ∷ None ∷ None ∷ None ∷ None
-    ∷ reason_if REASON_LONG (le-ltb r.message_max (length m) short i)
-    ∷ reason_if REASON_SHORT (le-ltb (length m) 16 long i)
+    ∷ reason_if REASON_LONG (le-ltb r.message_max (length m.bytes) short i)
+    ∷ reason_if REASON_SHORT (le-ltb (length m.bytes) 16 long i)
     ∷ None ∷ []))
+
+pub part_flaw : {D : Type 0} (r : Readiness D) (offset : ℕ) (payload : List ℕ) → offset ≡ length (begun_bytes r.received.begun) → (is_begun r.received.begun || r.has_receive) ≡ true → r.missing ≡ None → segment_reason r (part_segment r.received.sends offset payload) ≡ None
+unfolding segment_reason
+part_flaw r offset payload starts h l =
+    λ i. first_fault (reason_if REASON_MSN (not (itself (msn_word (r.received.sends + 1)) i))
+    ∷ reason_if REASON_OFFSET (not (eq-eqb offset (length (begun_bytes r.received.begun)) starts i))
+    ∷ cond (h i) None (Some (NoBuffer (msn_word (r.received.sends + 1))))
+    ∷ None
+    ∷ missing_fault (l i)
+    ∷ None ∷ None ∷ None ∷ None ∷ [])
 
 skip_one : {D : Type 0} (l : Option D) → first_fault (missing_fault l ∷ None ∷ []) ≡ first_fault (missing_fault l ∷ [])
 skip_one None = refl
@@ -74,13 +84,21 @@ response_flaw r last stag to payload e =
     (λ i. first_fault (missing_fault r.missing ∷ reason_if REASON_RESPONSE (not (e i)) ∷ [])) ∙ skip_one r.missing
 
 -- a frame of a Send ends no side whose receive is there
-pub send_frame : (ready : Option Denied → Readiness Denied) (grants : List Grant) (n req : ℕ) (f : Frame) (m : List ℕ) → Carries n req f (SendFrame m)
-    → (ready None).received.sends ≡ n → (ready None).received.begun ≡ None → (ready None).has_receive ≡ true → (ready None).missing ≡ None → 16 ≤ length m → length m ≤ (ready None).message_max
-    → frame_end ready grants f ≡ None
+pub send_frame : (ready : Option Denied → Readiness Denied) (grants : List Grant) (n req : ℕ) (f : Frame) (m : SentMessage) → Carries n req f (SendFrame m)
+    → (ready None).received.sends ≡ n → m.offset ≡ length (begun_bytes (ready None).received.begun) → CompletesMessage (ready None).received m → (is_begun (ready None).received.begun || (ready None).has_receive) ≡ true → (ready None).missing ≡ None
+    → 16 ≤ length m.bytes → length m.bytes ≤ (ready None).message_max → frame_end ready grants f ≡ None
 unfolding frame_end
-send_frame ready grants n req f m p same b h l long short =
-    let segment : Segment = Untagged true OPCODE_SEND 0 QUEUE_SEND (msn_word ((ready None).received.sends + 1)) 0 m in
-    let is : frame_segment f ≡ Ok segment =
-    p.reads ∙ ap (λ (s : Segment). Ok s) (same_Some _ _ (sym p.is_segment)) ∙ ap (λ (k : ℕ). Ok (Untagged true OPCODE_SEND 0 QUEUE_SEND (msn_word (k + 1)) 0 m)) (sym same) in
+send_frame ready grants n req f m p same starts whole h l long short =
+    let segment : Segment = last_segment (ready None).received.sends m in
+    let is : frame_segment f ≡ Ok segment = p.reads ∙ ap (λ (s : Segment). Ok s) (same_Some _ _ (sym p.is_segment)) ∙ ap (λ (k : ℕ). Ok (last_segment k m)) (sym same) in
     ap (λ (r : Result Segment ℕ). frame_end_by ready grants f r) is
-    ∙ ap (λ (x : Option (SegmentReason Denied)). end_of_fault f segment x) (send_flaw (ready None) m b h l long short)
+    ∙ ap (λ (x : Option (SegmentReason Denied)). end_of_fault f segment x) (send_flaw (ready None) m starts whole h l long short)
+
+pub part_frame_end : (ready : Option Denied → Readiness Denied) (grants : List Grant) (n req : ℕ) (f : Frame) (offset : ℕ) (payload : List ℕ) → Carries n req f (PartFrame offset payload)
+    → (ready None).received.sends ≡ n → offset ≡ length (begun_bytes (ready None).received.begun) → (is_begun (ready None).received.begun || (ready None).has_receive) ≡ true → (ready None).missing ≡ None → frame_end ready grants f ≡ None
+unfolding frame_end
+part_frame_end ready grants n req f offset payload p same starts h l =
+    let segment : Segment = part_segment (ready None).received.sends offset payload in
+    let is : frame_segment f ≡ Ok segment = p.reads ∙ ap (λ (s : Segment). Ok s) (same_Some _ _ (sym p.is_segment)) ∙ ap (λ (k : ℕ). Ok (part_segment k offset payload)) (sym same) in
+    ap (λ (r : Result Segment ℕ). frame_end_by ready grants f r) is
+    ∙ ap (λ (x : Option (SegmentReason Denied)). end_of_fault f segment x) (part_flaw (ready None) offset payload starts h l)

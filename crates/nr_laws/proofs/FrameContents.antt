@@ -1,6 +1,6 @@
--- What each frame of a side carries, without the numbers of messages: a hello, a Send of one segment, a Read Request, or one segment
+-- What each frame of a side carries, without the numbers of messages: a hello, one segment of a Send, a Read Request, or one segment
 -- of an RDMA Write or of a Read Response. What a side sends for an event is a list of these.
-use Rattle.std.specs.Prelude.{◌≡◌, ℕ, ◌+◌, ◌*◌, Bool, true, false, ◌==◌, ◌&&◌, if◌then◌else◌, List, [], ◌∷◌, ◌++◌, length, take, drop, map, Option, None, Some, Ok, min}
+use Rattle.std.specs.Prelude.{◌≡◌, ℕ, ◌+◌, ◌-◌, ◌*◌, Bool, true, false, ◌==◌, ◌&&◌, if◌then◌else◌, List, [], ◌∷◌, ◌++◌, length, take, drop, map, Option, None, Some, Ok, min}
 use Rattle.std.specs.List.{range_with_len}
 use Rattle.nr_xdr.specs.Item.{word, hyper}
 use Rattle.nr_wire.specs.Constants.{OPCODE_WRITE, OPCODE_READ_REQUEST, OPCODE_READ_RESPONSE, OPCODE_SEND, QUEUE_SEND, QUEUE_READ_REQUEST}
@@ -13,10 +13,9 @@ use Rattle.nr_reduce.specs.declared.mark.LinkParameters.{LinkParameters}
 use Rattle.nr_link.specs.Limits.{segment_max}
 use Rattle.nr_link.specs.Output.{segment_count, segment_payload, msn_word, own_hello}
 use Rattle.nr_link.specs.Frames.{Frame, is_hello}
-use Rattle.nr_link.specs.ReceiveState.{ReadRequest}
+use Rattle.nr_link.specs.ReceiveState.{ReceiveState, ReadRequest, begun_bytes}
 use Rattle.nr_link.specs.Ending.{frame_segment}
 use Rattle.nr_reduce.specs.Holds.{Answer, answer_message, chunk_error, first_chunk, no_segments}
-use Rattle.nr_reduce.specs.Plans.{call_message}
 use Rattle.nr_reduce.specs.Events.{RunEvent}
 use Rattle.nr_reduce.specs.Events.RunEvent.{FrameReceived, CallSubmitted, MemoryRevoked, CallExecuted, QueueWritten}
 use Rattle.nr_reduce.specs.ClientState.{ClientState, OutstandingCall, client_memory_at}
@@ -25,10 +24,19 @@ use Rattle.nr_reduce.specs.ServerState.{ServerState, PendingRead, credit_word}
 use Rattle.nr_reduce.specs.ServerFrames.{FrameEffect, frame_effect}
 use Rattle.nr_reduce.specs.Server.{newly_open_reads, offer_of, answer_of_target}
 use Rattle.nr_rpc.specs.Reading.{call_of, target_of}
+use Rattle.nr_laws.proofs.Outputs.{message_of_call}
 
+-- a message and its last segment: the offset of its payload in the message, and the payload
+pub record SentMessage : Type 0 where
+  pub bytes : List ℕ
+  pub offset : ℕ
+  pub payload : List ℕ
+
+-- The last segment of a Send is SendFrame, with the message that it completes; any other segment of a Send is PartFrame.
 pub data FrameContent : Type 0 where
   HelloFrame : FrameContent
-  SendFrame : (message : List ℕ) → FrameContent
+  PartFrame : (offset : ℕ) → (payload : List ℕ) → FrameContent
+  SendFrame : (message : SentMessage) → FrameContent
   RequestFrame : (sink at size stag to : ℕ) → FrameContent
   TaggedFrame : (last : Bool) → (opcode stag to : ℕ) → (payload : List ℕ) → FrameContent
 
@@ -36,12 +44,14 @@ pub data FrameContent : Type 0 where
 
 abbrev pub sends_in : FrameContent → ℕ
 sends_in HelloFrame = 0
+sends_in (PartFrame offset payload) = 0
 sends_in (SendFrame message) = 1
 sends_in (RequestFrame sink at size stag to) = 0
 sends_in (TaggedFrame last opcode stag to payload) = 0
 
 abbrev pub requests_in : FrameContent → ℕ
 requests_in HelloFrame = 0
+requests_in (PartFrame offset payload) = 0
 requests_in (SendFrame message) = 0
 requests_in (RequestFrame sink at size stag to) = 1
 requests_in (TaggedFrame last opcode stag to payload) = 0
@@ -53,12 +63,14 @@ one_if_response false = 0
 -- the last segment of a Read Response
 abbrev pub responses_in : FrameContent → ℕ
 responses_in HelloFrame = 0
+responses_in (PartFrame offset payload) = 0
 responses_in (SendFrame message) = 0
 responses_in (RequestFrame sink at size stag to) = 0
 responses_in (TaggedFrame last opcode stag to payload) = one_if_response (opcode == OPCODE_READ_RESPONSE && last)
 
 abbrev pub hellos_in : FrameContent → ℕ
 hellos_in HelloFrame = 1
+hellos_in (PartFrame offset payload) = 0
 hellos_in (SendFrame message) = 0
 hellos_in (RequestFrame sink at size stag to) = 0
 hellos_in (TaggedFrame last opcode stag to payload) = 0
@@ -69,9 +81,20 @@ total_of one (p ∷ ps) = one p + total_of one ps
 
 -- ---- As segments, behind so many Sends and Read Requests of the side: their message numbers go on (RFC 5041 section 4.3)
 
+abbrev pub part_segment : (sends offset : ℕ) → List ℕ → Segment
+part_segment n offset payload = Untagged false OPCODE_SEND 0 QUEUE_SEND (msn_word (n + 1)) offset payload
+
+abbrev pub last_segment : (sends : ℕ) → SentMessage → Segment
+last_segment n message = Untagged true OPCODE_SEND 0 QUEUE_SEND (msn_word (n + 1)) message.offset message.payload
+
+-- with the bytes of its Send that are begun, the last segment completes its message
+abbrev pub CompletesMessage : ReceiveState → SentMessage → Type 0
+CompletesMessage h message = begun_bytes h.begun ++ message.payload ≡ message.bytes
+
 abbrev pub numbered_segment : (sends requests : ℕ) → FrameContent → Option Segment
 numbered_segment n r HelloFrame = None
-numbered_segment n r (SendFrame message) = Some (Untagged true OPCODE_SEND 0 QUEUE_SEND (msn_word (n + 1)) 0 message)
+numbered_segment n r (PartFrame offset payload) = Some (part_segment n offset payload)
+numbered_segment n r (SendFrame message) = Some (last_segment n message)
 numbered_segment n r (RequestFrame sink at size stag to) =
     Some (Untagged true OPCODE_READ_REQUEST 0 QUEUE_READ_REQUEST (msn_word (r + 1)) 0
     (word sink ++ (hyper at ++ (word size ++ (word stag ++ hyper to)))))
@@ -101,16 +124,34 @@ tagged_frame opcode stag to bytes i = TaggedFrame (i + 1 == segment_count bytes)
 unfoldable pub tagged_frames : (opcode stag to : ℕ) → List ℕ → List FrameContent
 tagged_frames opcode stag to bytes = map (tagged_frame opcode stag to bytes) (range_with_len 0 (segment_count bytes))
 
-abbrev pub call_frame : LinkParameters → OutstandingCall → FrameContent
-call_frame opened o = SendFrame (call_message o.xid opened.wished o.stag o.plan)
+-- A message as its segments: how many are before the last one, these, and the last one.
+abbrev pub last_index : List ℕ → ℕ
+last_index message = segment_count message - 1
+
+abbrev pub part_frame : List ℕ → ℕ → FrameContent
+part_frame message i = PartFrame (segment_max * i) (segment_payload message i)
+
+abbrev pub last_part : List ℕ → SentMessage
+last_part message = record { bytes = message; offset = segment_max * last_index message; payload = segment_payload message (last_index message) }
+
+unfoldable pub send_frames : List ℕ → List FrameContent
+send_frames message = map (part_frame message) (range_with_len 0 (last_index message)) ++ SendFrame (last_part message) ∷ []
+
+-- the segments of a message of each element
+abbrev pub sends_frames : {X : Type 0} → (X → List ℕ) → List X → List FrameContent
+sends_frames message [] = []
+sends_frames message (x ∷ xs) = send_frames (message x) ++ sends_frames message xs
+
+abbrev pub calls_frames : LinkParameters → List OutstandingCall → List FrameContent
+calls_frames opened os = sends_frames (message_of_call opened) os
 
 abbrev pub response_frames : ClientState → ℕ → Option ReadRequest → List FrameContent
 response_frames k place None = []
 response_frames k place (Some r) = tagged_frames OPCODE_READ_RESPONSE r.sink r.sink_to (take r.size (drop r.to (client_memory_at k place r.stag)))
 
 unfoldable pub client_frames : LinkParameters → ClientState → RunEvent → List FrameContent
-client_frames opened k (FrameReceived f) = if is_hello f then map (call_frame opened) k.outstanding else response_frames k f.end (segment_request (frame_segment f))
-client_frames opened k (CallSubmitted place a) = if k.has_hello then call_frame opened (outstanding_of k a) ∷ [] else []
+client_frames opened k (FrameReceived f) = if is_hello f then calls_frames opened k.outstanding else response_frames k f.end (segment_request (frame_segment f))
+client_frames opened k (CallSubmitted place a) = if k.has_hello then send_frames (message_of_call opened (outstanding_of k a)) else []
 client_frames opened k (MemoryRevoked place xid) = []
 client_frames opened k (CallExecuted call) = []
 client_frames opened k (QueueWritten taken) = []
@@ -118,8 +159,11 @@ client_frames opened k (QueueWritten taken) = []
 abbrev pub request_frame : PendingRead → FrameContent
 request_frame r = RequestFrame r.sink r.at r.size r.stag r.to
 
+abbrev pub errors_frames : List (List ℕ) → List FrameContent
+errors_frames messages = sends_frames (λ (message : List ℕ). message) messages
+
 abbrev pub effect_frames : FrameEffect → List FrameContent
-effect_frames s = map SendFrame s.errors ++ map request_frame (newly_open_reads s)
+effect_frames s = errors_frames s.errors ++ map request_frame (newly_open_reads s)
 
 abbrev pub write_frames : List Part → List ℕ → List FrameContent
 write_frames [] bytes = []
@@ -127,10 +171,10 @@ write_frames (s ∷ chunk) bytes =
     (if min s.length (length bytes) == 0 then [] else tagged_frames OPCODE_WRITE s.handle s.offset (take s.length bytes)) ++ write_frames chunk (drop s.length bytes)
 
 abbrev pub answer_frames : ServerState → ℕ → ChunkLists → Option Answer → List FrameContent
-answer_frames k xid offer None = SendFrame (chunk_error xid (credit_word k)) ∷ []
+answer_frames k xid offer None = send_frames (chunk_error xid (credit_word k))
 answer_frames k xid offer (Some a) =
     write_frames (first_chunk offer.write) a.moved ++ ((if a.long then write_frames (no_segments offer.reply) a.stream else [])
-    ++ (SendFrame (answer_message xid (credit_word k) offer a) ∷ []))
+    ++ send_frames (answer_message xid (credit_word k) offer a))
 
 unfoldable pub server_frames : LinkParameters → ServerState → RunEvent → List FrameContent
 server_frames opened k (FrameReceived f) = if is_hello f then HelloFrame ∷ [] else effect_frames (frame_effect k f)

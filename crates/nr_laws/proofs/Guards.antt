@@ -12,17 +12,17 @@ use Rattle.nr_link.specs.Output.{segment_count}
 use Rattle.nr_reduce.proofs.OwnLimits.{ServerLimits}
 use Rattle.nr_reduce.specs.declared.mark.LinkParameters.{LinkParameters}
 use Rattle.nr_reduce.specs.Limits.{send_max}
-use Rattle.nr_reduce.specs.Holds.{Answer, answer_message, first_chunk, no_segments}
+use Rattle.nr_reduce.specs.Holds.{Answer, answer_message, first_chunk, no_segments, chunk_error}
 use Rattle.nr_reduce.specs.History.{ExecutedCall}
 use Rattle.nr_reduce.specs.Events.{RunEvent}
 use Rattle.nr_reduce.specs.EndRules.{live, end_state_after}
 use Rattle.nr_reduce.specs.ClientState.{ClientState, OutstandingCall}
 use Rattle.nr_reduce.specs.Client.{client_rules, initial_client}
-use Rattle.nr_reduce.specs.ServerState.{ServerState, PendingRead}
+use Rattle.nr_reduce.specs.ServerState.{ServerState, PendingRead, credit_word}
 use Rattle.nr_reduce.specs.ServerFrames.{FrameEffect}
 use Rattle.nr_reduce.specs.Server.{newly_open_reads, offer_of, answer_of_target}
-use Rattle.nr_laws.proofs.FrameContents.{FrameContent, request_frame, effect_frames, write_frames, answer_frames, tagged_frames, call_frame}
-use Rattle.nr_laws.proofs.FrameContents.FrameContent.{HelloFrame, SendFrame, RequestFrame, TaggedFrame}
+use Rattle.nr_laws.proofs.FrameContents.{FrameContent, request_frame, effect_frames, write_frames, answer_frames, tagged_frames, send_frames, errors_frames}
+use Rattle.nr_laws.proofs.FrameContents.FrameContent.{HelloFrame, PartFrame, SendFrame, RequestFrame, TaggedFrame}
 use Rattle.nr_laws.proofs.LinkInvariants.{Transit, WithinWindow}
 use Rattle.nr_laws.proofs.ServerInvariant.{ServerAgrees}
 use Rattle.nr_laws.proofs.Replies.{IsReply, AreReplies, answer_reply, chunk_error_reply}
@@ -33,24 +33,31 @@ use Rattle.nr_laws.proofs.WritableOffers.{OfferFits}
 use Rattle.nr_laws.proofs.ServerOutputs.{CallsFit, for_target, found_fits}
 use Rattle.nr_laws.proofs.ServerOutput.{execution_frames}
 use Rattle.nr_laws.proofs.Basics.{each_append}
+use Rattle.nr_laws.proofs.Outputs.{message_of_call}
+use Rattle.nr_laws.proofs.SendFrames.{each_send}
 
 -- a message of a client has the size of one, version 1, a kind that a client sends, and at most one read chunk
+abbrev pub ClientMessage : List ℕ → Type 0
+ClientMessage message = (16 ≤ length message) × (length message ≤ send_max) × (word_at 4 message ≡ 1) × (word_at 12 message ≤ 1) × OneChunk message
+
 abbrev pub ClientContent : FrameContent → Type 0
 ClientContent HelloFrame = Unit {0}
-ClientContent (SendFrame message) = (16 ≤ length message) × (length message ≤ send_max) × (word_at 4 message ≡ 1) × (word_at 12 message ≤ 1) × OneChunk message
+ClientContent (PartFrame offset payload) = Unit {0}
+ClientContent (SendFrame message) = ClientMessage message.bytes
 ClientContent (RequestFrame sink at size stag to) = Unit {0}
 ClientContent (TaggedFrame last opcode stag to payload) = Unit {0}
 
 -- a message of a server too, and it grants what the server grants; its tagged segments are of Writes
 abbrev pub ServerContent : ℕ → FrameContent → Type 0
 ServerContent credit HelloFrame = Unit {0}
-ServerContent credit (SendFrame message) = IsReply credit message
+ServerContent credit (PartFrame offset payload) = Unit {0}
+ServerContent credit (SendFrame message) = IsReply credit message.bytes
 ServerContent credit (RequestFrame sink at size stag to) = Unit {0}
 ServerContent credit (TaggedFrame last opcode stag to payload) = opcode ≡ OPCODE_WRITE
 
 -- the messages of calls are so, and begin with their xids
 abbrev pub IsAsked : LinkParameters → OutstandingCall → Type 0
-IsAsked opened o = ClientContent (call_frame opened o) × HasOwnXid opened o
+IsAsked opened o = ClientMessage (message_of_call opened o) × HasOwnXid opened o
 
 abbrev pub AreSized : LinkParameters → List OutstandingCall → Type 0
 AreSized opened os = AllByRecursion (IsAsked opened) os
@@ -72,16 +79,19 @@ pub record Guards (opened : LinkParameters) (k : ClientState) (s : ServerState) 
 
 -- ---- What is sent
 
-sends_down_lem : (credit : ℕ) (messages : List (List ℕ)) → AreReplies credit messages → AllByRecursion (ServerContent credit) (map SendFrame messages)
+pub send_down : (credit : ℕ) (message : List ℕ) → IsReply credit message → AllByRecursion (ServerContent credit) (send_frames message)
+send_down credit message h = each_send (ServerContent credit) (λ offset payload. tt) message h
+
+sends_down_lem : (credit : ℕ) (messages : List (List ℕ)) → AreReplies credit messages → AllByRecursion (ServerContent credit) (errors_frames messages)
 sends_down_lem credit [] h = tt
-sends_down_lem credit (m ∷ messages) h = (h.0, sends_down_lem credit messages h.1)
+sends_down_lem credit (m ∷ messages) h = each_append (ServerContent credit) (send_frames m) (errors_frames messages) (send_down credit m h.0) (sends_down_lem credit messages h.1)
 
 reads_down : (credit : ℕ) (reads : List PendingRead) → AllByRecursion (ServerContent credit) (map request_frame reads)
 reads_down credit [] = tt
 reads_down credit (r ∷ reads) = (tt, reads_down credit reads)
 
 pub step_down : (credit : ℕ) (s : FrameEffect) → AreReplies credit s.errors → AllByRecursion (ServerContent credit) (effect_frames s)
-step_down credit s h = each_append (ServerContent credit) (map SendFrame s.errors) (map request_frame (newly_open_reads s)) (sends_down_lem credit s.errors h) (reads_down credit (newly_open_reads s))
+step_down credit s h = each_append (ServerContent credit) (errors_frames s.errors) (map request_frame (newly_open_reads s)) (sends_down_lem credit s.errors h) (reads_down credit (newly_open_reads s))
 
 cuts_down : (credit stag : ℕ) (last : ℕ → Bool) (at : ℕ → ℕ) (payload : ℕ → List ℕ) (is : List ℕ) → AllByRecursion (ServerContent credit) (map (λ i. TaggedFrame (last i) OPCODE_WRITE stag (at i) (payload i)) is)
 cuts_down credit stag last at payload [] = tt
@@ -99,14 +109,14 @@ fills_down credit (p ∷ chunk) bytes =
     by false = cuts_down credit p.handle _ _ _ (range_with_len 0 (segment_count (take p.length bytes)))
 
 answer_down : (k : ServerState) → ServerLimits k → (xid : ℕ) (offer : ChunkLists) (reply : List ℕ) (t : Option CallTarget) (o : Option Answer) → xid < 2 ^ 32 → k.credit < 2 ^ 32 → answer_of_target offer k.down_max reply t ≡ o → OfferFits offer → AllByRecursion (ServerContent k.credit) (answer_frames k xid offer o)
-answer_down k l xid offer reply t None word lt e fits = (chunk_error_reply xid k.credit word lt, tt)
+answer_down k l xid offer reply t None word lt e fits = send_down k.credit (chunk_error xid (credit_word k)) (chunk_error_reply xid k.credit word lt)
 answer_down k l xid offer reply t (Some a) word lt e fits =
     let down = l.down in
     let target = for_target offer k.down_max reply t a e in
     let one = answer_reply offer k.down_max target.0 target.1 target.2 xid k.credit reply a (omega (arith, down)) word lt fits target.3 in
-    each_append (ServerContent k.credit) (write_frames (first_chunk offer.write) a.moved) (cond a.long (write_frames (no_segments offer.reply) a.stream) [] ++ (SendFrame (answer_message xid k.credit offer a) ∷ []))
+    each_append (ServerContent k.credit) (write_frames (first_chunk offer.write) a.moved) (cond a.long (write_frames (no_segments offer.reply) a.stream) [] ++ send_frames (answer_message xid k.credit offer a))
     (fills_down k.credit (first_chunk offer.write) a.moved)
-    (each_append (ServerContent k.credit) (cond a.long (write_frames (no_segments offer.reply) a.stream) []) (SendFrame (answer_message xid k.credit offer a) ∷ []) (by a.long) (one, tt))
+    (each_append (ServerContent k.credit) (cond a.long (write_frames (no_segments offer.reply) a.stream) []) (send_frames (answer_message xid k.credit offer a)) (by a.long) (send_down k.credit (answer_message xid k.credit offer a) one))
   where
     by : (b : Bool) → AllByRecursion (ServerContent k.credit) (cond b (write_frames (no_segments offer.reply) a.stream) [])
     by true = fills_down k.credit (no_segments offer.reply) a.stream

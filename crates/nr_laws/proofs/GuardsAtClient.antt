@@ -4,7 +4,7 @@ use Rattle.std.specs.List.{AllByRecursion, range_with_len}
 use Rattle.std.proofs.lemmas.Bool.{ne_eqb, le-ltb}
 use Rattle.nr_xdr.specs.Fields.{word_at}
 use Rattle.nr_header.specs.Constants.{PAYLOAD_MAX}
-use Rattle.nr_wire.specs.Constants.{OPCODE_READ_REQUEST, OPCODE_READ_RESPONSE, OPCODE_SEND, QUEUE_SEND, QUEUE_READ_REQUEST}
+use Rattle.nr_wire.specs.Constants.{OPCODE_READ_REQUEST, OPCODE_READ_RESPONSE, QUEUE_READ_REQUEST}
 use Rattle.nr_wire.specs.Segment.{Segment}
 use Rattle.nr_wire.specs.Segment.Segment.{Tagged, Untagged}
 use Rattle.nr_regions.specs.Access.{HaveOwnStags}
@@ -26,12 +26,12 @@ use Rattle.nr_reduce.specs.ServerState.{ServerState, PendingRead}
 use Rattle.nr_reduce.specs.ServerReads.{open_reads}
 use Rattle.nr_reduce.proofs.Steps.{end_state_after_append}
 use Rattle.nr_reduce.proofs.OwnStags.{AreNumbered, own_stags, client_numbers}
-use Rattle.nr_laws.proofs.FrameContents.{FrameContent, total_of, sends_in, hellos_in, request_frame, call_frame, client_frames, tagged_frames, tagged_frame, response_frames, Carries}
-use Rattle.nr_laws.proofs.FrameContents.FrameContent.{HelloFrame, SendFrame, RequestFrame, TaggedFrame}
+use Rattle.nr_laws.proofs.FrameContents.{FrameContent, total_of, sends_in, hellos_in, request_frame, client_frames, tagged_frames, tagged_frame, response_frames, Carries, SentMessage, last_segment, part_segment, calls_frames}
+use Rattle.nr_laws.proofs.FrameContents.FrameContent.{HelloFrame, PartFrame, SendFrame, RequestFrame, TaggedFrame}
 use Rattle.nr_laws.proofs.LinkInvariants.{Transit, TotalsAgree, hello_bit, ReadsAgree, WithinWindow, HasSink, HaveSinks, AreAtMost, requests_of}
 use Rattle.nr_laws.proofs.Totals.{others}
 use Rattle.nr_laws.proofs.TotalsAtServer.{segment_is}
-use Rattle.nr_laws.proofs.TotalsAtClient.{down_one, after_is_lem, says_is, request_payload, totals_hello_down, totals_send_down, totals_read_down, totals_tagged_down, bit_of}
+use Rattle.nr_laws.proofs.TotalsAtClient.{down_one, after_is_lem, says_is, request_payload, totals_hello_down, totals_send_down, totals_read_down, totals_tagged_down, bit_of, totals_part_down}
 use Rattle.nr_laws.proofs.ReadsAtClient.{AnswersNone, reads_read_down, reads_says_up}
 use Rattle.nr_laws.proofs.ServerInvariant.{ServerAgrees}
 use Rattle.nr_laws.proofs.Replies.{IsReply}
@@ -43,10 +43,13 @@ use Rattle.nr_laws.proofs.ClientFrame.{says_hello, after_hello}
 use Rattle.nr_laws.proofs.CallNumbers.{XidsFrom, HasOwnXid, xids_append, xids_asked}
 use Rattle.nr_laws.proofs.ClientFrame.{calls_said}
 use Rattle.nr_laws.proofs.AnsweredSteps.{Answered, answered_message_lem, answered_same}
-use Rattle.nr_laws.proofs.Guards.{ClientContent, ServerContent, IsAsked, AreSized, Guards}
+use Rattle.nr_laws.proofs.Guards.{ClientContent, ServerContent, IsAsked, AreSized, Guards, ClientMessage}
 use Rattle.nr_laws.proofs.GuardsAtServer.{each_at}
-use Rattle.nr_laws.proofs.Basics.{each_append, each_right, each_take, each_kept}
+use Rattle.nr_laws.proofs.Basics.{each_append, each_right, each_take, each_kept, each_all}
 use Rattle.nr_laws.proofs.Sinks.{sinks_taken}
+use Rattle.nr_laws.proofs.SendFrames.{at_front, each_sends}
+use Rattle.nr_laws.proofs.Outputs.{message_of_call}
+use Rattle.nr_laws.proofs.ExpectedResponses.{sends_answers}
 
 pub front_down : (opened : LinkParameters) (k : ClientState) (s : ServerState) (u d all_up all_down : List FrameContent) (w : Transit) (place : ℕ) (p : FrameContent) (rest : List FrameContent) → EndsAgree opened k s u d all_up all_down w → Guards opened k s u d all_up all_down w place → w.down ≡ p ∷ rest → ServerContent opened.granted p
 front_down opened k s u d all_up all_down w place p rest l g first =
@@ -161,20 +164,18 @@ credits_same n some most =
     let same : credits_of_word n ≡ n = (λ i. cond (ne_eqb n 0 (λ e. omega (arith, e, some)) i) 1 (cond (le-ltb most_credits n most i) most_credits n)) in
     omega (arith, same)
 
-asks_up : (opened : LinkParameters) (os : List OutstandingCall) → AreSized opened os → AllByRecursion ClientContent (map (call_frame opened) os)
-asks_up opened [] h = tt
-asks_up opened (o ∷ os) h = (h.0.0, asks_up opened os h.1)
+asks_up : (opened : LinkParameters) (os : List OutstandingCall) → AreSized opened os → AllByRecursion ClientContent (calls_frames opened os)
+asks_up opened os h = each_sends ClientContent (λ offset payload. tt) (message_of_call opened) os (each_all (IsAsked opened) (λ o. ClientMessage (message_of_call opened o)) os (λ o asked. asked.0) h)
 
-none_asks : (opened : LinkParameters) (os : List OutstandingCall) → AnswersNone (map (call_frame opened) os)
-none_asks opened [] = (refl, refl)
-none_asks opened (o ∷ os) = none_asks opened os
+none_asks : (opened : LinkParameters) (os : List OutstandingCall) → AnswersNone (calls_frames opened os)
+none_asks opened os = sends_answers (message_of_call opened) os
 
 pub guards_hello_down : (opened : LinkParameters) (k : ClientState) (s : ServerState) (u d all_up all_down : List FrameContent) (w : Transit) (place : ℕ) (rest : List FrameContent) (f : Frame) → EndsAgree opened k s u d all_up all_down w → Guards opened k s u d all_up all_down w place → w.down ≡ HelloFrame ∷ rest → is_hello f ≡ true
     → client_end k (FrameReceived f) ≡ None
     → Guards opened (client_state_after opened k (FrameReceived f)) s u (d ++ HelloFrame ∷ []) (all_up ++ client_frames opened k (FrameReceived f)) all_down (down_one w (client_frames opened k (FrameReceived f)) rest) place
 guards_hello_down opened k s u d all_up all_down w place rest f l g first is stays =
     let t = client_state_after opened k (FrameReceived f) in
-    let said = map (call_frame opened) k.outstanding in
+    let said = calls_frames opened k.outstanding in
     let says = says_hello opened k f is in
     let after = after_hello opened k f is in
     let none : hello_bit k.has_hello ≡ 0 = omega (arith, l.counts.hello, ap (total_of hellos_in) first) in
@@ -195,18 +196,18 @@ guards_hello_down opened k s u d all_up all_down w place rest f l g first is sta
     (guards_down opened k t s u d all_up all_down w place HelloFrame rest said (FrameReceived f) g server (subst (WithinWindow opened) (sym after) (record { window = g.window.window; grant = g.window.grant })) (asks_up opened k.outstanding g.calls) (subst (λ (x : ClientState). AreSized opened x.outstanding) (sym after) g.calls) asked (ap (λ (x : ClientState). x.has_hello) after)
     (answered_same opened.first_xid k t s u d all_down w (down_one w said rest) HelloFrame (ap (λ (x : ClientState). x.outstanding) after) (ap (λ (x : ClientState). x.calls_accepted) after) refl g.answered) stays refl)
 
-pub guards_send_down : (opened : LinkParameters) (k : ClientState) (s : ServerState) (u d all_up all_down : List FrameContent) (w : Transit) (place : ℕ) (message : List ℕ) (rest : List FrameContent) (f : Frame) → IsOpened opened → EndsAgree opened k s u d all_up all_down w → Guards opened k s u d all_up all_down w place → w.down ≡ SendFrame message ∷ rest
+pub guards_send_down : (opened : LinkParameters) (k : ClientState) (s : ServerState) (u d all_up all_down : List FrameContent) (w : Transit) (place : ℕ) (message : SentMessage) (rest : List FrameContent) (f : Frame) → IsOpened opened → EndsAgree opened k s u d all_up all_down w → Guards opened k s u d all_up all_down w place → w.down ≡ SendFrame message ∷ rest
     → Carries k.received.sends k.received.requests f (SendFrame message) → k.has_hello ≡ true → client_end k (FrameReceived f) ≡ None
     → Guards opened (client_state_after opened k (FrameReceived f)) s u (d ++ SendFrame message ∷ []) (all_up ++ client_frames opened k (FrameReceived f)) all_down (down_one w (client_frames opened k (FrameReceived f)) rest) place
 guards_send_down opened k s u d all_up all_down w place message rest f o l g first piece hello stays =
-    let segment : Segment = Untagged true OPCODE_SEND 0 QUEUE_SEND (msn_word (k.received.sends + 1)) 0 message in
+    let segment : Segment = last_segment k.received.sends message in
     let reads : frame_segment f ≡ Ok segment = segment_is k.received.sends k.received.requests f (SendFrame message) segment piece refl in
     let t = client_state_after opened k (FrameReceived f) in
     let says : client_frames opened k (FrameReceived f) ≡ [] = says_is opened k f (Ok segment) piece.behind reads in
     let after : t ≡ with_segment k f (Ok segment) = after_is_lem opened k f (Ok segment) piece.behind reads in
-    let whole : List ℕ = begun_bytes k.received.begun ++ message in
-    let same : whole ≡ message = ap (λ (b : Option (List ℕ)). begun_bytes b ++ message) l.counts.whole_down in
-    let reply : IsReply opened.granted message = front_down opened k s u d all_up all_down w place (SendFrame message) rest l g first in
+    let whole : List ℕ = begun_bytes k.received.begun ++ message.payload in
+    let same : whole ≡ message.bytes = (at_front k.received.begun w.down w.queued_down (SendFrame message) rest first l.counts.whole_down).1 in
+    let reply : IsReply opened.granted message.bytes = front_down opened k s u d all_up all_down w place (SendFrame message) rest l g first in
     let fewer : length (filter (λ (x : OutstandingCall). not (eqb x.xid (word_at 0 whole))) k.outstanding) ≤ length k.outstanding = filter-less (λ (x : OutstandingCall). not (eqb x.xid (word_at 0 whole))) k.outstanding in
     let grant : credits_of_word (word_at 8 whole) ≡ credits_of_word opened.granted = ap credits_of_word (ap (λ (xs : List ℕ). word_at 8 xs) same ∙ reply.credits) in
     let window : WithinWindow opened (with_segment k f (Ok segment)) = record {
@@ -290,6 +291,28 @@ guards_read_down opened k s u d all_up all_down w place sink at size stag to res
     ap-regions : (opened : LinkParameters) (k : ClientState) (es : List RunEvent) → end_state_after (client_rules opened) (initial_client opened) es ≡ live k
         → AreNumbered opened.first_stag (end_state_after (client_rules opened) (initial_client opened) es).state.regions → AreNumbered opened.first_stag k.regions
     ap-regions opened k es is h = subst (λ (r : EndState ClientState). AreNumbered opened.first_stag r.state.regions) is h
+
+-- a segment of a Send that isn't its last
+pub guards_part_down : (opened : LinkParameters) (k : ClientState) (s : ServerState) (u d all_up all_down : List FrameContent) (w : Transit) (place : ℕ) (offset : ℕ) (payload : List ℕ) (rest : List FrameContent) (f : Frame) → Guards opened k s u d all_up all_down w place
+    → w.down ≡ PartFrame offset payload ∷ rest → Carries k.received.sends k.received.requests f (PartFrame offset payload) → k.has_hello ≡ true → client_end k (FrameReceived f) ≡ None
+    → Guards opened (client_state_after opened k (FrameReceived f)) s u (d ++ PartFrame offset payload ∷ []) (all_up ++ client_frames opened k (FrameReceived f)) all_down (down_one w (client_frames opened k (FrameReceived f)) rest) place
+guards_part_down opened k s u d all_up all_down w place offset payload rest f g first piece hello stays =
+    let segment : Segment = part_segment k.received.sends offset payload in
+    let reads : frame_segment f ≡ Ok segment = segment_is k.received.sends k.received.requests f (PartFrame offset payload) segment piece refl in
+    let t = client_state_after opened k (FrameReceived f) in
+    let says : client_frames opened k (FrameReceived f) ≡ [] = says_is opened k f (Ok segment) piece.behind reads in
+    let after : t ≡ with_segment k f (Ok segment) = after_is_lem opened k f (Ok segment) piece.behind reads in
+    let server : ServerAgrees opened t s (down_one w [] rest) place = record {
+      counts = subst (λ (ps : List FrameContent). TotalsAgree t s (down_one w ps rest)) says (totals_part_down opened k s w f offset payload rest g.server.counts first piece);
+      reads = reads_says_up s w [] rest g.server.reads (refl, refl) (ap requests_of first);
+      waits = g.server.waits;
+      sinks = g.server.sinks;
+      regions = g.server.regions;
+      limits = g.server.limits;
+    } in
+    subst (λ (ps : List FrameContent). Guards opened t s u (d ++ PartFrame offset payload ∷ []) (all_up ++ ps) all_down (down_one w ps rest) place) (sym says)
+    (guards_down opened k t s u d all_up all_down w place (PartFrame offset payload) rest [] (FrameReceived f) g server (subst (WithinWindow opened) (sym after) (record { window = g.window.window; grant = g.window.grant })) tt (sized_frame opened k t f (Ok segment) after g.calls) tt (behind_hello_lem opened k t s u d all_up all_down w f (Ok segment) after hello)
+    (answered_same opened.first_xid k t s u d all_down w (down_one w [] rest) (PartFrame offset payload) (ap (λ (x : ClientState). x.outstanding) after) (ap (λ (x : ClientState). x.calls_accepted) after) refl g.answered) stays refl)
 
 pub guards_tagged_down : (opened : LinkParameters) (k : ClientState) (s : ServerState) (u d all_up all_down : List FrameContent) (w : Transit) (place : ℕ) (last : Bool) (opcode stag to : ℕ) (payload : List ℕ) (rest : List FrameContent) (f : Frame) → Guards opened k s u d all_up all_down w place
     → w.down ≡ TaggedFrame last opcode stag to payload ∷ rest → Carries k.received.sends k.received.requests f (TaggedFrame last opcode stag to payload) → k.has_hello ≡ true → client_end k (FrameReceived f) ≡ None

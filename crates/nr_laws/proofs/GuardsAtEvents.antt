@@ -21,8 +21,7 @@ use Rattle.nr_reduce.specs.Client.{client_rules, client_end, client_state_after,
 use Rattle.nr_reduce.specs.Server.{server_state_after}
 use Rattle.nr_reduce.proofs.Steps.{end_state_after_append}
 use Rattle.nr_reduce.proofs.Sizes.{message_size}
-use Rattle.nr_laws.proofs.FrameContents.{FrameContent, call_frame, client_frames, server_frames}
-use Rattle.nr_laws.proofs.FrameContents.FrameContent.{SendFrame}
+use Rattle.nr_laws.proofs.FrameContents.{FrameContent, client_frames, server_frames, send_frames}
 use Rattle.nr_laws.proofs.LinkInvariants.{Transit}
 use Rattle.nr_laws.proofs.TotalsAtClient.{up_more, totals_accepts, totals_writes_up}
 use Rattle.nr_laws.proofs.ReadsAtClient.{AnswersNone, reads_says_up, reads_writes_up}
@@ -33,16 +32,19 @@ use Rattle.nr_laws.proofs.AgreeingEnds.{EndsAgree}
 use Rattle.nr_reduce.specs.SubmitAnswer.{next_xid}
 use Rattle.nr_laws.proofs.FrameContents.{total_of, sends_in}
 use Rattle.nr_laws.proofs.CallWords.{call_words_lem}
-use Rattle.nr_laws.proofs.CallNumbers.{XidsFrom, xids_append, own_xids_push, own_xids_map, IsNumbered}
+use Rattle.nr_laws.proofs.CallNumbers.{XidsFrom, xids_append, own_xids_push, own_xids_map, IsNumbered, send_xids_from}
 use Rattle.nr_laws.proofs.ClientFrame.{calls_said}
 use Rattle.nr_reduce.specs.Server.{offer_of, answer_of_target}
 use Rattle.nr_laws.proofs.PendingExecuted.{executed_there}
 use Rattle.nr_laws.proofs.AnsweredCalls.{times, answer_xids, executed_less}
 use Rattle.nr_laws.proofs.AnsweredSteps.{Answered, answered_submit, answered_map, answered_server}
 use Rattle.nr_laws.proofs.GuardsAtServer.{pending_word}
-use Rattle.nr_laws.proofs.Guards.{ClientContent, ServerContent, IsAsked, AreSized, Guards, execution_down}
+use Rattle.nr_laws.proofs.Guards.{ClientContent, ServerContent, IsAsked, AreSized, Guards, execution_down, ClientMessage}
 use Rattle.nr_laws.proofs.Basics.{each_append, each_kept}
 use Rattle.nr_reduce.proofs.WholeWrotes.{ClientEnds, ServerEnds}
+use Rattle.nr_laws.proofs.SendFrames.{each_send}
+use Rattle.nr_laws.proofs.Outputs.{message_of_call}
+use Rattle.nr_laws.proofs.ExpectedResponses.{send_answers}
 
 -- an event of the client that is no frame
 reached_more : (opened : LinkParameters) (k : ClientState) (event : RunEvent) → client_end k event ≡ None → (es : List RunEvent) × (end_state_after (client_rules opened) (initial_client opened) es ≡ live k)
@@ -66,12 +68,12 @@ sized_call opened k a plan is lt limits =
     (sym (planned (call_payload a.xid a.call) (plan_for k a.xid a.call a.form) plan is)) (omega (arith, size.0), omega (arith, size.1, up)) in
     ((fits.0, fits.1, words.version, words.kind, one_chunk a.xid opened.wished k.stag (outstanding_of k a).plan), words.xid_is)
 
-none_says : (b : Bool) (message : List ℕ) → AnswersNone (cond b (SendFrame message ∷ []) [])
-none_says true message = (refl, refl)
+none_says : (b : Bool) (message : List ℕ) → AnswersNone (cond b (send_frames message) [])
+none_says true message = send_answers message
 none_says false message = (refl, refl)
 
-up_says : (b : Bool) (message : List ℕ) → ClientContent (SendFrame message) → AllByRecursion ClientContent (cond b (SendFrame message ∷ []) [])
-up_says true message h = (h, tt)
+up_says : (b : Bool) (message : List ℕ) → ClientMessage message → AllByRecursion ClientContent (cond b (send_frames message) [])
+up_says true message h = each_send ClientContent (λ offset payload. tt) message h
 up_says false message h = tt
 
 pub guards_submit : (opened : LinkParameters) (k : ClientState) (s : ServerState) (u d all_up all_down : List FrameContent) (w : Transit) (up place : ℕ) (a : AcceptedCall) (plan : Plan) → EndsAgree opened k s u d all_up all_down w → Guards opened k s u d all_up all_down w up → plan_for k a.xid a.call a.form ≡ Ok plan → a.xid ≡ next_xid opened k → a.xid < numbers_end → ClientLimits k → length k.outstanding < k.grant
@@ -111,12 +113,15 @@ guards_submit opened k s u d all_up all_down w up place a plan l g is own lt lim
         let none : total_of sends_in all_up ≡ 0 = calls_said opened k s u d all_up all_down w l ∙ ap (λ (b : Bool). cond b k.calls_accepted 0) e in
         omega (arith, none, l.counts.calls_up, calls_said opened k s u d all_up all_down w l, l.counts.waiting, l.counts.messages_down, l.counts.out)
 
-    new-xid : (b : Bool) → k.has_hello ≡ b → XidsFrom (opened.first_xid + total_of sends_in all_up) (cond k.has_hello (call_frame opened (outstanding_of k a) ∷ []) [])
+    message : List ℕ
+    message = message_of_call opened (outstanding_of k a)
+
+    new-xid : (b : Bool) → k.has_hello ≡ b → XidsFrom (opened.first_xid + total_of sends_in all_up) (cond k.has_hello (send_frames message) [])
     new-xid true e =
         let sends : total_of sends_in all_up ≡ k.calls_accepted = calls_said opened k s u d all_up all_down w l ∙ ap (λ (b : Bool). cond b k.calls_accepted 0) e in
-        subst (λ (b : Bool). XidsFrom (opened.first_xid + total_of sends_in all_up) (cond b (call_frame opened (outstanding_of k a) ∷ []) [])) (sym e)
-        ((sized_call opened k a plan is lt limits).1 ∙ omega (arith, own, sends), tt)
-    new-xid false e = subst (λ (b : Bool). XidsFrom (opened.first_xid + total_of sends_in all_up) (cond b (call_frame opened (outstanding_of k a) ∷ []) [])) (sym e) tt
+        subst (λ (b : Bool). XidsFrom (opened.first_xid + total_of sends_in all_up) (cond b (send_frames message) [])) (sym e)
+        (send_xids_from (opened.first_xid + total_of sends_in all_up) message ((sized_call opened k a plan is lt limits).1 ∙ omega (arith, own, sends)))
+    new-xid false e = subst (λ (b : Bool). XidsFrom (opened.first_xid + total_of sends_in all_up) (cond b (send_frames message) [])) (sym e) tt
 
 -- ---- Memory is revoked, and a queue is written
 

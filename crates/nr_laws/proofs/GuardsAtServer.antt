@@ -1,16 +1,14 @@
 -- A server of a matched link ends at a frame only by a refusal of the frame's effect; else the guards are kept.
 use Rattle.std.specs.Prelude.{length}
 use Rattle.nr_laws.proofs.SinkCount.{count_send, count_tagged}
-use Rattle.std.proofs.Common.{◌≡◌, ℕ, ◌+◌, ◌≤◌, ◌<◌, ◌^◌, Bool, true, List, [], ◌∷◌, ◌++◌, None, Result, Ok, refl, sym, ap, subst, ◌∙◌, arith, cond, eqb, ◌||◌, false, Some, ◌⊎◌, inl, inr}
+use Rattle.std.proofs.Common.{◌≡◌, ℕ, ◌+◌, ◌≤◌, ◌<◌, ◌^◌, Bool, true, List, [], ◌∷◌, ◌++◌, None, Result, Ok, refl, sym, ap, subst, ◌∙◌, arith, cond, eqb, ◌||◌, false, Some, ◌⊎◌, inl, inr, map}
 use Rattle.std.specs.List.{AllByRecursion}
 use Rattle.nr_xdr.specs.Item.{IsBytes}
 use Rattle.nr_xdr.specs.Fields.{word_at}
-use Rattle.nr_wire.specs.Constants.{OPCODE_SEND, QUEUE_SEND}
 use Rattle.nr_wire.specs.declared.hello.Side.TheVariants.{Initiator}
 use Rattle.nr_wire.specs.Segment.{Segment}
-use Rattle.nr_wire.specs.Segment.Segment.{Tagged, Untagged}
+use Rattle.nr_wire.specs.Segment.Segment.{Tagged}
 use Rattle.nr_link.specs.Frames.{Frame, is_hello}
-use Rattle.nr_link.specs.Output.{msn_word}
 use Rattle.nr_link.specs.Ending.{frame_segment}
 use Rattle.nr_reduce.specs.declared.mark.LinkParameters.{LinkParameters}
 use Rattle.nr_reduce.specs.Opening.{IsOpened}
@@ -20,15 +18,15 @@ use Rattle.nr_reduce.specs.ServerState.{ServerState}
 use Rattle.nr_reduce.specs.ServerReads.{is_over}
 use Rattle.nr_reduce.specs.ServerFrames.{FrameEffect, effect_in, frame_effect}
 use Rattle.nr_reduce.specs.Server.{server_end, server_state_after, refusal_end, with_own_hello}
-use Rattle.nr_laws.proofs.FrameContents.{FrameContent, numbered_segment, frame_bytes, effect_frames, server_frames, Carries}
-use Rattle.nr_laws.proofs.FrameContents.FrameContent.{HelloFrame, SendFrame, TaggedFrame}
+use Rattle.nr_laws.proofs.FrameContents.{FrameContent, numbered_segment, frame_bytes, effect_frames, server_frames, Carries, SentMessage, last_segment, part_segment}
+use Rattle.nr_laws.proofs.FrameContents.FrameContent.{HelloFrame, PartFrame, SendFrame, TaggedFrame}
 use Rattle.nr_laws.proofs.LinkInvariants.{Transit, TotalsAgree, ReadsAgree, AreResponses}
 use Rattle.nr_laws.proofs.TotalsAtServer.{totals_hello_up, after_is_lem, step_is, segment_is, with_by}
 use Rattle.nr_laws.proofs.ReadsAtClient.{reads_says_down}
-use Rattle.nr_laws.proofs.ServerInvariant.{ServerAgrees, server_takes_send, server_takes_response}
-use Rattle.nr_laws.proofs.Replies.{replies_send, replies_tagged}
+use Rattle.nr_laws.proofs.ServerInvariant.{ServerAgrees, server_takes_send, server_takes_response, server_takes_part}
+use Rattle.nr_laws.proofs.Replies.{replies_send, replies_tagged, AreReplies}
 use Rattle.nr_laws.proofs.ReadLimits.{AreWithin, within_send, within_tagged, within_closed}
-use Rattle.nr_laws.proofs.AgreeingEnds.{EndsAgree, taken_up, not_refused_lem, says_hello, says_frame, after_hello, waits_greeted, payload_bytes}
+use Rattle.nr_laws.proofs.AgreeingEnds.{EndsAgree, taken_up, not_refused_lem, says_hello, says_frame, after_hello, waits_greeted, payload_bytes, message_bytes}
 use Rattle.nr_laws.proofs.CallNumbers.{XidsFrom, IsNumbered, xids_at, numbered_send, numbered_tagged}
 use Rattle.nr_reduce.specs.Plans.{one_if}
 use Rattle.nr_reduce.specs.ServerState.{PendingCall}
@@ -38,13 +36,15 @@ use Rattle.nr_laws.proofs.LinkInvariants.{calls_sent}
 use Rattle.nr_laws.proofs.FrameContents.{total_of, sends_in}
 use Rattle.nr_laws.proofs.Totals.{total_append}
 use Rattle.nr_laws.proofs.ClientFrame.{calls_said}
-use Rattle.nr_laws.proofs.AnsweredCalls.{times, call_xids, effect_xids, pending_send, pending_tagged}
+use Rattle.nr_laws.proofs.AnsweredCalls.{times, call_xids, effect_xids, pending_send, pending_tagged, message_xids}
 use Rattle.nr_laws.proofs.AnsweredSteps.{Answered, answered_send, answered_other}
 use Rattle.nr_laws.proofs.Guards.{ClientContent, ServerContent, Guards, step_down}
 use Rattle.nr_laws.proofs.Basics.{each_append}
 use Rattle.nr_laws.proofs.Words.{word_below_lem}
 use Rattle.nr_laws.proofs.PendingFrames.{later_sinks}
 use Rattle.nr_reduce.proofs.OwnStags.{closed_length}
+use Rattle.nr_laws.proofs.SendFrames.{at_front}
+use Rattle.nr_laws.proofs.EachEffect.{part_effect}
 
 pub each_at : {X : Type 0} (P : X → Type 0) (xs : List X) (y : X) (ys : List X) → AllByRecursion P (xs ++ y ∷ ys) → P y
 each_at P [] y ys h = h.0
@@ -56,7 +56,7 @@ front_up opened k s u d all_up all_down w place p rest l g first =
     each_at ClientContent u p (rest ++ w.queued_up) (subst (AllByRecursion ClientContent) (sym l.parts_up ∙ ap (λ (ps : List FrameContent). u ++ (ps ++ w.queued_up)) first) g.up_said)
 
 -- and its xid, where it is a message
-pub front_xid : (opened : LinkParameters) (k : ClientState) (s : ServerState) (u d all_up all_down : List FrameContent) (w : Transit) (place : ℕ) (message : List ℕ) (rest : List FrameContent) → EndsAgree opened k s u d all_up all_down w → Guards opened k s u d all_up all_down w place → w.up ≡ SendFrame message ∷ rest → word_at 0 message ≡ opened.first_xid + s.received.sends
+pub front_xid : (opened : LinkParameters) (k : ClientState) (s : ServerState) (u d all_up all_down : List FrameContent) (w : Transit) (place : ℕ) (message : SentMessage) (rest : List FrameContent) → EndsAgree opened k s u d all_up all_down w → Guards opened k s u d all_up all_down w place → w.up ≡ SendFrame message ∷ rest → word_at 0 message.bytes ≡ opened.first_xid + s.received.sends
 front_xid opened k s u d all_up all_down w place message rest l g first =
     xids_at opened.first_xid u message (rest ++ w.queued_up) (subst (XidsFrom opened.first_xid) (sym l.parts_up ∙ ap (λ (ps : List FrameContent). u ++ (ps ++ w.queued_up)) first) g.xids)
     ∙ ap (λ (n : ℕ). opened.first_xid + n) (sym l.sends_up)
@@ -143,11 +143,13 @@ sinks_after s f r is n h =
     let e = subst (λ (x : FrameEffect). length x.regions ≤ n) (step_is s f r is) h in
     omega (arith, e, closed_length (is_over (effect_in s f r).calls (effect_in s f r).reads) f.end (effect_in s f r).regions)
 
-pub takes_send : (opened : LinkParameters) (k : ClientState) (s : ServerState) (u d all_up all_down : List FrameContent) (w : Transit) (place : ℕ) (message : List ℕ) (rest : List FrameContent) (f : Frame) → IsOpened opened → EndsAgree opened k s u d all_up all_down w → Guards opened k s u d all_up all_down w place → w.up ≡ SendFrame message ∷ rest
+pub takes_send : (opened : LinkParameters) (k : ClientState) (s : ServerState) (u d all_up all_down : List FrameContent) (w : Transit) (place : ℕ) (message : SentMessage) (rest : List FrameContent) (f : Frame) → IsOpened opened → EndsAgree opened k s u d all_up all_down w → Guards opened k s u d all_up all_down w place → w.up ≡ SendFrame message ∷ rest
     → Carries s.received.sends s.received.requests f (SendFrame message) → IsBytes f.bytes → f.bytes ≡ frame_bytes Initiator (numbered_segment s.received.sends s.received.requests (SendFrame message)) → place < f.end → ServerTakes opened k s u d all_up all_down w (SendFrame message) rest f
 takes_send opened k s u d all_up all_down w place message rest f o l g first piece bytes is lt =
-    let segment : Segment = Untagged true OPCODE_SEND 0 QUEUE_SEND (msn_word (s.received.sends + 1)) 0 message in
+    let segment : Segment = last_segment s.received.sends message in
     let reads : frame_segment f ≡ Ok segment = segment_is s.received.sends s.received.requests f (SendFrame message) segment piece refl in
+    let completes = (at_front s.received.begun w.up w.queued_up (SendFrame message) rest first l.counts.whole_up).1 in
+    let are_bytes = message_bytes s.received message completes l.bytes_up (payload_bytes segment (subst IsBytes is bytes)) in
     let size = front_up opened k s u d all_up all_down w place (SendFrame message) rest l g first in
     let t = server_takes_send opened k s w place f message rest g.server g.window first piece size.0 size.1 lt in
     let says = says_frame opened s f piece.behind in
@@ -156,24 +158,50 @@ takes_send opened k s u d all_up all_down w place message rest f o l g first pie
     let own = front_xid opened k s u d all_up all_down w place message rest l g first in
     let some : 0 < total_of sends_in w.up = omega (arith, ap (total_of sends_in) first) in
     let sent = calls_said opened k s u d all_up all_down w l in
-    let small_xid : word_at 0 message < 2 ^ 32 =
+    let small_xid : word_at 0 message.bytes < 2 ^ 32 =
     omega (arith, own, g.answered.room, some, sent, sent_most k, l.sends_up, ap (total_of sends_in) l.parts_up, total_append sends_in u (w.up ++ w.queued_up), total_append sends_in w.up w.queued_up) in
-    let pending = pending_send s f message l.counts.whole_up small_xid reads in
+    let pending = pending_send s f message completes small_xid reads in
     let effect = step_is s f (Ok segment) reads in
     let calls_are : call_xids (server_state_after opened s (FrameReceived f)).calls ≡ call_xids (frame_effect s f).calls = ap (λ (x : ServerState). call_xids x.calls) after ∙ ap (λ (e : FrameEffect). call_xids e.calls) (sym effect) in
     let answered = answered_send opened.first_xid k s (server_state_after opened s (FrameReceived f)) u d all_down w (SendFrame message) rest (effect_frames (frame_effect s f)) (ap (λ (x : ServerState). x.received.sends) after)
     (λ x. omega (arith, pending x, ap (λ (xs : List ℕ). times x xs) (effect_xids (frame_effect s f)), ap (λ (xs : List ℕ). times x xs) calls_are, ap (λ (n : ℕ). one_if (eqb n x)) own)) g.answered in
-    let numbered = numbered_send opened.first_xid s f message l.counts.whole_up own g.numbers reads in
+    let numbered = numbered_send opened.first_xid s f message completes own g.numbers reads in
     let numbers = subst (AllByRecursion (IsNumbered opened.first_xid)) (ap (λ (e : FrameEffect). e.calls) (step_is s f (Ok segment) reads) ∙ ap (λ (x : ServerState). x.calls) (sym after)) numbered in
-    let chunk = count_send s f message l.counts.whole_up (payload_bytes segment (subst IsBytes is bytes)) size.4 reads in
+    let chunk = count_send s f message completes are_bytes size.4 reads in
     let sinks = sinks_after s f (Ok segment) reads (s.received.sends + 1) (omega (arith, chunk, g.sinks)) in
-    let within = within_after s f (Ok segment) reads (within_send s f message l.counts.whole_up (payload_bytes segment (subst IsBytes is bytes)) g.within reads) in
+    let within = within_after s f (Ok segment) reads (within_send s f message completes are_bytes g.within reads) in
     record {
       ends = t.0;
       kept = λ stays.
           subst (λ (said : List FrameContent). Guards opened k (server_state_after opened s (FrameReceived f)) (u ++ SendFrame message ∷ []) d all_up (all_down ++ said) (taken_up w rest said) f.end) (sym says)
           (guards_up opened k s (server_state_after opened s (FrameReceived f)) u d all_up all_down w place f.end (SendFrame message) rest (effect_frames (frame_effect s f)) g
-          (t.1 (not_refused_lem opened s f piece.behind stays)) (credit_down opened s.credit (effect_frames (frame_effect s f)) g.credit (step_down s.credit (frame_effect s f) (replies_send s f message l.counts.whole_up small_xid (word_below_lem 4 message (payload_bytes segment (subst IsBytes is bytes))) small reads)))
+          (t.1 (not_refused_lem opened s f piece.behind stays)) (credit_down opened s.credit (effect_frames (frame_effect s f)) g.credit (step_down s.credit (frame_effect s f) (replies_send s f message completes small_xid (word_below_lem 4 message.bytes are_bytes) small reads)))
+          (ap (λ (x : ServerState). x.credit) after) (subst (λ (x : ServerState). AreWithin x.reads x.regions) (sym after) within) (subst (λ (x : ServerState). length x.regions ≤ x.received.sends) (sym after) sinks) numbers answered);
+    }
+
+-- a segment of a Send that isn't its last
+pub takes_part : (opened : LinkParameters) (k : ClientState) (s : ServerState) (u d all_up all_down : List FrameContent) (w : Transit) (place : ℕ) (offset : ℕ) (payload : List ℕ) (rest : List FrameContent) (f : Frame) → IsOpened opened → Guards opened k s u d all_up all_down w place → w.up ≡ PartFrame offset payload ∷ rest
+    → Carries s.received.sends s.received.requests f (PartFrame offset payload) → place < f.end → ServerTakes opened k s u d all_up all_down w (PartFrame offset payload) rest f
+takes_part opened k s u d all_up all_down w place offset payload rest f o g first piece lt =
+    let segment : Segment = part_segment s.received.sends offset payload in
+    let reads : frame_segment f ≡ Ok segment = segment_is s.received.sends s.received.requests f (PartFrame offset payload) segment piece refl in
+    let t = server_takes_part opened k s w place f offset payload rest g.server g.window first piece lt in
+    let says = says_frame opened s f piece.behind in
+    let after = after_is_lem opened s f (Ok segment) piece.behind reads in
+    let effect = step_is s f (Ok segment) reads in
+    let calls_are : call_xids (server_state_after opened s (FrameReceived f)).calls ≡ call_xids s.calls = ap (λ (x : ServerState). call_xids x.calls) after in
+    let none : message_xids (effect_frames (frame_effect s f)) ≡ [] = effect_xids (frame_effect s f) ∙ ap (λ (e : FrameEffect). map (λ (m : List ℕ). word_at 0 m) e.errors) effect in
+    let answered = answered_other opened.first_xid k s (server_state_after opened s (FrameReceived f)) u d all_down w (PartFrame offset payload) rest (effect_frames (frame_effect s f)) (ap (λ (x : ServerState). x.received.sends) after)
+    (λ x. omega (arith, ap (λ (xs : List ℕ). times x xs) none, ap (λ (xs : List ℕ). times x xs) calls_are)) g.answered in
+    let numbers = subst (AllByRecursion (IsNumbered opened.first_xid)) (ap (λ (x : ServerState). x.calls) (sym after)) g.numbers in
+    let sinks = sinks_after s f (Ok segment) reads s.received.sends (omega (arith, ap (λ (e : FrameEffect). length e.regions) effect, g.sinks)) in
+    let within = within_after s f (Ok segment) reads (part_effect s (λ e. AreWithin e.reads e.regions) g.within f offset payload reads) in
+    record {
+      ends = t.0;
+      kept = λ stays.
+          subst (λ (said : List FrameContent). Guards opened k (server_state_after opened s (FrameReceived f)) (u ++ PartFrame offset payload ∷ []) d all_up (all_down ++ said) (taken_up w rest said) f.end) (sym says)
+          (guards_up opened k s (server_state_after opened s (FrameReceived f)) u d all_up all_down w place f.end (PartFrame offset payload) rest (effect_frames (frame_effect s f)) g
+          t.1 (credit_down opened s.credit (effect_frames (frame_effect s f)) g.credit (step_down s.credit (frame_effect s f) (part_effect s (λ e. AreReplies s.credit e.errors) tt f offset payload reads)))
           (ap (λ (x : ServerState). x.credit) after) (subst (λ (x : ServerState). AreWithin x.reads x.regions) (sym after) within) (subst (λ (x : ServerState). length x.regions ≤ x.received.sends) (sym after) sinks) numbers answered);
     }
 

@@ -1,5 +1,6 @@
 pub mod FrameContents
 pub mod LinkInvariants
+pub mod SendFrames
 pub mod EndsWaiting
 pub mod EventOutputs
 pub mod Brought
@@ -11,7 +12,7 @@ pub mod HeaderXid
 pub mod Flows
 pub mod ReceivedMessages
 pub mod Outputs
-pub mod Messages
+pub mod TaggedSegments
 pub mod OnceByXid
 pub mod ServerOutputs
 pub mod ServerEnds

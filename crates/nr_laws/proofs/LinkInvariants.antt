@@ -1,6 +1,7 @@
 -- What holds between the states of both ends of a matched link, of which neither has ended, and the frames in transit between them.
-use Rattle.std.specs.Prelude.{◌≡◌, ◌≢◌, ℕ, ◌+◌, ◌≤◌, ◌<◌, map, Bool, true, false, ◌==◌, ◌&&◌, if◌then◌else◌, List, [], ◌∷◌, ◌++◌, length, None, ◌⊎◌}
+use Rattle.std.specs.Prelude.{◌≡◌, ◌≢◌, ℕ, ◌+◌, ◌≤◌, ◌<◌, map, Bool, true, false, ◌==◌, ◌&&◌, if◌then◌else◌, List, [], ◌∷◌, ◌++◌, length, Option, None, Some, ◌⊎◌}
 use Rattle.nr_reduce.specs.declared.mark.LinkParameters.{LinkParameters}
+use Rattle.nr_link.specs.ReceiveState.{begun_bytes}
 use Rattle.nr_reduce.specs.Written.{ends_waiting}
 use Rattle.nr_reduce.specs.ClientState.{ClientState, responses_owed}
 use Rattle.nr_reduce.specs.ServerState.{ServerState, PendingCall, PendingRead, ReadyCall}
@@ -9,7 +10,7 @@ use Rattle.std.specs.List.{list_any}
 use Rattle.nr_regions.specs.declared.right.Right.TheVariants.{Sink}
 use Rattle.nr_reduce.specs.OfferedRegions.{Region}
 use Rattle.nr_laws.proofs.FrameContents.{FrameContent, total_of, sends_in, requests_in, responses_in, hellos_in, request_frame}
-use Rattle.nr_laws.proofs.FrameContents.FrameContent.{HelloFrame, SendFrame, RequestFrame, TaggedFrame}
+use Rattle.nr_laws.proofs.FrameContents.FrameContent.{HelloFrame, PartFrame, SendFrame, RequestFrame, TaggedFrame}
 use Rattle.nr_wire.specs.Constants.{OPCODE_READ_RESPONSE}
 
 -- The frames that the client has queued, and those that it wrote and the server hasn't received (up); and the same of the server
@@ -37,6 +38,16 @@ abbrev pub hello_bit : Bool → ℕ
 hello_bit true = 1
 hello_bit false = 0
 
+-- The segments of Sends among some frames go on from the bytes of a Send that is begun, and leave none begun: each has the offset of
+-- its payload, and the last one of a message completes it.
+abbrev pub AreSends : Option (List ℕ) → List FrameContent → Type 0
+AreSends begun [] = begun ≡ None
+AreSends begun (HelloFrame ∷ ps) = AreSends begun ps
+AreSends begun (PartFrame offset payload ∷ ps) = (offset ≡ length (begun_bytes begun)) × AreSends (Some (begun_bytes begun ++ payload)) ps
+AreSends begun (SendFrame message ∷ ps) = (message.offset ≡ length (begun_bytes begun)) × (begun_bytes begun ++ message.payload ≡ message.bytes) × AreSends None ps
+AreSends begun (RequestFrame sink at size stag to ∷ ps) = AreSends begun ps
+AreSends begun (TaggedFrame last opcode stag to payload ∷ ps) = AreSends begun ps
+
 pub record TotalsAgree (k : ClientState) (s : ServerState) (w : Transit) : Type 0 where
   -- the hello of the client is in transit, then that of the server, and then the client has it
   pub hello : (total_of hellos_in w.up + total_of hellos_in w.queued_up) + (total_of hellos_in w.down + total_of hellos_in w.queued_down) + hello_bit k.has_hello ≡ 1
@@ -54,9 +65,9 @@ pub record TotalsAgree (k : ClientState) (s : ServerState) (w : Transit) : Type 
   -- each message that was received answered one call; each Send that was received is answered or its call is pending
   pub out : k.received.sends + length k.outstanding ≡ k.calls_accepted
   pub waiting : s.messages_queued + length s.calls ≡ s.received.sends
-  -- no Send is begun and not whole
-  pub whole_up : s.received.begun ≡ None
-  pub whole_down : k.received.begun ≡ None
+  -- the Send that is begun goes on in transit, and each that is in transit is its message in segments
+  pub whole_up : AreSends s.received.begun (w.up ++ w.queued_up)
+  pub whole_down : AreSends k.received.begun (w.down ++ w.queued_down)
   -- an open read has its Read Request or its Read Response in transit
   pub reads : length (open_reads s) ≡ (total_of requests_in w.down + total_of requests_in w.queued_down) + (total_of responses_in w.up + total_of responses_in w.queued_up)
 
@@ -77,6 +88,7 @@ ContinuesRead false came n r rs Later = (came + n < r.size) × Later (came + n) 
 abbrev pub AreResponses : ℕ → List PendingRead → List FrameContent → Type 0
 AreResponses came rs [] = (came ≡ 0) × (rs ≡ [])
 AreResponses came rs (HelloFrame ∷ ps) = AreResponses came rs ps
+AreResponses came rs (PartFrame offset payload ∷ ps) = AreResponses came rs ps
 AreResponses came rs (SendFrame message ∷ ps) = AreResponses came rs ps
 AreResponses came rs (RequestFrame sink at size stag to ∷ ps) = AreResponses came rs ps
 AreResponses came [] (TaggedFrame last opcode stag to payload ∷ ps) = ⊥
@@ -87,6 +99,7 @@ AreResponses came (r ∷ rs) (TaggedFrame last opcode stag to payload ∷ ps) =
 abbrev pub requests_of : List FrameContent → List FrameContent
 requests_of [] = []
 requests_of (HelloFrame ∷ ps) = requests_of ps
+requests_of (PartFrame offset payload ∷ ps) = requests_of ps
 requests_of (SendFrame message ∷ ps) = requests_of ps
 requests_of (RequestFrame sink at size stag to ∷ ps) = RequestFrame sink at size stag to ∷ requests_of ps
 requests_of (TaggedFrame last opcode stag to payload ∷ ps) = requests_of ps

@@ -3,7 +3,7 @@ use Rattle.std.proofs.Common.{◌≡◌, ℕ, ◌+◌, ◌≤◌, ◌<◌, true,
 use Rattle.std.specs.List.{concat}
 use Rattle.nr_xdr.specs.Item.{IsBytes}
 use Rattle.nr_xdr.proofs.Chains.{IsBytes_left, IsBytes_right}
-use Rattle.nr_wire.specs.Constants.{OPCODE_WRITE, OPCODE_READ_REQUEST, OPCODE_SEND, QUEUE_SEND, QUEUE_READ_REQUEST}
+use Rattle.nr_wire.specs.Constants.{OPCODE_WRITE, OPCODE_READ_REQUEST, QUEUE_READ_REQUEST}
 use Rattle.nr_wire.specs.declared.hello.Side.TheVariants.{Initiator, Responder}
 use Rattle.nr_wire.specs.Segment.{Segment}
 use Rattle.nr_wire.specs.Segment.Segment.{Tagged, Untagged}
@@ -34,8 +34,8 @@ use Rattle.nr_laws.specs.Typed.{TypedMark, IsTyped}
 use Rattle.nr_laws.specs.Stays.{NotRevokedMark, HasNoRevoke}
 use Rattle.nr_laws.specs.EndCauses.{KeepLaws}
 use Rattle.nr_laws.proofs.EndReasons.{EndsForMessage}
-use Rattle.nr_laws.proofs.FrameContents.{FrameContent, numbered_segment, frame_bytes, total_of, sends_in, requests_in, Carries}
-use Rattle.nr_laws.proofs.FrameContents.FrameContent.{HelloFrame, SendFrame, RequestFrame, TaggedFrame}
+use Rattle.nr_laws.proofs.FrameContents.{FrameContent, numbered_segment, frame_bytes, total_of, sends_in, requests_in, Carries, last_segment, part_segment}
+use Rattle.nr_laws.proofs.FrameContents.FrameContent.{HelloFrame, PartFrame, SendFrame, RequestFrame, TaggedFrame}
 use Rattle.nr_laws.proofs.LinkInvariants.{Transit}
 use Rattle.nr_laws.proofs.Bytes.{bytes_both}
 use Rattle.nr_laws.proofs.Totals.{total_append}
@@ -77,8 +77,11 @@ same_segment k f segment is none other own = (let same : Ok segment ≡ Ok other
 piece_allowed : (opened : LinkParameters) (k : ClientState) (s : ServerState) (u d all_up all_down : List FrameContent) (w : Transit) (up : ℕ) (p : FrameContent) (rest : List FrameContent) (at : ℕ) (f : Frame) → EndsAgree opened k s u d all_up all_down w → Guards opened k s u d all_up all_down w up → w.down ≡ p ∷ rest
     → Carries k.received.sends k.received.requests f p → at < f.end → AccessesAgree opened k s d all_up all_down at → IsAccess k.regions (message_xids d) p → LacksNothing k f
 piece_allowed opened k s u d all_up all_down w up HelloFrame rest at f l g first piece lt h own = absurd (let wrong = piece.is_segment in cc)
+piece_allowed opened k s u d all_up all_down w up (PartFrame offset payload) rest at f l g first piece lt h own =
+    let segment : Segment = part_segment k.received.sends offset payload in
+    same_segment k f segment (segment_is k.received.sends k.received.requests f (PartFrame offset payload) segment piece refl) refl
 piece_allowed opened k s u d all_up all_down w up (SendFrame message) rest at f l g first piece lt h own =
-    let segment : Segment = Untagged true OPCODE_SEND 0 QUEUE_SEND (msn_word (k.received.sends + 1)) 0 message in
+    let segment : Segment = last_segment k.received.sends message in
     same_segment k f segment (segment_is k.received.sends k.received.requests f (SendFrame message) segment piece refl) refl
 piece_allowed opened k s u d all_up all_down w up (RequestFrame sink sink_to size stag to) rest at f l g first piece lt h own =
     let segment : Segment = Untagged true OPCODE_READ_REQUEST 0 QUEUE_READ_REQUEST (msn_word (k.received.requests + 1)) 0 (request_payload sink sink_to size stag to) in

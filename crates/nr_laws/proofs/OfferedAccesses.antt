@@ -1,6 +1,6 @@
 -- What a server accesses of its client's memory is offered by the call that is to be answered, and no earlier message of the server
 -- answers that call.
-use Rattle.std.proofs.Common.{◌≡◌, ℕ, ◌+◌, ◌≤◌, Bool, true, false, List, [], ◌∷◌, ◌++◌, length, map, drop, None, Ok, sym, ap, subst, arith, append_assoc, append-nil, ◌⊎◌, inl, inr}
+use Rattle.std.proofs.Common.{◌≡◌, ℕ, ◌+◌, ◌≤◌, Bool, true, false, List, [], ◌∷◌, ◌++◌, length, drop, None, Ok, sym, ap, subst, arith, append_assoc, append-nil, ◌⊎◌, inl, inr}
 use Rattle.std.specs.List.{AllByRecursion}
 use Rattle.nr_xdr.specs.Fields.{word_at}
 use Rattle.nr_header.specs.declared.header.RdmaSegment.{RdmaSegment as Part}
@@ -17,8 +17,10 @@ use Rattle.nr_reduce.specs.Holds.{first_chunk, no_segments}
 use Rattle.nr_reduce.specs.ChunkBytes.{lists_by}
 use Rattle.nr_reduce.specs.ClientState.{ClientState, OutstandingCall}
 use Rattle.nr_reduce.specs.ServerState.{ServerState, PendingCall, PendingRead}
-use Rattle.nr_laws.proofs.FrameContents.{FrameContent, call_frame}
-use Rattle.nr_laws.proofs.FrameContents.FrameContent.{HelloFrame, SendFrame, RequestFrame, TaggedFrame}
+use Rattle.nr_laws.proofs.FrameContents.{FrameContent, send_frames, errors_frames}
+use Rattle.nr_laws.proofs.Outputs.{message_of_call}
+use Rattle.nr_laws.proofs.SendFrames.{each_send}
+use Rattle.nr_laws.proofs.FrameContents.FrameContent.{HelloFrame, PartFrame, SendFrame, RequestFrame, TaggedFrame}
 use Rattle.nr_laws.proofs.AnsweredCalls.{message_xids, times, xids_append, times_append}
 use Rattle.nr_laws.proofs.Basics.{each_all}
 
@@ -51,15 +53,19 @@ pub record ListsOffered (regions : List Region) (xid : ℕ) (lists : ChunkLists)
 abbrev pub CallOffered : List Region → PendingCall → Type 0
 CallOffered regions c = ListsOffered regions c.xid c.lists
 
+abbrev pub SendOffered : List Region → List ℕ → Type 0
+SendOffered regions message = (h : Header) → header_of message ≡ Ok h → ListsOffered regions (word_at 0 message) (lists_by h.body)
+
 abbrev pub MessageOffered : List Region → FrameContent → Type 0
 MessageOffered regions HelloFrame = Unit {0}
-MessageOffered regions (SendFrame message) = (h : Header) → header_of message ≡ Ok h → ListsOffered regions (word_at 0 message) (lists_by h.body)
+MessageOffered regions (PartFrame offset payload) = Unit {0}
+MessageOffered regions (SendFrame message) = SendOffered regions message.bytes
 MessageOffered regions (RequestFrame sink at size stag to) = Unit {0}
 MessageOffered regions (TaggedFrame last opcode stag to payload) = Unit {0}
 
 -- and of an outstanding call
 abbrev pub CallAsked : LinkParameters → List Region → OutstandingCall → Type 0
-CallAsked opened regions o = MessageOffered regions (call_frame opened o)
+CallAsked opened regions o = SendOffered regions (message_of_call opened o)
 
 -- a read is of a pending call, which offers it
 abbrev pub ReadOffered : List Region → List PendingCall → PendingRead → Type 0
@@ -71,6 +77,7 @@ ReadOffered regions (c ∷ calls) r = ((c.number ≡ r.number) × IsOffered c.xi
 -- the access of a frame, if it has one, is of a call that isn't among those that are answered
 abbrev pub IsAccess : List Region → List ℕ → FrameContent → Type 0
 IsAccess regions answered HelloFrame = Unit {0}
+IsAccess regions answered (PartFrame offset payload) = Unit {0}
 IsAccess regions answered (SendFrame message) = Unit {0}
 IsAccess regions answered (RequestFrame sink at size stag to) = (xid : ℕ) × (times xid answered ≡ 0) × IsOffered xid stag Fetch (to + size) regions
 IsAccess regions answered (TaggedFrame last opcode stag to payload) = (xid : ℕ) × (times xid answered ≡ 0) × IsOffered xid stag Fill (to + length payload) regions
@@ -132,9 +139,13 @@ lists_more regions others xid lists f h = record {
   read = each_all (EntryOffered regions xid) (EntryOffered others xid) lists.read (λ r x. f xid r.handle Fetch (r.offset + r.length) x) h.read;
 }
 
+pub send_more : (regions others : List Region) → OffersMore regions others → (message : List ℕ) → SendOffered regions message → SendOffered others message
+send_more regions others f message h = λ header is. lists_more regions others (word_at 0 message) (lists_by header.body) f (h header is)
+
 pub message_more : (regions others : List Region) → OffersMore regions others → (p : FrameContent) → MessageOffered regions p → MessageOffered others p
 message_more regions others f HelloFrame h = tt
-message_more regions others f (SendFrame message) h = λ header is. lists_more regions others (word_at 0 message) (lists_by header.body) f (h header is)
+message_more regions others f (PartFrame offset payload) h = tt
+message_more regions others f (SendFrame message) h = send_more regions others f message.bytes h
 message_more regions others f (RequestFrame sink at size stag to) h = tt
 message_more regions others f (TaggedFrame last opcode stag to payload) h = tt
 
@@ -145,6 +156,7 @@ read_more_lem regions others f (c ∷ calls) r (inr h) = inr (read_more_lem regi
 
 access_more : (regions others : List Region) → OffersMore regions others → (answered : List ℕ) (p : FrameContent) → IsAccess regions answered p → IsAccess others answered p
 access_more regions others f answered HelloFrame h = tt
+access_more regions others f answered (PartFrame offset payload) h = tt
 access_more regions others f answered (SendFrame message) h = tt
 access_more regions others f answered (RequestFrame sink at size stag to) h = (h.0, h.1, f h.0 stag Fetch (to + size) h.2)
 access_more regions others f answered (TaggedFrame last opcode stag to payload) h = (h.0, h.1, f h.0 stag Fill (to + length payload) h.2)
@@ -172,6 +184,7 @@ access_at regions before (x ∷ ps) p qs h = subst (λ (xs : List FrameContent).
 -- what isn't answered by all of some frames isn't by the first of them
 access_earlier : (regions : List Region) (answered later : List ℕ) → ((x : ℕ) → times x answered ≤ times x later) → (p : FrameContent) → IsAccess regions later p → IsAccess regions answered p
 access_earlier regions answered later le HelloFrame h = tt
+access_earlier regions answered later le (PartFrame offset payload) h = tt
 access_earlier regions answered later le (SendFrame message) h = tt
 access_earlier regions answered later le (RequestFrame sink at size stag to) h = (h.0, omega (arith, le h.0, h.1), h.2)
 access_earlier regions answered later le (TaggedFrame last opcode stag to payload) h = (h.0, omega (arith, le h.0, h.1), h.2)
@@ -185,6 +198,11 @@ accesses_each regions before (p ∷ ps) h = (
 )
 
 -- messages access nothing
-pub accesses_messages : (regions : List Region) (before : List FrameContent) (messages : List (List ℕ)) → AreAccesses regions before (map SendFrame messages)
+pub accesses_message : (regions : List Region) (before : List FrameContent) (message : List ℕ) → AreAccesses regions before (send_frames message)
+accesses_message regions before message =
+    accesses_each regions before (send_frames message) (each_send (IsAccess regions (message_xids (before ++ send_frames message))) (λ offset payload. tt) message tt)
+
+pub accesses_messages : (regions : List Region) (before : List FrameContent) (messages : List (List ℕ)) → AreAccesses regions before (errors_frames messages)
 accesses_messages regions before [] = tt
-accesses_messages regions before (m ∷ messages) = (tt, accesses_messages regions (before ++ SendFrame m ∷ []) messages)
+accesses_messages regions before (m ∷ messages) =
+    accesses_append regions before (send_frames m) (errors_frames messages) (accesses_message regions before m) (accesses_messages regions (before ++ send_frames m) messages)

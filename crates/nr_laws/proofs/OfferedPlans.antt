@@ -15,11 +15,10 @@ use Rattle.nr_reduce.specs.ChunkBytes.{lists_by}
 use Rattle.nr_reduce.specs.Client.{region_of}
 use Rattle.nr_reduce.proofs.WrittenChunks.{added_up, sum_added}
 use Rattle.nr_laws.specs.Typed.{IsTypedForm}
-use Rattle.nr_laws.proofs.FrameContents.FrameContent.{SendFrame}
 use Rattle.nr_laws.proofs.CallWords.{call_words_lem}
 use Rattle.nr_laws.proofs.ConveyedCalls.{planned_fits, plan_reads}
 use Rattle.nr_laws.proofs.ConveyedForms.{planned_chunk}
-use Rattle.nr_laws.proofs.OfferedAccesses.{IsOffered, PartOffered, EntryOffered, ListsOffered, MessageOffered, offers_left, offers_right, offered_less}
+use Rattle.nr_laws.proofs.OfferedAccesses.{IsOffered, PartOffered, EntryOffered, ListsOffered, SendOffered, offers_left, offers_right, offered_less}
 
 -- ---- The segments of one region
 
@@ -89,7 +88,7 @@ plan_offered xid place stag p size =
 -- ---- The message of a plan
 
 pub planned_offered : (payload : List ℕ) (form : Form) (xid credit place stag : ℕ) (p : Plan) → plan_of payload form send_max send_max ≡ Ok p → IsBytes payload → IsTypedForm form → xid < 2 ^ 32 → stag + regions_needed p ≤ 2 ^ 32
-    → MessageOffered (map (region_of xid place) (buffers stag p)) (SendFrame (call_message xid credit stag p))
+    → SendOffered (map (region_of xid place) (buffers stag p)) (call_message xid credit stag p)
 planned_offered payload form xid credit place stag p e bytes typed small stags = λ h is.
     let fine = planned_fits payload form send_max stag p e bytes typed stags in
     let r = plan_reads xid credit stag p h fine.0 fine.1 small is in

@@ -1,5 +1,5 @@
 -- The output of an end is the bytes of its frame contents.
-use Rattle.std.proofs.Common.{◌≡◌, ℕ, ◌+◌, ◌*◌, true, eqb, List, [], ◌∷◌, ◌++◌, map, refl, sym, ap, ◌∙◌, add-zero}
+use Rattle.std.proofs.Common.{◌≡◌, ℕ, ◌+◌, ◌*◌, zero, suc, true, false, eqb, List, [], ◌∷◌, ◌++◌, map, refl, sym, ap, ◌∙◌, arith, add-zero}
 use Rattle.std.specs.List.{flat_map, range_with_len}
 use Rattle.nr_wire.specs.Constants.{OPCODE_WRITE, OPCODE_READ_RESPONSE, OPCODE_SEND, QUEUE_SEND}
 use Rattle.nr_wire.specs.declared.hello.Side.{Side}
@@ -8,30 +8,56 @@ use Rattle.nr_wire.specs.Segment.{encoding}
 use Rattle.nr_wire.specs.Segment.Segment.{Tagged, Untagged}
 use Rattle.nr_reduce.specs.declared.mark.LinkParameters.{LinkParameters}
 use Rattle.nr_link.specs.Limits.{segment_max}
-use Rattle.nr_link.specs.Output.{msn_word, segment_count, segment_payload, cut, write, read_response, read_request}
+use Rattle.nr_link.specs.Output.{msn_word, segment_count, segment_payload, cut, send, write, read_response, read_request}
 use Rattle.nr_reduce.specs.ServerState.{ServerState, PendingRead}
 use Rattle.nr_reduce.specs.ServerFrames.{FrameEffect}
 use Rattle.nr_reduce.specs.Server.{sends_from, requests_from, newly_open_reads, effect_output}
-use Rattle.nr_reduce.specs.Plans.{call_message}
 use Rattle.nr_reduce.specs.ClientState.{OutstandingCall}
 use Rattle.nr_reduce.specs.Client.{calls_output}
-use Rattle.nr_laws.proofs.FrameContents.{FrameContent, output_bytes, total_of, sends_in, requests_in, tagged_frame, tagged_frames, request_frame, effect_frames, call_frame}
+use Rattle.nr_laws.proofs.FrameContents.{FrameContent, output_bytes, total_of, sends_in, requests_in, tagged_frame, tagged_frames, request_frame, effect_frames, part_frame, last_part, last_index, send_frames, errors_frames, calls_frames}
 use Rattle.nr_laws.proofs.FrameContents.FrameContent.{SendFrame}
-use Rattle.nr_laws.proofs.Totals.{total_map_zero}
 use Rattle.nr_laws.proofs.StreamFrames.{spelled_append}
-use Rattle.nr_laws.proofs.Outputs.{send_one, AreShort, CallsShort}
+use Rattle.nr_laws.proofs.Outputs.{message_of_call}
+use Rattle.nr_laws.proofs.SegmentedMessages.{is_last_lem, not_last}
+use Rattle.nr_laws.proofs.SendFrames.{send_counts, sends_zero}
 
 -- numbers that don't change
 same_numbers : (side : Side) (n r : ℕ) (ps : List FrameContent) → output_bytes side (n + 0) (r + 0) ps ≡ output_bytes side n r ps
 same_numbers side n r ps = λ i. output_bytes side (add-zero n i) (add-zero r i) ps
 
--- ---- A Send of one segment
+-- ---- A Send
 
-sends_said : (side : Side) (n r : ℕ) (messages : List (List ℕ)) → AreShort messages → sends_from (n + 1) messages ≡ output_bytes side n r (map SendFrame messages)
-sends_said side n r [] h = refl
-sends_said side n r (m ∷ messages) h =
-    (λ i. send_one (n + 1) m h.0 i ++ sends_said side (n + 1) r messages h.1 i)
-    ∙ ap (λ (k : ℕ). encoding (Untagged true OPCODE_SEND 0 QUEUE_SEND (msn_word (n + 1)) 0 m) ++ output_bytes side (n + 1) k (map SendFrame messages)) (sym (add-zero r))
+message_segments_said : (side : Side) (n r : ℕ) (message : List ℕ) (k i : ℕ) → i + k ≡ last_index message
+    → flat_map (λ j. encoding (Untagged (eqb (j + 1) (segment_count message)) OPCODE_SEND 0 QUEUE_SEND (msn_word (n + 1)) (segment_max * j) (segment_payload message j))) (range_with_len i (suc k))
+    ≡ output_bytes side n r (map (part_frame message) (range_with_len i k) ++ SendFrame (last_part message) ∷ [])
+message_segments_said side n r message zero i all =
+    let last : i ≡ last_index message = omega (arith, all) in
+    let ends : eqb (i + 1) (segment_count message) ≡ true = is_last_lem i (segment_count message) (omega (arith, all)) in
+    λ j. encoding (Untagged (ends j) OPCODE_SEND 0 QUEUE_SEND (msn_word (n + 1)) (segment_max * last j) (segment_payload message (last j))) ++ []
+message_segments_said side n r message (suc k) i all =
+    let more : eqb (i + 1) (segment_count message) ≡ false = not_last i k (segment_count message) (omega (arith, all)) in
+    let later = map (part_frame message) (range_with_len (i + 1) k) ++ SendFrame (last_part message) ∷ [] in
+    (λ j. encoding (Untagged (more j) OPCODE_SEND 0 QUEUE_SEND (msn_word (n + 1)) (segment_max * i) (segment_payload message i)) ++ message_segments_said side n r message k (i + 1) (omega (arith, all)) j)
+    ∙ ap (λ (xs : List ℕ). encoding (Untagged false OPCODE_SEND 0 QUEUE_SEND (msn_word (n + 1)) (segment_max * i) (segment_payload message i)) ++ xs) (sym (same_numbers side n r later))
+
+pub message_said : (side : Side) (n r : ℕ) (message : List ℕ) → send (n + 1) message ≡ output_bytes side n r (send_frames message)
+unfolding send cut send_frames
+message_said side n r message =
+    let count : segment_count message ≡ suc (last_index message) = omega arith in
+    ap (λ (k : ℕ). flat_map (λ j. encoding (Untagged (eqb (j + 1) (segment_count message)) OPCODE_SEND 0 QUEUE_SEND (msn_word (n + 1)) (segment_max * j) (segment_payload message j))) (range_with_len 0 k)) count
+    ∙ message_segments_said side n r message (last_index message) 0 (omega arith)
+
+-- a message and what comes after it
+pub message_first : (side : Side) (n r : ℕ) (message : List ℕ) (ps : List FrameContent) → send (n + 1) message ++ output_bytes side (n + 1) r ps ≡ output_bytes side n r (send_frames message ++ ps)
+message_first side n r message ps =
+    let sends : n + 1 ≡ n + total_of sends_in (send_frames message) = omega (arith, send_counts sends_in 1 (λ offset payload. refl) (λ m. refl) message) in
+    let requests : r ≡ r + total_of requests_in (send_frames message) = omega (arith, send_counts requests_in 0 (λ offset payload. refl) (λ m. refl) message) in
+    (λ i. message_said side n r message i ++ output_bytes side (sends i) (requests i) ps)
+    ∙ sym (spelled_append side n r (send_frames message) ps)
+
+sends_said : (side : Side) (n r : ℕ) (messages : List (List ℕ)) → sends_from (n + 1) messages ≡ output_bytes side n r (errors_frames messages)
+sends_said side n r [] = refl
+sends_said side n r (m ∷ messages) = ap (λ (xs : List ℕ). send (n + 1) m ++ xs) (sends_said side (n + 1) r messages) ∙ message_first side n r m (errors_frames messages)
 
 requests_said : (side : Side) (n r : ℕ) (reads : List PendingRead) → requests_from (r + 1) reads ≡ output_bytes side n r (map request_frame reads)
 unfolding read_request
@@ -40,13 +66,13 @@ requests_said side n r (x ∷ reads) =
     ap (λ (xs : List ℕ). read_request (r + 1) x.sink x.at x.size x.stag x.to ++ xs)
     (requests_said side n (r + 1) reads ∙ ap (λ (k : ℕ). output_bytes side k (r + 1) (map request_frame reads)) (sym (add-zero n)))
 
-pub step_said : (k : ServerState) (st : FrameEffect) → AreShort st.errors → effect_output k st ≡ output_bytes Responder k.messages_queued k.requests_sent (effect_frames st)
-step_said k st h =
-    let none : total_of requests_in (map SendFrame st.errors) ≡ 0 = total_map_zero requests_in SendFrame st.errors (λ m. refl) in
-    (λ i. sends_said Responder k.messages_queued k.requests_sent st.errors h i ++ requests_said Responder (k.messages_queued + total_of sends_in (map SendFrame st.errors)) k.requests_sent (newly_open_reads st) i)
-    ∙ ap (λ (r : ℕ). output_bytes Responder k.messages_queued k.requests_sent (map SendFrame st.errors) ++ output_bytes Responder (k.messages_queued + total_of sends_in (map SendFrame st.errors)) r (map request_frame (newly_open_reads st)))
+pub step_said : (k : ServerState) (st : FrameEffect) → effect_output k st ≡ output_bytes Responder k.messages_queued k.requests_sent (effect_frames st)
+step_said k st =
+    let none : total_of requests_in (errors_frames st.errors) ≡ 0 = sends_zero requests_in (λ (m : List ℕ). m) st.errors (λ offset payload. refl) (λ m. refl) in
+    (λ i. sends_said Responder k.messages_queued k.requests_sent st.errors i ++ requests_said Responder (k.messages_queued + total_of sends_in (errors_frames st.errors)) k.requests_sent (newly_open_reads st) i)
+    ∙ ap (λ (r : ℕ). output_bytes Responder k.messages_queued k.requests_sent (errors_frames st.errors) ++ output_bytes Responder (k.messages_queued + total_of sends_in (errors_frames st.errors)) r (map request_frame (newly_open_reads st)))
     (sym (ap (λ (x : ℕ). k.requests_sent + x) none ∙ add-zero k.requests_sent))
-    ∙ sym (spelled_append Responder k.messages_queued k.requests_sent (map SendFrame st.errors) (map request_frame (newly_open_reads st)))
+    ∙ sym (spelled_append Responder k.messages_queued k.requests_sent (errors_frames st.errors) (map request_frame (newly_open_reads st)))
 
 -- ---- Accesses
 
@@ -67,8 +93,7 @@ response_said side n r stag to bytes = tagged_said side n r OPCODE_READ_RESPONSE
 
 -- ---- What a client asks
 
-pub outs_said : (opened : LinkParameters) (n r : ℕ) (outs : List OutstandingCall) → CallsShort opened outs → calls_output opened (n + 1) outs ≡ output_bytes Initiator n r (map (call_frame opened) outs)
-outs_said opened n r [] h = refl
-outs_said opened n r (o ∷ outs) h =
-    (λ i. send_one (n + 1) (call_message o.xid opened.wished o.stag o.plan) h.0 i ++ outs_said opened (n + 1) r outs h.1 i)
-    ∙ ap (λ (k : ℕ). encoding (Untagged true OPCODE_SEND 0 QUEUE_SEND (msn_word (n + 1)) 0 (call_message o.xid opened.wished o.stag o.plan)) ++ output_bytes Initiator (n + 1) k (map (call_frame opened) outs)) (sym (add-zero r))
+pub outs_said : (opened : LinkParameters) (n r : ℕ) (outs : List OutstandingCall) → calls_output opened (n + 1) outs ≡ output_bytes Initiator n r (calls_frames opened outs)
+outs_said opened n r [] = refl
+outs_said opened n r (o ∷ outs) =
+    ap (λ (xs : List ℕ). send (n + 1) (message_of_call opened o) ++ xs) (outs_said opened (n + 1) r outs) ∙ message_first Initiator n r (message_of_call opened o) (calls_frames opened outs)

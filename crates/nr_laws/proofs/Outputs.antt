@@ -1,9 +1,9 @@
 -- What each side writes, as hellos and segments.
-use Rattle.std.proofs.Common.{◌≡◌, ℕ, ◌+◌, ◌*◌, ◌≤◌, Bool, true, false, cond, eqb, List, [], ◌∷◌, ◌++◌, length, take, drop, map, Option, None, Some, refl, sym, ap, ◌∙◌, arith, append-nil, take_all, lt-ltb, eqb-true}
+use Rattle.std.proofs.Common.{◌≡◌, ℕ, ◌+◌, ◌*◌, ◌≤◌, Bool, true, false, cond, eqb, List, [], ◌∷◌, ◌++◌, length, take, drop, map, Option, None, Some, refl, sym, ap, ◌∙◌, arith, append-nil, lt-ltb, eqb-true}
 use Rattle.std.specs.List.{flat_map, range_with_len, AllByRecursion}
 use Rattle.std.proofs.lemmas.Grind.{flat_map-append}
 use Rattle.nr_xdr.specs.Item.{word, hyper}
-use Rattle.nr_wire.specs.Constants.{OPCODE_READ_REQUEST, OPCODE_READ_RESPONSE, OPCODE_SEND, OPCODE_TERMINATE, QUEUE_SEND, QUEUE_READ_REQUEST, QUEUE_TERMINATE, REASON_FLAGS}
+use Rattle.nr_wire.specs.Constants.{OPCODE_READ_REQUEST, OPCODE_READ_RESPONSE, OPCODE_TERMINATE, QUEUE_READ_REQUEST, QUEUE_TERMINATE, REASON_FLAGS}
 use Rattle.nr_wire.specs.declared.hello.Side.TheVariants.{Responder}
 use Rattle.nr_wire.specs.Segment.{Segment, encoding}
 use Rattle.nr_wire.specs.Segment.Segment.{Tagged, Untagged}
@@ -52,28 +52,9 @@ bytes_segments (s ∷ segments) = ap (λ (xs : List ℕ). encoding s ++ xs) (byt
 
 -- ---- Messages
 
-abbrev pub send_segment : ℕ → List ℕ → Segment
-send_segment msn message = Untagged true OPCODE_SEND 0 QUEUE_SEND (msn_word msn) 0 message
-
 -- no longer than a Send may be
 abbrev pub IsShort : List ℕ → Type 0
 IsShort message = length message ≤ send_max
-
--- as the limits are, it fits one segment
-abbrev pub FitsSegment : Type 0
-FitsSegment = (message : List ℕ) → IsShort message → length message ≤ segment_max
-
-pub fits_segment : FitsSegment
-fits_segment message short = omega (arith, short)
-
-pub send_one : (msn : ℕ) (message : List ℕ) → IsShort message → send msn message ≡ encoding (send_segment msn message)
-unfolding send cut
-send_one msn message le =
-    let fits = fits_segment message le in
-    let one : segment_count message ≡ 1 = omega (arith, fits) in
-    (λ j. flat_map (λ i. encoding (Untagged (eqb (i + 1) (one j)) OPCODE_SEND 0 QUEUE_SEND (msn_word msn) (segment_max * i) (segment_payload message i))) (range_with_len 0 (one j)))
-    ∙ append-nil (encoding (Untagged true OPCODE_SEND 0 QUEUE_SEND (msn_word msn) 0 (segment_payload message 0)))
-    ∙ ap (λ (xs : List ℕ). encoding (Untagged true OPCODE_SEND 0 QUEUE_SEND (msn_word msn) 0 xs)) (take_all segment_max message (fits_segment message le))
 
 flat_map_lem : (f : ℕ → Segment) (is : List ℕ) → flat_map (λ i. encoding (f i)) is ≡ flat_map encoding (map f is)
 flat_map_lem f [] = refl
@@ -88,13 +69,6 @@ unfolding send cut
 send_said msn message =
     flat_map_lem (message_segment msn message) (range_with_len 0 (segment_count message))
     ∙ sym (bytes_segments (message_segments msn message))
-
--- a message that fits one segment is one
-pub one_sent : (msn : ℕ) (message : List ℕ) → length message ≤ segment_max → message_outputs msn message ≡ ASegment (send_segment msn message) ∷ []
-one_sent msn message le =
-    let one : segment_count message ≡ 1 = omega (arith, le) in
-    (λ j. map ASegment (map (λ i. Untagged (eqb (i + 1) (one j)) OPCODE_SEND 0 QUEUE_SEND (msn_word msn) (segment_max * i) (segment_payload message i)) (range_with_len 0 (one j))))
-    ∙ ap (λ (xs : List ℕ). ASegment (Untagged true OPCODE_SEND 0 QUEUE_SEND (msn_word msn) 0 xs) ∷ []) (take_all segment_max message le)
 
 abbrev pub message_of_call : LinkParameters → OutstandingCall → List ℕ
 message_of_call opened o = call_message o.xid opened.wished o.stag o.plan

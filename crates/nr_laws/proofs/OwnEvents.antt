@@ -2,12 +2,8 @@
 use Rattle.std.proofs.Common.{◌≡◌, ℕ, ◌+◌, ◌<◌, Bool, true, false, cond, not, eqb, List, [], ◌∷◌, ◌++◌, length, map, Result, Ok, refl, sym, ap, subst, ◌∙◌, arith, append_assoc, append-nil}
 use Rattle.std.specs.List.{list_any}
 use Rattle.std.proofs.lemmas.List.{length-map}
-use Rattle.nr_wire.specs.Constants.{OPCODE_SEND, QUEUE_SEND}
 use Rattle.nr_wire.specs.declared.hello.Side.TheVariants.{Initiator, Responder}
-use Rattle.nr_wire.specs.Segment.{encoding}
-use Rattle.nr_wire.specs.Segment.Segment.{Untagged}
 use Rattle.nr_rpc.specs.Reading.{call_of, target_of}
-use Rattle.nr_link.specs.Output.{msn_word}
 use Rattle.nr_link.specs.ReceiveState.{ReceiveState}
 use Rattle.nr_reduce.proofs.OwnLimits.{ClientLimits, ServerLimits}
 use Rattle.nr_reduce.specs.declared.mark.LinkParameters.{LinkParameters}
@@ -21,7 +17,7 @@ use Rattle.nr_reduce.specs.ServerState.{ServerState, PendingCall, ReadyCall}
 use Rattle.nr_reduce.specs.Client.{client_state_after, client_output, call_output, outstanding_of, plan_or, revoked_call}
 use Rattle.nr_reduce.specs.Server.{server_state_after, server_output, offer_of, answer_of_target}
 use Rattle.nr_reduce.proofs.Sizes.{message_size}
-use Rattle.nr_laws.proofs.FrameContents.{FrameContent, output_bytes, total_of, sends_in, requests_in, hellos_in, call_frame, client_frames, server_frames}
+use Rattle.nr_laws.proofs.FrameContents.{FrameContent, output_bytes, total_of, sends_in, requests_in, hellos_in, client_frames, server_frames, send_frames}
 use Rattle.nr_laws.proofs.LinkInvariants.{Transit, TotalsAgree, AreDistinct, AreAtMost, IsUnused}
 use Rattle.nr_laws.proofs.Totals.{total_append}
 use Rattle.nr_laws.proofs.TotalsAtClient.{totals_accepts, totals_writes_up, up_more}
@@ -29,14 +25,16 @@ use Rattle.nr_laws.proofs.TotalsAtServer.{totals_executes, totals_writes_down, a
 use Rattle.nr_laws.proofs.PendingExecuted.{pending_agree_executes, executed_there}
 use Rattle.nr_laws.proofs.OwnXids.{OwnXids, own_xids_accepts, own_xids_writes}
 use Rattle.nr_laws.proofs.Writable.{AreWritable, stream_more}
-use Rattle.nr_laws.proofs.ServerOutput.{execution_frames, execution_proper, execution_said}
+use Rattle.nr_laws.proofs.ServerOutput.{execution_frames, execution_proper, execution_said, short_proper}
 use Rattle.nr_laws.proofs.AgreeingEnds.{EndsAgree, messages_said}
 use Rattle.nr_laws.proofs.ClientFrame.{calls_said}
-use Rattle.nr_laws.proofs.Outputs.{IsShort, send_one, CallsShort, CallShort}
+use Rattle.nr_laws.proofs.Outputs.{IsShort, CallsShort, CallShort, message_of_call}
 use Rattle.nr_laws.proofs.ClientSays.{short_revoked}
 use Rattle.nr_reduce.proofs.WholeWrotes.{ClientEnds, ServerEnds}
 use Rattle.nr_laws.proofs.Basics.{each_kept, each_append}
 use Rattle.nr_laws.proofs.ServerOutputs.{CallFits}
+use Rattle.nr_laws.proofs.SendFrames.{send_counts}
+use Rattle.nr_laws.proofs.OutputFrames.{message_said}
 
 -- ---- Of a client
 
@@ -63,6 +61,7 @@ up_linked opened k t s u d all_up all_down w said l counts outs short received p
   sends_down = ap (λ (h : ReceiveState). h.sends) received ∙ l.sends_down;
   requests_down = ap (λ (h : ReceiveState). h.requests) received ∙ l.requests_down;
   requests_sent = l.requests_sent;
+  bytes_up = l.bytes_up;
 }
 
 pub planned : (payload : List ℕ) (r : Result Plan TooLarge) (p : Plan) → r ≡ Ok p → plan_or payload r ≡ p
@@ -89,13 +88,16 @@ submitted opened k s u d all_up all_down w place a plan l own is limits = by k.h
     short : IsShort (call_message a.xid opened.wished k.stag (outstanding_of k a).plan)
     short = short_call opened k a plan is limits
 
-    p : FrameContent
-    p = call_frame opened (outstanding_of k a)
+    message : List ℕ
+    message = message_of_call opened (outstanding_of k a)
+
+    frames : List FrameContent
+    frames = send_frames message
 
     calls : (b : Bool) → k.has_hello ≡ b → total_of sends_in all_up ≡ cond b k.calls_accepted 0
     calls b e = calls_said opened k s u d all_up all_down w l ∙ ap (λ (x : Bool). cond x k.calls_accepted 0) e
 
-    with_said : (said : List FrameContent) → cond k.has_hello (p ∷ []) [] ≡ said → client_output opened k (CallSubmitted place a) ≡ output_bytes Initiator (total_of sends_in all_up) (total_of requests_in all_up) said → AreWritable said → total_of hellos_in said ≡ 0 → total_of requests_in said ≡ 0
+    with_said : (said : List FrameContent) → cond k.has_hello frames [] ≡ said → client_output opened k (CallSubmitted place a) ≡ output_bytes Initiator (total_of sends_in all_up) (total_of requests_in all_up) said → AreWritable said → total_of hellos_in said ≡ 0 → total_of requests_in said ≡ 0
         → Submitted opened k s u d all_up all_down w place a
     with_said said says output proper hellos reads = record {
       said = said;
@@ -109,14 +111,13 @@ submitted opened k s u d all_up all_down w place a plan l own is limits = by k.h
 
     by : (b : Bool) → k.has_hello ≡ b → Submitted opened k s u d all_up all_down w place a
     by true e =
-        with_said (p ∷ []) (ap (λ (x : Bool). cond x (p ∷ []) []) e)
+        with_said frames (ap (λ (x : Bool). cond x frames []) e)
         (ap (λ (x : Bool). cond x (call_output opened (k.calls_accepted + 1) (outstanding_of k a)) []) e
-        ∙ send_one (k.calls_accepted + 1) (call_message a.xid opened.wished k.stag (outstanding_of k a).plan) short
-        ∙ sym (append-nil (encoding (Untagged true OPCODE_SEND 0 QUEUE_SEND (msn_word (k.calls_accepted + 1)) 0 (call_message a.xid opened.wished k.stag (outstanding_of k a).plan))))
-        ∙ (λ i. output_bytes Initiator (sym (calls true e) i) (total_of requests_in all_up) (p ∷ [])))
-        (short, tt) refl refl
+        ∙ message_said Initiator k.calls_accepted (total_of requests_in all_up) message
+        ∙ (λ i. output_bytes Initiator (sym (calls true e) i) (total_of requests_in all_up) frames))
+        (short_proper message short) (send_counts hellos_in 0 (λ offset payload. refl) (λ m. refl) message) (send_counts requests_in 0 (λ offset payload. refl) (λ m. refl) message)
     by false e =
-        with_said [] (ap (λ (x : Bool). cond x (p ∷ []) []) e) (ap (λ (x : Bool). cond x (call_output opened (k.calls_accepted + 1) (outstanding_of k a)) []) e) tt refl refl
+        with_said [] (ap (λ (x : Bool). cond x frames []) e) (ap (λ (x : Bool). cond x (call_output opened (k.calls_accepted + 1) (outstanding_of k a)) []) e) tt refl refl
 
 -- the memory of a call is revoked
 pub xid_revoked : (xid : ℕ) (o : OutstandingCall) → (revoked_call xid o).xid ≡ o.xid
@@ -159,6 +160,7 @@ same_linked opened k t s u d all_up all_down w v l up down counts outs short rec
   sends_down = ap (λ (h : ReceiveState). h.sends) received ∙ l.sends_down;
   requests_down = ap (λ (h : ReceiveState). h.requests) received ∙ l.requests_down;
   requests_sent = l.requests_sent;
+  bytes_up = l.bytes_up;
 }
 
 pub totals_revoked : (opened : LinkParameters) (k : ClientState) (s : ServerState) (w : Transit) (place xid : ℕ) → TotalsAgree k s w → TotalsAgree (client_state_after opened k (MemoryRevoked place xid)) s w
@@ -214,12 +216,12 @@ executed opened k s u d all_up all_down w e r rest l first own begun limits =
     let t = server_state_after opened s (CallExecuted e) in
     let answer = answer_of_target (offer_of s e.xid) s.down_max e.reply (target_of (call_of e.payload)) in
     let there = executed_there s e.xid r rest l.waits first own in
-    let hellos : total_of hellos_in said ≡ 0 = answer_counts hellos_in 0 (λ last stag to payload. refl) (λ message. refl) s e.xid (offer_of s e.xid) answer in
-    let reads : total_of requests_in said ≡ 0 = answer_counts requests_in 0 (λ last stag to payload. refl) (λ message. refl) s e.xid (offer_of s e.xid) answer in
+    let hellos : total_of hellos_in said ≡ 0 = answer_counts hellos_in 0 (λ last stag to payload. refl) (λ offset payload. refl) (λ m. refl) s e.xid (offer_of s e.xid) answer in
+    let reads : total_of requests_in said ≡ 0 = answer_counts requests_in 0 (λ last stag to payload. refl) (λ offset payload. refl) (λ m. refl) s e.xid (offer_of s e.xid) answer in
     record {
       said = said;
       said_is = refl;
-      output = execution_said s s.requests_sent e limits l.fits ∙ (λ i. output_bytes Responder (messages_said opened k s u d all_up all_down w l i) (l.requests_sent i) said);
+      output = execution_said s s.requests_sent e ∙ (λ i. output_bytes Responder (messages_said opened k s u d all_up all_down w l i) (l.requests_sent i) said);
       linked = record {
         parts_up = l.parts_up;
         parts_down =
@@ -239,6 +241,7 @@ executed opened k s u d all_up all_down w e r rest l first own begun limits =
         sends_down = l.sends_down;
         requests_down = l.requests_down;
         requests_sent = omega (arith, l.requests_sent, reads, total_append requests_in all_down said);
+        bytes_up = l.bytes_up;
       };
     }
 
@@ -263,4 +266,5 @@ written_down opened k s u d all_up all_down w taken all ends l = record {
   sends_down = l.sends_down;
   requests_down = l.requests_down;
   requests_sent = l.requests_sent;
+  bytes_up = l.bytes_up;
 }

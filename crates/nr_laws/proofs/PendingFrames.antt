@@ -1,11 +1,10 @@
 -- Pending calls and sinks behind each frame at a server.
-use Rattle.std.proofs.Common.{◌≡◌, ℕ, ◌+◌, ◌-◌, ◌≤◌, Bool, true, false, not, cond, ◌&&◌, eqb, List, [], ◌∷◌, ◌++◌, length, take, drop, Option, None, Some, Ok, refl, sym, ap, subst, ◌∙◌, arith, append-nil}
-use Rattle.nr_wire.specs.Constants.{OPCODE_READ_RESPONSE, OPCODE_SEND, QUEUE_SEND}
+use Rattle.std.proofs.Common.{◌≡◌, ℕ, ◌-◌, ◌≤◌, Bool, true, false, not, cond, ◌&&◌, eqb, List, [], ◌∷◌, ◌++◌, length, take, drop, Option, None, Some, Ok, refl, sym, ap, subst, ◌∙◌, arith, append-nil}
+use Rattle.nr_wire.specs.Constants.{OPCODE_READ_RESPONSE}
 use Rattle.nr_wire.specs.Segment.{Segment}
-use Rattle.nr_wire.specs.Segment.Segment.{Tagged, Untagged}
+use Rattle.nr_wire.specs.Segment.Segment.{Tagged}
 use Rattle.nr_reduce.specs.declared.mark.LinkParameters.{LinkParameters}
 use Rattle.nr_reduce.specs.Chunks.{is_read_chunk_of_item}
-use Rattle.nr_link.specs.Output.{msn_word}
 use Rattle.nr_link.specs.Frames.{Frame}
 use Rattle.nr_link.specs.ReceiveState.{begun_bytes}
 use Rattle.nr_link.specs.Ending.{frame_segment}
@@ -18,8 +17,8 @@ use Rattle.nr_reduce.specs.ServerReads.{open_reads, regions_of, reads_of}
 use Rattle.nr_reduce.specs.Server.{server_state_after}
 use Rattle.nr_reduce.specs.ServerMessages.Verdict.{EndsLink, OtherVersion, BadChunks, MakesPending}
 use Rattle.nr_reduce.specs.ServerMessages.CallVerdict.{Refuses, IsReady}
-use Rattle.nr_laws.proofs.FrameContents.{Carries}
-use Rattle.nr_laws.proofs.FrameContents.FrameContent.{SendFrame, TaggedFrame}
+use Rattle.nr_laws.proofs.FrameContents.{Carries, SentMessage, part_segment, last_segment}
+use Rattle.nr_laws.proofs.FrameContents.FrameContent.{PartFrame, SendFrame, TaggedFrame}
 use Rattle.nr_laws.proofs.LinkInvariants.{PendingAgree, HaveSinks}
 use Rattle.nr_laws.proofs.TotalsAtServer.{after_is_lem, step_is, segment_is, with_by}
 use Rattle.nr_laws.proofs.PendingSends.{AfterEffect, pending_agree_message, pending_agree_same, verdict_new}
@@ -28,16 +27,25 @@ use Rattle.nr_laws.proofs.Sinks.{sink_later, sinks_closed, sinks_more, sinks_app
 use Rattle.nr_laws.proofs.NewSinks.{AreKnown, sinks_opened}
 use Rattle.nr_laws.proofs.EachEffect.{whole_rule}
 
-pub pending_agree_send_up : (opened : LinkParameters) (s : ServerState) (f : Frame) (message : List ℕ) → PendingAgree s → Carries s.received.sends s.received.requests f (SendFrame message) → (frame_effect s f).refusal ≡ None → PendingAgree (server_state_after opened s (FrameReceived f))
+pub pending_agree_send_up : (opened : LinkParameters) (s : ServerState) (f : Frame) (message : SentMessage) → PendingAgree s → Carries s.received.sends s.received.requests f (SendFrame message) → (frame_effect s f).refusal ≡ None → PendingAgree (server_state_after opened s (FrameReceived f))
 pending_agree_send_up opened s f message w p goes_on =
-    let segment : Segment = Untagged true OPCODE_SEND 0 QUEUE_SEND (msn_word (s.received.sends + 1)) 0 message in
+    let segment : Segment = last_segment s.received.sends message in
     let is : frame_segment f ≡ Ok segment = segment_is s.received.sends s.received.requests f (SendFrame message) segment p refl in
-    let whole : List ℕ = begun_bytes s.received.begun ++ message in
+    let whole : List ℕ = begun_bytes s.received.begun ++ message.payload in
     let st = effect_in s f (Ok segment) in
     let unended : st.refusal ≡ None = ap (λ (x : FrameEffect). x.refusal) (sym (step_is s f (Ok segment) is)) ∙ goes_on in
     let t = with_by s f (Ok segment) st in
     subst (λ (t2 : ServerState). PendingAgree t2) (sym (after_is_lem opened s f (Ok segment) p.behind is))
     (pending_agree_message s t f.end whole (verdict s whole) refl w (record { sends_are = refl; calls = refl; reads = refl; ready = refl }) unended)
+
+-- a segment of a Send that isn't its last
+pub pending_agree_part_up : (opened : LinkParameters) (s : ServerState) (f : Frame) (offset : ℕ) (payload : List ℕ) → PendingAgree s → Carries s.received.sends s.received.requests f (PartFrame offset payload) → PendingAgree (server_state_after opened s (FrameReceived f))
+pending_agree_part_up opened s f offset payload w p =
+    let segment : Segment = part_segment s.received.sends offset payload in
+    let is : frame_segment f ≡ Ok segment = segment_is s.received.sends s.received.requests f (PartFrame offset payload) segment p refl in
+    let t = with_by s f (Ok segment) (effect_in s f (Ok segment)) in
+    subst (λ (t2 : ServerState). PendingAgree t2) (sym (after_is_lem opened s f (Ok segment) p.behind is))
+    (pending_agree_same s t w refl refl (append-nil s.ready) (omega arith))
 
 pending_agree_response : (s t : ServerState) (f : Frame) (segment : Segment) (reads : List PendingRead) → s.reads ≡ reads → PendingAgree s → AfterEffect s t (response_effect (with_access s f segment) f.end reads) 0
     → (response_effect (with_access s f segment) f.end reads).refusal ≡ None → PendingAgree t
@@ -103,15 +111,24 @@ pub later_sinks : (place at : ℕ) (regions : List Region) (reads : List Pending
 later_sinks place at regions [] le h = tt
 later_sinks place at regions (r ∷ reads) le h = (sink_later place at r regions le h.0, later_sinks place at regions reads le h.1)
 
-pub sinks_send_up : (opened : LinkParameters) (s : ServerState) (f : Frame) (place : ℕ) (message : List ℕ) → AreKnown s → HaveSinks place s.regions s.reads → place ≤ f.end → Carries s.received.sends s.received.requests f (SendFrame message)
+pub sinks_send_up : (opened : LinkParameters) (s : ServerState) (f : Frame) (place : ℕ) (message : SentMessage) → AreKnown s → HaveSinks place s.regions s.reads → place ≤ f.end → Carries s.received.sends s.received.requests f (SendFrame message)
     → HaveSinks f.end (server_state_after opened s (FrameReceived f)).regions (server_state_after opened s (FrameReceived f)).reads
 sinks_send_up opened s f place message a h le p =
-    let segment : Segment = Untagged true OPCODE_SEND 0 QUEUE_SEND (msn_word (s.received.sends + 1)) 0 message in
+    let segment : Segment = last_segment s.received.sends message in
     let is : frame_segment f ≡ Ok segment = segment_is s.received.sends s.received.requests f (SendFrame message) segment p refl in
-    let whole : List ℕ = begun_bytes s.received.begun ++ message in
+    let whole : List ℕ = begun_bytes s.received.begun ++ message.payload in
     let st = effect_in s f (Ok segment) in
     subst (λ (t : ServerState). HaveSinks f.end t.regions t.reads) (sym (after_is_lem opened s f (Ok segment) p.behind is))
     (sinks_closed f.end f.end st.calls st.reads st.regions (omega arith) (message_sinks s f.end whole (verdict s whole) refl a (later_sinks place f.end s.regions s.reads le h)))
+
+pub sinks_part_up : (opened : LinkParameters) (s : ServerState) (f : Frame) (place : ℕ) (offset : ℕ) (payload : List ℕ) → HaveSinks place s.regions s.reads → place ≤ f.end → Carries s.received.sends s.received.requests f (PartFrame offset payload)
+    → HaveSinks f.end (server_state_after opened s (FrameReceived f)).regions (server_state_after opened s (FrameReceived f)).reads
+sinks_part_up opened s f place offset payload h le p =
+    let segment : Segment = part_segment s.received.sends offset payload in
+    let is : frame_segment f ≡ Ok segment = segment_is s.received.sends s.received.requests f (PartFrame offset payload) segment p refl in
+    let st = effect_in s f (Ok segment) in
+    subst (λ (t : ServerState). HaveSinks f.end t.regions t.reads) (sym (after_is_lem opened s f (Ok segment) p.behind is))
+    (sinks_closed f.end f.end st.calls st.reads st.regions (omega arith) (later_sinks place f.end s.regions s.reads le h))
 
 pub sinks_tagged_up : (opened : LinkParameters) (s : ServerState) (f : Frame) (place : ℕ) (last : Bool) (opcode stag to : ℕ) (payload : List ℕ) → HaveSinks place s.regions s.reads → place ≤ f.end
     → Carries s.received.sends s.received.requests f (TaggedFrame last opcode stag to payload) → HaveSinks f.end (server_state_after opened s (FrameReceived f)).regions (server_state_after opened s (FrameReceived f)).reads

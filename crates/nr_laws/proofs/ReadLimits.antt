@@ -1,17 +1,15 @@
 -- The reads of a server have words for numbers, and its regions are few and small.
-use Rattle.std.proofs.Common.{◌≡◌, ℕ, ◌+◌, ◌≤◌, ◌<◌, ◌^◌, Bool, true, false, cond, not, eqb, List, [], ◌∷◌, ◌++◌, length, map, take, drop, filter, sum_by, None, Ok, refl, subst, arith, length-append}
+use Rattle.std.proofs.Common.{◌≡◌, ℕ, ◌+◌, ◌≤◌, ◌<◌, ◌^◌, Bool, true, false, cond, not, eqb, List, [], ◌∷◌, ◌++◌, length, map, take, drop, filter, sum_by, Ok, refl, subst, arith, length-append}
 use Rattle.std.specs.List.{AllByRecursion}
 use Rattle.std.proofs.lemmas.List.{length-replicate, length-map}
 use Rattle.std.proofs.lemmas.List.Sums.{sum_by-cons}
 use Rattle.nr_xdr.specs.Item.{IsBytes}
-use Rattle.nr_wire.specs.Constants.{OPCODE_SEND, QUEUE_SEND}
-use Rattle.nr_wire.specs.Segment.Segment.{Tagged, Untagged}
+use Rattle.nr_wire.specs.Segment.Segment.{Tagged}
 use Rattle.nr_header.specs.declared.header.ReadSegment.{ReadSegment}
 use Rattle.nr_header.specs.declared.header.ChunkLists.{ChunkLists}
 use Rattle.nr_header.specs.Constants.{PAYLOAD_MAX}
 use Rattle.nr_header.specs.WithinLimits.{read_total}
 use Rattle.nr_link.specs.Frames.{Frame}
-use Rattle.nr_link.specs.Output.{msn_word}
 use Rattle.nr_link.specs.Ending.{frame_segment}
 use Rattle.nr_reduce.specs.Limits.{numbers_end}
 use Rattle.nr_reduce.specs.Chunks.{total_at, at_position}
@@ -21,6 +19,7 @@ use Rattle.nr_reduce.specs.ServerReads.{regions_from, regions_of, reads_from, re
 use Rattle.nr_reduce.specs.ServerMessages.{verdict}
 use Rattle.nr_reduce.specs.ServerMessages.Verdict.{MakesPending}
 use Rattle.nr_reduce.specs.ServerFrames.{FrameEffect, with_refused_call, frame_effect}
+use Rattle.nr_laws.proofs.FrameContents.{SentMessage, CompletesMessage, last_segment}
 use Rattle.nr_laws.proofs.WritableOffers.{EntriesFit, verdict_fits, verdict_few}
 use Rattle.nr_laws.proofs.ServerInvariant.{length_from}
 use Rattle.nr_laws.proofs.Basics.{above_zero, each_append, each_take, each_drop, each_kept}
@@ -69,9 +68,9 @@ regions_small number place stag lists (p ∷ ps) le =
 
 -- ---- Effects
 
-pub within_send : (k : ServerState) (f : Frame) (message : List ℕ) → k.received.begun ≡ None → IsBytes message → AreWithin k.reads k.regions → frame_segment f ≡ Ok (Untagged true OPCODE_SEND 0 QUEUE_SEND (msn_word (k.received.sends + 1)) 0 message)
+pub within_send : (k : ServerState) (f : Frame) (message : SentMessage) → CompletesMessage k.received message → IsBytes message.bytes → AreWithin k.reads k.regions → frame_segment f ≡ Ok (last_segment k.received.sends message)
     → AreWithin (frame_effect k f).reads (frame_effect k f).regions
-within_send k f message none bytes h is = send_effect k IsBytes (λ s. AreWithin s.reads s.regions) (held_messages k IsBytes (λ calls reads regions. AreWithin reads regions) h pending) f message none bytes is
+within_send k f message completes bytes h is = send_effect k IsBytes (λ s. AreWithin s.reads s.regions) (held_messages k IsBytes (λ calls reads regions. AreWithin reads regions) h pending) f message completes bytes is
   where
     pending : (place : ℕ) (message : List ℕ) (c : PendingCall) → IsBytes message → verdict k message ≡ MakesPending c → AreWithin (k.reads ++ reads_of (k.regions ++ regions_of k place c) c) (k.regions ++ regions_of k place c)
     pending place message c bytes is =

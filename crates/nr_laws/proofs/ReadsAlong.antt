@@ -32,7 +32,7 @@ use Rattle.nr_reduce.proofs.Once.{NumberIs, verdict_number, whole_with, rises_wi
 use Rattle.nr_reduce.proofs.OwnStags.{AreNumbered, closed_length}
 use Rattle.nr_laws.proofs.Outputs.{Output, effect_outputs, answer_outputs, answer_of_call, message_sends, message_outputs, request_outputs, request_payload}
 use Rattle.nr_laws.proofs.Outputs.Output.{AHello, ASegment}
-use Rattle.nr_laws.proofs.Messages.{AreTagged}
+use Rattle.nr_laws.proofs.TaggedSegments.{AreTagged}
 use Rattle.nr_laws.proofs.ClientSays.{no_reason}
 use Rattle.nr_laws.proofs.ServerOutputs.{tagged_answer}
 use Rattle.nr_laws.proofs.SinkReads.{SinksBelow}

@@ -1,14 +1,13 @@
 -- Reads agree behind each frame at the server.
-use Rattle.std.proofs.Common.{◌≡◌, ℕ, zero, suc, ◌+◌, ◌-◌, ◌≤◌, Bool, true, false, not, cond, ◌&&◌, eqb, List, [], ◌∷◌, ◌++◌, length, map, take, drop, Option, None, Some, Ok, refl, sym, ap, subst, ◌∙◌, arith, append_assoc, length-append, length-take, take-append-drop}
-use Rattle.std.specs.List.{filter}
+use Rattle.std.proofs.Common.{◌≡◌, ℕ, zero, suc, ◌-◌, ◌≤◌, Bool, true, false, not, cond, ◌&&◌, eqb, List, [], ◌∷◌, ◌++◌, length, map, take, drop, Option, None, Some, Ok, refl, sym, ap, subst, ◌∙◌, arith, append_assoc, length-append, length-take, take-append-drop}
+use Rattle.std.specs.List.{filter, range_with_len}
 use Rattle.std.proofs.lemmas.List.{take-append-le, map-append}
-use Rattle.nr_wire.specs.Constants.{OPCODE_READ_RESPONSE, OPCODE_SEND, QUEUE_SEND}
+use Rattle.nr_wire.specs.Constants.{OPCODE_READ_RESPONSE}
 use Rattle.nr_wire.specs.Segment.{Segment}
-use Rattle.nr_wire.specs.Segment.Segment.{Tagged, Untagged}
+use Rattle.nr_wire.specs.Segment.Segment.{Tagged}
 use Rattle.nr_reduce.specs.declared.mark.LinkParameters.{LinkParameters}
 use Rattle.nr_link.specs.Limits.{open_reads_max}
 use Rattle.nr_reduce.specs.Chunks.{is_read_chunk_of_item}
-use Rattle.nr_link.specs.Output.{msn_word}
 use Rattle.nr_link.specs.Frames.{Frame}
 use Rattle.nr_link.specs.ReceiveState.{begun_bytes}
 use Rattle.nr_link.specs.Ending.{frame_segment}
@@ -20,8 +19,8 @@ use Rattle.nr_reduce.specs.ServerReads.{open_reads, is_read, reads_of, regions_o
 use Rattle.nr_reduce.specs.Server.{newly_open_reads, server_state_after}
 use Rattle.nr_reduce.specs.ServerMessages.Verdict.{EndsLink, OtherVersion, BadChunks, MakesPending}
 use Rattle.nr_reduce.specs.ServerMessages.CallVerdict.{Refuses, IsReady}
-use Rattle.nr_laws.proofs.FrameContents.{FrameContent, Carries, request_frame, effect_frames}
-use Rattle.nr_laws.proofs.FrameContents.FrameContent.{HelloFrame, SendFrame, RequestFrame, TaggedFrame}
+use Rattle.nr_laws.proofs.FrameContents.{FrameContent, Carries, request_frame, effect_frames, SentMessage, last_segment, part_segment, send_frames, errors_frames, part_frame, last_part, last_index}
+use Rattle.nr_laws.proofs.FrameContents.FrameContent.{HelloFrame, PartFrame, SendFrame, RequestFrame, TaggedFrame}
 use Rattle.nr_laws.proofs.LinkInvariants.{Transit, AreResponses, ContinuesRead, requests_of, ReadsAgree}
 use Rattle.nr_laws.proofs.TotalsAtServer.{shape_message, after_is_lem, step_is, segment_is, with_by}
 use Rattle.nr_laws.proofs.EachEffect.{whole_rule}
@@ -93,13 +92,22 @@ open_parts_lem st xs le h =
 pub requests_append : (xs ys : List FrameContent) → requests_of (xs ++ ys) ≡ requests_of xs ++ requests_of ys
 requests_append [] ys = refl
 requests_append (HelloFrame ∷ xs) ys = requests_append xs ys
+requests_append (PartFrame offset payload ∷ xs) ys = requests_append xs ys
 requests_append (SendFrame message ∷ xs) ys = requests_append xs ys
 requests_append (RequestFrame sink at size stag to ∷ xs) ys = ap (λ (zs : List FrameContent). RequestFrame sink at size stag to ∷ zs) (requests_append xs ys)
 requests_append (TaggedFrame last opcode stag to payload ∷ xs) ys = requests_append xs ys
 
-none_of_sends : (messages : List (List ℕ)) → requests_of (map SendFrame messages) ≡ []
+pub send_asks_none : (message : List ℕ) → requests_of (send_frames message) ≡ []
+unfolding send_frames
+send_asks_none message = by (range_with_len 0 (last_index message))
+  where
+    by : (is : List ℕ) → requests_of (map (part_frame message) is ++ SendFrame (last_part message) ∷ []) ≡ []
+    by [] = refl
+    by (i ∷ is) = by is
+
+none_of_sends : (messages : List (List ℕ)) → requests_of (errors_frames messages) ≡ []
 none_of_sends [] = refl
-none_of_sends (m ∷ messages) = none_of_sends messages
+none_of_sends (m ∷ messages) = requests_append (send_frames m) (errors_frames messages) ∙ (λ i. send_asks_none m i ++ none_of_sends messages i)
 
 all_of_reads : (rs : List PendingRead) → requests_of (map request_frame rs) ≡ map request_frame rs
 all_of_reads [] = refl
@@ -107,7 +115,7 @@ all_of_reads (r ∷ rs) = ap (λ (zs : List FrameContent). request_frame r ∷ z
 
 requests_said : (st : FrameEffect) → requests_of (effect_frames st) ≡ map request_frame (newly_open_reads st)
 requests_said st =
-    requests_append (map SendFrame st.errors) (map request_frame (newly_open_reads st))
+    requests_append (errors_frames st.errors) (map request_frame (newly_open_reads st))
     ∙ (λ i. none_of_sends st.errors i ++ all_of_reads (newly_open_reads st) i)
 
 abbrev pub moved : Transit → FrameEffect → List FrameContent → Transit
@@ -127,12 +135,12 @@ reads_moved s t w st rest answered asked same le parts answers requests = record
       ∙ sym (map-append request_frame asked (newly_open_reads st));
 }
 
-pub reads_send_up : (opened : LinkParameters) (s : ServerState) (w : Transit) (f : Frame) (message : List ℕ) (rest : List FrameContent) → ReadsAgree s w → w.up ≡ SendFrame message ∷ rest
+pub reads_send_up : (opened : LinkParameters) (s : ServerState) (w : Transit) (f : Frame) (message : SentMessage) (rest : List FrameContent) → ReadsAgree s w → w.up ≡ SendFrame message ∷ rest
     → Carries s.received.sends s.received.requests f (SendFrame message) → (frame_effect s f).refusal ≡ None → ReadsAgree (server_state_after opened s (FrameReceived f)) (moved w (frame_effect s f) rest)
 reads_send_up opened s w f message rest c first p goes_on =
-    let segment : Segment = Untagged true OPCODE_SEND 0 QUEUE_SEND (msn_word (s.received.sends + 1)) 0 message in
+    let segment : Segment = last_segment s.received.sends message in
     let is : frame_segment f ≡ Ok segment = segment_is s.received.sends s.received.requests f (SendFrame message) segment p refl in
-    let whole : List ℕ = begun_bytes s.received.begun ++ message in
+    let whole : List ℕ = begun_bytes s.received.begun ++ message.payload in
     let st = effect_in s f (Ok segment) in
     let unended : st.refusal ≡ None = ap (λ (x : FrameEffect). x.refusal) (sym (step_is s f (Ok segment) is)) ∙ goes_on in
     let shape = shape_message s f.end whole (verdict s whole) unended in
@@ -141,6 +149,19 @@ reads_send_up opened s w f message rest c first p goes_on =
     let m : ReadsAgree t (moved w st rest) =
     reads_moved s t w st rest c.answered c.asked refl (subst (λ (n : ℕ). n ≤ length (take open_reads_max st.reads)) (sym shape.kept_is) shape.kept_there)
     (front_message s f.end whole (verdict s whole) ∙ c.parts) answers c.requests in
+    subst (λ (st2 : FrameEffect). ReadsAgree (server_state_after opened s (FrameReceived f)) (moved w st2 rest)) (sym (step_is s f (Ok segment) is))
+    (subst (λ (t2 : ServerState). ReadsAgree t2 (moved w st rest)) (sym (after_is_lem opened s f (Ok segment) p.behind is)) m)
+
+-- a segment of a Send that isn't its last
+pub reads_part_up : (opened : LinkParameters) (s : ServerState) (w : Transit) (f : Frame) (offset : ℕ) (payload : List ℕ) (rest : List FrameContent) → ReadsAgree s w → w.up ≡ PartFrame offset payload ∷ rest
+    → Carries s.received.sends s.received.requests f (PartFrame offset payload) → ReadsAgree (server_state_after opened s (FrameReceived f)) (moved w (frame_effect s f) rest)
+reads_part_up opened s w f offset payload rest c first p =
+    let segment : Segment = part_segment s.received.sends offset payload in
+    let is : frame_segment f ≡ Ok segment = segment_is s.received.sends s.received.requests f (PartFrame offset payload) segment p refl in
+    let st = effect_in s f (Ok segment) in
+    let t = with_by s f (Ok segment) st in
+    let answers : AreResponses s.response_bytes c.answered (rest ++ w.queued_up) = subst (λ (ps : List FrameContent). AreResponses s.response_bytes c.answered (ps ++ w.queued_up)) first c.answers in
+    let m : ReadsAgree t (moved w st rest) = reads_moved s t w st rest c.answered c.asked refl (omega arith) (taken_again open_reads_max s.reads ∙ c.parts) answers c.requests in
     subst (λ (st2 : FrameEffect). ReadsAgree (server_state_after opened s (FrameReceived f)) (moved w st2 rest)) (sym (step_is s f (Ok segment) is))
     (subst (λ (t2 : ServerState). ReadsAgree t2 (moved w st rest)) (sym (after_is_lem opened s f (Ok segment) p.behind is)) m)
 

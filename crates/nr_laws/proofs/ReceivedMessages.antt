@@ -1,4 +1,4 @@
--- What a side has of the messages that its frames brought: each is one segment, and they are counted.
+-- What a side has of the messages that its frames brought: how many its segments completed.
 use Rattle.std.proofs.Common.{◌≡◌, ℕ, ◌+◌, Bool, true, false, cond, List, [], ◌∷◌, ◌++◌, length, length-append, Option, None, Some, Result, Ok, Err, refl, sym, ap, subst, ◌∙◌, arith}
 use Rattle.std.specs.Prelude.{option_to_list}
 use Rattle.nr_wire.specs.Segment.{Segment}

@@ -1,17 +1,16 @@
 -- Each message of a server has the size of a message and its credits, and can be read.
 use Rattle.std.specs.List.{find}
-use Rattle.nr_wire.specs.Constants.{OPCODE_SEND, QUEUE_SEND}
 use Rattle.nr_header.specs.Constants.{PAYLOAD_MAX}
-use Rattle.nr_link.specs.Output.{msn_word}
+use Rattle.nr_laws.proofs.FrameContents.{SentMessage, CompletesMessage, last_segment}
 use Rattle.nr_laws.proofs.AnswerLists.{IsRead, read_answer, read_chunk_error, read_version_error}
-use Rattle.std.proofs.Common.{◌≡◌, ℕ, ◌+◌, ◌*◌, ◌≤◌, ◌<◌, ◌^◌, Bool, true, false, cond, eqb, List, [], ◌∷◌, ◌++◌, length, take, drop, Some, None, Ok, refl, sym, ap, ◌∙◌, arith, length-append, append_assoc, take_all}
+use Rattle.std.proofs.Common.{◌≡◌, ℕ, ◌+◌, ◌*◌, ◌≤◌, ◌<◌, ◌^◌, Bool, true, false, cond, eqb, List, [], ◌∷◌, ◌++◌, length, take, drop, Some, Ok, refl, sym, ap, ◌∙◌, arith, length-append, append_assoc, take_all}
 use Rattle.std.proofs.Math.Seq.{drop-append_seam}
 use Rattle.std.proofs.lemmas.List.{take-append-le}
 use Rattle.nr_xdr.specs.Item.{word, word_of}
 use Rattle.nr_xdr.specs.Items.{encodings}
 use Rattle.nr_xdr.specs.Fields.{word_at}
 use Rattle.nr_xdr.proofs.WordBytes.{length_word, word_of_word}
-use Rattle.nr_wire.specs.Segment.Segment.{Tagged, Untagged}
+use Rattle.nr_wire.specs.Segment.Segment.{Tagged}
 use Rattle.nr_header.specs.declared.header.ChunkLists.{ChunkLists}
 use Rattle.nr_header.specs.declared.header.Body.TheVariants.{Msg, Nomsg}
 use Rattle.nr_header.specs.Header.{header_encoding, lists_items}
@@ -77,16 +76,16 @@ replies_verdict : (credit : ℕ) (o : CallVerdict) (s : FrameEffect) → AreRepl
 replies_verdict credit (Refuses reason) s h = h
 replies_verdict credit (IsReady r) s h = h
 
-pub replies_send : (k : ServerState) (f : Frame) (message : List ℕ) → k.received.begun ≡ None → word_at 0 message < 2 ^ 32 → word_at 4 message < 2 ^ 32 → k.credit < 2 ^ 32
-    → frame_segment f ≡ Ok (Untagged true OPCODE_SEND 0 QUEUE_SEND (msn_word (k.received.sends + 1)) 0 message) → AreReplies k.credit (frame_effect k f).errors
-replies_send k f message none xid version lt is =
+pub replies_send : (k : ServerState) (f : Frame) (message : SentMessage) → CompletesMessage k.received message → word_at 0 message.bytes < 2 ^ 32 → word_at 4 message.bytes < 2 ^ 32 → k.credit < 2 ^ 32
+    → frame_segment f ≡ Ok (last_segment k.received.sends message) → AreReplies k.credit (frame_effect k f).errors
+replies_send k f message completes xid version lt is =
     send_effect k (λ m. (word_at 0 m < 2 ^ 32) × (word_at 4 m < 2 ^ 32)) (λ s. AreReplies k.credit s.errors) (record {
       judged = λ t place c s h. replies_verdict k.credit (by_payload c (payload_of t place c)) s h;
       ends = λ m reason fit is. tt;
       version = λ m fit. (version_error_reply (word_at 0 m) (word_at 4 m) k.credit fit.0 fit.1 lt, tt);
       chunks = λ m fit. (chunk_error_reply (word_at 0 m) k.credit fit.0 lt, tt);
       pending = λ place m c fit is. tt;
-    }) f message none (xid, version) is
+    }) f message completes (xid, version) is
 
 pub replies_tagged : (k : ServerState) (f : Frame) (last : Bool) (opcode stag to : ℕ) (payload : List ℕ) → ((n : ℕ) (c : PendingCall) → find (λ (y : PendingCall). eqb y.number n) k.calls ≡ Some c → c.xid < 2 ^ 32) → k.credit < 2 ^ 32
     → frame_segment f ≡ Ok (Tagged last opcode stag to payload) → AreReplies k.credit (frame_effect k f).errors

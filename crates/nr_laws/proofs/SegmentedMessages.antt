@@ -26,16 +26,16 @@ unfolding send cut
 send_is_its_segments msn message = sym (flat_over encoding (message_segment msn message) (range_with_len 0 (segment_count message)))
 
 -- at which offset a segment stands in its message
-piece_starts : (n i : ℕ) → i < max 1 ((n + (segment_max - 1)) / segment_max) → segment_max * i ≤ n
+pub piece_starts : (n i : ℕ) → i < max 1 ((n + (segment_max - 1)) / segment_max) → segment_max * i ≤ n
 piece_starts n i lt = omega (arith, lt)
 
 pieces_end : (n : ℕ) → n ≤ segment_max * max 1 ((n + (segment_max - 1)) / segment_max)
 pieces_end n = omega arith
 
-offset_word : (n i : ℕ) → i < max 1 ((n + (segment_max - 1)) / segment_max) → n ≤ 2 ^ 32 → segment_max * i < 2 ^ 32
+pub offset_word : (n i : ℕ) → i < max 1 ((n + (segment_max - 1)) / segment_max) → n ≤ 2 ^ 32 → segment_max * i < 2 ^ 32
 offset_word n i lt le = omega (arith, lt, le)
 
-payload_size : (bytes : List ℕ) (i : ℕ) → length (segment_payload bytes i) ≤ segment_max
+pub payload_size : (bytes : List ℕ) (i : ℕ) → length (segment_payload bytes i) ≤ segment_max
 payload_size bytes i = (let l = length-take segment_max (drop (segment_max * i) bytes) in omega (arith, l))
 
 pub segment_word : (msn : ℕ) (message : List ℕ) (i : ℕ) → i < segment_count message → length message ≤ 2 ^ 32 → IsWord (message_segment msn message i)
@@ -48,20 +48,20 @@ segments_read_back msn message i lt short = (payload_size message i, (encoding_i
 
 -- ---- What is received
 
-is_last_lem : (i n : ℕ) → i + 1 ≡ n → eqb (i + 1) n ≡ true
+pub is_last_lem : (i n : ℕ) → i + 1 ≡ n → eqb (i + 1) n ≡ true
 is_last_lem i n is = eq-eqb (i + 1) n is
 
-not_last : (i k n : ℕ) → i + suc (suc k) ≡ n → eqb (i + 1) n ≡ false
+pub not_last : (i k n : ℕ) → i + suc (suc k) ≡ n → eqb (i + 1) n ≡ false
 not_last i k n is = ne_eqb (i + 1) n (λ e. omega (arith, e, is))
 
 -- the front of the message, and the next segment's bytes
-joined : (message : List ℕ) (i : ℕ) (front : List ℕ) → front ≡ take (segment_max * i) message → front ++ segment_payload message i ≡ take (segment_max * (i + 1)) message
+pub joined : (message : List ℕ) (i : ℕ) (front : List ℕ) → front ≡ take (segment_max * i) message → front ++ segment_payload message i ≡ take (segment_max * (i + 1)) message
 joined message i front is =
     ap (λ (xs : List ℕ). xs ++ take segment_max (drop (segment_max * i) message)) is
     ∙ sym (take-add (segment_max * i) segment_max message)
     ∙ ap (λ (n : ℕ). take n message) (let s : segment_max * i + segment_max ≡ segment_max * (i + 1) = omega arith in s)
 
-all_joined : (message : List ℕ) (i : ℕ) (front : List ℕ) → front ≡ take (segment_max * i) message → i + 1 ≡ segment_count message → front ++ segment_payload message i ≡ message
+pub all_joined : (message : List ℕ) (i : ℕ) (front : List ℕ) → front ≡ take (segment_max * i) message → i + 1 ≡ segment_count message → front ++ segment_payload message i ≡ message
 all_joined message i front is last =
     joined message i front is ∙ take_all (segment_max * (i + 1)) message (let e = pieces_end (length message) in omega (arith, e, last))
 

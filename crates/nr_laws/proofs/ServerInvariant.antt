@@ -1,13 +1,11 @@
 -- What a server keeps behind each frame: totals, reads, pending calls, sinks, and the bounds of its regions.
 use Rattle.std.proofs.Common.{◌≡◌, ℕ, suc, ◌+◌, ◌≤◌, ◌<◌, Bool, true, false, List, [], ◌∷◌, ◌++◌, length, None, Ok, refl, sym, ap, subst, ◌∙◌, arith, length-append}
-use Rattle.nr_wire.specs.Constants.{OPCODE_SEND, QUEUE_SEND}
 use Rattle.nr_wire.specs.Segment.{Segment}
-use Rattle.nr_wire.specs.Segment.Segment.{Tagged, Untagged}
+use Rattle.nr_wire.specs.Segment.Segment.{Tagged}
 use Rattle.nr_header.specs.declared.header.ChunkLists.{ChunkLists}
 use Rattle.nr_reduce.proofs.OwnLimits.{ServerLimits, server_event}
 use Rattle.nr_reduce.specs.declared.mark.LinkParameters.{LinkParameters}
 use Rattle.nr_reduce.specs.Limits.{send_max}
-use Rattle.nr_link.specs.Output.{msn_word}
 use Rattle.nr_link.specs.Frames.{Frame}
 use Rattle.nr_link.specs.Ending.{frame_segment}
 use Rattle.nr_reduce.specs.OfferedRegions.{Region, regions_closed, closed_if}
@@ -19,19 +17,20 @@ use Rattle.nr_reduce.specs.ServerMessages.{verdict}
 use Rattle.nr_reduce.specs.ServerReads.{is_over, regions_of, regions_from, chunks_of}
 use Rattle.nr_reduce.specs.Server.{server_state_after, server_end, refusal_end}
 use Rattle.nr_reduce.specs.ServerMessages.Verdict.{MakesPending}
-use Rattle.nr_laws.proofs.FrameContents.{FrameContent, Carries}
-use Rattle.nr_laws.proofs.FrameContents.FrameContent.{SendFrame, TaggedFrame}
+use Rattle.nr_laws.proofs.FrameContents.{SentMessage, CompletesMessage, last_segment, FrameContent, Carries, part_segment}
+use Rattle.nr_laws.proofs.FrameContents.FrameContent.{PartFrame, SendFrame, TaggedFrame}
 use Rattle.nr_laws.proofs.LinkInvariants.{Transit, TotalsAgree, ReadsAgree, PendingAgree, HaveSinks, AreAtMost, WithinWindow}
-use Rattle.nr_laws.proofs.TotalsAtServer.{after_is_lem, segment_is, totals_send_up, totals_tagged_up, step_is}
+use Rattle.nr_laws.proofs.TotalsAtServer.{after_is_lem, segment_is, totals_send_up, totals_tagged_up, step_is, totals_part_up}
 use Rattle.nr_laws.proofs.DistinctKeys.{below_more, below_append}
 use Rattle.nr_laws.proofs.PendingSends.{verdict_new}
-use Rattle.nr_laws.proofs.ReadsAtServer.{reads_send_up, reads_tagged_up, moved}
-use Rattle.nr_laws.proofs.PendingFrames.{pending_agree_send_up, pending_agree_tagged_up, sinks_send_up, sinks_tagged_up}
+use Rattle.nr_laws.proofs.ReadsAtServer.{reads_send_up, reads_tagged_up, moved, reads_part_up}
+use Rattle.nr_laws.proofs.PendingFrames.{pending_agree_send_up, pending_agree_tagged_up, sinks_send_up, sinks_tagged_up, pending_agree_part_up, sinks_part_up}
 use Rattle.nr_laws.proofs.NewSinks.{AreKnown}
-use Rattle.nr_laws.proofs.EndsOfFrames.{server_send}
+use Rattle.nr_laws.proofs.EndsOfFrames.{server_send, server_part}
 use Rattle.nr_laws.proofs.AllowedResponses.{server_response_taken}
 use Rattle.nr_laws.proofs.EachEffect.{held_messages, held_responses, send_effect, tagged_effect_lem}
 use Rattle.nr_reduce.proofs.OwnStags.{closed_length, closed_stag}
+use Rattle.nr_laws.proofs.SendFrames.{at_front}
 
 record Below (sends : ℕ) (regions : List Region) : Type 0 where
   stags : AreAtMost (λ (g : Region). g.stag) (length regions) regions
@@ -67,11 +66,11 @@ calls_from number place stag lists (p ∷ ps) = (omega arith, calls_from number 
 more_below : (n m : ℕ) (regions : List Region) → n ≤ m → Below n regions → Below m regions
 more_below n m regions le b = record { stags = b.stags; calls = below_more (λ (g : Region). g.call) n m regions le b.calls }
 
-message_below : (k : ServerState) (f : Frame) (message : List ℕ) → k.received.begun ≡ None → Below k.received.sends k.regions → frame_segment f ≡ Ok (Untagged true OPCODE_SEND 0 QUEUE_SEND (msn_word (k.received.sends + 1)) 0 message)
+message_below : (k : ServerState) (f : Frame) (message : SentMessage) → CompletesMessage k.received message → Below k.received.sends k.regions → frame_segment f ≡ Ok (last_segment k.received.sends message)
     → Below (k.received.sends + 1) (frame_effect k f).regions
-message_below k f message none b is =
+message_below k f message completes b is =
     send_effect k (λ m. Unit {0}) (λ st. Below (k.received.sends + 1) st.regions)
-    (held_messages k (λ m. Unit {0}) (λ calls reads regions. Below (k.received.sends + 1) regions) (more_below k.received.sends (k.received.sends + 1) k.regions (omega arith) b) pending) f message none tt is
+    (held_messages k (λ m. Unit {0}) (λ calls reads regions. Below (k.received.sends + 1) regions) (more_below k.received.sends (k.received.sends + 1) k.regions (omega arith) b) pending) f message completes tt is
   where
     pending : (place : ℕ) (message : List ℕ) (c : PendingCall) → Unit {0} → verdict k message ≡ MakesPending c → Below (k.received.sends + 1) (k.regions ++ regions_of k place c)
     pending place message c good is =
@@ -103,14 +102,14 @@ pub record ServerAgrees (opened : LinkParameters) (k : ClientState) (s : ServerS
   pub limits : ServerLimits s
 
 -- A Send that is received ends the server only by the refusal of its effect; and if it doesn't, all is kept.
-pub server_takes_send : (opened : LinkParameters) (k : ClientState) (s : ServerState) (w : Transit) (place : ℕ) (f : Frame) (message : List ℕ) (rest : List FrameContent) → ServerAgrees opened k s w place → WithinWindow opened k → w.up ≡ SendFrame message ∷ rest
-    → Carries s.received.sends s.received.requests f (SendFrame message) → 16 ≤ length message → length message ≤ send_max → place < f.end
+pub server_takes_send : (opened : LinkParameters) (k : ClientState) (s : ServerState) (w : Transit) (place : ℕ) (f : Frame) (message : SentMessage) (rest : List FrameContent) → ServerAgrees opened k s w place → WithinWindow opened k → w.up ≡ SendFrame message ∷ rest
+    → Carries s.received.sends s.received.requests f (SendFrame message) → 16 ≤ length message.bytes → length message.bytes ≤ send_max → place < f.end
     → (server_end opened s (FrameReceived f) ≡ refusal_end f (frame_effect s f).refusal) × ((frame_effect s f).refusal ≡ None → ServerAgrees opened k (server_state_after opened s (FrameReceived f)) (moved w (frame_effect s f) rest) f.end)
 server_takes_send opened k s w place f message rest j g head p long short lt =
-    let segment : Segment = Untagged true OPCODE_SEND 0 QUEUE_SEND (msn_word (s.received.sends + 1)) 0 message in
+    let segment : Segment = last_segment s.received.sends message in
     let is : frame_segment f ≡ Ok segment = segment_is s.received.sends s.received.requests f (SendFrame message) segment p refl in
     let st = effect_in s f (Ok segment) in
-    let new = subst (λ (e : FrameEffect). Below (s.received.sends + 1) e.regions) (step_is s f (Ok segment) is) (message_below s f message j.counts.whole_up (record { stags = j.regions.stags; calls = j.regions.calls }) is) in
+    let new = subst (λ (e : FrameEffect). Below (s.received.sends + 1) e.regions) (step_is s f (Ok segment) is) (message_below s f message (at_front s.received.begun w.up w.queued_up (SendFrame message) rest head j.counts.whole_up).1 (record { stags = j.regions.stags; calls = j.regions.calls }) is) in
     let below = closed_below (s.received.sends + 1) f.end (is_over st.calls st.reads) st.regions new in (
       server_send opened k s w f message rest j.counts g head p long short j.limits,
       (λ goes_on. record {
@@ -121,6 +120,26 @@ server_takes_send opened k s w place f message rest j g head p long short lt =
         regions = subst (λ (t : ServerState). AreKnown t) (sym (after_is_lem opened s f (Ok segment) p.behind is)) (record { stags = below.stags; calls = below.calls });
         limits = server_event opened s (FrameReceived f) j.limits;
       }),
+    )
+
+-- a segment of a Send that isn't its last doesn't end it
+pub server_takes_part : (opened : LinkParameters) (k : ClientState) (s : ServerState) (w : Transit) (place : ℕ) (f : Frame) (offset : ℕ) (payload : List ℕ) (rest : List FrameContent) → ServerAgrees opened k s w place → WithinWindow opened k → w.up ≡ PartFrame offset payload ∷ rest
+    → Carries s.received.sends s.received.requests f (PartFrame offset payload) → place < f.end
+    → (server_end opened s (FrameReceived f) ≡ refusal_end f (frame_effect s f).refusal) × ServerAgrees opened k (server_state_after opened s (FrameReceived f)) (moved w (frame_effect s f) rest) f.end
+server_takes_part opened k s w place f offset payload rest j g head p lt =
+    let segment : Segment = part_segment s.received.sends offset payload in
+    let is : frame_segment f ≡ Ok segment = segment_is s.received.sends s.received.requests f (PartFrame offset payload) segment p refl in
+    let st = effect_in s f (Ok segment) in
+    let below = closed_below s.received.sends f.end (is_over st.calls st.reads) st.regions (record { stags = j.regions.stags; calls = j.regions.calls }) in (
+      server_part opened k s w f offset payload rest j.counts g head p,
+      record {
+        counts = totals_part_up opened k s w f offset payload rest j.counts head p;
+        reads = reads_part_up opened s w f offset payload rest j.reads head p;
+        waits = pending_agree_part_up opened s f offset payload j.waits p;
+        sinks = sinks_part_up opened s f place offset payload j.sinks (omega (arith, lt)) p;
+        regions = subst (λ (t : ServerState). AreKnown t) (sym (after_is_lem opened s f (Ok segment) p.behind is)) (record { stags = below.stags; calls = below.calls });
+        limits = server_event opened s (FrameReceived f) j.limits;
+      },
     )
 
 -- and so does a segment of a Response: it is the one expected, and reaches a region that lives

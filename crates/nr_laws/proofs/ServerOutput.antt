@@ -1,16 +1,15 @@
 -- What a server sends can be written, and its output is the bytes of it; the offers of its calls stay within their limits.
-use Rattle.std.proofs.Common.{◌≡◌, ℕ, ◌+◌, min, Bool, true, false, cond, eqb, List, [], ◌∷◌, ◌++◌, length, map, take, drop, Option, Some, None, Ok, refl, sym, ap, ◌∙◌, arith, lit<, length-take, append_assoc, append-nil}
+use Rattle.std.proofs.Common.{◌≡◌, ℕ, ◌+◌, min, Bool, true, false, cond, eqb, List, [], ◌∷◌, ◌++◌, length, map, take, drop, Option, Some, None, Ok, refl, sym, ap, ◌∙◌, arith, lit<, length-take, append_assoc}
 use Rattle.nr_xdr.specs.Item.{IsBytes}
-use Rattle.nr_wire.specs.Constants.{OPCODE_WRITE, OPCODE_SEND, QUEUE_SEND}
+use Rattle.nr_wire.specs.Constants.{OPCODE_WRITE}
 use Rattle.nr_wire.specs.declared.hello.Side.TheVariants.{Responder}
-use Rattle.nr_wire.specs.Segment.{encoding}
-use Rattle.nr_wire.specs.Segment.Segment.{Tagged, Untagged}
+use Rattle.nr_wire.specs.Segment.Segment.{Tagged}
 use Rattle.nr_header.specs.declared.header.RdmaSegment.{RdmaSegment}
 use Rattle.nr_header.specs.declared.header.ChunkLists.{ChunkLists}
 use Rattle.nr_rpc.specs.declared.head.CallTarget.{CallTarget}
 use Rattle.nr_rpc.specs.Reading.{call_of, target_of}
 use Rattle.nr_link.specs.Frames.{Frame}
-use Rattle.nr_link.specs.Output.{msn_word, send, write}
+use Rattle.nr_link.specs.Output.{send, write}
 use Rattle.nr_link.specs.Ending.{frame_segment}
 use Rattle.nr_reduce.proofs.OwnLimits.{ServerLimits}
 use Rattle.nr_reduce.specs.Holds.{Answer, answer_message, answer_writes, writes_into, chunk_error, first_chunk, no_segments}
@@ -18,16 +17,15 @@ use Rattle.nr_reduce.specs.History.{ExecutedCall}
 use Rattle.nr_reduce.specs.ServerState.{PendingRead, ServerState, credit_word}
 use Rattle.nr_reduce.specs.ServerFrames.{FrameEffect, frame_effect}
 use Rattle.nr_reduce.specs.Server.{newly_open_reads, offer_of, answer_of_target, answer_output, execution_output}
-use Rattle.nr_laws.proofs.FrameContents.{FrameContent, output_bytes, total_of, sends_in, requests_in, request_frame, effect_frames, write_frames, answer_frames, tagged_frames}
-use Rattle.nr_laws.proofs.FrameContents.FrameContent.{SendFrame}
+use Rattle.nr_laws.proofs.FrameContents.{SentMessage, CompletesMessage, last_segment, FrameContent, output_bytes, total_of, sends_in, requests_in, request_frame, effect_frames, write_frames, answer_frames, tagged_frames, part_segment, send_frames, errors_frames}
 use Rattle.nr_laws.proofs.TotalsAtServer.{fills_none, long_none}
 use Rattle.nr_laws.proofs.StreamFrames.{spelled_append}
-use Rattle.nr_laws.proofs.OutputFrames.{write_said}
-use Rattle.nr_laws.proofs.Writable.{AreWritable, all_proper_append, tagged_proper}
+use Rattle.nr_laws.proofs.OutputFrames.{write_said, message_said}
+use Rattle.nr_laws.proofs.Writable.{AreWritable, all_proper_append, tagged_proper, send_proper}
 use Rattle.nr_laws.proofs.ServerOutputs.{chunk_error_short, CallsFit, answer_short_lem, for_target, found_fits, IsFine, fine_messages, fine_responses, errors_short}
 use Rattle.nr_laws.proofs.WritableOffers.{SegmentsFit, OfferFits}
-use Rattle.nr_laws.proofs.Outputs.{IsShort, send_one, AreShort}
-use Rattle.nr_laws.proofs.EachEffect.{send_effect, tagged_effect_lem}
+use Rattle.nr_laws.proofs.Outputs.{IsShort, AreShort}
+use Rattle.nr_laws.proofs.EachEffect.{send_effect, tagged_effect_lem, part_effect}
 
 -- ---- The calls of a server
 
@@ -37,9 +35,12 @@ pub record SaysFine (s : FrameEffect) : Type 0 where
   pub fit : CallsFit s.calls
   pub proper : AreWritable (effect_frames s)
 
-sends_proper : (messages : List (List ℕ)) → AreShort messages → AreWritable (map SendFrame messages)
+pub short_proper : (message : List ℕ) → IsShort message → AreWritable (send_frames message)
+short_proper message short = send_proper message (omega (arith, short))
+
+sends_proper : (messages : List (List ℕ)) → AreShort messages → AreWritable (errors_frames messages)
 sends_proper [] h = tt
-sends_proper (m ∷ messages) h = (h.0, sends_proper messages h.1)
+sends_proper (m ∷ messages) h = all_proper_append (send_frames m) (errors_frames messages) (short_proper m h.0) (sends_proper messages h.1)
 
 reads_proper : (reads : List PendingRead) → AreWritable (map request_frame reads)
 reads_proper [] = tt
@@ -48,10 +49,14 @@ reads_proper (r ∷ reads) = (tt, reads_proper reads)
 says_fine : (s : FrameEffect) → IsFine s → SaysFine s
 says_fine s h =
     let short = errors_short s.errors h.errors in
-    record { short = short; fit = h.fit; proper = all_proper_append (map SendFrame s.errors) (map request_frame (newly_open_reads s)) (sends_proper s.errors short) (reads_proper (newly_open_reads s)) }
+    record { short = short; fit = h.fit; proper = all_proper_append (errors_frames s.errors) (map request_frame (newly_open_reads s)) (sends_proper s.errors short) (reads_proper (newly_open_reads s)) }
 
-pub fine_send : (k : ServerState) (f : Frame) (message : List ℕ) → k.received.begun ≡ None → IsBytes message → CallsFit k.calls → frame_segment f ≡ Ok (Untagged true OPCODE_SEND 0 QUEUE_SEND (msn_word (k.received.sends + 1)) 0 message) → SaysFine (frame_effect k f)
-fine_send k f message none bytes h is = says_fine (frame_effect k f) (send_effect k IsBytes IsFine (fine_messages k h) f message none bytes is)
+pub fine_send : (k : ServerState) (f : Frame) (message : SentMessage) → CompletesMessage k.received message → IsBytes message.bytes → CallsFit k.calls → frame_segment f ≡ Ok (last_segment k.received.sends message) → SaysFine (frame_effect k f)
+fine_send k f message completes bytes h is = says_fine (frame_effect k f) (send_effect k IsBytes IsFine (fine_messages k h) f message completes bytes is)
+
+-- of a segment of a Send that isn't its last
+pub fine_part : (k : ServerState) (f : Frame) (offset : ℕ) (payload : List ℕ) → CallsFit k.calls → frame_segment f ≡ Ok (part_segment k.received.sends offset payload) → SaysFine (frame_effect k f)
+fine_part k f offset payload h is = says_fine (frame_effect k f) (part_effect k IsFine (fine_responses k h).unchanged f offset payload is)
 
 pub fine_tagged : (k : ServerState) (f : Frame) (last : Bool) (opcode stag to : ℕ) (payload : List ℕ) → CallsFit k.calls → frame_segment f ≡ Ok (Tagged last opcode stag to payload) → SaysFine (frame_effect k f)
 fine_tagged k f last opcode stag to payload h is = says_fine (frame_effect k f) (tagged_effect_lem k IsFine (fine_responses k h) f last opcode stag to payload is)
@@ -69,14 +74,14 @@ fills_proper (s ∷ chunk) bytes h =
     by false = tagged_proper OPCODE_WRITE s.handle s.offset (take s.length bytes) refl (lit< tt) h.0.0 h.0.1 (omega (arith, h.0.2, length-take s.length bytes))
 
 answer_proper : (k : ServerState) → ServerLimits k → (xid : ℕ) (offer : ChunkLists) (reply : List ℕ) (t : Option CallTarget) (o : Option Answer) → answer_of_target offer k.down_max reply t ≡ o → OfferFits offer → AreWritable (answer_frames k xid offer o)
-answer_proper k l xid offer reply t None e fits = (chunk_error_short xid (credit_word k), tt)
+answer_proper k l xid offer reply t None e fits = short_proper (chunk_error xid (credit_word k)) (chunk_error_short xid (credit_word k))
 answer_proper k l xid offer reply t (Some a) e fits =
     let down = l.down in
     let target = for_target offer k.down_max reply t a e in
     let short = answer_short_lem offer k.down_max target.0 target.1 target.2 xid (credit_word k) reply a (omega (arith, down)) fits target.3 in
-    all_proper_append (write_frames (first_chunk offer.write) a.moved) (cond a.long (write_frames (no_segments offer.reply) a.stream) [] ++ (SendFrame (answer_message xid (credit_word k) offer a) ∷ []))
+    all_proper_append (write_frames (first_chunk offer.write) a.moved) (cond a.long (write_frames (no_segments offer.reply) a.stream) [] ++ send_frames (answer_message xid (credit_word k) offer a))
     (fills_proper (first_chunk offer.write) a.moved fits.writes)
-    (all_proper_append (cond a.long (write_frames (no_segments offer.reply) a.stream) []) (SendFrame (answer_message xid (credit_word k) offer a) ∷ []) (by a.long) (short, tt))
+    (all_proper_append (cond a.long (write_frames (no_segments offer.reply) a.stream) []) (send_frames (answer_message xid (credit_word k) offer a)) (by a.long) (short_proper (answer_message xid (credit_word k) offer a) short))
   where
     by : (b : Bool) → AreWritable (cond b (write_frames (no_segments offer.reply) a.stream) [])
     by true = fills_proper (no_segments offer.reply) a.stream fits.replies
@@ -98,21 +103,14 @@ writes_said n r (s ∷ chunk) bytes =
     by true = refl
     by false = write_said Responder n r s.handle s.offset (take s.length bytes)
 
-message_said : (n r : ℕ) (message : List ℕ) → IsShort message → send (n + 1) message ≡ output_bytes Responder n r (SendFrame message ∷ [])
-message_said n r message short = send_one (n + 1) message short ∙ sym (append-nil (encoding (Untagged true OPCODE_SEND 0 QUEUE_SEND (msn_word (n + 1)) 0 message)))
-
 long_said : (n r : ℕ) (b : Bool) (chunk : List RdmaSegment) (bytes : List ℕ) → cond b (writes_into chunk bytes) [] ≡ output_bytes Responder n r (cond b (write_frames chunk bytes) [])
 long_said n r true chunk bytes = writes_said n r chunk bytes
 long_said n r false chunk bytes = refl
 
-answer_said : (k : ServerState) → ServerLimits k → (r xid : ℕ) (offer : ChunkLists) (reply : List ℕ) (t : Option CallTarget) (o : Option Answer) → answer_of_target offer k.down_max reply t ≡ o → OfferFits offer
-    → answer_output k xid offer o ≡ output_bytes Responder k.messages_queued r (answer_frames k xid offer o)
+answer_said : (k : ServerState) (r xid : ℕ) (offer : ChunkLists) (o : Option Answer) → answer_output k xid offer o ≡ output_bytes Responder k.messages_queued r (answer_frames k xid offer o)
 unfolding answer_writes
-answer_said k l r xid offer reply t None e fits = message_said k.messages_queued r (chunk_error xid (credit_word k)) (chunk_error_short xid (credit_word k))
-answer_said k l r xid offer reply t (Some a) e fits =
-    let down = l.down in
-    let target = for_target offer k.down_max reply t a e in
-    let short = answer_short_lem offer k.down_max target.0 target.1 target.2 xid (credit_word k) reply a (omega (arith, down)) fits target.3 in
+answer_said k r xid offer None = message_said Responder k.messages_queued r (chunk_error xid (credit_word k))
+answer_said k r xid offer (Some a) =
     let n = k.messages_queued in
     let message = answer_message xid (credit_word k) offer a in
     let moved = write_frames (first_chunk offer.write) a.moved in
@@ -126,16 +124,16 @@ answer_said k l r xid offer reply t (Some a) e fits =
     let long_n : n + total_of sends_in long ≡ n = omega (arith, long_sends) in
     let long_r : r + total_of requests_in long ≡ r = omega (arith, long_reads) in
     append_assoc (writes_into (first_chunk offer.write) a.moved) (cond a.long (writes_into (no_segments offer.reply) a.stream) []) (send (n + 1) message)
-    ∙ (λ i. writes_said n r (first_chunk offer.write) a.moved i ++ (long_said n r a.long (no_segments offer.reply) a.stream i ++ message_said n r message short i))
+    ∙ (λ i. writes_said n r (first_chunk offer.write) a.moved i ++ (long_said n r a.long (no_segments offer.reply) a.stream i ++ message_said Responder n r message i))
     ∙ ap (λ (xs : List ℕ). output_bytes Responder n r moved ++ xs)
-    ((λ i. output_bytes Responder n r long ++ output_bytes Responder (sym long_n i) (sym long_r i) (SendFrame message ∷ []))
-    ∙ sym (spelled_append Responder n r long (SendFrame message ∷ []))
-    ∙ (λ i. output_bytes Responder (sym moved_n i) (sym moved_r i) (long ++ (SendFrame message ∷ []))))
-    ∙ sym (spelled_append Responder n r moved (long ++ (SendFrame message ∷ [])))
+    ((λ i. output_bytes Responder n r long ++ output_bytes Responder (sym long_n i) (sym long_r i) (send_frames message))
+    ∙ sym (spelled_append Responder n r long (send_frames message))
+    ∙ (λ i. output_bytes Responder (sym moved_n i) (sym moved_r i) (long ++ (send_frames message))))
+    ∙ sym (spelled_append Responder n r moved (long ++ (send_frames message)))
 
 pub execution_proper : (k : ServerState) (e : ExecutedCall) → ServerLimits k → CallsFit k.calls → AreWritable (execution_frames k e)
 execution_proper k e l h = answer_proper k l e.xid (offer_of k e.xid) e.reply (target_of (call_of e.payload)) _ refl (found_fits e.xid k.calls h)
 
-pub execution_said : (k : ServerState) (r : ℕ) (e : ExecutedCall) → ServerLimits k → CallsFit k.calls → execution_output k e ≡ output_bytes Responder k.messages_queued r (execution_frames k e)
+pub execution_said : (k : ServerState) (r : ℕ) (e : ExecutedCall) → execution_output k e ≡ output_bytes Responder k.messages_queued r (execution_frames k e)
 unfolding execution_output
-execution_said k r e l h = answer_said k l r e.xid (offer_of k e.xid) e.reply (target_of (call_of e.payload)) _ refl (found_fits e.xid k.calls h)
+execution_said k r e = answer_said k r e.xid (offer_of k e.xid) (answer_of_target (offer_of k e.xid) k.down_max e.reply (target_of (call_of e.payload)))

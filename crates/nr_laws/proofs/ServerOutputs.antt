@@ -28,7 +28,7 @@ use Rattle.nr_laws.proofs.Outputs.{Output, IsShort, AreShort, message_sends, req
 use Rattle.nr_laws.proofs.Outputs.Output.{ASegment}
 use Rattle.nr_laws.proofs.Brought.{AreFrom}
 use Rattle.nr_laws.proofs.Words.{message_words, request_word, chunk_words, from_append}
-use Rattle.nr_laws.proofs.Messages.{AreTagged, tagged_append, tagged_chunk}
+use Rattle.nr_laws.proofs.TaggedSegments.{AreTagged, tagged_append, tagged_chunk}
 use Rattle.nr_laws.proofs.Completions.{Completes, completes_append, completes_message, completes_sends, completes_requests, completes_tagged}
 use Rattle.std.proofs.lemmas.List.{map-append}
 use Rattle.nr_laws.proofs.EachEffect.{MessageRule, ResponseRule, each_effect}

@@ -1,19 +1,18 @@
 -- A frame at a server: it ends the server only for what the server makes of a call, else the guards are kept.
 use Rattle.std.proofs.lemmas.Bool.{le-ltb}
-use Rattle.nr_laws.proofs.AgreeingEnds.{payload_bytes}
+use Rattle.nr_laws.proofs.AgreeingEnds.{payload_bytes, message_bytes}
 use Rattle.nr_laws.proofs.ClientFrame.{calls_said}
-use Rattle.nr_laws.proofs.GuardsAtServer.{sent_most}
+use Rattle.nr_laws.proofs.GuardsAtServer.{sent_most, takes_part}
 use Rattle.std.specs.Prelude.{length}
 use Rattle.nr_laws.proofs.OneChunk.{HasOneChunk, OneChunk}
 use Rattle.std.proofs.Common.{◌≡◌, ℕ, ◌+◌, ◌≤◌, ◌<◌, Bool, true, false, cond, not, ◌||◌, eqb, List, [], ◌∷◌, ◌++◌, length, drop, Option, Some, None, Result, Ok, Err, refl, sym, ap, subst, ◌∙◌, arith, inl, inr}
 use Rattle.nr_xdr.specs.Item.{IsBytes}
 use Rattle.nr_xdr.specs.Fields.{word_at}
 use Rattle.std.proofs.lemmas.Bool.{ne_eqb}
-use Rattle.nr_wire.specs.Constants.{OPCODE_SEND, QUEUE_SEND}
 use Rattle.nr_wire.specs.declared.hello.Side.TheVariants.{Initiator}
 use Rattle.nr_wire.specs.Hello.{hello_of}
 use Rattle.nr_wire.specs.Segment.{Segment}
-use Rattle.nr_wire.specs.Segment.Segment.{Tagged, Untagged}
+use Rattle.nr_wire.specs.Segment.Segment.{Tagged}
 use Rattle.nr_header.specs.declared.fault.HeaderFault.{HeaderFault}
 use Rattle.nr_header.specs.declared.header.Body.{Body}
 use Rattle.nr_header.specs.declared.header.Body.TheVariants.{Msg, Nomsg, ErrVers, ErrChunk}
@@ -25,7 +24,6 @@ use Rattle.nr_rpc.specs.Reading.{call_of}
 use Rattle.nr_link.specs.declared.end.End.{End}
 use Rattle.nr_link.specs.Frames.{Frame, is_hello}
 use Rattle.nr_link.specs.Ending.{frame_segment, frame_end, hello_end}
-use Rattle.nr_link.specs.Output.{msn_word}
 use Rattle.nr_laws.proofs.TotalsAtServer.{segment_is}
 use Rattle.nr_laws.proofs.CallNumbers.{none_pending}
 use Rattle.nr_reduce.specs.declared.mark.LinkParameters.{LinkParameters}
@@ -42,8 +40,8 @@ use Rattle.nr_reduce.specs.ServerMessages.Verdict.{EndsLink, OtherVersion, BadCh
 use Rattle.nr_reduce.specs.ServerFrames.{FrameEffect, with_verdict, frame_effect}
 use Rattle.nr_reduce.specs.Server.{server_end, server_state_after, readiness, or_refusal, refusal_end}
 use Rattle.nr_laws.proofs.EndReasons.{IsCallReason, EndsForCall}
-use Rattle.nr_laws.proofs.FrameContents.{FrameContent, numbered_segment, frame_bytes, total_of, sends_in, requests_in, server_frames, Carries}
-use Rattle.nr_laws.proofs.FrameContents.FrameContent.{HelloFrame, SendFrame, RequestFrame, TaggedFrame}
+use Rattle.nr_laws.proofs.FrameContents.{FrameContent, numbered_segment, frame_bytes, total_of, sends_in, requests_in, server_frames, Carries, SentMessage, CompletesMessage, last_segment, part_segment}
+use Rattle.nr_laws.proofs.FrameContents.FrameContent.{HelloFrame, PartFrame, SendFrame, RequestFrame, TaggedFrame}
 use Rattle.nr_laws.proofs.LinkInvariants.{Transit}
 use Rattle.nr_laws.proofs.Totals.{total_append}
 use Rattle.nr_laws.proofs.Brought.{hello_is}
@@ -53,7 +51,8 @@ use Rattle.nr_laws.proofs.AgreeingEnds.{EndsAgree, IsPlace, frame_of, taken_up}
 use Rattle.nr_laws.proofs.Guards.{Guards}
 use Rattle.nr_laws.proofs.GuardsAtServer.{front_up, front_xid, ServerTakes, takes_send, takes_tagged, hello_guards}
 use Rattle.nr_laws.proofs.Basics.{some_not}
-use Rattle.nr_laws.proofs.EachEffect.{send_effect, tagged_effect_lem}
+use Rattle.nr_laws.proofs.EachEffect.{send_effect, tagged_effect_lem, part_effect}
+use Rattle.nr_laws.proofs.SendFrames.{at_front}
 
 -- ---- Why the effect of a frame refuses
 
@@ -126,16 +125,16 @@ refused_tagged : (k : ServerState) (f : Frame) (last : Bool) (opcode stag to : �
 refused_tagged k f last opcode stag to payload is =
     tagged_effect_lem k (λ s. Refusal s.refusal) (record { unchanged = tt; judged = λ t place c s h. refused_payload c (payload_of t place c) s h; read = λ r reads is. tt; refused = λ r reads c is found. tt }) f last opcode stag to payload is
 
-refused_send_lem : (k : ServerState) (f : Frame) (message : List ℕ) → k.received.begun ≡ None → word_at 12 message ≤ 1 → is_pending k (word_at 0 message) ≡ false → next_stag k + 1 ≤ 4294967296 → IsBytes message → OneChunk message
-    → frame_segment f ≡ Ok (Untagged true OPCODE_SEND 0 QUEUE_SEND (msn_word (k.received.sends + 1)) 0 message) → Refusal (frame_effect k f).refusal
-refused_send_lem k f message none kind again room bytes one is =
+refused_send_lem : (k : ServerState) (f : Frame) (message : SentMessage) → CompletesMessage k.received message → word_at 12 message.bytes ≤ 1 → is_pending k (word_at 0 message.bytes) ≡ false → next_stag k + 1 ≤ 4294967296 → IsBytes message.bytes → OneChunk message.bytes
+    → frame_segment f ≡ Ok (last_segment k.received.sends message) → Refusal (frame_effect k f).refusal
+refused_send_lem k f message completes kind again room bytes one is =
     send_effect k (λ m. VerdictReason (verdict k m)) (λ s. Refusal s.refusal) (record {
       judged = λ t place c s h. refused_payload c (payload_of t place c) s h;
       ends = λ message reason h is. subst VerdictReason is h;
       version = λ message h. tt;
       chunks = λ message h. tt;
       pending = λ place message c h is. tt;
-    }) f message none (reason_verdict k message kind again room bytes one) is
+    }) f message completes (reason_verdict k message.bytes kind again room bytes one) is
 
 call_end : (f : Frame) (refusal : Option ℕ) (end : End) → Refusal refusal → refusal_end f refusal ≡ Some end → EndsForCall end
 call_end f None end h e = absurd cc
@@ -162,17 +161,23 @@ step_piece : (opened : LinkParameters) (k : ClientState) (s : ServerState) (u d 
     → IsWritable p → Carries s.received.sends s.received.requests f p → IsBytes f.bytes → f.bytes ≡ frame_bytes Initiator (numbered_segment s.received.sends s.received.requests p) → place < f.end
     → ServerStep opened k s u d all_up all_down w p rest f
 step_piece opened k s u d all_up all_down w place HelloFrame rest f o l g first proper piece bytes is lt = absurd proper
+step_piece opened k s u d all_up all_down w place (PartFrame offset payload) rest f o l g first proper piece bytes is lt =
+    let segment : Segment = part_segment s.received.sends offset payload in
+    let reads : frame_segment f ≡ Ok segment = segment_is s.received.sends s.received.requests f (PartFrame offset payload) segment piece refl in
+    by_takes opened k s u d all_up all_down w (PartFrame offset payload) rest f (part_effect s (λ e. Refusal e.refusal) tt f offset payload reads) (takes_part opened k s u d all_up all_down w place offset payload rest f o g first piece lt)
 step_piece opened k s u d all_up all_down w place (SendFrame message) rest f o l g first proper piece bytes is lt =
-    let segment : Segment = Untagged true OPCODE_SEND 0 QUEUE_SEND (msn_word (s.received.sends + 1)) 0 message in
+    let segment : Segment = last_segment s.received.sends message in
     let reads : frame_segment f ≡ Ok segment = segment_is s.received.sends s.received.requests f (SendFrame message) segment piece refl in
+    let completes = (at_front s.received.begun w.up w.queued_up (SendFrame message) rest first l.counts.whole_up).1 in
+    let are_bytes = message_bytes s.received message completes l.bytes_up (payload_bytes segment (subst IsBytes is bytes)) in
     let fine = front_up opened k s u d all_up all_down w place (SendFrame message) rest l g first in
     let xid = front_xid opened k s u d all_up all_down w place message rest l g first in
-    let again = none_pending opened.first_xid s.received.sends (word_at 0 message) s.calls g.numbers l.waits.calls_below xid in
+    let again = none_pending opened.first_xid s.received.sends (word_at 0 message.bytes) s.calls g.numbers l.waits.calls_below xid in
     let some : 0 < total_of sends_in w.up = omega (arith, ap (total_of sends_in) first) in
     let sent = calls_said opened k s u d all_up all_down w l in
     let room : next_stag s + 1 ≤ 4294967296 =
     omega (arith, o.xid, g.sinks, g.answered.room, some, sent, sent_most k, l.sends_up, ap (total_of sends_in) l.parts_up, total_append sends_in u (w.up ++ w.queued_up), total_append sends_in w.up w.queued_up) in
-    by_takes opened k s u d all_up all_down w (SendFrame message) rest f (refused_send_lem s f message l.counts.whole_up fine.3 again room (payload_bytes segment (subst IsBytes is bytes)) fine.4 reads) (takes_send opened k s u d all_up all_down w place message rest f o l g first piece bytes is lt)
+    by_takes opened k s u d all_up all_down w (SendFrame message) rest f (refused_send_lem s f message completes fine.3 again room are_bytes fine.4 reads) (takes_send opened k s u d all_up all_down w place message rest f o l g first piece bytes is lt)
 step_piece opened k s u d all_up all_down w place (RequestFrame sink at size stag to) rest f o l g first proper piece bytes is lt =
     absurd (omega (arith, l.no_reads, ap (total_of requests_in) l.parts_up, total_append requests_in u (w.up ++ w.queued_up), total_append requests_in w.up w.queued_up, ap (total_of requests_in) first))
 step_piece opened k s u d all_up all_down w place (TaggedFrame last opcode stag to payload) rest f o l g first proper piece bytes is lt =

@@ -1,7 +1,7 @@
 -- Totals agree behind each event of the client.
 use Rattle.std.proofs.Common.{◌≡◌, ℕ, zero, suc, ◌+◌, ◌-◌, ◌*◌, Bool, true, false, cond, ◌&&◌, eqb, List, [], ◌∷◌, ◌++◌, length, map, take, drop, Option, None, Some, Result, Ok, Err, refl, sym, ap, subst, ◌∙◌, arith, eq-eqb, ne_eqb, length-append}
 use Rattle.std.specs.List.{list_any, range_with_len}
-use Rattle.nr_wire.specs.Constants.{OPCODE_READ_REQUEST, OPCODE_READ_RESPONSE, OPCODE_SEND, QUEUE_SEND, QUEUE_READ_REQUEST}
+use Rattle.nr_wire.specs.Constants.{OPCODE_READ_REQUEST, OPCODE_READ_RESPONSE, QUEUE_READ_REQUEST}
 use Rattle.nr_xdr.specs.Item.{word, hyper}
 use Rattle.nr_wire.specs.Segment.{Segment}
 use Rattle.nr_wire.specs.declared.hello.Side.TheVariants.{Responder}
@@ -25,10 +25,12 @@ use Rattle.nr_reduce.specs.ClientState.{ClientState, OutstandingCall, is_sent, c
 use Rattle.nr_reduce.specs.ClientMessages.{reply_verdict, reply_by_header, by_call, answered_call}
 use Rattle.nr_reduce.specs.Client.{end_of_verdict, client_message_end, or_message_end, segment_message, client_readiness, client_end, client_state_after, with_segment, outstanding_of, segment_request, with_hello, call_output, call_ends, submitted_ends, response_output}
 use Rattle.nr_reduce.specs.ServerState.{ServerState, initial_state as server_initial_state}
-use Rattle.nr_laws.proofs.FrameContents.{FrameContent, Carries, total_of, sends_in, requests_in, responses_in, hellos_in, one_if_response, tagged_frame, tagged_frames, response_frames, call_frame, client_frames}
-use Rattle.nr_laws.proofs.FrameContents.FrameContent.{HelloFrame, SendFrame, RequestFrame, TaggedFrame}
-use Rattle.nr_laws.proofs.LinkInvariants.{Transit, TotalsAgree, AreDistinct, calls_sent, hello_bit}
-use Rattle.nr_laws.proofs.Totals.{total_append, total_map_zero, total_map_one, length_fewer, any_found, any_first}
+use Rattle.nr_laws.proofs.FrameContents.{FrameContent, Carries, total_of, sends_in, requests_in, responses_in, hellos_in, one_if_response, tagged_frame, tagged_frames, response_frames, client_frames, SentMessage, part_segment, last_segment, send_frames, calls_frames}
+use Rattle.nr_laws.proofs.FrameContents.FrameContent.{HelloFrame, PartFrame, SendFrame, RequestFrame, TaggedFrame}
+use Rattle.nr_laws.proofs.LinkInvariants.{Transit, TotalsAgree, AreDistinct, AreSends, calls_sent, hello_bit}
+use Rattle.nr_laws.proofs.Totals.{total_append, total_map_zero, length_fewer, any_found, any_first}
+use Rattle.nr_laws.proofs.Outputs.{message_of_call}
+use Rattle.nr_laws.proofs.SendFrames.{send_counts, sends_zero, sends_one, are_sends, are_all_sends, tagged_sends, queued_more, none_queued, at_front}
 use Rattle.nr_laws.proofs.TotalsAtServer.{segment_is}
 use Rattle.nr_laws.proofs.HeaderXid.{header_xid}
 use Rattle.nr_reduce.specs.Plans.{call_message}
@@ -73,21 +75,31 @@ after_is_lem opened k f r behind is = λ i. cond (behind i) (with_hello opened k
 
 pub says_is : (opened : LinkParameters) (k : ClientState) (f : Frame) (r : Result Segment ℕ) → is_hello f ≡ false → frame_segment f ≡ r → client_frames opened k (FrameReceived f) ≡ response_frames k f.end (segment_request r)
 unfolding client_frames
-says_is opened k f r behind is = λ i. cond (behind i) (map (call_frame opened) k.outstanding) (response_frames k f.end (segment_request (is i)))
+says_is opened k f r behind is = λ i. cond (behind i) (calls_frames opened k.outstanding) (response_frames k f.end (segment_request (is i)))
 
 abbrev pub down_one : Transit → List FrameContent → List FrameContent → Transit
 down_one w said rest = record { queued_up = w.queued_up ++ said; up = w.up; queued_down = w.queued_down; down = rest }
 
-pub totals_send_down : (opened : LinkParameters) (k : ClientState) (s : ServerState) (w : Transit) (f : Frame) (message : List ℕ) (rest : List FrameContent) → TotalsAgree k s w → w.down ≡ SendFrame message ∷ rest
+totals_frame_lem : (opened : LinkParameters) (k : ClientState) (s : ServerState) (w : Transit) (f : Frame) (segment : Segment) (said rest : List FrameContent) → is_hello f ≡ false → frame_segment f ≡ Ok segment → response_frames k f.end (segment_request (Ok segment)) ≡ said
+    → TotalsAgree (with_segment k f (Ok segment)) s (down_one w said rest) → TotalsAgree (client_state_after opened k (FrameReceived f)) s (down_one w (client_frames opened k (FrameReceived f)) rest)
+totals_frame_lem opened k s w f segment said rest behind is says h =
+    subst (λ (ps : List FrameContent). TotalsAgree (client_state_after opened k (FrameReceived f)) s (down_one w ps rest)) (sym (says_is opened k f (Ok segment) behind is ∙ says))
+    (subst (λ (t : ClientState). TotalsAgree t s (down_one w said rest)) (sym (after_is_lem opened k f (Ok segment) behind is)) h)
+
+-- nothing more is queued
+none_more : (begun : Option (List ℕ)) (ps qs : List FrameContent) → AreSends begun (ps ++ qs) → AreSends begun (ps ++ (qs ++ []))
+none_more begun ps qs h = queued_more begun ps qs [] h refl
+
+pub totals_send_down : (opened : LinkParameters) (k : ClientState) (s : ServerState) (w : Transit) (f : Frame) (message : SentMessage) (rest : List FrameContent) → TotalsAgree k s w → w.down ≡ SendFrame message ∷ rest
     → Carries k.received.sends k.received.requests f (SendFrame message) → client_end k (FrameReceived f) ≡ None → AreDistinct (λ (o : OutstandingCall). o.xid) k.outstanding
     → TotalsAgree (client_state_after opened k (FrameReceived f)) s (down_one w (client_frames opened k (FrameReceived f)) rest)
 totals_send_down opened k s w f message rest c first p stays apart =
-    let segment : Segment = Untagged true OPCODE_SEND 0 QUEUE_SEND (msn_word (k.received.sends + 1)) 0 message in
+    let segment : Segment = last_segment k.received.sends message in
     let is : frame_segment f ≡ Ok segment = segment_is k.received.sends k.received.requests f (SendFrame message) segment p refl in
-    let whole : List ℕ = begun_bytes k.received.begun ++ message in
-    let whole_is : whole ≡ message = ap (λ (b : Option (List ℕ)). begun_bytes b ++ message) c.whole_down in
+    let whole : List ℕ = begun_bytes k.received.begun ++ message.payload in
     let unended : end_of_verdict f (reply_verdict k f.end whole) ≡ None = ap (λ (r : Result Segment ℕ). client_message_end k f (segment_message k r)) (sym is) ∙ taken k f p.behind stays in
     let fewer = length_fewer (λ (o : OutstandingCall). o.xid) (word_at 0 whole) k.outstanding apart (out_there k f whole unended) in
+    let front = at_front k.received.begun w.down w.queued_down (SendFrame message) rest first c.whole_down in
     let m : TotalsAgree (with_segment k f (Ok segment)) s (down_one w [] rest) = record {
       hello = omega (arith, c.hello, ap (total_of hellos_in) first, total_append hellos_in w.queued_up []);
       calls_up = omega (arith, c.calls_up, total_append sends_in w.queued_up []);
@@ -99,13 +111,38 @@ totals_send_down opened k s w f message rest c first p stays apart =
       within_down = c.within_down;
       out = omega (arith, c.out, fewer);
       waiting = c.waiting;
-      whole_up = c.whole_up;
-      whole_down = refl;
+      whole_up = none_more s.received.begun w.up w.queued_up c.whole_up;
+      whole_down = front.2;
       reads = omega (arith, c.reads, ap (total_of requests_in) first, total_append responses_in w.queued_up []);
       responses = omega (arith, c.responses, total_append responses_in w.queued_up []);
     } in
-    subst (λ (said : List FrameContent). TotalsAgree (client_state_after opened k (FrameReceived f)) s (down_one w said rest)) (sym (says_is opened k f (Ok segment) p.behind is))
-    (subst (λ (t : ClientState). TotalsAgree t s (down_one w [] rest)) (sym (after_is_lem opened k f (Ok segment) p.behind is)) m)
+    totals_frame_lem opened k s w f segment [] rest p.behind is refl m
+
+-- a segment of a Send that isn't its last
+pub totals_part_down : (opened : LinkParameters) (k : ClientState) (s : ServerState) (w : Transit) (f : Frame) (offset : ℕ) (payload : List ℕ) (rest : List FrameContent) → TotalsAgree k s w → w.down ≡ PartFrame offset payload ∷ rest
+    → Carries k.received.sends k.received.requests f (PartFrame offset payload)
+    → TotalsAgree (client_state_after opened k (FrameReceived f)) s (down_one w (client_frames opened k (FrameReceived f)) rest)
+totals_part_down opened k s w f offset payload rest c first p =
+    let segment : Segment = part_segment k.received.sends offset payload in
+    let is : frame_segment f ≡ Ok segment = segment_is k.received.sends k.received.requests f (PartFrame offset payload) segment p refl in
+    let front = at_front k.received.begun w.down w.queued_down (PartFrame offset payload) rest first c.whole_down in
+    let m : TotalsAgree (with_segment k f (Ok segment)) s (down_one w [] rest) = record {
+      hello = omega (arith, c.hello, ap (total_of hellos_in) first, total_append hellos_in w.queued_up []);
+      calls_up = omega (arith, c.calls_up, total_append sends_in w.queued_up []);
+      messages_down = omega (arith, c.messages_down, ap (total_of sends_in) first);
+      sends = omega (arith, c.sends, total_append sends_in w.queued_up []);
+      messages = c.messages;
+      all_sends = c.all_sends;
+      within_up = c.within_up;
+      within_down = c.within_down;
+      out = c.out;
+      waiting = c.waiting;
+      whole_up = none_more s.received.begun w.up w.queued_up c.whole_up;
+      whole_down = front.1;
+      reads = omega (arith, c.reads, ap (total_of requests_in) first, total_append responses_in w.queued_up []);
+      responses = omega (arith, c.responses, total_append responses_in w.queued_up []);
+    } in
+    totals_frame_lem opened k s w f segment [] rest p.behind is refl m
 
 -- ---- The client receives a Read Request
 
@@ -157,8 +194,8 @@ totals_read_down opened k s w f sink at size stag to rest c first p =
       within_down = c.within_down;
       out = c.out;
       waiting = c.waiting;
-      whole_up = c.whole_up;
-      whole_down = c.whole_down;
+      whole_up = queued_more s.received.begun w.up w.queued_up said c.whole_up (tagged_sends OPCODE_READ_RESPONSE r.sink r.sink_to bytes);
+      whole_down = at_front k.received.begun w.down w.queued_down (RequestFrame sink at size stag to) rest first c.whole_down;
       reads = omega (arith, c.reads, ap (total_of requests_in) first, total_append responses_in w.queued_up said, one);
       responses = omega (arith, c.responses, total_append responses_in w.queued_up said, one, waiting_append k.written k.response_ends (end ∷ []), one_waiting k.written end (omega (arith, c.within_up, output_some k f.end r)));
     } in
@@ -184,8 +221,8 @@ totals_tagged_down opened k s w f last opcode stag to payload rest c first p =
       within_down = c.within_down;
       out = c.out;
       waiting = c.waiting;
-      whole_up = c.whole_up;
-      whole_down = c.whole_down;
+      whole_up = none_more s.received.begun w.up w.queued_up c.whole_up;
+      whole_down = at_front k.received.begun w.down w.queued_down (TaggedFrame last opcode stag to payload) rest first c.whole_down;
       reads = omega (arith, c.reads, ap (total_of requests_in) first, total_append responses_in w.queued_up []);
       responses = omega (arith, c.responses, total_append responses_in w.queued_up []);
     } in
@@ -202,14 +239,14 @@ pub totals_hello_down : (opened : LinkParameters) (k : ClientState) (s : ServerS
     → TotalsAgree (client_state_after opened k (FrameReceived f)) s (down_one w (client_frames opened k (FrameReceived f)) rest)
 unfolding client_state_after client_frames
 totals_hello_down opened k s w f rest c first is =
-    let said = map (call_frame opened) k.outstanding in
+    let said = calls_frames opened k.outstanding in
     let hello : hello_bit k.has_hello ≡ 0 = omega (arith, c.hello, ap (total_of hellos_in) first) in
     let before : calls_sent k ≡ 0 = ap (λ (b : Bool). cond b k.calls_accepted 0) (bit_of k.has_hello hello) in
-    let sends : total_of sends_in said ≡ length k.outstanding = total_map_one sends_in (call_frame opened) k.outstanding (λ o. refl) in
+    let sends : total_of sends_in said ≡ length k.outstanding = sends_one sends_in (message_of_call opened) k.outstanding (λ offset payload. refl) (λ m. refl) in
     let none_queued : total_of sends_in w.queued_up ≡ 0 = omega (arith, c.calls_up, before) in
     let all : length (call_ends opened k.due 1 k.outstanding) ≡ length k.outstanding = calls_length opened k.due 1 k.outstanding in
     let m : TotalsAgree (with_hello opened k) s (down_one w said rest) = record {
-      hello = omega (arith, c.hello, hello, ap (total_of hellos_in) first, total_append hellos_in w.queued_up said, total_map_zero hellos_in (call_frame opened) k.outstanding (λ o. refl));
+      hello = omega (arith, c.hello, hello, ap (total_of hellos_in) first, total_append hellos_in w.queued_up said, sends_zero hellos_in (message_of_call opened) k.outstanding (λ offset payload. refl) (λ m. refl));
       calls_up = omega (arith, c.calls_up, before, c.messages_down, c.waiting, c.out, sends, total_append sends_in w.queued_up said);
       messages_down = omega (arith, c.messages_down, ap (total_of sends_in) first);
       sends = omega (arith, none_queued, all, sends, total_append sends_in w.queued_up said, c.sends, waiting_append k.written k.send_ends (call_ends opened k.due 1 k.outstanding), all_waiting_lem k.written (call_ends opened k.due 1 k.outstanding) (calls_above opened k.written k.due 1 k.outstanding c.within_up));
@@ -219,10 +256,10 @@ totals_hello_down opened k s w f rest c first is =
       within_down = c.within_down;
       out = c.out;
       waiting = c.waiting;
-      whole_up = c.whole_up;
-      whole_down = c.whole_down;
-      reads = omega (arith, c.reads, ap (total_of requests_in) first, total_append responses_in w.queued_up said, total_map_zero responses_in (call_frame opened) k.outstanding (λ o. refl));
-      responses = omega (arith, c.responses, total_append responses_in w.queued_up said, total_map_zero responses_in (call_frame opened) k.outstanding (λ o. refl));
+      whole_up = queued_more s.received.begun w.up w.queued_up said c.whole_up (are_all_sends (message_of_call opened) k.outstanding);
+      whole_down = at_front k.received.begun w.down w.queued_down HelloFrame rest first c.whole_down;
+      reads = omega (arith, c.reads, ap (total_of requests_in) first, total_append responses_in w.queued_up said, sends_zero responses_in (message_of_call opened) k.outstanding (λ offset payload. refl) (λ m. refl));
+      responses = omega (arith, c.responses, total_append responses_in w.queued_up said, sends_zero responses_in (message_of_call opened) k.outstanding (λ offset payload. refl) (λ m. refl));
     } in
     subst (λ (b : Bool). TotalsAgree (cond b (with_hello opened k) (with_segment k f (frame_segment f))) s (down_one w (cond b said (response_frames k f.end (segment_request (frame_segment f)))) rest)) (sym is) m
 
@@ -231,13 +268,17 @@ totals_hello_down opened k s w f rest c first is =
 abbrev pub up_more : Transit → List FrameContent → Transit
 up_more w said = record { queued_up = w.queued_up ++ said; up = w.up; queued_down = w.queued_down; down = w.down }
 
-says_call : (b : Bool) (p : FrameContent) (message : List ℕ) → p ≡ SendFrame message → total_of sends_in (cond b (p ∷ []) []) ≡ hello_bit b
-says_call true p message e = ap (λ (x : FrameContent). sends_in x + 0) e
-says_call false p message e = refl
+says_call : (b : Bool) (message : List ℕ) → total_of sends_in (cond b (send_frames message) []) ≡ hello_bit b
+says_call true message = send_counts sends_in 1 (λ offset payload. refl) (λ m. refl) message
+says_call false message = refl
 
-says_no : (one : FrameContent → ℕ) (b : Bool) (p : FrameContent) → one p ≡ 0 → total_of one (cond b (p ∷ []) []) ≡ 0
-says_no one true p e = omega (arith, e)
-says_no one false p e = refl
+says_no : (one : FrameContent → ℕ) (b : Bool) (message : List ℕ) → ((offset : ℕ) (payload : List ℕ) → one (PartFrame offset payload) ≡ 0) → ((m : SentMessage) → one (SendFrame m) ≡ 0) → total_of one (cond b (send_frames message) []) ≡ 0
+says_no one true message parts none = send_counts one 0 parts none message
+says_no one false message parts none = refl
+
+says_sends : (b : Bool) (message : List ℕ) → AreSends None (cond b (send_frames message) [])
+says_sends true message = are_sends message
+says_sends false message = refl
 
 said_more : (b : Bool) (n : ℕ) → cond b (n + 1) 0 ≡ cond b n 0 + hello_bit b
 said_more true n = refl
@@ -247,23 +288,23 @@ pub totals_accepts : (opened : LinkParameters) (k : ClientState) (s : ServerStat
     → TotalsAgree (client_state_after opened k (CallSubmitted place a)) s (up_more w (client_frames opened k (CallSubmitted place a)))
 unfolding client_state_after client_frames
 totals_accepts opened k s w place a c =
-    let p = call_frame opened (outstanding_of k a) in
-    let said = cond k.has_hello (p ∷ []) [] in
+    let message = message_of_call opened (outstanding_of k a) in
+    let said = cond k.has_hello (send_frames message) [] in
     record {
-      hello = omega (arith, c.hello, total_append hellos_in w.queued_up said, says_no hellos_in k.has_hello p refl);
-      calls_up = omega (arith, c.calls_up, said_more k.has_hello k.calls_accepted, total_append sends_in w.queued_up said, says_call k.has_hello p _ refl);
+      hello = omega (arith, c.hello, total_append hellos_in w.queued_up said, says_no hellos_in k.has_hello message (λ offset payload. refl) (λ m. refl));
+      calls_up = omega (arith, c.calls_up, said_more k.has_hello k.calls_accepted, total_append sends_in w.queued_up said, says_call k.has_hello message);
       messages_down = c.messages_down;
-      sends = omega (arith, c.sends, total_append sends_in w.queued_up said, says_call k.has_hello p _ refl, waiting_append k.written k.send_ends (submitted_ends opened k a), submitted-waits k.has_hello);
+      sends = omega (arith, c.sends, total_append sends_in w.queued_up said, says_call k.has_hello message, waiting_append k.written k.send_ends (submitted_ends opened k a), submitted-waits k.has_hello);
       messages = c.messages;
       all_sends = omega (arith, c.all_sends, said_more k.has_hello k.calls_accepted, length-append k.send_ends (submitted_ends opened k a), submitted-length k.has_hello);
       within_up = omega (arith, c.within_up);
       within_down = c.within_down;
       out = omega (arith, c.out, length-append k.outstanding (outstanding_of k a ∷ []));
       waiting = c.waiting;
-      whole_up = c.whole_up;
+      whole_up = queued_more s.received.begun w.up w.queued_up said c.whole_up (says_sends k.has_hello message);
       whole_down = c.whole_down;
-      reads = omega (arith, c.reads, total_append responses_in w.queued_up said, says_no responses_in k.has_hello p refl);
-      responses = omega (arith, c.responses, total_append responses_in w.queued_up said, says_no responses_in k.has_hello p refl);
+      reads = omega (arith, c.reads, total_append responses_in w.queued_up said, says_no responses_in k.has_hello message (λ offset payload. refl) (λ m. refl));
+      responses = omega (arith, c.responses, total_append responses_in w.queued_up said, says_no responses_in k.has_hello message (λ offset payload. refl) (λ m. refl));
     }
   where
     one : List ℕ
@@ -291,7 +332,7 @@ totals_writes_up opened k s w taken all ends c = record {
   within_down = c.within_down;
   out = c.out;
   waiting = c.waiting;
-  whole_up = c.whole_up;
+  whole_up = none_queued s.received.begun (w.up ++ w.queued_up) c.whole_up;
   whole_down = c.whole_down;
   reads = omega (arith, c.reads, total_append responses_in w.up w.queued_up);
   responses = ap (λ (n : ℕ). ends_waiting n k.response_ends) all ∙ none_waiting k.due k.response_ends ends.responses;

@@ -3,12 +3,12 @@ use Rattle.std.proofs.Common.{◌≡◌, ℕ, ◌+◌, ◌-◌, ◌≤◌, ◌<�
 use Rattle.std.specs.Prelude.{find, min}
 use Rattle.std.specs.List.{filter, list_any, range_with_len}
 use Rattle.std.proofs.lemmas.Option.{same_Some}
-use Rattle.nr_wire.specs.Constants.{OPCODE_WRITE, OPCODE_READ_RESPONSE, OPCODE_SEND, QUEUE_SEND}
+use Rattle.nr_wire.specs.Constants.{OPCODE_WRITE, OPCODE_READ_RESPONSE}
 use Rattle.nr_wire.specs.Segment.{Segment}
-use Rattle.nr_wire.specs.Segment.Segment.{Tagged, Untagged}
+use Rattle.nr_wire.specs.Segment.Segment.{Tagged}
 use Rattle.nr_reduce.specs.declared.mark.LinkParameters.{LinkParameters}
 use Rattle.nr_link.specs.Limits.{open_reads_max}
-use Rattle.nr_link.specs.Output.{msn_word, segment_count}
+use Rattle.nr_link.specs.Output.{segment_count}
 use Rattle.nr_reduce.specs.Chunks.{is_read_chunk_of_item}
 use Rattle.nr_link.specs.Frames.{Frame, is_hello}
 use Rattle.nr_link.specs.ReceiveState.{begun_bytes}
@@ -28,10 +28,11 @@ use Rattle.nr_header.specs.declared.header.ChunkLists.{ChunkLists}
 use Rattle.nr_rpc.specs.Reading.{call_of, target_of}
 use Rattle.nr_reduce.specs.History.{ExecutedCall}
 use Rattle.nr_reduce.specs.Holds.{Answer, answer_message, chunk_error, first_chunk, no_segments}
-use Rattle.nr_laws.proofs.FrameContents.{FrameContent, Carries, numbered_segment, total_of, sends_in, requests_in, responses_in, hellos_in, one_if_response, effect_frames, request_frame, write_frames, answer_frames, tagged_frames, tagged_frame, server_frames}
-use Rattle.nr_laws.proofs.FrameContents.FrameContent.{HelloFrame, SendFrame, TaggedFrame}
-use Rattle.nr_laws.proofs.LinkInvariants.{Transit, TotalsAgree, AreDistinct}
+use Rattle.nr_laws.proofs.FrameContents.{FrameContent, SentMessage, Carries, numbered_segment, part_segment, last_segment, send_frames, errors_frames, total_of, sends_in, requests_in, responses_in, hellos_in, one_if_response, effect_frames, request_frame, write_frames, answer_frames, tagged_frames, tagged_frame, server_frames}
+use Rattle.nr_laws.proofs.FrameContents.FrameContent.{HelloFrame, PartFrame, SendFrame, TaggedFrame}
+use Rattle.nr_laws.proofs.LinkInvariants.{Transit, TotalsAgree, AreDistinct, AreSends}
 use Rattle.nr_laws.proofs.Totals.{total_append, total_map_zero, total_map_one, others, length_fewer, any_found, length_newly}
+use Rattle.nr_laws.proofs.SendFrames.{send_counts, sends_zero, sends_one, effect_sends, answer_sends, queued_more, none_queued, at_front}
 use Rattle.nr_laws.proofs.EachEffect.{whole_rule}
 use Rattle.nr_laws.proofs.EndsWaiting.{waiting_append, all_waiting_lem, one_waiting, sends_above, sends_length, execution_some}
 use Rattle.nr_reduce.specs.Written.{ends_waiting}
@@ -112,18 +113,18 @@ shape_read k c_k place r (Some c) st kept same none apart is h =
 
 sends_said : (st : FrameEffect) → total_of sends_in (effect_frames st) ≡ length st.errors
 sends_said st =
-    total_append sends_in (map SendFrame st.errors) (map request_frame (newly_open_reads st))
-    ∙ omega (arith, total_map_one sends_in SendFrame st.errors (λ x. refl), total_map_zero sends_in request_frame (newly_open_reads st) (λ x. refl))
+    total_append sends_in (errors_frames st.errors) (map request_frame (newly_open_reads st))
+    ∙ omega (arith, sends_one sends_in (λ (m : List ℕ). m) st.errors (λ offset payload. refl) (λ x. refl), total_map_zero sends_in request_frame (newly_open_reads st) (λ x. refl))
 
 pub reads_said : (st : FrameEffect) → total_of requests_in (effect_frames st) ≡ length (newly_open_reads st)
 reads_said st =
-    total_append requests_in (map SendFrame st.errors) (map request_frame (newly_open_reads st))
-    ∙ omega (arith, total_map_zero requests_in SendFrame st.errors (λ x. refl), total_map_one requests_in request_frame (newly_open_reads st) (λ x. refl))
+    total_append requests_in (errors_frames st.errors) (map request_frame (newly_open_reads st))
+    ∙ omega (arith, sends_zero requests_in (λ (m : List ℕ). m) st.errors (λ offset payload. refl) (λ x. refl), total_map_one requests_in request_frame (newly_open_reads st) (λ x. refl))
 
 pub hello_said : (st : FrameEffect) → total_of hellos_in (effect_frames st) ≡ 0
 hello_said st =
-    total_append hellos_in (map SendFrame st.errors) (map request_frame (newly_open_reads st))
-    ∙ omega (arith, total_map_zero hellos_in SendFrame st.errors (λ x. refl), total_map_zero hellos_in request_frame (newly_open_reads st) (λ x. refl))
+    total_append hellos_in (errors_frames st.errors) (map request_frame (newly_open_reads st))
+    ∙ omega (arith, sends_zero hellos_in (λ (m : List ℕ). m) st.errors (λ offset payload. refl) (λ x. refl), total_map_zero hellos_in request_frame (newly_open_reads st) (λ x. refl))
 
 -- ---- Counts behind a frame
 
@@ -132,7 +133,6 @@ record FrameTotals (s t : ServerState) (st : FrameEffect) (up rest : List FrameC
   shape : EffectTotals s st new kept
   kept_gone : kept + gone ≡ length (open_reads s)
   sends : t.received.sends ≡ s.received.sends + new
-  begun : t.received.begun ≡ None
   answers : t.messages_queued ≡ s.messages_queued + length st.errors
   messages : ends_waiting t.written t.message_ends ≡ ends_waiting s.written s.message_ends + length st.errors
   within : t.written ≤ t.due
@@ -142,9 +142,9 @@ record FrameTotals (s t : ServerState) (st : FrameEffect) (up rest : List FrameC
   up_responses : total_of responses_in up ≡ gone + total_of responses_in rest
   up_hello : total_of hellos_in up ≡ total_of hellos_in rest
 
-totals_moved : (opened : LinkParameters) (k : ClientState) (s t : ServerState) (w : Transit) (st : FrameEffect) (rest : List FrameContent) (new kept gone : ℕ) → TotalsAgree k s w → FrameTotals s t st w.up rest new kept gone
+totals_moved : (opened : LinkParameters) (k : ClientState) (s t : ServerState) (w : Transit) (st : FrameEffect) (rest : List FrameContent) (new kept gone : ℕ) → TotalsAgree k s w → FrameTotals s t st w.up rest new kept gone → AreSends t.received.begun (rest ++ w.queued_up)
     → TotalsAgree k t (record { queued_up = w.queued_up; up = rest; queued_down = w.queued_down ++ effect_frames st; down = w.down })
-totals_moved opened k s t w st rest new kept gone c m =
+totals_moved opened k s t w st rest new kept gone c m begun =
     let sends = sends_said st in
     let sends_all = total_append sends_in w.queued_down (effect_frames st) in
     let reads = reads_said st in
@@ -162,8 +162,8 @@ totals_moved opened k s t w st rest new kept gone c m =
       within_down = m.within;
       out = c.out;
       waiting = omega (arith, c.waiting, m.answers, m.calls, m.sends, m.shape.counted);
-      whole_up = m.begun;
-      whole_down = c.whole_down;
+      whole_up = begun;
+      whole_down = queued_more k.received.begun w.down w.queued_down (effect_frames st) c.whole_down (effect_sends st);
       reads = omega (arith, c.reads, m.opened, newly, m.shape.kept_is, m.kept_gone, m.up_responses, reads, reads_all);
       responses = c.responses;
     }
@@ -207,23 +207,32 @@ step_is s f r is = λ i. effect_in s f (is i)
 pub segment_is : (n r : ℕ) (f : Frame) (p : FrameContent) (segment : Segment) → Carries n r f p → numbered_segment n r p ≡ Some segment → frame_segment f ≡ Ok segment
 segment_is n r f p segment is e = is.reads ∙ ap (λ (s : Segment). Ok s) (same_Some _ _ (sym is.is_segment ∙ e))
 
--- ---- The server receives a Send
+-- ---- The server receives a segment of a Send
 
-pub totals_send_up : (opened : LinkParameters) (k : ClientState) (s : ServerState) (w : Transit) (f : Frame) (message : List ℕ) (rest : List FrameContent) → TotalsAgree k s w → w.up ≡ SendFrame message ∷ rest
+abbrev pub up_one : Transit → List FrameContent → List FrameContent → Transit
+up_one w rest said = record { queued_up = w.queued_up; up = rest; queued_down = w.queued_down ++ said; down = w.down }
+
+totals_frame_lem : (opened : LinkParameters) (k : ClientState) (s : ServerState) (w : Transit) (f : Frame) (segment : Segment) (rest : List FrameContent) → is_hello f ≡ false → frame_segment f ≡ Ok segment
+    → TotalsAgree k (with_by s f (Ok segment) (effect_in s f (Ok segment))) (up_one w rest (effect_frames (effect_in s f (Ok segment)))) → TotalsAgree k (server_state_after opened s (FrameReceived f)) (up_one w rest (effect_frames (frame_effect s f)))
+totals_frame_lem opened k s w f segment rest behind is h =
+    subst (λ (st : FrameEffect). TotalsAgree k (server_state_after opened s (FrameReceived f)) (up_one w rest (effect_frames st))) (sym (step_is s f (Ok segment) is))
+    (subst (λ (t : ServerState). TotalsAgree k t (up_one w rest (effect_frames (effect_in s f (Ok segment))))) (sym (after_is_lem opened s f (Ok segment) behind is)) h)
+
+pub totals_send_up : (opened : LinkParameters) (k : ClientState) (s : ServerState) (w : Transit) (f : Frame) (message : SentMessage) (rest : List FrameContent) → TotalsAgree k s w → w.up ≡ SendFrame message ∷ rest
     → Carries s.received.sends s.received.requests f (SendFrame message) → (frame_effect s f).refusal ≡ None
     → TotalsAgree k (server_state_after opened s (FrameReceived f)) (record { queued_up = w.queued_up; up = rest; queued_down = w.queued_down ++ effect_frames (frame_effect s f); down = w.down })
 totals_send_up opened k s w f message rest c first p goes_on =
-    let segment : Segment = Untagged true OPCODE_SEND 0 QUEUE_SEND (msn_word (s.received.sends + 1)) 0 message in
+    let segment : Segment = last_segment s.received.sends message in
     let is : frame_segment f ≡ Ok segment = segment_is s.received.sends s.received.requests f (SendFrame message) segment p refl in
-    let whole : List ℕ = begun_bytes s.received.begun ++ message in
+    let whole : List ℕ = begun_bytes s.received.begun ++ message.payload in
     let st = effect_in s f (Ok segment) in
     let unended : st.refusal ≡ None = ap (λ (x : FrameEffect). x.refusal) (sym (step_is s f (Ok segment) is)) ∙ goes_on in
     let t = with_by s f (Ok segment) st in
+    let front = at_front s.received.begun w.up w.queued_up (SendFrame message) rest first c.whole_up in
     let m : FrameTotals s t st w.up rest 1 (length (open_reads s)) 0 = record {
       shape = shape_message s f.end whole (verdict s whole) unended;
       kept_gone = omega arith;
       sends = refl;
-      begun = refl;
       answers = refl;
       messages = errors_wait s st.errors c.within_down;
       within = omega (arith, c.within_down);
@@ -233,11 +242,31 @@ totals_send_up opened k s w f message rest c first p goes_on =
       up_responses = ap (total_of responses_in) first;
       up_hello = omega (arith, ap (total_of hellos_in) first);
     } in
-    subst (λ (st2 : FrameEffect). TotalsAgree k (server_state_after opened s (FrameReceived f)) (record { queued_up = w.queued_up; up = rest; queued_down = w.queued_down ++ effect_frames st2; down = w.down }))
-    (sym (step_is s f (Ok segment) is))
-    (subst (λ (t2 : ServerState). TotalsAgree k t2 (record { queued_up = w.queued_up; up = rest; queued_down = w.queued_down ++ effect_frames st; down = w.down }))
-    (sym (after_is_lem opened s f (Ok segment) p.behind is))
-    (totals_moved opened k s t w st rest 1 (length (open_reads s)) 0 c m))
+    totals_frame_lem opened k s w f segment rest p.behind is (totals_moved opened k s t w st rest 1 (length (open_reads s)) 0 c m front.2)
+
+pub totals_part_up : (opened : LinkParameters) (k : ClientState) (s : ServerState) (w : Transit) (f : Frame) (offset : ℕ) (payload : List ℕ) (rest : List FrameContent) → TotalsAgree k s w → w.up ≡ PartFrame offset payload ∷ rest
+    → Carries s.received.sends s.received.requests f (PartFrame offset payload)
+    → TotalsAgree k (server_state_after opened s (FrameReceived f)) (record { queued_up = w.queued_up; up = rest; queued_down = w.queued_down ++ effect_frames (frame_effect s f); down = w.down })
+totals_part_up opened k s w f offset payload rest c first p =
+    let segment : Segment = part_segment s.received.sends offset payload in
+    let is : frame_segment f ≡ Ok segment = segment_is s.received.sends s.received.requests f (PartFrame offset payload) segment p refl in
+    let st = effect_in s f (Ok segment) in
+    let t = with_by s f (Ok segment) st in
+    let front = at_front s.received.begun w.up w.queued_up (PartFrame offset payload) rest first c.whole_up in
+    let m : FrameTotals s t st w.up rest 0 (length (open_reads s)) 0 = record {
+      shape = record { counted = omega arith; kept_is = refl; kept_there = omega arith };
+      kept_gone = omega arith;
+      sends = omega arith;
+      answers = omega arith;
+      messages = errors_wait s [] c.within_down;
+      within = omega (arith, c.within_down);
+      calls = refl;
+      opened = refl;
+      up_sends = ap (total_of sends_in) first;
+      up_responses = ap (total_of responses_in) first;
+      up_hello = omega (arith, ap (total_of hellos_in) first);
+    } in
+    totals_frame_lem opened k s w f segment rest p.behind is (totals_moved opened k s t w st rest 0 (length (open_reads s)) 0 c m front.1)
 
 -- ---- The server receives a tagged segment
 
@@ -258,9 +287,9 @@ tagged_moves s f last opcode stag to payload up rest ends =
     up rest 0 kept gone
 
 moves_tagged : (s : ServerState) (f : Frame) (last : Bool) (opcode stag to : ℕ) (payload : List ℕ) (up rest : List FrameContent) (ends : Bool) → (opcode_ends : (eqb opcode OPCODE_READ_RESPONSE && last) ≡ ends)
-    → up ≡ TaggedFrame last opcode stag to payload ∷ rest → s.received.begun ≡ None → total_of responses_in up ≤ length (open_reads s) → AreDistinct (λ (c : PendingCall). c.number) s.calls → s.written ≤ s.due
+    → up ≡ TaggedFrame last opcode stag to payload ∷ rest → total_of responses_in up ≤ length (open_reads s) → AreDistinct (λ (c : PendingCall). c.number) s.calls → s.written ≤ s.due
     → tagged_moves s f last opcode stag to payload up rest ends
-moves_tagged s f last opcode stag to payload up rest true is first begun few apart within =
+moves_tagged s f last opcode stag to payload up rest true is first few apart within =
     let one : total_of responses_in up ≡ 1 + total_of responses_in rest = ap (total_of responses_in) first ∙ ap (λ (b : Bool). one_if_response b + total_of responses_in rest) is in
     let some : 0 < length (take open_reads_max s.reads) = omega (arith, one, few) in (
       length (open_reads s) - 1,
@@ -269,7 +298,6 @@ moves_tagged s f last opcode stag to payload up rest true is first begun few apa
         shape = shape_response s f (Tagged last opcode stag to payload) s.reads refl some apart;
         kept_gone = omega (arith, some);
         sends = omega arith;
-        begun = begun;
         answers = refl;
         messages = errors_wait s (response_effect (with_access s f (Tagged last opcode stag to payload)) f.end s.reads).errors within;
         within = omega (arith, within);
@@ -280,14 +308,13 @@ moves_tagged s f last opcode stag to payload up rest true is first begun few apa
         up_hello = omega (arith, ap (total_of hellos_in) first);
       },
     )
-moves_tagged s f last opcode stag to payload up rest false is first begun few apart within = (
+moves_tagged s f last opcode stag to payload up rest false is first few apart within = (
   length (open_reads s),
   0,
   record {
     shape = record { counted = omega arith; kept_is = refl; kept_there = omega arith };
     kept_gone = omega arith;
     sends = omega arith;
-    begun = begun;
     answers = omega arith;
     messages = errors_wait s [] within;
     within = omega (arith, within);
@@ -308,12 +335,9 @@ totals_tagged_up opened k s w f last opcode stag to payload rest c apart first p
     let is : frame_segment f ≡ Ok segment = segment_is s.received.sends s.received.requests f (TaggedFrame last opcode stag to payload) segment p refl in
     let st = effect_in s f (Ok segment) in
     let t = with_by s f (Ok segment) st in
-    let m = moves_tagged s f last opcode stag to payload w.up rest (eqb opcode OPCODE_READ_RESPONSE && last) refl first c.whole_up (omega (arith, c.reads)) apart c.within_down in
-    subst (λ (st2 : FrameEffect). TotalsAgree k (server_state_after opened s (FrameReceived f)) (record { queued_up = w.queued_up; up = rest; queued_down = w.queued_down ++ effect_frames st2; down = w.down }))
-    (sym (step_is s f (Ok segment) is))
-    (subst (λ (t2 : ServerState). TotalsAgree k t2 (record { queued_up = w.queued_up; up = rest; queued_down = w.queued_down ++ effect_frames st; down = w.down }))
-    (sym (after_is_lem opened s f (Ok segment) p.behind is))
-    (totals_moved opened k s t w st rest 0 m.0 m.1 c m.2))
+    let m = moves_tagged s f last opcode stag to payload w.up rest (eqb opcode OPCODE_READ_RESPONSE && last) refl first (omega (arith, c.reads)) apart c.within_down in
+    totals_frame_lem opened k s w f segment rest p.behind is
+    (totals_moved opened k s t w st rest 0 m.0 m.1 c m.2 (at_front s.received.begun w.up w.queued_up (TaggedFrame last opcode stag to payload) rest first c.whole_up))
 
 -- ---- The server executes a call, and writes
 
@@ -332,15 +356,15 @@ pub long_none : (one : FrameContent → ℕ) → ((last : Bool) (stag to : ℕ) 
 long_none one none true chunk bytes = fills_none one none chunk bytes
 long_none one none false chunk bytes = refl
 
-pub answer_counts : (one : FrameContent → ℕ) (n : ℕ) → ((last : Bool) (stag to : ℕ) (payload : List ℕ) → one (TaggedFrame last OPCODE_WRITE stag to payload) ≡ 0) → ((message : List ℕ) → one (SendFrame message) ≡ n)
+pub answer_counts : (one : FrameContent → ℕ) (n : ℕ) → ((last : Bool) (stag to : ℕ) (payload : List ℕ) → one (TaggedFrame last OPCODE_WRITE stag to payload) ≡ 0) → ((offset : ℕ) (payload : List ℕ) → one (PartFrame offset payload) ≡ 0) → ((message : SentMessage) → one (SendFrame message) ≡ n)
     → (s : ServerState) (xid : ℕ) (offer : ChunkLists) (a : Option Answer) → total_of one (answer_frames s xid offer a) ≡ n
-answer_counts one n none is s xid offer None = omega (arith, is (chunk_error xid (credit_word s)))
-answer_counts one n none is s xid offer (Some a) =
+answer_counts one n none parts is s xid offer None = send_counts one n parts is (chunk_error xid (credit_word s))
+answer_counts one n none parts is s xid offer (Some a) =
     let moved = write_frames (first_chunk offer.write) a.moved in
     let long = cond a.long (write_frames (no_segments offer.reply) a.stream) [] in
     let message = answer_message xid (credit_word s) offer a in
-    total_append one moved (long ++ (SendFrame message ∷ []))
-    ∙ omega (arith, total_append one long (SendFrame message ∷ []), fills_none one none (first_chunk offer.write) a.moved, long_none one none a.long (no_segments offer.reply) a.stream, is message)
+    total_append one moved (long ++ send_frames message)
+    ∙ omega (arith, total_append one long (send_frames message), fills_none one none (first_chunk offer.write) a.moved, long_none one none a.long (no_segments offer.reply) a.stream, send_counts one n parts is message)
 
 pub totals_executes : (opened : LinkParameters) (k : ClientState) (s : ServerState) (w : Transit) (e : ExecutedCall) → TotalsAgree k s w
     → AreDistinct (λ (c : PendingCall). c.xid) s.calls → list_any (λ (c : PendingCall). eqb c.xid e.xid) s.calls ≡ true
@@ -352,15 +376,15 @@ totals_executes opened k s w e c apart there =
     let said = answer_frames s e.xid offer answer in
     let fewer = length_fewer (λ (c : PendingCall). c.xid) e.xid s.calls apart there in
     record {
-      hello = omega (arith, c.hello, total_append hellos_in w.queued_down said, answer_counts hellos_in 0 (λ last stag to payload. refl) (λ message. refl) s e.xid offer answer);
+      hello = omega (arith, c.hello, total_append hellos_in w.queued_down said, answer_counts hellos_in 0 (λ last stag to payload. refl) (λ offset payload. refl) (λ message. refl) s e.xid offer answer);
       calls_up = c.calls_up;
-      messages_down = omega (arith, c.messages_down, total_append sends_in w.queued_down said, answer_counts sends_in 1 (λ last stag to payload. refl) (λ message. refl) s e.xid offer answer);
+      messages_down = omega (arith, c.messages_down, total_append sends_in w.queued_down said, answer_counts sends_in 1 (λ last stag to payload. refl) (λ offset payload. refl) (λ message. refl) s e.xid offer answer);
       sends = c.sends;
       messages = omega (
         arith,
         c.messages,
         total_append sends_in w.queued_down said,
-        answer_counts sends_in 1 (λ last stag to payload. refl) (λ message. refl) s e.xid offer answer,
+        answer_counts sends_in 1 (λ last stag to payload. refl) (λ offset payload. refl) (λ message. refl) s e.xid offer answer,
         waiting_append s.written s.message_ends ((s.due + length (execution_output s e)) ∷ []),
         one_waiting s.written (s.due + length (execution_output s e)) (omega (arith, c.within_down, execution_some s e)),
       );
@@ -370,8 +394,8 @@ totals_executes opened k s w e c apart there =
       out = c.out;
       waiting = omega (arith, c.waiting, fewer);
       whole_up = c.whole_up;
-      whole_down = c.whole_down;
-      reads = omega (arith, c.reads, total_append requests_in w.queued_down said, answer_counts requests_in 0 (λ last stag to payload. refl) (λ message. refl) s e.xid offer answer);
+      whole_down = queued_more k.received.begun w.down w.queued_down said c.whole_down (answer_sends s e.xid offer answer);
+      reads = omega (arith, c.reads, total_append requests_in w.queued_down said, answer_counts requests_in 0 (λ last stag to payload. refl) (λ offset payload. refl) (λ message. refl) s e.xid offer answer);
       responses = c.responses;
     }
 
@@ -391,7 +415,7 @@ totals_writes_down opened k s w taken all ends c = record {
   out = c.out;
   waiting = c.waiting;
   whole_up = c.whole_up;
-  whole_down = c.whole_down;
+  whole_down = none_queued k.received.begun (w.down ++ w.queued_down) c.whole_down;
   reads = omega (arith, c.reads, total_append requests_in w.down w.queued_down);
   responses = c.responses;
 }
@@ -414,8 +438,8 @@ totals_hello_up opened k s w f rest c first is =
       within_down = omega (arith, c.within_down);
       out = c.out;
       waiting = c.waiting;
-      whole_up = c.whole_up;
-      whole_down = c.whole_down;
+      whole_up = at_front s.received.begun w.up w.queued_up HelloFrame rest first c.whole_up;
+      whole_down = queued_more k.received.begun w.down w.queued_down one c.whole_down refl;
       reads = omega (arith, c.reads, ap (total_of responses_in) first, total_append requests_in w.queued_down one);
       responses = c.responses;
     } in

@@ -69,10 +69,10 @@ pub write_spells : (stag to : ℕ) (bytes : List ℕ) → write stag to bytes �
 unfolding write cut
 write_spells stag to bytes = sym (flat_map_lem encoding (one_write stag to bytes) (range_with_len 0 (segment_count bytes)))
 
-low_piece : (i n : ℕ) → i < max 1 ((n + 4095) / segment_max) → segment_max * i ≤ n
+low_piece : (i n : ℕ) → i < max 1 ((n + (segment_max - 1)) / segment_max) → segment_max * i ≤ n
 low_piece i n h = omega (arith, h)
 
-all_pieces : (n : ℕ) → n ≤ segment_max * max 1 ((n + 4095) / segment_max)
+all_pieces : (n : ℕ) → n ≤ segment_max * max 1 ((n + (segment_max - 1)) / segment_max)
 all_pieces n = omega arith
 
 laid_segment_count : (stag to : ℕ) (bytes old : List ℕ) (k i : ℕ) → to + length bytes ≤ length old → i + k ≡ segment_count bytes →
