@@ -6,3 +6,4 @@ pub mod Messages
 pub mod Written
 pub mod KindsOfMessages
 pub mod Readings
+pub mod Lengths

@@ -29,6 +29,17 @@ ERR_VERS = 1
 abbrev pub ERR_CHUNK : ℕ
 ERR_CHUNK = 2
 
+-- the bytes of a header without chunks: the fixed words, and a word for each of its three lists; of a segment of a write chunk or a
+-- reply chunk; of an entry of a read list, with the word 1 before it (RFC 8166 sections 3.4, 4.3)
+abbrev pub HEADER_LEN_MIN : ℕ
+HEADER_LEN_MIN = 28
+
+abbrev pub SEGMENT_LEN : ℕ
+SEGMENT_LEN = 16
+
+abbrev pub READ_SEGMENT_LEN : ℕ
+READ_SEGMENT_LEN = 24
+
 -- the most entries of a read list
 abbrev pub READ_SEGMENTS_MAX : ℕ
 READ_SEGMENTS_MAX = 16

@@ -4,3 +4,4 @@ pub mod WithinLimits
 pub mod Constants
 pub mod Reading
 pub mod Kinds
+pub mod Length

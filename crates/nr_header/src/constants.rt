@@ -21,6 +21,15 @@ pub const ERR_VERS: u32 = 1;
 /// The error code for chunks that can't be used, ERR_CHUNK (RFC 8166 section 4.5.3).
 pub const ERR_CHUNK: u32 = 2;
 
+/// The bytes of a header without chunks: the fixed words, and a word for each of its three lists (RFC 8166 section 4.3).
+pub const HEADER_LEN_MIN: usize = 28;
+
+/// The bytes of a segment of a write chunk or a reply chunk (RFC 8166 section 3.4).
+pub const SEGMENT_LEN: usize = 16;
+
+/// The bytes of an entry of a read list, with the word 1 before it (RFC 8166 section 4.3.1).
+pub const READ_SEGMENT_LEN: usize = 24;
+
 /// The most segments in a read list.
 pub const READ_SEGMENTS_MAX: usize = 16;
 

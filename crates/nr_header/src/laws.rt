@@ -1,10 +1,11 @@
 //! Laws of headers.
 
-ghost use Rattle.std.specs.Prelude.{◌≡◌, ◌≢◌, ◌<◌, ℕ, List, ◌++◌, length, drop, Ok, Err, All, ◌↔◌};
+ghost use Rattle.std.specs.Prelude.{◌≡◌, ◌≢◌, ◌<◌, ℕ, Bool, List, ◌++◌, length, drop, Ok, Err, All, ◌↔◌};
 ghost use Rattle.nr_xdr.specs.Fields.{word_at};
 ghost use Rattle.nr_header.specs.Kinds.{HasFixedWords, IsWholeError};
 ghost use Rattle.nr_header.specs.declared.header.Header.{Header};
-ghost use Rattle.nr_header.specs.Header.{header_encoding, HeaderFits};
+ghost use Rattle.nr_header.specs.Header.{header_encoding, lists_body, HeaderFits};
+ghost use Rattle.nr_header.specs.Length.{header_len};
 ghost use Rattle.nr_header.specs.WithinLimits.{CanRead, IsMessage, header_again};
 ghost use Rattle.nr_header.specs.Reading.{HeaderBad, HasNoStream, header_of, header_by, in_lists, msg_at, nomsg_at};
 
@@ -20,6 +21,17 @@ pub fn header_round_trip()
 /// A message within the limits is bad exactly where it is RDMA_NOMSG without an entry at position 0.
 pub fn bad_messages()
     ensures { (h : Header) (bytes : List ℕ) → IsMessage h bytes → HeaderBad bytes ↔ HasNoStream h.body }
+{}
+
+/// A header has the length that [`crate::header_len`] gives for its lists, and one that reports an error has 28 or 20 bytes (RFC
+/// 8166 sections 4.3, 4.5).
+pub fn lengths_of_headers()
+    ensures lists { (xid credit : ℕ) (long : Bool) (lists : ChunkLists) →
+        length (header_encoding (record { xid = xid; credit = credit; body = lists_body long lists })) ≡ header_len lists }
+    ensures versions { (xid credit version low high : ℕ) →
+        length (header_encoding (record { xid = xid; credit = credit; body = Body.ErrVers version low high })) ≡ 28 }
+    ensures chunk { (xid credit version : ℕ) →
+        length (header_encoding (record { xid = xid; credit = credit; body = Body.ErrChunk version })) ≡ 20 }
 {}
 
 /// What is read of a message with these first words, and whether it is bad, in the numbers of RFC 8166 section 4.2.

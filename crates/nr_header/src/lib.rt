@@ -14,19 +14,21 @@ mod header;
 mod inline_vec;
 mod item;
 mod laws;
+mod length;
 mod lists;
 mod reading;
 mod writing;
 
 pub use constants::{
-    CHUNK_ROOM, CHUNK_SEGMENTS_MAX, FIXED_LEN, PAYLOAD_MAX, READ_SEGMENTS_MAX, REPLY_SEGMENTS_MAX,
-    WRITE_CHUNKS_MAX, WRITE_SEGMENTS_MAX,
+    CHUNK_ROOM, CHUNK_SEGMENTS_MAX, FIXED_LEN, HEADER_LEN_MIN, PAYLOAD_MAX, READ_SEGMENT_LEN,
+    READ_SEGMENTS_MAX, REPLY_SEGMENTS_MAX, SEGMENT_LEN, WRITE_CHUNKS_MAX, WRITE_SEGMENTS_MAX,
 };
 pub use fault::HeaderFault;
 pub use header::{
     Body, Chunk, ChunkLists, Header, RdmaSegment, ReadList, ReadSegment, TransportError, WriteList,
 };
 pub use inline_vec::InlineVec;
-pub use laws::{bad_messages, header_round_trip, kinds_of_messages};
+pub use laws::{bad_messages, header_round_trip, kinds_of_messages, lengths_of_headers};
+pub use length::{header_len, read_list_len, reply_chunk_len, write_chunk_len};
 pub use reading::{credit_of, read_header, xid_of};
 pub use writing::{write_error, write_header, write_plain, write_with_lists};

@@ -13,8 +13,10 @@ mod attributes;
 mod bytes;
 mod file_system;
 mod links;
+mod preferred;
 
 pub use attributes::{access, getattr, setattr};
 pub use bytes::{commit, read, write};
 pub use file_system::{fsinfo, fsstat, pathconf};
 pub use links::readlink;
+pub use preferred::preferred_sizes;

@@ -40,6 +40,14 @@ impl<'a> Reader<'a> {
         }
     }
 
+    /// A reader at the first of these bytes, where as many bytes as `place` says were taken before.
+    pub fn at_place(place: usize, bytes: &'a [u8]) -> Reader<'a>
+        requires { place + length bytes.now < 2 ^ 64 }
+        ensures { result ≡ record { place = place; rest = bytes.now } }
+    {
+        Reader { place, rest: bytes }
+    }
+
     /// The place of the next item.
     pub fn at(&self) -> usize
         ensures { result ≡ self.now.place }
