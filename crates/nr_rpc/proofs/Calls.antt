@@ -14,7 +14,7 @@ use Rattle.nr_rpc.specs.declared.head.CallHead.{CallHead}
 use Rattle.nr_rpc.specs.declared.head.CallHead.TheVariants as calls
 use Rattle.nr_rpc.specs.Credential.{Auth, auth_items, auth_of, no_verifier, ReadsCred}
 use Rattle.nr_rpc.specs.Call.{version2_items, other_items, ReadsCall, BeginsCall, CanWriteCall, CallFits, call_encoding, call_again}
-use Rattle.nr_xdr.specs.Sequencing.{◌>>=◌, number_at}
+use Rattle.nr_xdr.specs.Sequencing.{◌>>=◌}
 use Rattle.nr_rpc.specs.Reading.{cred_of, pair_at, procedure_at, version2_at, call_at, head_of, call_of, GivesCall, head_xid, xid_of_call}
 use Rattle.nr_xdr.proofs.SequencingSteps.{bind_ok, chosen, done, ok_is, number_step, number_again}
 use Rattle.nr_rpc.proofs.HeadSteps.{expect_step, expect_again, auth_step, auth_again, TakesAuth, pair_step, pair_again}

@@ -1,18 +1,30 @@
 //! The items of heads: each is put at the end of a writer.
 
-ghost use Rattle.std.specs.Prelude.{◌≡◌, ◌^◌, ◌<◌, ◌≤◌, [], ◌++◌, length, map, OnOk, IfOk};
+ghost use Rattle.std.specs.Prelude.{◌≡◌, ◌^◌, ◌<◌, ◌≤◌, [], ◌++◌, length, map, OnOk, OnErr, IfOk};
 ghost use Rattle.nr_xdr.specs.Item.Item.{Unsigned};
 ghost use Rattle.nr_xdr.specs.Items.{encodings};
+ghost use Rattle.nr_xdr.specs.Room.{Appended};
 ghost use Rattle.nr_rpc.specs.Credential.{auth_items, auth_of, no_verifier, sys_items, CanWriteCred};
 
 use crate::constants::{AUTH_BODY_MAX, AUTH_NONE, AUTH_SYS, MACHINE_MAX};
 use crate::cred::{Cred, Gids};
-use nr_xdr::{Memory, Octets, Writer};
+use nr_xdr::{Memory, Octets, RoomWriter, Writer};
 use std::alloc::Global;
 
 /// Puts numbers at the end.
 pub(crate) fn put_numbers(writer: &mut Writer, numbers: &[u32]) -> Result<(), Memory>
     ensures { OnOk result (writer.new ≡ writer.old ++ encodings (map Unsigned numbers.now)) }
+{
+    for number in numbers {
+        writer.u32(*number)?;
+    }
+    Ok(())
+}
+
+/// Puts numbers at the end of a writer with room. After an `Err` some of them may stand there.
+pub(crate) fn put_words(writer: &mut RoomWriter, numbers: &[u32]) -> Result<(), Memory>
+    ensures ok { OnOk result (Appended writer.old writer.new (encodings (map Unsigned numbers.now))) }
+    ensures room { OnErr result (writer.old.left < length (encodings (map Unsigned numbers.now))) }
 {
     for number in numbers {
         writer.u32(*number)?;

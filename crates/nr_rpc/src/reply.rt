@@ -1,20 +1,23 @@
 //! Replies (RFC 5531 section 9).
 
-ghost use Rattle.std.specs.Prelude.{◌≡◌, ℕ, List, ◌++◌, ◌^◌, ◌<◌, length, map, Ok, Err, IfOk, IfErr, OnOk};
+ghost use Rattle.std.specs.Prelude.{◌≡◌, ℕ, List, ◌++◌, ◌^◌, ◌<◌, length, map, Ok, Err, IfOk, IfErr, OnOk, OnErr};
 ghost use Rattle.nr_xdr.specs.Item.{IsBytes};
 ghost use Rattle.nr_xdr.specs.Item.Item.{Unsigned};
 ghost use Rattle.nr_xdr.specs.Items.{encodings};
 ghost use Rattle.nr_xdr.specs.Matching.{MatchesRead, MatchesValue};
+ghost use Rattle.nr_xdr.specs.Room.{Appended};
 ghost use Rattle.nr_rpc.specs.Credential.{no_verifier};
 ghost use Rattle.nr_rpc.specs.Reply.{ReadsReply, BeginsReply, CanWriteReply, accepted_items, denied_items, reply_head, reply_encoding};
 ghost use Rattle.nr_rpc.specs.Reading.{GivesReply, reply_at, reply_of, accepted_at, denied_at};
 
-use crate::constants::{AUTH_ERROR, MSG_ACCEPTED, MSG_DENIED, PROG_MISMATCH, REPLY, RPC_MISMATCH};
+use crate::constants::{
+    AUTH_ERROR, AUTH_NONE, MSG_ACCEPTED, MSG_DENIED, PROG_MISMATCH, REPLY, RPC_MISMATCH,
+};
 use crate::fault::HeadFault;
 use crate::head::ReplyHead;
 use crate::item::{auth, expect, pair};
-use crate::put::{put_no_verifier, put_numbers};
-use nr_xdr::{DecodeError, Memory, Octets, Reader, Writer, number};
+use crate::put::put_words;
+use nr_xdr::{DecodeError, Memory, Octets, Reader, RoomWriter, number};
 use std::alloc::Global;
 
 /// Reads the reply to a call that was accepted, from the verifier on.
@@ -93,26 +96,29 @@ pub fn read_reply(bytes: &[u8]) -> Result<ReplyHead, HeadFault>
     read_reply_inner(bytes)
 }
 
-/// Puts the reply to a call that was accepted at the end: no verifier, then the words of its status.
-fn put_accepted(writer: &mut Writer, xid: u32, status: &[u32]) -> Result<(), Memory>
-    ensures { OnOk result (writer.new ≡ writer.old ++ encodings (accepted_items xid no_verifier (map Unsigned status.now))) }
+/// Puts the reply to a call that was accepted at the end: no verifier, which is a flavor and a body of no bytes (RFC 5531
+/// section 8.2), then the words of its status.
+fn put_accepted(writer: &mut RoomWriter, xid: u32, status: &[u32]) -> Result<(), Memory>
+    ensures ok { OnOk result (Appended writer.old writer.new (encodings (accepted_items xid no_verifier (map Unsigned status.now)))) }
+    ensures room { OnErr result (writer.old.left < length (encodings (accepted_items xid no_verifier (map Unsigned status.now)))) }
 {
-    put_numbers(writer, &[xid, REPLY, MSG_ACCEPTED])?;
-    put_no_verifier(writer)?;
-    put_numbers(writer, status)
+    put_words(writer, &[xid, REPLY, MSG_ACCEPTED, AUTH_NONE, 0])?;
+    put_words(writer, status)
 }
 
 /// Puts the reply to a call that was denied at the end, with the words of its status.
-fn put_denied(writer: &mut Writer, xid: u32, status: &[u32]) -> Result<(), Memory>
-    ensures { OnOk result (writer.new ≡ writer.old ++ encodings (denied_items xid (map Unsigned status.now))) }
+fn put_denied(writer: &mut RoomWriter, xid: u32, status: &[u32]) -> Result<(), Memory>
+    ensures ok { OnOk result (Appended writer.old writer.new (encodings (denied_items xid (map Unsigned status.now)))) }
+    ensures room { OnErr result (writer.old.left < length (encodings (denied_items xid (map Unsigned status.now)))) }
 {
-    put_numbers(writer, &[xid, REPLY, MSG_DENIED])?;
-    put_numbers(writer, status)
+    put_words(writer, &[xid, REPLY, MSG_DENIED])?;
+    put_words(writer, status)
 }
 
 /// Puts a head at the end.
-fn put_reply(writer: &mut Writer, head: &ReplyHead) -> Result<(), Memory>
-    ensures { OnOk result (writer.new ≡ writer.old ++ reply_head head.now) }
+fn put_reply(writer: &mut RoomWriter, head: &ReplyHead) -> Result<(), Memory>
+    ensures ok { OnOk result (Appended writer.old writer.new (reply_head head.now)) }
+    ensures room { OnErr result (writer.old.left < length (reply_head head.now)) }
 {
     match *head {
         ReplyHead::Accepted { xid, stat, .. } => put_accepted(writer, xid, &[stat]),
@@ -126,11 +132,23 @@ fn put_reply(writer: &mut Writer, head: &ReplyHead) -> Result<(), Memory>
     }
 }
 
+/// Appends the encoding of a reply head, which its results follow. The verifier is AUTH_NONE. `results_at` is ignored. Fails
+/// only if the writer has no room for the head.
+pub fn write_reply_head(writer: RoomWriter, head: &ReplyHead) -> Result<RoomWriter, Memory>
+    requires { CanWriteReply head.now }
+    ensures ok { IfOk result (λ w. Appended writer w (reply_head head.now)) }
+    ensures room { IfErr result (λ _. writer.left < length (reply_head head.now)) }
+{
+    let mut writer = writer;
+    put_reply(&mut writer, head)?;
+    Ok(writer)
+}
+
 /// The bytes of a head.
 fn reply_octets(alloc: Global, head: &ReplyHead) -> Result<Octets, Memory>
     ensures { IfOk result (λ o. o ≡ reply_head head.now) }
 {
-    let mut writer = Writer::new(alloc);
+    let mut writer = RoomWriter::new(alloc);
     put_reply(&mut writer, head)?;
     Ok(writer.finish())
 }

@@ -5,3 +5,4 @@ pub mod Chains
 pub mod SequencingSteps
 pub mod OneReading
 pub mod Fronts
+pub mod Rooms

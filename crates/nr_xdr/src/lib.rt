@@ -10,6 +10,7 @@ mod fault;
 mod laws;
 mod octets;
 mod reader;
+mod room_writer;
 mod words;
 mod writer;
 
@@ -18,4 +19,6 @@ pub use fault::{ItemFault, Memory};
 pub use laws::one_reading;
 pub use octets::Octets;
 pub use reader::Reader;
+pub use room_writer::RoomWriter;
+pub use words::pad_len;
 pub use writer::Writer;
