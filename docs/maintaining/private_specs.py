@@ -1,10 +1,11 @@
 #!/usr/bin/env python3
-"""Lists the files of specs/ that only private code cites.
+"""Compares specs/private/ with what private code alone cites.
 
     private_specs.py TREE
 
-A definition is public if a clause of a `pub fn`, of an `impl Model` or of a trait cites it, or another crate does, or a public
-definition does. A file none of whose definitions is public is for private code alone.
+A definition is public if a clause of a `pub fn`, of the model of a public type or of a trait cites it, or another crate does, or a public
+definition does. A file none of whose definitions is public is for private code alone, and stands in specs/private/. Each file that stands
+elsewhere is printed. Exit status: 0 if there is none, else 1.
 """
 from __future__ import annotations
 import re
@@ -13,15 +14,24 @@ from pathlib import Path
 
 TOKEN = re.compile(r"[A-Za-z_][A-Za-z0-9_'-]*")
 DECL = re.compile(r"^(?:abbrev |unfoldable |opaque )*(?:pub )?(?:abbrev |unfoldable )?(?:data |record )?([A-Za-z_][\w'-]*) (?:\(|:|\{)", re.M)
+NESTED = re.compile(r"^  (?:(?:abbrev |unfoldable )pub|pub (?:data|record)) ([A-Za-z_][\w'-]*) (?:\(|:|\{)", re.M)
 
 
-def public_text(text: str) -> str:
-    """The parts of a source file that a user reads: signatures and clauses of pub items, models, traits."""
+def declared_in(text: str) -> set[str]:
+    """The names of the definitions of a file, those of a `module _` block too."""
+    return set(DECL.findall(text)) | set(NESTED.findall(text))
+
+
+def public_text(text: str, types: set[str]) -> str:
+    """The parts of a source file that a user reads: signatures and clauses of pub items, models of these public types, traits."""
     out, keep = [], False
     for line in text.split("\n"):
-        if re.match(r"\s*ghost use|\s*use ", line):
+        if re.match(r"\s*ghost use|\s*use |\s*//", line):
             continue
-        if re.match(r"\s*(pub |impl Model|impl<.*> Model|pub trait|impl .* for )", line) and not re.match(r"\s*pub\((crate|super)\)", line):
+        model = re.match(r"\s*impl(?:<.*>)? Model for (\w+)", line)
+        if model and model.group(1) not in types:
+            keep = False
+        elif re.match(r"\s*(pub |impl Model|impl<.*> Model|pub trait|impl .* for )", line) and not re.match(r"\s*pub\((crate|super)\)", line):
             keep = True
         elif re.match(r"\s*(pub\((crate|super)\) )?(const )?fn ", line) and not re.match(r"\s*pub ", line):
             keep = False
@@ -32,6 +42,7 @@ def public_text(text: str) -> str:
 
 def main() -> None:
     top = Path(sys.argv[1])
+    wrong: list[str] = []
     for crate in sorted(p for p in (top / "crates").iterdir() if (p / "specs").is_dir()):
         files = sorted(f for f in (crate / "specs").rglob("*.antt") if f.name != "Lib.antt")
         if not files or crate.name.endswith(("tests", "bench")) or crate.name in ("nr_world", "nr_top"):
@@ -39,17 +50,19 @@ def main() -> None:
         declared, bodies = {}, {}
         for f in files:
             text = f.read_text()
-            declared[f] = set(DECL.findall(text))
+            declared[f] = declared_in(text)
             body = {}
             for block in re.split(r"\n\n+", text):
-                names = DECL.findall(block)
+                names = declared_in(block)
                 for n in names:
                     body.setdefault(n, set()).update(TOKEN.findall(block))
             bodies[f] = body
         all_names = set().union(*declared.values())
         cited = set()
-        for src in (crate / "src").rglob("*.rt"):
-            cited |= set(TOKEN.findall(public_text(src.read_text()))) & all_names
+        sources = [src.read_text() for src in (crate / "src").rglob("*.rt")]
+        types = set(re.findall(r"^\s*pub (?:struct|enum) (\w+)", "\n".join(sources), re.M))
+        for text in sources:
+            cited |= set(TOKEN.findall(public_text(text, types))) & all_names
         outside = set()
         for other in (top / "crates").iterdir():
             if other == crate or not other.is_dir():
@@ -69,9 +82,16 @@ def main() -> None:
             if more <= public:
                 break
             public |= more
-        private = [f for f in files if not (declared[f] & public)]
-        for f in private:
-            print(f.relative_to(top / "crates"), len(f.read_text().splitlines()))
+        for f in files:
+            if not declared[f]:
+                continue
+            apart = f.parent.name == "private"
+            if apart and declared[f] & public:
+                wrong.append("%s: public code cites %s" % (f.relative_to(top / "crates"), ", ".join(sorted(declared[f] & public))))
+            if not apart and not declared[f] & public:
+                wrong.append("%s: only private code cites it" % f.relative_to(top / "crates"))
+    print("\n".join(wrong) or "all stand where they belong")
+    sys.exit(1 if wrong else 0)
 
 
 if __name__ == "__main__":

@@ -1,15 +1,16 @@
 -- A script that is made from a seed is a script.
 use Rattle.std.specs.Prelude.{◌%◌, ◌&&◌}
 use Rattle.std.specs.List.{AllByRecursion, range_with_len}
-use Rattle.std.proofs.Common.{◌≡◌, ℕ, zero, suc, ◌+◌, ◌^◌, ◌≤◌, ◌<◌, Bool, true, false, cond, eqb, leb, List, [], ◌∷◌, ◌++◌, map, refl, arith}
+use Rattle.std.proofs.Common.{◌≡◌, ℕ, zero, suc, ◌+◌, ◌^◌, ◌≤◌, ◌<◌, Bool, true, false, cond, eqb, leb, List, [], ◌∷◌, ◌++◌, ◌*◌, length, map, refl, arith}
 use Rattle.std.proofs.lemmas.Bool.{le-leb}
+use Rattle.std.proofs.lemmas.List.{length-append}
 use Rattle.std.proofs.lemmas.Nat.{mod_below}
 use Rattle.nr_xdr.specs.Item.{IsBytes, hyper}
 use Rattle.nr_xdr.specs.Item.Item.{Unsigned, Hyper, Opaque}
 use Rattle.nr_xdr.specs.Items.{encodings}
 use Rattle.nr_script.specs.declared.script.Opening.{Opening}
 use Rattle.nr_script.specs.declared.script.Line.{Line}
-use Rattle.nr_script.specs.Limits.{most_clients, default_capacity}
+use Rattle.nr_script.specs.Limits.{most_clients, most_calls, default_capacity}
 use Rattle.nr_script.specs.Script.{may_follow, is_client, FollowOn, HasWritableCred, IsTypedLine, IsScript}
 use Rattle.nr_script.specs.Generator.{next, drawn, below, file_args, read_args, written_bytes, file_sync, write_head, write_args, readdir_args, proc_drawn, args_drawn, after_args, move_lines, call_line, turn_lines, drawn_turn, after_drawn_turn, drawn_lines, drawn_credits, made_script, offsets_end, read_counts_end, write_counts_end, listing_count}
 use Rattle.nr_script.proofs.ByteLists.{no_bytes_lem, bytes_more, bytes_both, hyper_bytes, items_bytes}
@@ -124,9 +125,36 @@ all_creds : (opening : Opening) (all : List Line) → AreMade opening all → Al
 all_creds opening [] h = tt
 all_creds opening (line ∷ all) h = (h.0.cred, all_creds opening all h.1)
 
-pub made_is : (seed clients calls : ℕ) → 1 ≤ clients → clients ≤ most_clients → IsScript (made_script seed clients calls)
+-- ===== how many
+
+move_len : (b : Bool) (x y : List Line) → length x ≤ 1 → length y ≤ 1 → length (cond b x y) ≤ 1
+move_len true x y h g = h
+move_len false x y h g = g
+
+moves_len : (client kind state : ℕ) → length (move_lines client kind state) ≤ 1
+unfolding move_lines
+moves_len client kind state =
+    move_len (eqb kind 0) _ _ (omega arith)
+    (move_len (eqb kind 1) _ _ (omega arith) (move_len (eqb kind 2) _ _ (omega arith) (move_len (eqb kind 3) _ _ (omega arith) (omega arith))))
+
+turn_len : (clients state : ℕ) → length (drawn_turn clients state) ≤ 2
+turn_len clients state =
+    let kind = next (next state) in
+    let move = next (after_args (below 6 kind) kind) in
+    let few : length (move_lines (below clients (next state) + 1) (below 5 move) move) ≤ 1 = moves_len (below clients (next state) + 1) (below 5 move) move in
+    omega (arith, few)
+
+lines_len : (clients calls state : ℕ) → length (drawn_lines clients calls state) ≤ 2 * calls + 1
+lines_len clients zero state = omega arith
+lines_len clients (suc calls) state =
+    let both : length (drawn_turn clients state ++ drawn_lines clients calls (after_drawn_turn state)) ≡ length (drawn_turn clients state) + length (drawn_lines clients calls (after_drawn_turn state)) = length-append (drawn_turn clients state) (drawn_lines clients calls (after_drawn_turn state)) in
+    let one : length (drawn_turn clients state) ≤ 2 = turn_len clients state in
+    let rest : length (drawn_lines clients calls (after_drawn_turn state)) ≤ 2 * calls + 1 = lines_len clients calls (after_drawn_turn state) in
+    omega (arith, both, one, rest)
+
+pub made_is : (seed clients calls : ℕ) → 1 ≤ clients → clients ≤ most_clients → calls ≤ most_calls → IsScript (made_script seed clients calls)
 unfolding made_script
-made_is seed clients calls some few =
+made_is seed clients calls some few short =
     let opening : Opening = record { clients = clients; credits = drawn_credits; capacity = default_capacity } in
     let made = lines_made opening calls seed some in
     let all = drawn_lines clients calls seed in
@@ -136,6 +164,7 @@ made_is seed clients calls some few =
       some_credits = omega arith;
       few_credits = omega arith;
       capacity = omega arith;
+      few_lines = (let count : length all ≤ 2 * calls + 1 = lines_len clients calls seed in omega (arith, count, short));
       follow_on = all_follow opening [] all made;
       creds = all_creds opening all made;
       typed = all_typed_lem opening all made;

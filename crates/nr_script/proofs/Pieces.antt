@@ -4,7 +4,7 @@ use Rattle.std.specs.Borrow.{Bor}
 use Rattle.std.specs.List.{position_or_len, position, slice_split, onto_first}
 use Rattle.std.proofs.Common.{◌≡◌, ℕ, suc, ◌+◌, ◌<◌, ◌≤◌, Bool, true, false, not, cond, List, [], ◌∷◌, length, take, drop, drop-drop, Some, None, Option, refl, sym, ap, subst, ◌∙◌, arith}
 use Rattle.std.proofs.lemmas.List.{length-drop}
-use Rattle.nr_script.specs.Pieces.{parts_left, pair_of}
+use Rattle.nr_script.specs.private.Pieces.{parts_left, pair_of}
 use Rattle.nr_script.specs.Words.{parts}
 
 module _ (p : ℕ → Bool) where

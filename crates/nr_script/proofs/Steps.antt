@@ -3,7 +3,7 @@ use Rattle.std.specs.Prelude.{◌==◌}
 use Rattle.std.proofs.Common.{◌≡◌, ℕ, ◌+◌, ◌<◌, List, [], ◌∷◌, length, Option, None, Some, Ok, Err, refl, ap, ◌∙◌, arith}
 use Rattle.nr_script.specs.Words.{parts}
 use Rattle.nr_script.specs.declared.script.Opening.{Opening}
-use Rattle.nr_script.specs.Steps.{opened, with_opening}
+use Rattle.nr_script.specs.private.Steps.{opened, with_opening}
 use Rattle.nr_script.proofs.Pieces.{split}
 use Rattle.nr_script.specs.Script.{ScriptLines, newline, with_text, read_on, script_from}
 

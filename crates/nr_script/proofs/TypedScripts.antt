@@ -1,8 +1,11 @@
 -- A text that is a script says one that is of its types: what is read as a number is a word, and what is read as bytes are bytes.
-use Rattle.std.specs.Prelude.{◌&&◌, codes, is_none, length, take, drop}
+use Rattle.std.specs.Prelude.{◌&&◌, ◌-◌, ◌==◌, codes, is_none, length, count_by, take, drop}
 use Rattle.std.specs.List.{AllByRecursion}
 use Rattle.std.specs.Str.{bytes_eq}
 use Rattle.std.proofs.Common.{◌≡◌, ℕ, ◌+◌, ◌^◌, ◌≤◌, ◌<◌, Bool, true, false, cond, leb, leb-true, List, [], ◌∷◌, ◌++◌, Option, None, Some, Result, Ok, Err, refl, sym, subst, arith, append-nil, append_assoc}
+use Rattle.std.proofs.lemmas.List.{length-append}
+use Rattle.std.proofs.lemmas.List.Sums.{count_by-le-length}
+use Rattle.std.proofs.lemmas.List.Splits.{length-slice_split}
 use Rattle.nr_xdr.specs.Item.{IsBytes}
 use Rattle.hex.specs.Hex.{decode_of}
 use Rattle.hex.proofs.HexLemmas.{decode_of-ok}
@@ -15,13 +18,13 @@ use Rattle.nr_script.specs.declared.script.Opening.{Opening}
 use Rattle.nr_script.specs.declared.script.Line.{Line}
 use Rattle.nr_script.specs.declared.script.Line.TheVariants as lines
 use Rattle.nr_script.specs.declared.program.Program.{Program}
-use Rattle.nr_script.specs.Limits.{most_clients, most_number, most_capacity}
+use Rattle.nr_script.specs.Limits.{most_clients, most_number, most_capacity, script_max}
 use Rattle.nr_script.specs.Words.{◌>>=◌, is_numeral, numeral_value, number_within, number_in, decoded, bytes_in, arguments_in, parts}
 use Rattle.nr_script.specs.Forms.{OfferPart, semicolon, equals, at_sign, dot, lengths_in, write_lengths_in, position_by, read_part, write_part, reply_part, named_part, part_by, part_in, nothing_offered, with_part, offer_by, offer_in, given, given_form, form_in, numbered_program, program_in}
 use Rattle.nr_script.specs.Forms.OfferPart.{Read, Write, Reply}
 use Rattle.nr_script.specs.Lines.{capacity_in, opening_of, opening_in, sys_cred, sys_line, cred_line_of, cred_line, target_in, call_with, call_line, one_number, two_numbers, client_line, number_line, side_in, raw_line, drain_line, later_line, plain_line, line_named, line_in}
 use Rattle.nr_script.specs.Script.{ScriptLines, may_follow, space, newline, is_ascii, is_skipped, opened_by, followed_by, with_words, if_read, with_text, script_at_end, read_on, script_from, script_of, FollowOn, HasWritableCred, HasWordPosition, IsTypedLine, IsScript}
-use Rattle.nr_script.specs.Steps.{opened}
+use Rattle.nr_script.specs.private.Steps.{opened}
 use Rattle.nr_script.proofs.ByteLists.{no_bytes_lem, decided}
 
 abbrev If : {A : Type 0} → (A → Type 0) → Option A → Type 0
@@ -319,7 +322,18 @@ all_more : (P : Line → Type 0) (all : List Line) (line : Line) → AllByRecurs
 all_more P [] line h p = (p, tt)
 all_more P (l ∷ all) line h p = (h.0, all_more P all line h.1 p)
 
-opened_if : (o : Option Opening) → If OpeningIsRight o → If IsScript (opened_by o)
+-- a script that is being read, but for its number of lines
+record IsRead (script : ScriptLines) : Type 0 where
+  some_clients : 1 ≤ script.opening.clients
+  few_clients : script.opening.clients ≤ most_clients
+  some_credits : 1 ≤ script.opening.credits
+  few_credits : script.opening.credits ≤ most_credits
+  capacity : script.opening.capacity ≤ most_capacity
+  follow_on : FollowOn script.opening [] script.lines
+  creds : AllByRecursion HasWritableCred script.lines
+  typed : AllByRecursion IsTypedLine script.lines
+
+opened_if : (o : Option Opening) → If OpeningIsRight o → If IsRead (opened_by o)
 opened_if None h = tt
 opened_if (Some o) h = record {
   some_clients = h.some_clients;
@@ -332,11 +346,11 @@ opened_if (Some o) h = record {
   typed = tt;
 }
 
-followed_if : (script : ScriptLines) (line : Option Line) → IsScript script → If LineIsRight line → If IsScript (followed_by script line)
+followed_if : (script : ScriptLines) (line : Option Line) → IsRead script → If LineIsRight line → If IsRead (followed_by script line)
 followed_if script None is h = tt
 followed_if script (Some line) is h = by (may_follow script.opening script.lines line) refl
   where
-    by : (b : Bool) → may_follow script.opening script.lines line ≡ b → If IsScript (cond b (Some (record script { lines = script.lines ++ line ∷ [] })) None)
+    by : (b : Bool) → may_follow script.opening script.lines line ≡ b → If IsRead (cond b (Some (record script { lines = script.lines ++ line ∷ [] })) None)
     by true e = record {
       some_clients = is.some_clients;
       few_clients = is.few_clients;
@@ -349,18 +363,18 @@ followed_if script (Some line) is h = by (may_follow script.opening script.lines
     }
     by false e = tt
 
-words_if : (read : Option ScriptLines) (words : List (List ℕ)) → If IsScript read → If IsScript (with_words read words)
+words_if : (read : Option ScriptLines) (words : List (List ℕ)) → If IsRead read → If IsRead (with_words read words)
 words_if None words h = opened_if (opening_in words) (opening_if words)
 words_if (Some script) words h = followed_if script (line_in words) h (line_if words)
 
 abbrev IfScript : Option ScriptLines → Type 0
-IfScript read = If IsScript read
+IfScript read = If IsRead read
 
-read_it : (read : Option ScriptLines) → If IsScript read → If IfScript (if_read read)
+read_it : (read : Option ScriptLines) → If IsRead read → If IfScript (if_read read)
 read_it None h = tt
 read_it (Some script) h = h
 
-text_if : (read : Option ScriptLines) (text : List ℕ) → If IsScript read → If IfScript (with_text read text)
+text_if : (read : Option ScriptLines) (text : List ℕ) → If IsRead read → If IfScript (with_text read text)
 unfolding with_text
 text_if read text h =
     if_if IfScript (is_ascii text) (cond (is_skipped text) (Some read) (if_read (with_words read (parts space text)))) None
@@ -371,25 +385,99 @@ pub opened_clients : (line : List ℕ) (opening : Opening) → with_text None li
 opened_clients line opening e = (subst (λ (o : Option (Option ScriptLines)). If IfScript o) e (text_if None line tt)).few_clients
 
 abbrev OkScript : Result ScriptLines ℕ → Type 0
-OkScript (Ok script) = IsScript script
+OkScript (Ok script) = IsRead script
 OkScript (Err line) = Unit {0}
 
-end_if : (number : ℕ) (read : Option ScriptLines) (text : List ℕ) → If IsScript read → OkScript (script_at_end number read text)
+end_if : (number : ℕ) (read : Option ScriptLines) (text : List ℕ) → If IsRead read → OkScript (script_at_end number read text)
 end_if number read (c ∷ others) h = tt
 end_if number None [] h = tt
 end_if number (Some script) [] h = h
 
-on_if : (number : ℕ) (o : Option (Option ScriptLines)) (rest : Option ScriptLines → Result ScriptLines ℕ) → If IfScript o → ((read : Option ScriptLines) → If IsScript read → OkScript (rest read)) → OkScript (read_on number o rest)
+on_if : (number : ℕ) (o : Option (Option ScriptLines)) (rest : Option ScriptLines → Result ScriptLines ℕ) → If IfScript o → ((read : Option ScriptLines) → If IsRead read → OkScript (rest read)) → OkScript (read_on number o rest)
 on_if number None rest h g = tt
 on_if number (Some read) rest h g = g read h
 
-from_if : (number : ℕ) (read : Option ScriptLines) (texts : List (List ℕ)) → If IsScript read → OkScript (script_from number read texts)
+from_if : (number : ℕ) (read : Option ScriptLines) (texts : List (List ℕ)) → If IsRead read → OkScript (script_from number read texts)
 from_if number read [] h = tt
 from_if number read (text ∷ []) h = end_if number read text h
 from_if number read (text ∷ next ∷ others) h =
     on_if number (with_text read text) (λ more. script_from (number + 1) more (next ∷ others)) (text_if read text h) (λ more m. from_if (number + 1) more (next ∷ others) m)
 
--- What a text says, if it is a script, is one: its numbers are in range, each line may follow those before it, and all is of its types.
-pub script_is : (text : List ℕ) (script : ScriptLines) → script_of text ≡ Ok script → IsScript script
+-- ===== its number of lines: at most that of the parts of its text
+
+abbrev HasFew : ℕ → ScriptLines → Type 0
+HasFew n script = length script.lines ≤ n
+
+abbrev OkFew : ℕ → Result ScriptLines ℕ → Type 0
+OkFew n (Ok script) = length script.lines ≤ n
+OkFew n (Err line) = Unit {0}
+
+opened_few : (n : ℕ) (o : Option Opening) → If (HasFew (n + 1)) (opened_by o)
+opened_few n None = tt
+opened_few n (Some opening) = omega arith
+
+followed_few : (n : ℕ) (script : ScriptLines) (line : Option Line) → HasFew n script → If (HasFew (n + 1)) (followed_by script line)
+followed_few n script None h = tt
+followed_few n script (Some line) h =
+    if_if (HasFew (n + 1)) (may_follow script.opening script.lines line) (Some (record script { lines = script.lines ++ line ∷ [] })) None
+    (let one : length (script.lines ++ line ∷ []) ≡ length script.lines + 1 = length-append script.lines (line ∷ []) in omega (arith, one, h)) tt
+
+words_few : (n : ℕ) (read : Option ScriptLines) (words : List (List ℕ)) → If (HasFew n) read → If (HasFew (n + 1)) (with_words read words)
+words_few n None words h = opened_few n (opening_in words)
+words_few n (Some script) words h = followed_few n script (line_in words) h
+
+abbrev IfFew : ℕ → Option ScriptLines → Type 0
+IfFew n read = If (HasFew n) read
+
+read_few : (n : ℕ) (read : Option ScriptLines) → If (HasFew n) read → If (IfFew n) (if_read read)
+read_few n None h = tt
+read_few n (Some script) h = h
+
+more_few : (n : ℕ) (read : Option ScriptLines) → If (HasFew n) read → If (HasFew (n + 1)) read
+more_few n None h = tt
+more_few n (Some script) h = omega (arith, h)
+
+text_few : (n : ℕ) (read : Option ScriptLines) (text : List ℕ) → If (HasFew n) read → If (IfFew (n + 1)) (with_text read text)
+unfolding with_text
+text_few n read text h =
+    if_if (IfFew (n + 1)) (is_ascii text) (cond (is_skipped text) (Some read) (if_read (with_words read (parts space text)))) None
+    (if_if (IfFew (n + 1)) (is_skipped text) (Some read) (if_read (with_words read (parts space text))) (more_few n read h)
+    (read_few (n + 1) (with_words read (parts space text)) (words_few n read (parts space text) h))) tt
+
+end_few : (n number : ℕ) (read : Option ScriptLines) (text : List ℕ) → If (HasFew n) read → OkFew n (script_at_end number read text)
+end_few n number read (c ∷ others) h = tt
+end_few n number None [] h = tt
+end_few n number (Some script) [] h = h
+
+on_few : (m n number : ℕ) (o : Option (Option ScriptLines)) (rest : Option ScriptLines → Result ScriptLines ℕ) → If (IfFew m) o → ((read : Option ScriptLines) → If (HasFew m) read → OkFew n (rest read)) → OkFew n (read_on number o rest)
+on_few m n number None rest h g = tt
+on_few m n number (Some read) rest h g = g read h
+
+from_few : (n number : ℕ) (read : Option ScriptLines) (texts : List (List ℕ)) → If (HasFew n) read → OkFew (n + length texts - 1) (script_from number read texts)
+from_few n number read [] h = tt
+from_few n number read (text ∷ []) h = (let same : n ≡ n + 1 - 1 = omega arith in subst (λ (m : ℕ). OkFew m (script_at_end number read text)) same (end_few n number read text h))
+from_few n number read (text ∷ next ∷ others) h =
+    let same : (n + 1) + length (next ∷ others) - 1 ≡ n + length (text ∷ next ∷ others) - 1 = omega arith in
+    on_few (n + 1) (n + length (text ∷ next ∷ others) - 1) number (with_text read text) (λ more. script_from (number + 1) more (next ∷ others)) (text_few n read text h)
+    (λ more m. subst (λ (k : ℕ). OkFew k (script_from (number + 1) more (next ∷ others))) same (from_few (n + 1) (number + 1) more (next ∷ others) m))
+
+-- What a text says, if it is a script, is one: its numbers are in range, each line may follow those before it, and all is of its types. It has no
+-- more lines than its text has bytes.
+pub script_is : (text : List ℕ) (script : ScriptLines) → length text ≤ script_max → script_of text ≡ Ok script → IsScript script
 unfolding script_of
-script_is text script e = subst OkScript e (from_if 1 None (parts newline text) tt)
+script_is text script short e =
+    let is : IsRead script = subst OkScript e (from_if 1 None (parts newline text) tt) in
+    let few : length script.lines ≤ 0 + length (parts newline text) - 1 = subst (OkFew (0 + length (parts newline text) - 1)) e (from_few 0 1 None (parts newline text) tt) in
+    let count : length (parts newline text) ≡ count_by (λ c. c == newline) text + 1 = length-slice_split (λ c. c == newline) text in
+    let within : count_by (λ c. c == newline) text ≤ length text = count_by-le-length (λ c. c == newline) text in
+    record {
+      some_clients = is.some_clients;
+      few_clients = is.few_clients;
+      some_credits = is.some_credits;
+      few_credits = is.few_credits;
+      capacity = is.capacity;
+      few_lines = omega (arith, few, count, within, short);
+      follow_on = is.follow_on;
+      creds = is.creds;
+      typed = is.typed;
+    }

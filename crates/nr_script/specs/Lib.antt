@@ -1,9 +1,7 @@
 pub mod Limits
 pub mod Words
-pub mod Pieces
 pub mod Forms
 pub mod Lines
 pub mod Script
-pub mod Counts
-pub mod Steps
 pub mod Generator
+pub mod private

@@ -1,6 +1,6 @@
 -- The text of a script: what it says, or its first line that is outside the grammar. Each line ends with a newline; words are parted by
 -- one space; empty lines and lines that begin with `#` are skipped; all is ASCII.
-use Rattle.std.specs.Prelude.{◌≡◌, ℕ, ◌+◌, ◌^◌, ◌<◌, ◌≤◌, Bool, true, false, ◌==◌, ◌&&◌, nat_lt, nat_le, if◌then◌else◌, List, [], ◌∷◌, ◌++◌, count_by, sum_by, Option, None, Some, Result, Ok, Err}
+use Rattle.std.specs.Prelude.{◌≡◌, ℕ, ◌+◌, ◌^◌, ◌<◌, ◌≤◌, Bool, true, false, ◌==◌, ◌&&◌, nat_lt, nat_le, if◌then◌else◌, List, [], ◌∷◌, ◌++◌, length, count_by, sum_by, Option, None, Some, Result, Ok, Err}
 use Rattle.std.specs.List.{list_all, AllByRecursion}
 use Rattle.nr_xdr.specs.Item.{IsBytes}
 use Rattle.nr_rpc.specs.declared.cred.Cred.{Cred}
@@ -14,7 +14,7 @@ use Rattle.nr_script.specs.declared.script.Line.TheVariants as lines
 use Rattle.nr_script.specs.declared.script.ScriptFault.{ScriptFault}
 use Rattle.nr_script.specs.declared.script.ScriptFault.TheVariants as faults
 use Rattle.nr_reduce.specs.Limits.{most_credits}
-use Rattle.nr_script.specs.Limits.{most_clients, most_capacity, most_number}
+use Rattle.nr_script.specs.Limits.{most_clients, most_capacity, most_number, most_lines}
 use Rattle.nr_script.specs.Words.{parts}
 use Rattle.nr_script.specs.Lines.{opening_in, line_in}
 
@@ -160,13 +160,15 @@ IsTypedLine (lines.Call client form prog vers proc args) = HasWordPosition form 
 IsTypedLine (lines.Raw client side bytes) = IsBytes bytes
 IsTypedLine line = Unit {0}
 
--- the numbers of the first line are in range, each line may follow those before it and is of its type, and credentials can be encoded
+-- The numbers of the first line are in range, there are at most 2^24 other lines, each may follow those before it and is of its type, and
+-- credentials can be encoded.
 pub record IsScript (script : ScriptLines) : Type 0 where
   pub some_clients : 1 ≤ script.opening.clients
   pub few_clients : script.opening.clients ≤ most_clients
   pub some_credits : 1 ≤ script.opening.credits
   pub few_credits : script.opening.credits ≤ most_credits
   pub capacity : script.opening.capacity ≤ most_capacity
+  pub few_lines : length script.lines ≤ most_lines
   pub follow_on : FollowOn script.opening [] script.lines
   pub creds : AllByRecursion HasWritableCred script.lines
   pub typed : AllByRecursion IsTypedLine script.lines

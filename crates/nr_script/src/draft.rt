@@ -2,7 +2,7 @@
 
 ghost use Rattle.std.specs.Prelude.{ℕ, ◌≡◌, ◌≤◌, ◌<◌, ◌+◌, ◌^◌, ◌&&◌, ◌∷◌, ◌++◌, [], nat_le, true, length, slice_index, OnOk};
 ghost use Rattle.nr_script.specs.Limits.{most_clients, most_number};
-ghost use Rattle.nr_script.specs.Counts.{caller, CountsAre, counted};
+ghost use Rattle.nr_script.specs.private.Counts.{caller, CountsAre, counted};
 ghost use Rattle.nr_script.specs.Script.{IsScript, is_call_line, is_client, may_follow, seconds_after, seconds_in};
 
 use crate::script::{Line, Opening, Script};
@@ -23,7 +23,7 @@ pub(crate) struct Draft {
 impl Model for Draft {
     ghost use Rattle.std.specs.Prelude.{◌≡◌, ◌≤◌};
     ghost use Rattle.nr_script.specs.Limits.{most_clients};
-    ghost use Rattle.nr_script.specs.Counts.{CountsAre};
+    ghost use Rattle.nr_script.specs.private.Counts.{CountsAre};
     ghost use Rattle.nr_script.specs.Script.{ScriptLines, seconds_after};
 
     ghost Value = { ScriptLines };

@@ -3,7 +3,7 @@
 ghost use Rattle.std.specs.Prelude.{ℕ, ◌≡◌, ◌<◌, ◌≤◌, ◌^◌, ◌∷◌, ◌++◌, [], IfOk, OnOk};
 ghost use Rattle.nr_xdr.specs.Item.Item.{Opaque};
 ghost use Rattle.nr_xdr.specs.Item.{encoding, hyper};
-ghost use Rattle.nr_script.specs.Limits.{most_clients};
+ghost use Rattle.nr_script.specs.Limits.{most_calls, most_clients};
 ghost use Rattle.nr_script.specs.Generator.{after_args, after_drawn_turn, after_move, after_turn, args_drawn, below, drawn_turn, file_args, drawn_lines, made_script, move_lines, next, proc_drawn, read_args, readdir_args, turn_lines, write_args, write_head, written_bytes};
 
 use crate::lines::DEFAULT_CAPACITY;
@@ -11,6 +11,9 @@ use crate::script::{Line, Opening, Script};
 use nr_reduce::Form;
 use nr_xdr::{Memory, Octets, Writer};
 use std::alloc::Global;
+
+/// The most calls of a script that is made from a seed.
+pub const MOST_CALLS: u64 = 1_000_000;
 
 /// The state of the generator after a draw.
 #[tactic(auto, unfolding(crate::specs::Generator::next))]
@@ -231,10 +234,15 @@ fn push_all(
 }
 
 /// The script of a seed: `calls` calls of up to `clients` clients, each call followed by a move that is drawn too, and a drain
-/// in the end. The same numbers always give the same script.
+/// in the end. The same numbers always give the same script. `clients` is from 1 to
+/// [`MOST_CLIENTS`](crate::MOST_CLIENTS), and `calls` is at most [`MOST_CALLS`](crate::MOST_CALLS).
+///
+/// # Errors
+///
+/// [`Memory`] if memory ran out.
 #[tactic(auto, unfolding(crate::specs::Generator::made_script))]
 pub fn make_script(alloc: Global, seed: u64, clients: u32, calls: u64) -> Result<Script, Memory>
-    requires { (0 < clients) × (clients ≤ most_clients) }
+    requires { (0 < clients) × (clients ≤ most_clients) × (calls ≤ most_calls) }
     ensures { IfOk result (λ script. script ≡ made_script seed clients calls) }
 {
     let mut lines = Vec::new(alloc);

@@ -10,7 +10,7 @@ mod reading;
 mod script;
 mod words;
 
-pub use generator::make_script;
+pub use generator::{MOST_CALLS, make_script};
 pub use lines::{DEFAULT_CAPACITY, MOST_CAPACITY, MOST_CLIENTS, MOST_CREDITS};
 pub use reading::{SCRIPT_MAX, read_script};
 pub use script::{Line, Opening, Script, ScriptFault};

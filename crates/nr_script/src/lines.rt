@@ -3,7 +3,7 @@
 ghost use Rattle.std.specs.Prelude.{◌≡◌, None, Some, IfOk, MatchOption, if◌then◌else◌, codes, []};
 ghost use Rattle.std.specs.Str.{bytes_eq};
 ghost use Rattle.nr_script.specs.Lines.{capacity_in, call_line, cred_line, line_in, line_named, call_with, later_line, one_number, opening_in, opening_of, plain_line, raw_line, side_in, sys_cred, sys_line, target_in, two_numbers};
-ghost use Rattle.nr_script.specs.Pieces.{texts};
+ghost use Rattle.nr_script.specs.private.Pieces.{texts};
 ghost use Rattle.nr_script.specs.Words.{number_within};
 
 use crate::forms::{form_in, program_in};

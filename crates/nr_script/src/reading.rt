@@ -2,9 +2,9 @@
 
 ghost use Rattle.std.specs.Prelude.{◌≡◌, ℕ, ◌+◌, ◌<◌, ◌≤◌, ◌^◌, ◌==◌, [], ◌∷◌, length, true, None, Some, Ok, Err, IfOk, MatchResult, if◌then◌else◌};
 ghost use Rattle.nr_script.specs.Limits.{script_max};
-ghost use Rattle.nr_script.specs.Pieces.{texts};
+ghost use Rattle.nr_script.specs.private.Pieces.{texts};
 ghost use Rattle.nr_script.specs.Script.{GivesScript, followed_by, is_ascii, is_skipped, newline, script_from, script_of, with_text};
-ghost use Rattle.nr_script.specs.Steps.{GivesOpening, GivesLines, with_opening};
+ghost use Rattle.nr_script.specs.private.Steps.{GivesOpening, GivesLines, with_opening};
 ghost use Rattle.nr_script.specs.Lines.{line_in};
 ghost use Rattle.nr_script.specs.Words.{parts};
 
@@ -82,6 +82,7 @@ fn add_words(alloc: Global, draft: &mut Draft, words: &[&[u8]]) -> Result<bool, 
         return Ok(false);
     };
     if !draft.may_follow(&line) {
+        drop(line);
         return Ok(false);
     }
     draft.push(line)?;

@@ -10,12 +10,14 @@ use nr_wire::Side;
 use nr_xdr::{Memory, Octets};
 use std::marker::Model;
 
-/// The first line of a script: the number of clients, each with a link of its own; the credits with which both ends of
-/// each link are opened; and the bytes that the journal may cost.
+/// The first line of a script. Each client has a link of its own.
 #[derive(Clone, Copy)]
 pub struct Opening {
+    /// How many clients there are: 1 to 16.
     pub clients: u32,
+    /// The credits with which both ends of each link are opened (RFC 8166 section 3.3): 1 to 64.
     pub credits: u32,
+    /// How many bytes the journal may cost: at most 2^63 - 1.
     pub capacity: u64,
 }
 
@@ -24,54 +26,76 @@ pub struct Opening {
 pub enum Line {
     /// The client's later calls have this credential.
     Cred {
+        /// The client.
         client: u32,
+        /// AUTH_NONE, or AUTH_SYS with machine `drill` (RFC 5531 section 8.2 and appendix A).
         cred: Cred,
     },
-    /// The client submits a call.
+    /// The client submits a call (RFC 5531 section 9).
     Call {
+        /// The client.
         client: u32,
+        /// In which form the call is sent.
         form: Form,
+        /// The number of the program.
         prog: u32,
+        /// The version of the program.
         vers: u32,
+        /// The number of the procedure.
         proc: u32,
+        /// The bytes of the arguments.
         args: Octets,
     },
     /// At most `most` of the bytes that wait for the server are fed to it, in one piece.
     Up {
+        /// The client of the link.
         client: u32,
+        /// The most bytes of the piece.
         most: u32,
     },
     /// At most `most` of the bytes that wait for the client are fed to it, in one piece.
     Down {
+        /// The client of the link.
         client: u32,
+        /// The most bytes of the piece.
         most: u32,
     },
     /// The next complete call of the link is executed and answered.
     Work {
+        /// The client of the link.
         client: u32,
     },
     /// The clock goes on.
     Tick {
+        /// By how many seconds.
         seconds: u32,
     },
-    /// The caller gives up the answer to the client's call line of this number, from 1.
+    /// The caller gives up the answer to a call.
     Forget {
+        /// The client.
         client: u32,
+        /// The number of the call's line among the client's call lines, from 1.
         number: u32,
     },
-    /// The caller takes back the memory of the client's call line of this number, from 1.
+    /// The caller takes back the memory of a call.
     Revoke {
+        /// The client.
         client: u32,
+        /// The number of the call's line among the client's call lines, from 1.
         number: u32,
     },
     /// The link is dropped.
     Drop {
+        /// The client of the link.
         client: u32,
     },
     /// These bytes are put after those that wait for the peer of this side, as if the side had written them.
     Raw {
+        /// The client of the link.
         client: u32,
+        /// The side that seems to have written them: `Initiator` for bytes that go up.
         side: Side,
+        /// The bytes.
         bytes: Octets,
     },
     /// All bytes go up, all calls are executed, all bytes go down, link after link, until nothing moves.
@@ -81,8 +105,11 @@ pub enum Line {
 /// Why a text is no script.
 #[derive(Clone, Copy, Debug, PartialEq, Eq)]
 pub enum ScriptFault {
-    /// Line `line` (from 1) is the first invalid line.
-    BadLine { line: u64 },
+    /// A line is invalid.
+    BadLine {
+        /// The number of the first invalid line, from 1.
+        line: u64,
+    },
     /// Memory ran out.
     Memory,
 }
@@ -97,8 +124,8 @@ impl From<Memory> for ScriptFault {
     }
 }
 
-/// A script: its first line and the others in order. Every line names a client of the script, `forget` and `revoke` name an
-/// earlier call line of their client, and the clock stays within 32 bits.
+/// A script: its first line and the others in order, of which there are at most 2^24. Every line names a client of the
+/// script, `forget` and `revoke` name an earlier call line of their client, and the clock stays within 32 bits.
 #[derive(Drop)]
 pub struct Script {
     opening: Opening,

@@ -3,7 +3,7 @@
 ghost use Rattle.std.specs.Prelude.{◌≡◌, ℕ, ◌<◌, ◌≤◌, ◌∷◌, ◌^◌, [], length, true, None, Some, IfOk, MatchOption, IfSome, ◌==◌, if◌then◌else◌, ◌&&◌, nat_lt};
 ghost use Rattle.std.specs.List.{list_all, position};
 ghost use Rattle.std.specs.Str.{bytes_eq};
-ghost use Rattle.nr_script.specs.Pieces.{texts, parts_left, pair_of};
+ghost use Rattle.nr_script.specs.private.Pieces.{texts, parts_left, pair_of};
 ghost use Rattle.nr_script.specs.Limits.{most_number};
 ghost use Rattle.nr_script.specs.Words.{parts, is_digit, is_numeral, numeral_value, number_within, number_in, bytes_in, arguments_in};
 

@@ -71,3 +71,42 @@ fn a_script_of_seed_7(rt: HostRuntime) {
         same(&rt, row, nth_seen(&rt, rt.alloc(), row), *want);
     }
 }
+
+/// The first bytes of the arguments of calls of the script above, by the number of the line: READLINK of 3, GETATTR of 2, READ of 2
+/// from 5,232 on with count 477, and WRITE of 159 bytes to 2 from 4,140 on, of which byte i is (4,140 + i) mod 256.
+static ARGS: [(usize, &[u8]); 4] = [
+    (0, b"\0\0\0\x08\0\0\0\0\0\0\0\x03"),
+    (4, b"\0\0\0\x08\0\0\0\0\0\0\0\x02"),
+    (
+        6,
+        b"\0\0\0\x08\0\0\0\0\0\0\0\x02\0\0\0\0\0\0\x14\x70\0\0\x01\xdd",
+    ),
+    (
+        8,
+        b"\0\0\0\x08\0\0\0\0\0\0\0\x02\0\0\0\0\0\0\x10\x2c\0\0\0\x9f\0\0\0\x02\0\0\0\x9f\x2c\x2d\x2e\x2f",
+    ),
+];
+
+fn first_args(rt: &impl Abort, alloc: Global, row: usize, len: usize) -> Vec<u8> {
+    let script = make_script(alloc, 7, 3, 8).expect(rt, "memory");
+    match script.lines().get(row) {
+        Some(Line::Call { args, .. }) => match args.as_slice().get(..len) {
+            Some(bytes) => bytes.to_vec(alloc).expect(rt, "memory"),
+            None => Vec::new(alloc),
+        },
+        _ => Vec::new(alloc),
+    }
+}
+
+#[test]
+fn arguments_of_seed_7(rt: HostRuntime) {
+    for (row, want) in ARGS.iter() {
+        let got = first_args(&rt, rt.alloc(), *row, want.len());
+        same(
+            &rt,
+            *row,
+            got,
+            want.to_vec(rt.alloc()).expect(&rt, "memory"),
+        );
+    }
+}

@@ -1,5 +1,5 @@
 use Rattle.std.proofs.Common.{◌≡◌}
-use Rattle.nr_script.specs.Pieces.{parts_left}
+use Rattle.nr_script.specs.private.Pieces.{parts_left}
 use Rattle.nr_script.specs.Forms.{semicolon, offer_by}
 use Rattle.nr_script.specs.Words.{parts}
 use Rattle.nr_script.proofs.Pieces.{left_len}

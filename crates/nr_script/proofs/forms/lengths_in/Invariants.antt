@@ -1,5 +1,5 @@
 use Rattle.std.proofs.Common.{◌≡◌}
-use Rattle.nr_script.specs.Pieces.{parts_left, read_after}
+use Rattle.nr_script.specs.private.Pieces.{parts_left, read_after}
 use Rattle.nr_script.specs.Forms.{comma}
 use Rattle.nr_script.specs.Words.{parts, each_read, number_in}
 use Rattle.nr_script.proofs.Pieces.{left_len}

@@ -11,4 +11,4 @@ new-requires c =
     let all : List Line = drawn_lines c.args.clients c.args.calls c.args.seed in
     let is : c.push_all.new.lines.items ≡ all = c.in_ok-push_all.ensures ∙ ap (λ (ls : List Line). ls ++ all) c.new-lines.ensures.items in
     subst (λ (ls : List Line). IsScript (record { opening = record { clients = c.args.clients; credits = 8; capacity = 1099511627776 }; lines = ls })) (sym is)
-    (made_is c.args.seed c.args.clients c.args.calls (omega (arith, c.requires.0)) c.requires.1)
+    (made_is c.args.seed c.args.clients c.args.calls (omega (arith, c.requires.0)) c.requires.1 c.requires.2)

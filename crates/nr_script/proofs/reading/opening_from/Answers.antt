@@ -1,7 +1,7 @@
 use Rattle.std.proofs.Common.{◌≡◌, ◌∷◌, ◌<◌, ◌∙◌, length, Some, None, refl, rules, arith}
 use Rattle.nr_script.specs.Words.{parts}
 use Rattle.nr_script.specs.Script.{newline, with_text, script_of}
-use Rattle.nr_script.specs.Steps.{opened}
+use Rattle.nr_script.specs.private.Steps.{opened}
 use Rattle.nr_script.proofs.Pieces.{cut_some, shorter_some}
 use Rattle.nr_script.proofs.Steps.{more, opens, skips}
 use Rattle.nr_script.proofs.TypedScripts.{opened_clients}

@@ -1,5 +1,5 @@
 use Rattle.std.proofs.Common.{◌≡◌, ◌++◌}
-use Rattle.nr_script.specs.Pieces.{texts, parts_left}
+use Rattle.nr_script.specs.private.Pieces.{texts, parts_left}
 use Rattle.nr_script.specs.Words.{parts}
 use Rattle.nr_script.proofs.Pieces.{left_len}
 use Rattle.nr_script.proofs.words.words_of.Given as goal

@@ -1,0 +1,4 @@
+-- Definitions that only private code cites.
+pub mod Pieces
+pub mod Counts
+pub mod Steps
