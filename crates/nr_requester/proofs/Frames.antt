@@ -1,0 +1,449 @@
+-- A frame of the server's stream: a requester that keeps its client keeps it after the frame, and queues what is due.
+use Rattle.std.proofs.Common.{◌≡◌, ◌≢◌, ℕ, ◌+◌, ◌<◌, ◌≤◌, Bool, true, false, cond, not, eqb, ltb, List, [], ◌∷◌, ◌++◌, length, map, Option, None, Some, Result, Ok, Err, refl, sym, ap, subst, ◌∙◌, arith, append_assoc, length-append}
+use Rattle.std.specs.Prelude.{IfSome}
+use Rattle.std.proofs.lemmas.List.{append-nil, length-map}
+use Rattle.std.proofs.lemmas.Bool.{ne_eqb, ltb-false}
+use Rattle.nr_xdr.specs.Fields.{word_at}
+use Rattle.nr_wire.specs.declared.hello.Side.{Side}
+use Rattle.nr_wire.specs.declared.hello.Side.TheVariants.{Initiator, Responder}
+use Rattle.nr_wire.specs.declared.stream.Awaited.TheVariants.{Fpdu}
+use Rattle.nr_wire.specs.Hello.{hello_of}
+use Rattle.nr_wire.specs.Segment.{Segment, segment_of}
+use Rattle.nr_wire.specs.Segment.Segment.{Tagged, Untagged}
+use Rattle.nr_regions.specs.declared.denied.Denied.{Denied}
+use Rattle.nr_regions.specs.RegisteredMemory.{RegisteredMemory, denial, after_place}
+use Rattle.nr_regions.specs.Access.{TaggedSegment}
+use Rattle.nr_regions.specs.Events.{after_event, after_arrival}
+use Rattle.nr_regions.specs.Events.MemoryEvent.{Arrive}
+use Rattle.nr_link.specs.declared.end.End.{End}
+use Rattle.nr_link.specs.declared.end.End.TheVariants as ends
+use Rattle.nr_link.specs.Limits.{send_max}
+use Rattle.nr_link.specs.Reasons.{REASON_MSN, REASON_OFFSET, REASON_FORM, REASON_REQUESTS, REASON_SHORT, REASON_LONG}
+use Rattle.nr_link.specs.Frames.{Frame, is_hello}
+use Rattle.nr_link.specs.ReceiveState.{ReadRequest, is_send, message_completed, read_request_of}
+use Rattle.nr_link.specs.KeptSends.{received_within}
+use Rattle.nr_link.specs.SegmentFaults.{Readiness, SegmentReason, segment_reason, first_fault, missing_fault, reason_if, next_msn, next_offset, no_buffer, is_malformed, is_too_many, message_length_is, terminate_fault}
+use Rattle.nr_link.specs.Ending.{kind_of, frame_segment, frame_end, frame_end_by, hello_end, missing_access, final_output, end_of_fault}
+use Rattle.nr_endpoint.specs.LinkState.{LinkState}
+use Rattle.nr_endpoint.specs.ReceiveQueue.{DeliveredEvent, message_notices, with_segment as received_segment}
+use Rattle.nr_endpoint.specs.ReceiveQueue.DeliveredEvent.{MessageReceived}
+use Rattle.nr_endpoint.specs.SendQueue.{SendQueue, writable, with_end}
+use Rattle.nr_endpoint.specs.Judging.{with_frame, with_fpdu, with_segment_by, with_effect, with_end_of, after_frame, segment_end, next_frame, with_read_request, with_read_response, fetch_access}
+use Rattle.nr_endpoint.proofs.EndLaws.{effect_ended}
+use Rattle.nr_reduce.specs.declared.mark.LinkParameters.{LinkParameters}
+use Rattle.nr_reduce.specs.declared.call.Outcome.{Outcome}
+use Rattle.nr_reduce.specs.OfferedRegions.{region_grants}
+use Rattle.nr_reduce.specs.Events.RunEvent.{FrameReceived}
+use Rattle.nr_reduce.specs.EndRules.{EndState, next_end_state, next_end_state_by, output_for, output_for_by, live}
+use Rattle.nr_reduce.specs.ClientState.{ClientState}
+use Rattle.nr_reduce.specs.ClientMessages.{ReplyVerdict, reply_verdict}
+use Rattle.nr_reduce.specs.ClientMessages.ReplyVerdict.{EndsLink, GivesOutcome}
+use Rattle.nr_reduce.specs.Client.{client_rules, client_end, client_output, client_state_after, client_readiness, end_of_verdict, client_message_end, segment_message, or_message_end, with_segment, with_message, with_request, with_hello, due_with_response, response_output, segment_request, calls_output, credits_of_word}
+use Rattle.nr_reduce.specs.KeptCalls.{KeptCall, kept_verdict}
+use Rattle.nr_reduce.specs.KeptClient.{KeptClient, ClientKeeps, MemoryKeeps, bytes_under, released_all, without, kept_completed, kept_placed, kept_received, kept_by_message, stags_for as kept_stags}
+use Rattle.nr_reduce.proofs.Touches.{AreNone, all_none, no_flaw}
+use Rattle.nr_reduce.proofs.WholeWrotes.{client_due}
+use Rattle.nr_reduce.proofs.Keeping.{kept_judges, kept_responds}
+use Rattle.nr_reduce.proofs.Releasing.{kept_stays}
+use Rattle.nr_reduce.proofs.Taking.{kept_takes, kept_ends}
+use Rattle.nr_requester.specs.RequesterState.{StoredCall, RequesterState, kept_call, kept_calls, queue_of, kept_client}
+use Rattle.nr_requester.specs.Standing.{LinkKeeps}
+use Rattle.nr_requester.specs.AfterCalls.{stags_for}
+use Rattle.nr_requester.specs.AfterPiece.{without_call, judged, noticed, unless_ended, after_fpdu}
+use Rattle.nr_requester.proofs.KeptCalls.{stags_alike}
+use Rattle.nr_requester.proofs.Faults.{ends_alike}
+use Rattle.nr_requester.proofs.OneReceive.{MessageAt, message_at}
+use Rattle.nr_requester.proofs.FrameSides.{has_greeted, TaggedFine, tagged_fine, link_tagged, RequestFine, request_fine, queue_request, link_untagged, link_message}
+
+-- A requester that hasn't ended keeps this client, after so many bytes were received.
+pub record Kept (opened : LinkParameters) (r : RequesterState) (k : ClientState) (count : ℕ) : Type 0 where
+  pub client : ClientKeeps opened (kept_client r) (live k) count
+  pub side : LinkKeeps opened r.side k
+  pub sent : r.sent ≡ r.side.send_queue.sends_left
+  pub first : r.first_xid ≡ opened.first_xid
+  pub wished : r.wished ≡ opened.wished
+  pub due : k.due ≡ k.written + length (queue_of r)
+
+-- it keeps an end of a client
+pub record KeptEnd (opened : LinkParameters) (r : RequesterState) (e : EndState ClientState) (count : ℕ) : Type 0 where
+  pub client : ClientKeeps opened (kept_client r) e count
+  pub first : r.first_xid ≡ opened.first_xid
+  pub wished : r.wished ≡ opened.wished
+  pub live_one : e.ended ≡ None → Kept opened r e.state count
+
+-- after a frame
+pub record FrameTaken (opened : LinkParameters) (r : RequesterState) (k : ClientState) (f : Frame) (after : RequesterState) : Type 0 where
+  pub keeps : KeptEnd opened after (next_end_state (client_rules opened) (live k) (FrameReceived f)) f.end
+  pub queue : queue_of after ≡ queue_of r ++ output_for (client_rules opened) (live k) (FrameReceived f)
+  pub place : after.side.ended ≡ None → after.side.place ≡ f.end
+
+-- ---- A frame that ends the client, and one that doesn't
+
+pub taken_ended : (opened : LinkParameters) (r : RequesterState) (k : ClientState) (count : ℕ) (f : Frame) (after : RequesterState) (end : End) → Kept opened r k count → client_end k (FrameReceived f) ≡ Some end →
+    kept_client after ≡ record (kept_client r) { ended = Some end } → after.first_xid ≡ r.first_xid → after.wished ≡ r.wished → count ≤ f.end → queue_of after ≡ queue_of r ++ final_output end → FrameTaken opened r k f after
+taken_ended opened r k count f after end keeps is kept first wished le queue =
+    let e : EndState ClientState = next_end_state (client_rules opened) (live k) (FrameReceived f) in
+    let ended : e.ended ≡ Some end = ap (λ (x : Option End). (next_end_state_by (client_rules opened) k (FrameReceived f) x).ended) is in
+    let side_ended : after.side.ended ≡ Some end = ap (λ (x : KeptClient). x.ended) kept in
+    record {
+      keeps = record {
+        client = subst (λ (x : KeptClient). ClientKeeps opened x e f.end) (sym kept)
+            (kept_stays opened (record (kept_client r) { ended = Some end }) e count f.end (kept_ends opened (kept_client r) k end count (FrameReceived f) keeps.client is) le);
+        first = first ∙ keeps.first;
+        wished = wished ∙ keeps.wished;
+        live_one = λ none. absurd (let wrong : Some end ≡ None = sym ended ∙ none in cc);
+      };
+      queue = queue ∙ ap (λ (e : Option End). queue_of r ++ output_for_by (client_rules opened) k (FrameReceived f) e) (sym is);
+      place = λ none. absurd (let wrong : Some end ≡ None = sym side_ended ∙ none in cc);
+    }
+
+-- a frame writes nothing
+written_still : (opened : LinkParameters) (k : ClientState) (f : Frame) → (client_state_after opened k (FrameReceived f)).written ≡ k.written
+unfolding client_state_after
+written_still opened k f = by (is_hello f)
+  where
+    by_message : (m : Option (List ℕ)) (due : ℕ) (q : Option ReadRequest) → (with_request (with_message k f.end m) due q).written ≡ k.written
+    by_message None due None = refl
+    by_message None due (Some q) = refl
+    by_message (Some m) due None = refl
+    by_message (Some m) due (Some q) = refl
+
+    by_segment : (r : Result Segment ℕ) → (with_segment k f r).written ≡ k.written
+    by_segment (Err reason) = refl
+    by_segment (Ok segment) = by_message (message_completed k.received segment) (due_with_response k f segment) (read_request_of segment)
+
+    by : (b : Bool) → (cond b (with_hello opened k) (with_segment k f (frame_segment f))).written ≡ k.written
+    by true = refl
+    by false = by_segment (frame_segment f)
+
+pub taken_live : (opened : LinkParameters) (r : RequesterState) (k : ClientState) (count : ℕ) (f : Frame) (after : RequesterState) → Kept opened r k count → client_end k (FrameReceived f) ≡ None →
+    ClientKeeps opened (kept_client after) (next_end_state (client_rules opened) (live k) (FrameReceived f)) f.end → LinkKeeps opened after.side (client_state_after opened k (FrameReceived f)) → after.sent ≡ r.sent → after.side.send_queue.sends_left ≡ r.side.send_queue.sends_left →
+    after.first_xid ≡ r.first_xid → after.wished ≡ r.wished →
+    queue_of after ≡ queue_of r ++ client_output opened k (FrameReceived f) → after.side.place ≡ f.end → FrameTaken opened r k f after
+taken_live opened r k count f after keeps is client side sent left first wished queue place =
+    let e : EndState ClientState = next_end_state (client_rules opened) (live k) (FrameReceived f) in
+    let e_is : e ≡ live (client_state_after opened k (FrameReceived f)) = ap (λ (x : Option End). next_end_state_by (client_rules opened) k (FrameReceived f) x) is in
+    let due = client_due opened k (FrameReceived f) in
+    let still = written_still opened k f in
+    let was = keeps.due in
+    let long : length (queue_of after) ≡ length (queue_of r) + length (client_output opened k (FrameReceived f)) = ap (λ (xs : List ℕ). length xs) queue ∙ length-append (queue_of r) (client_output opened k (FrameReceived f)) in
+    let next : Kept opened after (client_state_after opened k (FrameReceived f)) f.end = record {
+      client = subst (λ (x : EndState ClientState). ClientKeeps opened (kept_client after) x f.end) e_is client;
+      side = side;
+      sent = sent ∙ keeps.sent ∙ sym left;
+      first = first ∙ keeps.first;
+      wished = wished ∙ keeps.wished;
+      due = omega (arith, due, still, was, long);
+    } in
+    record {
+      keeps = record {
+        client = client;
+        first = first ∙ keeps.first;
+        wished = wished ∙ keeps.wished;
+        live_one = λ none. subst (λ (x : ClientState). Kept opened after x f.end) (sym (ap (λ (x : EndState ClientState). x.state) e_is)) next;
+      };
+      queue = queue ∙ ap (λ (x : Option End). queue_of r ++ output_for_by (client_rules opened) k (FrameReceived f) x) (sym is);
+      place = λ none. place;
+    }
+
+-- ---- What ends the side
+
+pub queue_ended : (h : Bool) (side : Side) (end : End) (q : SendQueue) → h ≡ true → side ≡ Initiator → writable h (with_end side end q) ≡ writable h q ++ final_output end
+unfolding with_end
+queue_ended h side end q greeted initiator =
+    (λ i. writable (greeted i) (with_end (initiator i) end q))
+    ∙ (λ i. append-nil q.hello i ++ (q.fpdus ++ final_output end))
+    ∙ sym (append_assoc q.hello q.fpdus (final_output end))
+    ∙ ap (λ (x : Bool). writable x q ++ final_output end) (sym greeted)
+
+some_ended : (s : LinkState) (f : Frame) (segment : Segment) (e : Option End) (end : End) → s.ended ≡ None → (with_segment_by f segment e s).ended ≡ Some end → with_segment_by f segment e s ≡ with_end_of end s
+some_ended s f segment None end lives is = absurd (let wrong : None ≡ Some end = sym (effect_ended s segment ∙ lives) ∙ is in cc)
+some_ended s f segment (Some x) end lives is = (let same : x ≡ end = cc in ap (λ (e : End). with_end_of e s) same)
+
+ended_shape : (s : LinkState) (f : Frame) (r : Result Segment ℕ) (end : End) → s.ended ≡ None → (with_fpdu f r s).ended ≡ Some end → with_fpdu f r s ≡ with_end_of end s
+unfolding with_fpdu
+ended_shape s f (Ok segment) end lives is = some_ended s f segment (segment_end s f segment) end lives is
+ended_shape s f (Err reason) end lives is = (let same : ends.Bad f.at reason ≡ end = cc in ap (λ (e : End). with_end_of e s) same)
+
+-- what doesn't end it
+pub record Lives (s : LinkState) (f : Frame) (frame : List ℕ) : Type 0 where
+  pub segment : Segment
+  pub is_segment : segment_of frame ≡ Ok segment
+  pub none : segment_end s f segment ≡ None
+  pub shape : with_fpdu f (segment_of frame) s ≡ after_frame f (with_effect segment s)
+
+none_ended : (s : LinkState) (f : Frame) (segment : Segment) (e : Option End) → (with_segment_by f segment e s).ended ≡ None → e ≡ None
+none_ended s f segment None is = refl
+none_ended s f segment (Some end) is = absurd cc
+
+lives_by_lem : (s : LinkState) (f : Frame) (frame : List ℕ) (r : Result Segment ℕ) → segment_of frame ≡ r → (with_fpdu f r s).ended ≡ None → Lives s f frame
+unfolding with_fpdu
+lives_by_lem s f frame (Ok segment) is none =
+    let e : segment_end s f segment ≡ None = none_ended s f segment (segment_end s f segment) none in
+    record {
+      segment = segment;
+      is_segment = is;
+      none = e;
+      shape = ap (λ (r : Result Segment ℕ). with_fpdu f r s) is ∙ ap (λ (x : Option End). with_segment_by f segment x s) e;
+    }
+lives_by_lem s f frame (Err reason) is none = absurd cc
+
+-- ---- What the client makes of a segment that doesn't end it
+
+pub record Reads (opened : LinkParameters) (k : ClientState) (f : Frame) (segment : Segment) : Type 0 where
+  pub later : is_hello f ≡ false
+  pub is_segment : frame_segment f ≡ Ok segment
+  pub end : client_end k (FrameReceived f) ≡ client_message_end k f (message_completed k.received segment)
+  pub output : client_output opened k (FrameReceived f) ≡ response_output k f.end (read_request_of segment)
+  pub state : client_state_after opened k (FrameReceived f) ≡ with_segment k f (Ok segment)
+
+reads : (opened : LinkParameters) (k : ClientState) (f : Frame) (segment : Segment) → is_hello f ≡ false → frame_segment f ≡ Ok segment → frame_end (client_readiness k) (region_grants f.end k.regions) f ≡ None → Reads opened k f segment
+unfolding client_end client_output client_state_after
+reads opened k f segment later is none = record {
+  later = later;
+  is_segment = is;
+  end = (λ i. cond (later i) (hello_end (hello_of Responder f.bytes)) (or_message_end k f (none i)))
+      ∙ ap (λ (r : Result Segment ℕ). client_message_end k f (segment_message k r)) is;
+  output = (λ i. cond (later i) (calls_output opened 1 k.outstanding) (response_output k f.end (segment_request (is i))));
+  state = (λ i. cond (later i) (with_hello opened k) (with_segment k f (is i)));
+}
+
+-- a message is no longer than its receive
+not_long : (k : ClientState) (f : Frame) (last : Bool) (opcode w queue msn offset : ℕ) (payload message : List ℕ) → frame_segment f ≡ Ok (Untagged last opcode w queue msn offset payload) →
+    frame_end (client_readiness k) (region_grants f.end k.regions) f ≡ None → message_completed k.received (Untagged last opcode w queue msn offset payload) ≡ Some message → length message ≤ k.down_max
+unfolding frame_end segment_reason
+not_long k f last opcode w queue msn offset payload message is none whole =
+    let segment : Segment = Untagged last opcode w queue msn offset payload in
+    let r : Readiness Denied = client_readiness k (missing_access (region_grants f.end k.regions) f segment) in
+    let long : Option (SegmentReason Denied) = reason_if REASON_LONG (message_length_is (λ n. ltb r.message_max n) (message_completed k.received segment)) in
+    let faults : List (Option (SegmentReason Denied)) =
+    reason_if REASON_MSN (not (eqb msn (next_msn r.received queue)))
+    ∷ reason_if REASON_OFFSET (not (eqb offset (next_offset r.received queue)))
+    ∷ no_buffer r (is_send opcode) msn
+    ∷ reason_if REASON_FORM (is_malformed opcode last payload)
+    ∷ missing_fault r.missing
+    ∷ reason_if REASON_REQUESTS (is_too_many r opcode)
+    ∷ long
+    ∷ reason_if REASON_SHORT (message_length_is (λ n. ltb n 16) (message_completed k.received segment))
+    ∷ terminate_fault opcode payload
+    ∷ [] in
+    let by_segment : end_of_fault f segment (first_fault faults) ≡ None = ap (λ (x : Result Segment ℕ). frame_end_by (client_readiness k) (region_grants f.end k.regions) f x) (sym is) ∙ none in
+    let all : AreNone faults = all_none faults (no_flaw f segment (first_fault faults) by_segment) in
+    ltb-false k.down_max (length message) (by (ltb k.down_max (length message)) (ap (λ (m : Option (List ℕ)). reason_if {D = Denied} REASON_LONG (message_length_is (λ n. ltb k.down_max n) m)) (sym whole) ∙ all.1.1.1.1.1.1.0))
+  where
+    by : (b : Bool) → reason_if {D = Denied} REASON_LONG b ≡ None → b ≡ false
+    by true e = absurd cc
+    by false e = refl
+
+-- ---- What is kept once a message completed its call
+
+without_alike : (first sent xid : ℕ) (cs : List StoredCall) → without xid (map (kept_call first sent) cs) ≡ map (kept_call first sent) (without_call xid cs)
+without_alike first sent xid [] = refl
+without_alike first sent xid (c ∷ cs) = by (eqb c.xid xid) (without_alike first sent xid cs)
+  where
+    by : (b : Bool) → without xid (map (kept_call first sent) cs) ≡ map (kept_call first sent) (without_call xid cs) →
+        cond (not b) (kept_call first sent c ∷ without xid (map (kept_call first sent) cs)) (without xid (map (kept_call first sent) cs)) ≡ map (kept_call first sent) (cond (not b) (c ∷ without_call xid cs) (without_call xid cs))
+    by true rest = rest
+    by false rest = ap (λ (xs : List KeptCall). kept_call first sent c ∷ xs) rest
+
+completed_is : (r : RequesterState) (message : List ℕ) (xid : ℕ) (outcome : Option Outcome) (s : LinkState) → s.ended ≡ r.side.ended → s.memory ≡ r.side.memory → kept_completed (kept_client r) message ≡ kept_client (judged r s message (GivesOutcome xid outcome))
+unfolding kept_completed
+completed_is r message xid outcome s ended memory =
+    let x : ℕ = word_at 0 message in
+    let calls = without_alike r.first_xid r.sent x r.outstanding in
+    let count : length (without x (kept_calls r)) ≡ length (without_call x r.outstanding) = ap (λ (xs : List KeptCall). length xs) calls ∙ length-map (without_call x r.outstanding) (kept_call r.first_xid r.sent) in
+    let stags : released_all r.side.memory (kept_stags x (kept_calls r)) ≡ released_all s.memory (stags_for x r.outstanding) = (λ i. released_all (sym memory i) (stags_alike r.first_xid r.sent x r.outstanding i)) in
+    λ i. record {
+      ended = sym ended i;
+      next_xid = r.next_xid;
+      grant = credits_of_word (word_at 8 message);
+      outstanding = count i;
+      calls = calls i;
+      memory = stags i;
+      up_max = send_max;
+      down_max = send_max;
+    }
+
+-- ---- A frame that doesn't end the side of the link
+
+module _ (opened : LinkParameters) (r : RequesterState) (k : ClientState) (count : ℕ) (f : Frame) (keeps : Kept opened r k count) (lt : count < f.end) (later : r.side.place ≢ 0) where
+  memory_is : MemoryKeeps r.side.memory k count
+  memory_is = keeps.client.memory refl
+
+  hello : r.side.has_hello ≡ true
+  hello = keeps.side.has_hello ∙ has_greeted opened r.side k keeps.side later
+
+  -- what the client keeps after a frame that doesn't end it
+  client_next : (segment : Segment) (after : RequesterState) → Reads opened k f segment → client_end k (FrameReceived f) ≡ None → kept_received (kept_client r) k.received f segment ≡ kept_client after →
+      ClientKeeps opened (kept_client after) (next_end_state (client_rules opened) (live k) (FrameReceived f)) f.end
+  client_next segment after said none is =
+      subst (λ (x : KeptClient). ClientKeeps opened x (next_end_state (client_rules opened) (live k) (FrameReceived f)) f.end) is
+      (kept_takes opened (kept_client r) k count f segment keeps.client lt said.later said.is_segment none)
+
+  tagged_taken : (last : Bool) (opcode stag to : ℕ) (payload : List ℕ) → segment_end r.side f (Tagged last opcode stag to payload) ≡ None → Reads opened k f (Tagged last opcode stag to payload) →
+      FrameTaken opened r k f (record r { side = after_frame f (with_effect (Tagged last opcode stag to payload) r.side) })
+  unfolding with_effect kept_placed after_event
+  tagged_taken last opcode stag to payload none said =
+      let segment : Segment = Tagged last opcode stag to payload in
+      let fine : TaggedFine r.side opcode stag to payload = tagged_fine r.side f last opcode stag to payload keeps.side.no_reads none in
+      let placed : LinkState = record r.side { memory = after_place r.side.memory stag to payload } in
+      let effect : with_effect segment r.side ≡ placed = ap (λ (b : Bool). cond b (with_read_response last (length payload) placed) placed) fine.is_write in
+      let access : TaggedSegment = record { kind = kind_of opcode; stag = stag; to = to; payload = payload; end = f.end } in
+      let arrives : after_event r.side.memory (Arrive access) ≡ after_place r.side.memory stag to payload = ap (λ (d : Option Denied). after_arrival d r.side.memory access) fine.allowed in
+      let after : RequesterState = record r { side = after_frame f (with_effect segment r.side) } in
+      let kept : kept_received (kept_client r) k.received f segment ≡ kept_client after =
+      ap (λ (m : RegisteredMemory). record (kept_client r) { memory = m }) arrives ∙ sym (ap (λ (s : LinkState). kept_client (record r { side = after_frame f s })) effect) in
+      taken_live opened r k count f after keeps said.end (client_next segment after said said.end kept)
+      (subst (λ (x : ClientState). LinkKeeps opened after.side x) (sym said.state) (link_tagged opened r.side k f last opcode stag to payload keeps.side fine later (omega (arith, lt))))
+      refl (ap (λ (s : LinkState). s.send_queue.sends_left) effect) refl refl
+      (ap (λ (s : LinkState). writable s.has_hello s.send_queue) effect ∙ sym (append-nil (queue_of r)) ∙ ap (λ (xs : List ℕ). queue_of r ++ xs) (sym said.output)) refl
+
+  -- a Read Request is answered by what the client's region holds
+  request_is : (req : Option ReadRequest) → IfSome req (λ q. denial r.side.memory (fetch_access q) ≡ None) → RequestFine r.side k f.end req
+  request_is None fine = record { queue = tt }
+  request_is (Some q) fine = record { queue = sym (kept_responds opened (kept_client r) k count f.end q keeps.client (omega (arith, lt)) fine) }
+
+  part_taken : (last : Bool) (opcode w queue msn offset : ℕ) (payload : List ℕ) → segment_end r.side f (Untagged last opcode w queue msn offset payload) ≡ None → Reads opened k f (Untagged last opcode w queue msn offset payload) →
+      message_completed k.received (Untagged last opcode w queue msn offset payload) ≡ None →
+      FrameTaken opened r k f (record r { side = after_frame f (with_effect (Untagged last opcode w queue msn offset payload) r.side) })
+  unfolding with_effect
+  part_taken last opcode w queue msn offset payload none said whole =
+      let segment : Segment = Untagged last opcode w queue msn offset payload in
+      let req : Option ReadRequest = read_request_of segment in
+      let after : RequesterState = record r { side = after_frame f (with_effect segment r.side) } in
+      let fine : RequestFine r.side k f.end req = request_is req (request_fine r.side f last opcode w queue msn offset payload none) in
+      let stays : client_end k (FrameReceived f) ≡ None = said.end ∙ ap (client_message_end k f) whole in
+      let kept : kept_received (kept_client r) k.received f segment ≡ kept_client after = ap (λ (m : Option (List ℕ)). kept_by_message (kept_client r) m) whole in
+      taken_live opened r k count f after keeps stays (client_next segment after said stays kept)
+      (subst (λ (x : ClientState). LinkKeeps opened after.side x) (sym said.state) (link_untagged opened r.side k f last opcode w queue msn offset payload keeps.side later (omega (arith, lt)) whole keeps.due fine))
+      refl (same_left req) refl refl
+      (ap (λ (h : Bool). writable h (with_read_request req r.side.memory r.side.send_queue)) hello
+      ∙ queue_request r.side k f.end req fine
+      ∙ (λ i. writable (sym hello i) r.side.send_queue ++ sym said.output i)) refl
+    where
+      same_left : (q : Option ReadRequest) → (with_read_request q r.side.memory r.side.send_queue).sends_left ≡ r.side.send_queue.sends_left
+      same_left None = refl
+      same_left (Some q) = refl
+
+  -- ---- A message
+
+  message_taken : (last : Bool) (opcode w queue msn offset : ℕ) (payload message : List ℕ) → Reads opened k f (Untagged last opcode w queue msn offset payload) →
+      message_completed k.received (Untagged last opcode w queue msn offset payload) ≡ Some message → length message ≤ send_max →
+      FrameTaken opened r k f (judged r (after_frame f (with_effect (Untagged last opcode w queue msn offset payload) r.side)) message (kept_verdict (kept_calls r) (bytes_under r.side.memory) message))
+  unfolding with_effect kept_completed
+  message_taken last opcode w queue msn offset payload message said whole fits = by (kept_verdict (kept_calls r) (bytes_under r.side.memory) message) refl
+    where
+      segment : Segment
+      segment = Untagged last opcode w queue msn offset payload
+
+      s1 : LinkState
+      s1 = after_frame f (with_effect segment r.side)
+
+      at : MessageAt k.received segment message
+      at = message_at k.received segment message whole fits
+
+      same_verdict : kept_verdict (kept_calls r) (bytes_under r.side.memory) message ≡ reply_verdict k f.end message
+      same_verdict = kept_judges opened (kept_client r) k count f.end message keeps.client (omega (arith, lt))
+
+      end_is : client_end k (FrameReceived f) ≡ end_of_verdict f (kept_verdict (kept_calls r) (bytes_under r.side.memory) message)
+      end_is = said.end ∙ ap (client_message_end k f) whole ∙ ap (end_of_verdict f) (sym same_verdict)
+
+      no_response : client_output opened k (FrameReceived f) ≡ []
+      no_response = said.output ∙ ap (response_output k f.end) at.no_request
+
+      same_queue : (q : Option ReadRequest) → q ≡ None → with_read_request q r.side.memory r.side.send_queue ≡ r.side.send_queue
+      same_queue None e = refl
+      same_queue (Some x) e = absurd cc
+
+      by : (v : ReplyVerdict) → kept_verdict (kept_calls r) (bytes_under r.side.memory) message ≡ v → FrameTaken opened r k f (judged r s1 message v)
+      by (EndsLink reason) is =
+          taken_ended opened r k count f (judged r s1 message (EndsLink reason)) (ends.Bad f.at reason) keeps (end_is ∙ ap (end_of_verdict f) is) refl refl refl (omega (arith, lt))
+          (queue_ended r.side.has_hello r.side.side (ends.Bad f.at reason) (with_read_request (read_request_of segment) r.side.memory r.side.send_queue) hello keeps.side.side
+          ∙ ap (λ (q : SendQueue). writable r.side.has_hello q ++ final_output (ends.Bad f.at reason)) (same_queue (read_request_of segment) at.no_request))
+      by (GivesOutcome xid outcome) is =
+          let after : RequesterState = judged r s1 message (GivesOutcome xid outcome) in
+          let stays : client_end k (FrameReceived f) ≡ None = end_is ∙ ap (end_of_verdict f) is in
+          let kept : kept_received (kept_client r) k.received f segment ≡ kept_client after =
+          ap (λ (m : Option (List ℕ)). kept_by_message (kept_client r) m) whole ∙ completed_is r message xid outcome s1 refl refl in
+          taken_live opened r k count f after keeps stays (client_next segment after said stays kept)
+          (subst (λ (x : ClientState). LinkKeeps opened after.side x) (sym said.state)
+          (link_message opened r.side k f last opcode w queue msn offset payload message (released_all r.side.memory (stags_for (word_at 0 message) r.outstanding)) keeps.side later (omega (arith, lt)) whole at))
+          refl (ap (λ (q : SendQueue). q.sends_left) (same_queue (read_request_of segment) at.no_request)) refl refl
+          (ap (λ (q : SendQueue). writable r.side.has_hello q) (same_queue (read_request_of segment) at.no_request)
+          ∙ sym (append-nil (queue_of r)) ∙ ap (λ (xs : List ℕ). queue_of r ++ xs) (sym no_response)) refl
+
+  -- ---- Any FPDU
+
+  told_message : (last : Bool) (opcode w queue msn offset : ℕ) (payload message : List ℕ) → message_completed (received_within send_max k.received) (Untagged last opcode w queue msn offset payload) ≡ Some message →
+      (after_frame f (with_effect (Untagged last opcode w queue msn offset payload) r.side)).receive_queue.notices ≡ MessageReceived (r.side.receive_queue.received.sends + 1) None message ∷ []
+  unfolding with_effect received_segment
+  told_message last opcode w queue msn offset payload message whole =
+      (λ i. keeps.side.none_waits i ++ message_notices (r.side.receive_queue.received.sends + 1) (message_completed (keeps.side.received i) (Untagged last opcode w queue msn offset payload)))
+      ∙ ap (message_notices (r.side.receive_queue.received.sends + 1)) whole
+
+  untagged_taken : (last : Bool) (opcode w queue msn offset : ℕ) (payload : List ℕ) → frame_end (client_readiness k) (region_grants f.end k.regions) f ≡ None →
+      segment_end r.side f (Untagged last opcode w queue msn offset payload) ≡ None → Reads opened k f (Untagged last opcode w queue msn offset payload) →
+      FrameTaken opened r k f (noticed r (after_frame f (with_effect (Untagged last opcode w queue msn offset payload) r.side)) (after_frame f (with_effect (Untagged last opcode w queue msn offset payload) r.side)).receive_queue.notices)
+  unfolding with_effect
+  untagged_taken last opcode w queue msn offset payload lives none said = by (message_completed k.received segment) refl
+    where
+      segment : Segment
+      segment = Untagged last opcode w queue msn offset payload
+
+      s1 : LinkState
+      s1 = after_frame f (with_effect segment r.side)
+
+      fine : RequestFine r.side k f.end (read_request_of segment)
+      fine = request_is (read_request_of segment) (request_fine r.side f last opcode w queue msn offset payload none)
+
+      by : (o : Option (List ℕ)) → message_completed k.received segment ≡ o → FrameTaken opened r k f (noticed r s1 s1.receive_queue.notices)
+      by None whole =
+          subst (λ (ns : List DeliveredEvent). FrameTaken opened r k f (noticed r s1 ns)) (sym (link_untagged opened r.side k f last opcode w queue msn offset payload keeps.side later (omega (arith, lt)) whole keeps.due fine).none_waits)
+          (part_taken last opcode w queue msn offset payload none said whole)
+      by (Some message) whole =
+          let long : length message ≤ k.down_max = not_long k f last opcode w queue msn offset payload message said.is_segment lives whole in
+          let down = keeps.client.down in
+          let fits : length message ≤ send_max = (let l = long in omega (arith, l, down)) in
+          let at : MessageAt k.received segment message = message_at k.received segment message whole fits in
+          subst (λ (ns : List DeliveredEvent). FrameTaken opened r k f (noticed r s1 ns)) (sym (told_message last opcode w queue msn offset payload message at.whole))
+          (message_taken last opcode w queue msn offset payload message said whole fits)
+
+  segment_taken : (segment : Segment) → frame_end (client_readiness k) (region_grants f.end k.regions) f ≡ None → segment_end r.side f segment ≡ None → Reads opened k f segment →
+      FrameTaken opened r k f (noticed r (after_frame f (with_effect segment r.side)) (after_frame f (with_effect segment r.side)).receive_queue.notices)
+  segment_taken (Tagged last opcode stag to payload) lives none said =
+      subst (λ (ns : List DeliveredEvent). FrameTaken opened r k f (noticed r (after_frame f (with_effect (Tagged last opcode stag to payload) r.side)) ns))
+      (sym (link_tagged opened r.side k f last opcode stag to payload keeps.side (tagged_fine r.side f last opcode stag to payload keeps.side.no_reads none) later (omega (arith, lt))).none_waits)
+      (tagged_taken last opcode stag to payload none said)
+  segment_taken (Untagged last opcode w queue msn offset payload) lives none said = untagged_taken last opcode w queue msn offset payload lives none said
+
+-- An FPDU makes of a requester what it makes of its client, and queues what is due.
+pub fpdu_taken : (opened : LinkParameters) (r : RequesterState) (k : ClientState) (count : ℕ) (frame : List ℕ) → Kept opened r k count → count < (next_frame r.side frame).end → r.side.place ≢ 0 →
+    FrameTaken opened r k (next_frame r.side frame) (after_fpdu r frame)
+unfolding after_fpdu frame_segment client_end
+fpdu_taken opened r k count frame keeps lt later = by (with_frame r.side Fpdu frame).ended refl
+  where
+    f : Frame
+    f = next_frame r.side frame
+
+    not_hello : is_hello f ≡ false
+    not_hello = ne_eqb r.side.place 0 later
+
+    alike : (with_frame r.side Fpdu frame).ended ≡ frame_end (client_readiness k) (region_grants f.end k.regions) f
+    alike = ends_alike opened r.side k count frame keeps.client.ended keeps.side (keeps.client.memory refl) (sym keeps.client.down) lt
+
+    end_of_link : (end : End) → frame_end (client_readiness k) (region_grants f.end k.regions) f ≡ Some end → client_end k (FrameReceived f) ≡ Some end
+    end_of_link end e = (λ i. cond (not_hello i) (hello_end (hello_of Responder frame)) (or_message_end k f (e i)))
+
+    by : (e : Option End) → (with_frame r.side Fpdu frame).ended ≡ e → FrameTaken opened r k f (unless_ended r (with_frame r.side Fpdu frame) (with_frame r.side Fpdu frame).ended)
+    by (Some end) is =
+        let shape : with_frame r.side Fpdu frame ≡ with_end_of end r.side = ended_shape r.side f (segment_of frame) end keeps.client.ended is in
+        subst (λ (x : Option End). FrameTaken opened r k f (unless_ended r (with_frame r.side Fpdu frame) x)) (sym is)
+        (subst (λ (x : LinkState). FrameTaken opened r k f (record r { side = x })) (sym shape)
+        (taken_ended opened r k count f (record r { side = with_end_of end r.side }) end keeps (end_of_link end (sym alike ∙ is)) refl refl refl (omega (arith, lt))
+        (queue_ended r.side.has_hello r.side.side end r.side.send_queue (keeps.side.has_hello ∙ has_greeted opened r.side k keeps.side later) keeps.side.side)))
+    by None is =
+        let lives : frame_end (client_readiness k) (region_grants f.end k.regions) f ≡ None = sym alike ∙ is in
+        let l : Lives r.side f frame = lives_by_lem r.side f frame (segment_of frame) refl is in
+        subst (λ (x : Option End). FrameTaken opened r k f (unless_ended r (with_frame r.side Fpdu frame) x)) (sym is)
+        (subst (λ (x : LinkState). FrameTaken opened r k f (noticed r x x.receive_queue.notices)) (sym l.shape)
+        (segment_taken opened r k count f keeps lt later l.segment lives l.none (reads opened k f l.segment not_hello l.is_segment lives)))

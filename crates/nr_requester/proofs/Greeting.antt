@@ -1,0 +1,124 @@
+-- The server's hello.
+use Rattle.std.proofs.Common.{◌≡◌, ℕ, ◌<◌, ◌≤◌, Bool, true, false, cond, not, List, [], ◌++◌, length, Option, None, Some, Result, Ok, Err, refl, sym, ap, subst, ◌∙◌, arith}
+use Rattle.std.specs.Prelude.{IfSome}
+use Rattle.std.proofs.lemmas.List.{append-nil}
+use Rattle.std.proofs.lemmas.Bool.{ne_eqb, eq-eqb, lt-ltb}
+use Rattle.nr_wire.specs.declared.hello.Side.TheVariants.{Responder}
+use Rattle.nr_wire.specs.declared.stream.Awaited.TheVariants.{Hello as HelloFrom}
+use Rattle.nr_wire.specs.Hello.{Hello, hello_of}
+use Rattle.nr_link.specs.declared.end.End.{End}
+use Rattle.nr_link.specs.declared.end.End.TheVariants as ends
+use Rattle.nr_link.specs.Frames.{Frame, is_hello}
+use Rattle.nr_link.specs.Output.{terminate_message}
+use Rattle.nr_link.specs.Ending.{frame_segment, frame_end, hello_end, final_output, rejection}
+use Rattle.nr_endpoint.specs.LinkState.{LinkState}
+use Rattle.nr_endpoint.specs.SendQueue.{writable, with_hello as queue_hello, with_end}
+use Rattle.nr_endpoint.specs.Judging.{with_frame, with_peer_hello, with_end_of, after_frame, next_frame, reply_hello}
+use Rattle.nr_endpoint.specs.Laws.{IsFrameEnd}
+use Rattle.nr_endpoint.proofs.EndLaws.{frames_end_for_these}
+use Rattle.nr_reduce.specs.declared.mark.LinkParameters.{LinkParameters}
+use Rattle.nr_reduce.specs.OfferedRegions.{region_grants}
+use Rattle.nr_reduce.specs.Events.RunEvent.{FrameReceived}
+use Rattle.nr_reduce.specs.EndRules.{EndState, next_end_state, next_end_state_by, live}
+use Rattle.nr_reduce.specs.ClientState.{ClientState}
+use Rattle.nr_reduce.specs.Client.{client_rules, client_end, client_output, client_state_after, calls_output, call_ends, or_message_end, client_readiness, with_hello, with_segment, response_output, segment_request}
+use Rattle.nr_reduce.specs.KeptClient.{ClientKeeps}
+use Rattle.nr_reduce.proofs.Releasing.{kept_stays}
+use Rattle.nr_reduce.proofs.Submits.{kept_greets}
+use Rattle.nr_requester.specs.RequesterState.{RequesterState, queue_of, kept_client}
+use Rattle.nr_requester.specs.Standing.{HasEnds, sends_ends, LinkKeeps}
+use Rattle.nr_requester.proofs.Frames.{Kept, FrameTaken, taken_live, taken_ended}
+
+-- the requester after it
+abbrev pub after_hello : RequesterState → List ℕ → RequesterState
+after_hello r frame = record r { side = with_frame r.side (HelloFrom Responder) frame }
+
+link_greeted : (opened : LinkParameters) (s : LinkState) (k : ClientState) (f : Frame) → LinkKeeps opened s k → 0 < f.end → k.has_hello ≡ false →
+    LinkKeeps opened (after_frame f (record s { has_hello = true; send_queue = queue_hello [] s.send_queue })) (with_hello opened k)
+link_greeted opened s k f keeps some none =
+    let same : sends_ends k.has_hello opened k ≡ k.send_ends ++ call_ends opened k.due 1 k.outstanding =
+    ap (λ (b : Bool). sends_ends b opened k) none ∙ ap (λ (xs : List ℕ). xs ++ call_ends opened k.due 1 k.outstanding) (sym (keeps.none_due none)) in
+    let hello : s.send_queue.hello ≡ s.send_queue.hello ++ [] = sym (append-nil s.send_queue.hello) in
+    record {
+      side = keeps.side;
+      has_hello = refl;
+      receive_length = keeps.receive_length;
+      message_max = keeps.message_max;
+      received = keeps.received;
+      receive = keeps.receive;
+      none_lent = keeps.none_lent;
+      none_waits = keeps.none_waits;
+      no_reads = keeps.no_reads;
+      number = keeps.number;
+      waiting = λ e. absurd cc;
+      none_due = λ e. absurd cc;
+      sends = subst (λ (h : List ℕ). HasEnds k.written (length h) (k.send_ends ++ call_ends opened k.due 1 k.outstanding) s.send_queue.send_ends) hello
+          (subst (λ (xs : List ℕ). HasEnds k.written (length s.send_queue.hello) xs s.send_queue.send_ends) same keeps.sends);
+      responses = subst (λ (h : List ℕ). HasEnds k.written (length h) k.response_ends s.send_queue.response_ends) hello keeps.responses;
+      left = keeps.left;
+      numbered = ap (λ (xs : List ℕ). length xs) (sym same) ∙ keeps.numbered;
+      greeted = sym (ap not (ne_eqb f.end 0 (λ e. (let h = e in omega (arith, h, some)))));
+    }
+
+no_output : (reason at : ℕ) → reason ≤ 4 → final_output (ends.Bad at reason) ≡ []
+unfolding final_output
+no_output reason at le = ap (λ (b : Bool). cond b [] (terminate_message reason)) (lt-ltb reason 5 (omega (arith, le)))
+
+hello_reason : (s : LinkState) (frame : List ℕ) (reason : ℕ) → s.ended ≡ None → hello_of Responder frame ≡ Err reason → reason ≤ 4
+unfolding with_peer_hello
+hello_reason s frame reason lives is =
+    (subst (λ (e : Option End). IfSome e (IsFrameEnd (HelloFrom Responder) s.place)) (ap (λ (r : Result Hello ℕ). (with_peer_hello (next_frame s frame) r s).ended) is) (frames_end_for_these s (HelloFrom Responder) frame lives)).1.1
+
+pub hello_taken : (opened : LinkParameters) (r : RequesterState) (k : ClientState) (count : ℕ) (frame : List ℕ) → Kept opened r k count → count < (next_frame r.side frame).end → r.side.place ≡ 0 →
+    FrameTaken opened r k (next_frame r.side frame) (after_hello r frame)
+unfolding with_peer_hello client_end client_output client_state_after with_end
+hello_taken opened r k count frame keeps lt first = by (hello_of Responder frame) refl
+  where
+    f : Frame
+    f = next_frame r.side frame
+
+    link : LinkKeeps opened r.side k
+    link = keeps.side
+
+    is_first : is_hello f ≡ true
+    is_first = eq-eqb r.side.place 0 first
+
+    no_hello : k.has_hello ≡ false
+    no_hello = link.greeted ∙ ap not is_first
+
+    end_is : (x : Result Hello ℕ) → hello_of Responder frame ≡ x → client_end k (FrameReceived f) ≡ hello_end x
+    end_is x e = (λ i. cond (is_first i) (hello_end (e i)) (or_message_end k f (frame_end (client_readiness k) (region_grants f.end k.regions) f)))
+
+    output_is : client_output opened k (FrameReceived f) ≡ calls_output opened 1 k.outstanding
+    output_is = ap (λ (b : Bool). cond b (calls_output opened 1 k.outstanding) (response_output k f.end (segment_request (frame_segment f)))) is_first
+
+    state_is : client_state_after opened k (FrameReceived f) ≡ with_hello opened k
+    state_is = ap (λ (b : Bool). cond b (with_hello opened k) (with_segment k f (frame_segment f))) is_first
+
+    by : (x : Result Hello ℕ) → hello_of Responder frame ≡ x → FrameTaken opened r k f (record r { side = with_peer_hello f x r.side })
+    by (Ok hello) e =
+        let after : RequesterState = record r { side = after_frame f (record r.side { has_hello = true; send_queue = queue_hello (reply_hello r.side.side) r.side.send_queue }) } in
+        let none : reply_hello r.side.side ≡ [] = ap reply_hello link.side in
+        let within = keeps.due in
+        let greeted : ClientKeeps opened (kept_client r) (live (with_hello opened k)) f.end =
+        kept_stays opened (kept_client r) (live (with_hello opened k)) count f.end (kept_greets opened (kept_client r) k count keeps.client (omega (arith, within))) (omega (arith, lt)) in
+        let next_is : live (with_hello opened k) ≡ next_end_state (client_rules opened) (live k) (FrameReceived f) =
+        ap (λ (x : ClientState). live x) (sym state_is) ∙ sym (ap (λ (x : Option End). next_end_state_by (client_rules opened) k (FrameReceived f) x) (end_is (Ok hello) e)) in
+        taken_live opened r k count f after keeps (end_is (Ok hello) e)
+        (subst (λ (x : EndState ClientState). ClientKeeps opened (kept_client after) x f.end) next_is greeted)
+        (subst (λ (x : ClientState). LinkKeeps opened after.side x) (sym state_is)
+        (subst (λ (bytes : List ℕ). LinkKeeps opened (after_frame f (record r.side { has_hello = true; send_queue = queue_hello bytes r.side.send_queue })) (with_hello opened k)) (sym none)
+        (link_greeted opened r.side k f link (omega (arith, lt)) no_hello)))
+        refl refl refl refl
+        ((λ i. (r.side.send_queue.hello ++ none i) ++ link.waiting no_hello i)
+        ∙ (λ i. writable (sym (link.has_hello ∙ no_hello) i) r.side.send_queue ++ sym output_is i)) refl
+    by (Err reason) e =
+        let end : End = ends.Bad 0 reason in
+        taken_ended opened r k count f (record r { side = with_end_of (ends.Bad f.at reason) r.side }) end keeps (end_is (Err reason) e)
+        (ap (λ (n : ℕ). record (kept_client r) { ended = Some (ends.Bad n reason) }) first) refl refl (omega (arith, lt))
+        (no_last r.side.has_hello (link.has_hello ∙ no_hello)
+        ∙ sym (append-nil (queue_of r)) ∙ ap (λ (xs : List ℕ). queue_of r ++ xs) (sym (no_output reason 0 (hello_reason r.side frame reason keeps.client.ended e))))
+      where
+        no_last : (h : Bool) → h ≡ false → writable h (with_end r.side.side (ends.Bad f.at reason) r.side.send_queue) ≡ writable h r.side.send_queue
+        no_last true e = absurd cc
+        no_last false e = (λ i. (r.side.send_queue.hello ++ rejection (link.side i) (ends.Bad f.at reason)) ++ []) ∙ ap (λ (xs : List ℕ). xs ++ []) (append-nil r.side.send_queue.hello)

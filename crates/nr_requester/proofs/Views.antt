@@ -1,0 +1,120 @@
+-- What the code keeps after a call, as the definitions see it.
+use Rattle.std.proofs.Common.{◌≡◌, ℕ, ◌+◌, ◌^◌, ◌<◌, ◌≤◌, Bool, List, [], ◌∷◌, ◌++◌, length, take, map, Some, refl, sym, ap, subst, ◌∙◌, arith, length-append}
+use Rattle.std.specs.Prelude.{IfOk, IfErr, OnOk, Option, Result, Ok, Err}
+use Rattle.std.specs.Io.KnownBytes.{Appends}
+use Rattle.nr_wire.specs.declared.hello.Side.TheVariants.{Initiator}
+use Rattle.nr_endpoint.specs.SendQueue.{writable}
+use Rattle.nr_reduce.specs.declared.mark.Mark.TheVariants as marks
+use Rattle.nr_header.specs.declared.header.ChunkLists.{ChunkLists}
+use Rattle.nr_endpoint.specs.declared.offering.Claims.{Claims}
+use Rattle.nr_endpoint.specs.LinkState.{LinkSide, has_ended}
+use Rattle.nr_endpoint.specs.Calls.{after_call, with_state}
+use Rattle.nr_endpoint.specs.Calls.Call.{Drain}
+use Rattle.nr_reduce.specs.declared.call.Call.{Call}
+use Rattle.nr_reduce.specs.declared.outline.Plan.{Plan}
+use Rattle.nr_reduce.specs.declared.mark.LinkParameters.{LinkParameters}
+use Rattle.nr_reduce.specs.Plans.{buffers, call_message, lists_of}
+use Rattle.nr_requester.specs.declared.outstanding.OutstandingCall.{OutstandingCall}
+use Rattle.nr_requester.specs.RequesterState.{StoredCall, RequesterSide, queue_of}
+use Rattle.nr_requester.specs.Standing.{RequesterRepresents, RequesterRunsOut, StandsOn, StaysOut}
+use Rattle.nr_requester.specs.AfterCalls.{opened_as, stored_call, submitted, after_submit, sent_unless, after_drain}
+use Rattle.nr_requester.specs.Views.{stags_of, stored_view, requester_view, AreInRange}
+use Rattle.nr_requester.proofs.Marks.{begins, drain_is_a_mark}
+
+pub if_ok : {T E : Type 0} {P Q : T → Type 0} (r : Result T E) → ((t : T) → P t → Q t) → IfOk r P → IfOk r Q
+if_ok (Ok t) f h = f t h
+if_ok (Err e) f h = tt
+
+pub if_err : {T E : Type 0} {P Q : E → Type 0} (r : Result T E) → ((x : E) → P x → Q x) → IfErr r P → IfErr r Q
+if_err (Ok t) f h = tt
+if_err (Err x) f h = f x h
+
+-- ---- As it is opened
+
+pub opened_stands : (h : RequesterSide) (first_xid first_stag wished : ℕ) → h ≡ opened_as first_xid first_stag wished → (opened : LinkParameters) (link : ℕ) → opened.first_xid ≡ first_xid → opened.first_stag ≡ first_stag → opened.wished ≡ wished → RequesterRepresents opened link h []
+opened_stands h first_xid first_stag wished is opened link xid stag credits =
+    subst (λ (x : RequesterSide). RequesterRepresents opened link x []) ((λ i. opened_as (xid i) (stag i) (credits i)) ∙ sym is) (begins opened link)
+
+-- ---- After a drain
+
+drained_as : (link : LinkSide) (sent wished first xid grant n : ℕ) (items : List OutstandingCall) →
+    requester_view (after_call link (Drain n)) (sent_unless (has_ended link.state) sent (after_call link (Drain n)).state.send_queue.sends_left) wished first xid grant items ≡ after_drain n (requester_view link sent wished first xid grant items)
+unfolding after_call after_drain
+drained_as link sent wished first xid grant n items = refl
+
+ended_stays : (link : LinkSide) (n : ℕ) → has_ended (after_call link (Drain n)).state ≡ has_ended link.state
+unfolding after_call
+ended_stays link n = refl
+
+drained_view : (link link2 : LinkSide) (sent sent2 wished first xid grant n : ℕ) (items : List OutstandingCall) → link2 ≡ after_call link (Drain n) →
+    sent2 ≡ sent_unless (has_ended link2.state) sent link2.state.send_queue.sends_left → requester_view link2 sent2 wished first xid grant items ≡ after_drain n (requester_view link sent wished first xid grant items)
+drained_view link link2 sent sent2 wished first xid grant n items link_is sent_is =
+    let drained : LinkSide = after_call link (Drain n) in
+    let count : sent2 ≡ sent_unless (has_ended link.state) sent drained.state.send_queue.sends_left =
+    sent_is ∙ ap (λ (l : LinkSide). sent_unless (has_ended l.state) sent l.state.send_queue.sends_left) link_is
+    ∙ ap (λ (b : Bool). sent_unless b sent drained.state.send_queue.sends_left) (ended_stays link n) in
+    (λ i. requester_view (link_is i) (count i) wished first xid grant items)
+    ∙ drained_as link sent wished first xid grant n items
+
+-- what a drain says of the requester before and after it
+abbrev pub DrainTaken : {T E : Type 0} → (before after : RequesterSide) → ℕ → (had has : Option (List ℕ)) → Result T E → Type 0
+DrainTaken before after n had has r =
+    (n ≤ length (queue_of before.state)) × Appends had has (take n (queue_of before.state)) × (after ≡ after_drain n before)
+    × StandsOn before (λ link. marks.Wrote link Initiator (take n (queue_of before.state))) after
+    × StaysOut before (λ link. marks.Wrote link Initiator (take n (queue_of before.state))) after
+    × OnOk r (n ≡ length (queue_of before.state))
+
+pub drain_taken : {T E : Type 0} (h : RequesterSide) (link link2 : LinkSide) (sent sent2 wished first xid grant n : ℕ) (items : List OutstandingCall) (had has : Option (List ℕ)) (r : Result T E) → requester_view link sent wished first xid grant items ≡ h → xid ≤ 2 ^ 32 →
+    n ≤ length (writable link.state.has_hello link.state.send_queue) → Appends had has (take n (writable link.state.has_hello link.state.send_queue)) → link2 ≡ after_call link (Drain n) → sent2 ≡ sent_unless (has_ended link2.state) sent link2.state.send_queue.sends_left →
+    OnOk r (n ≡ length (writable link.state.has_hello link.state.send_queue)) → DrainTaken h (requester_view link2 sent2 wished first xid grant items) n had has r
+drain_taken h link link2 sent sent2 wished first xid grant n items had has r is fits le appends link_is sent_is all =
+    let here : RequesterSide = requester_view link sent wished first xid grant items in
+    let view : requester_view link2 sent2 wished first xid grant items ≡ after_drain n here = drained_view link link2 sent sent2 wished first xid grant n items link_is sent_is in
+    let mark = drain_is_a_mark here n le fits in
+    subst (λ (x : RequesterSide). DrainTaken x (requester_view link2 sent2 wished first xid grant items) n had has r) is (
+      le,
+      appends,
+      view,
+      (λ opened link run s. subst (λ (x : RequesterSide). RequesterRepresents opened link x (run ++ marks.Wrote link Initiator (take n (queue_of here.state)) ∷ [])) (sym view) (mark.0 opened link run s)),
+      (λ opened link stopped run out. subst (λ (x : RequesterSide). RequesterRunsOut opened link x stopped (run ++ marks.Wrote link Initiator (take n (queue_of here.state)) ∷ [])) (sym view) (mark.1 opened link stopped run out)),
+      all,
+    )
+
+-- ---- After an accepted call
+
+pub sent_range : (xid grant : ℕ) (items items2 : List OutstandingCall) (o : OutstandingCall) → AreInRange xid grant items → xid < 2 ^ 32 → length items < grant → items2 ≡ items ++ o ∷ [] → AreInRange (xid + 1) grant items2
+sent_range xid grant items items2 o r fits credit more =
+    let len = ap (λ (xs : List OutstandingCall). length xs) more ∙ length-append items (o ∷ []) in
+    record { xid = omega (arith, fits); few = (let g = r.granted in omega (arith, len, credit, g)); granted = r.granted }
+
+map_one : (xs : List OutstandingCall) (o : OutstandingCall) → map stored_view (xs ++ o ∷ []) ≡ map stored_view xs ++ stored_view o ∷ []
+map_one [] o = refl
+map_one (x ∷ xs) o = ap (λ (ks : List StoredCall). stored_view x ∷ ks) (map_one xs o)
+
+pub sent_view : (h : RequesterSide) (link link2 : LinkSide) (sent wished first xid grant : ℕ) (call : Call) (p : Plan) (lists : ChunkLists) (claims : Claims) (items items2 : List OutstandingCall) →
+    requester_view link sent wished first xid grant items ≡ h → lists ≡ lists_of link.state.memory.next p → stags_of claims ≡ map (λ b. b.stag) (buffers link.state.memory.next p) →
+    link2 ≡ with_state (submitted link.state (call_message xid wished link.state.memory.next p) (buffers link.state.memory.next p)) link →
+    items2 ≡ items ++ record { xid = xid; call = Some call; offered = lists; claims = claims } ∷ [] →
+    requester_view link2 sent wished first (xid + 1) grant items2 ≡ after_submit h call p
+sent_view h link link2 sent wished first xid grant call p lists claims items items2 is lists_are stags link_is items_are =
+    (λ i. requester_view (link_is i) sent wished first (xid + 1) grant (items_are i))
+    ∙ (λ i. record {
+      awaited = link.awaited;
+      rest = link.rest;
+      state = record {
+        side = submitted link.state (call_message xid wished link.state.memory.next p) (buffers link.state.memory.next p);
+        sent = sent;
+        wished = wished;
+        first_xid = first;
+        next_xid = xid + 1;
+        grant = grant;
+        outstanding = kept_are i;
+      };
+    })
+    ∙ ap (λ (x : RequesterSide). after_submit x call p) is
+  where
+    one : stored_view (record { xid = xid; call = Some call; offered = lists; claims = claims }) ≡ stored_call xid call p link.state.memory.next
+    one = λ i. record { xid = xid; call = Some call; offered = lists_are i; stags = stags i }
+
+    kept_are : map stored_view (items ++ record { xid = xid; call = Some call; offered = lists; claims = claims } ∷ []) ≡ map stored_view items ++ stored_call xid call p link.state.memory.next ∷ []
+    kept_are = map_one items (record { xid = xid; call = Some call; offered = lists; claims = claims }) ∙ ap (λ (k : StoredCall). map stored_view items ++ k ∷ []) one

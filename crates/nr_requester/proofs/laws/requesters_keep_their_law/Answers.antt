@@ -1,0 +1,14 @@
+use Rattle.nr_requester.proofs.OwnLaw.{submit_keeps_law, drain_keeps_law, drain_out_keeps_law, queue_is_all_due}
+use Rattle.nr_requester.proofs.laws.requesters_keep_their_law.Goals as goal
+
+pub returns-clause-submit : goal.returns-clause-submit
+returns-clause-submit c = submit_keeps_law
+
+pub returns-clause-drain : goal.returns-clause-drain
+returns-clause-drain c = drain_keeps_law
+
+pub returns-clause-drain_out : goal.returns-clause-drain_out
+returns-clause-drain_out c = drain_out_keeps_law
+
+pub returns-clause-queue : goal.returns-clause-queue
+returns-clause-queue c = queue_is_all_due

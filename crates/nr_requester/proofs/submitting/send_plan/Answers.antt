@@ -1,0 +1,39 @@
+use Rattle.std.proofs.Common.{◌≡◌, ℕ, ◌-◌, List, length, ap, ◌∙◌, arith}
+use Rattle.nr_regions.specs.RegisteredMemory.{RegisteredMemory}
+use Rattle.nr_endpoint.specs.Offering.{offered_count}
+use Rattle.nr_reduce.specs.Plans.{call_message}
+use Rattle.nr_reduce.proofs.Sizes.{message_size}
+use Rattle.nr_requester.specs.declared.submitting.Prepared.{Prepared}
+use Rattle.nr_requester.proofs.Sized.{few, plan_fits}
+use Rattle.nr_requester.proofs.Sent.{count_offered, claims_stags, offered_view}
+use Rattle.nr_requester.proofs.submitting.send_plan.Goals as goal
+
+pub prepare-requires-clause-few : goal.prepare-requires-clause-few
+prepare-requires-clause-few c = few c.args.plan (plan_fits c.args.plan c.requires.planned)
+
+pub offer-requires-clause-size : goal.offer-requires-clause-size
+offer-requires-clause-size c =
+    let p = c.requires.planned in
+    let stag : ℕ = 4294967296 - c.stags_left-stag.result in
+    let size = (message_size p.payload p.form 1024 1024 c.args.xid c.args.credit stag c.args.plan p.is).1 in
+    let len = ap (λ (xs : List ℕ). length xs) c.as_slice.ensures in
+    let same = ap (λ (x : Prepared). length x.message) c.in_ok-message.ensures in
+    omega (arith, size, len, same)
+
+pub offer-requires-clause-stags : goal.offer-requires-clause-stags
+offer-requires-clause-stags c =
+    let count = ap (λ (x : Prepared). offered_count x.offered) c.in_ok-message.ensures ∙ count_offered c.args.plan in
+    let fits = c.requires.stags in
+    omega (arith, count, fits)
+
+pub returns-in-Ok-clause-link : goal.returns-in-Ok-clause-link
+returns-in-Ok-clause-link c =
+    let left = c.stags_left-stag.ensures.sum in
+    let next = ap (λ (m : RegisteredMemory). m.next) c.regions.ensures in
+    let stag : 4294967296 - c.stags_left-stag.result ≡ c.args.endpoint.now.link.state.memory.next = omega (arith, left, next) in
+    offered_view c.args.endpoint.now.link c.offer.new.self.link c.args.xid c.args.credit c.args.plan c.as_slice.result.now c.in_ok-message.field-0.offered c.requires.live c.in-Ok.ensures.state
+    (c.as_slice.ensures ∙ ap (λ (x : Prepared). x.message) c.in_ok-message.ensures ∙ ap (λ (n : ℕ). call_message c.args.xid c.args.credit n c.args.plan) stag)
+    (ap (λ (x : Prepared). x.offered) c.in_ok-message.ensures)
+
+pub returns-in-Ok-clause-claims : goal.returns-in-Ok-clause-claims
+returns-in-Ok-clause-claims c = claims_stags c.args.endpoint.now.link.state.memory c.args.plan c.in_ok-message.field-0.offered c.in-Ok.claims c.in-Ok.ensures.claims (ap (λ (x : Prepared). x.offered) c.in_ok-message.ensures)

@@ -1,0 +1,76 @@
+-- A requester as it is opened, and after the calls that its owner makes.
+use Rattle.std.specs.Prelude.{ℕ, ◌+◌, Bool, true, false, ◌==◌, if◌then◌else◌, List, [], ◌∷◌, ◌++◌, map, Option, None, Some}
+use Rattle.std.specs.List.{find}
+use Rattle.nr_wire.specs.declared.hello.Side.TheVariants.{Initiator, Responder}
+use Rattle.nr_wire.specs.declared.stream.Awaited.TheVariants.{Hello as HelloFrom}
+use Rattle.nr_endpoint.specs.LinkState.{LinkState, has_ended, initial_state}
+use Rattle.nr_endpoint.specs.SendQueue.{written, with_send}
+use Rattle.nr_reduce.specs.declared.call.Call.{Call}
+use Rattle.nr_reduce.specs.declared.outline.Plan.{Plan}
+use Rattle.nr_reduce.specs.Plans.{Buffer, buffers, call_message, lists_of}
+use Rattle.nr_reduce.specs.KeptClient.{registered_all, released_all}
+use Rattle.nr_requester.specs.RequesterState.{StoredCall, RequesterSide}
+
+unfoldable pub opened_as : (first_xid first_stag wished : ℕ) → RequesterSide
+opened_as first_xid first_stag wished = record {
+  awaited = HelloFrom Responder;
+  rest = [];
+  state = record { side = initial_state Initiator 1 first_stag; sent = 0; wished = wished; first_xid = first_xid; next_xid = first_xid; grant = 1; outstanding = [] };
+}
+
+-- the side once the regions of a plan were registered and its message was queued
+abbrev pub submitted : LinkState → (message : List ℕ) → List Buffer → LinkState
+submitted s message bs = record s { memory = registered_all s.memory bs; send_queue = with_send message s.send_queue }
+
+-- what is stored of a call that is accepted under an xid, by a plan whose first region gets this STag
+abbrev pub stored_call : ℕ → Call → Plan → ℕ → StoredCall
+stored_call xid call plan stag = record { xid = xid; call = Some call; offered = lists_of stag plan; stags = map (λ b. b.stag) (buffers stag plan) }
+
+-- after a call was accepted, by this plan
+abbrev pub after_submit : RequesterSide → Call → Plan → RequesterSide
+after_submit h call plan = record h {
+  state = record h.state {
+    side = submitted h.state.side (call_message h.state.next_xid h.state.wished h.state.side.memory.next plan) (buffers h.state.side.memory.next plan);
+    next_xid = h.state.next_xid + 1;
+    outstanding = h.state.outstanding ++ stored_call h.state.next_xid call plan h.state.side.memory.next ∷ [];
+  };
+}
+
+-- after the first n bytes of the queue were written
+abbrev pub drained : ℕ → LinkState → LinkState
+drained n s = record s { send_queue = written n s.send_queue }
+
+abbrev pub sent_unless : Bool → (before after : ℕ) → ℕ
+sent_unless ended before after = if ended then before else after
+
+unfoldable pub after_drain : ℕ → RequesterSide → RequesterSide
+after_drain n h = record h {
+  state = record h.state {
+    side = drained n h.state.side;
+    sent = sent_unless (has_ended h.state.side) h.state.sent (written n h.state.side.send_queue).sends_left;
+  };
+}
+
+-- the memory of a call is revoked: its regions are released, and the call is handed back
+abbrev pub revoked_if : Bool → StoredCall → StoredCall
+revoked_if true c = record { xid = c.xid; call = None; offered = c.offered; stags = [] }
+revoked_if false c = c
+
+abbrev pub revoked_call : ℕ → StoredCall → StoredCall
+revoked_call xid c = revoked_if (c.xid == xid) c
+
+-- the STags of the call of an xid
+abbrev pub stags_in : Option StoredCall → List ℕ
+stags_in None = []
+stags_in (Some c) = c.stags
+
+abbrev pub stags_for : ℕ → List StoredCall → List ℕ
+stags_for xid calls = stags_in (find (λ c. c.xid == xid) calls)
+
+unfoldable pub after_revoke : RequesterSide → ℕ → RequesterSide
+after_revoke h xid = record h {
+  state = record h.state {
+    side = record h.state.side { memory = released_all h.state.side.memory (stags_for xid h.state.outstanding) };
+    outstanding = map (revoked_call xid) h.state.outstanding;
+  };
+}

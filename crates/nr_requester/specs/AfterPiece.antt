@@ -1,0 +1,61 @@
+-- What a piece of the server's stream makes of a requester, frame by frame.
+use Rattle.std.specs.Prelude.{ℕ, Bool, not, ◌==◌, List, [], ◌∷◌, Option, None, Some, is_some}
+use Rattle.std.specs.List.{filter}
+use Rattle.nr_xdr.specs.Fields.{word_at}
+use Rattle.nr_wire.specs.declared.stream.Awaited.{Awaited}
+use Rattle.nr_wire.specs.declared.stream.Awaited.TheVariants.{Fpdu, Hello as HelloFrom}
+use Rattle.nr_wire.specs.Feeding.{feeding_after}
+use Rattle.nr_link.specs.declared.end.End.{End}
+use Rattle.nr_link.specs.declared.end.End.TheVariants as ends
+use Rattle.nr_endpoint.specs.LinkState.{LinkState}
+use Rattle.nr_endpoint.specs.ReceiveQueue.{DeliveredEvent, delivered, posted}
+use Rattle.nr_endpoint.specs.ReceiveQueue.DeliveredEvent.{MessageReceived, ReadDone}
+use Rattle.nr_endpoint.specs.Judging.{with_frame, with_end_of}
+use Rattle.nr_reduce.specs.ClientMessages.{ReplyVerdict}
+use Rattle.nr_reduce.specs.ClientMessages.ReplyVerdict.{EndsLink, GivesOutcome}
+use Rattle.nr_reduce.specs.Client.{credits_of_word}
+use Rattle.nr_reduce.specs.KeptCalls.{kept_verdict}
+use Rattle.nr_reduce.specs.KeptClient.{bytes_under, released_all}
+use Rattle.nr_requester.specs.RequesterState.{StoredCall, RequesterState, RequesterSide, kept_calls}
+use Rattle.nr_requester.specs.AfterCalls.{stags_for}
+
+-- the message was delivered, and its receive is posted again
+abbrev pub taken : LinkState → LinkState
+taken s = record s { receive_queue = posted (delivered s.receive_queue) }
+
+abbrev pub without_call : ℕ → List StoredCall → List StoredCall
+without_call xid calls = filter (λ c. not (c.xid == xid)) calls
+
+-- A message that gives an outcome ends its call: its regions are released, and it isn't outstanding any more. Else the side is stopped.
+abbrev pub judged : RequesterState → LinkState → List ℕ → ReplyVerdict → RequesterState
+judged r s message (EndsLink reason) = record r { side = with_end_of (ends.Bad s.last reason) (taken s) }
+judged r s message (GivesOutcome xid outcome) = record r {
+  side = record (taken s) { memory = released_all s.memory (stags_for (word_at 0 message) r.outstanding) };
+  grant = credits_of_word (word_at 8 message);
+  outstanding = without_call (word_at 0 message) r.outstanding;
+}
+
+-- what is made of the event that a frame delivers
+abbrev pub noticed : RequesterState → LinkState → List DeliveredEvent → RequesterState
+noticed r s [] = record r { side = s }
+noticed r s (MessageReceived number invalidated message ∷ events) = judged r s message (kept_verdict (kept_calls r) (bytes_under s.memory) message)
+noticed r s (ReadDone ∷ events) = record r { side = s }
+
+abbrev pub unless_ended : RequesterState → LinkState → Option End → RequesterState
+unless_ended r s None = noticed r s s.receive_queue.notices
+unless_ended r s (Some end) = record r { side = s }
+
+unfoldable pub after_fpdu : RequesterState → List ℕ → RequesterState
+after_fpdu r frame = unless_ended r (with_frame r.side Fpdu frame) (with_frame r.side Fpdu frame).ended
+
+-- ---- Frame by frame
+
+abbrev pub requester_ended : RequesterState → Bool
+requester_ended r = is_some r.side.ended
+
+abbrev pub after_frame : RequesterState → Awaited → List ℕ → RequesterState
+after_frame r (HelloFrom side) frame = record r { side = with_frame r.side (HelloFrom side) frame }
+after_frame r Fpdu frame = after_fpdu r frame
+
+unfoldable pub after_piece : RequesterSide → List ℕ → RequesterSide
+after_piece h piece = feeding_after requester_ended after_frame h piece

@@ -1,0 +1,85 @@
+-- A requester stands for the marks of its link: each call of its owner is one mark more.
+use Rattle.std.specs.Prelude.{◌≡◌, ℕ, ◌^◌, ◌<◌, ◌≤◌, List, [], ◌∷◌, ◌++◌, length, take, None, Ok}
+use Rattle.nr_wire.specs.declared.hello.Side.TheVariants.{Initiator}
+use Rattle.nr_reduce.specs.declared.call.Call.{Call}
+use Rattle.nr_reduce.specs.declared.call.Form.{Form}
+use Rattle.nr_reduce.specs.declared.call.Submission.TheVariants as submissions
+use Rattle.nr_reduce.specs.declared.mark.LinkParameters.{LinkParameters}
+use Rattle.nr_reduce.specs.declared.mark.Mark.{Mark}
+use Rattle.nr_reduce.specs.declared.mark.Mark.TheVariants as marks
+use Rattle.nr_reduce.specs.declared.outline.Plan.{Plan}
+use Rattle.nr_reduce.specs.Events.{events_at}
+use Rattle.nr_rpc.specs.Credential.{CanWriteCred}
+use Rattle.nr_reduce.specs.History.{bytes_sent, written_at, fed_at}
+use Rattle.nr_reduce.specs.Run.{client, output_due}
+use Rattle.nr_reduce.specs.Opening.{IsOpened}
+use Rattle.nr_reduce.specs.Asked.{AskedSoFar, IsAll}
+use Rattle.nr_reduce.specs.SubmitAnswer.{submit_answer}
+use Rattle.nr_reduce.specs.Credits.{calls_outstanding, credits_granted, KeepsGrant}
+use Rattle.nr_requester.specs.RequesterState.{RequesterSide, queue_of}
+use Rattle.nr_requester.specs.Standing.{RequesterRepresents, RequesterRunsOut, StandsOn, StaysOut}
+use Rattle.nr_requester.specs.AfterCalls.{opened_as, after_submit, after_drain, after_revoke}
+use Rattle.nr_requester.specs.AfterPiece.{after_piece}
+use Rattle.nr_requester.specs.Answers.{answer_of, plan_under}
+
+abbrev pub Begins : Type 0
+Begins = (opened : LinkParameters) (link : ℕ) → RequesterRepresents opened link (opened_as opened.first_xid opened.first_stag opened.wished) []
+
+-- It answers a call as its client does.
+abbrev pub AnswersAsClient : Type 0
+AnswersAsClient = (opened : LinkParameters) (link : ℕ) (h : RequesterSide) (run : List Mark) (call : Call) (form : Form) → RequesterRepresents opened link h run →
+    answer_of h.state call form ≡ submit_answer opened (client opened link run) call form
+
+-- It knows how many calls are outstanding, and the credits that are granted, also after an End.
+abbrev pub CountsAsClient : Type 0
+CountsAsClient = (opened : LinkParameters) (link : ℕ) (h : RequesterSide) (run : List Mark) → RequesterRepresents opened link h run →
+    (length h.state.outstanding ≡ calls_outstanding opened link run) × (h.state.grant ≡ credits_granted opened link run)
+
+-- An accepted call,
+abbrev pub SubmitIsAMark : Type 0
+SubmitIsAMark = (h : RequesterSide) (call : Call) (form : Form) (plan : Plan) → h.state.side.ended ≡ None → h.state.next_xid < 2 ^ 32 → plan_under h.state call form ≡ Ok plan →
+    StandsOn h (λ link. marks.Submit link call form (submissions.Accepted h.state.next_xid)) (after_submit h call plan)
+
+-- a drain of which a sink took n bytes, also if it ran out of memory,
+abbrev pub DrainIsAMark : Type 0
+DrainIsAMark = (h : RequesterSide) (n : ℕ) → n ≤ length (queue_of h.state) → h.state.next_xid ≤ 2 ^ 32 →
+    StandsOn h (λ link. marks.Wrote link Initiator (take n (queue_of h.state))) (after_drain n h)
+    × StaysOut h (λ link. marks.Wrote link Initiator (take n (queue_of h.state))) (after_drain n h)
+
+-- a piece of the server's stream,
+abbrev pub PieceIsAMark : Type 0
+PieceIsAMark = (h : RequesterSide) (piece : List ℕ) → StandsOn h (λ link. marks.Fed link Initiator piece) (after_piece h piece)
+
+-- a revoke,
+abbrev pub RevokeIsAMark : Type 0
+RevokeIsAMark = (h : RequesterSide) (xid : ℕ) (bytes : List ℕ) → StandsOn h (λ link. marks.Revoke link xid bytes) (after_revoke h xid)
+
+abbrev pub RevokeStaysOut : Type 0
+RevokeStaysOut = (opened : LinkParameters) (link : ℕ) (h : RequesterSide) (stopped run : List Mark) (xid : ℕ) (bytes : List ℕ) → RequesterRunsOut opened link h stopped run →
+    RequesterRunsOut opened link (after_revoke h xid) (stopped ++ marks.Revoke link xid bytes ∷ []) (run ++ marks.Revoke link xid bytes ∷ [])
+
+-- and a mark that is no event of it: a refused Submit, Done, Lost, Forget, and what happens elsewhere.
+abbrev pub OthersLeaveIt : Type 0
+OthersLeaveIt = (opened : LinkParameters) (link : ℕ) (h : RequesterSide) (run : List Mark) (mark : Mark) → RequesterRepresents opened link h run →
+    events_at link Initiator run mark ≡ [] → written_at link Initiator mark ≡ [] → fed_at link Initiator mark ≡ [] → RequesterRepresents opened link h (run ++ mark ∷ [])
+
+-- ---- The law of its side, so far
+
+-- An accepted call keeps it, and the last grant,
+abbrev pub SubmitKeepsLaw : Type 0
+SubmitKeepsLaw = (opened : LinkParameters) (link : ℕ) (h : RequesterSide) (run : List Mark) (call : Call) (form : Form) (xid : ℕ) → RequesterRepresents opened link h run → answer_of h.state call form ≡ submissions.Accepted xid →
+    IsOpened opened → CanWriteCred call.cred → AskedSoFar opened link run → KeepsGrant opened link run →
+    AskedSoFar opened link (run ++ marks.Submit link call form (submissions.Accepted xid) ∷ []) × KeepsGrant opened link (run ++ marks.Submit link call form (submissions.Accepted xid) ∷ [])
+
+-- and so does a drain, also if it ran out of memory. If a sink took all, all that is due is written.
+abbrev pub DrainKeepsLaw : Type 0
+DrainKeepsLaw = (opened : LinkParameters) (link : ℕ) (h : RequesterSide) (run : List Mark) (n : ℕ) → RequesterRepresents opened link h run → AskedSoFar opened link run →
+    AskedSoFar opened link (run ++ marks.Wrote link Initiator (take n (queue_of h.state)) ∷ [])
+
+abbrev pub DrainOutKeepsLaw : Type 0
+DrainOutKeepsLaw = (opened : LinkParameters) (link : ℕ) (h : RequesterSide) (stopped run : List Mark) (n : ℕ) → RequesterRunsOut opened link h stopped run → AskedSoFar opened link run →
+    AskedSoFar opened link (run ++ marks.Wrote link Initiator (take n (queue_of h.state)) ∷ [])
+
+abbrev pub QueueIsAllDue : Type 0
+QueueIsAllDue = (opened : LinkParameters) (link : ℕ) (h : RequesterSide) (run : List Mark) → RequesterRepresents opened link h run →
+    IsAll (bytes_sent link Initiator run ++ queue_of h.state) (output_due opened link Initiator run)

@@ -1,0 +1,62 @@
+-- What a requester is: its side of the link, and what it keeps of its calls.
+use Rattle.std.specs.Prelude.{ℕ, ◌-◌, nat_lt, List, length, map, Option}
+use Rattle.nr_wire.specs.Feeding.{Feeding}
+use Rattle.nr_header.specs.declared.header.ChunkLists.{ChunkLists}
+use Rattle.nr_link.specs.Input.{InputState}
+use Rattle.nr_endpoint.specs.LinkState.{LinkState}
+use Rattle.nr_endpoint.specs.SendQueue.{writable}
+use Rattle.nr_reduce.specs.declared.call.Call.{Call}
+use Rattle.nr_reduce.specs.Limits.{send_max}
+use Rattle.nr_reduce.specs.KeptCalls.{KeptCall}
+use Rattle.nr_reduce.specs.KeptClient.{KeptClient}
+
+-- A call that is outstanding: the call, until its memory is revoked; the lists that its reply has to repeat; the STags of its regions, in
+-- the order in which they were offered, and none once they are released.
+pub record StoredCall : Type 0 where
+  pub xid : ℕ
+  pub call : Option Call
+  pub offered : ChunkLists
+  pub stags : List ℕ
+
+-- The side of the link, without the input that isn't a complete frame; how many Sends have wholly left, until the side has ended; the
+-- credits that it wishes for; its first xid and the one that it gives next; the credits that are granted; the outstanding calls, in the
+-- order of their Submits.
+pub record RequesterState : Type 0 where
+  pub side : LinkState
+  pub sent : ℕ
+  pub wished : ℕ
+  pub first_xid : ℕ
+  pub next_xid : ℕ
+  pub grant : ℕ
+  pub outstanding : List StoredCall
+
+-- a requester between two pieces of the server's stream
+abbrev pub RequesterSide : Type 0
+RequesterSide = Feeding RequesterState
+
+-- what may be written
+abbrev pub queue_of : RequesterState → List ℕ
+queue_of r = writable r.side.has_hello r.side.send_queue
+
+-- A call as a client keeps it. Xids and the Sends of calls both go by the order of Submits, so a Send has left if so many have.
+abbrev pub kept_call : (first sent : ℕ) → StoredCall → KeptCall
+kept_call first sent c = record { xid = c.xid; is_sent = nat_lt (c.xid - first) sent; call = c.call; offered = c.offered; stags = c.stags }
+
+abbrev pub kept_calls : RequesterState → List KeptCall
+kept_calls r = map (kept_call r.first_xid r.sent) r.outstanding
+
+-- what it keeps of the client of a run
+abbrev pub kept_client : RequesterState → KeptClient
+kept_client r = record {
+  ended = r.side.ended;
+  next_xid = r.next_xid;
+  grant = r.grant;
+  outstanding = length r.outstanding;
+  calls = kept_calls r;
+  memory = r.side.memory;
+  up_max = send_max;
+  down_max = send_max;
+}
+
+abbrev pub input_kept : RequesterSide → InputState
+input_kept h = record { awaited = h.awaited; rest = h.rest; place = h.state.side.place }

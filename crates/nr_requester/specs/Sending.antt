@@ -1,0 +1,52 @@
+-- A call on its way out: its chunks, and the buffers that it offers.
+use Rattle.std.specs.Prelude.{◌≡◌, ℕ, ◌+◌, ◌-◌, ◌^◌, ◌<◌, ◌≤◌, nat_le, nat_lt, if◌then◌else◌, Ok, Bool, true, false, List, length, replicate, Option, None, Some, IfSome}
+use Rattle.nr_endpoint.specs.declared.offering.Offered.{Offered}
+use Rattle.nr_reduce.specs.declared.outline.Plan.{Plan}
+use Rattle.nr_reduce.specs.Plans.{has_segment, total, plan_of}
+use Rattle.nr_reduce.specs.Limits.{numbers_end, send_max}
+use Rattle.nr_reduce.specs.SubmitAnswer.{unless_spent}
+use Rattle.nr_reduce.specs.declared.call.Form.{Form}
+use Rattle.nr_reduce.specs.declared.call.Refused.TheVariants as refusals
+use Rattle.nr_reduce.specs.declared.call.Submission.{Submission}
+use Rattle.nr_reduce.specs.declared.call.Submission.TheVariants as submissions
+use Rattle.nr_requester.specs.RequesterState.{RequesterState}
+
+-- the chunks of a plan have few segments
+pub record AreFew (p : Plan) : Type 0 where
+  pub read : length p.read < 2 ^ 31
+  pub write : IfSome p.write (λ lengths. length lengths < 2 ^ 31)
+  pub reply : IfSome p.reply (λ lengths. length lengths < 2 ^ 31)
+
+abbrev pub some_if : Bool → List ℕ → Option (List ℕ)
+some_if true bytes = Some bytes
+some_if false bytes = None
+
+-- the buffers that a plan offers: one for each chunk with a segment
+abbrev pub offered_of : Plan → Offered
+offered_of p = record {
+  read = some_if (has_segment (Some p.read)) p.region;
+  write = some_if (has_segment p.write) (replicate (total p.write) 0);
+  reply = some_if (has_segment p.reply) (replicate (total p.reply) 0);
+}
+
+-- a plan of a payload in a form, whose Send fits
+pub record IsPlan (p : Plan) : Type 0 where
+  pub payload : List ℕ
+  pub form : Form
+  pub is : plan_of payload form send_max send_max ≡ Ok p
+
+-- numbers and a credit are left for a call with so many regions
+pub record HasNumbers (r : RequesterState) (needed : ℕ) : Type 0 where
+  pub xid : r.next_xid < 2 ^ 32
+  pub stags : r.side.memory.next + needed ≤ 2 ^ 32
+  pub credit : length r.outstanding < r.grant
+
+abbrev pub answer_for : RequesterState → ℕ → Submission
+answer_for r needed =
+    if nat_le r.grant (length r.outstanding) then submissions.Refused (refusals.NoCredit (length r.outstanding) r.grant)
+    else unless_spent (numbers_end - r.next_xid) 1
+    (unless_spent (numbers_end - r.side.memory.next) needed (submissions.Accepted r.next_xid))
+
+-- the word of an xid; if none is left, 0 has the same bytes
+abbrev pub xid_word : ℕ → ℕ
+xid_word n = if nat_lt n numbers_end then n else 0

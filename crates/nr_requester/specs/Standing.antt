@@ -1,0 +1,70 @@
+-- The marks that a requester stands for.
+use Rattle.std.specs.Prelude.{◌≡◌, ℕ, ◌+◌, Bool, true, false, not, ◌==◌, List, [], ◌∷◌, ◌++◌, length, None}
+use Rattle.nr_wire.specs.declared.hello.Side.TheVariants.{Initiator}
+use Rattle.nr_link.specs.Output.{msn_word}
+use Rattle.nr_link.specs.KeptSends.{received_within}
+use Rattle.nr_endpoint.specs.LinkState.{LinkState}
+use Rattle.nr_endpoint.specs.ReceiveQueue.{sends_begun}
+use Rattle.nr_endpoint.specs.SendQueue.{ends_left}
+use Rattle.nr_reduce.specs.declared.mark.LinkParameters.{LinkParameters}
+use Rattle.nr_reduce.specs.declared.mark.Mark.{Mark}
+use Rattle.nr_reduce.specs.Limits.{send_max}
+use Rattle.nr_reduce.specs.Written.{ends_waiting}
+use Rattle.nr_reduce.specs.ClientState.{ClientState}
+use Rattle.nr_reduce.specs.Client.{calls_output, call_ends}
+use Rattle.nr_reduce.specs.Run.{client}
+use Rattle.nr_reduce.specs.Standing.{ClientRepresents, ClientRunsOut}
+use Rattle.nr_requester.specs.RequesterState.{RequesterSide, queue_of, kept_client, input_kept}
+
+-- Messages of which some end at these offsets of all output, as a queue has them of which the first `written` bytes are gone, and that begins
+-- with `hello` other bytes: those that haven't left, each with the bytes up to its end.
+pub record HasEnds (written hello : ℕ) (all queued : List ℕ) : Type 0 where
+  pub ends : queued ≡ ends_left (written + hello) all
+  pub count : length queued ≡ ends_waiting written all
+
+-- where the Sends of a client end in its output: those of the calls that wait for the server's hello come first after what is due
+abbrev pub sends_ends : Bool → LinkParameters → ClientState → List ℕ
+sends_ends true opened k = k.send_ends
+sends_ends false opened k = call_ends opened k.due 1 k.outstanding
+
+-- The side of the link of a client in this state, which hasn't ended. It never reads; its one receive is free, or has a Send that is begun.
+-- Sends of calls that were accepted before the server's hello wait in the queue.
+pub record LinkKeeps (opened : LinkParameters) (s : LinkState) (k : ClientState) : Type 0 where
+  pub side : s.side ≡ Initiator
+  pub has_hello : s.has_hello ≡ k.has_hello
+  pub receive_length : s.receive_queue.receive_length ≡ send_max
+  pub message_max : s.message_max ≡ send_max
+  pub received : s.receive_queue.received ≡ received_within send_max k.received
+  pub receive : s.receive_queue.free + sends_begun k.received.begun ≡ 1
+  pub none_lent : s.receive_queue.lent ≡ 0
+  pub none_waits : s.receive_queue.notices ≡ []
+  pub no_reads : s.reads ≡ []
+  pub number : s.send_queue.last_send ≡ msn_word k.calls_accepted
+  pub waiting : k.has_hello ≡ false → s.send_queue.fpdus ≡ calls_output opened 1 k.outstanding
+  pub none_due : k.has_hello ≡ false → (k.send_ends ≡ [])
+  pub sends : HasEnds k.written (length s.send_queue.hello) (sends_ends k.has_hello opened k) s.send_queue.send_ends
+  pub responses : HasEnds k.written (length s.send_queue.hello) k.response_ends s.send_queue.response_ends
+  pub left : s.send_queue.sends_left + length s.send_queue.send_ends ≡ k.calls_accepted
+  pub numbered : length (sends_ends k.has_hello opened k) ≡ k.calls_accepted
+  pub greeted : k.has_hello ≡ not (s.place == 0)
+
+-- A requester that hasn't run out of memory stands for these marks of its link: it keeps what the client of the run asks for; its input
+-- is what they fed to it, until it has ended; and its queue is the output that is due by them and isn't written.
+pub record RequesterRepresents (opened : LinkParameters) (link : ℕ) (h : RequesterSide) (run : List Mark) : Type 0 where
+  pub first : h.state.first_xid ≡ opened.first_xid
+  pub wished : h.state.wished ≡ opened.wished
+  pub kept : ClientRepresents opened link (kept_client h.state) (input_kept h) (queue_of h.state) run
+  pub sent : h.state.side.ended ≡ None → h.state.sent ≡ h.state.side.send_queue.sends_left
+  pub side : h.state.side.ended ≡ None → LinkKeeps opened h.state.side (client opened link run).state
+
+-- A requester that ran out of memory while it was fed stands for these marks. When it stopped, after the marks `stopped`, it hadn't ended.
+abbrev pub RequesterRunsOut : LinkParameters → ℕ → RequesterSide → (stopped run : List Mark) → Type 0
+RequesterRunsOut opened link h stopped run = ClientRunsOut opened link (kept_client h.state) (queue_of h.state) stopped run
+
+-- For every list of marks that the first one stood for, the second stands for that list with one mark more.
+abbrev pub StandsOn : RequesterSide → (ℕ → Mark) → RequesterSide → Type 0
+StandsOn before mark after = (opened : LinkParameters) (link : ℕ) (run : List Mark) → RequesterRepresents opened link before run → RequesterRepresents opened link after (run ++ mark link ∷ [])
+
+-- The same of one that ran out of memory.
+abbrev pub StaysOut : RequesterSide → (ℕ → Mark) → RequesterSide → Type 0
+StaysOut before mark after = (opened : LinkParameters) (link : ℕ) (stopped run : List Mark) → RequesterRunsOut opened link before stopped run → RequesterRunsOut opened link after stopped (run ++ mark link ∷ [])

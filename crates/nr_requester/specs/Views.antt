@@ -1,0 +1,30 @@
+-- What the code keeps, as the definitions see it.
+use Rattle.std.specs.Prelude.{ℕ, ◌^◌, ◌≤◌, length, List, [], ◌∷◌, ◌++◌, map, Option, None, Some}
+use Rattle.nr_regions.specs.RegisteredMemory.{Claim}
+use Rattle.nr_endpoint.specs.declared.offering.Claims.{Claims}
+use Rattle.nr_endpoint.specs.LinkState.{LinkSide}
+use Rattle.nr_requester.specs.declared.outstanding.OutstandingCall.{OutstandingCall}
+use Rattle.nr_requester.specs.RequesterState.{StoredCall, RequesterSide}
+
+abbrev pub stag_of : Option Claim → List ℕ
+stag_of None = []
+stag_of (Some claim) = claim.stag ∷ []
+
+abbrev pub stags_of : Claims → List ℕ
+stags_of c = stag_of c.read ++ (stag_of c.write ++ stag_of c.reply)
+
+abbrev pub stored_view : OutstandingCall → StoredCall
+stored_view c = record { xid = c.xid; call = c.call; offered = c.offered; stags = stags_of c.claims }
+
+-- its numbers are in range, and no more calls are outstanding than credits can be granted
+pub record AreInRange (next_xid grant : ℕ) (outstanding : List OutstandingCall) : Type 0 where
+  pub xid : next_xid ≤ 2 ^ 32
+  pub few : length outstanding ≤ 64
+  pub granted : grant ≤ 64
+
+abbrev pub requester_view : LinkSide → (sent wished first_xid next_xid grant : ℕ) → List OutstandingCall → RequesterSide
+requester_view link sent wished first_xid next_xid grant outstanding = record {
+  awaited = link.awaited;
+  rest = link.rest;
+  state = record { side = link.state; sent = sent; wished = wished; first_xid = first_xid; next_xid = next_xid; grant = grant; outstanding = map stored_view outstanding };
+}

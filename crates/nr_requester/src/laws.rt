@@ -1,0 +1,27 @@
+//! Laws of a requester.
+
+ghost use Rattle.nr_requester.specs.Laws.{Begins, AnswersAsClient, CountsAsClient, SubmitIsAMark, PieceIsAMark, DrainIsAMark, RevokeIsAMark, RevokeStaysOut, OthersLeaveIt, SubmitKeepsLaw, DrainKeepsLaw, DrainOutKeepsLaw, QueueIsAllDue};
+
+/// A requester stands for the marks of its link, from its opening on: what it keeps is what the client of the run asks for, and what it may
+/// write is what is due and not yet written. It answers a call as that client does, and knows how many calls are outstanding
+/// and granted.
+pub fn requesters_stand_for_marks()
+    ensures begins { Begins }
+    ensures answer { AnswersAsClient }
+    ensures counts { CountsAsClient }
+    ensures submit { SubmitIsAMark }
+    ensures piece { PieceIsAMark }
+    ensures drain { DrainIsAMark }
+    ensures revoke { RevokeIsAMark }
+    ensures revoke_out { RevokeStaysOut }
+    ensures others { OthersLeaveIt }
+{}
+
+/// A requester keeps the law of its side, so far: a call that it accepts keeps it, and the last grant; and so does a drain, also if it ran
+/// out of memory. All that it may write is all that is due.
+pub fn requesters_keep_their_law()
+    ensures submit { SubmitKeepsLaw }
+    ensures drain { DrainKeepsLaw }
+    ensures drain_out { DrainOutKeepsLaw }
+    ensures queue { QueueIsAllDue }
+{}

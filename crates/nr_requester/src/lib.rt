@@ -1,0 +1,11 @@
+//! The client end of a link.
+#![tactic(auto)]
+
+mod laws;
+mod messages;
+mod outstanding;
+mod requester;
+mod submitting;
+
+pub use laws::{requesters_keep_their_law, requesters_stand_for_marks};
+pub use requester::Requester;

@@ -1,0 +1,15 @@
+//! A call that is outstanding.
+
+use nr_endpoint::Claims;
+use nr_header::ChunkLists;
+use nr_reduce::Call;
+
+/// A call that is outstanding: accepted, and no message of its xid was received. The call, until its memory is revoked; the lists
+/// that its reply has to repeat; its regions.
+#[derive(Drop)]
+pub struct OutstandingCall {
+    pub xid: u32,
+    pub call: Option<Call>,
+    pub offered: ChunkLists,
+    pub claims: Claims,
+}

@@ -1,0 +1,160 @@
+//! The client end of a link: a value, how it is opened and drained.
+
+ghost use Rattle.std.specs.Prelude.{◌≡◌, ℕ, ◌<◌, ◌≤◌, [], length, take, List, None, IfOk, OnOk, MatchResult};
+ghost use Rattle.std.specs.Io.KnownBytes.{Appends};
+ghost use Rattle.nr_outside.specs.Faults.{Rises};
+ghost use Rattle.nr_wire.specs.declared.hello.Side.TheVariants.{Initiator};
+ghost use Rattle.nr_endpoint.specs.declared.fault.DrainFault.TheVariants as drains;
+ghost use Rattle.nr_reduce.specs.declared.mark.LinkParameters.{LinkParameters};
+ghost use Rattle.nr_reduce.specs.declared.mark.Mark.TheVariants as marks;
+ghost use Rattle.nr_requester.specs.RequesterState.{queue_of};
+ghost use Rattle.nr_requester.specs.Standing.{RequesterRepresents, StandsOn, StaysOut};
+ghost use Rattle.nr_endpoint.specs.LinkState.{has_ended};
+ghost use Rattle.nr_requester.specs.AfterCalls.{opened_as, after_drain, sent_unless};
+
+use crate::outstanding::OutstandingCall;
+use nr_endpoint::{DrainFault, Endpoint};
+use nr_link::End;
+use nr_outside::Sink;
+use nr_wire::Side;
+use nr_xdr::Memory;
+use std::alloc::Global;
+use std::marker::Model;
+
+/// The most calls that are outstanding: no more credits count.
+const CALLS_MAX: usize = 64;
+
+/// The client end of a link.
+#[derive(Drop)]
+pub struct Requester {
+    pub(crate) alloc: Global,
+    pub(crate) endpoint: Endpoint,
+    // How many Sends had wholly left when the link ended, or have by now.
+    pub(crate) sent: u64,
+    pub(crate) wished: u32,
+    pub(crate) first_xid: u32,
+    pub(crate) next_xid: u64,
+    pub(crate) grant: u32,
+    pub(crate) outstanding: Vec<OutstandingCall>,
+}
+
+impl Model for Requester {
+    ghost use Rattle.nr_requester.specs.RequesterState.{RequesterSide};
+    ghost use Rattle.nr_requester.specs.Views.{requester_view};
+    ghost use Rattle.std.specs.Coded.{codes};
+    ghost use Rattle.nr_endpoint.specs.Codes.{state_code};
+
+    ghost Value = { RequesterSide };
+
+    ghost coded = { Prim.hlevel (codes, state_code) };
+
+    ghost view = { λ r. requester_view r.endpoint.link r.sent r.wished r.first_xid r.next_xid r.grant r.outstanding.items };
+
+    ghost use Rattle.nr_requester.specs.Views.{AreInRange};
+
+    ghost invariant = { λ r. AreInRange r.next_xid r.grant r.outstanding.items };
+}
+
+impl Requester {
+    /// A client end whose first call has this xid and whose first region has this STag, which isn't 0. It wishes for this many
+    /// credits. Its hello waits to be drained.
+    pub fn open_at(
+        alloc: Global,
+        first_xid: u32,
+        first_stag: u32,
+        credits: u32,
+    ) -> Result<Requester, Memory>
+        requires { 0 < first_stag }
+        ensures state { IfOk result (λ r. r ≡ opened_as first_xid first_stag credits) }
+        ensures stands { IfOk result (λ r. (opened : LinkParameters) (link : ℕ) → opened.first_xid ≡ first_xid → opened.first_stag ≡ first_stag → opened.wished ≡ credits → RequesterRepresents opened link r []) }
+    {
+        Requester::new(alloc, first_xid, first_stag, credits)
+    }
+
+    /// A client end whose first xid and first STag are 1.
+    pub fn open(alloc: Global, credits: u32) -> Result<Requester, Memory>
+        ensures state { IfOk result (λ r. r ≡ opened_as 1 1 credits) }
+        ensures stands { IfOk result (λ r. (opened : LinkParameters) (link : ℕ) → opened.first_xid ≡ 1 → opened.first_stag ≡ 1 → opened.wished ≡ credits → RequesterRepresents opened link r []) }
+    {
+        Requester::open_at(alloc, 1, 1, credits)
+    }
+
+    #[tactic(auto, unfolding(crate::specs::AfterCalls::opened_as, nr_endpoint::specs::LinkState::initial_link))]
+    fn new(
+        alloc: Global,
+        first_xid: u32,
+        first_stag: u32,
+        credits: u32,
+    ) -> Result<Requester, Memory>
+        requires { 0 < first_stag }
+        ensures { IfOk result (λ r. r ≡ opened_as first_xid first_stag credits) }
+    {
+        let endpoint = Endpoint::open(alloc, Side::Initiator, 1, first_stag)?;
+        Ok(Requester {
+            alloc,
+            endpoint,
+            sent: 0,
+            wished: credits,
+            first_xid,
+            next_xid: u64::from(first_xid),
+            grant: 1,
+            outstanding: Vec::with_capacity(alloc, CALLS_MAX)?,
+        })
+    }
+
+    /// Why it takes no more input, once it has ended.
+    pub fn end(&self) -> Option<End>
+        ensures { result ≡ self.now.state.side.ended }
+    {
+        self.endpoint.end()
+    }
+
+    /// How many calls are outstanding: accepted, and no message of their xid was received.
+    pub fn outstanding(&self) -> usize
+        ensures { result ≡ length self.now.state.outstanding }
+    {
+        self.outstanding.len()
+    }
+
+    /// How many credits the server grants: 1 before its first message.
+    pub fn grant(&self) -> u32
+        ensures { result ≡ self.now.state.grant }
+    {
+        self.grant
+    }
+
+    /// How many bytes of the server's frame that isn't complete are staged. 0 once it has ended.
+    pub fn staged(&self) -> usize
+        ensures { result ≡ length self.now.rest }
+    {
+        self.endpoint.staged()
+    }
+
+    /// Hands the output to a sink, in order: for `Ok` all that may be written, else the first bytes of it, and the rest stays. Takes no
+    /// memory: the only fault is the sink's.
+    pub fn drain_into<K: Sink>(&mut self, sink: &mut K) -> Result<(), DrainFault>
+        ensures taken { (n : ℕ) × (n ≤ length (queue_of self.old.state))
+            × Appends (K.taken sink.old) (K.taken sink.new) (take n (queue_of self.old.state))
+            × (self.new ≡ after_drain n self.old)
+            × StandsOn self.old (λ link. marks.Wrote link Initiator (take n (queue_of self.old.state))) self.new
+            × StaysOut self.old (λ link. marks.Wrote link Initiator (take n (queue_of self.old.state))) self.new
+            × OnOk result (n ≡ length (queue_of self.old.state)) }
+        ensures counted { MatchResult result
+            (λ _. K.faults sink.new ≡ K.faults sink.old) (λ e. (e ≡ drains.LinkWrite) × Rises (K.faults sink.old) (K.faults sink.new)) }
+        ensures never_falls { K.faults sink.old ≤ K.faults sink.new }
+    {
+        let drained = self.endpoint.drain_into(sink);
+        self.sent = sent_by_now(&self.endpoint, self.sent);
+        drained
+    }
+}
+
+/// How many Sends have wholly left, or had when the link ended.
+fn sent_by_now(endpoint: &Endpoint, sent: u64) -> u64
+    ensures { result ≡ sent_unless (has_ended endpoint.now.link.state) sent endpoint.now.link.state.send_queue.sends_left }
+{
+    match endpoint.end() {
+        Some(_) => sent,
+        None => endpoint.sends_left(),
+    }
+}
