@@ -1,8 +1,8 @@
 -- A requester that was fed a piece stands for the marks with that Fed.
-use Rattle.std.proofs.Common.{◌≡◌, ℕ, ◌+◌, ◌<◌, ◌≤◌, Bool, true, false, cond, ◌&&◌, List, [], ◌∷◌, ◌++◌, length, take, drop, map, Option, None, Some, inl, inr, refl, sym, ap, subst, ◌∙◌, arith, append_assoc, length-append}
+use Rattle.std.proofs.Common.{◌≡◌, ℕ, ◌+◌, ◌<◌, ◌≤◌, Bool, true, false, cond, ◌&&◌, eqb, List, [], ◌∷◌, ◌++◌, length, take, drop, map, Option, None, Some, inl, inr, refl, sym, ap, subst, ◌∙◌, arith, append_assoc, length-append}
 use Rattle.std.specs.Prelude.{is_some}
 use Rattle.std.specs.List.{concat}
-use Rattle.std.proofs.lemmas.List.{append-nil, take_at, take-append-le, take-append-drop}
+use Rattle.std.proofs.lemmas.List.{append-nil, map-append, take_at, take-append-le, take-append-drop}
 use Rattle.std.proofs.lemmas.Bool.{cases_lt}
 use Rattle.nr_wire.specs.declared.hello.Side.TheVariants.{Initiator, Responder}
 use Rattle.nr_wire.specs.declared.stream.Awaited.{Awaited}
@@ -17,22 +17,26 @@ use Rattle.nr_link.proofs.Inputs.{input_of_count}
 use Rattle.nr_reduce.specs.declared.mark.LinkParameters.{LinkParameters}
 use Rattle.nr_reduce.specs.declared.mark.Mark.{Mark}
 use Rattle.nr_reduce.specs.declared.mark.Mark.TheVariants as marks
-use Rattle.nr_reduce.specs.History.{bytes_received, fed_at}
+use Rattle.nr_reduce.specs.History.{bytes_received, written_at, fed_at}
 use Rattle.nr_reduce.specs.Events.{RunEvent}
 use Rattle.nr_reduce.specs.Events.RunEvent.{FrameReceived}
 use Rattle.nr_reduce.specs.EndRules.{EndState, end_state_after, output_for_all, live}
 use Rattle.nr_reduce.specs.ClientState.{ClientState}
 use Rattle.nr_reduce.specs.Client.{client_rules}
 use Rattle.nr_reduce.specs.Run.{client}
-use Rattle.nr_reduce.specs.KeptClient.{ClientKeeps}
+use Rattle.nr_reduce.specs.KeptClient.{KeptClient, ClientKeeps}
 use Rattle.nr_reduce.specs.Standing.{input_events, ClientRepresents}
-use Rattle.nr_reduce.specs.StandingLaws.{GoesByInput}
-use Rattle.nr_reduce.proofs.Standing.{itself, client_stands, client_by_input_lem}
-use Rattle.nr_reduce.proofs.Steps.{ended_stays}
+use Rattle.nr_reduce.specs.StandingLaws.{GoesOn, GoesByInput}
+use Rattle.nr_reduce.proofs.Standing.{itself, client_stands, client_by_input_lem, client_runs_out_lem}
+use Rattle.nr_reduce.proofs.Steps.{ended_stays, output_for_all_append}
+use Rattle.nr_reduce.proofs.Pieces.{in_parts}
+use Rattle.nr_reduce.specs.Matched.{IsPrefixOf}
+use Rattle.nr_link.specs.Frames.{Frame}
+use Rattle.nr_reduce.proofs.Releasing.{kept_stays}
 use Rattle.nr_requester.specs.RequesterState.{RequesterState, RequesterSide, queue_of, kept_client, input_kept}
 use Rattle.nr_requester.specs.Standing.{LinkKeeps, RequesterRepresents}
-use Rattle.nr_requester.specs.AfterPiece.{requester_ended, after_frame, after_piece}
-use Rattle.nr_requester.specs.Laws.{PieceIsAMark}
+use Rattle.nr_requester.specs.AfterPiece.{requester_ended, after_frame, after_piece, out_of_memory}
+use Rattle.nr_requester.specs.Laws.{PieceIsAMark, PieceRunsOut}
 use Rattle.nr_requester.proofs.Marks.{state_of, lives_as, due_is, own_events}
 use Rattle.nr_requester.proofs.Frames.{Kept, KeptEnd}
 use Rattle.nr_requester.proofs.Feeding.{IsAwaited, IsBeyond, Along, frames_along, frame_some, keeps_later}
@@ -194,3 +198,45 @@ module _ (opened : LinkParameters) (link : ℕ) (h : RequesterSide) (run : List 
 
 pub piece_is_a_mark : PieceIsAMark
 piece_is_a_mark h piece opened link run s = fed_stands opened link h run piece s
+
+-- ---- A piece for which it runs out of memory
+
+pub piece_runs_out : PieceRunsOut
+unfolding out_of_memory
+piece_runs_out h piece n lives opened link run s =
+    let first : List ℕ = take n piece in
+    let input : InputState = input_kept h in
+    let e : EndState ClientState = client opened link run in
+    let after : RequesterSide = after_piece h first in
+    let g : Goes opened link h run first s = goes opened link h run first s in
+    let next : KeptClient = kept_client (out_of_memory after).state in
+    let kept_is : kept_client after.state ≡ record next { ended = None } = ap (λ (x : Option End). record next { ended = x }) lives in
+    let on : GoesOn (ClientKeeps opened) (client_rules opened) link Initiator (record next { ended = None }) input (queue_of h.state) (queue_of after.state) (marks.Fed link Initiator first) e (length (bytes_received link Initiator run)) =
+    record {
+      keeps = subst (λ (k : KeptClient). ClientKeeps opened k (end_state_after (client_rules opened) e (input_events link Initiator input (marks.Fed link Initiator first))) (length (bytes_received link Initiator run) + length (fed_at link Initiator (marks.Fed link Initiator first)))) kept_is g.keeps.client;
+      output = g.queue;
+    } in
+    client_runs_out_lem opened link (kept_client h.state) next input (queue_of h.state) (queue_of after.state) (queue_of after.state) run piece n s.kept on
+    ([], append-nil (queue_of after.state))
+    (later_output opened link input e (queue_of h.state) (queue_of after.state) first (drop n piece) piece (take-append-drop n piece) g.queue)
+    refl
+  where
+    later_output : (opened : LinkParameters) (link : ℕ) (input : InputState) (e : EndState ClientState) (queue left first more piece : List ℕ) → first ++ more ≡ piece →
+        left ≡ queue ++ output_for_all (client_rules opened) e (input_events link Initiator input (marks.Fed link Initiator first)) →
+        IsPrefixOf left (queue ++ output_for_all (client_rules opened) e (input_events link Initiator input (marks.Fed link Initiator piece)))
+    later_output opened link input e queue left first more piece is left_is =
+        let fs : List RunEvent = map FrameReceived (input_frames input first) in
+        let gs : List RunEvent = map FrameReceived (input_frames (input_after input first) more) in
+        let all : input_events link Initiator input (marks.Fed link Initiator piece) ≡ fs ++ gs =
+        own_events link (map FrameReceived (input_frames input piece))
+        ∙ ap (λ (xs : List ℕ). map FrameReceived (input_frames input xs)) (sym is)
+        ∙ ap (λ (frames : List Frame). map FrameReceived frames) (in_parts input first more).0
+        ∙ map-append FrameReceived (input_frames input first) (input_frames (input_after input first) more) in
+        let here : left ≡ queue ++ output_for_all (client_rules opened) e fs = left_is ∙ ap (λ (es : List RunEvent). queue ++ output_for_all (client_rules opened) e es) (own_events link fs) in
+        let rest : List ℕ = output_for_all (client_rules opened) (end_state_after (client_rules opened) e fs) gs in (
+          rest,
+          ap (λ (xs : List ℕ). xs ++ rest) here
+              ∙ append_assoc queue (output_for_all (client_rules opened) e fs) rest
+              ∙ ap (λ (xs : List ℕ). queue ++ xs) (sym (output_for_all_append (client_rules opened) e fs gs))
+              ∙ ap (λ (es : List RunEvent). queue ++ output_for_all (client_rules opened) e es) (sym all),
+        )

@@ -16,3 +16,5 @@ pub mod Greeting
 pub mod Feeding
 pub mod Fed
 pub mod OwnLaw
+pub mod HeldRegions
+pub mod OwnOffers

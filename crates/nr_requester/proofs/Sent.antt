@@ -1,5 +1,5 @@
 -- A call that was sent by its plan: what is kept, as the definitions see it.
-use Rattle.std.proofs.Common.{◌≡◌, ℕ, ◌+◌, Bool, true, false, cond, Option, None, List, [], ◌∷◌, ◌++◌, map, replicate, Some, refl, sym, ap, ◌∙◌, arith}
+use Rattle.std.proofs.Common.{◌≡◌, ℕ, ◌+◌, ◌^◌, ◌<◌, ◌≤◌, Bool, true, false, cond, Option, None, List, [], ◌∷◌, ◌++◌, length, map, replicate, Some, refl, sym, ap, ◌∙◌, arith, length-append}
 use Rattle.std.specs.Prelude.{is_some}
 use Rattle.nr_regions.specs.declared.right.Right.{Right}
 use Rattle.nr_regions.specs.declared.right.Right.TheVariants.{Fetch, Fill}
@@ -41,7 +41,7 @@ registered_offered m stag p =
     ∙ ap (λ (x : RegisteredMemory). registered_all x y) (one_registered (with_read m (offered_of p)) (has_segment p.write) (write_stag stag p) Fill (replicate (total p.write) 0))
     ∙ one_registered (with_write_buffer m (offered_of p)) (has_segment p.reply) (reply_stag stag p) Fill (replicate (total p.reply) 0)
 
-next_buffer : (m : RegisteredMemory) (right : Right) (b : Bool) (bytes : List ℕ) → (with_buffer m right (some_if b bytes)).next ≡ m.next + one_if b
+pub next_buffer : (m : RegisteredMemory) (right : Right) (b : Bool) (bytes : List ℕ) → (with_buffer m right (some_if b bytes)).next ≡ m.next + one_if b
 unfolding after_register
 next_buffer m right true bytes = refl
 next_buffer m right false bytes = omega arith
@@ -105,3 +105,8 @@ offered_view link link2 xid credit p message offered lives is said are =
     ∙ sym (offered_state link (after_offer message offered s) message offered refl)
     ∙ (λ i. with_state (record s { memory = with_offered s.memory (are i); send_queue = cond (live_side i) s.send_queue (with_send (said i) s.send_queue) }) link)
     ∙ ap (λ (m : RegisteredMemory). with_state (record s { memory = m; send_queue = with_send (call_message xid credit s.memory.next p) s.send_queue }) link) (sym (registered_offered s.memory s.memory.next p))
+
+-- its memory, also if it has ended
+pub offered_memory : (link link2 : LinkSide) (message : List ℕ) (offered : Offered) → link2 ≡ after_calls link (offer_calls message offered) → link2.state.memory ≡ with_offered link.state.memory offered
+offered_memory link link2 message offered is =
+    ap (λ (l : LinkSide). l.state.memory) (is ∙ sym (offered_state link (after_offer message offered link.state) message offered refl))

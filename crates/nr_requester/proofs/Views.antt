@@ -18,7 +18,7 @@ use Rattle.nr_requester.specs.declared.outstanding.OutstandingCall.{OutstandingC
 use Rattle.nr_requester.specs.RequesterState.{StoredCall, RequesterSide, queue_of}
 use Rattle.nr_requester.specs.Standing.{RequesterRepresents, RequesterRunsOut, StandsOn, StaysOut}
 use Rattle.nr_requester.specs.AfterCalls.{opened_as, stored_call, submitted, after_submit, sent_unless, after_drain}
-use Rattle.nr_requester.specs.Views.{stags_of, stored_view, requester_view, AreInRange}
+use Rattle.nr_requester.specs.Views.{stags_of, stored_view, requester_view}
 use Rattle.nr_requester.proofs.Marks.{begins, drain_is_a_mark}
 
 pub if_ok : {T E : Type 0} {P Q : T → Type 0} (r : Result T E) → ((t : T) → P t → Q t) → IfOk r P → IfOk r Q
@@ -81,11 +81,6 @@ drain_taken h link link2 sent sent2 wished first xid grant n items had has r is 
     )
 
 -- ---- After an accepted call
-
-pub sent_range : (xid grant : ℕ) (items items2 : List OutstandingCall) (o : OutstandingCall) → AreInRange xid grant items → xid < 2 ^ 32 → length items < grant → items2 ≡ items ++ o ∷ [] → AreInRange (xid + 1) grant items2
-sent_range xid grant items items2 o r fits credit more =
-    let len = ap (λ (xs : List OutstandingCall). length xs) more ∙ length-append items (o ∷ []) in
-    record { xid = omega (arith, fits); few = (let g = r.granted in omega (arith, len, credit, g)); granted = r.granted }
 
 map_one : (xs : List OutstandingCall) (o : OutstandingCall) → map stored_view (xs ++ o ∷ []) ≡ map stored_view xs ++ stored_view o ∷ []
 map_one [] o = refl

@@ -59,3 +59,7 @@ after_frame r Fpdu frame = after_fpdu r frame
 
 unfoldable pub after_piece : RequesterSide → List ℕ → RequesterSide
 after_piece h piece = feeding_after requester_ended after_frame h piece
+
+-- memory ran out: the side has ended, and keeps no input
+unfoldable pub out_of_memory : RequesterSide → RequesterSide
+out_of_memory h = record { awaited = h.awaited; rest = []; state = record h.state { side = record h.state.side { ended = Some ends.Memory } } }

@@ -19,7 +19,7 @@ use Rattle.nr_reduce.specs.Credits.{calls_outstanding, credits_granted, KeepsGra
 use Rattle.nr_requester.specs.RequesterState.{RequesterSide, queue_of}
 use Rattle.nr_requester.specs.Standing.{RequesterRepresents, RequesterRunsOut, StandsOn, StaysOut}
 use Rattle.nr_requester.specs.AfterCalls.{opened_as, after_submit, after_drain, after_revoke}
-use Rattle.nr_requester.specs.AfterPiece.{after_piece}
+use Rattle.nr_requester.specs.AfterPiece.{after_piece, out_of_memory}
 use Rattle.nr_requester.specs.Answers.{answer_of, plan_under}
 
 abbrev pub Begins : Type 0
@@ -49,6 +49,11 @@ DrainIsAMark = (h : RequesterSide) (n : ℕ) → n ≤ length (queue_of h.state)
 -- a piece of the server's stream,
 abbrev pub PieceIsAMark : Type 0
 PieceIsAMark = (h : RequesterSide) (piece : List ℕ) → StandsOn h (λ link. marks.Fed link Initiator piece) (after_piece h piece)
+
+-- also if memory runs out after its first n bytes, when the requester hasn't ended,
+abbrev pub PieceRunsOut : Type 0
+PieceRunsOut = (h : RequesterSide) (piece : List ℕ) (n : ℕ) → (after_piece h (take n piece)).state.side.ended ≡ None → (opened : LinkParameters) (link : ℕ) (run : List Mark) → RequesterRepresents opened link h run →
+    RequesterRunsOut opened link (out_of_memory (after_piece h (take n piece))) (run ++ marks.Fed link Initiator (take n piece) ∷ []) (run ++ marks.Fed link Initiator piece ∷ [])
 
 -- a revoke,
 abbrev pub RevokeIsAMark : Type 0

@@ -4,5 +4,6 @@ pub mod AfterCalls
 pub mod AfterPiece
 pub mod Answers
 pub mod Sending
+pub mod HeldClaims
 pub mod Views
 pub mod Laws

@@ -1,10 +1,12 @@
 -- What the code keeps, as the definitions see it.
-use Rattle.std.specs.Prelude.{ℕ, ◌^◌, ◌≤◌, length, List, [], ◌∷◌, ◌++◌, map, Option, None, Some}
+use Rattle.std.specs.Prelude.{◌≡◌, ℕ, ◌+◌, ◌^◌, ◌≤◌, length, List, [], ◌∷◌, ◌++◌, map, Option, None, Some}
+use Rattle.std.specs.List.{AllByRecursion}
 use Rattle.nr_regions.specs.RegisteredMemory.{Claim}
 use Rattle.nr_endpoint.specs.declared.offering.Claims.{Claims}
 use Rattle.nr_endpoint.specs.LinkState.{LinkSide}
 use Rattle.nr_requester.specs.declared.outstanding.OutstandingCall.{OutstandingCall}
 use Rattle.nr_requester.specs.RequesterState.{StoredCall, RequesterSide}
+use Rattle.nr_requester.specs.HeldClaims.{AreHeldFrom, all_claims, OffersOwn}
 
 abbrev pub stag_of : Option Claim → List ℕ
 stag_of None = []
@@ -16,11 +18,16 @@ stags_of c = stag_of c.read ++ (stag_of c.write ++ stag_of c.reply)
 abbrev pub stored_view : OutstandingCall → StoredCall
 stored_view c = record { xid = c.xid; call = c.call; offered = c.offered; stags = stags_of c.claims }
 
--- its numbers are in range, and no more calls are outstanding than credits can be granted
-pub record AreInRange (next_xid grant : ℕ) (outstanding : List OutstandingCall) : Type 0 where
+-- What holds of each requester: its numbers are in range, and no more calls are outstanding than credits can be granted; no event waits
+-- and no receive is lent; the regions of its calls are held, and are those that the calls offer.
+pub record IsSound (link : LinkSide) (next_xid grant : ℕ) (outstanding : List OutstandingCall) : Type 0 where
   pub xid : next_xid ≤ 2 ^ 32
   pub few : length outstanding ≤ 64
   pub granted : grant ≤ 64
+  pub none_waits : link.state.receive_queue.notices ≡ []
+  pub none_lent : link.state.receive_queue.lent ≡ 0
+  pub held : AreHeldFrom link.state.memory 0 (all_claims outstanding)
+  pub offers : AllByRecursion OffersOwn outstanding
 
 abbrev pub requester_view : LinkSide → (sent wished first_xid next_xid grant : ℕ) → List OutstandingCall → RequesterSide
 requester_view link sent wished first_xid next_xid grant outstanding = record {

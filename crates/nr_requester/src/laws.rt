@@ -1,6 +1,6 @@
 //! Laws of a requester.
 
-ghost use Rattle.nr_requester.specs.Laws.{Begins, AnswersAsClient, CountsAsClient, SubmitIsAMark, PieceIsAMark, DrainIsAMark, RevokeIsAMark, RevokeStaysOut, OthersLeaveIt, SubmitKeepsLaw, DrainKeepsLaw, DrainOutKeepsLaw, QueueIsAllDue};
+ghost use Rattle.nr_requester.specs.Laws.{Begins, AnswersAsClient, CountsAsClient, SubmitIsAMark, PieceIsAMark, PieceRunsOut, DrainIsAMark, RevokeIsAMark, RevokeStaysOut, OthersLeaveIt, SubmitKeepsLaw, DrainKeepsLaw, DrainOutKeepsLaw, QueueIsAllDue};
 
 /// A requester stands for the marks of its link, from its opening on: what it keeps is what the client of the run asks for, and what it may
 /// write is what is due and not yet written. It answers a call as that client does, and knows how many calls are outstanding
@@ -11,6 +11,7 @@ pub fn requesters_stand_for_marks()
     ensures counts { CountsAsClient }
     ensures submit { SubmitIsAMark }
     ensures piece { PieceIsAMark }
+    ensures piece_out { PieceRunsOut }
     ensures drain { DrainIsAMark }
     ensures revoke { RevokeIsAMark }
     ensures revoke_out { RevokeStaysOut }

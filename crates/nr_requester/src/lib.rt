@@ -6,6 +6,8 @@ mod messages;
 mod outstanding;
 mod requester;
 mod submitting;
+mod ticket;
 
 pub use laws::{requesters_keep_their_law, requesters_stand_for_marks};
 pub use requester::Requester;
+pub use ticket::Ticket;

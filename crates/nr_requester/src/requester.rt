@@ -50,9 +50,9 @@ impl Model for Requester {
 
     ghost view = { λ r. requester_view r.endpoint.link r.sent r.wished r.first_xid r.next_xid r.grant r.outstanding.items };
 
-    ghost use Rattle.nr_requester.specs.Views.{AreInRange};
+    ghost use Rattle.nr_requester.specs.Views.{IsSound};
 
-    ghost invariant = { λ r. AreInRange r.next_xid r.grant r.outstanding.items };
+    ghost invariant = { λ r. IsSound r.endpoint.link r.next_xid r.grant r.outstanding.items };
 }
 
 impl Requester {

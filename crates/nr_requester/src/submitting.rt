@@ -11,12 +11,14 @@ ghost use Rattle.nr_reduce.specs.declared.mark.Mark.TheVariants as marks;
 ghost use Rattle.nr_requester.specs.AfterCalls.{submitted, after_submit};
 ghost use Rattle.nr_requester.specs.Answers.{answer_of, answer_by_plan, plan_under, WasSent};
 ghost use Rattle.nr_requester.specs.Sending.{AreFew, IsPlan, HasNumbers, answer_for, offered_of, xid_word};
+ghost use Rattle.nr_requester.specs.HeldClaims.{SentHeld, IsOfferOf};
 ghost use Rattle.nr_requester.specs.Standing.{StandsOn};
 ghost use Rattle.nr_requester.specs.Views.{stags_of};
 
 use crate::messages::{call_bytes, lists_of, message_of, offered_of, regions_needed};
 use crate::outstanding::OutstandingCall;
 use crate::requester::Requester;
+use crate::ticket::Ticket;
 use nr_endpoint::{Claims, Endpoint, Offered};
 use nr_header::ChunkLists;
 use nr_reduce::{Call, Form, PayloadFault, Plan, Refused, plan};
@@ -73,6 +75,8 @@ fn send_plan(
     ensures link { OnOk result (endpoint.new.link ≡ with_state (submitted endpoint.old.link.state (call_message xid credit endpoint.old.link.state.memory.next plan) (buffers endpoint.old.link.state.memory.next plan)) endpoint.old.link) }
     ensures lists { IfOk result (λ s. s.lists ≡ lists_of endpoint.old.link.state.memory.next plan) }
     ensures claims { IfOk result (λ s. stags_of s.claims ≡ map (λ b. b.stag) (buffers endpoint.old.link.state.memory.next plan)) }
+    ensures held { IfOk result (λ s. SentHeld endpoint.old.link.state.memory endpoint.new.link.state.memory s.claims) }
+    ensures offer { IfOk result (λ s. IsOfferOf s.claims s.lists) }
     ensures err { OnErr result (endpoint.new.link ≡ endpoint.old.link) }
 {
     let stag = NUMBERS_END - endpoint.regions().stags_left();
@@ -211,10 +215,9 @@ impl Requester {
         }
     }
 
-    /// Submits a call in a form; answers the xid under which it goes out. Refused, in this order: the link has ended; the call is too
-    /// large; no credit is left; too few xids or STags are left. Or memory ran out. A refused call comes back, and nothing
-    /// changes.
-    pub fn submit(&mut self, call: Call, form: Form) -> Result<u32, (Call, Refused)>
+    /// Submits a call in a form. Refused, in this order: the link has ended; the call is too large; no credit is left; too few xids or
+    /// STags are left. Or memory ran out. A refused call comes back, and nothing changes.
+    pub fn submit(&mut self, call: Call, form: Form) -> Result<Ticket, (Call, Refused)>
         requires { CanWriteCred call.cred }
         ensures accepted { IfOk result (λ xid. answer_of self.old.state call form ≡ submissions.Accepted xid) }
         ensures refused { IfErr result (λ e. e.1 ≢ refusals.Memory → answer_of self.old.state call form ≡ submissions.Refused e.1) }
@@ -222,6 +225,9 @@ impl Requester {
         ensures err { OnErr result (self.new ≡ self.old) }
         ensures stands { IfOk result (λ xid. StandsOn self.old (λ link. marks.Submit link call form (submissions.Accepted xid)) self.new) }
     {
-        self.submit_as(call, &form)
+        match self.submit_as(call, &form) {
+            Ok(xid) => Ok(Ticket::new(xid)),
+            Err(refused) => Err(refused),
+        }
     }
 }

@@ -1,9 +1,6 @@
-use Rattle.std.proofs.Common.{arith, ap, length, List}
-use Rattle.nr_requester.specs.declared.outstanding.OutstandingCall.{OutstandingCall}
+use Rattle.std.proofs.Common.{arith}
+use Rattle.nr_requester.proofs.HeldRegions.{opened_sound}
 use Rattle.nr_requester.proofs.requester.Requester.new.Goals as goal
 
 pub invariant_of-result : goal.invariant_of-result
-invariant_of-result c =
-    let none = ap (λ (xs : List OutstandingCall). length xs) c.in_ok-with_capacity.ensures.items in
-    let xid = c.from.ensures in
-    record { xid = omega (arith, xid); few = omega (arith, none); granted = omega arith }
+invariant_of-result c = opened_sound c.in_ok-endpoint.endpoint.link c.args.first_xid c.args.first_stag c.from.result c.in_ok-with_capacity.field-0.items c.in_ok-endpoint.ensures.state c.from.ensures (omega arith) c.in_ok-with_capacity.ensures.items

@@ -1,0 +1,129 @@
+-- The registrations of the outstanding calls stay held.
+use Rattle.std.proofs.Common.{◌≡◌, ◌≢◌, ℕ, ◌+◌, ◌<◌, ◌≤◌, ◌^◌, List, [], ◌∷◌, ◌++◌, length, Option, None, Some, refl, sym, ap, subst, ◌∙◌, arith, append-nil, append_assoc, length-append}
+use Rattle.std.specs.List.{AllByRecursion}
+use Rattle.nr_regions.specs.declared.right.Right.{Right}
+use Rattle.nr_regions.specs.declared.right.Right.TheVariants.{Fetch, Fill}
+use Rattle.nr_regions.specs.RegisteredMemory.{RegisteredMemory, Claim, IsHeld, held_region, after_register, claim_of}
+use Rattle.nr_regions.proofs.Holding.{register_other, held_after_register}
+use Rattle.nr_endpoint.specs.declared.offering.Offered.{Offered}
+use Rattle.nr_endpoint.specs.declared.offering.Claims.{Claims}
+use Rattle.nr_wire.specs.declared.hello.Side.TheVariants.{Initiator}
+use Rattle.nr_endpoint.specs.LinkState.{LinkSide, initial_link}
+use Rattle.nr_endpoint.specs.ReceiveQueue.{ReceiveQueue}
+use Rattle.nr_endpoint.specs.Calls.{after_call}
+use Rattle.nr_endpoint.specs.Calls.Call.{Drain}
+use Rattle.nr_endpoint.specs.Offering.{with_buffer, with_read, with_write_buffer, with_offered, claim_if, claims_of}
+use Rattle.nr_requester.specs.declared.outstanding.OutstandingCall.{OutstandingCall}
+use Rattle.nr_requester.specs.HeldClaims.{claim_list, call_claims, all_claims, AreHeldFrom, SentHeld, OffersOwn}
+use Rattle.nr_requester.specs.Views.{IsSound}
+
+-- what is held in one memory is held in the other
+abbrev pub Keeps : RegisteredMemory → RegisteredMemory → Type 0
+Keeps m n = (m.next ≤ n.next) × ((c : Claim) → IsHeld m c → IsHeld n c)
+
+from_lower : (m : RegisteredMemory) (low lower : ℕ) (cs : List Claim) → lower ≤ low → AreHeldFrom m low cs → AreHeldFrom m lower cs
+from_lower m low lower [] le h = omega (arith, le, h)
+from_lower m low lower (c ∷ cs) le h = ((let at = h.0 in omega (arith, le, at)), h.1)
+
+-- claims, and later ones
+pub held_append : (m n : RegisteredMemory) (low : ℕ) (xs ys : List Claim) → Keeps m n → AreHeldFrom m low xs → AreHeldFrom n m.next ys → AreHeldFrom n low (xs ++ ys)
+held_append m n low [] ys keeps h more = from_lower n m.next low ys h more
+held_append m n low (c ∷ xs) ys keeps h more = (h.0, (keeps.1 c h.1.0, held_append m n (c.stag + 1) xs ys keeps h.1.1 more))
+
+-- ---- A buffer more
+
+buffer_keeps : (m : RegisteredMemory) (right : Right) (buf : Option (List ℕ)) → Keeps m (with_buffer m right buf)
+unfolding after_register
+buffer_keeps m right None = (omega arith, λ c h. h)
+buffer_keeps m right (Some bytes) = (
+  omega arith,
+  λ c h. record {
+    region = h.region;
+    there = register_other m right bytes c.stag (λ e. (let given = h.given in let same = e in omega (arith, given, same))) ∙ h.there;
+    len = h.len;
+    given = (let given = h.given in omega (arith, given));
+  },
+)
+
+buffer_held : (m : RegisteredMemory) (right : Right) (buf : Option (List ℕ)) → AreHeldFrom (with_buffer m right buf) m.next (claim_list (claim_if m buf))
+unfolding after_register
+buffer_held m right None = omega arith
+buffer_held m right (Some bytes) = (omega arith, (held_after_register m right bytes, omega arith))
+
+both_keep : (a b c : RegisteredMemory) → Keeps a b → Keeps b c → Keeps a c
+both_keep a b c x y = ((let p = x.0 in let q = y.0 in omega (arith, p, q)), λ d h. y.1 d (x.1 d h))
+
+pub offered_keep : (m : RegisteredMemory) (o : Offered) → Keeps m (with_offered m o)
+offered_keep m o =
+    both_keep m (with_read m o) (with_offered m o) (buffer_keeps m Fetch o.read)
+    (both_keep (with_read m o) (with_write_buffer m o) (with_offered m o) (buffer_keeps (with_read m o) Fill o.write) (buffer_keeps (with_write_buffer m o) Fill o.reply))
+
+pub offered_held_from : (m : RegisteredMemory) (o : Offered) → AreHeldFrom (with_offered m o) m.next (call_claims (claims_of m o))
+offered_held_from m o =
+    held_append (with_read m o) (with_offered m o) m.next (claim_list (claim_if m o.read)) (claim_list (claim_if (with_read m o) o.write) ++ claim_list (claim_if (with_write_buffer m o) o.reply))
+    (both_keep (with_read m o) (with_write_buffer m o) (with_offered m o) (buffer_keeps (with_read m o) Fill o.write) (buffer_keeps (with_write_buffer m o) Fill o.reply))
+    (buffer_held m Fetch o.read)
+    (held_append (with_write_buffer m o) (with_offered m o) (with_read m o).next (claim_list (claim_if (with_read m o) o.write)) (claim_list (claim_if (with_write_buffer m o) o.reply))
+    (buffer_keeps (with_write_buffer m o) Fill o.reply)
+    (buffer_held (with_read m o) Fill o.write)
+    (buffer_held (with_write_buffer m o) Fill o.reply))
+
+-- ---- A call more
+
+claims_append : (xs : List OutstandingCall) (o : OutstandingCall) → all_claims (xs ++ o ∷ []) ≡ all_claims xs ++ call_claims o.claims
+claims_append [] o = append-nil (call_claims o.claims)
+claims_append (x ∷ xs) o = ap (λ (cs : List Claim). call_claims x.claims ++ cs) (claims_append xs o) ∙ sym (append_assoc (call_claims x.claims) (all_claims xs) (call_claims o.claims))
+
+pub sent_held : (m m2 : RegisteredMemory) (offered : Offered) (claims : Claims) → m2 ≡ with_offered m offered → claims ≡ claims_of m offered → SentHeld m m2 claims
+sent_held m m2 offered claims memory is =
+    let keep : Keeps m (with_offered m offered) = offered_keep m offered in
+    let all : SentHeld m (with_offered m offered) (claims_of m offered) = record { next = keep.0; keeps = keep.1; own = offered_held_from m offered } in
+    subst (λ (n : RegisteredMemory). SentHeld m n claims) (sym memory) (subst (λ (c : Claims). SentHeld m (with_offered m offered) c) (sym is) all)
+
+offers_append : (xs : List OutstandingCall) (o : OutstandingCall) → AllByRecursion OffersOwn xs → OffersOwn o → AllByRecursion OffersOwn (xs ++ o ∷ [])
+offers_append [] o h one = (one, tt)
+offers_append (x ∷ xs) o h one = (h.0, offers_append xs o h.1 one)
+
+pub sent_sound : (link link2 : LinkSide) (xid grant : ℕ) (items items2 : List OutstandingCall) (o : OutstandingCall) → IsSound link xid grant items → SentHeld link.state.memory link2.state.memory o.claims → link2.state.receive_queue ≡ link.state.receive_queue → OffersOwn o →
+    xid < 2 ^ 32 → length items < grant → items2 ≡ items ++ o ∷ [] → IsSound link2 (xid + 1) grant items2
+sent_sound link link2 xid grant items items2 o s h queue own fits credit more =
+    let len = ap (λ (xs : List OutstandingCall). length xs) more ∙ length-append items (o ∷ []) in
+    record {
+      xid = omega (arith, fits);
+      few = (let g = s.granted in omega (arith, len, credit, g));
+      granted = s.granted;
+      none_waits = ap (λ (q : ReceiveQueue). q.notices) queue ∙ s.none_waits;
+      none_lent = ap (λ (q : ReceiveQueue). q.lent) queue ∙ s.none_lent;
+      held = subst (λ (xs : List OutstandingCall). AreHeldFrom link2.state.memory 0 (all_claims xs)) (sym more)
+          (subst (λ (cs : List Claim). AreHeldFrom link2.state.memory 0 cs) (sym (claims_append items o))
+          (held_append link.state.memory link2.state.memory 0 (all_claims items) (call_claims o.claims) (h.next, h.keeps) s.held h.own));
+      offers = subst (λ (xs : List OutstandingCall). AllByRecursion OffersOwn xs) (sym more) (offers_append items o s.offers own);
+    }
+
+-- ---- A drain, and the opening
+
+drain_leaves : (link : LinkSide) (n : ℕ) → ((after_call link (Drain n)).state.memory ≡ link.state.memory) × ((after_call link (Drain n)).state.receive_queue ≡ link.state.receive_queue)
+unfolding after_call
+drain_leaves link n = (refl, refl)
+
+pub drain_sound : (link link2 : LinkSide) (n xid grant : ℕ) (items : List OutstandingCall) → IsSound link xid grant items → link2 ≡ after_call link (Drain n) → IsSound link2 xid grant items
+drain_sound link link2 n xid grant items s is =
+    let memory : link2.state.memory ≡ link.state.memory = ap (λ (l : LinkSide). l.state.memory) is ∙ (drain_leaves link n).0 in
+    let queue : link2.state.receive_queue ≡ link.state.receive_queue = ap (λ (l : LinkSide). l.state.receive_queue) is ∙ (drain_leaves link n).1 in
+    record {
+      xid = s.xid;
+      few = s.few;
+      granted = s.granted;
+      none_waits = ap (λ (q : ReceiveQueue). q.notices) queue ∙ s.none_waits;
+      none_lent = ap (λ (q : ReceiveQueue). q.lent) queue ∙ s.none_lent;
+      held = subst (λ (m : RegisteredMemory). AreHeldFrom m 0 (all_claims items)) (sym memory) s.held;
+      offers = s.offers;
+    }
+
+first_sound : (first_stag xid : ℕ) → xid ≤ 2 ^ 32 → IsSound (initial_link Initiator 1 first_stag) xid 1 []
+unfolding initial_link
+first_sound first_stag xid fits = record { xid = fits; few = omega arith; granted = omega arith; none_waits = refl; none_lent = refl; held = omega arith; offers = tt }
+
+pub opened_sound : (link : LinkSide) (first_xid first_stag n : ℕ) (items : List OutstandingCall) → link ≡ initial_link Initiator 1 first_stag → n ≡ first_xid → first_xid < 2 ^ 32 → items ≡ [] → IsSound link n 1 items
+opened_sound link first_xid first_stag n items is xid fits none =
+    subst (λ (l : LinkSide). IsSound l n 1 items) (sym is) (subst (λ (xs : List OutstandingCall). IsSound (initial_link Initiator 1 first_stag) n 1 xs) (sym none) (first_sound first_stag n (omega (arith, xid, fits))))
