@@ -1,7 +1,7 @@
 #!/bin/sh
-# Planning of calls: the time for a plan of a WRITE in form Auto by the length of its data, beside copying that data once, and the
-# time to find its item and to judge whether an offer holds a reply. Run by hand, at the top of the repository, once `(cd crates/plan_bench && rt run -- 2 1024 plan)` has
-# built the program; or with the program's path as $1.
+# Planning of calls: the time for a plan of a WRITE in form Auto, and for its outline and region, by the length of its data, beside
+# copying that data once, and the time to find its item and to judge whether an offer holds a reply. Run by hand, at the top of the
+# repository, once `(cd crates/plan_bench && rt run -- 2 1024 plan)` has built the program; or with the program's path as $1.
 exec python3 - "${1:-crates/plan_bench/out/plan_bench}" <<'END'
 import resource, subprocess, sys, timeit
 
@@ -24,6 +24,7 @@ block = bytes(32768)
 copy = min(timeit.repeat(lambda: bytearray(block), number=2000, repeat=20)) / 2000 * 1e9
 for length in (512, 1024, 8192, 32768):
     print(f"plan of a WRITE of {length} bytes: {each(length, 'plan', 200_000):.0f} ns")
+    print(f"outline of it, and its region filled: {each(length, 'outline', 200_000):.0f} ns")
 print(f"a copy of 32768 bytes, allocated: {copy:.0f} ns")
 for what in ('item', 'holds'):
     short, long = each(1024, what, 3_000_000), each(32768, what, 3_000_000)

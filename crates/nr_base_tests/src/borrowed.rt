@@ -4,9 +4,10 @@ ghost use Rattle.nr_header.specs.Header.{ChunksFit};
 
 use crate::compare::{bytes_of, same};
 use nr_header::{
-    ChunkLists, InlineVec, ReadSegment, TransportError, write_error, write_plain, write_with_lists,
+    ChunkLists, InlineVec, ReadSegment, TransportError, header_len, lengths_of_headers,
+    read_list_len, reply_chunk_len, write_chunk_len, write_error, write_plain, write_with_lists,
 };
-use nr_rpc::{CallTarget, Cred, write_call_of};
+use nr_rpc::{CallTarget, Cred, write_call_head, write_call_of};
 use std::alloc::Global;
 use std::process::Abort;
 
@@ -23,6 +24,9 @@ fn call_of_a_borrowed_credential(rt: HostRuntime) {
     let written = write_call_of(rt.alloc(), target, &cred, b"hiho").expect(&rt, "memory");
     let words = &[1, 0, 2, 100_003, 3, 4, 6, 0, 0, 0, 0x6869_686f];
     same(&rt, 0, written.into_vec(), bytes_of(&rt, rt.alloc(), words));
+    let head = write_call_head(rt.alloc(), target, &cred).expect(&rt, "memory");
+    let words = &[1, 0, 2, 100_003, 3, 4, 6, 0, 0, 0];
+    same(&rt, 1, head.into_vec(), bytes_of(&rt, rt.alloc(), words));
 }
 
 #[test]
@@ -78,6 +82,18 @@ static KINDS: [(bool, &[u32]); 2] = [
     (false, &[9, 1, 16, 0, 1, 8, 11, 12, 13, 14, 0, 0, 0]),
     (true, &[9, 1, 16, 1, 1, 8, 11, 12, 13, 14, 0, 0, 0]),
 ];
+
+/// A header of 13 words, by its lists, and what a write chunk and a reply chunk of one segment add (RFC 8166 section 4.3).
+#[test]
+fn lengths_by_lists(rt: HostRuntime) {
+    lengths_of_headers();
+    let lists = one_segment(&rt, rt.alloc());
+    same(&rt, 0, header_len(&lists), 52);
+    drop(lists);
+    same(&rt, 1, read_list_len(1), 24);
+    same(&rt, 2, write_chunk_len(1), 24);
+    same(&rt, 3, reply_chunk_len(1), 20);
+}
 
 fn lists_written(rt: &impl Abort, alloc: Global, long: bool) -> Vec<u8> {
     let lists = one_segment(rt, alloc);

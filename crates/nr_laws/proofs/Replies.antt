@@ -25,7 +25,7 @@ use Rattle.nr_reduce.specs.ServerFrames.{FrameEffect, with_verdict, frame_effect
 use Rattle.nr_reduce.proofs.AnswerMessages.{answer_length}
 use Rattle.nr_laws.proofs.WritableOffers.{OfferFits}
 use Rattle.nr_laws.proofs.EachEffect.{send_effect, tagged_effect_lem}
-use Rattle.nr_reduce.proofs.Sizes.{word_len}
+use Rattle.nr_header.proofs.Lengths.{word_len}
 
 pub record IsReply (credit : ℕ) (message : List ℕ) : Type 0 where
   pub least : 16 ≤ length message

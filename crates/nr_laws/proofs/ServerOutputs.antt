@@ -32,7 +32,7 @@ use Rattle.nr_laws.proofs.TaggedSegments.{AreTagged, tagged_append, tagged_chunk
 use Rattle.nr_laws.proofs.Completions.{Completes, completes_append, completes_message, completes_sends, completes_requests, completes_tagged}
 use Rattle.std.proofs.lemmas.List.{map-append}
 use Rattle.nr_laws.proofs.EachEffect.{MessageRule, ResponseRule, each_effect}
-use Rattle.nr_reduce.proofs.Sizes.{word_len}
+use Rattle.nr_header.proofs.Lengths.{word_len}
 use Rattle.nr_laws.proofs.Basics.{each_append, each_kept}
 use Rattle.nr_link.specs.Limits.{send_max}
 

@@ -8,3 +8,4 @@ pub mod SaneAfter
 pub mod Sizes
 pub mod Counting
 pub mod Rooms
+pub mod ListingLimits

@@ -13,6 +13,7 @@
 //! stands above.
 #![tactic(auto)]
 
+mod counts;
 mod creation;
 mod directories;
 mod entries;
@@ -29,6 +30,7 @@ mod renaming;
 mod special_files;
 mod symbolic_links;
 
+pub use counts::listing_limit;
 pub use directories::mkdir;
 pub use files::create;
 pub use find::lookup;

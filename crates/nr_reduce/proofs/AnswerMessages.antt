@@ -24,7 +24,8 @@ use Rattle.nr_reduce.specs.declared.item.Of.TheVariants.{Reply}
 use Rattle.nr_reduce.specs.Holds.{Answer, Parts, parts_in, answer_size, answer_with, answer_for, fits_reply, empty_chunks, written_chunks, no_segments, answer_lists, answer_message}
 use Rattle.nr_reduce.proofs.Asking.{all_one}
 use Rattle.nr_reduce.proofs.Answering.{Answered, answered}
-use Rattle.nr_reduce.proofs.Sizes.{chunk_size, lists_len, msg_len, nomsg_len}
+use Rattle.nr_header.specs.Length.{write_chunk_len, write_list_len}
+use Rattle.nr_header.proofs.Lengths.{lists_len, msg_len, nomsg_len}
 
 pub length_filled : (chunk : List RdmaSegment) (n : ℕ) → length (filled_chunk chunk n) ≡ length chunk
 length_filled [] n = refl
@@ -162,20 +163,20 @@ answer_again read ws rs w r down prog vers proc xid credit reply a bytes offer e
 
 -- ---- Its size
 
-emptied_total : (chunks : List (List RdmaSegment)) → sum_by chunk_size (empty_chunks chunks) ≡ sum_by chunk_size chunks
+emptied_total : (chunks : List (List RdmaSegment)) → write_list_len (empty_chunks chunks) ≡ write_list_len chunks
 emptied_total [] = refl
 emptied_total (chunk ∷ chunks) =
-    let a = sum_by-cons chunk_size (filled_chunk chunk 0) (empty_chunks chunks) in
-    let b = sum_by-cons chunk_size chunk chunks in
+    let a = sum_by-cons (λ (k : List RdmaSegment). write_chunk_len (length k)) (filled_chunk chunk 0) (empty_chunks chunks) in
+    let b = sum_by-cons (λ (k : List RdmaSegment). write_chunk_len (length k)) chunk chunks in
     let c = length_filled chunk 0 in
     let d = emptied_total chunks in
     omega (arith, a, b, c, d)
 
-written_total : (chunks : List (List RdmaSegment)) (n : ℕ) → sum_by chunk_size (written_chunks chunks n) ≡ sum_by chunk_size chunks
+written_total : (chunks : List (List RdmaSegment)) (n : ℕ) → write_list_len (written_chunks chunks n) ≡ write_list_len chunks
 written_total [] n = refl
 written_total (chunk ∷ chunks) n =
-    let a = sum_by-cons chunk_size (filled_chunk chunk n) (empty_chunks chunks) in
-    let b = sum_by-cons chunk_size chunk chunks in
+    let a = sum_by-cons (λ (k : List RdmaSegment). write_chunk_len (length k)) (filled_chunk chunk n) (empty_chunks chunks) in
+    let b = sum_by-cons (λ (k : List RdmaSegment). write_chunk_len (length k)) chunk chunks in
     let c = length_filled chunk n in
     let d = emptied_total chunks in
     omega (arith, a, b, c, d)

@@ -22,7 +22,8 @@ pub mod ChunkSums
 pub mod Recut
 pub mod RefusedChunks
 pub mod Offers
-pub mod AutoForms
+pub mod Outlining
+pub mod CallForms
 pub mod Answering
 pub mod Asking
 pub mod WrittenChunks

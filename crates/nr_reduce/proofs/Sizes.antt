@@ -1,15 +1,15 @@
--- The size of a message: that of its header's lists, and of its stream.
+-- The size of the message of a plan: that of its header's lists, and of its stream.
 use Rattle.std.proofs.Common.{◌≡◌, ℕ, ◌+◌, ◌*◌, ◌≤◌, Bool, true, false, cond, eqb, List, [], ◌∷◌, ◌++◌, length, sum_by, Option, Some, None, Result, Ok, refl, sym, ap, subst, arith, length-append}
 use Rattle.std.proofs.lemmas.List.Sums.{sum_by-cons}
-use Rattle.nr_xdr.specs.Item.{Item as XdrItem, word, hyper}
 use Rattle.nr_xdr.specs.Items.{encodings}
-use Rattle.nr_xdr.proofs.WordBytes.{length_word, length_hyper}
 use Rattle.nr_header.specs.Constants.{PAYLOAD_MAX}
 use Rattle.nr_header.specs.declared.header.RdmaSegment.{RdmaSegment}
 use Rattle.nr_header.specs.declared.header.ReadSegment.{ReadSegment}
 use Rattle.nr_header.specs.declared.header.ChunkLists.{ChunkLists}
 use Rattle.nr_header.specs.declared.header.Body.TheVariants.{Msg, Nomsg}
-use Rattle.nr_header.specs.Header.{segments_items, chunk_items, read_items, write_items, reply_items, lists_items, fixed_items, header_encoding}
+use Rattle.nr_header.specs.Header.{lists_items, header_encoding}
+use Rattle.nr_header.specs.Length.{write_chunk_len, write_list_len, reply_len}
+use Rattle.nr_header.proofs.Lengths.{lists_len, msg_len, nomsg_len}
 use Rattle.nr_reduce.specs.declared.call.Form.{Form}
 use Rattle.nr_reduce.specs.declared.call.Form.TheVariants as forms
 use Rattle.nr_reduce.specs.declared.outline.Plan.{Plan}
@@ -17,76 +17,6 @@ use Rattle.nr_reduce.specs.Limits.{given_max}
 use Rattle.nr_reduce.specs.Plans.{TooLarge, segments_from, entries_from, read_list, write_list, reply_chunk, write_size, reply_size, plan_size, write_stag, reply_stag, read_stag, given_read, given_total, given_within, plan_in_form, within, lists_of, body_by, call_message, plan_of}
 use Rattle.nr_reduce.proofs.PlanKinds.{offered, MessageKind, shape, Shaped, shaped, within_ok_lem}
 use Rattle.nr_reduce.proofs.PlanKinds.MessageKind.{Short, Chunked, Long}
-
-pub word_len : (n : ℕ) (xs : List ℕ) → length (word n ++ xs) ≡ 4 + length xs
-word_len n xs = (let a = length-append (word n) xs in let b = length_word n in omega (arith, a, b))
-
-hyper_len : (n : ℕ) (xs : List ℕ) → length (hyper n ++ xs) ≡ 8 + length xs
-hyper_len n xs = (let a = length-append (hyper n) xs in let b = length_hyper n in omega (arith, a, b))
-
-segment_len : (handle len offset : ℕ) (xs : List ℕ) → length (word handle ++ (word len ++ (hyper offset ++ xs))) ≡ 16 + length xs
-segment_len handle len offset xs =
-    (let a = word_len handle (word len ++ (hyper offset ++ xs)) in let b = word_len len (hyper offset ++ xs) in let c = hyper_len offset xs in omega (arith, a, b, c))
-
--- ---- Lists
-
-segments_len : (chunk : List RdmaSegment) (more : List XdrItem) → length (encodings (segments_items chunk more)) ≡ 16 * length chunk + length (encodings more)
-segments_len [] more = omega arith
-segments_len (s ∷ chunk) more =
-    (let a = segment_len s.handle s.length s.offset (encodings (segments_items chunk more)) in let b = segments_len chunk more in omega (arith, a, b))
-
-chunk_len : (chunk : List RdmaSegment) (more : List XdrItem) → length (encodings (chunk_items chunk more)) ≡ 4 + 16 * length chunk + length (encodings more)
-chunk_len chunk more =
-    (let a = word_len (length chunk) (encodings (segments_items chunk more)) in let b = segments_len chunk more in omega (arith, a, b))
-
-read_len : (read : List ReadSegment) (more : List XdrItem) → length (encodings (read_items read more)) ≡ 4 + 24 * length read + length (encodings more)
-read_len [] more = word_len 0 (encodings more)
-read_len (r ∷ read) more =
-    let rest = encodings (read_items read more) in
-    let a = word_len 1 (word r.position ++ (word r.handle ++ (word r.length ++ (hyper r.offset ++ rest)))) in
-    let b = word_len r.position (word r.handle ++ (word r.length ++ (hyper r.offset ++ rest))) in
-    let c = segment_len r.handle r.length r.offset rest in
-    let d = read_len read more in
-    omega (arith, a, b, c, d)
-
-abbrev pub chunk_size : List RdmaSegment → ℕ
-chunk_size chunk = 8 + 16 * length chunk
-
-write_len : (chunks : List (List RdmaSegment)) (more : List XdrItem) → length (encodings (write_items chunks more)) ≡ 4 + sum_by chunk_size chunks + length (encodings more)
-write_len [] more = word_len 0 (encodings more)
-write_len (chunk ∷ chunks) more =
-    let rest = write_items chunks more in
-    let a = word_len 1 (encodings (chunk_items chunk rest)) in
-    let b = chunk_len chunk rest in
-    let c = write_len chunks more in
-    let d = sum_by-cons chunk_size chunk chunks in
-    omega (arith, a, b, c, d)
-
-abbrev pub reply_bytes : Option (List RdmaSegment) → ℕ
-reply_bytes None = 0
-reply_bytes (Some chunk) = 4 + 16 * length chunk
-
-reply_len : (reply : Option (List RdmaSegment)) → length (encodings (reply_items reply [])) ≡ 4 + reply_bytes reply
-reply_len None = word_len 0 []
-reply_len (Some chunk) = (let a = word_len 1 (encodings (chunk_items chunk [])) in let b = chunk_len chunk [] in omega (arith, a, b))
-
-fixed_len : (a b c d : ℕ) (more : List XdrItem) → length (encodings (fixed_items a b c d more)) ≡ 16 + length (encodings more)
-fixed_len a b c d more =
-    let xs = encodings more in
-    (let p = word_len a (word b ++ (word c ++ (word d ++ xs))) in let q = word_len b (word c ++ (word d ++ xs)) in let r = word_len c (word d ++ xs) in let s = word_len d xs in omega (arith, p, q, r, s))
-
-pub lists_len : (ls : ChunkLists) → length (encodings (lists_items ls)) ≡ 12 + 24 * length ls.read + sum_by chunk_size ls.write + reply_bytes ls.reply
-lists_len ls =
-    let a = read_len ls.read (write_items ls.write (reply_items ls.reply [])) in
-    let b = write_len ls.write (reply_items ls.reply []) in
-    let c = reply_len ls.reply in
-    omega (arith, a, b, c)
-
-pub msg_len : (xid credit at : ℕ) (ls : ChunkLists) → length (header_encoding (record { xid = xid; credit = credit; body = Msg ls at })) ≡ 16 + length (encodings (lists_items ls))
-msg_len xid credit at ls = fixed_len xid 1 credit 0 (lists_items ls)
-
-pub nomsg_len : (xid credit : ℕ) (ls : ChunkLists) → length (header_encoding (record { xid = xid; credit = credit; body = Nomsg ls })) ≡ 16 + length (encodings (lists_items ls))
-nomsg_len xid credit ls = fixed_len xid 1 credit 1 (lists_items ls)
 
 -- ---- The message of a plan
 
@@ -98,14 +28,14 @@ pub segments_count : (handle offset : ℕ) (lengths : List ℕ) → length (segm
 segments_count handle offset [] = refl
 segments_count handle offset (n ∷ lengths) = (let a = segments_count handle (offset + n) lengths in omega (arith, a))
 
-write_is : (stag : ℕ) (w : Option (List ℕ)) → sum_by chunk_size (write_list stag w) ≡ write_size w
+write_is : (stag : ℕ) (w : Option (List ℕ)) → write_list_len (write_list stag w) ≡ write_size w
 write_is stag None = refl
 write_is stag (Some lengths) =
-    let a = sum_by-cons chunk_size (segments_from stag 0 lengths) [] in
+    let a = sum_by-cons (λ (k : List RdmaSegment). write_chunk_len (length k)) (segments_from stag 0 lengths) [] in
     let b = segments_count stag 0 lengths in
     omega (arith, a, b)
 
-reply_is : (stag : ℕ) (r : Option (List ℕ)) → reply_bytes (reply_chunk stag r) ≡ reply_size r
+reply_is : (stag : ℕ) (r : Option (List ℕ)) → reply_len (reply_chunk stag r) ≡ reply_size r
 reply_is stag None = refl
 reply_is stag (Some lengths) = (let b = segments_count stag 0 lengths in omega (arith, b))
 

@@ -1,12 +1,13 @@
 -- What borrowed values stand for, and steps of the code in the terms of the definitions.
-use Rattle.std.specs.Prelude.{ℕ, Bool, nat_le, ◌&&◌, ◌||◌, ◌==◌, if◌then◌else◌, List, [], ◌∷◌, length, Option, None, Some}
+use Rattle.std.specs.Prelude.{ℕ, Bool, true, nat_le, ◌&&◌, ◌||◌, ◌==◌, if◌then◌else◌, List, [], ◌∷◌, length, Option, None, Some}
 use Rattle.nr_header.specs.declared.header.RdmaSegment.{RdmaSegment}
+use Rattle.nr_header.specs.declared.header.ReadSegment.{ReadSegment}
 use Rattle.nr_reduce.specs.declared.item.Item.{Item}
 use Rattle.nr_reduce.specs.declared.item.Of.{Of}
 use Rattle.nr_reduce.specs.declared.holding.Parts.{Parts as BorrowedParts}
 use Rattle.nr_reduce.specs.declared.holding.Answer.{Answer as BorrowedAnswer}
 use Rattle.nr_reduce.specs.Items.{reducible_item, stream_of, moved_of}
-use Rattle.nr_reduce.specs.Chunks.{chunk_total, filled_chunk, are_empty}
+use Rattle.nr_reduce.specs.Chunks.{chunk_total, filled_chunk, are_empty, is_item, total_at}
 use Rattle.nr_reduce.specs.Holds.{Parts, Answer, no_segments}
 
 abbrev pub parts_view : BorrowedParts → Parts
@@ -38,3 +39,8 @@ returns_one o b after = b.handle == o.handle && (b.offset == o.offset && (nat_le
 -- the reply chunk of an answer
 abbrev pub reply_of_answer : Option (List RdmaSegment) → Answer → Option (List RdmaSegment)
 reply_of_answer offered a = if a.long then Some (filled_chunk (no_segments offered) (length a.stream)) else None
+
+-- the chunk of a read list at a position other than 0, if there is one, is that of an item
+abbrev pub is_read_chunk_of : Option Item → List ReadSegment → Option ℕ → Bool
+is_read_chunk_of item read None = true
+is_read_chunk_of item read (Some position) = is_item item position (total_at position read)

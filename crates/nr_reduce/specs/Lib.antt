@@ -7,6 +7,7 @@ pub mod Chunks
 pub mod Holds
 pub mod CodeViews
 pub mod PlanSizes
+pub mod CallOutlines
 pub mod Cuts
 pub mod History
 pub mod PlainJournal

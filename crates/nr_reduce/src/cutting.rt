@@ -3,25 +3,16 @@
 ghost use Rattle.std.specs.Prelude.{◌≡◌, ◌+◌, ◌==◌, ◌<◌, ◌≤◌, ◌++◌, length, take, replicate, Some, IfOk, IfErr, IfSome, OnErr};
 ghost use Rattle.std.specs.List.{list_all};
 ghost use Rattle.nr_xdr.specs.Item.{pad_len};
-ghost use Rattle.nr_reduce.specs.Items.{ends_with_item, reducible_item, stream_of, moved_of, restored_payload};
+ghost use Rattle.nr_reduce.specs.Items.{item_of, ends_with_item, reducible_item, stream_of, moved_of, restored_payload};
 ghost use Rattle.nr_reduce.specs.Chunks.{has_moved_length, IsWhole};
 ghost use Rattle.nr_reduce.specs.Cuts.{cut_of, rebuilt_of, Rebuilds, RebuildsInto};
 
 use crate::fault::{Mismatch, PayloadFault};
 use crate::item::{Cut, Item, Of, item_of};
-use nr_xdr::{Memory, Octets};
+use nr_xdr::{Memory, Octets, pad_len};
 use std::alloc::Global;
 
-/// How many bytes pad `len` bytes to a multiple of four (RFC 4506 section 3).
-#[tactic(auto, unfolding(nr_xdr::specs::Item::pad_len))]
-pub(crate) fn pad_len(len: usize) -> usize
-    ensures is { result ≡ pad_len len }
-    ensures small { result < 4 }
-{
-    (4 - len % 4) % 4
-}
-
-fn are_zeros(bytes: &[u8]) -> bool
+pub(crate) fn are_zeros(bytes: &[u8]) -> bool
     ensures { result ≡ list_all (λ b. b == 0) bytes.now }
 {
     bytes.iter().all(|b| *b == 0)
@@ -134,7 +125,6 @@ fn restored(alloc: Global, stream: &[u8], item: &Item, moved: &[u8]) -> Result<O
 /// The payload of a stream and of a chunk of its own that belongs at `pos`, whose bytes are `moved`. In a call these may
 /// have the item's pad at their end, which is ignored. Bytes of the stream behind the item's place are carried along.
 /// `BadChunks` where the stream has no item, where that has another position, or another length, the first that holds.
-#[tactic(auto, unfolding(crate::specs::Cuts::rebuilt_of))]
 pub fn rebuild(
     alloc: Global,
     of: &Of,
@@ -145,7 +135,24 @@ pub fn rebuild(
     ensures whole { IfOk result (λ p. IsWhole of.now p stream.now (Some moved.now)) }
     ensures exact { Rebuilds result (rebuilt_of of.now stream.now pos moved.now) }
 {
-    let Some(item) = item_of(of, stream) else {
+    rebuild_item(alloc, of, item_of(of, stream), stream, pos, moved)
+}
+
+/// The same as [`rebuild`], if the stream's item is known: no head is read.
+#[tactic(auto, unfolding(crate::specs::Cuts::rebuilt_of))]
+pub fn rebuild_item(
+    alloc: Global,
+    of: &Of,
+    item: Option<Item>,
+    stream: &[u8],
+    pos: u32,
+    moved: &[u8],
+) -> Result<Octets, PayloadFault>
+    requires { item ≡ item_of of.now stream.now }
+    ensures whole { IfOk result (λ p. IsWhole of.now p stream.now (Some moved.now)) }
+    ensures exact { Rebuilds result (rebuilt_of of.now stream.now pos moved.now) }
+{
+    let Some(item) = item else {
         return Err(PayloadFault::BadChunks {
             why: Mismatch::NoItem,
         });
@@ -197,7 +204,6 @@ fn restore_into(room: &mut Octets, stream: &[u8], item: &Item, moved: &[u8]) -> 
 
 /// Puts the payload that [`rebuild`] gives into the first bytes of a room that was taken before, and gives its length; or why
 /// there is none, and then the room is as before. The room keeps its length. Takes no memory.
-#[tactic(auto, unfolding(crate::specs::Cuts::rebuilt_of))]
 pub fn rebuild_into(
     room: &mut Octets,
     of: &Of,
@@ -211,7 +217,27 @@ pub fn rebuild_into(
     ensures refused { OnErr result (room.new ≡ room.old) }
     ensures length { length room.new ≡ length room.old }
 {
-    let Some(item) = item_of(of, stream) else {
+    rebuild_item_into(room, of, item_of(of, stream), stream, pos, moved)
+}
+
+/// The same as [`rebuild_into`], if the stream's item is known: no head is read.
+#[tactic(auto, unfolding(crate::specs::Cuts::rebuilt_of))]
+pub fn rebuild_item_into(
+    room: &mut Octets,
+    of: &Of,
+    item: Option<Item>,
+    stream: &[u8],
+    pos: u32,
+    moved: &[u8],
+) -> Result<usize, Mismatch>
+    requires item { item ≡ item_of of.now stream.now }
+    requires room { length stream.now + length moved.now + 3 ≤ length room.old }
+    ensures whole { IfOk result (λ len. IsWhole of.now (take len room.new) stream.now (Some moved.now)) }
+    ensures exact { RebuildsInto result room.new (rebuilt_of of.now stream.now pos moved.now) }
+    ensures refused { OnErr result (room.new ≡ room.old) }
+    ensures length { length room.new ≡ length room.old }
+{
+    let Some(item) = item else {
         return Err(Mismatch::NoItem);
     };
     if item.pos != pos as usize {

@@ -34,6 +34,13 @@ pub enum PayloadFault {
     Memory,
 }
 
+/// A call needs `need` bytes where there is room for `room`.
+#[derive(Clone, Copy)]
+pub struct TooLarge {
+    pub need: u128,
+    pub room: u32,
+}
+
 impl From<Memory> for PayloadFault {
     ghost from_gives = { λ _ e. e ≡ faults.Memory };
 

@@ -8,7 +8,7 @@ ghost use Rattle.nr_reduce.specs.CodeViews.{first_total, parts_of, parts_view, a
 
 use crate::cutting::reducible_item;
 use crate::item::{Item, Of};
-use nr_header::{Chunk, ChunkLists, RdmaSegment};
+use nr_header::{Chunk, ChunkLists, HEADER_LEN_MIN, RdmaSegment, write_chunk_len};
 
 /// What goes as the stream of a reply, and what moves into its first write chunk.
 #[derive(Clone, Copy)]
@@ -57,12 +57,12 @@ fn first_total(chunks: &[Chunk]) -> Option<u128>
 fn fits_message(chunks: &[Chunk], len: usize, down: u32) -> bool
     ensures { result ≡ nat_le (answer_size chunks.now + len) down }
 {
-    let mut need = 28 + len as u128;
+    let mut need = HEADER_LEN_MIN as u128 + len as u128;
     for chunk in chunks {
         if need > u128::from(down) {
             return false;
         }
-        need += 8 + 16 * chunk.len() as u128;
+        need += write_chunk_len(chunk.len());
     }
     need <= u128::from(down)
 }

@@ -7,11 +7,12 @@ ghost use Rattle.nr_reduce.specs.AfterFront.{and_then};
 ghost use Rattle.nr_reduce.specs.Items.{from_place, item_at, is_nfs, argument_item, result_item, results_of, call_item, reply_item, item_of};
 
 use crate::limits::{READ, READLINK, SYMLINK, WRITE};
+use crate::parts::{call_item_of, call_parts};
 use nr_nfs_base::{
     NFS_PROGRAM, NFS_VERSION, skip_to_read_data, skip_to_readlink_path, skip_to_symlink_path,
     skip_to_write_data,
 };
-use nr_rpc::{ReplyHead, call_target, read_reply};
+use nr_rpc::{ReplyHead, read_reply};
 use nr_xdr::{Octets, Reader};
 
 /// An item (RFC 8166 section 3.4.2): `pos` is the place of its first byte in the payload, `len` the number of its bytes,
@@ -79,7 +80,7 @@ pub(crate) fn is_nfs(prog: u32, vers: u32) -> bool
 
 /// The item of a call's arguments.
 #[tactic(auto, using(crate::proofs::Places::items_of_calls))]
-fn argument_item(prog: u32, vers: u32, proc: u32, arguments: Reader<'_>) -> Option<Item>
+pub(crate) fn argument_item(prog: u32, vers: u32, proc: u32, arguments: Reader<'_>) -> Option<Item>
     ensures { result ≡ argument_item prog vers proc arguments.entry }
 {
     if !is_nfs(prog, vers) {
@@ -113,11 +114,8 @@ pub fn call_item(payload: &[u8]) -> Option<Item>
     ensures exact { result ≡ call_item payload.now }
     ensures inside { IfSome result (λ i. i.pos ≤ length payload.now) }
 {
-    match call_target(payload) {
-        Some(target) => {
-            let arguments = reader_at(payload, target.args_at);
-            argument_item(target.prog, target.vers, target.proc, arguments)
-        }
+    match call_parts(payload) {
+        Some(parts) => call_item_of(parts),
         None => None,
     }
 }

@@ -4,18 +4,20 @@ ghost use Rattle.std.specs.Prelude.{◌≡◌, ◌+◌, ◌<◌, ◌≤◌};
 ghost use Rattle.nr_reduce.specs.AfterFront.{number_after};
 ghost use Rattle.nr_reduce.specs.Largest.{padded_length, by_count, read_reply_max, readdir_reply_max, limit_of, nfs_reply_max, program_reply_max, largest_reply};
 
-use crate::cutting::pad_len;
-use crate::item::{is_nfs, reader_at};
-use crate::limits::{MNT, READ, READDIR, READDIRPLUS};
+use crate::item::is_nfs;
+use crate::limits::{
+    ACCESS, COMMIT, CREATE, FSINFO, FSSTAT, GETATTR, LINK, LOOKUP, MKDIR, MKNOD, MNT, PATHCONF,
+    READ, READDIR, READDIRPLUS, READLINK, REMOVE, RENAME, RMDIR, SETATTR, SYMLINK, WRITE,
+};
+use crate::parts::{call_parts, largest_reply_of};
 use nr_nfs_base::{
-    LISTING_MAX, MOUNT_PROGRAM, MOUNT_VERSION, TRANSFER_MAX, skip_to_read_count,
+    LINK_TARGET_MAX, LISTING_MAX, MOUNT_PROGRAM, MOUNT_VERSION, TRANSFER_MAX, skip_to_read_count,
     skip_to_readdir_count, skip_to_readdirplus_maxcount,
 };
-use nr_rpc::call_target;
-use nr_xdr::Reader;
+use nr_xdr::{Reader, pad_len};
 
 /// The reply to any other call, and to one that isn't encoded up to its count.
-const REPLY_LIMIT_MIN: u32 = 32;
+pub(crate) const REPLY_LIMIT_MIN: u32 = 32;
 
 /// The number behind the fields before it, where these could be read.
 #[tactic(auto, unfolding(crate::specs::AfterFront::number_after))]
@@ -66,19 +68,19 @@ fn limit_of(proc: u32) -> u32
     ensures { result ≡ limit_of proc }
 {
     match proc {
-        1 => 112,
-        2 | 12 | 13 => 144,
-        3 => 272,
-        4 => 120,
-        5 => 1144,
-        7 => 160,
-        8 | 9 | 10 | 11 => 304,
-        14 => 260,
-        15 => 232,
-        18 => 168,
-        19 => 164,
-        20 => 140,
-        21 => 152,
+        GETATTR => 112,
+        SETATTR | REMOVE | RMDIR => 144,
+        LOOKUP => 272,
+        ACCESS => 120,
+        READLINK => 120 + LINK_TARGET_MAX,
+        WRITE => 160,
+        CREATE | MKDIR | SYMLINK | MKNOD => 304,
+        RENAME => 260,
+        LINK => 232,
+        FSSTAT => 168,
+        FSINFO => 164,
+        PATHCONF => 140,
+        COMMIT => 152,
         _ => REPLY_LIMIT_MIN,
     }
 }
@@ -95,7 +97,7 @@ fn nfs_reply_max(proc: u32, arguments: Reader<'_>) -> u32
     }
 }
 
-fn program_reply_max(prog: u32, vers: u32, proc: u32, arguments: Reader<'_>) -> u32
+pub(crate) fn program_reply_max(prog: u32, vers: u32, proc: u32, arguments: Reader<'_>) -> u32
     ensures { result ≡ program_reply_max prog vers proc arguments.entry }
 {
     if is_nfs(prog, vers) {
@@ -112,11 +114,8 @@ fn program_reply_max(prog: u32, vers: u32, proc: u32, arguments: Reader<'_>) -> 
 pub fn largest_reply(payload: &[u8]) -> u32
     ensures { result ≡ largest_reply payload.now }
 {
-    match call_target(payload) {
-        Some(target) => {
-            let arguments = reader_at(payload, target.args_at);
-            program_reply_max(target.prog, target.vers, target.proc, arguments)
-        }
+    match call_parts(payload) {
+        Some(parts) => largest_reply_of(parts),
         None => REPLY_LIMIT_MIN,
     }
 }

@@ -25,17 +25,21 @@ mod limits;
 mod mark;
 mod memory_laws;
 mod outline;
+mod parts;
 mod planning;
 mod reading;
 mod replying;
 mod run_laws;
 mod sequence;
 mod standing_laws;
+mod two_slices;
 
 pub use call::{Call, Form, Lengths, Offer, Outcome, Refused, Submission};
 pub use comparing::answers_offer;
-pub use cutting::{cut, first_bytes, rebuild, rebuild_into, reducible_item};
-pub use fault::{Mismatch, PayloadFault};
+pub use cutting::{
+    cut, first_bytes, rebuild, rebuild_into, rebuild_item, rebuild_item_into, reducible_item,
+};
+pub use fault::{Mismatch, PayloadFault, TooLarge};
 pub use holding::{Answer, answer_for, holds};
 pub use item::{Cut, Item, Of, call_item, item_of, reply_item};
 pub use largest::largest_reply;
@@ -43,9 +47,10 @@ pub use laws::{answers_convey_replies, plans_convey_payloads, rebuild_undoes_cut
 pub use limits::GIVEN_MAX;
 pub use mark::{Entry, LinkParameters, Mark, Marks};
 pub use memory_laws::{memory_follows_regions, regions_go_on};
-pub use outline::Plan;
-pub use planning::plan;
-pub use reading::{is_read_chunk_of_item, item_position, total_at};
+pub use outline::{ChunkLengths, Outline, Plan, ReadOutline};
+pub use parts::{CallParts, call_item_of, call_parts, largest_reply_of, written_parts};
+pub use planning::{outline_of, plan};
+pub use reading::{is_read_chunk_of, is_read_chunk_of_item, item_position, total_at};
 pub use replying::{answer_header, answer_lists, answer_message};
 pub use run_laws::{
     accepted_calls_keep_the_law, accesses_are_allowed, counts_go_by_bytes_sent, ended_ends_stay,

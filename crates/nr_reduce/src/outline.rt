@@ -1,18 +1,20 @@
 //! How a call is sent: which of its bytes go in a chunk, and what it offers for the reply.
 
-ghost use Rattle.std.specs.Prelude.{◌≡◌, ℕ, ◌+◌, ◌*◌, ◌^◌, ◌<◌, ◌≤◌, Option, None, Some, length};
-ghost use Rattle.nr_reduce.specs.Largest.{largest_reply};
-ghost use Rattle.nr_reduce.specs.Plans.{segments_for, chunk_for, moved_offer, argument_offer, write_offer, write_size, reply_size, plan_size, inline_plan, reduced_plan, long_plan, auto_offer, auto_plan};
-ghost use Rattle.nr_reduce.specs.PlanSizes.{plan_by, plan_of_sizes, KindFits};
+ghost use Rattle.std.specs.Prelude.{◌≡◌, ℕ, List, ◌+◌, ◌*◌, ◌^◌, ◌<◌, ◌≤◌, ◌++◌, Option, None, Some, length, take, option_map, IfOk};
+ghost use Rattle.nr_reduce.specs.Plans.{segments_for, chunk_for, moved_offer, argument_offer, write_size, reply_size, given_region};
+ghost use Rattle.nr_reduce.specs.PlanSizes.{ItemFits, KindFits, send_size, auto_offer_sizes, auto_kind, auto_sizes, item_kind, sizes_by, one_segment, read_outline, kind_outline, own_outline};
+ghost use Rattle.nr_reduce.specs.CallOutlines.{lengths_of, outline_plan};
 
 use crate::call::Lengths;
-use crate::cutting::reducible_item;
-use crate::item::{Item, Of, is_nfs, reader_at};
-use crate::largest::{largest_reply, number_after};
+use crate::item::{Item, is_nfs};
+use crate::largest::number_after;
 use crate::limits::{READ, READLINK};
+use crate::parts::PayloadFacts;
+use crate::two_slices::{from_offset, up_to, with_zeros};
+use nr_header::{HEADER_LEN_MIN, read_list_len, reply_chunk_len, write_chunk_len};
 use nr_nfs_base::{LINK_TARGET_MAX, TRANSFER_MAX, skip_to_read_count};
-use nr_rpc::call_target;
-use nr_xdr::{Octets, Reader};
+use nr_xdr::{Memory, Octets, Reader};
+use std::alloc::Global;
 
 /// How a call is sent (RFC 8166 section 3.5): the stream that goes inline; the position of the read chunk, the lengths of
 /// its segments and the bytes of its region; the lengths of the segments of a write chunk and of a reply chunk.
@@ -26,6 +28,43 @@ pub struct Plan {
     pub reply: Option<Lengths>,
 }
 
+/// The lengths, in bytes, of the segments of a chunk: of its one segment, or those that an offer gives.
+#[derive(Clone, Copy)]
+pub enum ChunkLengths<'a> {
+    One([u32; 1]),
+    Given(&'a [u32]),
+}
+
+impl<'a> ChunkLengths<'a> {
+    /// The lengths as a list.
+    pub fn as_slice(&self) -> &[u32]
+        ensures { result.now ≡ lengths_of self.now }
+    {
+        match self {
+            ChunkLengths::One(lengths) => lengths.as_slice(),
+            ChunkLengths::Given(lengths) => lengths,
+        }
+    }
+}
+
+/// The read chunk of a call: its position in the payload, the lengths of its segments, and how many bytes its region has: those
+/// of the payload from the position on, and zeros after them.
+#[derive(Clone, Copy)]
+pub struct ReadOutline<'a> {
+    pub position: u32,
+    pub lengths: ChunkLengths<'a>,
+    pub len: u32,
+}
+
+/// A [`Plan`] that owns no bytes (RFC 8166 section 3.5): the read chunk, the write chunk and the reply chunk that a call offers.
+/// The bytes before the position of the read chunk go inline, without one all.
+#[derive(Clone, Copy)]
+pub struct Outline<'a> {
+    pub read: Option<ReadOutline<'a>>,
+    pub write: Option<ChunkLengths<'a>>,
+    pub reply: Option<ChunkLengths<'a>>,
+}
+
 /// The kind of a message: none of the payload's bytes goes in a read chunk, or its item, or all of them (RFC 8166 section
 /// 3.5).
 #[derive(Clone, Copy)]
@@ -35,7 +74,7 @@ pub(crate) enum MessageKind {
     Long,
 }
 
-/// A plan before it owns bytes: how many bytes the write chunk and the reply chunk have, where they are offered.
+/// The kind of a plan's message, and how many bytes the write chunk and the reply chunk have, if they are offered.
 #[derive(Clone, Copy)]
 pub(crate) struct PlanSizes {
     pub(crate) kind: MessageKind,
@@ -44,48 +83,46 @@ pub(crate) struct PlanSizes {
 }
 
 /// How many segments a chunk of so many bytes has.
-fn segment_count(len: usize) -> usize
+fn segment_count(len: u32) -> usize
     ensures { result ≡ length (segments_for len) }
 {
     let _ = len;
     1
 }
 
-/// The size of a write chunk in a header (RFC 8166 section 4.3.2).
+/// The size of a write chunk in a header.
 fn write_size(len: Option<u32>) -> u128
     ensures is { result ≡ write_size (chunk_for len) }
     ensures small { result < 2 ^ 100 }
 {
     match len {
-        Some(len) => 8 + 16 * segment_count(len as usize) as u128,
+        Some(len) => write_chunk_len(segment_count(len)),
         None => 0,
     }
 }
 
-/// The size of a reply chunk in a header (RFC 8166 section 4.3.3), beside that of its absence.
+/// The size of a reply chunk in a header, beside that of its absence.
 fn reply_size(len: Option<u32>) -> u128
     ensures is { result ≡ reply_size (chunk_for len) }
     ensures small { result < 2 ^ 100 }
 {
     match len {
-        Some(len) => 4 + 16 * segment_count(len as usize) as u128,
+        Some(len) => reply_chunk_len(segment_count(len)),
         None => 0,
     }
 }
 
-/// The size of the Send of a plan of these sizes.
-#[tactic(auto, unfolding(crate::specs::Plans::plan_size))]
-pub(crate) fn send_size(payload: &[u8], sizes: PlanSizes) -> u128
-    requires { KindFits payload.now sizes.kind }
-    ensures { result ≡ plan_size (plan_of_sizes payload.now sizes) }
+/// The size of the Send of a plan of these sizes, for a payload of `len` bytes.
+pub(crate) fn send_size(len: usize, sizes: PlanSizes) -> u128
+    ensures { result ≡ send_size len sizes }
 {
     let (entries, inline) = match sizes.kind {
-        MessageKind::Short => (0, payload.len()),
-        MessageKind::Chunked(item) => (segment_count(item.len as usize), item.pos),
-        MessageKind::Long => (segment_count(payload.len()), 0),
+        MessageKind::Short => (0, len),
+        MessageKind::Chunked(item) => (1, item.pos),
+        MessageKind::Long => (1, 0),
     };
-    let lists = 24 * entries as u128 + write_size(sizes.write) + reply_size(sizes.reply);
-    28 + lists + inline as u128
+    let lists = read_list_len(entries) + write_size(sizes.write) + reply_size(sizes.reply);
+    HEADER_LEN_MIN as u128 + lists + inline as u128
 }
 
 /// How many bytes of its results a READ of this count may have in a write chunk.
@@ -98,8 +135,9 @@ fn moved_offer(count: Option<u32>) -> Option<u32>
     }
 }
 
+/// How many bytes the write chunk has that a call with these arguments may offer.
 #[tactic(auto, using(crate::proofs::Places::count_in_read))]
-fn argument_offer(prog: u32, vers: u32, proc: u32, arguments: Reader<'_>) -> Option<u32>
+pub(crate) fn argument_offer(prog: u32, vers: u32, proc: u32, arguments: Reader<'_>) -> Option<u32>
     ensures { result ≡ argument_offer prog vers proc arguments.entry }
 {
     if !is_nfs(prog, vers) {
@@ -112,115 +150,181 @@ fn argument_offer(prog: u32, vers: u32, proc: u32, arguments: Reader<'_>) -> Opt
     }
 }
 
-/// How many bytes the write chunk has that a call may offer: a READ and a READLINK may.
-fn write_offer(payload: &[u8]) -> Option<u32>
-    ensures { result ≡ write_offer payload.now }
+/// What a call offers if its form is left open: nothing if each reply to it fits a message of `down` bytes, else a write
+/// chunk if it may, else a reply chunk.
+fn auto_offer(facts: PayloadFacts, down: u32) -> (Option<u32>, Option<u32>)
+    ensures { result ≡ auto_offer_sizes facts down }
 {
-    match call_target(payload) {
-        Some(target) => {
-            let arguments = reader_at(payload, target.args_at);
-            argument_offer(target.prog, target.vers, target.proc, arguments)
-        }
-        None => None,
+    if HEADER_LEN_MIN as u64 + u64::from(facts.largest) <= u64::from(down) {
+        return (None, None);
+    }
+    match facts.offer {
+        Some(len) => (Some(len), None),
+        None => (None, Some(facts.largest)),
     }
 }
 
-/// What a call offers where its form is left open: nothing where each reply to it fits a message of `down` bytes, else a
-/// write chunk where it may, else a reply chunk.
-fn auto_offer(payload: &[u8], down: u32) -> (Option<u32>, Option<u32>)
-    ensures { plan_by payload.now MessageKind.Short result.0 result.1 ≡ auto_offer payload.now down (inline_plan payload.now) }
+fn sizes_by(kind: MessageKind, write: Option<u32>, reply: Option<u32>) -> PlanSizes
+    ensures { result ≡ sizes_by kind write reply }
 {
-    let largest = largest_reply(payload);
-    if 28 + u64::from(largest) <= u64::from(down) {
-        return (None, None);
-    }
-    match write_offer(payload) {
-        Some(len) => (Some(len), None),
-        None => (None, Some(largest)),
-    }
+    PlanSizes { kind, write, reply }
 }
 
 /// The first kind of message of which the Send has at most `up` bytes: inline, with the item in a chunk, all in a chunk.
-fn auto_kind(payload: &[u8], write: Option<u32>, reply: Option<u32>, up: u32) -> MessageKind
-    ensures plan { plan_by payload.now result write reply ≡ auto_plan payload.now up (plan_by payload.now MessageKind.Short write reply) }
-    ensures fits { KindFits payload.now result }
+fn auto_kind(facts: PayloadFacts, write: Option<u32>, reply: Option<u32>, up: u32) -> MessageKind
+    requires { ItemFits facts.len facts.item }
+    ensures kind { result ≡ auto_kind facts write reply up }
+    ensures fits { KindFits facts.len result }
 {
-    let inline = PlanSizes {
-        kind: MessageKind::Short,
-        write,
-        reply,
-    };
-    let inline_size = send_size(payload, inline);
+    let inline_size = send_size(facts.len, sizes_by(MessageKind::Short, write, reply));
     if inline_size <= u128::from(up) {
         return MessageKind::Short;
     }
-    match reducible_item(&Of::Call, payload) {
-        Some(item) => {
-            let reduced = PlanSizes {
-                kind: MessageKind::Chunked(item),
-                write,
-                reply,
-            };
-            let reduced_size = send_size(payload, reduced);
-            if reduced_size <= u128::from(up) {
-                MessageKind::Chunked(item)
-            } else {
-                MessageKind::Long
-            }
-        }
-        None => MessageKind::Long,
+    let Some(item) = facts.item else {
+        return MessageKind::Long;
+    };
+    let reduced_size = send_size(
+        facts.len,
+        sizes_by(MessageKind::Chunked(item), write, reply),
+    );
+    if reduced_size <= u128::from(up) {
+        MessageKind::Chunked(item)
+    } else {
+        MessageKind::Long
     }
 }
 
 /// The form that is left open.
-pub(crate) fn auto_sizes(payload: &[u8], up: u32, down: u32) -> PlanSizes
-    ensures plan { plan_of_sizes payload.now result ≡ auto_plan payload.now up (auto_offer payload.now down (inline_plan payload.now)) }
-    ensures fits { KindFits payload.now result.kind }
+pub(crate) fn auto_sizes(facts: PayloadFacts, up: u32, down: u32) -> PlanSizes
+    requires { ItemFits facts.len facts.item }
+    ensures sizes { result ≡ auto_sizes facts up down }
+    ensures fits { KindFits facts.len result.kind }
 {
-    let (write, reply) = auto_offer(payload, down);
-    PlanSizes {
-        kind: auto_kind(payload, write, reply, up),
-        write,
-        reply,
-    }
+    let (write, reply) = auto_offer(facts, down);
+    sizes_by(auto_kind(facts, write, reply, up), write, reply)
 }
 
 /// Nothing in chunks.
 pub(crate) fn inline_sizes() -> PlanSizes
-    ensures { result ≡ record { kind = MessageKind.Short; write = None; reply = None } }
+    ensures { result ≡ sizes_by MessageKind.Short None None }
 {
-    PlanSizes {
-        kind: MessageKind::Short,
-        write: None,
-        reply: None,
-    }
+    sizes_by(MessageKind::Short, None, None)
 }
 
-/// The item in a chunk, and a write chunk for that of the reply, where there are such.
-#[tactic(auto, unfolding(crate::specs::Plans::reduced_plan))]
-pub(crate) fn chunk_sizes(payload: &[u8]) -> PlanSizes
-    ensures plan { plan_of_sizes payload.now result ≡ reduced_plan payload.now (record (inline_plan payload.now) { write = chunk_for (write_offer payload.now) }) }
-    ensures fits { KindFits payload.now result.kind }
+/// The item in a chunk, and a write chunk for that of the reply, if there are such.
+pub(crate) fn chunk_sizes(facts: PayloadFacts) -> PlanSizes
+    requires { ItemFits facts.len facts.item }
+    ensures sizes { result ≡ sizes_by (item_kind facts.item) facts.offer None }
+    ensures fits { KindFits facts.len result.kind }
 {
-    let kind = match reducible_item(&Of::Call, payload) {
+    let kind = match facts.item {
         Some(item) => MessageKind::Chunked(item),
         None => MessageKind::Short,
     };
-    PlanSizes {
-        kind,
-        write: write_offer(payload),
-        reply: None,
-    }
+    sizes_by(kind, facts.offer, None)
 }
 
 /// All in chunks.
-pub(crate) fn long_sizes(payload: &[u8]) -> PlanSizes
-    ensures plan { plan_of_sizes payload.now result ≡ long_plan payload.now (record (inline_plan payload.now) { reply = chunk_for (Some (largest_reply payload.now)) }) }
-    ensures fits { KindFits payload.now result.kind }
+pub(crate) fn long_sizes(facts: PayloadFacts) -> PlanSizes
+    ensures { result ≡ sizes_by MessageKind.Long None (Some facts.largest) }
 {
-    PlanSizes {
-        kind: MessageKind::Long,
-        write: None,
-        reply: Some(largest_reply(payload)),
+    sizes_by(MessageKind::Long, None, Some(facts.largest))
+}
+
+// ---- The outline of these sizes
+
+fn one_segment<'a>(len: u32) -> ChunkLengths<'a>
+    ensures { result ≡ one_segment len }
+{
+    ChunkLengths::One([len])
+}
+
+fn one_chunk<'a>(len: Option<u32>) -> Option<ChunkLengths<'a>>
+    ensures { result ≡ option_map one_segment len }
+{
+    match len {
+        Some(len) => Some(one_segment(len)),
+        None => None,
+    }
+}
+
+fn read_outline<'a>(position: u32, len: u32) -> ReadOutline<'a>
+    ensures { result ≡ read_outline position len }
+{
+    ReadOutline {
+        position,
+        lengths: one_segment(len),
+        len,
+    }
+}
+
+fn kind_outline<'a>(len: usize, kind: MessageKind) -> Option<ReadOutline<'a>>
+    requires fits { KindFits len kind }
+    requires small { len < 2 ^ 32 }
+    ensures { result ≡ kind_outline len kind }
+{
+    match kind {
+        MessageKind::Short => None,
+        MessageKind::Chunked(item) => Some(read_outline(item.pos as u32, item.len)),
+        MessageKind::Long => Some(read_outline(0, len as u32)),
+    }
+}
+
+/// The outline of these sizes, for a payload of `len` bytes.
+pub(crate) fn own_outline<'a>(len: usize, sizes: PlanSizes) -> Outline<'a>
+    requires fits { KindFits len sizes.kind }
+    requires small { len < 2 ^ 32 }
+    ensures { result ≡ own_outline len sizes }
+{
+    Outline {
+        read: kind_outline(len, sizes.kind),
+        write: one_chunk(sizes.write),
+        reply: one_chunk(sizes.reply),
+    }
+}
+
+// ---- The bytes of an outline
+
+/// The bytes of a read chunk's region, for a payload in two pieces.
+pub(crate) fn region_of(
+    alloc: Global,
+    head: &[u8],
+    args: &[u8],
+    chunk: ReadOutline<'_>,
+) -> Result<Octets, Memory>
+    ensures { IfOk result (λ o. o ≡ given_region (head.now ++ args.now) chunk.entry.position chunk.entry.len) }
+{
+    let len = chunk.len as usize;
+    let (first, second) = from_offset(head, args, chunk.position as usize);
+    let (first, second) = up_to(first, second, len);
+    with_zeros(alloc, first, second, len)
+}
+
+/// The bytes before the position of a read chunk, for a payload in two pieces.
+fn before_chunk<'a>(head: &'a [u8], args: &'a [u8], chunk: ReadOutline<'_>) -> (&'a [u8], &'a [u8])
+    ensures { result.0.now ++ result.1.now ≡ take chunk.entry.position (head.now ++ args.now) }
+{
+    up_to(head, args, chunk.position as usize)
+}
+
+impl<'a> Outline<'a> {
+    /// The bytes that go inline, for a payload that stands in two pieces, one after the other: what goes of each. Takes no memory.
+    pub fn inline<'b>(&self, head: &'b [u8], args: &'b [u8]) -> (&'b [u8], &'b [u8])
+        ensures { result.0.now ++ result.1.now ≡ (outline_plan (head.now ++ args.now) self.now).inline }
+    {
+        match self.read {
+            Some(chunk) => before_chunk(head, args, chunk),
+            None => (head, args),
+        }
+    }
+
+    /// The bytes of the read chunk's region, for a payload that stands in two pieces, copied once; none without a read chunk.
+    pub fn region(&self, alloc: Global, head: &[u8], args: &[u8]) -> Result<Octets, Memory>
+        ensures { IfOk result (λ o. o ≡ (outline_plan (head.now ++ args.now) self.now).region) }
+    {
+        match self.read {
+            Some(chunk) => region_of(alloc, head, args, chunk),
+            None => Ok(Octets::new(alloc)),
+        }
     }
 }

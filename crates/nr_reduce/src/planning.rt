@@ -1,160 +1,24 @@
 //! The plan of a call (RFC 8166 section 3.5).
 
-ghost use Rattle.std.specs.Prelude.{◌≡◌, ◌+◌, ◌*◌, ◌^◌, ◌<◌, ◌≤◌, [], Ok, None, Some, length, sum, IfOk};
-ghost use Rattle.nr_reduce.specs.Plans.{segments_for, chunk_for, total, given_total, given_region, given_plan, write_size, reply_size, plan_size, within, plan_of};
-ghost use Rattle.nr_reduce.specs.Items.{stream_of, moved_of};
+ghost use Rattle.std.specs.Prelude.{◌≡◌, ℕ, List, ◌+◌, ◌*◌, ◌^◌, ◌<◌, ◌≤◌, [], Ok, None, Some, length, sum, option_map, IfOk};
+ghost use Rattle.nr_reduce.specs.Plans.{total, given_total, given_region, given_plan, write_size, reply_size, plan_size, within, plan_of};
 ghost use Rattle.nr_reduce.specs.Limits.{given_max};
-ghost use Rattle.nr_reduce.specs.PlanSizes.{plan_of_sizes, KindFits, PlanAnswers};
+ghost use Rattle.nr_reduce.specs.PlanSizes.{facts_of, ItemFits, KindFits, PlanAnswers, outline_within};
+ghost use Rattle.nr_reduce.specs.CallOutlines.{payload_of, IsCall, lengths_of, chunk_lengths, outline_plan, OutlineAnswers};
 
 use crate::call::{Form, Lengths, Offer};
-use crate::fault::PayloadFault;
-use crate::item::Item;
+use crate::fault::{PayloadFault, TooLarge};
 use crate::limits::GIVEN_MAX;
 use crate::outline::{
-    MessageKind, Plan, PlanSizes, auto_sizes, chunk_sizes, inline_sizes, long_sizes, send_size,
+    ChunkLengths, Outline, Plan, PlanSizes, ReadOutline, auto_sizes, chunk_sizes, inline_sizes,
+    long_sizes, own_outline, region_of, send_size,
 };
-use nr_header::PAYLOAD_MAX;
+use crate::parts::{CallParts, PayloadFacts, facts_of, facts_of_call};
+use nr_header::{HEADER_LEN_MIN, PAYLOAD_MAX, read_list_len, reply_chunk_len, write_chunk_len};
 use nr_xdr::{Memory, Octets};
 use std::alloc::Global;
 
-// ---- Plans whose offers are not given
-
-/// The segments of a chunk of so many bytes.
-fn segments_for(alloc: Global, len: u32) -> Result<Lengths, Memory>
-    ensures { IfOk result (λ l. l ≡ segments_for len) }
-{
-    Ok(Lengths::from_vec(vec![in alloc; len]?))
-}
-
-fn chunk_for(alloc: Global, len: Option<u32>) -> Result<Option<Lengths>, Memory>
-    ensures { IfOk result (λ l. l ≡ chunk_for len) }
-{
-    match len {
-        Some(len) => Ok(Some(segments_for(alloc, len)?)),
-        None => Ok(None),
-    }
-}
-
-/// The read chunk of a plan, and the bytes of its region.
-#[derive(Drop)]
-struct ReadChunk {
-    read_at: Option<u32>,
-    read: Lengths,
-    region: Octets,
-}
-
-/// The chunks that a plan offers for the reply.
-#[derive(Drop)]
-struct ReplyChunks {
-    write: Option<Lengths>,
-    reply: Option<Lengths>,
-}
-
-fn assembled(
-    alloc: Global,
-    inline: &[u8],
-    chunk: ReadChunk,
-    chunks: ReplyChunks,
-) -> Result<Plan, Memory>
-    ensures { IfOk result (λ p. p ≡ record { inline = inline.now; read_at = chunk.read_at; read = chunk.read; region = chunk.region; write = chunks.write; reply = chunks.reply }) }
-{
-    let inline = Octets::from_slice(alloc, inline)?;
-    let ReadChunk {
-        read_at,
-        read,
-        region,
-    } = chunk;
-    let ReplyChunks { write, reply } = chunks;
-    Ok(Plan {
-        inline,
-        read_at,
-        read,
-        region,
-        write,
-        reply,
-    })
-}
-
-fn no_read_chunk(alloc: Global) -> ReadChunk
-    ensures { result ≡ record { read_at = None; read = []; region = [] } }
-{
-    ReadChunk {
-        read_at: None,
-        read: Lengths::from_vec(Vec::new(alloc)),
-        region: Octets::new(alloc),
-    }
-}
-
-/// A read chunk of these bytes, which are fewer than 2^32, at a position.
-fn read_chunk(alloc: Global, position: u32, region: &[u8]) -> Result<ReadChunk, Memory>
-    requires { length region.now < 2 ^ 32 }
-    ensures { IfOk result (λ c. c ≡ record { read_at = Some position; read = segments_for (length region.now); region = region.now }) }
-{
-    let read = segments_for(alloc, region.len() as u32)?;
-    let region = Octets::from_slice(alloc, region)?;
-    Ok(ReadChunk {
-        read_at: Some(position),
-        read,
-        region,
-    })
-}
-
-fn reply_chunks(alloc: Global, sizes: PlanSizes) -> Result<ReplyChunks, Memory>
-    ensures { IfOk result (λ c. c ≡ record { write = chunk_for sizes.write; reply = chunk_for sizes.reply }) }
-{
-    let write = chunk_for(alloc, sizes.write)?;
-    let reply = chunk_for(alloc, sizes.reply)?;
-    Ok(ReplyChunks { write, reply })
-}
-
-/// The plan whose item is in a chunk.
-fn reduced_plan(
-    alloc: Global,
-    payload: &[u8],
-    item: Item,
-    chunks: ReplyChunks,
-) -> Result<Plan, Memory>
-    requires fits { item.pos + item.len ≤ length payload.now }
-    requires small { length payload.now < 2 ^ 32 }
-    ensures { IfOk result (λ p. p ≡ record { inline = stream_of payload.now item; read_at = Some item.pos; read = segments_for item.len; region = moved_of payload.now item; write = chunks.write; reply = chunks.reply }) }
-{
-    let (stream, behind) = payload.split_at(item.pos);
-    let (content, _) = behind.split_at(item.len as usize);
-    let chunk = read_chunk(alloc, item.pos as u32, content)?;
-    assembled(alloc, stream, chunk, chunks)
-}
-
-/// The plan of these sizes. The payload is copied once.
-fn filled(alloc: Global, payload: &[u8], sizes: PlanSizes) -> Result<Plan, Memory>
-    requires fits { KindFits payload.now sizes.kind }
-    requires small { length payload.now < 2 ^ 32 }
-    ensures { IfOk result (λ p. p ≡ plan_of_sizes payload.now sizes) }
-{
-    let chunks = reply_chunks(alloc, sizes)?;
-    match sizes.kind {
-        MessageKind::Short => assembled(alloc, payload, no_read_chunk(alloc), chunks),
-        MessageKind::Chunked(item) => reduced_plan(alloc, payload, item, chunks),
-        MessageKind::Long => {
-            let chunk = read_chunk(alloc, 0, payload)?;
-            assembled(alloc, &[], chunk, chunks)
-        }
-    }
-}
-
-/// The plan of these sizes, where its Send has at most `up` bytes.
-fn own_plan(alloc: Global, payload: &[u8], sizes: PlanSizes, up: u32) -> Result<Plan, PayloadFault>
-    requires fits { KindFits payload.now sizes.kind }
-    requires small { length payload.now < 2 ^ 32 }
-    ensures { PlanAnswers result (within (plan_size (plan_of_sizes payload.now sizes)) up (Ok (plan_of_sizes payload.now sizes))) }
-{
-    let need = send_size(payload, sizes);
-    if need > u128::from(up) {
-        return Err(PayloadFault::TooLarge { need, room: up });
-    }
-    Ok(filled(alloc, payload, sizes)?)
-}
-
-// ---- Plans whose offers are given
+// ---- The outline of an offer that is given
 
 fn sum_of(lengths: &[u32]) -> u128
     ensures is { result ≡ sum lengths.now }
@@ -190,7 +54,7 @@ fn write_size(lengths: &Option<Lengths>) -> u128
     ensures small { result < 2 ^ 100 }
 {
     match lengths {
-        Some(lengths) => 8 + 16 * lengths.len() as u128,
+        Some(lengths) => write_chunk_len(lengths.len()),
         None => 0,
     }
 }
@@ -200,43 +64,160 @@ fn reply_size(lengths: &Option<Lengths>) -> u128
     ensures small { result < 2 ^ 100 }
 {
     match lengths {
-        Some(lengths) => 4 + 16 * lengths.len() as u128,
+        Some(lengths) => reply_chunk_len(lengths.len()),
         None => 0,
     }
 }
 
-/// The size of the Send of an offer that is given.
+/// The size of the Send of an offer that is given, for a payload of `len` bytes.
 #[tactic(auto, unfolding(crate::specs::Plans::plan_size))]
-fn given_size(payload: &[u8], offer: &Offer) -> u128
-    ensures { result ≡ plan_size (given_plan payload.now offer.now) }
+fn given_size(len: usize, offer: &Offer) -> u128
+    ensures { (payload : List ℕ) → length payload ≡ len → result ≡ plan_size (given_plan payload offer.now) }
 {
     let (entries, inline) = match &offer.read {
-        Some(lengths) => (lengths.len(), payload.len().min(offer.read_at as usize)),
-        None => (0, payload.len()),
+        Some(lengths) => (lengths.len(), len.min(offer.read_at as usize)),
+        None => (0, len),
     };
-    let lists = 24 * entries as u128 + write_size(&offer.write) + reply_size(&offer.reply);
-    28 + lists + inline as u128
+    let lists = read_list_len(entries) + write_size(&offer.write) + reply_size(&offer.reply);
+    HEADER_LEN_MIN as u128 + lists + inline as u128
 }
 
-/// The bytes from a place on, as far as they go, and zeros behind them.
-fn given_region(alloc: Global, payload: &[u8], at: usize, len: usize) -> Result<Octets, Memory>
-    ensures { IfOk result (λ o. o ≡ given_region payload.now at len) }
+fn given_chunk<'a>(lengths: &'a Option<Lengths>) -> Option<ChunkLengths<'a>>
+    ensures { chunk_lengths result ≡ lengths.now }
 {
-    let (_, behind) = payload.split_at(at.min(payload.len()));
-    let (held, _) = behind.split_at(len.min(behind.len()));
-    let mut region = Vec::from_slice(alloc, held)?;
-    region.resize(len, 0)?;
-    Ok(Octets::from_vec(region))
+    match lengths {
+        Some(lengths) => Some(ChunkLengths::Given(lengths.as_slice())),
+        None => None,
+    }
 }
 
-fn copied(alloc: Global, lengths: &Lengths) -> Result<Lengths, Memory>
-    ensures { IfOk result (λ l. l ≡ lengths.now) }
+fn given_read<'a>(position: u32, lengths: &'a Lengths) -> ReadOutline<'a>
+    requires { sum lengths.now ≤ given_max }
+    ensures position { result.position ≡ position }
+    ensures lengths { lengths_of result.lengths ≡ lengths.now }
+    ensures len { result.len ≡ sum lengths.now }
+{
+    let lengths = lengths.as_slice();
+    ReadOutline {
+        position,
+        lengths: ChunkLengths::Given(lengths),
+        len: sum_of(lengths) as u32,
+    }
+}
+
+fn given_outline<'a>(offer: &'a Offer) -> Outline<'a>
+    requires { total offer.now.read ≤ given_max }
+    ensures { (payload : List ℕ) → outline_plan payload result ≡ given_plan payload offer.now }
+{
+    let read = match &offer.read {
+        Some(lengths) => Some(given_read(offer.read_at, lengths)),
+        None => None,
+    };
+    Outline {
+        read,
+        write: given_chunk(&offer.write),
+        reply: given_chunk(&offer.reply),
+    }
+}
+
+/// The outline of an offer, if it is within its limit and its Send has at most `up` bytes.
+fn offer_outline<'a>(len: usize, offer: &'a Offer, up: u32) -> Result<Outline<'a>, TooLarge>
+    ensures { (payload : List ℕ) → length payload ≡ len →
+        OutlineAnswers payload result (within (given_total offer.now) given_max (within (plan_size (given_plan payload offer.now)) up (Ok (given_plan payload offer.now)))) }
+{
+    let need = given_total(offer);
+    if need > u128::from(GIVEN_MAX) {
+        return Err(TooLarge {
+            need,
+            room: GIVEN_MAX,
+        });
+    }
+    let need = given_size(len, offer);
+    if need > u128::from(up) {
+        return Err(TooLarge { need, room: up });
+    }
+    Ok(given_outline(offer))
+}
+
+// ---- Outlines of any form
+
+/// The outline of these sizes, if its Send has at most `up` bytes.
+fn outline_within<'a>(len: usize, sizes: PlanSizes, up: u32) -> Result<Outline<'a>, TooLarge>
+    requires fits { KindFits len sizes.kind }
+    requires small { len < 2 ^ 32 }
+    ensures { result ≡ outline_within len up sizes }
+{
+    let need = send_size(len, sizes);
+    if need > u128::from(up) {
+        return Err(TooLarge { need, room: up });
+    }
+    Ok(own_outline(len, sizes))
+}
+
+fn outline_by<'a>(
+    facts: PayloadFacts,
+    form: &'a Form,
+    up: u32,
+    down: u32,
+) -> Result<Outline<'a>, TooLarge>
+    requires { ItemFits facts.len facts.item }
+    ensures { (payload : List ℕ) → facts ≡ facts_of payload → OutlineAnswers payload result (plan_of payload form.now up down) }
+{
+    let len = facts.len;
+    if len > PAYLOAD_MAX {
+        return Err(TooLarge {
+            need: len as u128,
+            room: PAYLOAD_MAX as u32,
+        });
+    }
+    match form {
+        Form::Auto => outline_within(len, auto_sizes(facts, up, down), up),
+        Form::Inline => outline_within(len, inline_sizes(), up),
+        Form::Chunk => outline_within(len, chunk_sizes(facts), up),
+        Form::Long => outline_within(len, long_sizes(facts), up),
+        Form::Given(offer) => offer_outline(len, offer, up),
+    }
+}
+
+/// How a call is sent in a form, as [`plan`] gives it for the payload, without its bytes: which of them go inline and which
+/// into a region, and which lengths are offered. `TooLarge` with the first limit that it exceeds, as there. Takes no memory.
+pub fn outline_of<'a>(
+    parts: CallParts<'_>,
+    form: &'a Form,
+    up: u32,
+    down: u32,
+) -> Result<Outline<'a>, TooLarge>
+    requires { IsCall parts }
+    ensures { OutlineAnswers (payload_of parts.entry) result (plan_of (payload_of parts.entry) form.now up down) }
+{
+    outline_by(facts_of_call(parts), form, up, down)
+}
+
+// ---- Plans
+
+/// The read chunk of a plan, and the bytes of its region.
+#[derive(Drop)]
+struct ReadChunk {
+    read_at: Option<u32>,
+    read: Lengths,
+    region: Octets,
+}
+
+/// The chunks that a plan offers for the reply.
+#[derive(Drop)]
+struct ReplyChunks {
+    write: Option<Lengths>,
+    reply: Option<Lengths>,
+}
+
+fn copied(alloc: Global, lengths: ChunkLengths<'_>) -> Result<Lengths, Memory>
+    ensures { IfOk result (λ l. l ≡ lengths_of lengths.entry) }
 {
     Ok(Lengths::from_vec(Vec::from_slice(alloc, lengths.as_slice())?))
 }
 
-fn copied_list(alloc: Global, lengths: &Option<Lengths>) -> Result<Option<Lengths>, Memory>
-    ensures { IfOk result (λ l. l ≡ lengths.now) }
+fn copied_chunk(alloc: Global, lengths: Option<ChunkLengths<'_>>) -> Result<Option<Lengths>, Memory>
+    ensures { IfOk result (λ l. l ≡ chunk_lengths lengths.entry) }
 {
     match lengths {
         Some(lengths) => Ok(Some(copied(alloc, lengths)?)),
@@ -244,71 +225,79 @@ fn copied_list(alloc: Global, lengths: &Option<Lengths>) -> Result<Option<Length
     }
 }
 
-/// The read chunk of an offer with these segments.
-fn given_chunk(
-    alloc: Global,
-    payload: &[u8],
-    read_at: u32,
-    read: &Lengths,
-) -> Result<ReadChunk, Memory>
-    requires { sum read.now ≤ given_max }
-    ensures { IfOk result (λ c. c ≡ record { read_at = Some read_at; read = read.now; region = given_region payload.now read_at (sum read.now) }) }
+fn reply_chunks(alloc: Global, outline: Outline<'_>) -> Result<ReplyChunks, Memory>
+    ensures { IfOk result (λ c. c ≡ record { write = chunk_lengths outline.entry.write; reply = chunk_lengths outline.entry.reply }) }
 {
-    let len = sum_of(read.as_slice()) as usize;
-    let region = given_region(alloc, payload, read_at as usize, len)?;
-    let read = copied(alloc, read)?;
+    let write = copied_chunk(alloc, outline.write)?;
+    let reply = copied_chunk(alloc, outline.reply)?;
+    Ok(ReplyChunks { write, reply })
+}
+
+fn no_read_chunk(alloc: Global) -> ReadChunk
+    ensures { result ≡ record { read_at = None; read = []; region = [] } }
+{
+    ReadChunk {
+        read_at: None,
+        read: Lengths::from_vec(Vec::new(alloc)),
+        region: Octets::new(alloc),
+    }
+}
+
+fn read_chunk(alloc: Global, payload: &[u8], chunk: ReadOutline<'_>) -> Result<ReadChunk, Memory>
+    ensures { IfOk result (λ c. c ≡ record { read_at = Some chunk.entry.position; read = lengths_of chunk.entry.lengths; region = given_region payload.now chunk.entry.position chunk.entry.len }) }
+{
+    let region = region_of(alloc, payload, &[], chunk)?;
+    let read = copied(alloc, chunk.lengths)?;
     Ok(ReadChunk {
-        read_at: Some(read_at),
+        read_at: Some(chunk.position),
         read,
         region,
     })
 }
 
-fn given_chunks(alloc: Global, offer: &Offer) -> Result<ReplyChunks, Memory>
-    ensures { IfOk result (λ c. c ≡ record { write = offer.now.write; reply = offer.now.reply }) }
+fn assembled(
+    alloc: Global,
+    inline: &[u8],
+    chunk: ReadChunk,
+    chunks: ReplyChunks,
+) -> Result<Plan, Memory>
+    ensures { IfOk result (λ p. p ≡ record { inline = inline.now; read_at = chunk.read_at; read = chunk.read; region = chunk.region; write = chunks.write; reply = chunks.reply }) }
 {
-    let write = copied_list(alloc, &offer.write)?;
-    let reply = copied_list(alloc, &offer.reply)?;
-    Ok(ReplyChunks { write, reply })
+    let inline = Octets::from_slice(alloc, inline)?;
+    let ReadChunk {
+        read_at,
+        read,
+        region,
+    } = chunk;
+    let ReplyChunks { write, reply } = chunks;
+    Ok(Plan {
+        inline,
+        read_at,
+        read,
+        region,
+        write,
+        reply,
+    })
 }
 
-fn given_plan(alloc: Global, payload: &[u8], offer: &Offer) -> Result<Plan, Memory>
-    requires { total offer.now.read ≤ given_max }
-    ensures { IfOk result (λ p. p ≡ given_plan payload.now offer.now) }
+/// The plan of an outline. The payload is copied once.
+fn filled(alloc: Global, payload: &[u8], outline: Outline<'_>) -> Result<Plan, Memory>
+    ensures { IfOk result (λ p. p ≡ outline_plan payload.now outline.entry) }
 {
-    let chunks = given_chunks(alloc, offer)?;
-    match &offer.read {
-        Some(read) => {
-            let (inline, _) = payload.split_at(payload.len().min(offer.read_at as usize));
-            let chunk = given_chunk(alloc, payload, offer.read_at, read)?;
+    let chunks = reply_chunks(alloc, outline)?;
+    match outline.read {
+        Some(chunk) => {
+            let (inline, _) = payload.split_at(payload.len().min(chunk.position as usize));
+            let chunk = read_chunk(alloc, payload, chunk)?;
             assembled(alloc, inline, chunk, chunks)
         }
         None => assembled(alloc, payload, no_read_chunk(alloc), chunks),
     }
 }
 
-/// The plan of an offer, where it is within its limit and its Send has at most `up` bytes.
-fn offer_plan(alloc: Global, payload: &[u8], offer: &Offer, up: u32) -> Result<Plan, PayloadFault>
-    ensures { PlanAnswers result (within (given_total offer.now) given_max (within (plan_size (given_plan payload.now offer.now)) up (Ok (given_plan payload.now offer.now)))) }
-{
-    let need = given_total(offer);
-    if need > u128::from(GIVEN_MAX) {
-        return Err(PayloadFault::TooLarge {
-            need,
-            room: GIVEN_MAX,
-        });
-    }
-    let need = given_size(payload, offer);
-    if need > u128::from(up) {
-        return Err(PayloadFault::TooLarge { need, room: up });
-    }
-    Ok(given_plan(alloc, payload, offer)?)
-}
-
 /// How a call is sent in a form (RFC 8166 section 3.5), where a Send has at most `up` bytes and one that comes back at most
 /// `down`. `TooLarge` with the first limit that it exceeds: that of a payload, that of an offer that is given, `up`. The
 /// payload is copied at most once.
-#[tactic(auto, unfolding(crate::specs::Plans::plan_of))]
 pub fn plan(
     alloc: Global,
     payload: &[u8],
@@ -318,17 +307,8 @@ pub fn plan(
 ) -> Result<Plan, PayloadFault>
     ensures { PlanAnswers result (plan_of payload.now form.now up down) }
 {
-    if payload.len() > PAYLOAD_MAX {
-        return Err(PayloadFault::TooLarge {
-            need: payload.len() as u128,
-            room: PAYLOAD_MAX as u32,
-        });
-    }
-    match form {
-        Form::Auto => own_plan(alloc, payload, auto_sizes(payload, up, down), up),
-        Form::Inline => own_plan(alloc, payload, inline_sizes(), up),
-        Form::Chunk => own_plan(alloc, payload, chunk_sizes(payload), up),
-        Form::Long => own_plan(alloc, payload, long_sizes(payload), up),
-        Form::Given(offer) => offer_plan(alloc, payload, offer, up),
+    match outline_by(facts_of(payload), form, up, down) {
+        Ok(outline) => Ok(filled(alloc, payload, outline)?),
+        Err(TooLarge { need, room }) => Err(PayloadFault::TooLarge { need, room }),
     }
 }

@@ -2,10 +2,11 @@
 
 ghost use Rattle.std.specs.Prelude.{◌≡◌, ◌+◌, ◌<◌, ◌≤◌, length};
 ghost use Rattle.nr_reduce.specs.Chunks.{item_position, total_at, is_item, is_read_chunk_of_item};
+ghost use Rattle.nr_reduce.specs.CodeViews.{is_read_chunk_of};
 
-use crate::cutting::pad_len;
 use crate::item::{Item, call_item};
 use nr_header::ReadSegment;
+use nr_xdr::pad_len;
 
 /// The position other than 0 of the entries of a read list, `None` if all have position 0. Takes no memory.
 #[tactic(auto, unfolding(crate::specs::Chunks::item_position))]
@@ -50,14 +51,21 @@ fn is_item(item: Option<Item>, position: u32, total: u128) -> bool
     total == len || total == len + pad_len(item.len as usize) as u128
 }
 
+/// Whether the chunk of a read list at a position other than 0, if there is one, is that of this item: at its position, and of its
+/// length, with or without its pad. Takes no memory.
+pub fn is_read_chunk_of(item: Option<Item>, read: &[ReadSegment]) -> bool
+    ensures { result ≡ is_read_chunk_of item read.now (item_position read.now) }
+{
+    match item_position(read) {
+        Some(position) => is_item(item, position, total_at(position, read)),
+        None => true,
+    }
+}
+
 /// Whether the chunk of a read list at a position other than 0, if there is one, is that of the item of a call with this
 /// stream: at the item's place, and of its length, with or without its pad. Takes no memory.
-#[tactic(auto, unfolding(crate::specs::Chunks::is_read_chunk_of_item))]
 pub fn is_read_chunk_of_item(stream: &[u8], read: &[ReadSegment]) -> bool
     ensures { result ≡ is_read_chunk_of_item stream.now read.now }
 {
-    match item_position(read) {
-        Some(position) => is_item(call_item(stream), position, total_at(position, read)),
-        None => true,
-    }
+    is_read_chunk_of(call_item(stream), read)
 }

@@ -3,7 +3,9 @@
 use crate::compare::same;
 use crate::given::{Payload, lists_of, payload_of};
 use nr_header::ReadSegment;
-use nr_reduce::{answers_offer, is_read_chunk_of_item, item_position, total_at};
+use nr_reduce::{
+    Item, answers_offer, is_read_chunk_of, is_read_chunk_of_item, item_position, total_at,
+};
 use std::alloc::Global;
 use std::process::Abort;
 
@@ -46,6 +48,8 @@ fn read_chunks_of_items(rt: HostRuntime) {
         same(&rt, row, item_position(&list), *position);
         same(&rt, row, total_at(72, &list), *total);
         same(&rt, row, is_read_chunk_of_item(&stream, &list), *is_item);
+        let item = Some(Item { pos: 72, len: 5 });
+        same(&rt, row, is_read_chunk_of(item, &list), *is_item);
     }
 }
 

@@ -4,7 +4,10 @@ use crate::compare::same;
 use crate::given::Payload::{Getattr, Mnt, Read, Readlink, Symlink, Write, Zeros};
 use crate::given::Way::{Auto, Chunk, Inline, Long, Offer};
 use crate::given::{Given, Payload, Way, form_of, payload_of};
-use nr_reduce::{Lengths, PayloadFault, Plan, plan, plans_convey_payloads};
+use nr_reduce::{
+    Form, Item, Lengths, PayloadFault, Plan, call_item_of, call_parts, largest_reply_of,
+    outline_of, plan, plans_convey_payloads,
+};
 use std::alloc::Global;
 use std::process::Abort;
 
@@ -414,4 +417,26 @@ fn regions_hold_the_payload(rt: HostRuntime) {
     for (row, (way, want)) in REGIONS.iter().enumerate() {
         region_is(&rt, rt.alloc(), row, *way, want);
     }
+}
+
+/// A WRITE of 925 bytes in form Auto: its head has 40 bytes, and its data begins at 72.
+#[test]
+fn outlines_own_no_bytes(rt: HostRuntime) {
+    let payload = payload_of(&rt, rt.alloc(), Write(925));
+    let parts = call_parts(&payload).expect(&rt, "a call");
+    same(&rt, 0, (parts.head.len(), parts.args.len()), (40, 960));
+    same(&rt, 1, largest_reply_of(parts), 160);
+    same(
+        &rt,
+        2,
+        call_item_of(parts),
+        Some(Item { pos: 72, len: 925 }),
+    );
+    let outline = outline_of(parts, &Form::Auto, 1024, 1024).ok();
+    let outline = outline.expect(&rt, "an outline");
+    let (head, args) = outline.inline(parts.head, parts.args);
+    same(&rt, 3, (head.len(), args.len()), (40, 32));
+    let region = outline.region(rt.alloc(), parts.head, parts.args);
+    let region = region.expect(&rt, "memory");
+    same(&rt, 4, region.len(), 925);
 }

@@ -5,3 +5,4 @@ pub mod WordHeads
 pub mod Credentials
 pub mod Calls
 pub mod Replies
+pub mod FittingCredentials

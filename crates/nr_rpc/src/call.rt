@@ -243,8 +243,9 @@ pub fn write_call(alloc: Global, head: &CallHead, args: &[u8]) -> Result<Octets,
     Ok(octets)
 }
 
-/// The head of a call of version 2, as bytes.
-fn version2_octets(alloc: Global, target: CallTarget, cred: &Cred) -> Result<Octets, Memory>
+/// The encoding of the head of a call of version 2, whose credential is borrowed: what [`write_call_of`] puts before the arguments.
+/// `args_at` is ignored.
+pub fn write_call_head(alloc: Global, target: CallTarget, cred: &Cred) -> Result<Octets, Memory>
     requires { CanWriteCred cred.now }
     ensures { IfOk result (λ o. o ≡ call_head (call_of_target target cred.now)) }
 {
@@ -264,7 +265,7 @@ pub fn write_call_of(
     requires { CanWriteCred cred.now }
     ensures { IfOk result (λ o. o ≡ call_encoding (call_of_target target cred.now) args.now) }
 {
-    let mut octets = version2_octets(alloc, target, cred)?;
+    let mut octets = write_call_head(alloc, target, cred)?;
     octets.extend_from_slice(args)?;
     Ok(octets)
 }

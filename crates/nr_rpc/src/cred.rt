@@ -1,6 +1,9 @@
 //! Credentials.
 
 ghost use Rattle.std.specs.Prelude.{◌≡◌, ◌+◌, ◌<◌, ◌≤◌, [], ◌∷◌, ◌++◌, length, IsTrue, ◌↔◌};
+ghost use Rattle.nr_xdr.specs.Items.{AllFit};
+ghost use Rattle.nr_rpc.specs.Constants.{MACHINE_MAX};
+ghost use Rattle.nr_rpc.specs.Credential.{CanWriteCred, CredFits, sys_items};
 
 use crate::constants::GIDS_MAX;
 use arrayvec::ArrayVec;
@@ -78,4 +81,31 @@ pub enum Cred {
     Other {
         flavor: u32,
     },
+}
+
+/// The numbers of the body of AUTH_SYS are words.
+fn sys_fits(stamp: u32, machine: &[u8], uid: u32, gid: u32, gids: &[u32])
+    requires machine { length machine.now ≤ MACHINE_MAX }
+    requires gids { length gids.now ≤ GIDS_MAX }
+    ensures { AllFit (sys_items stamp machine.now uid gid gids.now) }
+{}
+
+/// The numbers of a credential are words, as their types say: for a caller that has to show so of a call. It does nothing.
+pub fn cred_fits(cred: &Cred)
+    requires { CanWriteCred cred.now }
+    ensures { CredFits cred.now }
+{
+    match cred {
+        Cred::None => {}
+        Cred::Sys {
+            stamp,
+            machine,
+            uid,
+            gid,
+            gids,
+        } => sys_fits(*stamp, machine.as_slice(), *uid, *gid, gids.as_slice()),
+        Cred::Other { flavor } => {
+            let _flavor = *flavor;
+        }
+    }
 }

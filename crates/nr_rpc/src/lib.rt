@@ -20,11 +20,11 @@ mod put;
 mod reply;
 mod sys;
 
-pub use call::{call_target, call_xid, read_call, write_call, write_call_of};
+pub use call::{call_target, call_xid, read_call, write_call, write_call_head, write_call_of};
 pub use constants::{
     AUTH_BODY_MAX, AUTH_NONE, AUTH_SYS, GIDS_MAX, MACHINE_MAX, PROG_MISMATCH, RPC_VERSION,
 };
-pub use cred::{Cred, Gids};
+pub use cred::{Cred, Gids, cred_fits};
 pub use fault::HeadFault;
 pub use head::{CallHead, CallTarget, ReplyHead};
 pub use laws::{call_round_trip, one_call_head, one_reply_head, reply_round_trip};

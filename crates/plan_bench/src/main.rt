@@ -1,10 +1,10 @@
-//! A benchmark, run by hand: plans a WRITE of N bytes in form Auto, looks for its item, or asks whether an offer holds the reply
-//! of a READ of N bytes, and prints a sum of the answers. The arguments are the number of rounds, N (at most 32768), and `plan`,
-//! `item` or `holds`.
+//! A benchmark, run by hand: plans a WRITE of N bytes in form Auto, outlines it and fills its region, looks for its item, or asks
+//! whether an offer holds the reply of a READ of N bytes, and prints a sum of the answers. The arguments are the number of rounds,
+//! N (at most 32768), and `plan`, `outline`, `item` or `holds`.
 #![tactic(auto)]
 
 use nr_header::{Chunk, ChunkLists, InlineVec, RdmaSegment};
-use nr_reduce::{Form, PayloadFault, call_item, holds, plan};
+use nr_reduce::{Form, PayloadFault, call_item, call_parts, holds, outline_of, plan};
 use std::alloc::{AllocError, Global};
 use std::env;
 use std::process::ExitCode;
@@ -53,6 +53,18 @@ fn planned(alloc: Global, payload: &[u8]) -> Result<u64, PayloadFault> {
     Ok(plan.region.len() as u64)
 }
 
+/// How many bytes the region of the payload's outline has; none if it is no call, or too large.
+fn outlined(alloc: Global, payload: &[u8]) -> Result<u64, PayloadFault> {
+    let Some(parts) = call_parts(payload) else {
+        return Ok(0);
+    };
+    let Ok(outline) = outline_of(parts, &Form::Auto, SEND_MAX, SEND_MAX) else {
+        return Ok(0);
+    };
+    let region = outline.region(alloc, parts.head, parts.args)?;
+    Ok(region.len() as u64)
+}
+
 /// The place of the payload's item.
 fn item_place(payload: &[u8]) -> u64 {
     match call_item(payload) {
@@ -65,6 +77,14 @@ fn plans(alloc: Global, payload: &[u8], rounds: u32) -> u64 {
     let mut total: u64 = 0;
     for _ in 0..rounds {
         total = total.wrapping_add(planned(alloc, payload).unwrap_or(0));
+    }
+    total
+}
+
+fn outlines(alloc: Global, payload: &[u8], rounds: u32) -> u64 {
+    let mut total: u64 = 0;
+    for _ in 0..rounds {
+        total = total.wrapping_add(outlined(alloc, payload).unwrap_or(0));
     }
     total
 }
@@ -95,6 +115,8 @@ fn total(alloc: Global, what: &str, len: u32, rounds: u32) -> Result<u64, AllocE
     let payload = payload_of(alloc, &WRITE, 2, len)?;
     if what == "plan" {
         Ok(plans(alloc, payload.as_slice(), rounds))
+    } else if what == "outline" {
+        Ok(outlines(alloc, payload.as_slice(), rounds))
     } else {
         Ok(items(payload.as_slice(), rounds))
     }
