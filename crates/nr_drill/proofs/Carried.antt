@@ -58,14 +58,14 @@ or_false : (b : Bool) → (b || false) ≡ b
 or_false true = refl
 or_false false = refl
 
-same_dropped : (link : ℕ) (run : List Mark) (mark : Mark) → is_drop_of link mark ≡ false → is_dropped link (run ++ mark ∷ []) ≡ is_dropped link run
+pub same_dropped : (link : ℕ) (run : List Mark) (mark : Mark) → is_drop_of link mark ≡ false → is_dropped link (run ++ mark ∷ []) ≡ is_dropped link run
 same_dropped link run mark none =
     any_append (is_drop_of link) run (mark ∷ []) ∙ ap (λ (b : Bool). is_dropped link run || (b || false)) none ∙ or_false (is_dropped link run)
 
-same_sent : (link : ℕ) (side : Side) (run : List Mark) (mark : Mark) → written_at link side mark ≡ [] → bytes_sent link side (run ++ mark ∷ []) ≡ bytes_sent link side run
+pub same_sent : (link : ℕ) (side : Side) (run : List Mark) (mark : Mark) → written_at link side mark ≡ [] → bytes_sent link side (run ++ mark ∷ []) ≡ bytes_sent link side run
 same_sent link side run mark none = sent_one link side run mark ∙ ap (λ (xs : List ℕ). bytes_sent link side run ++ xs) none ∙ append-nil (bytes_sent link side run)
 
-same_received : (link : ℕ) (side : Side) (run : List Mark) (mark : Mark) → fed_at link side mark ≡ [] → bytes_received link side (run ++ mark ∷ []) ≡ bytes_received link side run
+pub same_received : (link : ℕ) (side : Side) (run : List Mark) (mark : Mark) → fed_at link side mark ≡ [] → bytes_received link side (run ++ mark ∷ []) ≡ bytes_received link side run
 same_received link side run mark none = received_one link side run mark ∙ ap (λ (xs : List ℕ). bytes_received link side run ++ xs) none ∙ append-nil (bytes_received link side run)
 
 -- ===== a mark of no bytes
@@ -84,10 +84,10 @@ carry_mark link mark d wi wr fi fr standing m c = record {
 
 -- ===== what is written
 
-own_pipes : (link : ℕ) (pipes : Pipes) (d : Drill) → link - 1 < length d.pipes → pipes_of link (with_pipes link pipes d) ≡ pipes
+pub own_pipes : (link : ℕ) (pipes : Pipes) (d : Drill) → link - 1 < length d.pipes → pipes_of link (with_pipes link pipes d) ≡ pipes
 own_pipes link pipes d room = get_or-set_same d.pipes (link - 1) pipes empty_pipes room
 
-still_room : (link : ℕ) (pipes : Pipes) (d : Drill) → link - 1 < length d.pipes → link - 1 < length (with_pipes link pipes d).pipes
+pub still_room : (link : ℕ) (pipes : Pipes) (d : Drill) → link - 1 < length d.pipes → link - 1 < length (with_pipes link pipes d).pipes
 still_room link pipes d room = subst (λ (n : ℕ). link - 1 < n) (sym (length-set d.pipes (link - 1) pipes)) room
 
 carry_output : (link : ℕ) (side : Side) (bytes : List ℕ) (d : Drill) → is_dropped link d.marks ≡ false → Carries link d → Carries link (after_output link side bytes d)
@@ -157,14 +157,14 @@ settled_same s link d w =
 
 -- ===== what is fed
 
-own_fed : (link : ℕ) (side : Side) (bytes : List ℕ) → fed_at link side (marks.Fed link side bytes) ≡ bytes
+pub own_fed : (link : ℕ) (side : Side) (bytes : List ℕ) → fed_at link side (marks.Fed link side bytes) ≡ bytes
 own_fed link Initiator bytes = ap (λ (b : Bool). if b && true then bytes else []) (itself link)
 own_fed link Responder bytes = ap (λ (b : Bool). if b && true then bytes else []) (itself link)
 
-up_fed : (link : ℕ) (bytes : List ℕ) → fed_at link Initiator (marks.Fed link Responder bytes) ≡ []
+pub up_fed : (link : ℕ) (bytes : List ℕ) → fed_at link Initiator (marks.Fed link Responder bytes) ≡ []
 up_fed link bytes = ap (λ (b : Bool). if b && false then bytes else []) (itself link)
 
-down_fed : (link : ℕ) (bytes : List ℕ) → fed_at link Responder (marks.Fed link Initiator bytes) ≡ []
+pub down_fed : (link : ℕ) (bytes : List ℕ) → fed_at link Responder (marks.Fed link Initiator bytes) ≡ []
 down_fed link bytes = ap (λ (b : Bool). if b && false then bytes else []) (itself link)
 
 carry_up : (link : ℕ) (piece rest : List ℕ) (d : Drill) → piece ++ rest ≡ (pipes_of link d).up → is_dropped link d.marks ≡ false → Carries link d →
@@ -403,23 +403,25 @@ carries_revoke : (s : Setting) (link number : ℕ) (d : Drill) → Keeps s link 
 unfolding after_revoke
 carries_revoke s link number d h c = carry_taking_back s link (open_xid s link d.marks (answer_of_line link number d.marks)) d h c
 
-carries_drop : (link : ℕ) (d : Drill) → Carries link d → Carries link (after_drop link d)
-carries_drop link d c =
-    let mark = marks.Drop link in
-    let mid = with_mark mark d in
-    let dropped : is_dropped link (d.marks ++ mark ∷ []) ≡ true =
-    any_append (is_drop_of link) d.marks (mark ∷ []) ∙ ap (λ (b : Bool). is_dropped link d.marks || (b || false)) (itself link) ∙ or_true (is_dropped link d.marks) in
-    record {
-      matched = AtEachMark_more (MatchedMark link) [] d.marks mark c.matched tt;
-      room = still_room link empty_pipes mid c.room;
-      carried = λ e. absurd (true_false (sym dropped ∙ e));
-      gone = λ e. own_pipes link empty_pipes mid c.room;
-    }
+pub dropped_at_last : (link : ℕ) (run : List Mark) → is_dropped link (run ++ marks.Drop link ∷ []) ≡ true
+dropped_at_last link run =
+    any_append (is_drop_of link) run (marks.Drop link ∷ []) ∙ ap (λ (b : Bool). is_dropped link run || (b || false)) (itself link) ∙ or_true (is_dropped link run)
   where
     or_true : (b : Bool) → (b || true) ≡ true
     or_true true = refl
     or_true false = refl
 
+carries_drop : (link : ℕ) (d : Drill) → Carries link d → Carries link (after_drop link d)
+carries_drop link d c =
+    let mark = marks.Drop link in
+    let mid = with_mark mark d in
+    record {
+      matched = AtEachMark_more (MatchedMark link) [] d.marks mark c.matched tt;
+      room = still_room link empty_pipes mid c.room;
+      carried = λ e. absurd (true_false (sym (dropped_at_last link d.marks) ∙ e));
+      gone = λ e. own_pipes link empty_pipes mid c.room;
+    }
+  where
     true_false : true ≡ false → ⊥
     true_false e = absurd cc
 
@@ -600,7 +602,7 @@ line_stands s link (lines.Raw client side bytes) d one opened w some raw h =
     }
 line_stands s link lines.Drain d one opened w some raw h = h
 
-abbrev AreLinks : List ℕ → Type 0
+abbrev pub AreLinks : List ℕ → Type 0
 AreLinks links = AllByRecursion (λ (l : ℕ). 1 ≤ l) links
 
 round_stands : (s : Setting) (link : ℕ) (links : List ℕ) (d : Drill) → 1 ≤ link → AreLinks links → Stands s link d → Stands s link (after_round s links d)

@@ -1,11 +1,14 @@
 -- After a last drain nothing waits, and all calls have completed.
-use Rattle.std.specs.Prelude.{◌≡◌, ◌≢◌, ℕ, Bool, true, false, ◌&&◌, is_none, List, [], ◌∷◌, ◌++◌, Option, None, Some}
+use Rattle.std.specs.Prelude.{◌≡◌, ◌≢◌, ℕ, ◌+◌, ◌≤◌, Bool, true, false, ◌&&◌, is_none, List, [], ◌∷◌, ◌++◌, length, Option, None, Some}
 use Rattle.std.specs.List.{list_all, list_any, AllByRecursion}
 use Rattle.std.proofs.Common.{zero, suc, inl, inr, arith, refl, sym, ap, subst, ◌∙◌, append-nil, append_assoc}
+use Rattle.std.proofs.lemmas.List.{length-append}
 use Rattle.nr_wire.specs.declared.hello.Side.TheVariants.{Initiator, Responder}
+use Rattle.nr_reduce.specs.declared.call.Call.{Call}
 use Rattle.nr_reduce.specs.declared.mark.Mark.{Mark}
 use Rattle.nr_reduce.specs.declared.mark.LinkParameters.{LinkParameters}
-use Rattle.nr_reduce.specs.History.{bytes_received, is_dropped}
+use Rattle.nr_reduce.specs.History.{bytes_sent, bytes_received, is_dropped}
+use Rattle.nr_reduce.specs.Matched.{Matched}
 use Rattle.nr_reduce.specs.ServerState.{ReadyCall, ServerState}
 use Rattle.nr_reduce.specs.Served.{next_call, first_ready}
 use Rattle.nr_laws.specs.Completion.{NothingInTransit}
@@ -16,13 +19,14 @@ use Rattle.nr_reduce.specs.Run.{server}
 use Rattle.nr_reduce.proofs.Steps.{server_one}
 use Rattle.nr_script.specs.declared.script.Line.{Line}
 use Rattle.nr_script.specs.declared.script.Line.TheVariants as lines
-use Rattle.nr_laws.proofs.DistinctKeys.{any_append}
-use Rattle.nr_script.specs.Script.{ScriptLines, HasWritableCred, IsScript}
-use Rattle.nr_drill.specs.Headline.{acts_on, is_raw_of, HasNoRaw, IsLink, EndsWithDrain}
+use Rattle.nr_laws.proofs.Flows.{got_sent}
+use Rattle.nr_script.specs.Script.{ScriptLines, IsScript}
+use Rattle.nr_drill.specs.Headline.{acts_on, IsLink, EndsWithDrain}
 use Rattle.nr_drill.specs.Drill.{SerialServer, Setting, Drill, links_of, pipes_of, cred_of, if_standing, waiting_call, after_round, after_submit, after_up, after_down, after_work, after_forget, after_revoke, after_drop, after_raw}
 use Rattle.nr_drill.specs.Follows.{is_empty, is_still, Drains, Makes, MakeAll, after_line, Follows, parameters_of, setting_of, opened_drill}
-use Rattle.nr_drill.proofs.Followed.{Among, among_range, opened_by_script, Extends, link_of, no_event, submit_adds, up_adds, down_adds, work_adds, forget_adds, revoke_adds, drop_adds, raw_adds}
-use Rattle.nr_drill.proofs.Carried.{NamesClient, opened_stands, lines_passed, drain_stands, are_links, all_name, Carries, both_true, neither_raw, true_not, other_than, IsSameHere, same_here}
+use Rattle.nr_drill.proofs.Followed.{Among, among_range, Extends, link_of, no_event, submit_adds, up_adds, down_adds, work_adds, forget_adds, revoke_adds, drop_adds, raw_adds}
+use Rattle.nr_drill.proofs.Carried.{NamesClient, all_name, both_true, neither_raw, true_not, other_than, IsSameHere, same_here}
+use Rattle.nr_drill.proofs.NoneLost.{NoneLost, follows_lose_nothing}
 
 none_left : (xs : List ℕ) → is_empty xs ≡ true → xs ≡ []
 none_left [] e = refl
@@ -41,18 +45,27 @@ pub drained_still : (s : Setting) (link : ℕ) (links : List ℕ) (rounds : ℕ)
 drained_still s link links zero old new among drains = subst (λ (d : Drill). is_still s d link ≡ true) (sym drains.1) (each_still s old link links among drains.0)
 drained_still s link links (suc rounds) old new among drains = drained_still s link links rounds (after_round s links old) new among drains.1
 
--- On a link that stands and on which nothing moves, nothing waits.
-pub nothing_waits : (s : Setting) (link : ℕ) (d : Drill) → Carries link d → is_dropped link d.marks ≡ false → is_still s d link ≡ true → NothingInTransit (s.opened link) link d.marks
+no_more : (xs ys rest : List ℕ) → xs ++ rest ≡ ys → length ys ≤ length xs → xs ≡ ys
+no_more xs ys [] e le = sym (append-nil xs) ∙ e
+no_more xs ys (b ∷ rest) e le = absurd (let count : length xs + length (b ∷ rest) ≡ length ys = sym (length-append xs (b ∷ rest)) ∙ ap length e in omega (arith, count, le))
+
+-- On a matched link that isn't dropped, and on which nothing moves, nothing waits.
+nothing_waits : (s : Setting) (link : ℕ) (d : Drill) → Matched link d.marks → NoneLost link d → is_dropped link d.marks ≡ false → is_still s d link ≡ true → NothingInTransit (s.opened link) link d.marks
 unfolding is_still waiting_call
-nothing_waits s link d c standing still =
+nothing_waits s link d matched none standing still =
     let pipes = pipes_of link d in
     let call = if_standing (is_dropped link d.marks) (next_call (s.opened link) link d.marks) in
     let parts = both_true (is_empty pipes.up) (is_empty pipes.down && is_none call) still in
     let more = both_true (is_empty pipes.down) (is_none call) parts.1 in
-    let h = c.carried standing in
+    let up = got_sent link Responder d.marks matched in
+    let down = got_sent link Initiator d.marks matched in
+    let up_len : length (bytes_sent link Initiator d.marks) ≤ length (bytes_received link Responder d.marks) + length pipes.up = none.up standing in
+    let down_len : length (bytes_sent link Responder d.marks) ≤ length (bytes_received link Initiator d.marks) + length pipes.down = none.down standing in
+    let no_up : length pipes.up ≡ 0 = ap length (none_left pipes.up parts.0) in
+    let no_down : length pipes.down ≡ 0 = ap length (none_left pipes.down more.0) in
     record {
-      up = sym (append-nil (bytes_received link Responder d.marks)) ∙ ap (λ (xs : List ℕ). bytes_received link Responder d.marks ++ xs) (sym (none_left pipes.up parts.0)) ∙ h.up;
-      down = sym (append-nil (bytes_received link Initiator d.marks)) ∙ ap (λ (xs : List ℕ). bytes_received link Initiator d.marks ++ xs) (sym (none_left pipes.down more.0)) ∙ h.down;
+      up = no_more (bytes_received link Responder d.marks) (bytes_sent link Initiator d.marks) up.0 up.1 (omega (arith, up_len, no_up));
+      down = no_more (bytes_received link Initiator d.marks) (bytes_sent link Responder d.marks) down.0 down.1 (omega (arith, down_len, no_down));
       executed = ap (λ (b : Bool). if_standing b (next_call (s.opened link) link d.marks)) (sym standing) ∙ none_there call more.1;
     }
 
@@ -75,56 +88,55 @@ same_next o link other old (mark ∷ added) ne own =
     ap (λ (run : List Mark). next_call o link run) (sym (append_assoc old (mark ∷ []) added)) ∙ same_next o link other (old ++ mark ∷ []) added ne own.1 ∙ next_one o link old mark from
 
 -- a link is left as it is
-pub record IsLeft (o : LinkParameters) (link : ℕ) (old new : Drill) : Type 0 where
-  pub waits : NothingInTransit o link old.marks → NothingInTransit o link new.marks
-  pub dropped : is_dropped link new.marks ≡ is_dropped link old.marks
+abbrev IsLeft : Setting → ℕ → Drill → Drill → Type 0
+IsLeft s link old new = is_still s new link ≡ is_still s old link
 
-left_elsewhere : (o : LinkParameters) (link other : ℕ) (old new : Drill) → other ≢ link → Extends other old new → IsLeft o link old new
-left_elsewhere o link other old new ne x =
+left_elsewhere : (s : Setting) (link other : ℕ) (old new : Drill) → 1 ≤ link → 1 ≤ other → other ≢ link → Extends other old new → IsLeft s link old new
+unfolding is_still waiting_call
+left_elsewhere s link other old new one some ne x =
+    let o = s.opened link in
     let same : IsSameHere link old.marks new.marks = subst (IsSameHere link old.marks) (sym x.marks.is) (same_here link other old.marks x.marks.added ne x.marks.own) in
-    record {
-      waits = λ w. record {
-        up = same.received Responder ∙ w.up ∙ sym (same.sent Initiator);
-        down = same.received Initiator ∙ w.down ∙ sym (same.sent Responder);
-        executed = ap (λ (run : List Mark). next_call o link run) x.marks.is ∙ same_next o link other old.marks x.marks.added ne x.marks.own ∙ w.executed;
-      };
-      dropped = same.dropped;
-    }
+    let pipes = x.pipes link (λ same. ne (let a = some in let b = one in let c = same in omega (arith, a, b, c))) in
+    let next : next_call o link new.marks ≡ next_call o link old.marks = ap (λ (run : List Mark). next_call o link run) x.marks.is ∙ same_next o link other old.marks x.marks.added ne x.marks.own in
+    λ i. is_empty (pipes i).up && (is_empty (pipes i).down && is_none (if_standing (same.dropped i) (next i)))
 
 -- by a line that doesn't act on it
-line_leaves : (s : Setting) (o : LinkParameters) (link : ℕ) (line : Line) (d : Drill) → acts_on link line ≡ false → IsLeft o link d (after_line s line d)
-line_leaves s o link (lines.Cred client cred) d e = record { waits = λ w. w; dropped = refl }
-line_leaves s o link (lines.Call client form prog vers proc args) d e = left_elsewhere o link client d (after_submit s client (record { prog = prog; vers = vers; proc = proc; cred = cred_of client d; args = args }) form d) (other_than client link e) (submit_adds s client (record { prog = prog; vers = vers; proc = proc; cred = cred_of client d; args = args }) form d)
-line_leaves s o link (lines.Up client most) d e = left_elsewhere o link client d (after_up s client most d) (other_than client link e) (up_adds s client most d)
-line_leaves s o link (lines.Down client most) d e = left_elsewhere o link client d (after_down s client most d) (other_than client link e) (down_adds s client most d)
-line_leaves s o link (lines.Work client) d e = left_elsewhere o link client d (after_work s client d) (other_than client link e) (work_adds s client d)
-line_leaves s o link (lines.Tick seconds) d e = record { waits = λ w. w; dropped = refl }
-line_leaves s o link (lines.Forget client number) d e = left_elsewhere o link client d (after_forget s client number d) (other_than client link e) (forget_adds s client number d)
-line_leaves s o link (lines.Revoke client number) d e = left_elsewhere o link client d (after_revoke s client number d) (other_than client link e) (revoke_adds s client number d)
-line_leaves s o link (lines.Drop client) d e = left_elsewhere o link client d (after_drop client d) (other_than client link e) (drop_adds client d)
-line_leaves s o link (lines.Raw client side bytes) d e = left_elsewhere o link client d (after_raw client side bytes (is_dropped client d.marks) d) (other_than client link e) (raw_adds client side bytes (is_dropped client d.marks) d)
-line_leaves s o link lines.Drain d e = absurd (true_not e)
+line_leaves : (s : Setting) (link : ℕ) (line : Line) (d : Drill) → 1 ≤ link → NamesClient line → acts_on link line ≡ false → IsLeft s link d (after_line s line d)
+unfolding is_still
+line_leaves s link (lines.Cred client cred) d one some e = refl
+line_leaves s link (lines.Call client form prog vers proc args) d one some e =
+    let call : Call = record { prog = prog; vers = vers; proc = proc; cred = cred_of client d; args = args } in
+    left_elsewhere s link client d (after_submit s client call form d) one some (other_than client link e) (submit_adds s client call form d)
+line_leaves s link (lines.Up client most) d one some e = left_elsewhere s link client d (after_up s client most d) one some (other_than client link e) (up_adds s client most d)
+line_leaves s link (lines.Down client most) d one some e = left_elsewhere s link client d (after_down s client most d) one some (other_than client link e) (down_adds s client most d)
+line_leaves s link (lines.Work client) d one some e = left_elsewhere s link client d (after_work s client d) one some (other_than client link e) (work_adds s client d)
+line_leaves s link (lines.Tick seconds) d one some e = refl
+line_leaves s link (lines.Forget client number) d one some e = left_elsewhere s link client d (after_forget s client number d) one some (other_than client link e) (forget_adds s client number d)
+line_leaves s link (lines.Revoke client number) d one some e = left_elsewhere s link client d (after_revoke s client number d) one some (other_than client link e) (revoke_adds s client number d)
+line_leaves s link (lines.Drop client) d one some e = left_elsewhere s link client d (after_drop client d) one some (other_than client link e) (drop_adds client d)
+line_leaves s link (lines.Raw client side bytes) d one some e =
+    let dropped = is_dropped client d.marks in
+    left_elsewhere s link client d (after_raw client side bytes dropped d) one some (other_than client link e) (raw_adds client side bytes dropped d)
+line_leaves s link lines.Drain d one some e = absurd (true_not e)
 
-made_leaves : (s : Setting) (o : LinkParameters) (clients link : ℕ) (line : Line) (old new : Drill) → acts_on link line ≡ false → Makes s clients line old new → IsLeft o link old new
-made_leaves s o clients link (lines.Cred client cred) old new n e = subst (IsLeft o link old) (sym e) (line_leaves s o link (lines.Cred client cred) old n)
-made_leaves s o clients link (lines.Call client form prog vers proc args) old new n e = subst (IsLeft o link old) (sym e) (line_leaves s o link (lines.Call client form prog vers proc args) old n)
-made_leaves s o clients link (lines.Up client most) old new n e = subst (IsLeft o link old) (sym e) (line_leaves s o link (lines.Up client most) old n)
-made_leaves s o clients link (lines.Down client most) old new n e = subst (IsLeft o link old) (sym e) (line_leaves s o link (lines.Down client most) old n)
-made_leaves s o clients link (lines.Work client) old new n e = subst (IsLeft o link old) (sym e) (line_leaves s o link (lines.Work client) old n)
-made_leaves s o clients link (lines.Tick seconds) old new n e = subst (IsLeft o link old) (sym e) (line_leaves s o link (lines.Tick seconds) old n)
-made_leaves s o clients link (lines.Forget client number) old new n e = subst (IsLeft o link old) (sym e) (line_leaves s o link (lines.Forget client number) old n)
-made_leaves s o clients link (lines.Revoke client number) old new n e = subst (IsLeft o link old) (sym e) (line_leaves s o link (lines.Revoke client number) old n)
-made_leaves s o clients link (lines.Drop client) old new n e = subst (IsLeft o link old) (sym e) (line_leaves s o link (lines.Drop client) old n)
-made_leaves s o clients link (lines.Raw client side bytes) old new n e = subst (IsLeft o link old) (sym e) (line_leaves s o link (lines.Raw client side bytes) old n)
-made_leaves s o clients link lines.Drain old new n e = absurd (true_not n)
+made_leaves : (s : Setting) (clients link : ℕ) (line : Line) (old new : Drill) → 1 ≤ link → NamesClient line → acts_on link line ≡ false → Makes s clients line old new → IsLeft s link old new
+made_leaves s clients link (lines.Cred client cred) old new one some n e = subst (IsLeft s link old) (sym e) (line_leaves s link (lines.Cred client cred) old one some n)
+made_leaves s clients link (lines.Call client form prog vers proc args) old new one some n e = subst (IsLeft s link old) (sym e) (line_leaves s link (lines.Call client form prog vers proc args) old one some n)
+made_leaves s clients link (lines.Up client most) old new one some n e = subst (IsLeft s link old) (sym e) (line_leaves s link (lines.Up client most) old one some n)
+made_leaves s clients link (lines.Down client most) old new one some n e = subst (IsLeft s link old) (sym e) (line_leaves s link (lines.Down client most) old one some n)
+made_leaves s clients link (lines.Work client) old new one some n e = subst (IsLeft s link old) (sym e) (line_leaves s link (lines.Work client) old one some n)
+made_leaves s clients link (lines.Tick seconds) old new one some n e = subst (IsLeft s link old) (sym e) (line_leaves s link (lines.Tick seconds) old one some n)
+made_leaves s clients link (lines.Forget client number) old new one some n e = subst (IsLeft s link old) (sym e) (line_leaves s link (lines.Forget client number) old one some n)
+made_leaves s clients link (lines.Revoke client number) old new one some n e = subst (IsLeft s link old) (sym e) (line_leaves s link (lines.Revoke client number) old one some n)
+made_leaves s clients link (lines.Drop client) old new one some n e = subst (IsLeft s link old) (sym e) (line_leaves s link (lines.Drop client) old one some n)
+made_leaves s clients link (lines.Raw client side bytes) old new one some n e = subst (IsLeft s link old) (sym e) (line_leaves s link (lines.Raw client side bytes) old one some n)
+made_leaves s clients link lines.Drain old new one some n e = absurd (true_not n)
 
-lines_leave : (s : Setting) (o : LinkParameters) (clients link : ℕ) (all : List Line) (old new : Drill) → list_any (acts_on link) all ≡ false → MakeAll s clients all old new → IsLeft o link old new
-lines_leave s o clients link [] old new n e = subst (IsLeft o link old) (sym e) (record { waits = λ w. w; dropped = refl })
-lines_leave s o clients link (line ∷ others) old new n e =
+lines_leave : (s : Setting) (clients link : ℕ) (all : List Line) (old new : Drill) → 1 ≤ link → AllByRecursion NamesClient all → list_any (acts_on link) all ≡ false → MakeAll s clients all old new → IsLeft s link old new
+lines_leave s clients link [] old new one some n e = subst (IsLeft s link old) (sym e) refl
+lines_leave s clients link (line ∷ others) old new one some n e =
     let parts = neither_raw (acts_on link line) (list_any (acts_on link) others) n in
-    let first = made_leaves s o clients link line old e.0 parts.0 e.1 in
-    let rest = lines_leave s o clients link others e.0 new parts.1 e.2 in
-    record { waits = λ w. rest.waits (first.waits w); dropped = rest.dropped ∙ first.dropped }
+    lines_leave s clients link others e.0 new one some.1 parts.1 e.2 ∙ made_leaves s clients link line old e.0 one some.0 parts.0 e.1
 
 -- ===== a script that ends with a drain, for a link
 
@@ -142,31 +154,22 @@ cut_at s clients (line ∷ before) after old new e =
     let r = cut_at s clients before after e.0 new e.2 in
     record { first = r.first; drained = r.drained; rounds = r.rounds; made = (e.0, e.1, r.made); drains = r.drains; later = r.later }
 
-any_front : {X : Type 0} (p : X → Bool) (xs ys : List X) → list_any p (xs ++ ys) ≡ false → list_any p xs ≡ false
-any_front p xs ys e = (neither_raw (list_any p xs) (list_any p ys) (sym (any_append p xs ys) ∙ e)).0
+all_last : {X : Type 0} (P : X → Type 0) (xs ys : List X) → AllByRecursion P (xs ++ ys) → AllByRecursion P ys
+all_last P [] ys h = h
+all_last P (x ∷ xs) ys h = all_last P xs ys h.1
 
-all_front : {X : Type 0} (P : X → Type 0) (xs ys : List X) → AllByRecursion P (xs ++ ys) → AllByRecursion P xs
-all_front P [] ys h = tt
-all_front P (x ∷ xs) ys h = (h.0, all_front P xs ys h.1)
-
--- After a drain that no later line of a link follows nothing waits on it, if it wasn't dropped and no line put bytes into its pipes.
-pub follows_waits : (server : SerialServer) (script : ScriptLines) (run : List Mark) → IsScript script → Follows server script run → (link : ℕ) → IsLink script link → HasNoRaw script link →
+-- After a drain that no later line of a matched link follows nothing waits on it, if it wasn't dropped.
+pub follows_waits : (server : SerialServer) (script : ScriptLines) (run : List Mark) → IsScript script → Follows server script run → (link : ℕ) → IsLink script link → Matched link run →
     is_dropped link run ≡ false → EndsWithDrain script link → NothingInTransit (parameters_of script.opening link) link run
-unfolding opened_drill
-follows_waits server script run is follows link within raw standing ends =
+follows_waits server script run is follows link within matched standing ends =
     let opening = script.opening in
     let s = setting_of server opening in
     let clients = opening.clients in
-    let o = parameters_of opening link in
-    let rest = lines.Drain ∷ ends.after in
     let parts = cut_at s clients ends.before ends.after (opened_drill server opening) follows.last (subst (λ (all : List Line). MakeAll s clients all (opened_drill server opening) follows.last) ends.is_cut follows.makes) in
-    let first = opened_stands server script is link within in
-    let at = lines_passed s clients link ends.before (opened_drill server opening) parts.first within.0 (opened_by_script script is)
-    (all_front HasWritableCred ends.before rest (subst (AllByRecursion HasWritableCred) ends.is_cut is.creds))
-    (all_front NamesClient ends.before rest (subst (AllByRecursion NamesClient) ends.is_cut (all_name opening [] script.lines is.follow_on)))
-    (any_front (is_raw_of link) ends.before rest (ap (λ (all : List Line). list_any (is_raw_of link) all) (sym ends.is_cut) ∙ raw)) parts.made first in
-    let drained = drain_stands s link (links_of clients) parts.rounds parts.first parts.drained within.0 (are_links 1 clients (omega arith)) parts.drains at in
-    let left = lines_leave s o clients link ends.after parts.drained follows.last ends.none_after parts.later in
-    let still = drained_still s link (links_of clients) parts.rounds parts.first parts.drained (among_range link 1 clients within.0 (let b = within.1 in omega (arith, b))) parts.drains in
-    let here : is_dropped link parts.drained.marks ≡ false = sym left.dropped ∙ ap (λ (r : List Mark). is_dropped link r) (sym follows.marks_are) ∙ standing in
-    subst (NothingInTransit o link) (sym follows.marks_are) (left.waits (nothing_waits s link parts.drained drained.carries here still))
+    let names : AllByRecursion NamesClient (ends.before ++ lines.Drain ∷ ends.after) = subst (AllByRecursion NamesClient) ends.is_cut (all_name opening [] script.lines is.follow_on) in
+    let later : AllByRecursion NamesClient ends.after = (all_last NamesClient ends.before (lines.Drain ∷ ends.after) names).1 in
+    let drained = drained_still s link (links_of clients) parts.rounds parts.first parts.drained (among_range link 1 clients within.0 (let b = within.1 in omega (arith, b))) parts.drains in
+    let still : is_still s follows.last link ≡ true = lines_leave s clients link ends.after parts.drained follows.last within.0 later ends.none_after parts.later ∙ drained in
+    let here : is_dropped link follows.last.marks ≡ false = ap (λ (r : List Mark). is_dropped link r) (sym follows.marks_are) ∙ standing in
+    subst (NothingInTransit (parameters_of opening link) link) (sym follows.marks_are)
+    (nothing_waits s link follows.last (subst (Matched link) follows.marks_are matched) (follows_lose_nothing server script run is follows link within) here still)

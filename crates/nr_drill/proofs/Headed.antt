@@ -16,8 +16,8 @@ use Rattle.nr_tree.specs.Sane.{IsSane}
 use Rattle.nr_plain.proofs.PlainServers.{server_is_plain}
 use Rattle.nr_drill.specs.DrillSetup.{drill_setup, server_of}
 use Rattle.nr_drill.specs.Headline.{IsDrillRun}
-use Rattle.nr_drill.specs.InBytes.{RepliedInBytes, RepliesInBytes}
-use Rattle.nr_drill.proofs.TypedDrills.{follows_is_typed, follows_replied}
+use Rattle.nr_drill.specs.InBytes.{RepliedInBytes}
+use Rattle.nr_drill.proofs.TypedDrills.{follows_is_typed}
 use Rattle.nr_drill.proofs.Followed.{follows_is_plain}
 use Rattle.nr_drill.proofs.Carried.{follows_keeps}
 use Rattle.nr_drill.proofs.Promised.{follows_promises, replied_on}
@@ -38,24 +38,21 @@ follows_is_drill server script run is plain replied follows =
       plainly = told.1;
       laws = λ link within. follows_keeps server script run is follows link within;
       memory = λ link within. keeps_memory (parameters_of script.opening link) link run typed (follows_keeps server script run is follows link within).asked;
-      outcomes = λ link within raw. promise.completes link within raw;
+      outcomes = λ link within matched. promise.completes link within matched;
       changes = λ link within before xid moment payload place reply at some.
           changes_are_answered server.reply_to server.adds (parameters_of script.opening link) link run before xid moment payload place reply plain (replied_on server link run told.1) typed
           (AtEachMark_each (ServedMark IsAll (parameters_of script.opening link) link) (ServedMark IsPrefixOf (parameters_of script.opening link) link) [] run (served_mark (parameters_of script.opening link) link)
           (follows_keeps server script run is follows link within).served.each) at some;
-      places = λ link other_link within other_within raw other_raw. promise.places link other_link within other_within raw other_raw;
-      staying = λ link within raw standing kept_memory conveyed. record {
-        client = promise.client_stays link within raw kept_memory conveyed;
-        server = promise.server_stays link within raw kept_memory conveyed;
+      places = λ link other_link within other_within matched other_matched. promise.places link other_link within other_within matched other_matched;
+      staying = λ link within matched standing kept_memory conveyed. record {
+        client = promise.client_stays link within matched kept_memory conveyed;
+        server = promise.server_stays link within matched kept_memory conveyed;
         complete = λ ends.
-            (let waits = follows_waits server script run is follows link within raw standing ends in (waits, promise.complete link within raw kept_memory conveyed waits));
-        done = λ ends. (promise.complete link within raw kept_memory conveyed (follows_waits server script run is follows link within raw standing ends)).has_done (follows_hands server script run is follows link within);
+            (let waits = follows_waits server script run is follows link within matched standing ends in (waits, promise.complete link within matched kept_memory conveyed waits));
+        done = λ ends.
+            (promise.complete link within matched kept_memory conveyed (follows_waits server script run is follows link within matched standing ends)).has_done (follows_hands server script run is follows link within);
       };
     }
-
--- or its server replies in bytes to what is of bytes
-pub served_is_drill : (server : SerialServer) (script : ScriptLines) (run : List Mark) → IsScript script → KeepsReplyLimits (plain_of server) → RepliesInBytes server → Follows server script run → IsDrillRun server script run
-served_is_drill server script run is plain replies follows = follows_is_drill server script run is plain (follows_replied server script run is replies follows) follows
 
 -- So it is of a drill's own server: what is left to a driver is to follow its script, and that its replies are bytes by their type.
 pub drill_is_run : (tree : Tree) (script : ScriptLines) (run : List Mark) → IsSane tree → IsScript script → RepliedInBytes run → Follows (server_of (drill_setup tree script.opening)) script run →

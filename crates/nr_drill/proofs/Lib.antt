@@ -2,6 +2,7 @@ pub mod Lawful
 pub mod Followed
 pub mod Carried
 pub mod Promised
+pub mod NoneLost
 pub mod Drained
 pub mod Handed
 pub mod ByteStreams

@@ -35,7 +35,7 @@ use Rattle.nr_laws.proofs.NeitherEnds.{links_stay, matched_calls_complete}
 use Rattle.nr_script.specs.Script.{ScriptLines, IsScript}
 use Rattle.nr_drill.specs.Drill.{SerialServer, plain_of}
 use Rattle.nr_drill.specs.Follows.{Follows, parameters_of}
-use Rattle.nr_drill.specs.Headline.{KeepsLaws, Completes, PlacesRise, HasNoRaw, IsLink}
+use Rattle.nr_drill.specs.Headline.{KeepsLaws, Completes, PlacesRise, IsLink}
 use Rattle.nr_drill.proofs.Followed.{follows_is_plain, opened_by_script}
 use Rattle.nr_drill.proofs.Carried.{follows_keeps}
 
@@ -78,13 +78,13 @@ in_run o link run before mark xid plan at has = record {
 
 -- What is promised of a run, if it is of its types and the server is a plain one: a clause can't say it without these premises of the laws.
 pub record Promise (server : SerialServer) (script : ScriptLines) (run : List Mark) : Type 0 where
-  pub completes : (link : ℕ) → IsLink script link → HasNoRaw script link → Completes (plain_of server) (journal (plain_of server) run) (parameters_of script.opening link) link run
-  pub places : (link other_link : ℕ) → IsLink script link → IsLink script other_link → HasNoRaw script link → HasNoRaw script other_link → PlacesRise link other_link run
-  pub client_stays : (link : ℕ) → IsLink script link → HasNoRaw script link → HasNoRevoke link run → AreConveyedOrRefused (parameters_of script.opening link) link run →
+  pub completes : (link : ℕ) → IsLink script link → Matched link run → Completes (plain_of server) (journal (plain_of server) run) (parameters_of script.opening link) link run
+  pub places : (link other_link : ℕ) → IsLink script link → IsLink script other_link → Matched link run → Matched other_link run → PlacesRise link other_link run
+  pub client_stays : (link : ℕ) → IsLink script link → Matched link run → HasNoRevoke link run → AreConveyedOrRefused (parameters_of script.opening link) link run →
       end_of_side (parameters_of script.opening link) link Initiator run ≡ None
-  pub server_stays : (link : ℕ) → IsLink script link → HasNoRaw script link → HasNoRevoke link run → AreConveyedOrRefused (parameters_of script.opening link) link run →
+  pub server_stays : (link : ℕ) → IsLink script link → Matched link run → HasNoRevoke link run → AreConveyedOrRefused (parameters_of script.opening link) link run →
       end_of_side (parameters_of script.opening link) link Responder run ≡ None
-  pub complete : (link : ℕ) → IsLink script link → HasNoRaw script link → HasNoRevoke link run → AreConveyedOrRefused (parameters_of script.opening link) link run →
+  pub complete : (link : ℕ) → IsLink script link → Matched link run → HasNoRevoke link run → AreConveyedOrRefused (parameters_of script.opening link) link run →
       NothingInTransit (parameters_of script.opening link) link run → HaveCompleted (parameters_of script.opening link) link run
 
 pub follows_promises : (server : SerialServer) (script : ScriptLines) (run : List Mark) → IsScript script → KeepsReplyLimits (plain_of server) → IsTyped run → Follows server script run → Promise server script run
@@ -93,33 +93,33 @@ follows_promises server script run is plain typed follows =
     let J = journal (plain_of server) run in
     let told = follows_is_plain server script run follows in
     let laws : (link : ℕ) → IsLink script link → KeepsLaws script (parameters_of script.opening link) link run = (λ link within. follows_keeps server script run is follows link within) in
-    let sofar : (link : ℕ) → IsLink script link → HasNoRaw script link → MatchedSoFar (parameters_of script.opening link) link run =
-    (λ link within raw. so_far script (parameters_of script.opening link) link run (laws link within) ((laws link within).matched raw)) in
-    let kept : (link : ℕ) → IsLink script link → HasNoRaw script link → KeepLaws (parameters_of script.opening link) link run =
-    (λ link within raw. record { client = (laws link within).asked.each; server = (laws link within).served.each; matched = (laws link within).matched raw; grant = (laws link within).grant }) in
-    let full : (link : ℕ) → IsLink script link → HasNoRaw script link → InFull (parameters_of script.opening link) link run =
-    (λ link within raw. record { asked = (laws link within).asked; served = (laws link within).served; matched = (laws link within).matched raw; grant = (laws link within).grant }) in
+    let sofar : (link : ℕ) → IsLink script link → Matched link run → MatchedSoFar (parameters_of script.opening link) link run =
+    (λ link within matched. so_far script (parameters_of script.opening link) link run (laws link within) matched) in
+    let kept : (link : ℕ) → IsLink script link → Matched link run → KeepLaws (parameters_of script.opening link) link run =
+    (λ link within matched. record { client = (laws link within).asked.each; server = (laws link within).served.each; matched = matched; grant = (laws link within).grant }) in
+    let full : (link : ℕ) → IsLink script link → Matched link run → InFull (parameters_of script.opening link) link run =
+    (λ link within matched. record { asked = (laws link within).asked; served = (laws link within).served; matched = matched; grant = (laws link within).grant }) in
     record {
-      completes = λ link within raw. (let o = parameters_of script.opening link in record {
-        reply = λ before xid reply at. (let p = replies_have_plans o link run before xid reply typed (sofar link within raw) at in (
+      completes = λ link within matched. (let o = parameters_of script.opening link in record {
+        reply = λ before xid reply at. (let p = replies_have_plans o link run before xid reply typed (sofar link within matched) at in (
           p.0,
           p.1,
-          replies_are_plain server.reply_to server.adds J o link run before xid p.0 reply typed (sofar link within raw) told.0 (plainly_on (plain_of server) link run told.1)
+          replies_are_plain server.reply_to server.adds J o link run before xid p.0 reply typed (sofar link within matched) told.0 (plainly_on (plain_of server) link run told.1)
               (in_run o link run before (marks.Done link xid (outcomes.Reply reply)) xid p.0 at p.1) at,
         ));
-        chunk = λ before xid outcome at. chunk_has_cause o link run before xid outcome typed (sofar link within raw) at;
-        version = λ before xid low high at. no_other_version o link run before xid low high typed (sofar link within raw) at;
+        chunk = λ before xid outcome at. chunk_has_cause o link run before xid outcome typed (sofar link within matched) at;
+        version = λ before xid low high at. no_other_version o link run before xid low high typed (sofar link within matched) at;
         auto = λ earlier before call xid outcome submitted at.
-            auto_has_replies server.reply_to server.adds o link run earlier before call xid outcome plain (replied_on server link run told.1) typed (sofar link within raw) submitted at;
+            auto_has_replies server.reply_to server.adds o link run earlier before call xid outcome plain (replied_on server link run told.1) typed (sofar link within matched) submitted at;
       });
-      places = λ link other_link within other_within raw other_raw before between before_first before_second call form xid other_xid outcome moment other_moment payload other_payload place other_place reply other_reply done first second.
+      places = λ link other_link within other_within matched other_matched before between before_first before_second call form xid other_xid outcome moment other_moment payload other_payload place other_place reply other_reply done first second.
           places_follow server.adds J (parameters_of script.opening link) (parameters_of script.opening other_link) link other_link run before between before_first before_second call form xid other_xid outcome
-          moment other_moment payload other_payload place other_place reply other_reply typed (sofar link within raw) (sofar other_link other_within other_raw) (record { is = refl; places = told.0.places }) done first second;
-      client_stays = λ link within raw kept_memory conveyed.
-          (links_stay server.reply_to server.adds (parameters_of script.opening link) link run (opened_by_script script is link) typed (kept link within raw) kept_memory conveyed plain (replied_on server link run told.1)).0;
-      server_stays = λ link within raw kept_memory conveyed.
-          (links_stay server.reply_to server.adds (parameters_of script.opening link) link run (opened_by_script script is link) typed (kept link within raw) kept_memory conveyed plain (replied_on server link run told.1)).1;
-      complete = λ link within raw kept_memory conveyed waits.
-          matched_calls_complete server.reply_to server.adds (parameters_of script.opening link) link run (opened_by_script script is link) typed (full link within raw) kept_memory conveyed plain
+          moment other_moment payload other_payload place other_place reply other_reply typed (sofar link within matched) (sofar other_link other_within other_matched) (record { is = refl; places = told.0.places }) done first second;
+      client_stays = λ link within matched kept_memory conveyed.
+          (links_stay server.reply_to server.adds (parameters_of script.opening link) link run (opened_by_script script is link) typed (kept link within matched) kept_memory conveyed plain (replied_on server link run told.1)).0;
+      server_stays = λ link within matched kept_memory conveyed.
+          (links_stay server.reply_to server.adds (parameters_of script.opening link) link run (opened_by_script script is link) typed (kept link within matched) kept_memory conveyed plain (replied_on server link run told.1)).1;
+      complete = λ link within matched kept_memory conveyed waits.
+          matched_calls_complete server.reply_to server.adds (parameters_of script.opening link) link run (opened_by_script script is link) typed (full link within matched) kept_memory conveyed plain
           (replied_on server link run told.1) waits;
     }

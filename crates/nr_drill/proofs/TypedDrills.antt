@@ -1,7 +1,7 @@
 -- The run of a drill is of its types: what its script says is, and so are the replies with which calls are executed.
 use Rattle.std.specs.Prelude.{◌-◌, slice_get, slice_index_or, slice_set, replicate}
 use Rattle.std.specs.List.{AllByRecursion}
-use Rattle.std.proofs.Common.{◌≡◌, ℕ, zero, suc, ◌+◌, ◌^◌, ◌<◌, Bool, true, false, List, [], ◌∷◌, ◌++◌, length, map, take, drop, Option, None, Some, refl, sym, ap, subst, ◌∙◌, append-nil}
+use Rattle.std.proofs.Common.{◌≡◌, ℕ, zero, suc, ◌+◌, ◌^◌, ◌<◌, Bool, true, false, List, [], ◌∷◌, ◌++◌, length, map, take, drop, Option, None, Some, refl, sym, subst}
 use Rattle.nr_xdr.specs.Item.{IsBytes}
 use Rattle.nr_xdr.specs.Item.Item.{Unsigned}
 use Rattle.nr_xdr.proofs.WordBytes.{IsBytes_take, IsBytes_drop}
@@ -12,13 +12,11 @@ use Rattle.nr_rpc.specs.declared.cred.Cred.TheVariants as creds
 use Rattle.nr_rpc.specs.declared.head.CallHead.TheVariants.{Version2}
 use Rattle.nr_rpc.specs.Credential.{CredFits, sys_items, auth_of, no_verifier}
 use Rattle.nr_rpc.specs.Call.{version2_items, call_head}
-use Rattle.nr_link.specs.declared.end.End.{End}
 use Rattle.nr_reduce.specs.declared.call.Call.{Call}
 use Rattle.nr_reduce.specs.declared.call.Form.{Form}
 use Rattle.nr_reduce.specs.declared.call.Form.TheVariants as forms
 use Rattle.nr_reduce.specs.declared.call.Submission.{Submission}
 use Rattle.nr_reduce.specs.declared.call.Submission.TheVariants as submissions
-use Rattle.nr_reduce.specs.declared.mark.Entry.{Entry}
 use Rattle.nr_reduce.specs.declared.mark.Mark.{Mark}
 use Rattle.nr_reduce.specs.declared.mark.Mark.TheVariants as marks
 use Rattle.nr_reduce.specs.declared.mark.LinkParameters.{LinkParameters}
@@ -28,25 +26,23 @@ use Rattle.nr_reduce.specs.OutcomesDue.{outcomes_due}
 use Rattle.nr_reduce.specs.ClientState.{call_payload}
 use Rattle.nr_reduce.specs.ServerState.{ReadyCall}
 use Rattle.nr_reduce.specs.SubmitAnswer.{submit_answer_after}
-use Rattle.nr_reduce.specs.Served.{first_ready, next_call}
 use Rattle.nr_reduce.specs.Run.{server, output_due}
 use Rattle.nr_reduce.specs.Asked.{revoked_bytes}
 use Rattle.nr_reduce.proofs.Steps.{AtEachMark_first}
-use Rattle.nr_reduce.proofs.SoFarLaws.{AtEachMark_each}
 use Rattle.nr_reduce.proofs.Placing.{AtEachMark_at}
-use Rattle.nr_reduce.proofs.Standing.{AtEachMark_more, one_more}
+use Rattle.nr_reduce.proofs.Standing.{AtEachMark_more}
 use Rattle.nr_laws.specs.Typed.{IsTypedForm, TypedMark, IsTyped}
 use Rattle.nr_laws.proofs.Bytes.{bytes_both}
 use Rattle.nr_script.specs.declared.script.Line.{Line}
 use Rattle.nr_script.specs.declared.script.Line.TheVariants as lines
 use Rattle.nr_script.specs.Script.{ScriptLines, IsTypedCred, HasWordPosition, IsTypedLine, IsScript}
-use Rattle.nr_drill.specs.Drill.{SerialServer, Setting, Drill, Pipes, plain_of, now, unwritten, after_output, after_all_output, settled, pipes_of, with_pipes, with_mark, with_cred, appended, empty_pipes, cred_of, after_submit, after_feeding, after_feeding_up, after_up, if_standing, waiting_call, after_answer, after_execution, after_work, after_calls, after_drop, after_raw, after_feeding_down, after_handing, after_done, after_dones, after_outcomes, after_down, answer_of_line, open_xid, after_giving_up, after_forget, after_taking_back, after_revoke, after_all_up, after_all_work, after_moves, after_round, after_opening, after_openings, start, links_of}
+use Rattle.nr_drill.specs.Drill.{SerialServer, Setting, Drill, Pipes, plain_of, now, unwritten, after_output, after_all_output, settled, pipes_of, with_pipes, with_mark, with_cred, appended, empty_pipes, cred_of, after_submit, after_feeding, after_feeding_up, after_up, waiting_call, after_answer, after_execution, after_work, after_calls, after_drop, after_raw, after_feeding_down, after_handing, after_done, after_dones, after_outcomes, after_down, answer_of_line, open_xid, after_giving_up, after_forget, after_taking_back, after_revoke, after_all_up, after_all_work, after_moves, after_round, after_opening, after_openings, start, links_of}
 use Rattle.nr_drill.specs.Follows.{after_line, Drains, Makes, MakeAll, Follows, setting_of, opened_drill}
-use Rattle.nr_drill.specs.InBytes.{RepliedMark, RepliedInBytes, RepliesInBytes}
+use Rattle.nr_drill.specs.InBytes.{RepliedMark, RepliedInBytes}
 use Rattle.nr_script.proofs.ByteLists.{no_bytes_lem}
 use Rattle.nr_script.proofs.ByteLists.{AreOfBytes, items_bytes}
 use Rattle.nr_drill.proofs.ByteClients.{client_due}
-use Rattle.nr_drill.proofs.ByteServers.{ReadyOfBytes, server_due, ready_bytes}
+use Rattle.nr_drill.proofs.ByteServers.{server_due}
 
 -- ===== a drill that is of its types
 
@@ -377,71 +373,3 @@ pub follows_is_typed : (server : SerialServer) (script : ScriptLines) (run : Lis
 follows_is_typed server script run is replied follows =
     let last = follows_keeps_by_steps server script run (λ d. RepliedInBytes d.marks → IsTypedDrill d) is follows (typed_if (setting_of server script.opening)) (λ none. start_typed script.opening.clients) in
     subst IsTyped (sym follows.marks_are) (last (subst RepliedInBytes follows.marks_are replied)).typed
-
--- ===== if the server replies in bytes
-
-journal_one : (s : Setting) (run : List Mark) (mark : Mark) → journal (plain_of s.server) (run ++ mark ∷ []) ≡ journal (plain_of s.server) run ++ entries_added (plain_of s.server) mark
-unfolding journal
-journal_one s run mark = one_more (entries_added (plain_of s.server)) run mark
-
-quiet_journal : (s : Setting) (old new : Drill) → AddsQuiet s old new → journal (plain_of s.server) new.marks ≡ journal (plain_of s.server) old.marks
-quiet_journal s old new (Same is) = ap (λ (run : List Mark). journal (plain_of s.server) run) is
-quiet_journal s old new (More mark none is) =
-    ap (λ (run : List Mark). journal (plain_of s.server) run) is ∙ journal_one s old.marks mark
-    ∙ ap (λ (es : List Entry). journal (plain_of s.server) old.marks ++ es) none ∙ append-nil (journal (plain_of s.server) old.marks)
-
-first_is_lem : (calls : List ReadyCall) (call : ReadyCall) → slice_get calls 0 ≡ Some call → AllByRecursion ReadyOfBytes calls → ReadyOfBytes call
-first_is_lem [] call e h = absurd cc
-first_is_lem (c ∷ calls) call e h = (let is : c ≡ call = cc in subst ReadyOfBytes is h.0)
-
-next_bytes_lem : (calls : List ReadyCall) (ended : Option End) (call : ReadyCall) → first_ready calls ended ≡ Some call → AllByRecursion ReadyOfBytes calls → ReadyOfBytes call
-next_bytes_lem calls None call e h = first_is_lem calls call e h
-next_bytes_lem calls (Some end) call e h = absurd cc
-
-standing_next : (dropped : Bool) (call : ReadyCall) (next : Option ReadyCall) → if_standing dropped next ≡ Some call → next ≡ Some call
-standing_next true call next e = absurd cc
-standing_next false call next e = e
-
-waiting_bytes_lem : (s : Setting) (link : ℕ) (run : List Mark) (call : ReadyCall) → waiting_call s link run ≡ Some call → IsTyped run → ReadyOfBytes call
-unfolding waiting_call next_call
-waiting_bytes_lem s link run call e typed =
-    let r = server (s.opened link) link run in
-    next_bytes_lem r.state.ready r.ended call (standing_next (is_dropped link run) call (next_call (s.opened link) link run) e) (ready_bytes (s.opened link) link run typed)
-
-typed_by : (s : Setting) (r : RepliesInBytes s.server) → KeptBySteps s (λ d. IsTypedDrill d × r.Holds (journal (plain_of s.server) d.marks))
-typed_by s r = record {
-  quiet = λ old new adds keeps h. (keeps h.0, subst r.Holds (sym (quiet_journal s old new adds)) h.1);
-  executes = λ link call reply d next is h.
-      (let mark = marks.Execute link call.xid (now d) call.payload (length (journal (plain_of s.server) d.marks)) reply in
-      let J = journal (plain_of s.server) d.marks in
-      let payload = waiting_bytes_lem s link d.marks call next h.0.typed in (
-        marked mark d (r.reply J (now d) call.payload reply h.1 payload is) h.0,
-        subst r.Holds (sym (journal_one s d.marks mark)) (r.more J (now d) call.payload reply h.1 payload is),
-      ));
-}
-
-nothing_held : (s : Setting) (r : RepliesInBytes s.server) → r.Holds (journal (plain_of s.server) [])
-unfolding journal
-nothing_held s r = r.none
-
--- Or if its server replies in bytes.
-pub follows_in_bytes : (server : SerialServer) (script : ScriptLines) (run : List Mark) → IsScript script → RepliesInBytes server → Follows server script run → IsTyped run
-follows_in_bytes server script run is r follows =
-    let s = setting_of server script.opening in
-    let last = follows_keeps_by_steps server script run (λ d. IsTypedDrill d × r.Holds (journal (plain_of server) d.marks)) is follows (typed_by s r) (start_typed script.opening.clients, nothing_held s r) in
-    subst IsTyped (sym follows.marks_are) last.0.typed
-
-replied_mark : (before : List Mark) (mark : Mark) → TypedMark before mark → RepliedMark before mark
-replied_mark before (marks.Execute l xid moment payload place reply) h = h
-replied_mark before (marks.Submit l call form answer) h = tt
-replied_mark before (marks.Wrote l side bytes) h = tt
-replied_mark before (marks.Fed l side bytes) h = tt
-replied_mark before (marks.Done l xid outcome) h = tt
-replied_mark before (marks.Lost l xid) h = tt
-replied_mark before (marks.Forget l xid) h = tt
-replied_mark before (marks.Revoke l xid bytes) h = tt
-replied_mark before (marks.Drop l) h = tt
-
--- Each reply of its run is then bytes.
-pub follows_replied : (server : SerialServer) (script : ScriptLines) (run : List Mark) → IsScript script → RepliesInBytes server → Follows server script run → RepliedInBytes run
-follows_replied server script run is r follows = AtEachMark_each TypedMark RepliedMark [] run replied_mark (follows_in_bytes server script run is r follows)

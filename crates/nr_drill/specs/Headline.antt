@@ -119,7 +119,8 @@ PlacesRise link other_link run = (before between before_first before_second : Li
 abbrev pub IsLink : ScriptLines → ℕ → Type 0
 IsLink script link = (1 ≤ link) × (link ≤ script.opening.clients)
 
--- What is promised of the run of a drill. The ends of each link are opened with what the first line of the script says.
+-- What is promised of the run of a drill. The ends of each link are opened with what the first line of the script says. A link is matched if no
+-- line puts bytes into its pipes (`laws`); it may be if one does, as after it was dropped.
 pub record IsDrillRun (server : SerialServer) (script : ScriptLines) (run : List Mark) : Type 0 where
   pub follows : Follows server script run
   pub typed : IsTyped run
@@ -127,10 +128,10 @@ pub record IsDrillRun (server : SerialServer) (script : ScriptLines) (run : List
   pub plainly : AnsweredByPlainServer (plain_of server) run
   pub laws : (link : ℕ) → IsLink script link → KeepsLaws script (parameters_of script.opening link) link run
   pub memory : (link : ℕ) → IsLink script link → KeepsMemory (parameters_of script.opening link) link run
-  pub outcomes : (link : ℕ) → IsLink script link → HasNoRaw script link → Completes (plain_of server) (journal (plain_of server) run) (parameters_of script.opening link) link run
+  pub outcomes : (link : ℕ) → IsLink script link → Matched link run → Completes (plain_of server) (journal (plain_of server) run) (parameters_of script.opening link) link run
   pub changes : (link : ℕ) → IsLink script link → AnswersChanges server (parameters_of script.opening link) link run
-  pub places : (link other_link : ℕ) → IsLink script link → IsLink script other_link → HasNoRaw script link → HasNoRaw script other_link → PlacesRise link other_link run
-  pub staying : (link : ℕ) → IsLink script link → HasNoRaw script link → is_dropped link run ≡ false → HasNoRevoke link run → AreConveyedOrRefused (parameters_of script.opening link) link run →
+  pub places : (link other_link : ℕ) → IsLink script link → IsLink script other_link → Matched link run → Matched other_link run → PlacesRise link other_link run
+  pub staying : (link : ℕ) → IsLink script link → Matched link run → is_dropped link run ≡ false → HasNoRevoke link run → AreConveyedOrRefused (parameters_of script.opening link) link run →
       Stays script (parameters_of script.opening link) link run
 
 -- ===== the report

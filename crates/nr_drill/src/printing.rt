@@ -257,7 +257,12 @@ fn push_links(text: &mut String, links: &[LinkReport]) -> Result<(), Memory>
     Ok(())
 }
 
-/// The printed bytes of a report.
+/// The printed bytes of a report: a line for each call line, a line for each link that was dropped and each side that ended, and
+/// the journal's length.
+///
+/// # Errors
+///
+/// [`Memory`] if memory ran out.
 #[tactic(auto, unfolding(crate::specs::Shown::text_of))]
 pub fn shown(alloc: Global, report: &Report) -> Result<Octets, Memory>
     ensures { IfOk result (λ text. text ≡ text_of report.now.calls report.now.links (length report.now.journal)) }
@@ -363,6 +368,10 @@ fn push_run_sums(text: &mut String, calls: &[CallReport], len: usize) -> Result<
 
 /// The line of sums of a report: the call lines, the outcomes that were handed over, the calls that weren't sent, the
 /// journal's length, and the bytes of the replies.
+///
+/// # Errors
+///
+/// [`Memory`] if memory ran out.
 #[tactic(auto, unfolding(crate::specs::Shown::sums_of))]
 pub fn summary(alloc: Global, report: &Report) -> Result<Octets, Memory>
     ensures { IfOk result (λ text. text ≡ sums_of report.now.calls (length report.now.journal)) }

@@ -11,13 +11,17 @@ pub type Journal = Sequence<Entry>;
 /// What became of a call.
 #[derive(Drop)]
 pub enum CallState {
-    /// It was accepted under this xid, and nothing came of it yet.
+    /// It was accepted, and nothing came of it yet.
     Open {
+        /// The xid under which it was accepted.
         xid: u32,
     },
-    /// Its outcome was handed over. `place` is what is printed as its place in the journal.
+    /// Its outcome was handed over.
     Done {
+        /// The number of journal entries before it when it was executed. Of a reply that only bytes of the script made it is the
+        /// journal's length at that time. `None` of an ERR_VERS, and of an ERR_CHUNK to a call that wasn't executed.
         place: Option<u64>,
+        /// The reply's payload, or which error message came (RFC 8166 section 4.5).
         outcome: Outcome,
     },
     /// Its link was dropped before that, or its client ended.
@@ -32,12 +36,14 @@ pub enum CallState {
     Dropped,
 }
 
-/// A call line of a script and what became of its call. `number` is the number of the line among those of the client,
-/// from 1.
+/// A call line of a script and what became of its call.
 #[derive(Drop)]
 pub struct CallReport {
+    /// The number of the client, from 1.
     pub client: u32,
+    /// The number of the line among the call lines of the client, from 1.
     pub number: u32,
+    /// What became of the call.
     pub state: CallState,
 }
 
@@ -50,38 +56,54 @@ pub enum LinkState {
     /// The link was dropped.
     Dropped,
     /// A side of it takes no more input.
-    Ended { side: Side, end: End },
+    Ended {
+        /// The side.
+        side: Side,
+        /// Why.
+        end: End,
+    },
 }
 
-/// A link that was dropped, or a side of which ended, by the number of its client.
+/// A link that was dropped, or a side of which ended.
 #[derive(Clone, Copy, PartialEq, Eq)]
 pub struct LinkReport {
+    /// The number of the link's client, from 1.
     pub client: u32,
+    /// How it ended.
     pub state: LinkState,
 }
 
 /// The links that were dropped or that ended, in order. For each link the client's side comes first.
 pub type LinkReports = Sequence<LinkReport>;
 
-/// The bytes that crossed a link each way: what each side wrote, and what it was fed.
+/// The bytes that crossed a link each way. What a side was fed is what the other wrote, if nothing waits and no line of the
+/// script put bytes into the link's pipes.
 #[derive(Drop)]
 pub struct LinkLog {
+    /// What the client wrote.
     pub client_wrote: Octets,
+    /// What the server wrote.
     pub server_wrote: Octets,
+    /// What the client was fed.
     pub client_was_fed: Octets,
+    /// What the server was fed.
     pub server_was_fed: Octets,
 }
 
 /// The logs of the links in order.
 pub type Logs = Sequence<LinkLog>;
 
-/// The report of a drill: what happened, mark by mark; the journal; what became of each call and of each link; and the
-/// logs of both pipes of each link.
+/// The report of a drill.
 #[derive(Drop)]
 pub struct Report {
+    /// What happened, mark by mark.
     pub marks: Marks,
+    /// What the executed calls of all links added, in order.
     pub journal: Journal,
+    /// What became of each call.
     pub calls: CallReports,
+    /// The links that were dropped, and the sides that ended.
     pub links: LinkReports,
+    /// What crossed each link.
     pub logs: Logs,
 }

@@ -157,6 +157,35 @@ fn lines_of_links(rt: HostRuntime) {
     }
 }
 
+/// Two calls and two links.
+fn shown_all(rt: &impl Abort, alloc: Global) -> Vec<u8> {
+    let mut calls = Vec::new(alloc);
+    push_call(rt, alloc, &mut calls, 1);
+    push_call(rt, alloc, &mut calls, 5);
+    let mut links = Vec::new(alloc);
+    for (state, _) in LINKS.iter().take(2) {
+        let link = LinkReport {
+            client: 1,
+            state: *state,
+        };
+        links.push(link).expect(rt, "memory");
+    }
+    let report = report_of(alloc, calls, links);
+    shown(alloc, &report).expect(rt, "memory").into_vec()
+}
+
+#[test]
+fn calls_before_links(rt: HostRuntime) {
+    let want: &[u8] =
+        b"2 7 place 0 reply 01ab\n2 7 lost\nlink 1 dropped\nlink 1 client denied 1 3 nostag\njournal 0\n";
+    same(
+        &rt,
+        0,
+        shown_all(&rt, rt.alloc()),
+        copied(&rt, rt.alloc(), want),
+    );
+}
+
 /// The sums of all rows of calls: four are done, of which one has a reply of two bytes, and four weren't sent.
 fn summed(rt: &impl Abort, alloc: Global) -> Vec<u8> {
     let mut calls = Vec::new(alloc);
