@@ -77,6 +77,13 @@ fpdu_with reserved spare tail segment =
 unfoldable pub encoding : Segment → List ℕ
 encoding segment = fpdu_with 0 0 (replicate (tail_len (ulpdu_size segment)) 0) segment
 
+-- an FPDU in three parts: what comes before the payload, the payload, and what follows it
+abbrev pub segment_header : Segment → List ℕ
+segment_header segment = half_word (ulpdu_size segment) ++ header 0 0 segment
+
+abbrev pub segment_tail : ℕ → List ℕ
+segment_tail n = replicate (tail_len n) 0
+
 -- what has an encoding, apart from the ranges of the numbers
 abbrev pub IsWritable : Segment → Type 0
 IsWritable segment = (opcode_in segment < 16) × (ulpdu_size segment ≤ ULPDU_MAX)

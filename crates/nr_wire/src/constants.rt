@@ -25,6 +25,10 @@ pub const FPDU_MAX: usize = LENGTH_LEN + ULPDU_MAX + 3 + CRC_LEN;
 pub const TAGGED_LEN: usize = 14;
 /// Bytes of the header of an untagged segment (RFC 5041 section 4.3).
 pub const UNTAGGED_LEN: usize = 18;
+/// The most bytes of an FPDU before its segment's payload.
+pub const HEADER_MAX: usize = LENGTH_LEN + UNTAGGED_LEN;
+/// The most bytes of an FPDU after its ULPDU: the pad and the CRC.
+pub const TAIL_MAX: usize = 3 + CRC_LEN;
 /// The bit of an ULPDU's first byte that says that the segment is tagged.
 pub const BIT_TAGGED: u8 = 0x80;
 /// The bit of an ULPDU's first byte that says that the segment is the last of its message.

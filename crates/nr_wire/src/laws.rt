@@ -5,7 +5,7 @@ ghost use Rattle.nr_wire.specs.Constants.{ULPDU_MAX, FPDU_MAX as LONGEST};
 ghost use Rattle.nr_wire.specs.Feeding.{Feeding, feeding_after, feeding_after_step, bytes_taken};
 ghost use Rattle.nr_xdr.specs.Item.{IsBytes};
 ghost use Rattle.nr_wire.specs.Hello.{Hello, IsAccepted, hello_encoding, hello_of};
-ghost use Rattle.nr_wire.specs.Segment.{Segment, Fits, IsSupported, Reads, segment_of, encoding, ulpdu_size, fpdu_size};
+ghost use Rattle.nr_wire.specs.Segment.{Segment, Fits, IsSupported, Reads, segment_of, encoding, payload_in, segment_header, segment_tail, ulpdu_size, fpdu_size};
 ghost use Rattle.nr_wire.specs.Next.{hello_in, segment_in, frame_answer};
 ghost use Rattle.nr_wire.specs.Next.Next.{Whole};
 ghost use Rattle.nr_wire.specs.Stream.{Splits, split, frames_then, awaited_after, IsFrame, IsPartial};
@@ -20,6 +20,11 @@ pub fn round_trip()
         hello_in hello.side (hello_encoding hello ++ more) ≡ Whole hello (length (hello_encoding hello)) }
     ensures segment { (segment : Segment) (more : List ℕ) → IsSupported segment → Fits segment → ulpdu_size segment ≤ ULPDU_MAX →
         segment_in (encoding segment ++ more) ≡ Whole segment (length (encoding segment)) }
+{}
+
+/// The encoding of a segment is what comes before its payload, the payload, and what follows it.
+pub fn frame_in_parts()
+    ensures { (segment : Segment) → encoding segment ≡ segment_header segment ++ (payload_in segment ++ segment_tail (ulpdu_size segment)) }
 {}
 
 /// The answer for the frame at the front of some bytes depends on that frame alone.

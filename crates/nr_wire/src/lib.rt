@@ -21,8 +21,13 @@ mod words;
 mod write;
 
 pub use hello::{Hello, NextHello, Side, read_hello};
-pub use laws::{however_cut, judged_alone, longest_fpdu, one_segment, one_split, round_trip};
+pub use laws::{
+    frame_in_parts, however_cut, judged_alone, longest_fpdu, one_segment, one_split, round_trip,
+};
 pub use segment::{NextSegment, Segment, next_segment};
 pub use stream::{Awaited, bytes_needed, whole_frame};
 pub use words::hyper_at;
-pub use write::{write_hello, write_segment};
+pub use write::{
+    payload_in, segment_header, segment_tail, tagged_header, ulpdu_size, untagged_header,
+    write_hello, write_segment,
+};

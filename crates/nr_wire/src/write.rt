@@ -1,17 +1,21 @@
 //! Writing of hellos and segments.
 
-ghost use Rattle.std.specs.Prelude.{◌≡◌, ℕ, ◌+◌, ◌^◌, ◌<◌, ◌≤◌, true, false, ◌++◌, length, replicate, IfOk, OnOk};
+ghost use Rattle.std.specs.Prelude.{◌≡◌, ℕ, ◌+◌, ◌^◌, ◌<◌, ◌≤◌, true, false, List, ◌++◌, length, IfOk, OnOk};
 ghost use Rattle.nr_xdr.specs.Item.{word, hyper};
 ghost use Rattle.nr_wire.specs.Hello.{hello_encoding};
-ghost use Rattle.nr_wire.specs.Segment.{IsWritable, control, header, opcode_in, payload_in, encoding, tail_len, ulpdu_size};
+ghost use Rattle.arrayvec.specs.ArrayVec.{array_vec_len};
+ghost use Rattle.nr_wire.specs.Fields.{half_word};
+ghost use Rattle.nr_wire.specs.Segment.Segment.{Tagged, Untagged};
+ghost use Rattle.nr_wire.specs.Segment.{IsWritable, control, payload_in, encoding, segment_header, segment_tail, ulpdu_size};
 ghost use Rattle.nr_wire.specs.View.{hello as plain_hello, segment as plain};
 
 use crate::constants::{
-    BIT_LAST, BIT_TAGGED, DDP_VERSION, HELLO_LEN, HELLO_REVISION, PRIVATE_MAX, RDMAP_VERSION,
-    TAGGED_LEN, ULPDU_MAX, UNTAGGED_LEN,
+    BIT_LAST, BIT_TAGGED, DDP_VERSION, HEADER_MAX, HELLO_LEN, HELLO_REVISION, PRIVATE_MAX,
+    RDMAP_VERSION, TAGGED_LEN, TAIL_MAX, ULPDU_MAX, UNTAGGED_LEN,
 };
 use crate::hello::{Hello, key};
 use crate::segment::{Segment, fpdu_size, tail_len};
+use arrayvec::ArrayVec;
 use nr_xdr::{Memory, Octets};
 use std::alloc::Global;
 
@@ -39,68 +43,102 @@ pub fn write_hello(alloc: Global, hello: &Hello) -> Result<Octets, Memory>
     Ok(Octets::from_vec(bytes))
 }
 
-/// Puts the two bytes that open an ULPDU at the end.
-fn push_control(out: &mut Vec<u8>, tagged: bool, last: bool, opcode: u8) -> Result<(), Memory>
+/// Puts some bytes at the end. There is room for them.
+fn append(out: &mut ArrayVec<u8, HEADER_MAX>, bytes: &[u8])
+    requires { array_vec_len out.old + length bytes.now ≤ HEADER_MAX }
+    ensures bytes { out.new.items ≡ out.old.items ++ bytes.now }
+    ensures len { array_vec_len out.new ≡ array_vec_len out.old + length bytes.now }
+{
+    if out.try_extend_from_slice(bytes).is_err() {
+        unreachable!();
+    }
+}
+
+/// The length field of an FPDU, and the two bytes that open its ULPDU.
+#[tactic(auto, unfolding(crate::specs::Fields::half_word))]
+fn opening(len: u16, tagged: bool, last: bool, opcode: u8) -> ArrayVec<u8, HEADER_MAX>
     requires { opcode < 16 }
-    ensures { OnOk result (out.new.items ≡ out.old.items ++ control 0 0 tagged last opcode) }
+    ensures bytes { result.items ≡ half_word len ++ control 0 0 tagged last opcode }
+    ensures len { array_vec_len result ≡ 4 }
 {
     let first = BIT_TAGGED * u8::from(tagged) + BIT_LAST * u8::from(last) + DDP_VERSION;
     let second = 64 * RDMAP_VERSION + opcode;
-    out.extend_from_slice(&[first, second])?;
-    Ok(())
+    let mut out = ArrayVec::new();
+    append(&mut out, &len.to_be_bytes());
+    append(&mut out, &[first, second]);
+    out
 }
 
 /// Puts two numbers at the end.
 #[tactic(auto, unfolding(nr_xdr::specs::Item::word))]
-fn push_words(out: &mut Vec<u8>, first: u32, second: u32) -> Result<(), Memory>
-    ensures { OnOk result (out.new.items ≡ out.old.items ++ (word first ++ word second)) }
+fn append_words(out: &mut ArrayVec<u8, HEADER_MAX>, first: u32, second: u32)
+    requires { array_vec_len out.old + 8 ≤ HEADER_MAX }
+    ensures bytes { out.new.items ≡ out.old.items ++ (word first ++ word second) }
+    ensures len { array_vec_len out.new ≡ array_vec_len out.old + 8 }
 {
-    out.extend_from_slice(&first.to_be_bytes())?;
-    out.extend_from_slice(&second.to_be_bytes())?;
-    Ok(())
+    append(out, &first.to_be_bytes());
+    append(out, &second.to_be_bytes());
 }
 
 /// Puts a number of four bytes and one of eight at the end.
 #[tactic(auto, unfolding(nr_xdr::specs::Item::word, nr_xdr::specs::Item::hyper))]
-fn push_word_hyper(out: &mut Vec<u8>, first: u32, second: u64) -> Result<(), Memory>
-    ensures { OnOk result (out.new.items ≡ out.old.items ++ (word first ++ hyper second)) }
+fn append_word_hyper(out: &mut ArrayVec<u8, HEADER_MAX>, first: u32, second: u64)
+    requires { array_vec_len out.old + 12 ≤ HEADER_MAX }
+    ensures bytes { out.new.items ≡ out.old.items ++ (word first ++ hyper second) }
+    ensures len { array_vec_len out.new ≡ array_vec_len out.old + 12 }
 {
-    out.extend_from_slice(&first.to_be_bytes())?;
-    out.extend_from_slice(&second.to_be_bytes())?;
-    Ok(())
+    append(out, &first.to_be_bytes());
+    append(out, &second.to_be_bytes());
 }
 
-/// Puts the header of a tagged segment at the end.
-fn push_tagged(out: &mut Vec<u8>, last: bool, opcode: u8, stag: u32, to: u64) -> Result<(), Memory>
-    requires { opcode < 16 }
-    ensures { OnOk result (out.new.items ≡ out.old.items ++ (control 0 0 true last opcode ++ word stag ++ hyper to)) }
+/// What an FPDU has before the `len` bytes of payload of a tagged segment (RFC 5044 section 4; RFC 5041 section 4.2), as
+/// [`segment_header`]. Takes no memory.
+#[tactic(auto, unfolding(crate::specs::Segment::header))]
+pub fn tagged_header(
+    last: bool,
+    opcode: u8,
+    stag: u32,
+    to: u64,
+    len: usize,
+) -> ArrayVec<u8, HEADER_MAX>
+    requires opcode { opcode < 16 }
+    requires size { TAGGED_LEN + len ≤ ULPDU_MAX }
+    ensures len { array_vec_len result ≤ HEADER_MAX }
+    ensures bytes { (payload : List ℕ) → length payload ≡ len → result.items ≡ segment_header (Tagged last opcode stag to payload) }
 {
-    push_control(out, true, last, opcode)?;
-    push_word_hyper(out, stag, to)
+    let mut out = opening((TAGGED_LEN + len) as u16, true, last, opcode);
+    append_word_hyper(&mut out, stag, to);
+    out
 }
 
-/// Puts the header of an untagged segment at the end: two words, then the message's number and the offset in it.
-fn push_untagged(
-    out: &mut Vec<u8>,
+/// What an FPDU has before the `len` bytes of payload of an untagged segment (RFC 5044 section 4; RFC 5041 section 4.3), as
+/// [`segment_header`]. `words` are the RsvdULP field and the queue; `place` is the message's number and the offset in it. Takes no
+/// memory.
+#[tactic(auto, unfolding(crate::specs::Segment::header))]
+pub fn untagged_header(
     last: bool,
     opcode: u8,
     words: (u32, u32),
     place: (u32, u32),
-) -> Result<(), Memory>
-    requires { opcode < 16 }
-    ensures { OnOk result (out.new.items ≡ out.old.items
-        ++ (control 0 0 false last opcode ++ word words.0 ++ word words.1 ++ word place.0 ++ word place.1)) }
+    len: usize,
+) -> ArrayVec<u8, HEADER_MAX>
+    requires opcode { opcode < 16 }
+    requires size { UNTAGGED_LEN + len ≤ ULPDU_MAX }
+    ensures len { array_vec_len result ≤ HEADER_MAX }
+    ensures bytes { (payload : List ℕ) → length payload ≡ len → result.items ≡ segment_header (Untagged last opcode words.0 words.1 place.0 place.1 payload) }
 {
-    push_control(out, false, last, opcode)?;
-    push_words(out, words.0, words.1)?;
-    push_words(out, place.0, place.1)
+    let mut out = opening((UNTAGGED_LEN + len) as u16, false, last, opcode);
+    append_words(&mut out, words.0, words.1);
+    append_words(&mut out, place.0, place.1);
+    out
 }
 
-/// Puts a segment's header at the end.
-#[tactic(auto, unfolding(crate::specs::Segment::header))]
-fn push_header(out: &mut Vec<u8>, segment: &Segment) -> Result<(), Memory>
-    requires { opcode_in (plain segment.now) < 16 }
-    ensures { OnOk result (out.new.items ≡ out.old.items ++ header 0 0 (plain segment.now)) }
+/// What an FPDU has before the payload of its segment: the length field and the segment's header, with zeros for its reserved
+/// bits. Takes no memory.
+pub fn segment_header(segment: &Segment) -> ArrayVec<u8, HEADER_MAX>
+    requires { IsWritable (plain segment.now) }
+    ensures bytes { result.items ≡ segment_header (plain segment.now) }
+    ensures len { array_vec_len result ≤ HEADER_MAX }
 {
     match *segment {
         Segment::Tagged {
@@ -108,8 +146,8 @@ fn push_header(out: &mut Vec<u8>, segment: &Segment) -> Result<(), Memory>
             opcode,
             stag,
             to,
-            ..
-        } => push_tagged(out, last, opcode, stag, to),
+            payload,
+        } => tagged_header(last, opcode, stag, to, payload.len()),
         Segment::Untagged {
             last,
             opcode,
@@ -117,12 +155,13 @@ fn push_header(out: &mut Vec<u8>, segment: &Segment) -> Result<(), Memory>
             queue,
             msn,
             offset,
-            ..
-        } => push_untagged(out, last, opcode, (word, queue), (msn, offset)),
+            payload,
+        } => untagged_header(last, opcode, (word, queue), (msn, offset), payload.len()),
     }
 }
 
-fn ulpdu_size(segment: &Segment) -> u16
+/// How many bytes the ULPDU of a segment has: its header and its payload.
+pub fn ulpdu_size(segment: &Segment) -> u16
     requires { ulpdu_size (plain segment.now) ≤ ULPDU_MAX }
     ensures { result ≡ ulpdu_size (plain segment.now) }
 {
@@ -132,7 +171,8 @@ fn ulpdu_size(segment: &Segment) -> u16
     }
 }
 
-fn payload_in<'a>(segment: &Segment<'a>) -> &'a [u8]
+/// The payload of a segment.
+pub fn payload_in<'a>(segment: &Segment<'a>) -> &'a [u8]
     ensures { result.now ≡ payload_in (plain segment.now) }
 {
     match *segment {
@@ -141,26 +181,25 @@ fn payload_in<'a>(segment: &Segment<'a>) -> &'a [u8]
     }
 }
 
-/// Puts the pad and the CRC after an ULPDU of `len` bytes at the end, all zeros.
-fn push_tail(out: &mut Vec<u8>, len: u16) -> Result<(), Memory>
-    ensures { OnOk result (out.new.items ≡ out.old.items ++ replicate (tail_len len) 0) }
+/// What an FPDU has after an ULPDU of `len` bytes (RFC 5044 section 4): the pad and the CRC, all zeros. Takes no memory.
+pub fn segment_tail(len: u16) -> &'static [u8]
+    ensures bytes { result.now ≡ segment_tail len }
+    ensures len { length result.now ≤ TAIL_MAX }
 {
-    const ZEROS: [u8; 8] = [0; 8];
-    out.extend_from_slice(&ZEROS[..tail_len(len)])?;
-    Ok(())
+    static ZEROS: [u8; TAIL_MAX] = [0; TAIL_MAX];
+    &ZEROS[..tail_len(len)]
 }
 
 /// Puts a segment at the end.
-#[tactic(auto, unfolding(crate::specs::Segment::encoding, crate::specs::Fields::half_word))]
+#[tactic(auto, unfolding(crate::specs::Segment::encoding))]
 fn push_segment(out: &mut Vec<u8>, segment: &Segment) -> Result<(), Memory>
     requires { IsWritable (plain segment.now) }
     ensures { OnOk result (out.new.items ≡ out.old.items ++ encoding (plain segment.now)) }
 {
-    let len = ulpdu_size(segment);
-    out.extend_from_slice(&len.to_be_bytes())?;
-    push_header(out, segment)?;
+    out.extend_from_slice(segment_header(segment).as_slice())?;
     out.extend_from_slice(payload_in(segment))?;
-    push_tail(out, len)
+    out.extend_from_slice(segment_tail(ulpdu_size(segment)))?;
+    Ok(())
 }
 
 /// The bytes of a segment, with zeros for its reserved bits, pad and CRC. Its opcode is below 16, and its header and payload
