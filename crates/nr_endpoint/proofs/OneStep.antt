@@ -28,6 +28,9 @@ use Rattle.nr_endpoint.specs.SendQueue.{output_len}
 use Rattle.nr_endpoint.specs.Judging.{with_frame, with_fpdu, with_peer_hello, with_segment_by, with_effect, segment_end, next_frame}
 use Rattle.nr_endpoint.specs.Calls.{after_call, IsStep, QueuesOutput, makes_whole}
 use Rattle.nr_endpoint.specs.Calls.Call.{Feed, FeedOne, OutOfMemory}
+use Rattle.std.specs.Ordering.{nat_cmp}
+use Rattle.std.specs.FinMap.{FinMap}
+use Rattle.nr_regions.specs.RegisteredMemory.{Outside}
 use Rattle.nr_endpoint.specs.EndpointState.{EndpointState, KeepsStaging, cut_frame_len}
 use Rattle.nr_endpoint.proofs.Standing.{live_state}
 use Rattle.nr_endpoint.proofs.StagedFrames.{taken_whole, taken_all, whole_as_staged, front_of}
@@ -172,17 +175,17 @@ staged_facts a old new piece s t len within p taken is =
     }
 
 -- how it is kept: where the frame isn't whole, where it is judged
-pub keeps_partial : {room later : ℕ} (a : Awaited) (st : LinkState) (old new piece : List ℕ) (s t : ℕ) → StagedFacts a old new piece s t → length old ≡ FPDU_MAX →
-    KeepsStaging (record { link = record { awaited = a; rest = take s old; state = st }; staging = old; room = room }) (record { link = record { awaited = a; rest = take (s + t) new; state = st }; staging = new; room = later }) piece
+pub keeps_partial : {room later : ℕ} {outside others : FinMap nat_cmp Outside} (a : Awaited) (st : LinkState) (old new piece : List ℕ) (s t : ℕ) → StagedFacts a old new piece s t → length old ≡ FPDU_MAX →
+    KeepsStaging (record { link = record { awaited = a; rest = take s old; state = st }; staging = old; room = room; outside = outside }) (record { link = record { awaited = a; rest = take (s + t) new; state = st }; staging = new; room = later; outside = others }) piece
 keeps_partial a st old new piece s t facts len = record {
   others = facts.behind (max (length (take (s + t) new)) (cut_frame_len a (take s old) piece))
       (omega (arith, ap (λ (x : List ℕ). length x) facts.front, length-append (take s old) (take t piece), length-take t piece, facts.first, facts.few));
   len = facts.len ∙ sym len;
 }
 
-pub keeps_whole : {room later : ℕ} (a after : Awaited) (st next : LinkState) (old new piece : List ℕ) (s t : ℕ) → StagedFacts a old new piece s t → length old ≡ FPDU_MAX → IsPartial a (take s old) → t ≡ bytes_taken a (take s old) piece →
+pub keeps_whole : {room later : ℕ} {outside others : FinMap nat_cmp Outside} (a after : Awaited) (st next : LinkState) (old new piece : List ℕ) (s t : ℕ) → StagedFacts a old new piece s t → length old ≡ FPDU_MAX → IsPartial a (take s old) → t ≡ bytes_taken a (take s old) piece →
     is_whole a (take s old ++ piece) ≡ true → (s ≡ 0 → is_whole a piece ≡ false) →
-    KeepsStaging (record { link = record { awaited = a; rest = take s old; state = st }; staging = old; room = room }) (record { link = record { awaited = after; rest = []; state = next }; staging = new; room = later }) piece
+    KeepsStaging (record { link = record { awaited = a; rest = take s old; state = st }; staging = old; room = room; outside = outside }) (record { link = record { awaited = after; rest = []; state = next }; staging = new; room = later; outside = others }) piece
 keeps_whole a after st next old new piece s t facts len p taken whole other =
     let cut : length (take s old) + bytes_taken a (take s old) piece ≤ cut_frame_len a (take s old) piece =
     cut_whole a (take s old) piece p whole (λ none. other (sym facts.first ∙ ap (λ (x : List ℕ). length x) none)) in

@@ -257,6 +257,7 @@ pub record IsFedTo (old : EndpointState) (piece : List ℕ) (now : EndpointState
   pub first : ((now ≡ old) × (left ≡ piece)) ⊎ ((now.link.rest ≡ []) ⊎ (left ≡ []))
   pub within : 0 < length left → now.link.state.ended ≡ None → now.link.state.place + length now.link.rest + length left ≤ 2 ^ 62
   pub room : now.room ≡ old.room
+  pub outside : now.outside ≡ old.outside
 
 pub fed_none : (old : EndpointState) (piece : List ℕ) → IsPartial old.link.awaited old.link.rest → (has_ended old.link.state ≡ true → old.link.rest ≡ []) →
     old.link.state.place + length old.link.rest + length piece ≤ 2 ^ 62 → IsFedTo old piece old piece
@@ -268,6 +269,7 @@ fed_none old piece p ended within = record {
   first = inl (refl, refl);
   within = λ _ _. within;
   room = refl;
+  outside = refl;
 }
 
 -- the facts of one advance
@@ -279,6 +281,7 @@ pub record Advanced (now new : EndpointState) (left after : List ℕ) : Type 0 w
   pub partial : IsPartial new.link.awaited new.link.rest
   pub ended_rest : has_ended new.link.state ≡ true → new.link.rest ≡ []
   pub room : new.room ≡ now.room
+  pub outside : new.outside ≡ now.outside
 
 none_left_lem : (b : Bool) (xs after : List ℕ) → after ≡ cond b [] xs → b ≡ true → after ≡ []
 none_left_lem true xs after is e = is
@@ -316,6 +319,7 @@ fed_ended old now new piece left after fed some adv ended =
       first = inr (inr none);
       within = λ _ going. absurd (let h : true ≡ false = sym still ∙ ap (λ (e : Option End). is_some e) going in cc);
       room = adv.room ∙ fed.room;
+      outside = adv.outside ∙ fed.outside;
     }
 
 -- a side that goes on by a frame, or by all that is left
@@ -331,6 +335,7 @@ fed_live old now new piece left after fed some adv live is true e =
       first = inr (inr none);
       within = λ _ going. absurd (let h : true ≡ false = sym e ∙ ap (λ (x : Option End). is_some x) going in cc);
       room = adv.room ∙ fed.room;
+      outside = adv.outside ∙ fed.outside;
     }
 fed_live old now new piece left after fed some adv live is false e =
     let t : ℕ = bytes_taken now.link.awaited now.link.rest left in
@@ -348,6 +353,7 @@ fed_live old now new piece left after fed some adv live is false e =
             first = inr (inl b.rest);
             within = λ _ going. omega (arith, b.place going, bound, ap (λ (x : List ℕ). length x) b.rest, ap (λ (x : List ℕ). length x) rest, length-drop t left, less);
             room = adv.room ∙ fed.room;
+            outside = adv.outside ∙ fed.outside;
           }
       | inr all ↦
           let none : after ≡ [] = rest ∙ drop_all t left all in
@@ -359,6 +365,7 @@ fed_live old now new piece left after fed some adv live is false e =
             first = inr (inr none);
             within = λ more going. absurd (omega (arith, more, ap (λ (x : List ℕ). length x) none));
             room = adv.room ∙ fed.room;
+            outside = adv.outside ∙ fed.outside;
           }
     ]
 
@@ -382,6 +389,7 @@ fed_out old now new piece left after fed some adv live is whole queues =
       first = inr (inr none);
       within = λ _ going. absurd (let h : true ≡ false = sym e ∙ ap (λ (x : Option End). is_some x) going in cc);
       room = adv.room ∙ fed.room;
+      outside = adv.outside ∙ fed.outside;
     }
 
 fed_step : (old now new : EndpointState) (piece left after : List ℕ) → IsFedTo old piece now left → 0 < length left → Advanced now new left after → now.link.state.ended ≡ None → IsStep now.link left new.link → IsFedTo old piece new after

@@ -9,6 +9,9 @@ use Rattle.nr_endpoint.specs.SendQueue.{with_send, with_write, with_request, wri
 use Rattle.nr_endpoint.specs.ReceiveQueue.{delivered, posted}
 use Rattle.nr_endpoint.specs.LinkState.{LinkSide, LinkState, has_ended}
 use Rattle.nr_endpoint.specs.Judging.{with_end_of}
+use Rattle.std.specs.Ordering.{nat_cmp}
+use Rattle.std.specs.FinMap.{FinMap}
+use Rattle.nr_regions.specs.RegisteredMemory.{Outside}
 use Rattle.nr_endpoint.specs.EndpointState.{EndpointState}
 use Rattle.nr_endpoint.specs.Calls.{Call, after_call, after_calls, StandsOn, StandsOnAll, with_state, unless_ended, ended_link}
 use Rattle.nr_endpoint.specs.Calls.Call.{NextEvent, Post, Stop, OutOfMemory, Send, WriteRemote, ReadRemote, Drain, Register, Release}
@@ -30,7 +33,7 @@ pub stands_on : (before : LinkSide) (call : Call) (after : LinkSide) → after �
 stands_on before call after is = λ start calls stands. is ∙ ap (λ (link : LinkSide). after_call link call) stands ∙ sym (after_calls_append start calls call)
 
 -- what holds of the fields holds of the value
-pub seen : {room : ℕ} (before : LinkSide) (staging : List ℕ) (now : EndpointState) (after : LinkSide) (call : Call) → record { link = before; staging = staging; room = room } ≡ now →
+pub seen : {room : ℕ} {outside : FinMap nat_cmp Outside} (before : LinkSide) (staging : List ℕ) (now : EndpointState) (after : LinkSide) (call : Call) → record { link = before; staging = staging; room = room; outside = outside } ≡ now →
     after ≡ after_call before call → after ≡ after_call now.link call
 seen before staging now after call view is = is ∙ ap (λ (e : EndpointState). after_call e.link call) view
 
@@ -90,7 +93,7 @@ released_state l t stag is = ap (λ (s : LinkState). with_state s l) is
 
 -- ---- Where a call does nothing, or some of it
 
-pub told_if : {room : ℕ} (b : Bool) (l : LinkSide) (staging : List ℕ) (now : EndpointState) (t : LinkState) → record { link = l; staging = staging; room = room } ≡ now →
+pub told_if : {room : ℕ} {outside : FinMap nat_cmp Outside} (b : Bool) (l : LinkSide) (staging : List ℕ) (now : EndpointState) (t : LinkState) → record { link = l; staging = staging; room = room; outside = outside } ≡ now →
     t ≡ (if b then record l.state { receive_queue = delivered l.state.receive_queue } else l.state) → with_state t l ≡ (if b then after_call now.link NextEvent else now.link)
 told_if true l staging now t view is = seen l staging now (with_state t l) NextEvent view (told_state l t is)
 told_if false l staging now t view is = ap (λ (s : LinkState). with_state s l) is ∙ ap (λ (e : EndpointState). e.link) view
@@ -116,8 +119,8 @@ WasDrained IsTaken IsAll s t =
     (n : ℕ) × (n ≤ length (writable s.has_hello s.send_queue)) × (t ≡ record s { send_queue = written n s.send_queue })
     × IsTaken (take n (writable s.has_hello s.send_queue)) × IsAll n (length (writable s.has_hello s.send_queue))
 
-pub drained : {room : ℕ} (IsTaken : List ℕ → Type 0) (WasAll IsAll : ℕ → ℕ → Type 0) → ((n len : ℕ) → WasAll n len → IsAll n len) → (before : LinkSide) (staging : List ℕ) (now : EndpointState) (t : LinkState) →
-    record { link = before; staging = staging; room = room } ≡ now → WasDrained IsTaken WasAll before.state t → IsDrained IsTaken IsAll now.link (with_state t before)
+pub drained : {room : ℕ} {outside : FinMap nat_cmp Outside} (IsTaken : List ℕ → Type 0) (WasAll IsAll : ℕ → ℕ → Type 0) → ((n len : ℕ) → WasAll n len → IsAll n len) → (before : LinkSide) (staging : List ℕ) (now : EndpointState) (t : LinkState) →
+    record { link = before; staging = staging; room = room; outside = outside } ≡ now → WasDrained IsTaken WasAll before.state t → IsDrained IsTaken IsAll now.link (with_state t before)
 drained IsTaken WasAll IsAll on before staging now t view (n, fits, is, took, all) =
     let same : with_state t before ≡ after_call before (Drain n) = drained_state before t n is in
     let done : IsDrained IsTaken IsAll before (with_state t before) = (n, fits, took, same, stands_on before (Drain n) (with_state t before) same, on n (length (writable before.state.has_hello before.state.send_queue)) all) in
@@ -126,12 +129,12 @@ drained IsTaken WasAll IsAll on before staging now t view (n, fits, is, took, al
 -- ---- An end
 
 -- a side that has ended keeps no input
-pub stopped : {room : ℕ} (before : LinkSide) (staging : List ℕ) (now : EndpointState) (t : LinkState) (reason : ℕ) → record { link = before; staging = staging; room = room } ≡ now → now.link.state.ended ≡ None →
+pub stopped : {room : ℕ} {outside : FinMap nat_cmp Outside} (before : LinkSide) (staging : List ℕ) (now : EndpointState) (t : LinkState) (reason : ℕ) → record { link = before; staging = staging; room = room; outside = outside } ≡ now → now.link.state.ended ≡ None →
     t ≡ with_end_of (ends.Bad before.state.last reason) before.state → ended_link t before ≡ after_call now.link (Stop reason)
 stopped before staging now t reason view none is =
     seen before staging now (ended_link t before) (Stop reason) view (stopped_state before t reason (ap (λ (e : EndpointState). e.link.state.ended) view ∙ none) is)
 
-pub out_of_memory : {room : ℕ} (before : LinkSide) (staging : List ℕ) (now : EndpointState) (t : LinkState) → record { link = before; staging = staging; room = room } ≡ now → now.link.state.ended ≡ None →
+pub out_of_memory : {room : ℕ} {outside : FinMap nat_cmp Outside} (before : LinkSide) (staging : List ℕ) (now : EndpointState) (t : LinkState) → record { link = before; staging = staging; room = room; outside = outside } ≡ now → now.link.state.ended ≡ None →
     t ≡ record before.state { ended = Some ends.Memory } → ended_link t before ≡ after_call now.link OutOfMemory
 out_of_memory before staging now t view none is =
     seen before staging now (ended_link t before) OutOfMemory view (out_of_memory_state before t (ap (λ (e : EndpointState). e.link.state.ended) view ∙ none) is)

@@ -14,13 +14,16 @@ use Rattle.nr_endpoint.specs.declared.offering.Claims.{Claims}
 use Rattle.nr_endpoint.specs.declared.framing.RemoteWrite.{RemoteWrite}
 use Rattle.nr_endpoint.specs.SendQueue.{SendQueue, with_send, with_fpdus, with_write}
 use Rattle.nr_endpoint.specs.LinkState.{LinkSide, LinkState, has_ended}
+use Rattle.std.specs.Ordering.{nat_cmp}
+use Rattle.std.specs.FinMap.{FinMap}
+use Rattle.nr_regions.specs.RegisteredMemory.{Outside}
 use Rattle.nr_endpoint.specs.EndpointState.{EndpointState}
 use Rattle.nr_endpoint.specs.Calls.{Call, after_call, after_calls, with_state, unless_ended}
 use Rattle.nr_endpoint.specs.Calls.Call.{Send}
 use Rattle.nr_endpoint.specs.Offering.{offer_calls, register_call, with_buffer, claim_if, with_read, with_write_buffer, with_offered, claims_of, AreHeld, after_offer, write_call, answer_calls, writes_output, after_answer}
 
 -- what holds of the fields holds of the value
-pub seen_all : {room : ℕ} (before : LinkSide) (staging : List ℕ) (now : EndpointState) (after : LinkSide) (calls : List Call) → record { link = before; staging = staging; room = room } ≡ now →
+pub seen_all : {room : ℕ} {outside : FinMap nat_cmp Outside} (before : LinkSide) (staging : List ℕ) (now : EndpointState) (after : LinkSide) (calls : List Call) → record { link = before; staging = staging; room = room; outside = outside } ≡ now →
     after ≡ after_calls before calls → after ≡ after_calls now.link calls
 seen_all before staging now after calls view is = is ∙ ap (λ (e : EndpointState). after_calls e.link calls) view
 

@@ -1,5 +1,7 @@
 -- The codes of the values that contracts see, by which a proof tells them apart.
 use Rattle.std.specs.Prelude.{◌≡◌, ℕ, ◌==◌, Bool, if◌then◌else◌, List, Option, None, Some, refl}
+use Rattle.std.specs.Ordering.{nat_cmp}
+use Rattle.std.specs.FinMap.{FinMap, code}
 use Rattle.std.specs.Coded.{Coded, code_by, coded×, coded_ℕ, coded_bool, coded_list, coded_option}
 use Rattle.nr_wire.specs.declared.hello.Side.{Side}
 use Rattle.nr_wire.specs.declared.hello.Side.TheVariants.{Initiator, Responder}
@@ -7,7 +9,8 @@ use Rattle.nr_wire.specs.declared.stream.Awaited.{Awaited}
 use Rattle.nr_wire.specs.declared.stream.Awaited.TheVariants.{Hello as HelloFrom, Fpdu}
 use Rattle.nr_regions.specs.declared.denied.Denied.{Denied}
 use Rattle.nr_regions.specs.declared.denied.Denied.TheVariants.{NoStag, Bounds, Right}
-use Rattle.nr_regions.specs.RegisteredMemory.{RegisteredMemory}
+use Rattle.nr_regions.specs.RegisteredMemory.{RegisteredMemory, Outside}
+use Rattle.nr_regions.specs.Windows.{outside_code}
 use Rattle.nr_regions.specs.Code.{memory_code}
 use Rattle.nr_link.specs.declared.end.End.{End}
 use Rattle.nr_link.specs.declared.end.End.TheVariants as ends
@@ -133,8 +136,10 @@ link_code =
 
 abbrev pub endpoint_code : Coded EndpointState
 endpoint_code =
-    code_by (LinkSide × (List ℕ × ℕ)) (coded× link_code (coded× (coded_list coded_ℕ) coded_ℕ)) (λ e. (e.link, (e.staging, e.room)))
-    (λ p. record { link = p.0; staging = p.1.0; room = p.1.1 }) (λ _. refl)
+    code_by (LinkSide × (List ℕ × (ℕ × FinMap nat_cmp Outside))) (coded× link_code (coded× (coded_list coded_ℕ) (coded× coded_ℕ (code coded_ℕ outside_code))))
+    (λ e. (e.link, (e.staging, (e.room, e.outside)))) (λ p. record { link = p.0; staging = p.1.0; room = p.1.1.0; outside = p.1.1.1 }) (λ _. refl)
 
 abbrev pub link_view_code : Coded LinkView
-link_view_code = code_by (LinkState × ℕ) (coded× state_code coded_ℕ) (λ v. (v.state, v.room)) (λ p. record { state = p.0; room = p.1 }) (λ _. refl)
+link_view_code =
+    code_by (LinkState × (ℕ × FinMap nat_cmp Outside)) (coded× state_code (coded× coded_ℕ (code coded_ℕ outside_code)))
+    (λ v. (v.state, (v.room, v.outside))) (λ p. record { state = p.0; room = p.1.0; outside = p.1.1 }) (λ _. refl)

@@ -1,9 +1,12 @@
 -- What contracts see of an endpoint: its side of the link; the whole staging buffer, which begins with the bytes of the frame that isn't
--- whole; and the room of its regions, a number of further registrations that need no allocation.
+-- whole; the room of its regions, a number of further registrations that need no allocation; and for each STag that is held the bytes of
+-- its buffer outside its region.
 use Rattle.std.specs.Prelude.{◌≡◌, ℕ, ◌+◌, ◌*◌, min, max, List, [], ◌∷◌, ◌++◌, length, drop}
 use Rattle.nr_wire.specs.declared.stream.Awaited.{Awaited}
 use Rattle.nr_wire.specs.Stream.{frame_len}
-use Rattle.nr_regions.specs.RegisteredMemory.{bytes_held}
+use Rattle.std.specs.Ordering.{nat_cmp}
+use Rattle.std.specs.FinMap.{FinMap}
+use Rattle.nr_regions.specs.RegisteredMemory.{Outside, bytes_held}
 use Rattle.nr_endpoint.specs.ReceiveQueue.{receives_kept}
 use Rattle.nr_endpoint.specs.LinkState.{LinkState, LinkSide}
 
@@ -11,11 +14,13 @@ pub record EndpointState : Type 0 where
   pub link : LinkSide
   pub staging : List ℕ
   pub room : ℕ
+  pub outside : FinMap nat_cmp Outside
 
--- what the endpoint sees of its side: the state, and that room
+-- what the endpoint sees of its side: the state, that room, and those bytes
 pub record LinkView : Type 0 where
   pub state : LinkState
   pub room : ℕ
+  pub outside : FinMap nat_cmp Outside
 
 -- The number of bytes of the frame that was begun before a piece, as far as it was fed with it; none where no frame was begun.
 abbrev pub cut_frame_len : Awaited → List ℕ → List ℕ → ℕ

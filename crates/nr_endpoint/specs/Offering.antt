@@ -2,7 +2,9 @@
 use Rattle.std.specs.Prelude.{ℕ, ◌+◌, ◌^◌, ◌≤◌, List, [], ◌∷◌, ◌++◌, length, map, if◌then◌else◌, Option, None, Some, IfSome}
 use Rattle.nr_regions.specs.declared.right.Right.{Right}
 use Rattle.nr_regions.specs.declared.right.Right.TheVariants.{Fetch, Fill}
-use Rattle.nr_regions.specs.RegisteredMemory.{RegisteredMemory, Claim, IsHeld, after_register, claim_of}
+use Rattle.std.specs.Ordering.{nat_cmp}
+use Rattle.std.specs.FinMap.{FinMap, insert}
+use Rattle.nr_regions.specs.RegisteredMemory.{RegisteredMemory, Claim, IsHeld, Outside, after_register, claim_of, nothing_outside}
 use Rattle.nr_link.specs.Output.{write}
 use Rattle.nr_endpoint.specs.declared.offering.Offered.{Offered}
 use Rattle.nr_endpoint.specs.declared.offering.Claims.{Claims}
@@ -34,6 +36,10 @@ abbrev pub with_buffer : RegisteredMemory → Right → Option (List ℕ) → Re
 with_buffer m right None = m
 with_buffer m right (Some buf) = after_register m right buf
 
+abbrev pub outside_buffer : RegisteredMemory → Option (List ℕ) → FinMap nat_cmp Outside → FinMap nat_cmp Outside
+outside_buffer m None outside = outside
+outside_buffer m (Some buf) outside = insert outside m.next nothing_outside
+
 abbrev pub claim_if : RegisteredMemory → Option (List ℕ) → Option Claim
 claim_if m None = None
 claim_if m (Some buf) = Some (claim_of m buf)
@@ -47,6 +53,11 @@ with_write_buffer m o = with_buffer (with_read m o) Fill o.write
 
 abbrev pub with_offered : RegisteredMemory → Offered → RegisteredMemory
 with_offered m o = with_buffer (with_write_buffer m o) Fill o.reply
+
+-- nothing is outside any of their regions
+abbrev pub outside_offered : RegisteredMemory → Offered → FinMap nat_cmp Outside → FinMap nat_cmp Outside
+outside_offered m o outside =
+    outside_buffer (with_write_buffer m o) o.reply (outside_buffer (with_read m o) o.write (outside_buffer m o.read outside))
 
 abbrev pub claims_of : RegisteredMemory → Offered → Claims
 claims_of m o = record { read = claim_if m o.read; write = claim_if (with_read m o) o.write; reply = claim_if (with_write_buffer m o) o.reply }

@@ -4,7 +4,8 @@ ghost use Rattle.nr_endpoint.specs.LinkState.{has_ended};
 ghost use Rattle.std.specs.Prelude.{false, ◌≡◌, ◌≢◌, ℕ, ◌+◌, ◌-◌, ◌*◌, ◌^◌, ◌<◌, ◌≤◌, ◌↔◌, [], ◌∷◌, ◌++◌, length, drop, take, None, Some, is_some, Ok, Err, IfOk, OnOk, IfErr, OnErr, IsOk, IsErrAnd, IfSome, MatchResult, List, option_to_list, option_map, if◌then◌else◌, true, nat_lt};
 ghost use Rattle.std.specs.Io.KnownBytes.{Appends};
 ghost use Rattle.nr_outside.specs.Faults.{Rises};
-ghost use Rattle.nr_regions.specs.RegisteredMemory.{Claim, IsHeld, bytes_in, bytes_held, claim_of, held_region};
+ghost use Rattle.std.specs.FinMap.{get, insert, remove};
+ghost use Rattle.nr_regions.specs.RegisteredMemory.{Claim, IsHeld, buffer_around, bytes_in, bytes_held, claim_of, held_region, nothing_outside, outside_window, window_bytes};
 ghost use Rattle.nr_link.specs.declared.end.End.{End};
 ghost use Rattle.nr_link.specs.declared.end.End.TheVariants as ends;
 ghost use Rattle.nr_link.specs.Limits.{send_max, open_reads_max};
@@ -38,6 +39,7 @@ impl Endpoint {
         ensures state { self.new.link ≡ (if is_some result then after_call self.old.link NextEvent else self.old.link) }
         ensures stands { is_some result ≡ true → StandsOn self.old.link NextEvent self.new.link }
         ensures room { self.new.room ≡ self.old.room }
+        ensures outside { self.new.outside ≡ self.old.outside }
         ensures staging { self.new.staging ≡ self.old.staging }
     {
         self.facts();
@@ -51,6 +53,7 @@ impl Endpoint {
         ensures state { self.new.link ≡ after_call self.old.link Post }
         ensures stands { StandsOn self.old.link Post self.new.link }
         ensures room { self.new.room ≡ self.old.room }
+        ensures outside { self.new.outside ≡ self.old.outside }
         ensures staging { self.new.staging ≡ self.old.staging }
     {
         self.link.post(buf);
@@ -69,6 +72,7 @@ impl Endpoint {
         ensures stands { result ≢ ends.Memory → StandsOn self.old.link (Stop reason) self.new.link }
         ensures stands_memory { result ≡ ends.Memory → StandsOn self.old.link OutOfMemory self.new.link }
         ensures room { self.new.room ≡ self.old.room }
+        ensures outside { self.new.outside ≡ self.old.outside }
         ensures staging { self.new.staging ≡ self.old.staging }
     {
         let end = End::Bad {
@@ -88,6 +92,7 @@ impl Endpoint {
         ensures stands { StandsOn self.old.link OutOfMemory self.new.link }
         ensures kept { has_ended self.old.link.state ≡ true → self.new ≡ self.old }
         ensures room { self.new.room ≡ self.old.room }
+        ensures outside { self.new.outside ≡ self.old.outside }
         ensures staging { self.new.staging ≡ self.old.staging }
     {
         self.facts();
@@ -103,6 +108,7 @@ impl Endpoint {
         ensures end { result ≡ ends.Memory }
         ensures state { self.new.link ≡ after_call self.old.link OutOfMemory }
         ensures room { self.new.room ≡ self.old.room }
+        ensures outside { self.new.outside ≡ self.old.outside }
         ensures staging { self.new.staging ≡ self.old.staging }
     {
         self.staged = 0;
@@ -115,6 +121,7 @@ impl Endpoint {
         ensures state { OnOk result (self.new.link ≡ after_call self.old.link (Send message.now)) }
         ensures stands { OnOk result (StandsOn self.old.link (Send message.now) self.new.link) }
         ensures room { self.new.room ≡ self.old.room }
+        ensures outside { self.new.outside ≡ self.old.outside }
         ensures err { OnErr result (self.new.link ≡ self.old.link) }
         ensures live { OnErr result (has_ended self.old.link.state ≡ false) }
         ensures staging { self.new.staging ≡ self.old.staging }
@@ -129,6 +136,7 @@ impl Endpoint {
         ensures state { OnOk result (self.new.link ≡ after_call self.old.link (WriteRemote stag to bytes.now)) }
         ensures stands { OnOk result (StandsOn self.old.link (WriteRemote stag to bytes.now) self.new.link) }
         ensures room { self.new.room ≡ self.old.room }
+        ensures outside { self.new.outside ≡ self.old.outside }
         ensures err { OnErr result (self.new.link ≡ self.old.link) }
         ensures live { OnErr result (has_ended self.old.link.state ≡ false) }
         ensures staging { self.new.staging ≡ self.old.staging }
@@ -154,6 +162,7 @@ impl Endpoint {
         ensures state { OnOk result (self.new.link ≡ after_call self.old.link (ReadRemote registration.now.stag at stag to len)) }
         ensures stands { OnOk result (StandsOn self.old.link (ReadRemote registration.now.stag at stag to len) self.new.link) }
         ensures room { self.new.room ≡ self.old.room }
+        ensures outside { self.new.outside ≡ self.old.outside }
         ensures live { IfErr result (λ e. e ≡ refusals.Memory → has_ended self.old.link.state ≡ false) }
         ensures err { OnErr result (self.new.link ≡ self.old.link) }
         ensures staging { self.new.staging ≡ self.old.staging }
@@ -173,6 +182,7 @@ impl Endpoint {
             (λ _. K.faults sink.new ≡ K.faults sink.old) (λ e. (e ≡ drains.LinkWrite) × Rises (K.faults sink.old) (K.faults sink.new)) }
         ensures never_falls { K.faults sink.old ≤ K.faults sink.new }
         ensures room { self.new.room ≡ self.old.room }
+        ensures outside { self.new.outside ≡ self.old.outside }
         ensures staging { self.new.staging ≡ self.old.staging }
     {
         self.link.drain_into(sink)?;
@@ -186,6 +196,7 @@ impl Endpoint {
         ensures succeeds { more ≤ self.old.room → IsOk result }
         ensures link { self.new.link ≡ self.old.link }
         ensures room { self.old.room ≤ self.new.room }
+        ensures outside { self.new.outside ≡ self.old.outside }
         ensures staging { self.new.staging ≡ self.old.staging }
     {
         self.link.make_room(more)
@@ -204,12 +215,41 @@ impl Endpoint {
         ensures room_kept { OnErr result (self.old.room ≤ self.new.room) }
         ensures returned { IfErr result (λ e. e.0 ≡ buf) }
         ensures err { OnErr result (self.new.link ≡ self.old.link) }
+        ensures outside { OnOk result (self.new.outside ≡ insert self.old.outside self.old.link.state.memory.next nothing_outside) }
+        ensures outside_err { OnErr result (self.new.outside ≡ self.old.outside) }
         ensures staging { self.new.staging ≡ self.old.staging }
     {
         self.link.register(buf, right)
     }
 
-    /// Returns a region's buffer with its present content. From then on its STag is invalid. Takes no memory.
+    /// Registers a part of a buffer, as [`Endpoint::register`] does a complete one: the `len` bytes from `start` on. The peer reaches no other
+    /// byte of the buffer, and those stay as they are until [`Endpoint::release_buffer`] gives it back.
+    pub fn register_window(
+        &mut self,
+        buf: Octets,
+        start: usize,
+        len: usize,
+        right: Right,
+    ) -> Result<Registration, (Octets, Why)>
+        requires { start + len ≤ length buf }
+        ensures claim { IfOk result (λ claim. claim ≡ claim_of self.old.link.state.memory (window_bytes start len buf)) }
+        ensures held { IfOk result (λ claim. IsHeld self.new.link.state.memory claim) }
+        ensures state { OnOk result (self.new.link ≡ after_call self.old.link (Register (window_bytes start len buf) right)) }
+        ensures stands { OnOk result (StandsOn self.old.link (Register (window_bytes start len buf) right) self.new.link) }
+        ensures spent { IsErrAnd result (λ e. e.1 ≡ Why.Spent) ↔ (self.old.link.state.memory.next ≡ 2 ^ 32) }
+        ensures succeeds { 0 < self.old.room → self.old.link.state.memory.next < 2 ^ 32 → IsOk result }
+        ensures room { self.old.room ≤ self.new.room + 1 }
+        ensures room_kept { OnErr result (self.old.room ≤ self.new.room) }
+        ensures returned { IfErr result (λ e. e.0 ≡ buf) }
+        ensures err { OnErr result (self.new.link ≡ self.old.link) }
+        ensures outside { OnOk result (self.new.outside ≡ insert self.old.outside self.old.link.state.memory.next (outside_window start len buf)) }
+        ensures outside_err { OnErr result (self.new.outside ≡ self.old.outside) }
+        ensures staging { self.new.staging ≡ self.old.staging }
+    {
+        self.link.register_window(buf, start, len, right)
+    }
+
+    /// Returns the region's bytes as they are. From then on its STag is invalid. Takes no memory.
     pub fn release(&mut self, registration: Registration) -> Octets
         requires { IsHeld self.old.link.state.memory registration }
         ensures bytes { result ≡ bytes_in (held_region self.old.link.state.memory registration.stag) }
@@ -217,14 +257,31 @@ impl Endpoint {
         ensures state { self.new.link ≡ after_call self.old.link (Release registration.stag) }
         ensures stands { StandsOn self.old.link (Release registration.stag) self.new.link }
         ensures room { self.old.room ≤ self.new.room }
+        ensures outside { self.new.outside ≡ remove self.old.outside registration.stag }
         ensures staging { self.new.staging ≡ self.old.staging }
     {
         self.link.release(registration)
     }
 
+    /// Returns the complete buffer of a region, as [`Endpoint::release`] does the region: its part that was registered has the region's
+    /// bytes as they are, and all others are those that were registered with it. Takes no memory.
+    pub fn release_buffer(&mut self, registration: Registration) -> Octets
+        requires { IsHeld self.old.link.state.memory registration }
+        ensures bytes { result ≡ buffer_around (get self.old.outside registration.stag) (bytes_in (held_region self.old.link.state.memory registration.stag)) }
+        ensures len { length (bytes_in (held_region self.old.link.state.memory registration.stag)) ≡ registration.len }
+        ensures state { self.new.link ≡ after_call self.old.link (Release registration.stag) }
+        ensures stands { StandsOn self.old.link (Release registration.stag) self.new.link }
+        ensures room { self.old.room ≤ self.new.room }
+        ensures outside { self.new.outside ≡ remove self.old.outside registration.stag }
+        ensures staging { self.new.staging ≡ self.old.staging }
+    {
+        self.link.release_buffer(registration)
+    }
+
     /// The regions.
     pub fn regions(&self) -> &Regions
-        ensures { result.now.memory ≡ self.now.link.state.memory }
+        ensures memory { result.now.memory ≡ self.now.link.state.memory }
+        ensures outside { result.now.outside ≡ self.now.outside }
     {
         &self.link.regions
     }
@@ -272,6 +329,7 @@ impl Endpoint {
     }
 
     /// How many bytes all byte buffers have that are kept: the staging buffer, the receives that are not lent, the regions, and the output.
+    /// The bytes of a buffer outside its region aren't counted.
     pub fn held(&self) -> u128
         ensures is { result ≡ bytes_kept self.now }
         ensures bound { result ≤ FPDU_MAX + send_max * self.now.link.state.receive_queue.receives + bytes_held self.now.link.state.memory

@@ -27,6 +27,7 @@ impl LinkSide {
         ensures err { OnErr result (self.new.state ≡ self.old.state) }
         ensures queued { OnErr result (output_len self.old.state.send_queue < output_len (with_effect (plain segment.now) self.old.state).send_queue) }
         ensures room { self.new.room ≡ self.old.room }
+        ensures outside { self.new.outside ≡ self.old.outside }
     {
         match *segment {
             Segment::Tagged {
@@ -71,6 +72,7 @@ impl LinkSide {
         requires within { self.old.state.place + length frame.now ≤ 2 ^ 62 }
         ensures state { self.new.state ≡ after_frame (next_frame self.old.state frame.now) (with_effect (Tagged last opcode stag to payload.now) self.old.state) }
         ensures room { self.new.room ≡ self.old.room }
+        ensures outside { self.new.outside ≡ self.old.outside }
     {
         if opcode == OPCODE_READ_RESPONSE {
             if last {
@@ -94,6 +96,7 @@ impl LinkSide {
         ensures ok { OnOk result (self.new.state ≡ after_frame (next_frame self.old.state frame.now) (with_effect (Untagged true OPCODE_READ_REQUEST 0 0 0 0 payload.now) self.old.state)) }
         ensures err { OnErr result (self.new.state ≡ self.old.state) }
         ensures room { self.new.room ≡ self.old.room }
+        ensures outside { self.new.outside ≡ self.old.outside }
     {
         let request = read_request(payload);
         match self
@@ -118,6 +121,7 @@ impl LinkSide {
         requires within { self.old.state.place + length frame.now ≤ 2 ^ 62 }
         ensures state { self.new.state ≡ after_frame (next_frame self.old.state frame.now) (with_effect (Untagged last OPCODE_SEND 0 0 0 0 payload.now) self.old.state) }
         ensures room { self.new.room ≡ self.old.room }
+        ensures outside { self.new.outside ≡ self.old.outside }
     {
         self.receive_queue.receive(last, payload);
         self.last = self.place;

@@ -2,6 +2,7 @@
 
 ghost use Rattle.std.specs.Prelude.{◌≡◌, ◌≢◌, ℕ, ◌+◌, ◌-◌, ◌*◌, ◌^◌, ◌<◌, ◌≤◌, ◌↔◌, [], ◌∷◌, ◌++◌, length, drop, take, None, Some, is_some, Ok, Err, IfOk, OnOk, IfErr, OnErr, IsOk, IsErrAnd, IfSome, List, nat_lt, true, false, if◌then◌else◌};
 ghost use Rattle.std.specs.Result.{result_err};
+ghost use Rattle.std.specs.FinMap.{empty};
 ghost use Rattle.nr_wire.specs.Feeding.{bytes_taken};
 ghost use Rattle.nr_wire.specs.Stream.{bytes_needed, IsPartial};
 ghost use Rattle.nr_link.specs.declared.end.End.TheVariants as ends;
@@ -41,7 +42,7 @@ impl Model for Endpoint {
 
     ghost use Rattle.nr_endpoint.specs.Staged.{IsStaged};
 
-    ghost view = { λ e. record { link = record { awaited = e.awaited; rest = take e.staged e.staging.items; state = e.link.state }; staging = e.staging.items; room = e.link.room } };
+    ghost view = { λ e. record { link = record { awaited = e.awaited; rest = take e.staged e.staging.items; state = e.link.state }; staging = e.staging.items; room = e.link.room; outside = e.link.outside } };
 
     ghost invariant = { λ e. IsStaged e.awaited e.link.state.ended e.link.state.has_hello e.staging.items e.staged };
 }
@@ -67,6 +68,7 @@ impl Endpoint {
         requires { 0 < first_stag }
         ensures state { IfOk result (λ e. e.link ≡ initial_link side receives first_stag) }
         ensures staging { IfOk result (λ e. length e.staging ≡ FPDU_MAX) }
+        ensures outside { IfOk result (λ e. e.outside ≡ empty) }
         ensures stands { IfOk result (λ e. RepresentsCalls (initial_link side receives first_stag) [] e.link) }
     {
         Ok(Endpoint {
@@ -90,6 +92,7 @@ impl Endpoint {
             × (has_ended self.old.link.state ≡ false → RanOutAt self.old.link piece.now n) }
         ensures kept { has_ended self.old.link.state ≡ true → self.new ≡ self.old }
         ensures room { self.new.room ≡ self.old.room }
+        ensures outside { self.new.outside ≡ self.old.outside }
         ensures staging { KeepsStaging self.old self.new piece.now }
     {
         self.facts();
@@ -134,6 +137,7 @@ impl Endpoint {
         ensures partial { IsPartial self.new.link.awaited self.new.link.rest }
         ensures ended_rest { has_ended self.new.link.state ≡ true → self.new.link.rest ≡ [] }
         ensures room { self.new.room ≡ self.old.room }
+        ensures outside { self.new.outside ≡ self.old.outside }
     {
         self.facts();
         let (_, none) = left.split_at(left.len());
@@ -163,6 +167,7 @@ impl Endpoint {
         ensures frame { result ≡ Err ends.Memory → has_ended self.old.link.state ≡ false → (makes_whole self.old.link piece.now ≡ true) × QueuesOutput self.old.link piece.now }
         ensures kept { has_ended self.old.link.state ≡ true → self.new ≡ self.old }
         ensures room { self.new.room ≡ self.old.room }
+        ensures outside { self.new.outside ≡ self.old.outside }
         ensures staging { KeepsStaging self.old self.new piece.now }
     {
         if let Some(end) = self.link.end() {
@@ -184,6 +189,7 @@ impl Endpoint {
         ensures state { IsStep self.old.link piece.now self.new.link }
         ensures staging { KeepsStaging self.old self.new piece.now }
         ensures room { self.new.room ≡ self.old.room }
+        ensures outside { self.new.outside ≡ self.old.outside }
     {
         if let Some(len) = whole_in_piece(self.staged, self.awaited, piece) {
             let (frame, _) = piece.split_at(len);

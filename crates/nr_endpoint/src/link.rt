@@ -2,6 +2,7 @@
 
 ghost use Rattle.std.specs.Prelude.{◌≡◌, ◌≢◌, ◌+◌, ◌^◌, ◌<◌, ◌≤◌, if◌then◌else◌, length, Some, OnOk, OnErr, IfOk};
 ghost use Rattle.std.specs.Bool.{OnFalse};
+ghost use Rattle.std.specs.FinMap.{empty};
 ghost use Rattle.nr_wire.specs.Stream.{IsFrame};
 ghost use Rattle.nr_wire.specs.Segment.{IsSupported, payload_in, segment_of};
 ghost use Rattle.nr_wire.specs.View.{segment as plain};
@@ -50,7 +51,7 @@ impl Model for LinkSide {
     ghost use Rattle.nr_endpoint.specs.Views.{expected};
     ghost use Rattle.nr_endpoint.specs.Counted.{IsCounted};
 
-    ghost view = { λ l. record { state = record { side = l.side; has_hello = l.has_hello; last = l.last; place = l.place; ended = l.ended; receive_queue = l.receive_queue; reads = map expected l.reads.items; memory = l.regions.memory; send_queue = l.send_queue; message_max = l.message_max }; room = l.regions.room } };
+    ghost view = { λ l. record { state = record { side = l.side; has_hello = l.has_hello; last = l.last; place = l.place; ended = l.ended; receive_queue = l.receive_queue; reads = map expected l.reads.items; memory = l.regions.memory; send_queue = l.send_queue; message_max = l.message_max }; room = l.regions.room; outside = l.regions.outside } };
 
     ghost invariant = { λ l. IsCounted l.has_hello l.receive_queue l.place l.message_max };
 }
@@ -64,7 +65,8 @@ impl LinkSide {
         first_stag: u32,
     ) -> Result<LinkSide, Memory>
         requires { 0 < first_stag }
-        ensures { IfOk result (λ l. l.state ≡ initial_state side receives first_stag) }
+        ensures state { IfOk result (λ l. l.state ≡ initial_state side receives first_stag) }
+        ensures outside { IfOk result (λ l. l.outside ≡ empty) }
     {
         let send_queue = SendQueue::new(alloc, side)?;
         let receive_queue = ReceiveQueue::new(alloc, receives, SEND_MAX)?;
@@ -90,6 +92,7 @@ impl LinkSide {
         ensures state { self.new.state ≡ (if result then with_frame self.old.state awaited frame.now else record self.old.state { ended = Some ends.Memory }) }
         ensures queued { OnFalse result (output_len self.old.state.send_queue < output_len (with_frame self.old.state awaited frame.now).send_queue) }
         ensures room { self.new.room ≡ self.old.room }
+        ensures outside { self.new.outside ≡ self.old.outside }
     {
         let judged = match awaited {
             Awaited::Hello(side) => self.receive_hello(side, frame),
@@ -108,6 +111,7 @@ impl LinkSide {
         ensures err { OnErr result (self.new.state ≡ self.old.state) }
         ensures queued { OnErr result (output_len self.old.state.send_queue < output_len (with_end_of end self.old.state).send_queue) }
         ensures room { self.new.room ≡ self.old.room }
+        ensures outside { self.new.outside ≡ self.old.outside }
     {
         self.send_queue.finish(self.side, end)?;
         self.ended = Some(end);
@@ -121,6 +125,7 @@ impl LinkSide {
         ensures end { result ≢ ends.Memory → (result ≡ end) × (self.new.state ≡ with_end_of end self.old.state) }
         ensures memory { result ≡ ends.Memory → self.new.state ≡ record self.old.state { ended = Some ends.Memory } }
         ensures room { self.new.room ≡ self.old.room }
+        ensures outside { self.new.outside ≡ self.old.outside }
     {
         if self.end_with(end).is_err() {
             self.ended = Some(End::Memory);
@@ -138,6 +143,7 @@ impl LinkSide {
         ensures err { OnErr result (self.new.state ≡ self.old.state) }
         ensures queued { OnErr result (output_len self.old.state.send_queue < output_len (with_peer_hello (next_frame self.old.state frame.now) (hello_of side frame.now) self.old.state).send_queue) }
         ensures room { self.new.room ≡ self.old.room }
+        ensures outside { self.new.outside ≡ self.old.outside }
     {
         if let Some(reason) = hello_refusal(side, frame) {
             return self.end_with(End::Bad {
@@ -161,6 +167,7 @@ impl LinkSide {
         ensures err { OnErr result (self.new.state ≡ self.old.state) }
         ensures queued { OnErr result (output_len self.old.state.send_queue < output_len (with_fpdu (next_frame self.old.state frame.now) (segment_of frame.now) self.old.state).send_queue) }
         ensures room { self.new.room ≡ self.old.room }
+        ensures outside { self.new.outside ≡ self.old.outside }
     {
         match segment_in_frame(frame) {
             Ok(segment) => self.receive(&segment, frame),
@@ -181,6 +188,7 @@ impl LinkSide {
         ensures err { OnErr result (self.new.state ≡ self.old.state) }
         ensures queued { OnErr result (output_len self.old.state.send_queue < output_len (with_segment_by (next_frame self.old.state frame.now) (plain segment.now) (segment_end self.old.state (next_frame self.old.state frame.now) (plain segment.now)) self.old.state).send_queue) }
         ensures room { self.new.room ≡ self.old.room }
+        ensures outside { self.new.outside ≡ self.old.outside }
     {
         match self.fault(segment) {
             Some(end) => self.end_with(end),

@@ -4,7 +4,7 @@ ghost use Rattle.std.specs.Prelude.{◌≡◌, ◌+◌, ◌^◌, ◌<◌, ◌≤
 ghost use Rattle.nr_endpoint.specs.LinkState.{has_ended};
 ghost use Rattle.nr_endpoint.specs.SendQueue.{with_send};
 ghost use Rattle.nr_endpoint.specs.Calls.{after_calls, StandsOnAll};
-ghost use Rattle.nr_endpoint.specs.Offering.{one_of, offered_count, offer_calls, with_buffer, claim_if, with_offered, claims_of, AreHeld, after_offer, FitsRegion, answer_calls, after_answer};
+ghost use Rattle.nr_endpoint.specs.Offering.{one_of, offered_count, offer_calls, with_buffer, claim_if, with_offered, outside_buffer, outside_offered, claims_of, AreHeld, after_offer, FitsRegion, answer_calls, after_answer};
 
 use crate::endpoint::Endpoint;
 use crate::framing::RemoteWrite;
@@ -43,6 +43,7 @@ fn register_some(regions: &mut Regions, buf: Option<Octets>, right: Right) -> Op
     ensures claim { result ≡ claim_if regions.old.memory buf }
     ensures next { regions.new.memory.next ≡ regions.old.memory.next + one_of buf }
     ensures left { regions.old.room ≤ regions.new.room + one_of buf }
+    ensures outside { regions.new.outside ≡ outside_buffer regions.old.memory buf regions.old.outside }
 {
     let buf = match buf {
         None => return None,
@@ -61,6 +62,7 @@ fn register_offered(regions: &mut Regions, offered: Offered) -> Claims
     ensures memory { regions.new.memory ≡ with_offered regions.old.memory offered }
     ensures claims { result ≡ claims_of regions.old.memory offered }
     ensures left { regions.old.room ≤ regions.new.room + offered_count offered }
+    ensures outside { regions.new.outside ≡ outside_offered regions.old.memory offered regions.old.outside }
 {
     let Offered { read, write, reply } = offered;
     let read = register_some(regions, read, Right::Fetch);
@@ -92,6 +94,8 @@ impl LinkSide {
         ensures returned { IfErr result (λ o. o ≡ offered) }
         ensures room { self.old.room ≤ self.new.room + offered_count offered }
         ensures room_kept { OnErr result (self.old.room ≤ self.new.room) }
+        ensures outside { OnOk result (self.new.outside ≡ outside_offered self.old.state.memory offered self.old.outside) }
+        ensures outside_err { OnErr result (self.new.outside ≡ self.old.outside) }
     {
         if self.regions.make_room(3).is_err() {
             return Err(offered);
@@ -110,6 +114,7 @@ impl LinkSide {
         ensures err { OnErr result (self.new.state ≡ self.old.state) }
         ensures live { OnErr result (has_ended self.old.state ≡ false) }
         ensures room { self.new.room ≡ self.old.room }
+        ensures outside { self.new.outside ≡ self.old.outside }
     {
         if self.ended.is_some() {
             return Ok(());
@@ -133,6 +138,8 @@ impl Endpoint {
         ensures returned { IfErr result (λ o. o ≡ offered) }
         ensures room { self.old.room ≤ self.new.room + offered_count offered }
         ensures room_kept { OnErr result (self.old.room ≤ self.new.room) }
+        ensures outside { OnOk result (self.new.outside ≡ outside_offered self.old.link.state.memory offered self.old.outside) }
+        ensures outside_err { OnErr result (self.new.outside ≡ self.old.outside) }
         ensures staging { self.new.staging ≡ self.old.staging }
     {
         self.link.offer(message, offered)
@@ -148,6 +155,7 @@ impl Endpoint {
         ensures err { OnErr result (self.new.link ≡ self.old.link) }
         ensures live { OnErr result (has_ended self.old.link.state ≡ false) }
         ensures room { self.new.room ≡ self.old.room }
+        ensures outside { self.new.outside ≡ self.old.outside }
         ensures staging { self.new.staging ≡ self.old.staging }
     {
         self.link.answer(writes, message)

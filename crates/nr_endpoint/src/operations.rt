@@ -4,7 +4,8 @@ ghost use Rattle.nr_endpoint.specs.LinkState.{has_ended};
 ghost use Rattle.std.specs.Prelude.{false, true, Some, ◌≡◌, ◌≢◌, ◌+◌, ◌*◌, ◌^◌, ◌<◌, ◌≤◌, ◌↔◌, [], ◌∷◌, ◌++◌, ℕ, length, take, is_some, nat_lt, if◌then◌else◌, IsOk, IfOk, OnOk, IfErr, OnErr, IsErrAnd, IfSome, MatchResult, option_map, option_to_list};
 ghost use Rattle.std.specs.Io.KnownBytes.{Appends};
 ghost use Rattle.nr_outside.specs.Faults.{Rises};
-ghost use Rattle.nr_regions.specs.RegisteredMemory.{IsHeld, after_register, after_release, bytes_held, bytes_in, claim_of, held_region};
+ghost use Rattle.std.specs.FinMap.{get, insert, remove};
+ghost use Rattle.nr_regions.specs.RegisteredMemory.{IsHeld, after_register, after_release, buffer_around, bytes_held, bytes_in, claim_of, held_region, nothing_outside, outside_window, window_bytes};
 ghost use Rattle.nr_link.specs.Limits.{send_max, open_reads_max};
 ghost use Rattle.nr_link.specs.declared.end.End.TheVariants as ends;
 ghost use Rattle.nr_endpoint.specs.declared.fault.ReadRefused.TheVariants as refusals;
@@ -48,6 +49,7 @@ impl LinkSide {
         ensures end { result ≡ ends.Memory }
         ensures state { self.new.state ≡ record self.old.state { ended = Some ends.Memory } }
         ensures room { self.new.room ≡ self.old.room }
+        ensures outside { self.new.outside ≡ self.old.outside }
     {
         self.ended = Some(End::Memory);
         End::Memory
@@ -59,6 +61,7 @@ impl LinkSide {
         ensures buffer { IfSome result (HasBuffer send_max) }
         ensures after { self.new.state ≡ (if is_some result then record self.old.state { receive_queue = delivered self.old.state.receive_queue } else self.old.state) }
         ensures room { self.new.room ≡ self.old.room }
+        ensures outside { self.new.outside ≡ self.old.outside }
     {
         self.receive_queue.next_event()
     }
@@ -68,6 +71,7 @@ impl LinkSide {
         requires len { length buf ≡ send_max }
         ensures state { self.new.state ≡ record self.old.state { receive_queue = posted self.old.state.receive_queue } }
         ensures room { self.new.room ≡ self.old.room }
+        ensures outside { self.new.outside ≡ self.old.outside }
     {
         self.receive_queue.post(buf);
     }
@@ -78,6 +82,7 @@ impl LinkSide {
         ensures err { OnErr result (self.new.state ≡ self.old.state) }
         ensures live { OnErr result (has_ended self.old.state ≡ false) }
         ensures room { self.new.room ≡ self.old.room }
+        ensures outside { self.new.outside ≡ self.old.outside }
     {
         if self.ended.is_some() {
             return Ok(());
@@ -91,6 +96,7 @@ impl LinkSide {
         ensures err { OnErr result (self.new.state ≡ self.old.state) }
         ensures live { OnErr result (has_ended self.old.state ≡ false) }
         ensures room { self.new.room ≡ self.old.room }
+        ensures outside { self.new.outside ≡ self.old.outside }
     {
         if self.ended.is_some() {
             return Ok(());
@@ -117,6 +123,7 @@ impl LinkSide {
         ensures err { OnErr result (self.new.state ≡ self.old.state) }
         ensures live { IfErr result (λ e. e ≡ refusals.Memory → has_ended self.old.state ≡ false) }
         ensures room { self.new.room ≡ self.old.room }
+        ensures outside { self.new.outside ≡ self.old.outside }
     {
         if self.reads.is_full() {
             return Err(ReadRefused::Full {
@@ -145,6 +152,7 @@ impl LinkSide {
             (λ _. K.faults sink.new ≡ K.faults sink.old) (λ _. Rises (K.faults sink.old) (K.faults sink.new)) }
         ensures never_falls { K.faults sink.old ≤ K.faults sink.new }
         ensures room { self.new.room ≡ self.old.room }
+        ensures outside { self.new.outside ≡ self.old.outside }
     {
         self.send_queue.drain_into(self.has_hello, sink)
     }
@@ -155,6 +163,7 @@ impl LinkSide {
         ensures succeeds { more ≤ self.old.room → IsOk result }
         ensures state { self.new.state ≡ self.old.state }
         ensures room { self.old.room ≤ self.new.room }
+        ensures outside { self.new.outside ≡ self.old.outside }
     {
         self.regions.make_room(more)
     }
@@ -169,8 +178,34 @@ impl LinkSide {
         ensures room_kept { OnErr result (self.old.room ≤ self.new.room) }
         ensures returned { IfErr result (λ e. e.0 ≡ buf) }
         ensures err { OnErr result (self.new.state ≡ self.old.state) }
+        ensures outside { OnOk result (self.new.outside ≡ insert self.old.outside self.old.state.memory.next nothing_outside) }
+        ensures outside_err { OnErr result (self.new.outside ≡ self.old.outside) }
     {
         self.regions.register(buf, right)
+    }
+
+    /// Registers the `len` bytes of a buffer from `start` on.
+    pub fn register_window(
+        &mut self,
+        buf: Octets,
+        start: usize,
+        len: usize,
+        right: Right,
+    ) -> Result<Registration, (Octets, Why)>
+        requires { start + len ≤ length buf }
+        ensures claim { IfOk result (λ claim. claim ≡ claim_of self.old.state.memory (window_bytes start len buf)) }
+        ensures held { IfOk result (λ claim. IsHeld self.new.state.memory claim) }
+        ensures ok { OnOk result (self.new.state ≡ record self.old.state { memory = after_register self.old.state.memory right (window_bytes start len buf) }) }
+        ensures spent { IsErrAnd result (λ e. e.1 ≡ Why.Spent) ↔ (self.old.state.memory.next ≡ 2 ^ 32) }
+        ensures succeeds { 0 < self.old.room → self.old.state.memory.next < 2 ^ 32 → IsOk result }
+        ensures room { self.old.room ≤ self.new.room + 1 }
+        ensures room_kept { OnErr result (self.old.room ≤ self.new.room) }
+        ensures returned { IfErr result (λ e. e.0 ≡ buf) }
+        ensures err { OnErr result (self.new.state ≡ self.old.state) }
+        ensures outside { OnOk result (self.new.outside ≡ insert self.old.outside self.old.state.memory.next (outside_window start len buf)) }
+        ensures outside_err { OnErr result (self.new.outside ≡ self.old.outside) }
+    {
+        self.regions.register_window(buf, start, len, right)
     }
 
     pub fn release(&mut self, registration: Registration) -> Octets
@@ -179,8 +214,21 @@ impl LinkSide {
         ensures len { length result ≡ registration.len }
         ensures state { self.new.state ≡ record self.old.state { memory = after_release self.old.state.memory registration.stag } }
         ensures room { self.old.room ≤ self.new.room }
+        ensures outside { self.new.outside ≡ remove self.old.outside registration.stag }
     {
         self.regions.release(registration)
+    }
+
+    /// The complete buffer of a region.
+    pub fn release_buffer(&mut self, registration: Registration) -> Octets
+        requires { IsHeld self.old.state.memory registration }
+        ensures bytes { result ≡ buffer_around (get self.old.outside registration.stag) (bytes_in (held_region self.old.state.memory registration.stag)) }
+        ensures len { length (bytes_in (held_region self.old.state.memory registration.stag)) ≡ registration.len }
+        ensures state { self.new.state ≡ record self.old.state { memory = after_release self.old.state.memory registration.stag } }
+        ensures room { self.old.room ≤ self.new.room }
+        ensures outside { self.new.outside ≡ remove self.old.outside registration.stag }
+    {
+        self.regions.release_buffer(registration)
     }
 
     /// How many bytes the receives have that are not lent.

@@ -3,9 +3,8 @@ use Rattle.std.proofs.Common.{◌≡◌, ℕ, ◌-◌, cond, leb, List, [], ◌�
 use Rattle.std.specs.Ordering.{nat_cmp}
 use Rattle.std.specs.FinMap.{get-empty}
 use Rattle.nr_regions.specs.declared.denied.Denied.TheVariants as denied
-use Rattle.nr_regions.specs.declared.region.Region.{Region as HeldRegion}
 use Rattle.nr_regions.specs.declared.right.Right.TheVariants.{Fetch}
-use Rattle.nr_regions.specs.RegisteredMemory.{RegisteredMemory, Access, initial_memory, live_region, held_region, denial, denial_in, region_offer, bytes_in}
+use Rattle.nr_regions.specs.RegisteredMemory.{Region as HeldRegion, RegisteredMemory, Access, initial_memory, live_region, held_region, denial, denial_in, region_offer, bytes_in}
 use Rattle.nr_regions.specs.Access.{contents}
 use Rattle.nr_link.specs.declared.end.End.{End}
 use Rattle.nr_link.specs.Output.{read_response}

@@ -3,8 +3,7 @@
 use Rattle.std.proofs.Common.{◌≡◌, ◌≢◌, ℕ, ◌<◌, ◌≤◌, Bool, true, false, cond, ◌&&◌, eqb, leb, ltb, List, [], ◌∷◌, ◌++◌, length, map, Option, None, Some, refl, sym, ap, subst, ◌∙◌, arith, inl, inr}
 use Rattle.std.specs.Prelude.{IfSome}
 use Rattle.std.proofs.lemmas.Bool.{eqb-true, eq-eqb, ne_eqb, cases_eq, le-leb, le-ltb}
-use Rattle.nr_regions.specs.declared.region.Region.{Region as HeldRegion}
-use Rattle.nr_regions.specs.RegisteredMemory.{RegisteredMemory, Access, held_region, live_region, denial_in, region_offer, denial, after_register, bytes_after_write}
+use Rattle.nr_regions.specs.RegisteredMemory.{Region as HeldRegion, RegisteredMemory, Access, held_region, live_region, denial_in, region_offer, denial, after_register, bytes_after_write}
 use Rattle.nr_regions.specs.Access.{Grant, TaggedSegment, applies, grant_at, grant_offer, grant_denial, access_of_tagged, after_segment, contents}
 use Rattle.nr_regions.specs.Events.{after_event, after_arrival}
 use Rattle.nr_regions.specs.Events.MemoryEvent.{Arrive}

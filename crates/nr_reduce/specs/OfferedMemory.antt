@@ -1,8 +1,7 @@
 -- The registered memory of an end, and the regions that it offered.
 use Rattle.std.specs.Prelude.{◌≡◌, ℕ, ◌≤◌, Bool, false, ◌==◌, if◌then◌else◌, List, [], ◌∷◌, Option, None, Some, IfSome}
 use Rattle.std.specs.List.{find}
-use Rattle.nr_regions.specs.declared.region.Region.{Region as HeldRegion}
-use Rattle.nr_regions.specs.RegisteredMemory.{RegisteredMemory, live_region}
+use Rattle.nr_regions.specs.RegisteredMemory.{Region as HeldRegion, RegisteredMemory, live_region}
 use Rattle.nr_regions.specs.Access.{Grant, TaggedSegment, contents}
 use Rattle.nr_reduce.specs.OfferedRegions.{Region, region_grants}
 

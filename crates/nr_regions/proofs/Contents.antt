@@ -4,10 +4,9 @@ use Rattle.std.specs.Prelude.{Contains, find, is_none, ◌&&◌}
 use Rattle.std.proofs.lemmas.Bool.{ltb-true, leb-true, eqb-true, eq-eqb, ne_eqb, cases_eq, and_parts, and_from, lt-ltb, le-leb, le-ltb, ltb-false}
 use Rattle.nr_regions.specs.declared.right.Right.{Right}
 use Rattle.nr_regions.specs.declared.right.Right.TheVariants.{Fetch, Fill, Sink}
-use Rattle.nr_regions.specs.declared.region.Region.{Region}
 use Rattle.nr_regions.specs.declared.denied.Denied.{Denied}
 use Rattle.nr_regions.specs.declared.denied.Denied.TheVariants.{NoStag, Bounds, Right as WrongRight}
-use Rattle.nr_regions.specs.RegisteredMemory.{RegisteredMemory, Access, held_region, live_region, same_right, denial_in, region_offer, denial, after_register, after_release, bytes_after_write}
+use Rattle.nr_regions.specs.RegisteredMemory.{Region, RegisteredMemory, Access, held_region, live_region, same_right, denial_in, region_offer, denial, after_register, after_release, bytes_after_write}
 use Rattle.nr_regions.specs.Access.{Grant, applies, grant_at, grant_offer, grant_denial, Allowed, HasOwnStag, HaveOwnStags, TaggedSegment, access_of_tagged, after_segment, contents}
 use Rattle.nr_regions.specs.Events.{MemoryEvent, after_arrival, after_event, after_events, tagged_segments, IsGranted, StaysOpen}
 use Rattle.nr_regions.specs.Events.MemoryEvent.{Register, Release, Arrive}

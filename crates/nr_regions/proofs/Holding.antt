@@ -8,28 +8,27 @@ use Rattle.std.specs.Cmp.{nat_cmp_total, unsigned_tied}
 use Rattle.std.specs.FinMap.{FinMap, get, insert, remove, get-insert, get-remove}
 use Rattle.nr_regions.specs.declared.right.Right.{Right}
 use Rattle.nr_regions.specs.declared.right.Kind.{Kind}
-use Rattle.nr_regions.specs.declared.region.Region.{Region}
 use Rattle.nr_regions.specs.declared.denied.Denied.{Denied}
 use Rattle.nr_regions.specs.declared.denied.Denied.TheVariants.{Bounds, Right as WrongRight}
-use Rattle.nr_regions.specs.RegisteredMemory.{RegisteredMemory, Claim, IsHeld, held_region, live_region, right_for, same_right, denial_in, region_offer, denial, bytes_after_write, after_place, after_place_in, after_register, after_release, claim_of}
+use Rattle.nr_regions.specs.RegisteredMemory.{Region, RegisteredMemory, Claim, IsHeld, held_region, live_region, right_for, same_right, denial_in, region_offer, denial, bytes_after_write, after_place, after_place_in, after_register, after_release, claim_of}
 use Rattle.nr_regions.specs.Access.{TaggedSegment, access_of_tagged}
 use Rattle.nr_regions.specs.Events.{MemoryEvent, after_arrival, after_event, IsNoReleaseOf}
 use Rattle.nr_regions.specs.Events.MemoryEvent.{Register, Release, Arrive}
 
 -- a map at the key of a change, and at any other
-pub get_insert_here : (m : FinMap nat_cmp Region) (k : ℕ) (v : Region) → get (insert m k v) k ≡ Some v
+pub get_insert_here : {X : Type 0} (m : FinMap nat_cmp X) (k : ℕ) (v : X) → get (insert m k v) k ≡ Some v
 get_insert_here m k v =
     get-insert nat_cmp_total m k v k ∙ ap (λ (b : Bool). cond b (Some v) (get m k)) (unsigned_tied k k ∙ eq-eqb k k refl)
 
-pub get_insert_other : (m : FinMap nat_cmp Region) (k : ℕ) (v : Region) (q : ℕ) → q ≢ k → get (insert m k v) q ≡ get m q
+pub get_insert_other : {X : Type 0} (m : FinMap nat_cmp X) (k : ℕ) (v : X) (q : ℕ) → q ≢ k → get (insert m k v) q ≡ get m q
 get_insert_other m k v q ne =
     get-insert nat_cmp_total m k v q ∙ ap (λ (b : Bool). cond b (Some v) (get m q)) (unsigned_tied q k ∙ ne_eqb q k ne)
 
-pub get_remove_here : (m : FinMap nat_cmp Region) (k : ℕ) → get (remove m k) k ≡ None
+pub get_remove_here : {X : Type 0} (m : FinMap nat_cmp X) (k : ℕ) → get (remove m k) k ≡ None
 get_remove_here m k =
     get-remove nat_cmp_total m k k ∙ ap (λ (b : Bool). cond b None (get m k)) (unsigned_tied k k ∙ eq-eqb k k refl)
 
-pub get_remove_other : (m : FinMap nat_cmp Region) (k q : ℕ) → q ≢ k → get (remove m k) q ≡ get m q
+pub get_remove_other : {X : Type 0} (m : FinMap nat_cmp X) (k q : ℕ) → q ≢ k → get (remove m k) q ≡ get m q
 get_remove_other m k q ne =
     get-remove nat_cmp_total m k q ∙ ap (λ (b : Bool). cond b None (get m q)) (unsigned_tied q k ∙ ne_eqb q k ne)
 

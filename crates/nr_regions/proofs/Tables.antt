@@ -1,66 +1,97 @@
--- The code's map changes as its finite map does.
-use Rattle.std.proofs.Common.{◌≡◌, ℕ, cond, List, [], ◌∷◌, Option, None, Some, IfSome, refl, sym, ap, ◌∙◌, subst}
+-- The code's map changes as its finite maps do.
+use Rattle.std.proofs.Common.{◌≡◌, ℕ, Bool, true, false, cond, List, [], ◌∷◌, Option, None, Some, IfSome, option_map, refl, sym, ap, ◌∙◌, subst, inl, inr}
 use Rattle.std.specs.Prelude.{nat_eq}
+use Rattle.std.proofs.lemmas.Bool.{cases_eq}
 use Rattle.std.specs.Ordering.{nat_cmp, eq_by_cmp}
 use Rattle.std.specs.Cmp.{nat_cmp_total, unsigned_tied, eq_by_cmp_equiv}
 use Rattle.std.specs.Map.{lookup}
 use Rattle.std.specs.HashMap.{HashMap}
 use Rattle.std.specs.HashMap as hash
-use Rattle.std.specs.FinMap.{empty, find, from_entries, get, insert, remove, same_map, nat_cmp-IsAntisymmetric, get-from_entries, get-insert, get-remove}
-use Rattle.nr_regions.specs.declared.region.Region.{Region}
-use Rattle.nr_regions.specs.RegisteredMemory.{bytes_after_write}
-use Rattle.nr_regions.specs.Table.{table}
-
-find_lookup : (stag : ℕ) (es : List (ℕ × Region)) → find nat_cmp stag es ≡ lookup (nat_eq stag) es
-find_lookup stag [] = refl
-find_lookup stag (e ∷ es) = λ i. cond (unsigned_tied stag e.0 i) (Some e.1) (find_lookup stag es i)
+use Rattle.std.specs.FinMap.{FinMap, empty, find, from_entries, get, insert, remove, same_map, nat_cmp-IsAntisymmetric, get-from_entries, get-insert, get-remove}
+use Rattle.nr_regions.specs.declared.held.HeldBuffer.{HeldBuffer}
+use Rattle.nr_regions.specs.RegisteredMemory.{Region, bytes_after_write}
+use Rattle.nr_regions.specs.Windows.{BufferParts}
+use Rattle.nr_regions.specs.Table.{table, outsides, region_of, outside_of, mapped, mapped_entries}
+use Rattle.nr_regions.proofs.Holding.{get_insert_here, get_insert_other}
 
 turned : (stag q : ℕ) → nat_eq stag q ≡ eq_by_cmp nat_cmp q stag
 turned stag q = sym (unsigned_tied stag q) ∙ (eq_by_cmp_equiv nat_cmp_total).symm stag q
 
-module _ {S : Type 0} where
+-- a map as it is after what it has at a key is put there again
+insert_same : {X : Type 0} (m : FinMap nat_cmp X) (k : ℕ) (v : X) → get m k ≡ Some v → insert m k v ≡ m
+insert_same m k v there =
+    same_map nat_cmp_total nat_cmp-IsAntisymmetric (insert m k v) m (λ q.
+    elim (cases_eq q k) [
+      | inl e ↦ rw e (get_insert_here m k v ∙ sym there)
+      | inr ne ↦ get_insert_other m k v q ne
+    ])
+
+-- the map as the other is after a change at one key
+pub record ChangedAt {S : Type 0} (m n : HashMap ℕ HeldBuffer S) (stag : ℕ) (w : Option HeldBuffer) : Type 0 where
+  pub each : (q : ℕ) → hash.get nat_eq n q ≡ cond (nat_eq stag q) w (hash.get nat_eq m q)
+
+mapped_cond : {X : Type 0} (f : HeldBuffer → X) (b : Bool) (v o : Option HeldBuffer) → option_map f (cond b v o) ≡ cond b (option_map f v) (option_map f o)
+mapped_cond f true v o = refl
+mapped_cond f false v o = refl
+
+find_mapped : {X : Type 0} (f : HeldBuffer → X) (stag : ℕ) (es : List (ℕ × HeldBuffer)) → find nat_cmp stag (mapped_entries f es) ≡ option_map f (lookup (nat_eq stag) es)
+find_mapped f stag [] = refl
+find_mapped f stag (e ∷ es) =
+    (λ i. cond (unsigned_tied stag e.0 i) (Some (f e.1)) (find_mapped f stag es i))
+    ∙ sym (mapped_cond f (nat_eq stag e.0) (Some e.1) (lookup (nat_eq stag) es))
+
+module _ {S X : Type 0} (f : HeldBuffer → X) where
   -- what is found
-  pub get-table : (m : HashMap ℕ Region S) (stag : ℕ) → get (table m) stag ≡ hash.get nat_eq m stag
-  get-table m stag = get-from_entries nat_cmp_total m.entries stag ∙ find_lookup stag m.entries
+  pub get_mapped : (m : HashMap ℕ HeldBuffer S) (stag : ℕ) → get (mapped f m) stag ≡ option_map f (hash.get nat_eq m stag)
+  get_mapped m stag = get-from_entries nat_cmp_total (mapped_entries f m.entries) stag ∙ find_mapped f stag m.entries
 
-  pub table-empty : (m : HashMap ℕ Region S) → hash.IsEmpty m → table m ≡ empty
-  table-empty m e = ap from_entries e
+  pub mapped_empty : (m : HashMap ℕ HeldBuffer S) → hash.IsEmpty m → mapped f m ≡ empty
+  mapped_empty m e = ap (λ (es : List (ℕ × HeldBuffer)). from_entries (mapped_entries f es)) e
 
-  pub table-same : (m n : HashMap ℕ Region S) → ((q : ℕ) → hash.get nat_eq n q ≡ hash.get nat_eq m q) → table n ≡ table m
-  table-same m n same =
-      same_map nat_cmp_total nat_cmp-IsAntisymmetric (table n) (table m) (λ q. get-table n q ∙ same q ∙ sym (get-table m q))
+  pub mapped_same : (m n : HashMap ℕ HeldBuffer S) → ((q : ℕ) → hash.get nat_eq n q ≡ hash.get nat_eq m q) → mapped f n ≡ mapped f m
+  mapped_same m n same =
+      same_map nat_cmp_total nat_cmp-IsAntisymmetric (mapped f n) (mapped f m) (λ q. get_mapped n q ∙ ap (option_map f) (same q) ∙ sym (get_mapped m q))
 
-  pub table-unchanged : (m n : HashMap ℕ Region S) → hash.IsUnchanged m n → table n ≡ table m
-  table-unchanged m n e = ap from_entries e
+  pub mapped_unchanged : (m n : HashMap ℕ HeldBuffer S) → hash.IsUnchanged m n → mapped f n ≡ mapped f m
+  mapped_unchanged m n e = ap (λ (es : List (ℕ × HeldBuffer)). from_entries (mapped_entries f es)) e
 
-  -- the map as the other is after a change at one key
-  pub record ChangedAt (m n : HashMap ℕ Region S) (stag : ℕ) (w : Option Region) : Type 0 where
-    pub each : (q : ℕ) → hash.get nat_eq n q ≡ cond (nat_eq stag q) w (hash.get nat_eq m q)
+  pub mapped_put : (m n : HashMap ℕ HeldBuffer S) (stag : ℕ) (held : HeldBuffer) → ChangedAt m n stag (Some held) → mapped f n ≡ insert (mapped f m) stag (f held)
+  mapped_put m n stag held c =
+      same_map nat_cmp_total nat_cmp-IsAntisymmetric (mapped f n) (insert (mapped f m) stag (f held)) (λ q.
+      get_mapped n q
+      ∙ ap (option_map f) (c.each q)
+      ∙ mapped_cond f (nat_eq stag q) (Some held) (hash.get nat_eq m q)
+      ∙ (λ i. cond (turned stag q i) (Some (f held)) (sym (get_mapped m q) i))
+      ∙ sym (get-insert nat_cmp_total (mapped f m) stag (f held) q))
 
-  pub table-put : (m n : HashMap ℕ Region S) (stag : ℕ) (region : Region) → ChangedAt m n stag (Some region) → table n ≡ insert (table m) stag region
-  table-put m n stag region c =
-      same_map nat_cmp_total nat_cmp-IsAntisymmetric (table n) (insert (table m) stag region) (λ q.
-      get-table n q
-      ∙ c.each q
-      ∙ (λ i. cond (turned stag q i) (Some region) (sym (get-table m q) i))
-      ∙ sym (get-insert nat_cmp_total (table m) stag region q))
+  pub mapped_take_out : (m n : HashMap ℕ HeldBuffer S) (stag : ℕ) → ChangedAt m n stag None → mapped f n ≡ remove (mapped f m) stag
+  mapped_take_out m n stag c =
+      same_map nat_cmp_total nat_cmp-IsAntisymmetric (mapped f n) (remove (mapped f m) stag) (λ q.
+      get_mapped n q
+      ∙ ap (option_map f) (c.each q)
+      ∙ mapped_cond f (nat_eq stag q) None (hash.get nat_eq m q)
+      ∙ (λ i. cond (turned stag q i) None (sym (get_mapped m q) i))
+      ∙ sym (get-remove nat_cmp_total (mapped f m) stag q))
 
-  pub table-take_out : (m n : HashMap ℕ Region S) (stag : ℕ) → ChangedAt m n stag None → table n ≡ remove (table m) stag
-  table-take_out m n stag c =
-      same_map nat_cmp_total nat_cmp-IsAntisymmetric (table n) (remove (table m) stag) (λ q.
-      get-table n q
-      ∙ c.each q
-      ∙ (λ i. cond (turned stag q i) None (sym (get-table m q) i))
-      ∙ sym (get-remove nat_cmp_total (table m) stag q))
-
+module _ {S : Type 0} where
   -- some bytes over those of the region that is found
-  pub table-write_over : (m n : HashMap ℕ Region S) (stag at : ℕ) (bytes buf : List ℕ) (region : Region) → get (table m) stag ≡ Some region
-      → buf ≡ bytes_after_write region.buf at bytes → ChangedAt m n stag (Some (record { right = region.right; buf = buf }))
+  pub table_write_over : (m n : HashMap ℕ HeldBuffer S) (stag at : ℕ) (bytes : List ℕ) (window : BufferParts) (held : HeldBuffer) → hash.get nat_eq m stag ≡ Some held
+      → window ≡ record held.window { bytes = bytes_after_write held.window.bytes at bytes } → ChangedAt m n stag (Some (record { right = held.right; window = window }))
       → IfSome (get (table m) stag) (λ r. table n ≡ insert (table m) stag (record { right = r.right; buf = bytes_after_write r.buf at bytes }))
-  table-write_over m n stag at bytes buf region e is c =
-      subst (λ (o : Option Region). IfSome o (λ r. table n ≡ insert (table m) stag (record { right = r.right; buf = bytes_after_write r.buf at bytes }))) (sym e)
-      (table-put m n stag (record { right = region.right; buf = buf }) c
-      ∙ ap (λ (b : List ℕ). insert (table m) stag (record { right = region.right; buf = b })) is)
+  table_write_over m n stag at bytes window held e is c =
+      subst (λ (o : Option Region). IfSome o (λ r. table n ≡ insert (table m) stag (record { right = r.right; buf = bytes_after_write r.buf at bytes })))
+      (sym (get_mapped region_of m stag ∙ ap (option_map region_of) e))
+      (mapped_put region_of m n stag (record { right = held.right; window = window }) c
+      ∙ ap (λ (w : BufferParts). insert (table m) stag (record { right = held.right; buf = w.bytes })) is)
+
+  -- the bytes outside of it stay
+  pub outsides_write_over : (m n : HashMap ℕ HeldBuffer S) (stag at : ℕ) (bytes : List ℕ) (window : BufferParts) (held : HeldBuffer) → hash.get nat_eq m stag ≡ Some held
+      → window ≡ record held.window { bytes = bytes_after_write held.window.bytes at bytes } → ChangedAt m n stag (Some (record { right = held.right; window = window }))
+      → outsides n ≡ outsides m
+  outsides_write_over m n stag at bytes window held e is c =
+      mapped_put outside_of m n stag (record { right = held.right; window = window }) c
+      ∙ ap (λ (w : BufferParts). insert (outsides m) stag w.outside) is
+      ∙ insert_same (outsides m) stag held.window.outside (get_mapped outside_of m stag ∙ ap (option_map outside_of) e)
 
 -- the fact of what is found
 pub fact_at : (o : Option Region) (region : Region) (P : Region → Type 0) → o ≡ Some region → IfSome o P → P region

@@ -10,8 +10,7 @@ use Rattle.std.specs.Ordering.{nat_cmp, is_eq}
 use Rattle.std.specs.Cmp.{nat_cmp_total}
 use Rattle.std.specs.FinMap.{FinMap, empty, entries, find, put, get, insert, remove, same_map, nat_cmp-IsAntisymmetric, entries-insert, get-entries, get-empty, len-empty, len-entries}
 use Rattle.std.specs.FinMap.Entries.{by_order}
-use Rattle.nr_regions.specs.declared.region.Region.{Region}
-use Rattle.nr_regions.specs.RegisteredMemory.{RegionTable, Claim, IsHeld, bytes_after_write, bytes_held, held_region}
+use Rattle.nr_regions.specs.RegisteredMemory.{Region, Outside, RegionTable, Claim, IsHeld, bytes_after_write, bytes_held, held_region}
 use Rattle.nr_regions.specs.Table.{IsSound}
 use Rattle.nr_regions.proofs.Holding.{get_insert_here, get_insert_other, get_remove_here, get_remove_other, length_bytes_after_write}
 use Rattle.nr_regions.proofs.Tables.{fact_at}
@@ -139,7 +138,7 @@ sound_written next bytes held after stag to payload region s there le is =
     (sound_place next bytes held stag region w s there (length_bytes_after_write region.buf to payload le))
 
 -- what a claim on the table's memory says of the map
-pub held_there : (held : FinMap nat_cmp Region) (next room : ℕ) (t : RegionTable) (claim : Claim) (h : IsHeld t.memory claim)
-    → ◌≡◌ {A = RegionTable} (record { memory = record { next = next; held = held }; room = room }) t → get held claim.stag ≡ Some h.region
+pub held_there : {outside : FinMap nat_cmp Outside} (held : FinMap nat_cmp Region) (next room : ℕ) (t : RegionTable) (claim : Claim) (h : IsHeld t.memory claim)
+    → ◌≡◌ {A = RegionTable} (record { memory = record { next = next; held = held }; room = room; outside = outside }) t → get held claim.stag ≡ Some h.region
 unfolding held_region
 held_there held next room t claim h is = ap (λ (k : RegionTable). get k.memory.held claim.stag) is ∙ h.there

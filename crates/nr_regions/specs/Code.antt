@@ -5,8 +5,8 @@ use Rattle.std.specs.Coded.{Coded, code_by, coded×, coded_ℕ, coded_list}
 use Rattle.std.specs.FinMap.{FinMap, code}
 use Rattle.nr_regions.specs.declared.right.Right.{Right}
 use Rattle.nr_regions.specs.declared.right.Right.TheVariants.{Fetch, Fill, Sink}
-use Rattle.nr_regions.specs.declared.region.Region.{Region}
-use Rattle.nr_regions.specs.RegisteredMemory.{RegisteredMemory, RegionTable, Claim}
+use Rattle.nr_regions.specs.Windows.{outside_code}
+use Rattle.nr_regions.specs.RegisteredMemory.{Region, Outside, RegisteredMemory, RegionTable, Claim}
 
 abbrev pub number_of : Right → ℕ
 number_of Fetch = 0
@@ -31,7 +31,9 @@ abbrev pub memory_code : Coded RegisteredMemory
 memory_code = code_by (ℕ × FinMap nat_cmp Region) (coded× coded_ℕ (code coded_ℕ region_code)) (λ m. (m.next, m.held)) (λ p. record { next = p.0; held = p.1 }) (λ _. refl)
 
 abbrev pub table_code : Coded RegionTable
-table_code = code_by (RegisteredMemory × ℕ) (coded× memory_code coded_ℕ) (λ t. (t.memory, t.room)) (λ p. record { memory = p.0; room = p.1 }) (λ _. refl)
+table_code =
+    code_by (RegisteredMemory × (ℕ × FinMap nat_cmp Outside)) (coded× memory_code (coded× coded_ℕ (code coded_ℕ outside_code))) (λ t. (t.memory, (t.room, t.outside)))
+    (λ p. record { memory = p.0; room = p.1.0; outside = p.1.1 }) (λ _. refl)
 
 abbrev pub claim_code : Coded Claim
 claim_code = code_by (ℕ × ℕ) (coded× coded_ℕ coded_ℕ) (λ c. (c.stag, c.len)) (λ p. record { stag = p.0; len = p.1 }) (λ _. refl)

@@ -7,9 +7,18 @@ use Rattle.nr_regions.specs.declared.right.Right.{Right}
 use Rattle.nr_regions.specs.declared.right.Right.TheVariants.{Fetch, Fill, Sink}
 use Rattle.nr_regions.specs.declared.right.Kind.{Kind}
 use Rattle.nr_regions.specs.declared.right.Kind.TheVariants.{Write, Response}
-use Rattle.nr_regions.specs.declared.region.Region.{Region}
 use Rattle.nr_regions.specs.declared.denied.Denied.{Denied}
 use Rattle.nr_regions.specs.declared.denied.Denied.TheVariants.{NoStag, Bounds, Right as WrongRight}
+
+-- A registered region: what it is offered for, and its bytes.
+pub record Region : Type 0 where
+  pub right : Right
+  pub buf : List ℕ
+
+-- The bytes of a buffer before and after the region that is a part of it. No peer reaches them.
+pub record Outside : Type 0 where
+  pub front : List ℕ
+  pub rest : List ℕ
 
 -- The STag that the next registration gets, 2 ^ 32 where none is left, and the regions that are held: those that were
 -- registered and not yet released.
@@ -17,10 +26,12 @@ pub record RegisteredMemory : Type 0 where
   pub next : ℕ
   pub held : FinMap nat_cmp Region
 
--- The table of one end's regions: the memory, and the room, a number of further regions that need no allocation.
+-- The table of one end's regions: the memory; the room, a number of further regions that need no allocation; and for each STag that is
+-- held the bytes of its buffer outside its region.
 pub record RegionTable : Type 0 where
   pub memory : RegisteredMemory
   pub room : ℕ
+  pub outside : FinMap nat_cmp Outside
 
 -- a registration: the STag of its region, and the region's length
 pub record Claim : Type 0 where
@@ -119,3 +130,25 @@ bytes_in (Some region) = region.buf
 -- the bytes that an access reaches
 abbrev pub bytes_at : RegisteredMemory → Access → List ℕ
 bytes_at m access = take access.len (drop access.to (bytes_in (live_region m access.stag)))
+
+-- ---- A region that is a part of its buffer
+
+-- the `len` bytes of a buffer from `start` on, and the bytes outside of them
+abbrev pub window_bytes : (start len : ℕ) → List ℕ → List ℕ
+window_bytes start len buf = take len (drop start buf)
+
+abbrev pub outside_window : (start len : ℕ) → List ℕ → Outside
+outside_window start len buf = record { front = take start buf; rest = drop (start + len) buf }
+
+-- nothing is outside a region that is all of its buffer
+abbrev pub nothing_outside : Outside
+nothing_outside = record { front = []; rest = [] }
+
+-- the buffer of a region
+abbrev pub buffer_around : Option Outside → List ℕ → List ℕ
+buffer_around None bytes = bytes
+buffer_around (Some outside) bytes = outside.front ++ (bytes ++ outside.rest)
+
+-- the bytes outside a registration's region, where it is held
+abbrev pub outside_at : RegionTable → ℕ → Option Outside
+outside_at t stag = get t.outside stag

@@ -1,13 +1,32 @@
--- The hash map of the code as a finite map, and what the fields of `Regions` keep.
-use Rattle.std.specs.Prelude.{◌≡◌, ℕ, ◌*◌, ◌^◌, ◌≤◌, false}
+-- The hash map of the code as finite maps, and what the fields of `Regions` keep.
+use Rattle.std.specs.Prelude.{◌≡◌, ℕ, ◌*◌, ◌^◌, ◌≤◌, false, List, map}
 use Rattle.std.specs.Ordering.{nat_cmp}
 use Rattle.std.specs.HashMap.{HashMap}
 use Rattle.std.specs.FinMap.{FinMap, from_entries, contains_key}
-use Rattle.nr_regions.specs.declared.region.Region.{Region}
-use Rattle.nr_regions.specs.RegisteredMemory.{bytes_held}
+use Rattle.nr_regions.specs.declared.held.HeldBuffer.{HeldBuffer}
+use Rattle.nr_regions.specs.RegisteredMemory.{Region, Outside, bytes_held}
 
-abbrev pub table : {S : Type 0} → HashMap ℕ Region S → FinMap nat_cmp Region
-table m = from_entries m.entries
+-- the region of a buffer that is held
+abbrev pub region_of : HeldBuffer → Region
+region_of held = record { right = held.right; buf = held.window.bytes }
+
+-- the bytes of a buffer that is held, outside its region
+abbrev pub outside_of : HeldBuffer → Outside
+outside_of held = held.window.outside
+
+-- what is said of each buffer, by its STag
+abbrev pub mapped_entries : {X : Type 0} → (HeldBuffer → X) → List (ℕ × HeldBuffer) → List (ℕ × X)
+mapped_entries f es = map (λ e. (e.0, f e.1)) es
+
+abbrev pub mapped : {S X : Type 0} → (HeldBuffer → X) → HashMap ℕ HeldBuffer S → FinMap nat_cmp X
+mapped f m = from_entries (mapped_entries f m.entries)
+
+-- the regions, and the bytes outside of them
+abbrev pub table : {S : Type 0} → HashMap ℕ HeldBuffer S → FinMap nat_cmp Region
+table m = mapped region_of m
+
+abbrev pub outsides : {S : Type 0} → HashMap ℕ HeldBuffer S → FinMap nat_cmp Outside
+outsides m = mapped outside_of m
 
 -- An STag that wasn't given has no region, and `bytes` is the sum of the lengths held.
 pub record IsSound (next bytes : ℕ) (held : FinMap nat_cmp Region) : Type 0 where

@@ -6,7 +6,6 @@ ghost use Rattle.nr_regions.specs.RegisteredMemory.{Access, Claim, IsHeld, Regis
 ghost use Rattle.nr_regions.specs.Events.{MemoryEvent, IsNoReleaseOf, IsRegisteredAt, IsReleasedAt, StaysOpen, after_event, after_events, tagged_segments};
 ghost use Rattle.nr_regions.specs.Events.MemoryEvent.{Register, Release};
 
-use crate::region::Region;
 use crate::right::Right;
 
 /// A region is held from `register` until its STag is released, whatever else happens.

@@ -16,16 +16,16 @@
 #![tactic(auto)]
 
 mod denied;
+mod held;
 mod laws;
-mod region;
 mod regions;
 mod registration;
 mod right;
 mod table;
+mod window;
 
 pub use denied::{Denied, Why};
 pub use laws::{allowed_accesses, contents_at_release, contents_while_open, held_until_release};
-pub use region::Region;
 pub use regions::Regions;
 pub use registration::Registration;
 pub use right::{Kind, Right};

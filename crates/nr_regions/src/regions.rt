@@ -1,16 +1,17 @@
 //! All regions of a connection's end.
 
 ghost use Rattle.std.specs.Prelude.{◌≡◌, ◌+◌, ◌^◌, ◌<◌, ◌≤◌, ◌↔◌, length, IsOk, IfOk, IfErr, OnOk, OnErr, IsErrAnd, ◌≢◌};
-ghost use Rattle.std.specs.FinMap.{get};
+ghost use Rattle.std.specs.FinMap.{empty, get, insert, remove};
 ghost use Rattle.std.specs.Result.{result_err};
-ghost use Rattle.nr_regions.specs.RegisteredMemory.{IsHeld, after_place, after_register, after_release, bytes_at, bytes_held, bytes_in, claim_of, denial, denial_in, held_region, initial_memory, region_offer, right_for, stags_left, Claim};
-ghost use Rattle.nr_regions.specs.Table.{table};
+ghost use Rattle.nr_regions.specs.RegisteredMemory.{IsHeld, after_place, after_register, after_release, bytes_at, bytes_held, bytes_in, buffer_around, claim_of, denial, denial_in, held_region, initial_memory, nothing_outside, outside_at, outside_window, region_offer, right_for, stags_left, window_bytes, Claim};
+ghost use Rattle.nr_regions.specs.Table.{table, outsides, region_of};
 
 use crate::denied::{Denied, Why};
-use crate::region::Region;
+use crate::held::HeldBuffer;
 use crate::registration::Registration;
 use crate::right::{Kind, Right};
 use crate::table::{look_up, make_room, no_regions, put, take_out, write_over};
+use crate::window::Window;
 use nr_xdr::{Memory, Octets};
 use std::alloc::Global;
 use std::collections::HashMap;
@@ -28,7 +29,7 @@ use std::marker::Model;
 pub struct Regions {
     next: u64,
     bytes: u128,
-    held: HashMap<u32, Region>,
+    held: HashMap<u32, HeldBuffer>,
 }
 
 impl Model for Regions {
@@ -40,37 +41,37 @@ impl Model for Regions {
     ghost coded = { table_code };
 
     ghost use Rattle.std.specs.HashMap.{spare};
-    ghost use Rattle.nr_regions.specs.Table.{table, IsSound};
+    ghost use Rattle.nr_regions.specs.Table.{table, outsides, IsSound};
 
-    ghost view = { λ r. record { memory = record { next = r.next; held = table r.held }; room = spare r.held } };
+    ghost view = { λ r. record { memory = record { next = r.next; held = table r.held }; room = spare r.held; outside = outsides r.held } };
 
     ghost invariant = { λ r. IsSound r.next r.bytes (table r.held) };
 }
 
 /// The region that an access may reach, or why the access is denied.
 fn check_access(
-    held: &HashMap<u32, Region>,
+    held: &HashMap<u32, HeldBuffer>,
     right: Right,
     stag: u32,
     to: u64,
     len: u64,
-) -> Result<&Region, Denied>
+) -> Result<&HeldBuffer, Denied>
     ensures exact { result_err result
         ≡ denial_in (region_offer (get (table held.now) stag)) (record { right = right; stag = stag; to = to; len = len }) }
-    ensures found { IfOk result (λ region. get (table held.now) stag ≡ Some region.now) }
-    ensures within { IfOk result (λ region. to + len ≤ length region.now.buf) }
+    ensures found { IfOk result (λ found. get (table held.now) stag ≡ Some (region_of found.now)) }
+    ensures within { IfOk result (λ found. to + len ≤ length found.now.window.bytes) }
 {
-    let Some(region) = look_up(held, stag) else {
+    let Some(found) = look_up(held, stag) else {
         return Err(Denied::NoStag);
     };
-    let size = region.buf.len() as u64;
+    let size = found.window.len() as u64;
     if to > size || len > size - to {
         return Err(Denied::Bounds);
     }
-    if region.right != right {
+    if found.right != right {
         return Err(Denied::Right);
     }
-    Ok(region)
+    Ok(found)
 }
 
 fn right_for(kind: Kind) -> Right
@@ -87,7 +88,8 @@ impl Regions {
     #[tactic(auto, unfolding(crate::specs::RegisteredMemory::initial_memory))]
     pub fn new(alloc: Global, first_stag: u32) -> Regions
         requires { 0 < first_stag }
-        ensures { result.memory ≡ initial_memory first_stag }
+        ensures memory { result.memory ≡ initial_memory first_stag }
+        ensures outside { result.outside ≡ empty }
     {
         Regions {
             next: u64::from(first_stag),
@@ -122,7 +124,7 @@ impl Regions {
         ensures len { length result.now ≡ registration.now.len }
     {
         match look_up(&self.held, registration.stag()) {
-            Some(region) => region.buf.as_slice(),
+            Some(found) => found.window.bytes(),
             None => unreachable!(),
         }
     }
@@ -134,6 +136,7 @@ impl Regions {
         ensures succeeds { more ≤ self.old.room → IsOk result }
         ensures same { self.new.memory ≡ self.old.memory }
         ensures room { self.old.room ≤ self.new.room }
+        ensures outside { self.new.outside ≡ self.old.outside }
     {
         make_room(&mut self.held, more)
     }
@@ -141,6 +144,7 @@ impl Regions {
     /// Registers a buffer under the next STag. `Spent` exactly where STag 2^32 - 1 was given. Within the room memory never
     /// runs out, and an `Ok` uses at most one of it. The buffer comes back with an error, which changes no region and no
     /// STag.
+    #[tactic(auto, using(crate::proofs::Parts::registered_all, crate::proofs::Parts::outside_of_all))]
     pub fn register(&mut self, buf: Octets, right: Right) -> Result<Registration, (Octets, Why)>
         ensures ok { IfOk result (λ claim. (claim ≡ claim_of self.old.memory buf) × (self.new.memory ≡ after_register self.old.memory right buf)) }
         ensures spent { IsErrAnd result (λ e. e.1 ≡ Why.Spent) ↔ (self.old.memory.next ≡ 2 ^ 32) }
@@ -153,13 +157,24 @@ impl Regions {
         // The region is held from now on, and so is what was held before.
         ensures held { IfOk result (λ claim. IsHeld self.new.memory claim) }
         ensures keeps { (claim : Claim) → IsHeld self.old.memory claim → IsHeld self.new.memory claim }
+        ensures outside { OnOk result (self.new.outside ≡ insert self.old.outside self.old.memory.next nothing_outside) }
+        ensures outside_err { OnErr result (self.new.outside ≡ self.old.outside) }
     {
-        self.register_inner(buf, right)
+        let len = buf.len();
+        self.register_window(buf, 0, len, right)
     }
 
-    #[tactic(auto, unfolding(crate::specs::RegisteredMemory::after_register))]
-    fn register_inner(&mut self, buf: Octets, right: Right) -> Result<Registration, (Octets, Why)>
-        ensures ok { IfOk result (λ claim. (claim ≡ claim_of self.old.memory buf) × (self.new.memory ≡ after_register self.old.memory right buf)) }
+    /// Registers a part of a buffer, as [`Regions::register`] does a complete one: the `len` bytes from `start` on. The peer
+    /// reaches no other byte of the buffer, and those stay as they are.
+    pub fn register_window(
+        &mut self,
+        buf: Octets,
+        start: usize,
+        len: usize,
+        right: Right,
+    ) -> Result<Registration, (Octets, Why)>
+        requires { start + len ≤ length buf }
+        ensures ok { IfOk result (λ claim. (claim ≡ claim_of self.old.memory (window_bytes start len buf)) × (self.new.memory ≡ after_register self.old.memory right (window_bytes start len buf))) }
         ensures spent { IsErrAnd result (λ e. e.1 ≡ Why.Spent) ↔ (self.old.memory.next ≡ 2 ^ 32) }
         ensures succeeds { 0 < self.old.room → self.old.memory.next < 2 ^ 32 → IsOk result }
         ensures next { OnOk result (self.new.memory.next ≡ self.old.memory.next + 1) }
@@ -167,16 +182,62 @@ impl Regions {
         ensures room_kept { OnErr result (self.old.room ≤ self.new.room) }
         ensures returned { IfErr result (λ e. e.0 ≡ buf) }
         ensures err { OnErr result (self.new.memory ≡ self.old.memory) }
+        ensures held { IfOk result (λ claim. IsHeld self.new.memory claim) }
+        ensures keeps { (claim : Claim) → IsHeld self.old.memory claim → IsHeld self.new.memory claim }
+        ensures outside { OnOk result (self.new.outside ≡ insert self.old.outside self.old.memory.next (outside_window start len buf)) }
+        ensures outside_err { OnErr result (self.new.outside ≡ self.old.outside) }
+    {
+        self.register_inner(buf, start, len, right)
+    }
+
+    #[tactic(auto, using(crate::proofs::Parts::buffer_again))]
+    fn register_inner(
+        &mut self,
+        buf: Octets,
+        start: usize,
+        len: usize,
+        right: Right,
+    ) -> Result<Registration, (Octets, Why)>
+        requires { start + len ≤ length buf }
+        ensures ok { IfOk result (λ claim. (claim ≡ claim_of self.old.memory (window_bytes start len buf)) × (self.new.memory ≡ after_register self.old.memory right (window_bytes start len buf))) }
+        ensures spent { IsErrAnd result (λ e. e.1 ≡ Why.Spent) ↔ (self.old.memory.next ≡ 2 ^ 32) }
+        ensures succeeds { 0 < self.old.room → self.old.memory.next < 2 ^ 32 → IsOk result }
+        ensures next { OnOk result (self.new.memory.next ≡ self.old.memory.next + 1) }
+        ensures room { self.old.room ≤ self.new.room + 1 }
+        ensures room_kept { OnErr result (self.old.room ≤ self.new.room) }
+        ensures returned { IfErr result (λ e. e.0 ≡ buf) }
+        ensures err { OnErr result (self.new.memory ≡ self.old.memory) }
+        ensures outside { OnOk result (self.new.outside ≡ insert self.old.outside self.old.memory.next (outside_window start len buf)) }
+        ensures outside_err { OnErr result (self.new.outside ≡ self.old.outside) }
+    {
+        match self.register_part(Window::new(buf, start, len), right) {
+            Ok(registration) => Ok(registration),
+            Err((window, why)) => Err((window.into_buffer(), why)),
+        }
+    }
+
+    #[tactic(auto, unfolding(crate::specs::RegisteredMemory::after_register))]
+    fn register_part(&mut self, window: Window, right: Right) -> Result<Registration, (Window, Why)>
+        ensures ok { IfOk result (λ claim. (claim ≡ claim_of self.old.memory window.bytes) × (self.new.memory ≡ after_register self.old.memory right window.bytes)) }
+        ensures spent { IsErrAnd result (λ e. e.1 ≡ Why.Spent) ↔ (self.old.memory.next ≡ 2 ^ 32) }
+        ensures succeeds { 0 < self.old.room → self.old.memory.next < 2 ^ 32 → IsOk result }
+        ensures next { OnOk result (self.new.memory.next ≡ self.old.memory.next + 1) }
+        ensures room { self.old.room ≤ self.new.room + 1 }
+        ensures room_kept { OnErr result (self.old.room ≤ self.new.room) }
+        ensures returned { IfErr result (λ e. e.0 ≡ window) }
+        ensures err { OnErr result (self.new.memory ≡ self.old.memory) }
+        ensures outside { OnOk result (self.new.outside ≡ insert self.old.outside self.old.memory.next window.outside) }
+        ensures outside_err { OnErr result (self.new.outside ≡ self.old.outside) }
     {
         if self.next > u64::from(u32::MAX) {
-            return Err((buf, Why::Spent));
+            return Err((window, Why::Spent));
         }
         let stag = self.next as u32;
-        let len = buf.len() as u64;
-        match put(&mut self.held, stag, Region { right, buf }) {
+        let len = window.len() as u64;
+        match put(&mut self.held, stag, HeldBuffer { right, window }) {
             Err(e) => {
-                let (_, Region { right: _, buf }) = e.value;
-                Err((buf, Why::Memory))
+                let (_, HeldBuffer { right: _, window }) = e.value;
+                Err((window, Why::Memory))
             }
             Ok(()) => {
                 self.next += 1;
@@ -186,7 +247,7 @@ impl Regions {
         }
     }
 
-    /// Returns the buffer with its present content. From then on its STag is invalid. Takes no memory.
+    /// Returns the region's bytes as they are. From then on its STag is invalid. Takes no memory.
     pub fn release(&mut self, registration: Registration) -> Octets
         requires { IsHeld self.old.memory registration }
         ensures bytes { result ≡ bytes_in (held_region self.old.memory registration.stag) }
@@ -195,21 +256,38 @@ impl Regions {
         ensures room { self.old.room ≤ self.new.room }
         // What else was held is held.
         ensures keeps { (claim : Claim) → claim.stag ≢ registration.stag → IsHeld self.old.memory claim → IsHeld self.new.memory claim }
+        ensures outside { self.new.outside ≡ remove self.old.outside registration.stag }
     {
-        self.release_inner(registration)
+        self.release_part(registration).into_bytes()
+    }
+
+    /// Returns the complete buffer of a region, as [`Regions::release`] does the region: its part that was registered has the
+    /// region's bytes as they are, and all others are those that were registered with it.
+    pub fn release_buffer(&mut self, registration: Registration) -> Octets
+        requires { IsHeld self.old.memory registration }
+        ensures bytes { result ≡ buffer_around (outside_at self.old registration.stag) (bytes_in (held_region self.old.memory registration.stag)) }
+        ensures len { length (bytes_in (held_region self.old.memory registration.stag)) ≡ registration.len }
+        ensures dead { self.new.memory ≡ after_release self.old.memory registration.stag }
+        ensures room { self.old.room ≤ self.new.room }
+        ensures keeps { (claim : Claim) → claim.stag ≢ registration.stag → IsHeld self.old.memory claim → IsHeld self.new.memory claim }
+        ensures outside { self.new.outside ≡ remove self.old.outside registration.stag }
+    {
+        self.release_part(registration).into_buffer()
     }
 
     #[tactic(auto, unfolding(crate::specs::RegisteredMemory::after_release, crate::specs::RegisteredMemory::held_region))]
-    fn release_inner(&mut self, registration: Registration) -> Octets
+    fn release_part(&mut self, registration: Registration) -> Window
         requires { IsHeld self.old.memory registration }
-        ensures bytes { result ≡ bytes_in (held_region self.old.memory registration.stag) }
-        ensures len { length result ≡ registration.len }
+        ensures bytes { result.bytes ≡ bytes_in (held_region self.old.memory registration.stag) }
+        ensures around { outside_at self.old registration.stag ≡ Some result.outside }
+        ensures len { length result.bytes ≡ registration.len }
         ensures dead { self.new.memory ≡ after_release self.old.memory registration.stag }
+        ensures outside { self.new.outside ≡ remove self.old.outside registration.stag }
         ensures room { self.old.room ≤ self.new.room }
     {
         self.bytes -= u128::from(registration.len());
         match take_out(&mut self.held, registration.stag()) {
-            Some(Region { right: _, buf }) => buf,
+            Some(HeldBuffer { right: _, window }) => window,
             None => unreachable!(),
         }
     }
@@ -223,6 +301,7 @@ impl Regions {
         ensures err { OnErr result (self.new.memory ≡ self.old.memory) }
         ensures room { self.new.room ≡ self.old.room }
         ensures keeps { (claim : Claim) → IsHeld self.old.memory claim → IsHeld self.new.memory claim }
+        ensures outside { self.new.outside ≡ self.old.outside }
     {
         self.place_inner(kind, stag, to, bytes)
     }
@@ -234,6 +313,7 @@ impl Regions {
         ensures ok { OnOk result (self.new.memory ≡ after_place self.old.memory stag to bytes.now) }
         ensures err { OnErr result (self.new.memory ≡ self.old.memory) }
         ensures room { self.new.room ≡ self.old.room }
+        ensures outside { self.new.outside ≡ self.old.outside }
     {
         match check_access(&self.held, right_for(kind), stag, to, bytes.len() as u64) {
             Ok(_) => {
@@ -261,8 +341,8 @@ impl Regions {
             ≡ bytes_at self.now.memory (record { right = Right.Fetch; stag = stag; to = to; len = len })) }
     {
         match check_access(&self.held, Right::Fetch, stag, to, len) {
-            Ok(region) => {
-                let (_, behind) = region.buf.as_slice().split_at(to as usize);
+            Ok(found) => {
+                let (_, behind) = found.window.bytes().split_at(to as usize);
                 let (bytes, _) = behind.split_at(len as usize);
                 Ok(bytes)
             }

@@ -1,35 +1,37 @@
 //! The map from STag to region, in the terms of finite maps.
 
-ghost use Rattle.std.specs.Prelude.{◌≡◌, ◌+◌, ◌<◌, ◌≤◌, length, IsOk, IfSome, OnOk, OnErr, IfErr};
+ghost use Rattle.std.specs.Prelude.{◌≡◌, ◌+◌, ◌<◌, ◌≤◌, length, option_map, IsOk, IfSome, OnOk, OnErr, IfErr};
 ghost use Rattle.std.specs.FinMap.{empty, get, insert, remove};
 ghost use Rattle.std.specs.HashMap.{spare};
 ghost use Rattle.std.specs.Option.{option_copied};
 ghost use Rattle.nr_regions.specs.RegisteredMemory.{bytes_after_write};
-ghost use Rattle.nr_regions.specs.Table.{table};
+ghost use Rattle.nr_regions.specs.Table.{table, outsides, region_of, outside_of};
 
-use crate::region::Region;
+use crate::held::HeldBuffer;
 use nr_xdr::Memory;
 use std::alloc::{AllocFailed, Global};
 use std::collections::HashMap;
 
 /// A map with no region. Takes no memory.
-pub fn no_regions(alloc: Global) -> HashMap<u32, Region>
-    ensures { table result ≡ empty }
+pub fn no_regions(alloc: Global) -> HashMap<u32, HeldBuffer>
+    ensures regions { table result ≡ empty }
+    ensures outside { outsides result ≡ empty }
 {
     HashMap::new(alloc)
 }
 
 /// The region under an STag.
-pub fn look_up(regions: &HashMap<u32, Region>, stag: u32) -> Option<&Region>
-    ensures { option_copied result ≡ get (table regions.now) stag }
+pub fn look_up(regions: &HashMap<u32, HeldBuffer>, stag: u32) -> Option<&HeldBuffer>
+    ensures { option_map region_of (option_copied result) ≡ get (table regions.now) stag }
 {
     regions.get(&stag)
 }
 
 /// Takes memory for some further regions. An `Err` changes no region.
-pub fn make_room(regions: &mut HashMap<u32, Region>, more: usize) -> Result<(), Memory>
+pub fn make_room(regions: &mut HashMap<u32, HeldBuffer>, more: usize) -> Result<(), Memory>
     ensures ok { OnOk result (more ≤ spare regions.new) }
     ensures same { table regions.new ≡ table regions.old }
+    ensures outside { outsides regions.new ≡ outsides regions.old }
     ensures room { spare regions.old ≤ spare regions.new }
     ensures succeeds { more ≤ spare regions.old → IsOk result }
 {
@@ -39,13 +41,15 @@ pub fn make_room(regions: &mut HashMap<u32, Region>, more: usize) -> Result<(), 
 
 /// Puts a region under an STag. An `Err` gives it back and changes no region.
 pub fn put(
-    regions: &mut HashMap<u32, Region>,
+    regions: &mut HashMap<u32, HeldBuffer>,
     stag: u32,
-    region: Region,
-) -> Result<(), AllocFailed<(u32, Region)>>
-    ensures ok { OnOk result (table regions.new ≡ insert (table regions.old) stag region) }
+    region: HeldBuffer,
+) -> Result<(), AllocFailed<(u32, HeldBuffer)>>
+    ensures ok { OnOk result (table regions.new ≡ insert (table regions.old) stag (region_of region)) }
+    ensures ok_outside { OnOk result (outsides regions.new ≡ insert (outsides regions.old) stag (outside_of region)) }
     ensures returned { IfErr result (λ e. e.value.1 ≡ region) }
     ensures err { OnErr result (table regions.new ≡ table regions.old) }
+    ensures err_outside { OnErr result (outsides regions.new ≡ outsides regions.old) }
     ensures succeeds { 0 < spare regions.old → IsOk result }
     ensures room { spare regions.old ≤ spare regions.new + 1 }
 {
@@ -54,22 +58,25 @@ pub fn put(
 }
 
 /// Takes the region under an STag out.
-pub fn take_out(regions: &mut HashMap<u32, Region>, stag: u32) -> Option<Region>
-    ensures region { result ≡ get (table regions.old) stag }
+pub fn take_out(regions: &mut HashMap<u32, HeldBuffer>, stag: u32) -> Option<HeldBuffer>
+    ensures region { option_map region_of result ≡ get (table regions.old) stag }
+    ensures outside { option_map outside_of result ≡ get (outsides regions.old) stag }
     ensures left { table regions.new ≡ remove (table regions.old) stag }
+    ensures left_outside { outsides regions.new ≡ remove (outsides regions.old) stag }
     ensures room { spare regions.old ≤ spare regions.new }
 {
     regions.remove(&stag)
 }
 
 /// Writes some bytes over those of the region under an STag. Takes no memory.
-pub fn write_over(regions: &mut HashMap<u32, Region>, stag: u32, at: usize, bytes: &[u8])
+pub fn write_over(regions: &mut HashMap<u32, HeldBuffer>, stag: u32, at: usize, bytes: &[u8])
     requires { IfSome (get (table regions.old) stag) (λ region. at + length bytes.now ≤ length region.buf) }
     ensures bytes { IfSome (get (table regions.old) stag) (λ region. table regions.new
         ≡ insert (table regions.old) stag (record { right = region.right; buf = bytes_after_write region.buf at bytes.now })) }
+    ensures outside { outsides regions.new ≡ outsides regions.old }
     ensures room { spare regions.new ≡ spare regions.old }
 {
     if let Some(region) = regions.get_mut(&stag) {
-        region.buf.overwrite(at, bytes);
+        region.window.overwrite(at, bytes);
     }
 }

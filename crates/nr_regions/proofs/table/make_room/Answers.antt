@@ -1,5 +1,9 @@
-use Rattle.nr_regions.proofs.Tables.{table-same}
+use Rattle.nr_regions.specs.Table.{region_of, outside_of}
+use Rattle.nr_regions.proofs.Tables.{mapped_same}
 use Rattle.nr_regions.proofs.table.make_room.Goals as goal
 
 pub returns-clause-same : goal.returns-clause-same
-returns-clause-same c = table-same c.args.regions.now c.reserve.new.self c.reserve.ensures.entries.2
+returns-clause-same c = mapped_same region_of c.args.regions.now c.reserve.new.self c.reserve.ensures.entries.2
+
+pub returns-clause-outside : goal.returns-clause-outside
+returns-clause-outside c = mapped_same outside_of c.args.regions.now c.reserve.new.self c.reserve.ensures.entries.2

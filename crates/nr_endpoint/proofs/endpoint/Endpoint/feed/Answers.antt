@@ -14,12 +14,12 @@ loop-left-init c = fed_none c.args.self.now c.args.piece.now c.facts.ensures.par
 pub loop-left-smaller : goal.loop-left-smaller
 loop-left-smaller c =
     fewer_left c.args.self.now c.loop-left.self c.advance-left.new.self c.args.piece.now c.loop-left.left.now c.advance-left.result.now c.loop-left.invariant (grind (arith, common_steps, c.is_empty.ensures, c.loop-left-test.true))
-    (record { live = c.advance-left.ensures.live; ended = c.advance-left.ensures.ended; left_is = c.advance-left.ensures.left; staging = c.advance-left.ensures.staging; partial = c.advance-left.ensures.partial; ended_rest = c.advance-left.ensures.ended_rest; room = c.advance-left.ensures.room })
+    (record { live = c.advance-left.ensures.live; ended = c.advance-left.ensures.ended; left_is = c.advance-left.ensures.left; staging = c.advance-left.ensures.staging; partial = c.advance-left.ensures.partial; ended_rest = c.advance-left.ensures.ended_rest; room = c.advance-left.ensures.room; outside = c.advance-left.ensures.outside })
 
 pub loop-left-preserved : goal.loop-left-preserved
 loop-left-preserved c =
     fed_on c.args.self.now c.loop-left.self c.advance-left.new.self c.args.piece.now c.loop-left.left.now c.advance-left.result.now c.loop-left.invariant (grind (arith, common_steps, c.is_empty.ensures, c.loop-left-test.true))
-    (record { live = c.advance-left.ensures.live; ended = c.advance-left.ensures.ended; left_is = c.advance-left.ensures.left; staging = c.advance-left.ensures.staging; partial = c.advance-left.ensures.partial; ended_rest = c.advance-left.ensures.ended_rest; room = c.advance-left.ensures.room })
+    (record { live = c.advance-left.ensures.live; ended = c.advance-left.ensures.ended; left_is = c.advance-left.ensures.left; staging = c.advance-left.ensures.staging; partial = c.advance-left.ensures.partial; ended_rest = c.advance-left.ensures.ended_rest; room = c.advance-left.ensures.room; outside = c.advance-left.ensures.outside })
 
 no_bytes_lem : (left : List ℕ) → length left ≡ 0 → left ≡ []
 no_bytes_lem [] h = refl

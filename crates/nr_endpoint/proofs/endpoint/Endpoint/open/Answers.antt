@@ -17,8 +17,8 @@ invariant_of-result c = record {
 
 pub returns-clause-state : goal.returns-clause-state
 unfolding initial_link
-returns-clause-state c = λ i. record { awaited = HelloFrom (c.peer.ensures i); rest = []; state = c.in_ok-new.ensures i }
+returns-clause-state c = λ i. record { awaited = HelloFrom (c.peer.ensures i); rest = []; state = c.in_ok-new.ensures.state i }
 
 pub returns-clause-stands : goal.returns-clause-stands
 unfolding initial_link after_calls
-returns-clause-stands c = λ i. record { awaited = HelloFrom (c.peer.ensures i); rest = []; state = c.in_ok-new.ensures i }
+returns-clause-stands c = λ i. record { awaited = HelloFrom (c.peer.ensures i); rest = []; state = c.in_ok-new.ensures.state i }

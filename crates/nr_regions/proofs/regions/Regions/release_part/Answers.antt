@@ -1,7 +1,7 @@
 use Rattle.std.proofs.Common.{arith}
 use Rattle.nr_regions.specs.Table.{table}
 use Rattle.nr_regions.proofs.Totals.{sound_counts, sound_release, held_there}
-use Rattle.nr_regions.proofs.regions.Regions.release_inner.Goals as goal
+use Rattle.nr_regions.proofs.regions.Regions.release_part.Goals as goal
 
 pub overflow_sub-self : goal.overflow_sub-self
 overflow_sub-self c =
