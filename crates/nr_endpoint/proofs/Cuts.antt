@@ -1,13 +1,13 @@
 -- Bytes that are cut into segments, segment by segment.
-use Rattle.std.proofs.Common.{◌≡◌, ℕ, ◌+◌, ◌*◌, ◌%◌, ◌^◌, ◌≤◌, Bool, List, [], ◌∷◌, ◌++◌, length, take, drop, eqb, refl, sym, ap, subst, ◌∙◌, arith, append_assoc}
+use Rattle.std.proofs.Common.{◌≡◌, ℕ, ◌+◌, ◌-◌, ◌*◌, ◌%◌, ◌^◌, ◌<◌, ◌≤◌, Bool, true, List, [], ◌∷◌, ◌++◌, length, take, drop, eqb, refl, sym, ap, subst, ◌∙◌, arith, append_assoc}
 use Rattle.std.specs.Prelude.{min}
 use Rattle.std.specs.List.{flat_map, range_with_len}
-use Rattle.std.proofs.lemmas.List.{map-id, take_min, drop_min, append-nil, length-take}
+use Rattle.std.proofs.lemmas.List.{map-id, take_min, drop_min, append-nil, length-append, length-take, length-drop, take_all}
 use Rattle.std.proofs.lemmas.List.Concat.{flat_map-append}
 use Rattle.std.proofs.lemmas.List.FromFn.{map-range_with_len_more}
-use Rattle.nr_wire.specs.Segment.{IsWritable, encoding, Segment}
+use Rattle.nr_wire.specs.Segment.{IsWritable, encoding, payload_in, segment_header, segment_tail, ulpdu_size, Segment}
 use Rattle.nr_xdr.specs.Item.{word, hyper}
-use Rattle.nr_wire.specs.Constants.{OPCODE_SEND, QUEUE_SEND}
+use Rattle.nr_wire.specs.Constants.{OPCODE_SEND, QUEUE_SEND, UNTAGGED_LEN}
 use Rattle.nr_wire.specs.Segment.Segment.{Untagged}
 use Rattle.nr_link.specs.Output.{cut, segment_count, segment_payload, send, write, read_response}
 use Rattle.nr_endpoint.specs.Carriers.{operation_segment}
@@ -109,3 +109,73 @@ carried_response stag to bytes = refl
 pub request_len : (sink at len stag to : ℕ) → length (word sink ++ (hyper at ++ (word len ++ (word stag ++ hyper to)))) ≡ 28
 unfolding word hyper
 request_len sink at len stag to = refl
+
+-- ---- The parts of an FPDU, and the room that it needs
+
+pub encoded_parts : (segment : Segment) → encoding segment ≡ segment_header segment ++ (payload_in segment ++ segment_tail (ulpdu_size segment))
+unfolding encoding
+encoded_parts segment = append_assoc (segment_header segment) (payload_in segment) (segment_tail (ulpdu_size segment))
+
+pub segment_pushed : (new old header payload tail : List ℕ) (segment : Segment) → header ≡ segment_header segment → payload ≡ payload_in segment
+    → tail ≡ segment_tail (ulpdu_size segment) → new ≡ ((old ++ header) ++ payload) ++ tail → new ≡ old ++ encoding segment
+segment_pushed new old header payload tail segment h p t is =
+    is
+    ∙ (λ i. ((old ++ h i) ++ p i) ++ t i)
+    ∙ append_assoc (old ++ segment_header segment) (payload_in segment) (segment_tail (ulpdu_size segment))
+    ∙ append_assoc old (segment_header segment) (payload_in segment ++ segment_tail (ulpdu_size segment))
+    ∙ ap (λ (l : List ℕ). old ++ l) (sym (encoded_parts segment))
+
+carried_payload : (carrier : Operation) (last : Bool) (offset : ℕ) (payload : List ℕ) → payload_in (operation_segment carrier last offset payload) ≡ payload
+carried_payload (carriers.Send msn) last offset payload = refl
+carried_payload (carriers.Write stag to) last offset payload = refl
+carried_payload (carriers.Response stag to) last offset payload = refl
+
+payload_len : (segment : Segment) (carrier : Operation) (last : Bool) (offset : ℕ) (bytes : List ℕ) (i : ℕ) → segment ≡ operation_segment carrier last offset (segment_payload bytes i)
+    → length (payload_in segment) ≡ min segment_max (length bytes - segment_max * i)
+payload_len segment carrier last offset bytes i is =
+    ap (λ (s : Segment). length (payload_in s)) is
+    ∙ ap (λ (l : List ℕ). length l) (carried_payload carrier last offset (segment_payload bytes i))
+    ∙ length-take segment_max (drop (segment_max * i) bytes)
+    ∙ ap (min segment_max) (length-drop (segment_max * i) bytes)
+
+pub room_for : (segment : Segment) (carrier : Operation) (last : Bool) (offset : ℕ) (bytes : List ℕ) (i spare : ℕ) → segment ≡ operation_segment carrier last offset (segment_payload bytes i)
+    → i < segment_count bytes → length bytes + 27 * segment_count bytes ≤ spare + (27 * i + min (length bytes) (segment_max * i))
+    → length (payload_in segment) + 27 ≤ spare
+room_for segment carrier last offset bytes i spare is lt room =
+    let len = payload_len segment carrier last offset bytes i is in
+    omega (arith, len, lt, room)
+
+pub room_after : (segment : Segment) (carrier : Operation) (last : Bool) (offset : ℕ) (bytes : List ℕ) (i spare after : ℕ) → segment ≡ operation_segment carrier last offset (segment_payload bytes i)
+    → length bytes + 27 * segment_count bytes ≤ spare + (27 * i + min (length bytes) (segment_max * i)) → spare ≤ after + (length (payload_in segment) + 27)
+    → length bytes + 27 * segment_count bytes ≤ after + (27 * (i + 1) + min (length bytes) (segment_max * (i + 1)))
+room_after segment carrier last offset bytes i spare after is room left =
+    let len = payload_len segment carrier last offset bytes i is in
+    omega (arith, len, room, left)
+
+-- bytes that take one segment
+pub cut_one : (carrier : Operation) (bytes : List ℕ) → length bytes ≤ segment_max → cut (operation_segment carrier) bytes ≡ encoding (operation_segment carrier true 0 bytes)
+cut_one carrier bytes le =
+    let count : segment_count bytes ≡ 1 = omega arith in
+    let all : segment_payload bytes 0 ≡ bytes = take_all segment_max bytes le in
+    sym (pieces_all carrier bytes)
+    ∙ ap (pieces carrier bytes) count
+    ∙ pieces_more carrier bytes 0
+    ∙ ap (λ (l : List ℕ). l ++ piece carrier bytes 0) (pieces_none carrier bytes)
+    ∙ (λ i. encoding (operation_segment carrier (eqb 1 (count i)) 0 (all i)))
+
+-- the Send of a message in two parts
+pub send_pushed : (new old header front stream tail : List ℕ) (msn : ℕ) → length front + length stream ≤ segment_max
+    → header ≡ segment_header (Untagged true OPCODE_SEND 0 QUEUE_SEND msn 0 (front ++ stream))
+    → tail ≡ segment_tail (UNTAGGED_LEN + (length front + length stream))
+    → new ≡ (((old ++ header) ++ front) ++ stream) ++ tail
+    → new ≡ old ++ cut (operation_segment (carriers.Send msn)) (front ++ stream)
+send_pushed new old header front stream tail msn le h t is =
+    let len : length (front ++ stream) ≡ length front + length stream = length-append front stream in
+    let s : Segment = Untagged true OPCODE_SEND 0 QUEUE_SEND msn 0 (front ++ stream) in
+    is
+    ∙ (λ i. (((old ++ h i) ++ front) ++ stream) ++ t i)
+    ∙ ap (λ (n : ℕ). (((old ++ segment_header s) ++ front) ++ stream) ++ segment_tail (UNTAGGED_LEN + n)) (sym len)
+    ∙ ap (λ (l : List ℕ). l ++ segment_tail (UNTAGGED_LEN + length (front ++ stream))) (append_assoc (old ++ segment_header s) front stream)
+    ∙ append_assoc (old ++ segment_header s) (front ++ stream) (segment_tail (UNTAGGED_LEN + length (front ++ stream)))
+    ∙ append_assoc old (segment_header s) ((front ++ stream) ++ segment_tail (UNTAGGED_LEN + length (front ++ stream)))
+    ∙ ap (λ (l : List ℕ). old ++ l) (sym (encoded_parts s) ∙ sym (cut_one (carriers.Send msn) (front ++ stream) (omega (arith, len, le))))

@@ -1,6 +1,8 @@
 -- Why a segment ends a side, one kind of segment at a time: for the code. nr_link has the whole list.
 use Rattle.std.specs.Prelude.{◌≡◌, ◌<◌, ◌≤◌, ◌^◌, ℕ, ◌+◌, Bool, true, false, not, ◌&&◌, ◌||◌, ◌==◌, nat_lt, nat_le, List, length, Option, None, Some}
 use Rattle.nr_wire.specs.Constants.{OPCODE_READ_REQUEST, OPCODE_READ_RESPONSE, OPCODE_TERMINATE}
+use Rattle.nr_wire.specs.Segment.{Segment}
+use Rattle.nr_wire.specs.Segment.Segment.{Tagged, Untagged}
 use Rattle.nr_regions.specs.declared.denied.Denied.{Denied}
 use Rattle.nr_regions.specs.RegisteredMemory.{denial, right_for}
 use Rattle.nr_link.specs.declared.end.End.{End}
@@ -13,6 +15,11 @@ use Rattle.nr_link.specs.Ending.{kind_of}
 use Rattle.nr_endpoint.specs.LinkState.{LinkState}
 use Rattle.nr_endpoint.specs.Judging.{expected_response, fetch_access}
 use Rattle.nr_xdr.specs.Fields.{word_at}
+
+-- the segment belongs to a message of a queue
+abbrev pub IsUntagged : Segment → Type 0
+IsUntagged (Tagged last opcode stag to payload) = ⊥
+IsUntagged (Untagged last opcode w queue msn offset payload) = Unit {0}
 
 -- a reason, where a test holds, else what follows
 abbrev pub bad_if : ℕ → ℕ → Bool → Option End → Option End

@@ -129,6 +129,21 @@ impl Endpoint {
         self.link.send(message)
     }
 
+    /// Queues the Send of a message in two parts, as [`Endpoint::send`] does a message: they are not joined before, so that a header and a
+    /// stream that lie apart are copied once.
+    pub fn send_parts(&mut self, front: &[u8], stream: &[u8]) -> Result<(), Memory>
+        requires { length front.now + length stream.now < 2 ^ 32 }
+        ensures state { OnOk result (self.new.link ≡ after_call self.old.link (Send (front.now ++ stream.now))) }
+        ensures stands { OnOk result (StandsOn self.old.link (Send (front.now ++ stream.now)) self.new.link) }
+        ensures room { self.new.room ≡ self.old.room }
+        ensures outside { self.new.outside ≡ self.old.outside }
+        ensures err { OnErr result (self.new.link ≡ self.old.link) }
+        ensures live { OnErr result (has_ended self.old.link.state ≡ false) }
+        ensures staging { self.new.staging ≡ self.old.staging }
+    {
+        self.link.send_parts(front, stream)
+    }
+
     /// Queues an RDMA Write of some bytes into the peer's region, from byte `to` on. Where the side has ended, it queues nothing. An `Err`
     /// changes nothing.
     pub fn write_remote(&mut self, stag: u32, to: u64, bytes: &[u8]) -> Result<(), Memory>
@@ -280,8 +295,7 @@ impl Endpoint {
 
     /// The regions.
     pub fn regions(&self) -> &Regions
-        ensures memory { result.now.memory ≡ self.now.link.state.memory }
-        ensures outside { result.now.outside ≡ self.now.outside }
+        ensures { result.now.memory ≡ self.now.link.state.memory }
     {
         &self.link.regions
     }

@@ -1,8 +1,13 @@
 //! Limits and lengths of a link beyond those of its frames. The limits are this implementation's own; the numbers of reasons and the
 //! words of a Terminate stand in `nr_link`.
 
+use nr_wire::constants::{HEADER_MAX, TAIL_MAX};
+
 /// The most payload bytes of a segment that is written.
 pub const SEGMENT_MAX: usize = 4096;
+
+/// Room for what an FPDU has besides its segment's payload: the header, the pad and the CRC have at most so many bytes.
+pub const FRAMING_MAX: usize = HEADER_MAX + TAIL_MAX;
 
 /// The most bytes of a Send.
 pub const SEND_MAX: usize = 1024;

@@ -1,24 +1,27 @@
 //! What a segment does that doesn't end the side.
 
-ghost use Rattle.std.specs.Prelude.{◌≡◌, ◌+◌, ◌^◌, ◌<◌, ◌≤◌, length, true, None, OnOk, OnErr};
+ghost use Rattle.std.specs.Prelude.{◌≡◌, ◌+◌, ◌^◌, ◌<◌, ◌≤◌, ◌==◌, if◌then◌else◌, length, true, None, OnOk, OnErr};
 ghost use Rattle.nr_wire.specs.Segment.{IsSupported, payload_in};
 ghost use Rattle.nr_wire.specs.Segment.Segment.{Tagged, Untagged};
 ghost use Rattle.nr_wire.specs.Constants.{OPCODE_SEND};
 ghost use Rattle.nr_wire.specs.View.{segment as plain};
-ghost use Rattle.nr_endpoint.specs.Judging.{segment_end, with_effect, next_frame, after_frame};
-ghost use Rattle.nr_endpoint.specs.SegmentEnds.{tagged_end, RequestIsFine, SendIsFine};
+ghost use Rattle.nr_link.specs.SegmentFaults.{is_expected};
+ghost use Rattle.nr_endpoint.specs.Judging.{expected_response, segment_end, with_effect, with_read_response, with_segment_by, next_frame, after_frame};
+ghost use Rattle.nr_endpoint.specs.SegmentEnds.{IsUntagged, tagged_end, RequestIsFine, SendIsFine};
 ghost use Rattle.nr_endpoint.specs.SendQueue.{output_len};
 
 use crate::faults::{kind_of, read_request};
 use crate::link::LinkSide;
-use crate::reads::advance;
+use crate::reads::{advance, is_expected};
+use nr_link::End;
 use nr_wire::Segment;
 use nr_wire::constants::{OPCODE_READ_REQUEST, OPCODE_READ_RESPONSE};
 use nr_xdr::Memory;
 
 impl LinkSide {
-    /// The effect of a frame's segment that doesn't end the side. `Err` only for a Read Request, whose response wants memory; it changes nothing.
+    /// The effect of a frame's untagged segment that doesn't end the side. `Err` only for a Read Request, whose response wants memory; it changes nothing.
     pub fn take(&mut self, segment: &Segment, frame: &[u8]) -> Result<(), Memory>
+        requires untagged { IsUntagged (plain segment.now) }
         requires supported { IsSupported (plain segment.now) }
         requires size { length (payload_in (plain segment.now)) + 1 ≤ length frame.now }
         requires within { self.old.state.place + length frame.now ≤ 2 ^ 62 }
@@ -30,16 +33,7 @@ impl LinkSide {
         ensures outside { self.new.outside ≡ self.old.outside }
     {
         match *segment {
-            Segment::Tagged {
-                last,
-                opcode,
-                stag,
-                to,
-                payload,
-            } => {
-                self.apply_tagged(last, opcode, stag, to, payload, frame);
-                Ok(())
-            }
+            Segment::Tagged { .. } => unreachable!(),
             Segment::Untagged {
                 last,
                 opcode,
@@ -55,10 +49,10 @@ impl LinkSide {
         }
     }
 
-    /// The payload of a tagged segment goes into its region. The last segment of a Read Response ends the Read Request that was open
-    /// longest. Takes no memory.
+    /// A tagged segment ends the side, or its payload goes into its region, which is looked up once: whether a Read Response is expected
+    /// needs no region. `Err` only where the side writes something last; it changes nothing.
     #[tactic(auto, unfolding(crate::specs::Judging::with_effect, crate::specs::SegmentEnds::tagged_end))]
-    fn apply_tagged(
+    pub fn receive_tagged(
         &mut self,
         last: bool,
         opcode: u8,
@@ -66,11 +60,39 @@ impl LinkSide {
         to: u64,
         payload: &[u8],
         frame: &[u8],
-    )
-        requires lives { tagged_end self.old.state last opcode stag to payload.now ≡ None }
+    ) -> Result<(), Memory>
         requires some { 0 < length frame.now }
         requires within { self.old.state.place + length frame.now ≤ 2 ^ 62 }
-        ensures state { self.new.state ≡ after_frame (next_frame self.old.state frame.now) (with_effect (Tagged last opcode stag to payload.now) self.old.state) }
+        ensures ok { OnOk result (self.new.state ≡ with_segment_by (next_frame self.old.state frame.now) (Tagged last opcode stag to payload.now) (tagged_end self.old.state last opcode stag to payload.now) self.old.state) }
+        ensures err { OnErr result (self.new.state ≡ self.old.state) }
+        ensures queued { OnErr result (output_len self.old.state.send_queue < output_len (with_segment_by (next_frame self.old.state frame.now) (Tagged last opcode stag to payload.now) (tagged_end self.old.state last opcode stag to payload.now) self.old.state).send_queue) }
+        ensures room { self.new.room ≡ self.old.room }
+        ensures outside { self.new.outside ≡ self.old.outside }
+    {
+        let len = payload.len() as u64;
+        if opcode == OPCODE_READ_RESPONSE && !is_expected(&self.reads, last, stag, to, len) {
+            let end = self.unexpected(opcode, stag, to, len);
+            return self.end_with(end);
+        }
+        let placed = self.regions.place(kind_of(opcode), stag, to, payload);
+        if let Err(why) = placed {
+            return self.end_with(End::Denied {
+                stag,
+                offset: to,
+                why,
+            });
+        }
+        self.count_tagged(last, opcode, stag, to, len, frame);
+        Ok(())
+    }
+
+    /// The frame of a tagged segment whose payload was placed. The last segment of a Read Response ends the Read Request that was open
+    /// longest.
+    fn count_tagged(&mut self, last: bool, opcode: u8, stag: u32, to: u64, len: u64, frame: &[u8])
+        requires expected { opcode ≡ OPCODE_READ_RESPONSE → is_expected (expected_response self.old.state.reads) last stag to len ≡ true }
+        requires some { 0 < length frame.now }
+        requires within { self.old.state.place + length frame.now ≤ 2 ^ 62 }
+        ensures state { self.new.state ≡ after_frame (next_frame self.old.state frame.now) (if opcode == OPCODE_READ_RESPONSE then with_read_response last len self.old.state else self.old.state) }
         ensures room { self.new.room ≡ self.old.room }
         ensures outside { self.new.outside ≡ self.old.outside }
     {
@@ -78,11 +100,7 @@ impl LinkSide {
             if last {
                 self.receive_queue.read_done();
             }
-            advance(&mut self.reads, last, stag, to, payload.len() as u64);
-        }
-        let placed = self.regions.place(kind_of(opcode), stag, to, payload);
-        if placed.is_err() {
-            unreachable!();
+            advance(&mut self.reads, last, stag, to, len);
         }
         self.last = self.place;
         self.place += frame.len() as u64;

@@ -7,14 +7,14 @@ ghost use Rattle.nr_link.specs.ReceiveState.{read_request_in};
 ghost use Rattle.nr_link.specs.declared.end.End.TheVariants as ends;
 ghost use Rattle.nr_link.specs.SegmentFaults.{is_malformed, next_msn, next_offset};
 ghost use Rattle.nr_link.specs.Frames.{Frame};
-ghost use Rattle.nr_endpoint.specs.SegmentEnds.{tagged_end, message_end, send_end, request_end, terminate_end};
+ghost use Rattle.nr_regions.specs.RegisteredMemory.{denial, right_for};
+ghost use Rattle.nr_endpoint.specs.SegmentEnds.{IsUntagged, denied_if, message_end, send_end, request_end, terminate_end};
 ghost use Rattle.nr_link.specs.Ending.{kind_of};
 ghost use Rattle.nr_endpoint.specs.Judging.{segment_end};
 ghost use Rattle.nr_endpoint.specs.Views.{read_request_view};
 
 use crate::constants::{OPEN_READS_MAX, READ_REQUEST_LEN, SEND_MIN, TERMINATE_MIN};
 use crate::link::LinkSide;
-use crate::reads::is_expected;
 use nr_link::End;
 use nr_link::constants::{
     REASON_FORM, REASON_LONG, REASON_MSN, REASON_OFFSET, REASON_REQUESTS, REASON_RESPONSE,
@@ -75,21 +75,16 @@ fn is_bad_request(last: bool, payload: &[u8]) -> bool
 }
 
 impl LinkSide {
-    /// Why a segment ends the side, if it does: the first fault that applies.
+    /// Why an untagged segment ends the side, if it does: the first fault that applies.
     pub fn fault(&self, segment: &Segment) -> Option<End>
+        requires untagged { IsUntagged (plain segment.now) }
         requires supported { IsSupported (plain segment.now) }
         requires size { length (payload_in (plain segment.now)) < 2 ^ 16 }
         requires place { self.now.state.place ≤ 2 ^ 62 }
         ensures { (frame : Frame) → frame.at ≡ self.now.state.place → result ≡ segment_end self.now.state frame (plain segment.now) }
     {
         match *segment {
-            Segment::Tagged {
-                last,
-                opcode,
-                stag,
-                to,
-                payload,
-            } => self.tagged_fault(last, opcode, stag, to, payload),
+            Segment::Tagged { .. } => unreachable!(),
             Segment::Untagged {
                 last,
                 opcode,
@@ -124,30 +119,22 @@ impl LinkSide {
         })
     }
 
-    /// An access that isn't allowed, or a Read Response that isn't expected.
-    #[tactic(auto, unfolding(crate::specs::SegmentEnds::tagged_end))]
-    fn tagged_fault(
-        &self,
-        last: bool,
-        opcode: u8,
-        stag: u32,
-        to: u64,
-        payload: &[u8],
-    ) -> Option<End>
-        ensures { result ≡ tagged_end self.now.state last opcode stag to payload.now }
+    /// The end for a Read Response that isn't expected: its access, if that isn't allowed.
+    pub fn unexpected(&self, opcode: u8, stag: u32, to: u64, len: u64) -> End
+        ensures { Some result ≡ denied_if stag to (denial self.now.state.memory (record { right = right_for (kind_of opcode); stag = stag; to = to; len = len }))
+            (Some (ends.Bad self.now.state.place REASON_RESPONSE)) }
     {
-        let len = payload.len() as u64;
-        if let Some(why) = self.regions.denial(kind_of(opcode), stag, to, len) {
-            return Some(End::Denied {
+        match self.regions.denial(kind_of(opcode), stag, to, len) {
+            Some(why) => End::Denied {
                 stag,
                 offset: to,
                 why,
-            });
+            },
+            None => End::Bad {
+                at: self.place,
+                reason: REASON_RESPONSE,
+            },
         }
-        if opcode == OPCODE_READ_RESPONSE && !is_expected(&self.reads, last, stag, to, len) {
-            return self.bad(REASON_RESPONSE);
-        }
-        None
     }
 
     /// The number of the next message of a queue (RFC 5041 section 4.3).

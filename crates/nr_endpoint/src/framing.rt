@@ -1,20 +1,20 @@
 //! FPDUs at the end of some bytes: segments, and messages and accesses cut into segments.
 
 ghost use Rattle.std.specs.Prelude.{◌≡◌, ℕ, ◌+◌, ◌*◌, ◌^◌, ◌<◌, ◌≤◌, ◌++◌, length, take, All, OnOk, OnErr};
-ghost use Rattle.nr_wire.specs.Segment.{IsWritable, encoding};
+ghost use Rattle.nr_wire.specs.Segment.{IsWritable, encoding, payload_in};
 ghost use Rattle.nr_wire.specs.View.{segment as plain};
 ghost use Rattle.nr_link.specs.Output.{cut, segment_count, segment_payload, terminate_message};
 ghost use Rattle.nr_endpoint.specs.Carriers.{operation_segment, FitsAt, FitsCarrier};
 ghost use Rattle.nr_endpoint.specs.Offering.{FitsRegion, writes_output};
 
-use crate::constants::SEGMENT_MAX;
+use crate::constants::{FRAMING_MAX, SEGMENT_MAX};
 use bytes::BytesMut;
 use nr_wire::constants::{
     OPCODE_READ_RESPONSE, OPCODE_SEND, OPCODE_TERMINATE, OPCODE_WRITE, QUEUE_SEND, QUEUE_TERMINATE,
+    UNTAGGED_LEN,
 };
-use nr_wire::{Segment, write_segment};
+use nr_wire::{Segment, payload_in, segment_header, segment_tail, ulpdu_size, untagged_header};
 use nr_xdr::Memory;
-use std::alloc::Global;
 
 /// What carries some bytes that are cut into segments: the Send with a number, or an RDMA Write or Read Response from byte `to` of a
 /// region on.
@@ -68,14 +68,37 @@ fn segment(carrier: Operation, last: bool, offset: usize, payload: &[u8]) -> Seg
     }
 }
 
+/// Puts some bytes at the end, for which there is room.
+fn append(out: &mut BytesMut, bytes: &[u8])
+    requires { length bytes.now ≤ out.old.spare }
+    ensures bytes { out.new.items ≡ out.old.items ++ bytes.now }
+    ensures spare { out.old.spare ≤ out.new.spare + length bytes.now }
+{
+    if out.extend_from_slice(bytes).is_err() {
+        unreachable!();
+    }
+}
+
+/// Puts a segment at the end, for which there is room.
+fn append_segment(out: &mut BytesMut, segment: &Segment)
+    requires writable { IsWritable (plain segment.now) }
+    requires room { length (payload_in (plain segment.now)) + FRAMING_MAX ≤ out.old.spare }
+    ensures bytes { out.new.items ≡ out.old.items ++ encoding (plain segment.now) }
+    ensures spare { out.old.spare ≤ out.new.spare + (length (payload_in (plain segment.now)) + FRAMING_MAX) }
+{
+    append(out, segment_header(segment).as_slice());
+    append(out, payload_in(segment));
+    append(out, segment_tail(ulpdu_size(segment)));
+}
+
 /// Puts a segment at the end. An `Err` leaves the bytes as they were.
-pub fn push_segment(out: &mut BytesMut, alloc: Global, segment: &Segment) -> Result<(), Memory>
+pub fn push_segment(out: &mut BytesMut, segment: &Segment) -> Result<(), Memory>
     requires { IsWritable (plain segment.now) }
     ensures ok { OnOk result (out.new.items ≡ out.old.items ++ encoding (plain segment.now)) }
     ensures err { OnErr result (out.new.items ≡ out.old.items) }
 {
-    let fpdu = write_segment(alloc, segment)?;
-    out.extend_from_slice(fpdu.as_slice())?;
+    out.reserve(payload_in(segment).len() + FRAMING_MAX)?;
+    append_segment(out, segment);
     Ok(())
 }
 
@@ -96,55 +119,52 @@ fn segment_payload(bytes: &[u8], i: usize) -> &[u8]
     payload
 }
 
-/// Puts the segments of some bytes at the end. After an `Err` some of them are there.
-fn push_segments(
-    out: &mut BytesMut,
-    alloc: Global,
-    carrier: Operation,
-    bytes: &[u8],
-) -> Result<(), Memory>
-    requires { FitsCarrier carrier (length bytes.now) }
-    ensures ok { OnOk result (out.new.items ≡ out.old.items ++ cut (operation_segment carrier) bytes.now) }
-    ensures err { OnErr result (take (length out.old.items) out.new.items ≡ out.old.items) }
+/// Puts the segments of some bytes at the end, for which there is room.
+fn append_segments(out: &mut BytesMut, carrier: Operation, bytes: &[u8])
+    requires fits { FitsCarrier carrier (length bytes.now) }
+    requires room { length bytes.now + FRAMING_MAX * segment_count bytes.now ≤ out.old.spare }
+    ensures { out.new.items ≡ out.old.items ++ cut (operation_segment carrier) bytes.now }
 {
     let count = segment_count(bytes);
     for i in 0..count {
         let payload = segment_payload(bytes, i);
-        push_segment(
+        append_segment(
             out,
-            alloc,
             &segment(carrier, i + 1 == count, SEGMENT_MAX * i, payload),
-        )?;
+        );
     }
-    Ok(())
 }
 
 /// Puts the segments of some bytes at the end. An `Err` leaves the bytes as they were.
-pub fn push_cut(
-    out: &mut BytesMut,
-    alloc: Global,
-    carrier: Operation,
-    bytes: &[u8],
-) -> Result<(), Memory>
+pub fn push_cut(out: &mut BytesMut, carrier: Operation, bytes: &[u8]) -> Result<(), Memory>
     requires { FitsCarrier carrier (length bytes.now) }
     ensures ok { OnOk result (out.new.items ≡ out.old.items ++ cut (operation_segment carrier) bytes.now) }
     ensures err { OnErr result (out.new.items ≡ out.old.items) }
 {
-    let len = out.len();
-    let pushed = push_segments(out, alloc, carrier, bytes);
-    if pushed.is_err() {
-        out.truncate(len);
-    }
-    pushed
+    out.reserve(bytes.len() + FRAMING_MAX * segment_count(bytes))?;
+    append_segments(out, carrier, bytes);
+    Ok(())
+}
+
+/// Puts the Send of a message in two parts at the end, which is one segment. An `Err` leaves the bytes as they were.
+pub fn push_send(out: &mut BytesMut, msn: u32, front: &[u8], stream: &[u8]) -> Result<(), Memory>
+    requires { length front.now + length stream.now ≤ SEGMENT_MAX }
+    ensures ok { OnOk result (out.new.items ≡ out.old.items ++ cut (operation_segment (Operation.Send msn)) (front.now ++ stream.now)) }
+    ensures err { OnErr result (out.new.items ≡ out.old.items) }
+{
+    let len = front.len() + stream.len();
+    out.reserve(len + FRAMING_MAX)?;
+    let header = untagged_header(true, OPCODE_SEND, (0, QUEUE_SEND), (msn, 0), len);
+    append(out, header.as_slice());
+    append(out, front);
+    append(out, stream);
+    append(out, segment_tail((UNTAGGED_LEN + len) as u16));
+    Ok(())
 }
 
 /// Puts RDMA Writes at the end. After an `Err` some of them are there.
 #[tactic(auto, using(crate::proofs::Cuts::carried_write))]
-fn push_each_write(
-    out: &mut BytesMut,
-    alloc: Global,
-    writes: &[RemoteWrite<'_>],
-) -> Result<(), Memory>
+fn push_each_write(out: &mut BytesMut, writes: &[RemoteWrite<'_>]) -> Result<(), Memory>
     requires { All FitsRegion writes.now }
     ensures ok { OnOk result (out.new.items ≡ out.old.items ++ writes_output writes.now) }
     ensures err { OnErr result (take (length out.old.items) out.new.items ≡ out.old.items) }
@@ -152,7 +172,6 @@ fn push_each_write(
     for write in writes {
         push_cut(
             out,
-            alloc,
             Operation::Write {
                 stag: write.stag,
                 to: write.to,
@@ -164,17 +183,13 @@ fn push_each_write(
 }
 
 /// Puts RDMA Writes at the end. An `Err` leaves the bytes as they were.
-pub fn push_writes(
-    out: &mut BytesMut,
-    alloc: Global,
-    writes: &[RemoteWrite<'_>],
-) -> Result<(), Memory>
+pub fn push_writes(out: &mut BytesMut, writes: &[RemoteWrite<'_>]) -> Result<(), Memory>
     requires { All FitsRegion writes.now }
     ensures ok { OnOk result (out.new.items ≡ out.old.items ++ writes_output writes.now) }
     ensures err { OnErr result (out.new.items ≡ out.old.items) }
 {
     let len = out.len();
-    let pushed = push_each_write(out, alloc, writes);
+    let pushed = push_each_write(out, writes);
     if pushed.is_err() {
         out.truncate(len);
     }
@@ -183,7 +198,7 @@ pub fn push_writes(
 
 /// Puts a Terminate with this word at the end (RFC 5040 section 4.8). An `Err` leaves the bytes as they were.
 #[tactic(auto, unfolding(nr_link::specs::Output::terminate_message, nr_xdr::specs::Item::word))]
-pub fn push_terminate(out: &mut BytesMut, alloc: Global, word: u32) -> Result<(), Memory>
+pub fn push_terminate(out: &mut BytesMut, word: u32) -> Result<(), Memory>
     ensures ok { OnOk result (out.new.items ≡ out.old.items ++ terminate_message word) }
     ensures err { OnErr result (out.new.items ≡ out.old.items) }
 {
@@ -197,5 +212,5 @@ pub fn push_terminate(out: &mut BytesMut, alloc: Global, word: u32) -> Result<()
         offset: 0,
         payload: &payload,
     };
-    push_segment(out, alloc, &segment)
+    push_segment(out, &segment)
 }

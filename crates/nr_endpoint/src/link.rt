@@ -10,6 +10,7 @@ ghost use Rattle.nr_wire.specs.Hello.{hello_of};
 ghost use Rattle.nr_link.specs.declared.end.End.TheVariants as ends;
 ghost use Rattle.nr_endpoint.specs.LinkState.{initial_state};
 ghost use Rattle.nr_endpoint.specs.SendQueue.{output_len};
+ghost use Rattle.nr_endpoint.specs.SegmentEnds.{IsUntagged};
 ghost use Rattle.nr_endpoint.specs.Judging.{segment_end, with_end_of, with_segment_by, with_fpdu, with_peer_hello, with_frame, next_frame};
 
 use crate::constants::SEND_MAX;
@@ -179,7 +180,33 @@ impl LinkSide {
     }
 
     /// A segment of the peer, which this frame holds.
+    #[tactic(auto, using(crate::proofs::FaultList::tagged_end_lem))]
     fn receive(&mut self, segment: &Segment, frame: &[u8]) -> Result<(), Memory>
+        requires supported { IsSupported (plain segment.now) }
+        requires payload { length (payload_in (plain segment.now)) < 2 ^ 16 }
+        requires size { length (payload_in (plain segment.now)) + 1 ≤ length frame.now }
+        requires within { self.old.state.place + length frame.now ≤ 2 ^ 62 }
+        ensures ok { OnOk result (self.new.state ≡ with_segment_by (next_frame self.old.state frame.now) (plain segment.now) (segment_end self.old.state (next_frame self.old.state frame.now) (plain segment.now)) self.old.state) }
+        ensures err { OnErr result (self.new.state ≡ self.old.state) }
+        ensures queued { OnErr result (output_len self.old.state.send_queue < output_len (with_segment_by (next_frame self.old.state frame.now) (plain segment.now) (segment_end self.old.state (next_frame self.old.state frame.now) (plain segment.now)) self.old.state).send_queue) }
+        ensures room { self.new.room ≡ self.old.room }
+        ensures outside { self.new.outside ≡ self.old.outside }
+    {
+        match *segment {
+            Segment::Tagged {
+                last,
+                opcode,
+                stag,
+                to,
+                payload,
+            } => self.receive_tagged(last, opcode, stag, to, payload, frame),
+            Segment::Untagged { .. } => self.receive_untagged(segment, frame),
+        }
+    }
+
+    /// An untagged segment of the peer, which this frame holds.
+    fn receive_untagged(&mut self, segment: &Segment, frame: &[u8]) -> Result<(), Memory>
+        requires untagged { IsUntagged (plain segment.now) }
         requires supported { IsSupported (plain segment.now) }
         requires payload { length (payload_in (plain segment.now)) < 2 ^ 16 }
         requires size { length (payload_in (plain segment.now)) + 1 ≤ length frame.now }

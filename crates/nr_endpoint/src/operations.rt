@@ -90,6 +90,20 @@ impl LinkSide {
         self.send_queue.send(message)
     }
 
+    pub fn send_parts(&mut self, front: &[u8], stream: &[u8]) -> Result<(), Memory>
+        requires { length front.now + length stream.now < 2 ^ 32 }
+        ensures ok { OnOk result (self.new.state ≡ unless_ended self.old.state (record self.old.state { send_queue = with_send (front.now ++ stream.now) self.old.state.send_queue })) }
+        ensures err { OnErr result (self.new.state ≡ self.old.state) }
+        ensures live { OnErr result (has_ended self.old.state ≡ false) }
+        ensures room { self.new.room ≡ self.old.room }
+        ensures outside { self.new.outside ≡ self.old.outside }
+    {
+        if self.ended.is_some() {
+            return Ok(());
+        }
+        self.send_queue.send_parts(front, stream)
+    }
+
     pub fn write_remote(&mut self, stag: u32, to: u64, bytes: &[u8]) -> Result<(), Memory>
         requires { to + length bytes.now ≤ 2 ^ 64 }
         ensures ok { OnOk result (self.new.state ≡ unless_ended self.old.state (record self.old.state { send_queue = with_write stag to bytes.now self.old.state.send_queue })) }

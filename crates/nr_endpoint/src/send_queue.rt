@@ -12,7 +12,10 @@ ghost use Rattle.nr_outside.specs.Faults.{Rises};
 ghost use Rattle.nr_endpoint.specs.Offering.{FitsRegion, writes_output};
 ghost use Rattle.nr_endpoint.specs.SendQueue.{initial_queue, output_len, with_hello, with_fpdus, with_send, with_write, with_request, with_response, with_end, terminate_by, writable, written, ends_left, ends_passed};
 
-use crate::framing::{Operation, RemoteWrite, push_cut, push_segment, push_terminate, push_writes};
+use crate::constants::SEGMENT_MAX;
+use crate::framing::{
+    Operation, RemoteWrite, push_cut, push_segment, push_send, push_terminate, push_writes,
+};
 use bytes::BytesMut;
 use nr_link::End;
 use nr_link::constants::{WORD_BOUNDS, WORD_NO_BUFFER, WORD_NO_STAG, WORD_RIGHT};
@@ -130,6 +133,16 @@ fn is_rejection(side: Side, end: End) -> bool
         (Side::Responder, End::Bad { at: _, reason }) => reason == REASON_FLAGS,
         _ => false,
     }
+}
+
+/// A message of several segments that comes in two parts.
+fn joined(alloc: Global, front: &[u8], stream: &[u8]) -> Result<Octets, Memory>
+    ensures { IfOk result (λ o. o ≡ front.now ++ stream.now) }
+{
+    let mut message = Vec::with_capacity(alloc, front.len() + stream.len())?;
+    message.extend_from_slice(front)?;
+    message.extend_from_slice(stream)?;
+    Ok(Octets::from_vec(message))
 }
 
 /// Drops the first end where `n` more written bytes reach it, and answers 1. Else it goes to the back, counted from there on.
@@ -254,12 +267,35 @@ impl SendQueue {
     {
         let msn = self.last_send.wrapping_add(1);
         self.send_ends.reserve(1)?;
-        push_cut(
-            &mut self.fpdus,
-            self.alloc,
-            Operation::Send { msn },
-            message,
-        )?;
+        push_cut(&mut self.fpdus, Operation::Send { msn }, message)?;
+        self.send_ends.push_back_reserved(self.fpdus.len());
+        self.last_send = msn;
+        Ok(())
+    }
+
+    /// The Send of a message in two parts, which are not joined before if they take one segment. An `Err` changes nothing.
+    pub fn send_parts(&mut self, front: &[u8], stream: &[u8]) -> Result<(), Memory>
+        requires { length front.now + length stream.now < 2 ^ 32 }
+        ensures ok { OnOk result (self.new ≡ with_send (front.now ++ stream.now) self.old) }
+        ensures err { OnErr result (self.new ≡ self.old) }
+    {
+        if front.len() + stream.len() <= SEGMENT_MAX {
+            return self.send_short(front, stream);
+        }
+        let message = joined(self.alloc, front, stream)?;
+        self.send(message.as_slice())
+    }
+
+    /// The Send of a message in two parts, which is one segment. An `Err` changes nothing.
+    #[tactic(auto, using(crate::proofs::Cuts::carried_send))]
+    fn send_short(&mut self, front: &[u8], stream: &[u8]) -> Result<(), Memory>
+        requires { length front.now + length stream.now ≤ SEGMENT_MAX }
+        ensures ok { OnOk result (self.new ≡ with_send (front.now ++ stream.now) self.old) }
+        ensures err { OnErr result (self.new ≡ self.old) }
+    {
+        let msn = self.last_send.wrapping_add(1);
+        self.send_ends.reserve(1)?;
+        push_send(&mut self.fpdus, msn, front, stream)?;
         self.send_ends.push_back_reserved(self.fpdus.len());
         self.last_send = msn;
         Ok(())
@@ -272,12 +308,7 @@ impl SendQueue {
         ensures ok { OnOk result (self.new ≡ with_write stag to bytes.now self.old) }
         ensures err { OnErr result (self.new ≡ self.old) }
     {
-        push_cut(
-            &mut self.fpdus,
-            self.alloc,
-            Operation::Write { stag, to },
-            bytes,
-        )
+        push_cut(&mut self.fpdus, Operation::Write { stag, to }, bytes)
     }
 
     /// RDMA Writes and then a Send. An `Err` changes nothing.
@@ -288,7 +319,7 @@ impl SendQueue {
         ensures err { OnErr result (self.new ≡ self.old) }
     {
         let len = self.fpdus.len();
-        push_writes(&mut self.fpdus, self.alloc, writes)?;
+        push_writes(&mut self.fpdus, writes)?;
         let sent = self.send(message);
         if sent.is_err() {
             self.fpdus.truncate(len);
@@ -320,7 +351,7 @@ impl SendQueue {
             offset: 0,
             payload: payload.as_slice(),
         };
-        push_segment(&mut self.fpdus, self.alloc, &segment)?;
+        push_segment(&mut self.fpdus, &segment)?;
         self.last_request = msn;
         Ok(())
     }
@@ -333,12 +364,7 @@ impl SendQueue {
         ensures err { OnErr result (self.new ≡ self.old) }
     {
         self.response_ends.reserve(1)?;
-        push_cut(
-            &mut self.fpdus,
-            self.alloc,
-            Operation::Response { stag, to },
-            bytes,
-        )?;
+        push_cut(&mut self.fpdus, Operation::Response { stag, to }, bytes)?;
         self.response_ends.push_back_reserved(self.fpdus.len());
         Ok(())
     }
@@ -355,7 +381,7 @@ impl SendQueue {
         }
         match terminate_word(end) {
             None => Ok(()),
-            Some(word) => push_terminate(&mut self.fpdus, self.alloc, word),
+            Some(word) => push_terminate(&mut self.fpdus, word),
         }
     }
 

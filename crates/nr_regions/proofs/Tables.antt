@@ -1,5 +1,5 @@
 -- The code's map changes as its finite maps do.
-use Rattle.std.proofs.Common.{◌≡◌, ℕ, Bool, true, false, cond, List, [], ◌∷◌, Option, None, Some, IfSome, option_map, refl, sym, ap, ◌∙◌, subst, inl, inr}
+use Rattle.std.proofs.Common.{◌≡◌, ℕ, Bool, true, false, cond, List, [], ◌∷◌, Option, None, Some, IfSome, option_map, length, refl, sym, ap, ◌∙◌, subst, inl, inr}
 use Rattle.std.specs.Prelude.{nat_eq}
 use Rattle.std.proofs.lemmas.Bool.{cases_eq}
 use Rattle.std.specs.Ordering.{nat_cmp, eq_by_cmp}
@@ -9,7 +9,7 @@ use Rattle.std.specs.HashMap.{HashMap}
 use Rattle.std.specs.HashMap as hash
 use Rattle.std.specs.FinMap.{FinMap, empty, find, from_entries, get, insert, remove, same_map, nat_cmp-IsAntisymmetric, get-from_entries, get-insert, get-remove}
 use Rattle.nr_regions.specs.declared.held.HeldBuffer.{HeldBuffer}
-use Rattle.nr_regions.specs.RegisteredMemory.{Region, bytes_after_write}
+use Rattle.nr_regions.specs.RegisteredMemory.{Region, Access, bytes_after_write, denial_in, region_offer}
 use Rattle.nr_regions.specs.Windows.{BufferParts}
 use Rattle.nr_regions.specs.Table.{table, outsides, region_of, outside_of, mapped, mapped_entries}
 use Rattle.nr_regions.proofs.Holding.{get_insert_here, get_insert_other}
@@ -93,9 +93,23 @@ module _ {S : Type 0} where
       ∙ ap (λ (w : BufferParts). insert (outsides m) stag w.outside) is
       ∙ insert_same (outsides m) stag held.window.outside (get_mapped outside_of m stag ∙ ap (option_map outside_of) e)
 
--- the fact of what is found
-pub fact_at : (o : Option Region) (region : Region) (P : Region → Type 0) → o ≡ Some region → IfSome o P → P region
-fact_at o region P e h = subst (λ (found : Option Region). IfSome found P) e h
+  -- a buffer that is found, and put back as it was
+  pub mapped_again : {X : Type 0} (f : HeldBuffer → X) (m n : HashMap ℕ HeldBuffer S) (stag : ℕ) (held : HeldBuffer) → hash.get nat_eq m stag ≡ Some held
+      → ChangedAt m n stag (Some held) → mapped f n ≡ mapped f m
+  mapped_again f m n stag held e c =
+      mapped_put f m n stag held c ∙ insert_same (mapped f m) stag (f held) (get_mapped f m stag ∙ ap (option_map f) e)
 
-pub none_found : (o : Option Region) (P : Region → Type 0) → o ≡ None → IfSome o P
-none_found o P e = subst (λ (found : Option Region). IfSome found P) (sym e) tt
+  -- why an access is denied
+  pub denied_held : (m : HashMap ℕ HeldBuffer S) (stag : ℕ) (access : Access) (held : HeldBuffer) → hash.get nat_eq m stag ≡ Some held
+      → denial_in (Some (held.right, length held.window.bytes)) access ≡ denial_in (region_offer (get (table m) stag)) access
+  denied_held m stag access held e =
+      ap (λ (o : Option Region). denial_in (region_offer o) access) (sym (get_mapped region_of m stag ∙ ap (option_map region_of) e))
+
+  pub denied_none : (m : HashMap ℕ HeldBuffer S) (stag : ℕ) (access : Access) → hash.get nat_eq m stag ≡ None
+      → denial_in None access ≡ denial_in (region_offer (get (table m) stag)) access
+  denied_none m stag access e =
+      ap (λ (o : Option Region). denial_in (region_offer o) access) (sym (get_mapped region_of m stag ∙ ap (option_map region_of) e))
+
+  -- the fact of a region that is found
+  pub if_found : (m : HashMap ℕ HeldBuffer S) (stag : ℕ) (held : HeldBuffer) (P : Region → Type 0) → hash.get nat_eq m stag ≡ Some held → P (region_of held) → IfSome (get (table m) stag) P
+  if_found m stag held P e h = subst (λ (o : Option Region). IfSome o P) (sym (get_mapped region_of m stag ∙ ap (option_map region_of) e)) h

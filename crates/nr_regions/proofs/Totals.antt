@@ -1,5 +1,5 @@
 -- What the fields of `Regions` keep at each change, with the sum of the lengths held.
-use Rattle.std.proofs.Common.{◌≡◌, ℕ, ◌+◌, ◌-◌, ◌^◌, ◌<◌, ◌≤◌, true, false, cond, List, [], ◌∷◌, map, length, Option, None, Some, IfSome, is_some, refl, sym, ap, subst, ◌∙◌, inl, inr, arith}
+use Rattle.std.proofs.Common.{◌≡◌, ℕ, ◌+◌, ◌-◌, ◌^◌, ◌<◌, ◌≤◌, true, false, cond, List, [], ◌∷◌, map, length, Option, None, Some, IfSome, is_some, Result, Ok, Err, OnOk, OnErr, refl, sym, ap, subst, ◌∙◌, inl, inr, arith}
 use Rattle.std.specs.List.{sum_by}
 use Rattle.std.proofs.lemmas.Bool.{cases_eq}
 use Rattle.std.proofs.lemmas.List.{nil_from_length}
@@ -10,10 +10,10 @@ use Rattle.std.specs.Ordering.{nat_cmp, is_eq}
 use Rattle.std.specs.Cmp.{nat_cmp_total}
 use Rattle.std.specs.FinMap.{FinMap, empty, entries, find, put, get, insert, remove, same_map, nat_cmp-IsAntisymmetric, entries-insert, get-entries, get-empty, len-empty, len-entries}
 use Rattle.std.specs.FinMap.Entries.{by_order}
-use Rattle.nr_regions.specs.RegisteredMemory.{Region, Outside, RegionTable, Claim, IsHeld, bytes_after_write, bytes_held, held_region}
+use Rattle.nr_regions.specs.RegisteredMemory.{Region, Outside, RegionTable, RegisteredMemory, Claim, IsHeld, after_place, after_place_in, bytes_after_write, bytes_held, held_region, live_region}
+use Rattle.nr_regions.specs.declared.denied.Denied.{Denied}
 use Rattle.nr_regions.specs.Table.{IsSound}
 use Rattle.nr_regions.proofs.Holding.{get_insert_here, get_insert_other, get_remove_here, get_remove_other, length_bytes_after_write}
-use Rattle.nr_regions.proofs.Tables.{fact_at}
 
 abbrev size : Region → ℕ
 size region = length region.buf
@@ -127,15 +127,37 @@ sound_place next bytes held stag region after s there len = record {
   bytes_fit = s.bytes_fit;
 }
 
--- bytes written over those of the region that is found
-pub sound_written : (next bytes : ℕ) (held after : FinMap nat_cmp Region) (stag to : ℕ) (payload : List ℕ) (region : Region) → IsSound next bytes held → get held stag ≡ Some region
-    → to + length payload ≤ length region.buf → IfSome (get held stag) (λ r. after ≡ insert held stag (record { right = r.right; buf = bytes_after_write r.buf to payload }))
-    → IsSound next bytes after
-sound_written next bytes held after stag to payload region s there le is =
-    let w : Region = record { right = region.right; buf = bytes_after_write region.buf to payload } in
-    subst (λ (m : FinMap nat_cmp Region). IsSound next bytes m)
-    (sym (fact_at (get held stag) region (λ r. after ≡ insert held stag (record { right = r.right; buf = bytes_after_write r.buf to payload })) there is))
-    (sound_place next bytes held stag region w s there (length_bytes_after_write region.buf to payload le))
+-- the map after an access, by what was found under its STag
+abbrev Placed : Result Unit Denied → (held after : FinMap nat_cmp Region) → (stag to : ℕ) → List ℕ → Type 0
+Placed r held after stag to payload =
+    OnOk r (IfSome (get held stag) (λ region. after ≡ insert held stag (record { right = region.right; buf = bytes_after_write region.buf to payload })))
+
+pub sound_placed : (r : Result Unit Denied) (next bytes : ℕ) (held after : FinMap nat_cmp Region) (stag to : ℕ) (payload : List ℕ) → IsSound next bytes held
+    → OnOk r (is_some (get held stag) ≡ true) → OnOk r (IfSome (get held stag) (λ region. to + length payload ≤ length region.buf))
+    → Placed r held after stag to payload → OnErr r (after ≡ held) → IsSound next bytes after
+sound_placed (Err denied) next bytes held after stag to payload s found le is err = subst (λ (m : FinMap nat_cmp Region). IsSound next bytes m) (sym err) s
+sound_placed (Ok _) next bytes held after stag to payload s found le is err = by (get held stag) refl found le is
+  where
+    by : (o : Option Region) → get held stag ≡ o → is_some o ≡ true → IfSome o (λ region. to + length payload ≤ length region.buf)
+        → IfSome o (λ region. after ≡ insert held stag (record { right = region.right; buf = bytes_after_write region.buf to payload })) → IsSound next bytes after
+    by None e f l i = absurd cc
+    by (Some region) e f l i =
+        let w : Region = record { right = region.right; buf = bytes_after_write region.buf to payload } in
+        subst (λ (m : FinMap nat_cmp Region). IsSound next bytes m) (sym i)
+        (sound_place next bytes held stag region w s e (length_bytes_after_write region.buf to payload l))
+
+pub placed_memory : (r : Result Unit Denied) (next : ℕ) (held after : FinMap nat_cmp Region) (stag to : ℕ) (payload : List ℕ)
+    → OnOk r (is_some (get held stag) ≡ true) → Placed r held after stag to payload
+    → OnOk r (◌≡◌ {A = RegisteredMemory} (record { next = next; held = after }) (after_place (record { next = next; held = held }) stag to payload))
+unfolding after_place live_region held_region
+placed_memory (Err denied) next held after stag to payload found is = tt
+placed_memory (Ok _) next held after stag to payload found is = by (get held stag) found is
+  where
+    by : (o : Option Region) → is_some o ≡ true
+        → IfSome o (λ region. after ≡ insert held stag (record { right = region.right; buf = bytes_after_write region.buf to payload }))
+        → ◌≡◌ {A = RegisteredMemory} (record { next = next; held = after }) (after_place_in o (record { next = next; held = held }) stag to payload)
+    by None f i = absurd cc
+    by (Some region) f i = λ t. record { next = next; held = i t }
 
 -- what a claim on the table's memory says of the map
 pub held_there : {outside : FinMap nat_cmp Outside} (held : FinMap nat_cmp Region) (next room : ℕ) (t : RegionTable) (claim : Claim) (h : IsHeld t.memory claim)

@@ -1,5 +1,9 @@
 //! What is kept under an STag.
 
+ghost use Rattle.std.specs.Prelude.{◌≡◌, ◌+◌, ◌≤◌, length, Some, IfNone};
+ghost use Rattle.nr_regions.specs.RegisteredMemory.{denial_in};
+
+use crate::denied::Denied;
 use crate::right::Right;
 use crate::window::Window;
 
@@ -8,4 +12,21 @@ use crate::window::Window;
 pub struct HeldBuffer {
     pub right: Right,
     pub window: Window,
+}
+
+impl HeldBuffer {
+    /// Why an access of `len` bytes from `to` on is denied, if it is: the first reason that applies.
+    pub fn denial(&self, right: Right, to: u64, len: u64) -> Option<Denied>
+        ensures exact { result ≡ denial_in (Some (self.now.right, length self.now.window.bytes)) (record { right = right; stag = 0; to = to; len = len }) }
+        ensures within { IfNone result (to + len ≤ length self.now.window.bytes) }
+    {
+        let size = self.window.len() as u64;
+        if to > size || len > size - to {
+            return Some(Denied::Bounds);
+        }
+        if self.right != right {
+            return Some(Denied::Right);
+        }
+        None
+    }
 }

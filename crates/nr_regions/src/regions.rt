@@ -10,7 +10,7 @@ use crate::denied::{Denied, Why};
 use crate::held::HeldBuffer;
 use crate::registration::Registration;
 use crate::right::{Kind, Right};
-use crate::table::{look_up, make_room, no_regions, put, take_out, write_over};
+use crate::table::{look_up, make_room, no_regions, put, take_out, write_allowed};
 use crate::window::Window;
 use nr_xdr::{Memory, Octets};
 use std::alloc::Global;
@@ -61,17 +61,13 @@ fn check_access(
     ensures found { IfOk result (λ found. get (table held.now) stag ≡ Some (region_of found.now)) }
     ensures within { IfOk result (λ found. to + len ≤ length found.now.window.bytes) }
 {
-    let Some(found) = look_up(held, stag) else {
-        return Err(Denied::NoStag);
-    };
-    let size = found.window.len() as u64;
-    if to > size || len > size - to {
-        return Err(Denied::Bounds);
+    match look_up(held, stag) {
+        None => Err(Denied::NoStag),
+        Some(found) => match found.denial(right, to, len) {
+            Some(denied) => Err(denied),
+            None => Ok(found),
+        },
     }
-    if found.right != right {
-        return Err(Denied::Right);
-    }
-    Ok(found)
 }
 
 fn right_for(kind: Kind) -> Right
@@ -315,13 +311,7 @@ impl Regions {
         ensures room { self.new.room ≡ self.old.room }
         ensures outside { self.new.outside ≡ self.old.outside }
     {
-        match check_access(&self.held, right_for(kind), stag, to, bytes.len() as u64) {
-            Ok(_) => {
-                write_over(&mut self.held, stag, to as usize, bytes);
-                Ok(())
-            }
-            Err(denied) => Err(denied),
-        }
+        write_allowed(&mut self.held, right_for(kind), stag, to, bytes)
     }
 
     /// Why a tagged segment of `len` payload bytes may not write into its region, the first reason that applies; `None` where it may.

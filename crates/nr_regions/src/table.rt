@@ -1,13 +1,16 @@
 //! The map from STag to region, in the terms of finite maps.
 
-ghost use Rattle.std.specs.Prelude.{◌≡◌, ◌+◌, ◌<◌, ◌≤◌, length, option_map, IsOk, IfSome, OnOk, OnErr, IfErr};
+ghost use Rattle.std.specs.Prelude.{◌≡◌, ◌+◌, ◌<◌, ◌≤◌, length, option_map, is_some, true, IsOk, IfSome, OnOk, OnErr, IfErr};
 ghost use Rattle.std.specs.FinMap.{empty, get, insert, remove};
 ghost use Rattle.std.specs.HashMap.{spare};
 ghost use Rattle.std.specs.Option.{option_copied};
-ghost use Rattle.nr_regions.specs.RegisteredMemory.{bytes_after_write};
+ghost use Rattle.std.specs.Result.{result_err};
+ghost use Rattle.nr_regions.specs.RegisteredMemory.{bytes_after_write, denial_in, region_offer};
 ghost use Rattle.nr_regions.specs.Table.{table, outsides, region_of, outside_of};
 
+use crate::denied::Denied;
 use crate::held::HeldBuffer;
+use crate::right::Right;
 use nr_xdr::Memory;
 use std::alloc::{AllocFailed, Global};
 use std::collections::HashMap;
@@ -68,15 +71,31 @@ pub fn take_out(regions: &mut HashMap<u32, HeldBuffer>, stag: u32) -> Option<Hel
     regions.remove(&stag)
 }
 
-/// Writes some bytes over those of the region under an STag. Takes no memory.
-pub fn write_over(regions: &mut HashMap<u32, HeldBuffer>, stag: u32, at: usize, bytes: &[u8])
-    requires { IfSome (get (table regions.old) stag) (λ region. at + length bytes.now ≤ length region.buf) }
-    ensures bytes { IfSome (get (table regions.old) stag) (λ region. table regions.new
-        ≡ insert (table regions.old) stag (record { right = region.right; buf = bytes_after_write region.buf at bytes.now })) }
+/// Writes some bytes over those of the region under an STag, from `to` on, if this access is allowed; else answers why it is
+/// denied, and changes nothing. Takes no memory.
+pub fn write_allowed(
+    regions: &mut HashMap<u32, HeldBuffer>,
+    right: Right,
+    stag: u32,
+    to: u64,
+    bytes: &[u8],
+) -> Result<(), Denied>
+    ensures exact { result_err result
+        ≡ denial_in (region_offer (get (table regions.old) stag)) (record { right = right; stag = stag; to = to; len = length bytes.now }) }
+    ensures within { OnOk result (IfSome (get (table regions.old) stag) (λ region. to + length bytes.now ≤ length region.buf)) }
+    ensures bytes { OnOk result (IfSome (get (table regions.old) stag) (λ region. table regions.new
+        ≡ insert (table regions.old) stag (record { right = region.right; buf = bytes_after_write region.buf to bytes.now }))) }
+    ensures found { OnOk result (is_some (get (table regions.old) stag) ≡ true) }
+    ensures err { OnErr result (table regions.new ≡ table regions.old) }
     ensures outside { outsides regions.new ≡ outsides regions.old }
     ensures room { spare regions.new ≡ spare regions.old }
 {
-    if let Some(region) = regions.get_mut(&stag) {
-        region.window.overwrite(at, bytes);
+    let Some(found) = regions.get_mut(&stag) else {
+        return Err(Denied::NoStag);
+    };
+    if let Some(denied) = found.denial(right, to, bytes.len() as u64) {
+        return Err(denied);
     }
+    found.window.overwrite(to as usize, bytes);
+    Ok(())
 }

@@ -10,13 +10,8 @@ use Rattle.nr_endpoint.proofs.Standing.{on_ok}
 use Rattle.nr_endpoint.specs.SendQueue.{output_len}
 use Rattle.nr_endpoint.proofs.Queued.{request_queues, on_any_err}
 use Rattle.nr_endpoint.proofs.Taken.{same_request, same_send}
-use Rattle.nr_endpoint.proofs.Alive.{alive_tagged, alive_request, alive_send}
+use Rattle.nr_endpoint.proofs.Alive.{alive_request, alive_send}
 use Rattle.nr_endpoint.proofs.link.LinkSide.take.Goals as goal
-
-pub apply_tagged-requires-clause-lives : goal.apply_tagged-requires-clause-lives
-apply_tagged-requires-clause-lives c =
-    alive_tagged c.args.self.now.state (next_frame c.args.self.now.state c.args.frame.now) c.in-Tagged.last c.in-Tagged.opcode c.in-Tagged.stag c.in-Tagged.to c.in-Tagged.payload.now refl
-    (subst (λ (s : Segment). segment_end c.args.self.now.state (next_frame c.args.self.now.state c.args.frame.now) (plain s) ≡ None) c.in-Tagged.is c.requires.lives)
 
 pub apply_request-requires-clause-fine : goal.apply_request-requires-clause-fine
 apply_request-requires-clause-fine c =
@@ -47,8 +42,8 @@ returns-then-opcode-eq-OPCODE_READ_REQUEST-clause-queued c =
     (sym (c.in-Untagged.is ∙ ap (λ (opcode : ℕ). Segment.Untagged c.in-Untagged.last opcode c.in-Untagged.word c.in-Untagged.queue c.in-Untagged.msn c.in-Untagged.offset c.in-Untagged.payload) c.if-opcode-eq-OPCODE_READ_REQUEST.true))
     (request_queues c.args.self.now.state c.in-Untagged.last c.in-Untagged.word c.in-Untagged.queue c.in-Untagged.msn c.in-Untagged.offset c.in-Untagged.payload.now))
 
-pub returns-else-opcode-eq-OPCODE_READ_REQUEST-clause-ok : goal.returns-else-opcode-eq-OPCODE_READ_REQUEST-clause-ok
-returns-else-opcode-eq-OPCODE_READ_REQUEST-clause-ok c =
+pub returns-clause-ok : goal.returns-clause-ok
+returns-clause-ok c =
     let supported : IsSupported (Untagged c.in-Untagged.last c.in-Untagged.opcode c.in-Untagged.word c.in-Untagged.queue c.in-Untagged.msn c.in-Untagged.offset c.in-Untagged.payload.now) =
     subst (λ (segment : Segment). IsSupported (plain segment)) c.in-Untagged.is c.requires.supported in
     let opcode : c.in-Untagged.opcode ≡ OPCODE_SEND =

@@ -1,8 +1,16 @@
-use Rattle.nr_regions.specs.Table.{table, region_of}
-use Rattle.nr_regions.proofs.Totals.{sound_written}
+use Rattle.std.proofs.Common.{◌≡◌, OnOk, subst}
+use Rattle.nr_regions.specs.RegisteredMemory.{RegionTable, RegisteredMemory, after_place}
+use Rattle.nr_regions.specs.Table.{table}
+use Rattle.nr_regions.proofs.Totals.{sound_placed, placed_memory}
 use Rattle.nr_regions.proofs.regions.Regions.place_inner.Goals as goal
 
 pub invariant_of-self : goal.invariant_of-self
 invariant_of-self c =
-    sound_written c.self.inside.next c.self.inside.bytes (table c.self.inside.held) (table c.write_over.new.regions) c.args.stag c.args.to c.args.bytes.now (region_of c.in-Ok.field-0.now)
-    c.self.invariant c.in-Ok.ensures.found c.in-Ok.ensures.within c.write_over.ensures.bytes
+    sound_placed c.write_allowed.result c.self.inside.next c.self.inside.bytes (table c.self.inside.held) (table c.write_allowed.new.regions) c.args.stag c.args.to c.args.bytes.now
+    c.self.invariant c.write_allowed.ensures.found c.write_allowed.ensures.within c.write_allowed.ensures.bytes c.write_allowed.ensures.err
+
+pub returns-clause-ok : goal.returns-clause-ok
+returns-clause-ok c =
+    subst (λ (t : RegionTable). OnOk c.write_allowed.result (◌≡◌ {A = RegisteredMemory} (record { next = c.self.inside.next; held = table c.write_allowed.new.regions }) (after_place t.memory c.args.stag c.args.to c.args.bytes.now)))
+    c.self.view_is
+    (placed_memory c.write_allowed.result c.self.inside.next (table c.self.inside.held) (table c.write_allowed.new.regions) c.args.stag c.args.to c.args.bytes.now c.write_allowed.ensures.found c.write_allowed.ensures.bytes)
