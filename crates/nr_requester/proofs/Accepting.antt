@@ -1,5 +1,5 @@
 -- A call is accepted: a requester stands for the marks with that Submit; and what it answers to a call is what its client answers.
-use Rattle.std.proofs.Common.{◌≡◌, ℕ, ◌+◌, ◌-◌, ◌^◌, ◌<◌, ◌≤◌, cond, leb, List, [], ◌∷◌, ◌++◌, length, map, Option, None, Some, Result, Ok, Err, refl, sym, ap, subst, ◌∙◌, arith, append-nil}
+use Rattle.std.proofs.Common.{◌≡◌, ℕ, ◌+◌, ◌-◌, ◌≤◌, cond, leb, List, [], ◌∷◌, ◌++◌, length, Option, None, Some, Result, Ok, Err, refl, sym, ap, subst, ◌∙◌, arith, append-nil}
 use Rattle.std.proofs.lemmas.List.{length-map}
 use Rattle.nr_wire.specs.declared.hello.Side.TheVariants.{Initiator, Responder}
 use Rattle.nr_link.specs.declared.end.End.{End}
@@ -16,21 +16,21 @@ use Rattle.nr_reduce.specs.declared.mark.LinkParameters.{LinkParameters}
 use Rattle.nr_reduce.specs.declared.mark.Mark.{Mark}
 use Rattle.nr_reduce.specs.declared.mark.Mark.TheVariants as marks
 use Rattle.nr_reduce.specs.declared.outline.Plan.{Plan}
-use Rattle.nr_reduce.specs.Limits.{numbers_end, send_max}
+use Rattle.nr_reduce.specs.Limits.{numbers_end}
 use Rattle.nr_reduce.specs.Plans.{TooLarge, regions_needed, buffers, call_message, plan_of}
 use Rattle.nr_reduce.specs.History.{AcceptedCall, bytes_received}
 use Rattle.nr_reduce.specs.Events.{RunEvent}
 use Rattle.nr_reduce.specs.Events.RunEvent.{CallSubmitted}
-use Rattle.nr_reduce.specs.EndRules.{EndState, next_end_state, end_state_after, output_for, output_for_all, live}
+use Rattle.nr_reduce.specs.EndRules.{EndState, next_end_state, end_state_after, output_for, output_for_all}
 use Rattle.nr_reduce.specs.Written as reduce
 use Rattle.nr_reduce.specs.ClientState.{ClientState, call_payload, plan_for}
-use Rattle.nr_reduce.specs.Client.{client_rules, client_end, client_output, client_state_after}
+use Rattle.nr_reduce.specs.Client.{client_rules, client_end, client_output}
 use Rattle.nr_reduce.specs.Run.{client}
 use Rattle.nr_reduce.specs.Credits.{calls_outstanding, credits_granted}
-use Rattle.nr_reduce.specs.SubmitAnswer.{unless_spent, submit_answer}
+use Rattle.nr_reduce.specs.SubmitAnswer.{unless_spent}
 use Rattle.nr_reduce.specs.KeptClient.{KeptClient, ClientKeeps, kept_submitted}
-use Rattle.nr_reduce.specs.Standing.{input_events, ClientRepresents}
-use Rattle.nr_reduce.specs.StandingLaws.{GoesOn, kept_answer_by_plan, kept_answer_if, kept_answer}
+use Rattle.nr_reduce.specs.Standing.{input_events}
+use Rattle.nr_reduce.specs.StandingLaws.{GoesOn, kept_answer_by_plan, kept_answer_if}
 use Rattle.nr_reduce.proofs.Standing.{client_stands}
 use Rattle.nr_reduce.proofs.Submits.{kept_submits}
 use Rattle.nr_reduce.proofs.OutcomesStay.{first_xid_stays}
@@ -42,7 +42,7 @@ use Rattle.nr_requester.specs.Answers.{plan_under, answer_by_plan, answer_if, an
 use Rattle.nr_requester.specs.Laws.{AnswersAsClient, CountsAsClient, SubmitIsAMark}
 use Rattle.nr_requester.proofs.Links.{sent_is, link_submitted, queue_submitted}
 use Rattle.nr_requester.proofs.KeptCalls.{kept_accepted}
-use Rattle.nr_requester.proofs.Marks.{state_of, ended_as, lives_as, lives, due_is, numbers, own_events, state_next}
+use Rattle.nr_requester.proofs.Marks.{state_of, lives_as, lives, due_is, numbers, own_events, state_next}
 
 -- the input stays if nothing is fed
 pub same_input : (link : ℕ) (run : List Mark) (input : InputState) → input ≡ input_of Responder (bytes_received link Initiator run) → input ≡ input_after input []

@@ -1,5 +1,5 @@
 -- A segment is judged by what a requester keeps as by what its client received.
-use Rattle.std.proofs.Common.{◌≡◌, ℕ, ◌+◌, ◌<◌, Bool, true, false, cond, not, ◌||◌, eqb, ltb, List, [], ◌∷◌, length, Option, None, Some, Result, Ok, Err, refl, sym, ap, ◌∙◌, arith}
+use Rattle.std.proofs.Common.{◌≡◌, ℕ, ◌+◌, ◌<◌, Bool, true, false, cond, not, ◌||◌, eqb, ltb, List, [], ◌∷◌, Option, None, Some, Result, Ok, Err, refl, sym, ap, ◌∙◌, arith}
 use Rattle.nr_wire.specs.declared.stream.Awaited.TheVariants.{Fpdu}
 use Rattle.nr_wire.specs.Segment.{Segment}
 use Rattle.nr_wire.specs.Segment.Segment.{Tagged, Untagged}
@@ -9,7 +9,6 @@ use Rattle.nr_link.specs.Limits.{send_max}
 use Rattle.nr_link.specs.Reasons.{REASON_MSN, REASON_OFFSET, REASON_FORM, REASON_REQUESTS, REASON_SHORT, REASON_LONG}
 use Rattle.nr_link.specs.Frames.{Frame}
 use Rattle.nr_link.specs.ReceiveState.{ReceiveState, is_send, message_completed}
-use Rattle.nr_link.specs.KeptSends.{received_within}
 use Rattle.nr_link.specs.SegmentFaults.{Readiness, SegmentReason, segment_reason, first_fault, reason_if, next_msn, next_offset, is_begun, no_buffer, missing_fault, is_malformed, is_too_many, message_length_is, terminate_fault}
 use Rattle.nr_link.specs.SegmentFaults.SegmentReason.{NoBuffer}
 use Rattle.nr_link.specs.Ending.{end_of_fault, frame_end, frame_end_by, frame_segment, missing_access}

@@ -1,5 +1,5 @@
 -- A requester that was fed a piece stands for the marks with that Fed.
-use Rattle.std.proofs.Common.{◌≡◌, ℕ, ◌+◌, ◌<◌, ◌≤◌, Bool, true, false, cond, ◌&&◌, eqb, List, [], ◌∷◌, ◌++◌, length, take, drop, map, Option, None, Some, inl, inr, refl, sym, ap, subst, ◌∙◌, arith, append_assoc, length-append}
+use Rattle.std.proofs.Common.{◌≡◌, ℕ, ◌+◌, ◌<◌, ◌≤◌, Bool, true, false, cond, ◌&&◌, List, [], ◌∷◌, ◌++◌, length, take, drop, map, Option, None, Some, inl, inr, refl, sym, ap, subst, ◌∙◌, arith, append_assoc, length-append}
 use Rattle.std.specs.Prelude.{is_some}
 use Rattle.std.specs.List.{concat}
 use Rattle.std.proofs.lemmas.List.{append-nil, map-append, take_at, take-append-le, take-append-drop}
@@ -17,7 +17,7 @@ use Rattle.nr_link.proofs.Inputs.{input_of_count}
 use Rattle.nr_reduce.specs.declared.mark.LinkParameters.{LinkParameters}
 use Rattle.nr_reduce.specs.declared.mark.Mark.{Mark}
 use Rattle.nr_reduce.specs.declared.mark.Mark.TheVariants as marks
-use Rattle.nr_reduce.specs.History.{bytes_received, written_at, fed_at}
+use Rattle.nr_reduce.specs.History.{bytes_received, fed_at}
 use Rattle.nr_reduce.specs.Events.{RunEvent}
 use Rattle.nr_reduce.specs.Events.RunEvent.{FrameReceived}
 use Rattle.nr_reduce.specs.EndRules.{EndState, end_state_after, output_for_all, live}
@@ -32,7 +32,6 @@ use Rattle.nr_reduce.proofs.Steps.{ended_stays, output_for_all_append}
 use Rattle.nr_reduce.proofs.Pieces.{in_parts}
 use Rattle.nr_reduce.specs.Matched.{IsPrefixOf}
 use Rattle.nr_link.specs.Frames.{Frame}
-use Rattle.nr_reduce.proofs.Releasing.{kept_stays}
 use Rattle.nr_requester.specs.RequesterState.{RequesterState, RequesterSide, queue_of, kept_client, input_kept}
 use Rattle.nr_requester.specs.Standing.{LinkKeeps, RequesterRepresents}
 use Rattle.nr_requester.specs.AfterPiece.{requester_ended, after_frame, after_piece, out_of_memory}

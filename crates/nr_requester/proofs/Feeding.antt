@@ -12,7 +12,6 @@ use Rattle.nr_wire.specs.Stream.{IsFrame, AreFrames, awaited_after}
 use Rattle.nr_wire.proofs.Frames.{fields_some}
 use Rattle.nr_link.specs.declared.end.End.{End}
 use Rattle.nr_link.specs.Frames.{Frame, frames_from}
-use Rattle.nr_endpoint.specs.LinkState.{LinkState}
 use Rattle.nr_endpoint.specs.Judging.{next_frame}
 use Rattle.nr_reduce.specs.declared.mark.LinkParameters.{LinkParameters}
 use Rattle.nr_reduce.specs.Events.RunEvent.{FrameReceived}

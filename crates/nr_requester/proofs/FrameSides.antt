@@ -1,5 +1,5 @@
 -- The side of the link after a frame that doesn't end it.
-use Rattle.std.proofs.Common.{◌≡◌, ◌≢◌, ℕ, ◌+◌, ◌-◌, ◌<◌, ◌≤◌, Bool, true, false, cond, not, ◌&&◌, eqb, ltb, List, [], ◌∷◌, ◌++◌, length, take, drop, Option, None, Some, Result, Ok, Err, refl, sym, ap, subst, ◌∙◌, arith, append_assoc, length-append}
+use Rattle.std.proofs.Common.{◌≡◌, ◌≢◌, ℕ, ◌+◌, ◌-◌, ◌<◌, Bool, true, false, cond, not, ◌&&◌, eqb, ltb, List, [], ◌∷◌, ◌++◌, length, Option, None, Some, Ok, refl, sym, ap, subst, ◌∙◌, arith, append_assoc, length-append}
 use Rattle.std.specs.Prelude.{option_and_then, IfSome}
 use Rattle.std.proofs.lemmas.List.{append-nil}
 use Rattle.std.proofs.lemmas.Bool.{ne_eqb}
@@ -17,7 +17,7 @@ use Rattle.nr_link.specs.SegmentFaults.{ExpectedResponse, Readiness, SegmentReas
 use Rattle.nr_link.specs.Ending.{kind_of}
 use Rattle.nr_endpoint.specs.LinkState.{LinkState}
 use Rattle.nr_endpoint.specs.SendQueue.{SendQueue, writable}
-use Rattle.nr_endpoint.specs.ReceiveQueue.{ReceiveQueue, sends_begun, takes_receive, message_notices, with_segment as received_segment, delivered, posted}
+use Rattle.nr_endpoint.specs.ReceiveQueue.{sends_begun, takes_receive, message_notices, with_segment as received_segment, delivered, posted}
 use Rattle.nr_endpoint.specs.Judging.{with_effect, with_read_response, after_frame, segment_end, readiness, missing_access, with_read_request, fetch_access, expected_response}
 use Rattle.nr_endpoint.proofs.Queued.{response_some}
 use Rattle.nr_reduce.specs.declared.mark.LinkParameters.{LinkParameters}

@@ -1,18 +1,17 @@
 -- A frame of the server's stream: a requester that keeps its client keeps it after the frame, and queues what is due.
-use Rattle.std.proofs.Common.{◌≡◌, ◌≢◌, ℕ, ◌+◌, ◌<◌, ◌≤◌, Bool, true, false, cond, not, eqb, ltb, List, [], ◌∷◌, ◌++◌, length, take, drop, map, inl, inr, Option, None, Some, Result, Ok, Err, refl, sym, ap, subst, ◌∙◌, arith, append_assoc, length-append}
-use Rattle.std.specs.Prelude.{IfSome, is_some}
-use Rattle.std.specs.List.{filter}
+use Rattle.std.proofs.Common.{◌≡◌, ◌≢◌, ℕ, ◌+◌, ◌<◌, ◌≤◌, Bool, true, false, cond, not, eqb, ltb, List, [], ◌∷◌, ◌++◌, length, map, Option, None, Some, Result, Ok, Err, refl, sym, ap, subst, ◌∙◌, arith, append_assoc, length-append}
+use Rattle.std.specs.Prelude.{IfSome}
 use Rattle.std.proofs.lemmas.List.{append-nil, length-map}
-use Rattle.std.proofs.lemmas.Bool.{ne_eqb, eq-eqb, lt-ltb, ltb-false}
+use Rattle.std.proofs.lemmas.Bool.{ne_eqb, ltb-false}
 use Rattle.nr_xdr.specs.Fields.{word_at}
 use Rattle.nr_wire.specs.declared.hello.Side.{Side}
 use Rattle.nr_wire.specs.declared.hello.Side.TheVariants.{Initiator, Responder}
-use Rattle.nr_wire.specs.declared.stream.Awaited.TheVariants.{Fpdu, Hello as HelloFrom}
-use Rattle.nr_wire.specs.Hello.{Hello, hello_of}
+use Rattle.nr_wire.specs.declared.stream.Awaited.TheVariants.{Fpdu}
+use Rattle.nr_wire.specs.Hello.{hello_of}
 use Rattle.nr_wire.specs.Segment.{Segment, segment_of}
 use Rattle.nr_wire.specs.Segment.Segment.{Tagged, Untagged}
 use Rattle.nr_regions.specs.declared.denied.Denied.{Denied}
-use Rattle.nr_regions.specs.RegisteredMemory.{RegisteredMemory, denial, after_place, bytes_at}
+use Rattle.nr_regions.specs.RegisteredMemory.{RegisteredMemory, denial, after_place}
 use Rattle.nr_regions.specs.Access.{TaggedSegment}
 use Rattle.nr_regions.specs.Events.{after_event, after_arrival}
 use Rattle.nr_regions.specs.Events.MemoryEvent.{Arrive}
@@ -21,14 +20,13 @@ use Rattle.nr_link.specs.declared.end.End.TheVariants as ends
 use Rattle.nr_link.specs.Limits.{send_max}
 use Rattle.nr_link.specs.Reasons.{REASON_MSN, REASON_OFFSET, REASON_FORM, REASON_REQUESTS, REASON_SHORT, REASON_LONG}
 use Rattle.nr_link.specs.Frames.{Frame, is_hello}
-use Rattle.nr_link.specs.Output.{read_response}
 use Rattle.nr_link.specs.ReceiveState.{ReadRequest, is_send, message_completed, read_request_of}
 use Rattle.nr_link.specs.KeptSends.{received_within}
 use Rattle.nr_link.specs.SegmentFaults.{Readiness, SegmentReason, segment_reason, first_fault, missing_fault, reason_if, next_msn, next_offset, no_buffer, is_malformed, is_too_many, message_length_is, terminate_fault}
 use Rattle.nr_link.specs.Ending.{kind_of, frame_segment, frame_end, frame_end_by, hello_end, missing_access, final_output, end_of_fault}
 use Rattle.nr_endpoint.specs.LinkState.{LinkState}
 use Rattle.nr_endpoint.specs.ReceiveQueue.{DeliveredEvent, message_notices, with_segment as received_segment}
-use Rattle.nr_endpoint.specs.ReceiveQueue.DeliveredEvent.{MessageReceived, ReadDone}
+use Rattle.nr_endpoint.specs.ReceiveQueue.DeliveredEvent.{MessageReceived}
 use Rattle.nr_endpoint.specs.SendQueue.{SendQueue, writable, with_end}
 use Rattle.nr_endpoint.specs.Judging.{with_frame, with_fpdu, with_segment_by, with_effect, with_end_of, after_frame, segment_end, next_frame, with_read_request, with_read_response, fetch_access}
 use Rattle.nr_endpoint.proofs.EndLaws.{effect_ended}
@@ -42,7 +40,7 @@ use Rattle.nr_reduce.specs.ClientMessages.{ReplyVerdict, reply_verdict}
 use Rattle.nr_reduce.specs.ClientMessages.ReplyVerdict.{EndsLink, GivesOutcome}
 use Rattle.nr_reduce.specs.Client.{client_rules, client_end, client_output, client_state_after, client_readiness, end_of_verdict, client_message_end, segment_message, or_message_end, with_segment, with_message, with_request, with_hello, due_with_response, response_output, segment_request, calls_output, credits_of_word}
 use Rattle.nr_reduce.specs.KeptCalls.{KeptCall, kept_verdict}
-use Rattle.nr_reduce.specs.KeptClient.{KeptClient, ClientKeeps, MemoryKeeps, bytes_under, released_all, without, kept_completed, kept_placed, kept_received, kept_by_message, kept_by_accesses, stags_for as kept_stags}
+use Rattle.nr_reduce.specs.KeptClient.{KeptClient, ClientKeeps, MemoryKeeps, bytes_under, released_all, without, kept_completed, kept_placed, kept_received, kept_by_message, stags_for as kept_stags}
 use Rattle.nr_reduce.proofs.Touches.{AreNone, all_none, no_flaw}
 use Rattle.nr_reduce.proofs.WholeWrotes.{client_due}
 use Rattle.nr_reduce.proofs.Keeping.{kept_judges, kept_responds}
@@ -51,7 +49,7 @@ use Rattle.nr_reduce.proofs.Taking.{kept_takes, kept_ends}
 use Rattle.nr_requester.specs.RequesterState.{StoredCall, RequesterState, kept_call, kept_calls, queue_of, kept_client}
 use Rattle.nr_requester.specs.Standing.{LinkKeeps}
 use Rattle.nr_requester.specs.AfterCalls.{stags_for}
-use Rattle.nr_requester.specs.AfterPiece.{taken, without_call, judged, noticed, unless_ended, after_fpdu}
+use Rattle.nr_requester.specs.AfterPiece.{without_call, judged, noticed, unless_ended, after_fpdu}
 use Rattle.nr_requester.proofs.KeptCalls.{stags_alike}
 use Rattle.nr_requester.proofs.Faults.{ends_alike}
 use Rattle.nr_requester.proofs.OneReceive.{MessageAt, message_at}

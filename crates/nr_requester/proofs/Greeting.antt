@@ -1,9 +1,9 @@
 -- The server's hello.
-use Rattle.std.proofs.Common.{◌≡◌, ℕ, ◌+◌, ◌<◌, ◌≤◌, Bool, true, false, cond, not, eqb, List, [], ◌∷◌, ◌++◌, length, Option, None, Some, Result, Ok, Err, refl, sym, ap, subst, ◌∙◌, arith}
+use Rattle.std.proofs.Common.{◌≡◌, ℕ, ◌<◌, ◌≤◌, Bool, true, false, cond, not, List, [], ◌++◌, length, Option, None, Some, Result, Ok, Err, refl, sym, ap, subst, ◌∙◌, arith}
 use Rattle.std.specs.Prelude.{IfSome}
 use Rattle.std.proofs.lemmas.List.{append-nil}
 use Rattle.std.proofs.lemmas.Bool.{ne_eqb, eq-eqb, lt-ltb}
-use Rattle.nr_wire.specs.declared.hello.Side.TheVariants.{Initiator, Responder}
+use Rattle.nr_wire.specs.declared.hello.Side.TheVariants.{Responder}
 use Rattle.nr_wire.specs.declared.stream.Awaited.TheVariants.{Hello as HelloFrom}
 use Rattle.nr_wire.specs.Hello.{Hello, hello_of}
 use Rattle.nr_link.specs.declared.end.End.{End}
@@ -12,7 +12,7 @@ use Rattle.nr_link.specs.Frames.{Frame, is_hello}
 use Rattle.nr_link.specs.Output.{terminate_message}
 use Rattle.nr_link.specs.Ending.{frame_segment, frame_end, hello_end, final_output, rejection}
 use Rattle.nr_endpoint.specs.LinkState.{LinkState}
-use Rattle.nr_endpoint.specs.SendQueue.{SendQueue, writable, with_hello as queue_hello, with_end}
+use Rattle.nr_endpoint.specs.SendQueue.{writable, with_hello as queue_hello, with_end}
 use Rattle.nr_endpoint.specs.Judging.{with_frame, with_peer_hello, with_end_of, after_frame, next_frame, reply_hello}
 use Rattle.nr_endpoint.specs.Laws.{IsFrameEnd}
 use Rattle.nr_endpoint.proofs.EndLaws.{frames_end_for_these}

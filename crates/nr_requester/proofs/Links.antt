@@ -1,6 +1,5 @@
 -- The side of the link, as a sink takes bytes, as a call is accepted, and as the memory of a call is revoked.
 use Rattle.std.proofs.Common.{◌≡◌, ℕ, ◌+◌, ◌-◌, ◌^◌, ◌<◌, ◌≤◌, Bool, true, false, cond, List, [], ◌∷◌, ◌++◌, length, drop, map, Option, None, Result, Ok, refl, sym, ap, subst, ◌∙◌, arith, append_assoc, length-append}
-use Rattle.std.specs.List.{AllByRecursion}
 use Rattle.std.proofs.lemmas.List.{append-nil, length-drop}
 use Rattle.nr_regions.specs.RegisteredMemory.{RegisteredMemory}
 use Rattle.nr_link.specs.Output.{msn_word, send}
@@ -13,8 +12,8 @@ use Rattle.nr_reduce.specs.Plans.{TooLarge, buffers, call_message}
 use Rattle.nr_reduce.specs.Events.RunEvent.{CallSubmitted, MemoryRevoked}
 use Rattle.nr_reduce.specs.Written as reduce
 use Rattle.nr_reduce.specs.ClientState.{OutstandingCall, ClientState, plan_for, call_payload}
-use Rattle.nr_reduce.specs.Client.{client_state_after, client_output, call_output, calls_output, call_ends, outstanding_of, plan_or, revoked_call}
-use Rattle.nr_reduce.proofs.LaterSends.{calls_later, submit_later}
+use Rattle.nr_reduce.specs.Client.{client_state_after, client_output, call_output, calls_output, call_ends, outstanding_of, plan_or}
+use Rattle.nr_reduce.proofs.LaterSends.{calls_later}
 use Rattle.nr_requester.specs.Standing.{HasEnds, sends_ends, LinkKeeps}
 use Rattle.nr_requester.specs.AfterCalls.{submitted, drained}
 use Rattle.nr_requester.proofs.Ends.{ends_drained, ends_added, left_or_waiting, all_wait}

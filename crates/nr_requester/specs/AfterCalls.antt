@@ -9,7 +9,7 @@ use Rattle.nr_reduce.specs.declared.call.Call.{Call}
 use Rattle.nr_reduce.specs.declared.outline.Plan.{Plan}
 use Rattle.nr_reduce.specs.Plans.{Buffer, buffers, call_message, lists_of}
 use Rattle.nr_reduce.specs.KeptClient.{registered_all, released_all}
-use Rattle.nr_requester.specs.RequesterState.{StoredCall, RequesterState, RequesterSide}
+use Rattle.nr_requester.specs.RequesterState.{StoredCall, RequesterSide}
 
 unfoldable pub opened_as : (first_xid first_stag wished : ℕ) → RequesterSide
 opened_as first_xid first_stag wished = record {

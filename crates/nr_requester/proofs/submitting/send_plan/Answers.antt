@@ -1,4 +1,4 @@
-use Rattle.std.proofs.Common.{◌≡◌, ℕ, ◌-◌, List, length, sym, ap, ◌∙◌, arith}
+use Rattle.std.proofs.Common.{◌≡◌, ℕ, ◌-◌, List, length, ap, ◌∙◌, arith}
 use Rattle.nr_regions.specs.RegisteredMemory.{RegisteredMemory}
 use Rattle.nr_endpoint.specs.Offering.{offered_count}
 use Rattle.nr_reduce.specs.Plans.{call_message, lists_of}

@@ -1,4 +1,4 @@
-use Rattle.std.proofs.Common.{◌≡◌, ℕ, List, Ok, Err, ap, subst, ◌∙◌, arith}
+use Rattle.std.proofs.Common.{Ok, Err, ap, subst, ◌∙◌, arith}
 use Rattle.nr_reduce.specs.declared.fault.PayloadFault.{PayloadFault}
 use Rattle.nr_reduce.specs.PlanSizes.{PlanAnswers}
 use Rattle.nr_reduce.specs.Plans.{plan_of}
