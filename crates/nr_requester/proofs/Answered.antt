@@ -1,5 +1,5 @@
 -- What a requester answers, step by step.
-use Rattle.std.proofs.Common.{◌≡◌, ◌≢◌, ℕ, ◌^◌, ◌≤◌, Bool, cond, List, [], ◌∷◌, ◌++◌, Option, None, Some, IfSome, Result, Ok, Err, inl, inr, refl, sym, ap, subst, ◌∙◌, arith}
+use Rattle.std.proofs.Common.{◌≡◌, ◌≢◌, ℕ, ◌^◌, ◌≤◌, Bool, cond, List, [], ◌∷◌, ◌++◌, None, Some, Result, Ok, Err, inl, inr, refl, sym, ap, subst, ◌∙◌, arith}
 use Rattle.std.proofs.lemmas.Bool.{cases_lt, lt-ltb, le-ltb}
 use Rattle.nr_xdr.specs.Item.{word}
 use Rattle.nr_link.specs.declared.end.End.{End}
@@ -74,6 +74,3 @@ accepted_answer r call form plan xid lives is a = planned_answer r call form pla
 pub refused_answer : (r : RequesterState) (call : Call) (form : Form) (plan : Plan) → r.side.ended ≡ None → plan_under r call form ≡ Ok plan → (why : Refused) → (why ≢ refusals.Memory → answer_for r (regions_needed plan) ≡ submissions.Refused why) →
     why ≢ refusals.Memory → answer_of r call form ≡ submissions.Refused why
 refused_answer r call form plan lives is why a other = planned_answer r call form plan lives is ∙ a other
-
-pub given_some : (p : Option (List ℕ)) (bytes : List ℕ) (P : List ℕ → Type 0) → p ≡ Some bytes → IfSome p P → P bytes
-given_some p bytes P is h = subst (λ (o : Option (List ℕ)). IfSome o P) is h

@@ -40,7 +40,7 @@ use Rattle.nr_reduce.specs.ClientMessages.{ReplyVerdict, reply_verdict}
 use Rattle.nr_reduce.specs.ClientMessages.ReplyVerdict.{EndsLink, GivesOutcome}
 use Rattle.nr_reduce.specs.Client.{client_rules, client_end, client_output, client_state_after, client_readiness, end_of_verdict, client_message_end, segment_message, or_message_end, with_segment, with_message, with_request, with_hello, due_with_response, response_output, segment_request, calls_output, credits_of_word}
 use Rattle.nr_reduce.specs.KeptCalls.{KeptCall, kept_verdict}
-use Rattle.nr_reduce.specs.KeptClient.{KeptClient, ClientKeeps, MemoryKeeps, bytes_under, released_all, without, kept_completed, kept_placed, kept_received, kept_by_message, stags_for as kept_stags}
+use Rattle.nr_reduce.specs.KeptClient.{KeptClient, ClientKeeps, bytes_under, released_all, without, kept_completed, kept_placed, kept_received, kept_by_message, stags_for as kept_stags}
 use Rattle.nr_reduce.proofs.Touches.{AreNone, all_none, no_flaw}
 use Rattle.nr_reduce.proofs.WholeWrotes.{client_due}
 use Rattle.nr_reduce.proofs.Keeping.{kept_judges, kept_responds}
@@ -267,9 +267,6 @@ completed_is r message xid outcome s ended memory =
 -- ---- A frame that doesn't end the side of the link
 
 module _ (opened : LinkParameters) (r : RequesterState) (k : ClientState) (count : ℕ) (f : Frame) (keeps : Kept opened r k count) (lt : count < f.end) (later : r.side.place ≢ 0) where
-  memory_is : MemoryKeeps r.side.memory k count
-  memory_is = keeps.client.memory refl
-
   hello : r.side.has_hello ≡ true
   hello = keeps.side.has_hello ∙ has_greeted opened r.side k keeps.side later
 

@@ -46,14 +46,6 @@ unfolding after_register
 next_buffer m right true bytes = refl
 next_buffer m right false bytes = omega arith
 
-pub next_offered : (m : RegisteredMemory) (p : Plan) → (with_offered m (offered_of p)).next ≡ m.next + regions_needed p
-unfolding regions_needed
-next_offered m p =
-    let a = next_buffer m Fetch (has_segment (Some p.read)) p.region in
-    let b = next_buffer (with_read m (offered_of p)) Fill (has_segment p.write) (replicate (total p.write) 0) in
-    let c = next_buffer (with_write_buffer m (offered_of p)) Fill (has_segment p.reply) (replicate (total p.reply) 0) in
-    omega (arith, a, b, c)
-
 count_one : (b : Bool) (bytes : List ℕ) → one_of (some_if b bytes) ≡ one_if b
 count_one true bytes = refl
 count_one false bytes = refl
@@ -65,6 +57,11 @@ count_offered p =
     let b = count_one (has_segment p.write) (replicate (total p.write) 0) in
     let c = count_one (has_segment p.reply) (replicate (total p.reply) 0) in
     omega (arith, a, b, c)
+
+-- the buffers of a plan, one by one
+pub offered_parts : (p : Plan) (read write reply : Option (List ℕ)) → read ≡ some_if (has_segment (Some p.read)) p.region → write ≡ some_if (has_segment p.write) (replicate (total p.write) 0) → reply ≡ some_if (has_segment p.reply) (replicate (total p.reply) 0) →
+    record { read = read; write = write; reply = reply } ≡ offered_of p
+offered_parts p read write reply a b d = λ i. record { read = a i; write = b i; reply = d i }
 
 -- ---- Its STags
 

@@ -1,24 +1,19 @@
 -- What the code keeps after a call, as the definitions see it.
-use Rattle.std.proofs.Common.{◌≡◌, ℕ, ◌+◌, ◌^◌, ◌≤◌, Bool, List, [], ◌∷◌, ◌++◌, length, take, map, Some, refl, sym, ap, subst, ◌∙◌}
+use Rattle.std.proofs.Common.{◌≡◌, ℕ, ◌^◌, ◌≤◌, Bool, List, [], ◌∷◌, ◌++◌, length, take, refl, sym, ap, subst, ◌∙◌}
 use Rattle.std.specs.Prelude.{IfOk, IfErr, OnOk, Option, Result, Ok, Err}
 use Rattle.std.specs.Io.KnownBytes.{Appends}
 use Rattle.nr_wire.specs.declared.hello.Side.TheVariants.{Initiator}
 use Rattle.nr_endpoint.specs.SendQueue.{writable}
 use Rattle.nr_reduce.specs.declared.mark.Mark.TheVariants as marks
-use Rattle.nr_header.specs.declared.header.ChunkLists.{ChunkLists}
-use Rattle.nr_endpoint.specs.declared.offering.Claims.{Claims}
 use Rattle.nr_endpoint.specs.LinkState.{LinkSide, has_ended}
-use Rattle.nr_endpoint.specs.Calls.{after_call, with_state}
+use Rattle.nr_endpoint.specs.Calls.{after_call}
 use Rattle.nr_endpoint.specs.Calls.Call.{Drain}
-use Rattle.nr_reduce.specs.declared.call.Call.{Call}
-use Rattle.nr_reduce.specs.declared.outline.Plan.{Plan}
 use Rattle.nr_reduce.specs.declared.mark.LinkParameters.{LinkParameters}
-use Rattle.nr_reduce.specs.Plans.{buffers, call_message, lists_of}
 use Rattle.nr_requester.specs.declared.outstanding.OutstandingCall.{OutstandingCall}
-use Rattle.nr_requester.specs.RequesterState.{StoredCall, RequesterSide, queue_of}
+use Rattle.nr_requester.specs.RequesterState.{RequesterSide, queue_of}
 use Rattle.nr_requester.specs.Standing.{RequesterRepresents, RequesterRunsOut, StandsOn, StaysOut}
-use Rattle.nr_requester.specs.AfterCalls.{opened_as, stored_call, submitted, after_submit, sent_unless, after_drain}
-use Rattle.nr_requester.specs.Views.{stags_of, stored_view, requester_view}
+use Rattle.nr_requester.specs.AfterCalls.{opened_as, sent_unless, after_drain}
+use Rattle.nr_requester.specs.Views.{requester_view}
 use Rattle.nr_requester.proofs.Marks.{begins, drain_is_a_mark}
 
 pub if_ok : {T E : Type 0} {P Q : T → Type 0} (r : Result T E) → ((t : T) → P t → Q t) → IfOk r P → IfOk r Q
@@ -79,37 +74,3 @@ drain_taken h link link2 sent sent2 wished first xid grant n items had has r is 
       (λ opened link stopped run out. subst (λ (x : RequesterSide). RequesterRunsOut opened link x stopped (run ++ marks.Wrote link Initiator (take n (queue_of here.state)) ∷ [])) (sym view) (mark.1 opened link stopped run out)),
       all,
     )
-
--- ---- After an accepted call
-
-map_one : (xs : List OutstandingCall) (o : OutstandingCall) → map stored_view (xs ++ o ∷ []) ≡ map stored_view xs ++ stored_view o ∷ []
-map_one [] o = refl
-map_one (x ∷ xs) o = ap (λ (ks : List StoredCall). stored_view x ∷ ks) (map_one xs o)
-
-pub sent_view : (h : RequesterSide) (link link2 : LinkSide) (sent wished first xid grant : ℕ) (call : Call) (p : Plan) (lists : ChunkLists) (claims : Claims) (items items2 : List OutstandingCall) →
-    requester_view link sent wished first xid grant items ≡ h → lists ≡ lists_of link.state.memory.next p → stags_of claims ≡ map (λ b. b.stag) (buffers link.state.memory.next p) →
-    link2 ≡ with_state (submitted link.state (call_message xid wished link.state.memory.next p) (buffers link.state.memory.next p)) link →
-    items2 ≡ items ++ record { xid = xid; call = Some call; offered = lists; claims = claims } ∷ [] →
-    requester_view link2 sent wished first (xid + 1) grant items2 ≡ after_submit h call p
-sent_view h link link2 sent wished first xid grant call p lists claims items items2 is lists_are stags link_is items_are =
-    (λ i. requester_view (link_is i) sent wished first (xid + 1) grant (items_are i))
-    ∙ (λ i. record {
-      awaited = link.awaited;
-      rest = link.rest;
-      state = record {
-        side = submitted link.state (call_message xid wished link.state.memory.next p) (buffers link.state.memory.next p);
-        sent = sent;
-        wished = wished;
-        first_xid = first;
-        next_xid = xid + 1;
-        grant = grant;
-        outstanding = kept_are i;
-      };
-    })
-    ∙ ap (λ (x : RequesterSide). after_submit x call p) is
-  where
-    one : stored_view (record { xid = xid; call = Some call; offered = lists; claims = claims }) ≡ stored_call xid call p link.state.memory.next
-    one = λ i. record { xid = xid; call = Some call; offered = lists_are i; stags = stags i }
-
-    kept_are : map stored_view (items ++ record { xid = xid; call = Some call; offered = lists; claims = claims } ∷ []) ≡ map stored_view items ++ stored_call xid call p link.state.memory.next ∷ []
-    kept_are = map_one items (record { xid = xid; call = Some call; offered = lists; claims = claims }) ∙ ap (λ (k : StoredCall). map stored_view items ++ k ∷ []) one

@@ -6,9 +6,8 @@ ghost use Rattle.nr_reduce.specs.ClientState.{call_payload};
 ghost use Rattle.nr_reduce.specs.Plans.{segments_from, entries_from, has_segment, one_if, read_list, write_list, reply_chunk, lists_of, read_stag, write_stag, reply_stag, regions_needed, call_message, total, body_by};
 ghost use Rattle.nr_header.specs.declared.header.ChunkLists.{ChunkLists};
 ghost use Rattle.nr_header.specs.Header.{header_encoding, lists_body, ChunksFit};
-ghost use Rattle.nr_requester.specs.Sending.{AreFew, offered_of, some_if};
+ghost use Rattle.nr_requester.specs.Sending.{AreFew, some_if};
 
-use nr_endpoint::Offered;
 use nr_header::{
     Chunk, ChunkLists, RdmaSegment, ReadList, ReadSegment, WriteList, write_with_lists,
 };
@@ -243,7 +242,7 @@ fn sum_of(lengths: &[u32]) -> u64
 }
 
 /// A buffer of zeros for a chunk, if it has a segment.
-fn zeros(alloc: Global, lengths: &Option<Lengths>) -> Result<Option<Octets>, Memory>
+pub fn zeros(alloc: Global, lengths: &Option<Lengths>) -> Result<Option<Octets>, Memory>
     requires few { IfSome lengths.now (λ lengths. length lengths < 2 ^ 31) }
     ensures { IfOk result (λ o. o ≡ some_if (has_segment lengths.now) (replicate (total lengths.now) 0)) }
 {
@@ -258,25 +257,12 @@ fn zeros(alloc: Global, lengths: &Option<Lengths>) -> Result<Option<Octets>, Mem
     Ok(Some(Octets::from_vec(vec![in alloc; 0u8; len]?)))
 }
 
-fn some_region(plan: Plan) -> Option<Octets>
+/// The bytes of the read chunk's region, if it has a segment.
+pub fn some_region(plan: Plan) -> Option<Octets>
     ensures { result ≡ some_if (has_segment (Some plan.read)) plan.region }
 {
     if plan.read.is_empty() {
         return None;
     }
     Some(plan.region)
-}
-
-/// The buffers that a plan offers.
-pub fn offered_of(alloc: Global, plan: Plan) -> Result<Offered, Memory>
-    requires { AreFew plan }
-    ensures { IfOk result (λ o. o ≡ offered_of plan) }
-{
-    let write = zeros(alloc, &plan.write)?;
-    let reply = zeros(alloc, &plan.reply)?;
-    Ok(Offered {
-        read: some_region(plan),
-        write,
-        reply,
-    })
 }

@@ -1,21 +1,21 @@
 //! A call is submitted.
 
-ghost use Rattle.std.specs.Prelude.{◌≡◌, ◌≢◌, ℕ, ◌+◌, ◌^◌, ◌<◌, ◌≤◌, map, length, None, Ok, IfOk, IfErr, OnOk, OnErr, MatchOption};
+ghost use Rattle.std.specs.Prelude.{◌≡◌, ◌≢◌, ℕ, ◌+◌, ◌^◌, ◌<◌, ◌≤◌, map, length, replicate, None, Ok, IfOk, IfErr, OnOk, OnErr, MatchOption};
 ghost use Rattle.nr_rpc.specs.Credential.{CanWriteCred};
 ghost use Rattle.nr_endpoint.specs.Calls.{with_state};
 ghost use Rattle.nr_endpoint.specs.LinkState.{LinkSide};
-ghost use Rattle.nr_reduce.specs.Plans.{buffers, regions_needed, call_message, lists_of};
+ghost use Rattle.nr_reduce.specs.Plans.{buffers, has_segment, total, regions_needed, call_message, lists_of};
 ghost use Rattle.nr_reduce.specs.declared.call.Refused.TheVariants as refusals;
 ghost use Rattle.nr_reduce.specs.declared.call.Submission.TheVariants as submissions;
 ghost use Rattle.nr_reduce.specs.declared.mark.Mark.TheVariants as marks;
 ghost use Rattle.nr_requester.specs.AfterCalls.{submitted, after_submit};
 ghost use Rattle.nr_requester.specs.Answers.{answer_of, answer_by_plan, plan_under, WasSent};
-ghost use Rattle.nr_requester.specs.Sending.{AreFew, IsPlan, HasNumbers, answer_for, offered_of, xid_word};
+ghost use Rattle.nr_requester.specs.Sending.{AreFew, IsPlan, HasNumbers, answer_for, some_if, xid_word};
 ghost use Rattle.nr_requester.specs.HeldClaims.{SentHeld, IsOfferOf};
 ghost use Rattle.nr_requester.specs.Standing.{StandsOn};
 ghost use Rattle.nr_requester.specs.Views.{stags_of};
 
-use crate::messages::{call_bytes, lists_of, message_of, offered_of, regions_needed};
+use crate::messages::{call_bytes, lists_of, message_of, regions_needed, some_region, zeros};
 use crate::outstanding::OutstandingCall;
 use crate::requester::Requester;
 use crate::ticket::Ticket;
@@ -31,12 +31,13 @@ const SEND_MAX: u32 = 1024;
 /// How many numbers there are.
 const NUMBERS_END: u64 = 4294967296;
 
-/// What goes out with a call.
+/// What goes out with a call, but for the bytes of its read chunk.
 #[derive(Drop)]
 pub struct Prepared {
     pub message: Octets,
     pub lists: ChunkLists,
-    pub offered: Offered,
+    pub write: Option<Octets>,
+    pub reply: Option<Octets>,
 }
 
 /// What is kept of a call that went out: its lists and its regions.
@@ -46,18 +47,20 @@ pub struct Sent {
     pub claims: Claims,
 }
 
-fn prepare(alloc: Global, xid: u32, credit: u32, stag: u64, plan: Plan) -> Result<Prepared, Memory>
-    requires few { AreFew plan }
-    requires stags { stag + regions_needed plan ≤ 2 ^ 32 }
-    ensures { IfOk result (λ p. p ≡ record { message = call_message xid credit stag plan; lists = lists_of stag plan; offered = offered_of plan }) }
+fn prepare(alloc: Global, xid: u32, credit: u32, stag: u64, plan: &Plan) -> Result<Prepared, Memory>
+    requires few { AreFew plan.now }
+    requires stags { stag + regions_needed plan.now ≤ 2 ^ 32 }
+    ensures { IfOk result (λ p. p ≡ record { message = call_message xid credit stag plan.now; lists = lists_of stag plan.now; write = some_if (has_segment plan.now.write) (replicate (total plan.now.write) 0); reply = some_if (has_segment plan.now.reply) (replicate (total plan.now.reply) 0) }) }
 {
-    let lists = lists_of(alloc, stag, &plan)?;
-    let message = message_of(alloc, xid, credit, &plan, &lists)?;
-    let offered = offered_of(alloc, plan)?;
+    let write = zeros(alloc, &plan.write)?;
+    let reply = zeros(alloc, &plan.reply)?;
+    let lists = lists_of(alloc, stag, plan)?;
+    let message = message_of(alloc, xid, credit, plan, &lists)?;
     Ok(Prepared {
         message,
         lists,
-        offered,
+        write,
+        reply,
     })
 }
 
@@ -83,8 +86,14 @@ fn send_plan(
     let Prepared {
         message,
         lists,
-        offered,
-    } = prepare(alloc, xid, credit, stag, plan)?;
+        write,
+        reply,
+    } = prepare(alloc, xid, credit, stag, &plan)?;
+    let offered = Offered {
+        read: some_region(plan),
+        write,
+        reply,
+    };
     match endpoint.offer(message.as_slice(), offered) {
         Ok(claims) => Ok(Sent { lists, claims }),
         Err(_) => Err(Memory),
