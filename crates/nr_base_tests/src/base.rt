@@ -2,7 +2,7 @@
 
 use crate::compare::{Want, again, bytes_of, encoded_as, row_gives, same};
 use nr_nfs_base::*;
-use nr_xdr::{Memory, Octets, Reader, Writer};
+use nr_xdr::{Memory, Octets, Reader, RoomWriter};
 use std::alloc::Global;
 use std::process::Abort;
 
@@ -231,7 +231,7 @@ fn values_are_made_and_taken_apart(rt: HostRuntime) {
 
 /// An enumeration and four other values, one after the other.
 fn five_values(alloc: Global) -> Result<Octets, Memory> {
-    let writer = write_numbered(FileType::Lnk, Writer::new(alloc))?;
+    let writer = write_numbered(FileType::Lnk, RoomWriter::new(alloc))?;
     Ok(write_four(&true, &false, &1u32, &2u64, writer)?.finish())
 }
 

@@ -1,4 +1,4 @@
-//! Heads and headers that are written from borrowed parts, without a value of their own.
+//! Heads, headers and results that are written from borrowed parts, without a value of their own.
 
 ghost use Rattle.nr_header.specs.Header.{ChunksFit};
 
@@ -7,7 +7,10 @@ use nr_header::{
     ChunkLists, InlineVec, ReadSegment, TransportError, header_len, lengths_of_headers,
     read_list_len, reply_chunk_len, write_chunk_len, write_error, write_plain, write_with_lists,
 };
+use nr_nfs_base::StatusUnion;
+use nr_nfs_res::{ReadOkRef, write_read_res};
 use nr_rpc::{CallTarget, Cred, write_call_head, write_call_of};
+use nr_xdr::RoomWriter;
 use std::alloc::Global;
 use std::process::Abort;
 
@@ -27,6 +30,22 @@ fn call_of_a_borrowed_credential(rt: HostRuntime) {
     let head = write_call_head(rt.alloc(), target, &cred).expect(&rt, "memory");
     let words = &[1, 0, 2, 100_003, 3, 4, 6, 0, 0, 0];
     same(&rt, 1, head.into_vec(), bytes_of(&rt, rt.alloc(), words));
+}
+
+// RFC 1813 section 3.3.6: status 0, no attributes, a count of 2, the end of the file, and the data.
+#[test]
+fn results_of_read_with_borrowed_data(rt: HostRuntime) {
+    let done = ReadOkRef::new(None, 2, true, b"hi");
+    same(&rt, 0, done.bytes().len(), 2);
+    let results = StatusUnion::Done(done);
+    let written = write_read_res(&results, RoomWriter::new(rt.alloc())).expect(&rt, "memory");
+    let words = &[0, 0, 2, 1, 2, 0x6869_0000];
+    same(
+        &rt,
+        1,
+        written.finish().into_vec(),
+        bytes_of(&rt, rt.alloc(), words),
+    );
 }
 
 #[test]

@@ -6,7 +6,7 @@ ghost use Rattle.nr_rpc.specs.Reply.{CanWriteReply};
 
 use crate::compare::{bytes_of, put_words, same};
 use nr_rpc::*;
-use nr_xdr::Octets;
+use nr_xdr::{Memory, Octets, RoomWriter};
 use std::alloc::Global;
 use std::process::Abort;
 
@@ -481,6 +481,19 @@ fn reply_written_as(rt: &impl Abort, alloc: Global, row: usize, head: [u32; 4], 
     want.extend_from_slice(b"hi").expect(rt, "memory");
     let written = write_reply(alloc, &reply_head(head), b"hi").expect(rt, "memory");
     same(rt, row, written.into_vec(), want);
+}
+
+/// A reply head in room of its length.
+fn head_in_room(alloc: Global, head: [u32; 4], size: usize) -> Result<Octets, Memory> {
+    let writer = RoomWriter::with_room(alloc, size)?;
+    Ok(write_reply_head(writer, &reply_head(head))?.finish())
+}
+
+#[test]
+fn a_reply_head_in_room(rt: HostRuntime) {
+    let head = head_in_room(rt.alloc(), [0, 7, 5, 0], 24).expect(&rt, "memory");
+    let want = bytes_of(&rt, rt.alloc(), &[7, 1, 0, 0, 0, 5]);
+    same(&rt, 0, head.into_vec(), want);
 }
 
 #[test]

@@ -31,6 +31,29 @@ fn items_are_written(rt: HostRuntime) {
     same(&rt, 0, writer.finish().as_slice(), ITEMS.as_slice());
 }
 
+/// The items of `ITEMS` up to the last, one behind the other, in room for all but the data of the fourth.
+fn items_in_room(alloc: Global) -> Result<Octets, Memory> {
+    let mut writer = RoomWriter::with_room(alloc, 20)?;
+    writer.u32(100_003)?;
+    writer.u64(0x0102_0304_0506_0708)?;
+    writer.boolean(true)?;
+    writer.opaque(b"a.txt")?;
+    Ok(writer.finish())
+}
+
+#[test]
+fn items_are_written_into_room(rt: HostRuntime) {
+    let bytes = items_in_room(rt.alloc()).expect(&rt, "memory");
+    same(&rt, 0, bytes.as_slice(), &ITEMS[..28]);
+    same(&rt, 1, RoomWriter::new(rt.alloc()).finish().len(), 0);
+    same(
+        &rt,
+        2,
+        [pad_len(0), pad_len(1), pad_len(4), pad_len(7)],
+        [0, 3, 0, 1],
+    );
+}
+
 /// The numbers at the front.
 fn numbers(reader: &mut Reader<'_>) -> Result<(u32, u64, bool), ItemFault> {
     Ok((reader.u32()?, reader.u64()?, reader.boolean()?))

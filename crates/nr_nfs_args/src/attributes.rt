@@ -5,7 +5,7 @@ ghost use Rattle.nr_nfs_args.specs.Attributes.{access_args_codec, access_args_la
 use nr_nfs_base::{
     Attributes, Handle, SetAttributes, Time, ValueFault, Xdr, write_three, write_two,
 };
-use nr_xdr::{Memory, Reader, Writer};
+use nr_xdr::{Memory, Reader, RoomWriter};
 use std::alloc::Global;
 
 /// The arguments of GETATTR (RFC 1813 section 3.3.1).
@@ -28,7 +28,7 @@ impl Xdr for GetattrArgs {
         Ok((GetattrArgs { object }, reader))
     }
 
-    fn write_to(&self, writer: Writer) -> Result<Writer, Memory> {
+    fn write_to(&self, writer: RoomWriter) -> Result<RoomWriter, Memory> {
         self.object.write_to(writer)
     }
 }
@@ -66,7 +66,7 @@ impl Xdr for SetattrArgs {
         ))
     }
 
-    fn write_to(&self, writer: Writer) -> Result<Writer, Memory> {
+    fn write_to(&self, writer: RoomWriter) -> Result<RoomWriter, Memory> {
         write_three(&self.object, &self.attributes, &self.guard, writer)
     }
 }
@@ -93,7 +93,7 @@ impl Xdr for AccessArgs {
         Ok((AccessArgs { object, access }, reader))
     }
 
-    fn write_to(&self, writer: Writer) -> Result<Writer, Memory> {
+    fn write_to(&self, writer: RoomWriter) -> Result<RoomWriter, Memory> {
         write_two(&self.object, &self.access, writer)
     }
 }

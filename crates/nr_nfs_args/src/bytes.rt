@@ -6,7 +6,7 @@ use nr_nfs_base::{
     Data, Handle, ReadArgsFront, StableHow, ValueFault, WriteArgsFront, Xdr, write_four,
     write_three, write_two,
 };
-use nr_xdr::{Memory, Reader, Writer};
+use nr_xdr::{Memory, Reader, RoomWriter};
 use std::alloc::Global;
 
 /// The arguments of READ (RFC 1813 section 3.3.6).
@@ -40,7 +40,7 @@ impl Xdr for ReadArgs {
         ))
     }
 
-    fn write_to(&self, writer: Writer) -> Result<Writer, Memory> {
+    fn write_to(&self, writer: RoomWriter) -> Result<RoomWriter, Memory> {
         let writer = write_two(&self.file, &self.offset, writer)?;
         self.count.write_to(writer)
     }
@@ -80,7 +80,7 @@ impl Xdr for WriteArgs {
         Ok((value, reader))
     }
 
-    fn write_to(&self, writer: Writer) -> Result<Writer, Memory> {
+    fn write_to(&self, writer: RoomWriter) -> Result<RoomWriter, Memory> {
         let writer = write_four(&self.file, &self.offset, &self.count, &self.stable, writer)?;
         self.bytes.write_to(writer)
     }
@@ -117,7 +117,7 @@ impl Xdr for CommitArgs {
         ))
     }
 
-    fn write_to(&self, writer: Writer) -> Result<Writer, Memory> {
+    fn write_to(&self, writer: RoomWriter) -> Result<RoomWriter, Memory> {
         write_three(&self.file, &self.offset, &self.count, writer)
     }
 }

@@ -6,7 +6,7 @@ ghost use Rattle.nr_nfs_base.specs.SetAttributes.{set_attributes_codec};
 
 use crate::create_mode::CreateMode;
 use nr_nfs_base::{Handle, Name, SetAttributes, ValueFault, Verifier, Xdr, write_three, write_two};
-use nr_xdr::{Memory, Reader, Writer};
+use nr_xdr::{Memory, Reader, RoomWriter};
 use std::alloc::Global;
 
 /// How a file is created (RFC 1813 section 3.3.8, `createhow3`).
@@ -41,7 +41,7 @@ impl Xdr for CreateHow {
         }
     }
 
-    fn write_to(&self, writer: Writer) -> Result<Writer, Memory> {
+    fn write_to(&self, writer: RoomWriter) -> Result<RoomWriter, Memory> {
         match self {
             CreateHow::Unchecked(value) => { write_two(&CreateMode::Unchecked, value, writer) }
             CreateHow::Guarded(value) => { write_two(&CreateMode::Guarded, value, writer) }
@@ -88,7 +88,7 @@ impl Xdr for CreateArgs {
         Ok((CreateArgs { dir, name, how }, reader))
     }
 
-    fn write_to(&self, writer: Writer) -> Result<Writer, Memory> {
+    fn write_to(&self, writer: RoomWriter) -> Result<RoomWriter, Memory> {
         write_three(&self.dir, &self.name, &self.how, writer)
     }
 }
@@ -124,7 +124,7 @@ impl Xdr for MkdirArgs {
         ))
     }
 
-    fn write_to(&self, writer: Writer) -> Result<Writer, Memory> {
+    fn write_to(&self, writer: RoomWriter) -> Result<RoomWriter, Memory> {
         write_three(&self.dir, &self.name, &self.attributes, writer)
     }
 }

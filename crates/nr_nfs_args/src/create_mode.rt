@@ -3,7 +3,7 @@
 ghost use Rattle.nr_nfs_args.specs.CreateMode.{create_mode_codec, create_mode_lawful, create_mode_number, create_modes, each_create_mode};
 
 use nr_nfs_base::{Numbered, ValueFault, Xdr, read_numbered, write_numbered};
-use nr_xdr::{Memory, Reader, Writer};
+use nr_xdr::{Memory, Reader, RoomWriter};
 use std::alloc::Global;
 
 /// How a file is created (RFC 1813 section 3.3.8, `createmode3`).
@@ -51,7 +51,7 @@ impl Xdr for CreateMode {
         read_numbered(alloc, reader)
     }
 
-    fn write_to(&self, writer: Writer) -> Result<Writer, Memory> {
+    fn write_to(&self, writer: RoomWriter) -> Result<RoomWriter, Memory> {
         write_numbered(*self, writer)
     }
 }

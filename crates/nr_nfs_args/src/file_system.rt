@@ -3,7 +3,7 @@
 ghost use Rattle.nr_nfs_args.specs.FileSystem.{fsinfo_args_codec, fsinfo_args_lawful, fsstat_args_codec, fsstat_args_lawful, pathconf_args_codec, pathconf_args_lawful};
 
 use nr_nfs_base::{Handle, ValueFault, Xdr};
-use nr_xdr::{Memory, Reader, Writer};
+use nr_xdr::{Memory, Reader, RoomWriter};
 use std::alloc::Global;
 
 /// The arguments of FSSTAT (RFC 1813 section 3.3.18).
@@ -26,7 +26,7 @@ impl Xdr for FsstatArgs {
         Ok((FsstatArgs { fsroot }, reader))
     }
 
-    fn write_to(&self, writer: Writer) -> Result<Writer, Memory> {
+    fn write_to(&self, writer: RoomWriter) -> Result<RoomWriter, Memory> {
         self.fsroot.write_to(writer)
     }
 }
@@ -51,7 +51,7 @@ impl Xdr for FsinfoArgs {
         Ok((FsinfoArgs { fsroot }, reader))
     }
 
-    fn write_to(&self, writer: Writer) -> Result<Writer, Memory> {
+    fn write_to(&self, writer: RoomWriter) -> Result<RoomWriter, Memory> {
         self.fsroot.write_to(writer)
     }
 }
@@ -76,7 +76,7 @@ impl Xdr for PathconfArgs {
         Ok((PathconfArgs { object }, reader))
     }
 
-    fn write_to(&self, writer: Writer) -> Result<Writer, Memory> {
+    fn write_to(&self, writer: RoomWriter) -> Result<RoomWriter, Memory> {
         self.object.write_to(writer)
     }
 }

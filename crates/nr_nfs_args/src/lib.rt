@@ -21,6 +21,7 @@ mod null;
 mod readdir;
 mod remove;
 mod special;
+mod write_args_ref;
 
 pub use attributes::{AccessArgs, GetattrArgs, SetattrArgs};
 pub use bytes::{CommitArgs, ReadArgs, WriteArgs};
@@ -34,3 +35,4 @@ pub use null::NullArgs;
 pub use readdir::{ReaddirArgs, ReaddirplusArgs};
 pub use remove::{LinkArgs, RemoveArgs, RenameArgs, RmdirArgs};
 pub use special::{DeviceData, MknodArgs, MknodData, SymlinkArgs};
+pub use write_args_ref::WriteArgsRef;

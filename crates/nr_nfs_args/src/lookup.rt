@@ -3,7 +3,7 @@
 ghost use Rattle.nr_nfs_args.specs.Lookup.{lookup_args_codec, lookup_args_lawful, readlink_args_codec, readlink_args_lawful};
 
 use nr_nfs_base::{Handle, Name, ValueFault, Xdr, write_two};
-use nr_xdr::{Memory, Reader, Writer};
+use nr_xdr::{Memory, Reader, RoomWriter};
 use std::alloc::Global;
 
 /// The arguments of LOOKUP (RFC 1813 section 3.3.3).
@@ -27,7 +27,7 @@ impl Xdr for LookupArgs {
         Ok((LookupArgs { dir, name }, reader))
     }
 
-    fn write_to(&self, writer: Writer) -> Result<Writer, Memory> {
+    fn write_to(&self, writer: RoomWriter) -> Result<RoomWriter, Memory> {
         write_two(&self.dir, &self.name, writer)
     }
 }
@@ -52,7 +52,7 @@ impl Xdr for ReadlinkArgs {
         Ok((ReadlinkArgs { symlink }, reader))
     }
 
-    fn write_to(&self, writer: Writer) -> Result<Writer, Memory> {
+    fn write_to(&self, writer: RoomWriter) -> Result<RoomWriter, Memory> {
         self.symlink.write_to(writer)
     }
 }

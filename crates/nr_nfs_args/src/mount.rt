@@ -3,7 +3,7 @@
 ghost use Rattle.nr_nfs_args.specs.Mount.{mnt_args_codec, mnt_args_lawful, umnt_args_codec, umnt_args_lawful, umntall_args_codec, umntall_args_lawful};
 
 use nr_nfs_base::{MountPath, ValueFault, Xdr};
-use nr_xdr::{Memory, Reader, Writer};
+use nr_xdr::{Memory, Reader, RoomWriter};
 use std::alloc::Global;
 
 /// The arguments of MNT (RFC 1813 section 5.2.1).
@@ -26,7 +26,7 @@ impl Xdr for MntArgs {
         Ok((MntArgs { dirpath }, reader))
     }
 
-    fn write_to(&self, writer: Writer) -> Result<Writer, Memory> {
+    fn write_to(&self, writer: RoomWriter) -> Result<RoomWriter, Memory> {
         self.dirpath.write_to(writer)
     }
 }
@@ -51,7 +51,7 @@ impl Xdr for UmntArgs {
         Ok((UmntArgs { dirpath }, reader))
     }
 
-    fn write_to(&self, writer: Writer) -> Result<Writer, Memory> {
+    fn write_to(&self, writer: RoomWriter) -> Result<RoomWriter, Memory> {
         self.dirpath.write_to(writer)
     }
 }
@@ -73,7 +73,7 @@ impl Xdr for UmntallArgs {
         Ok((UmntallArgs, reader))
     }
 
-    fn write_to(&self, writer: Writer) -> Result<Writer, Memory> {
+    fn write_to(&self, writer: RoomWriter) -> Result<RoomWriter, Memory> {
         Ok(writer)
     }
 }

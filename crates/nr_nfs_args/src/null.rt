@@ -3,7 +3,7 @@
 ghost use Rattle.nr_nfs_args.specs.Null.{null_args_codec, null_args_lawful};
 
 use nr_nfs_base::{ValueFault, Xdr};
-use nr_xdr::{Memory, Reader, Writer};
+use nr_xdr::{Memory, Reader, RoomWriter};
 use std::alloc::Global;
 
 /// The arguments of NULL of NFS and of MOUNT: none (RFC 1813 sections 3.3.0 and 5.2.0).
@@ -23,7 +23,7 @@ impl Xdr for NullArgs {
         Ok((NullArgs, reader))
     }
 
-    fn write_to(&self, writer: Writer) -> Result<Writer, Memory> {
+    fn write_to(&self, writer: RoomWriter) -> Result<RoomWriter, Memory> {
         Ok(writer)
     }
 }

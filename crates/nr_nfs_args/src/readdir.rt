@@ -6,7 +6,7 @@ use nr_nfs_base::{
     Handle, ReaddirArgsFront, ReaddirplusArgsFront, ValueFault, Verifier, Xdr, write_four,
     write_three,
 };
-use nr_xdr::{Memory, Reader, Writer};
+use nr_xdr::{Memory, Reader, RoomWriter};
 use std::alloc::Global;
 
 /// The arguments of READDIR (RFC 1813 section 3.3.16).
@@ -43,7 +43,7 @@ impl Xdr for ReaddirArgs {
         ))
     }
 
-    fn write_to(&self, writer: Writer) -> Result<Writer, Memory> {
+    fn write_to(&self, writer: RoomWriter) -> Result<RoomWriter, Memory> {
         let writer = write_three(&self.dir, &self.cookie, &self.verifier, writer)?;
         self.count.write_to(writer)
     }
@@ -84,7 +84,7 @@ impl Xdr for ReaddirplusArgs {
         Ok((value, reader))
     }
 
-    fn write_to(&self, writer: Writer) -> Result<Writer, Memory> {
+    fn write_to(&self, writer: RoomWriter) -> Result<RoomWriter, Memory> {
         let writer = write_four(
             &self.dir,
             &self.cookie,

@@ -3,7 +3,7 @@
 ghost use Rattle.nr_nfs_args.specs.Remove.{link_args_codec, link_args_lawful, remove_args_codec, remove_args_lawful, rename_args_codec, rename_args_lawful, rmdir_args_codec, rmdir_args_lawful};
 
 use nr_nfs_base::{Handle, Name, ValueFault, Xdr, write_four, write_three, write_two};
-use nr_xdr::{Memory, Reader, Writer};
+use nr_xdr::{Memory, Reader, RoomWriter};
 use std::alloc::Global;
 
 /// The arguments of REMOVE (RFC 1813 section 3.3.12).
@@ -27,7 +27,7 @@ impl Xdr for RemoveArgs {
         Ok((RemoveArgs { dir, name }, reader))
     }
 
-    fn write_to(&self, writer: Writer) -> Result<Writer, Memory> {
+    fn write_to(&self, writer: RoomWriter) -> Result<RoomWriter, Memory> {
         write_two(&self.dir, &self.name, writer)
     }
 }
@@ -53,7 +53,7 @@ impl Xdr for RmdirArgs {
         Ok((RmdirArgs { dir, name }, reader))
     }
 
-    fn write_to(&self, writer: Writer) -> Result<Writer, Memory> {
+    fn write_to(&self, writer: RoomWriter) -> Result<RoomWriter, Memory> {
         write_two(&self.dir, &self.name, writer)
     }
 }
@@ -92,7 +92,7 @@ impl Xdr for RenameArgs {
         ))
     }
 
-    fn write_to(&self, writer: Writer) -> Result<Writer, Memory> {
+    fn write_to(&self, writer: RoomWriter) -> Result<RoomWriter, Memory> {
         write_four(
             &self.from_dir,
             &self.from_name,
@@ -125,7 +125,7 @@ impl Xdr for LinkArgs {
         Ok((LinkArgs { file, dir, name }, reader))
     }
 
-    fn write_to(&self, writer: Writer) -> Result<Writer, Memory> {
+    fn write_to(&self, writer: RoomWriter) -> Result<RoomWriter, Memory> {
         write_three(&self.file, &self.dir, &self.name, writer)
     }
 }

@@ -8,7 +8,7 @@ use nr_nfs_base::{
     FileType, Handle, Name, Path, SetAttributes, SpecialData, SymlinkArgsFront, ValueFault, Xdr,
     write_three, write_two,
 };
-use nr_xdr::{Memory, Reader, Writer};
+use nr_xdr::{Memory, Reader, RoomWriter};
 use std::alloc::Global;
 
 /// The arguments of SYMLINK (RFC 1813 section 3.3.10).
@@ -43,7 +43,7 @@ impl Xdr for SymlinkArgs {
         ))
     }
 
-    fn write_to(&self, writer: Writer) -> Result<Writer, Memory> {
+    fn write_to(&self, writer: RoomWriter) -> Result<RoomWriter, Memory> {
         let writer = write_three(&self.dir, &self.name, &self.attributes, writer)?;
         self.path.write_to(writer)
     }
@@ -72,7 +72,7 @@ impl Xdr for DeviceData {
         Ok((DeviceData { attributes, device }, reader))
     }
 
-    fn write_to(&self, writer: Writer) -> Result<Writer, Memory> {
+    fn write_to(&self, writer: RoomWriter) -> Result<RoomWriter, Memory> {
         write_two(&self.attributes, &self.device, writer)
     }
 }
@@ -119,7 +119,7 @@ impl Xdr for MknodData {
         }
     }
 
-    fn write_to(&self, writer: Writer) -> Result<Writer, Memory> {
+    fn write_to(&self, writer: RoomWriter) -> Result<RoomWriter, Memory> {
         match self {
             MknodData::Reg => FileType::Reg.write_to(writer),
             MknodData::Dir => FileType::Dir.write_to(writer),
@@ -188,7 +188,7 @@ impl Xdr for MknodArgs {
         Ok((MknodArgs { dir, name, what }, reader))
     }
 
-    fn write_to(&self, writer: Writer) -> Result<Writer, Memory> {
+    fn write_to(&self, writer: RoomWriter) -> Result<RoomWriter, Memory> {
         write_three(&self.dir, &self.name, &self.what, writer)
     }
 }

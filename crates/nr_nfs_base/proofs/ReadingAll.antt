@@ -7,6 +7,7 @@ use Rattle.nr_xdr.proofs.Chains.{standing, each_takes, each_between, encodings_r
 use Rattle.nr_xdr.specs.Item.{Item, IsBytes}
 use Rattle.nr_xdr.specs.Items.{ReadsAll, TakesAll, encodings}
 use Rattle.nr_xdr.specs.Reading.{Cursor}
+use Rattle.nr_xdr.specs.Room.{Room}
 use Rattle.nr_nfs_base.specs.declared.fault.ValueFault.{ValueFault}
 use Rattle.nr_nfs_base.specs.declared.fault.ValueFault.TheVariants as faults
 use Rattle.nr_nfs_base.specs.Codec.{Codec, Lawful, ReadsAs, start, value_at_end, read_all, Answers, AppendsValue}
@@ -49,9 +50,9 @@ is_only c l bytes (Err faults.Memory) v e s = refl
 is_only c l bytes (Err (faults.Bad at)) v e s = absurd (let wrong = sym e ∙ only_all c l bytes v s in cc)
 
 -- what was written is read as the value
-pub written_is_read : {A : Type 0} (c : Codec A) (v : A) (old new bytes : List ℕ) → old ≡ [] → bytes ≡ new → AppendsValue c old v new → ReadsAs c v bytes
+pub written_is_read : {A : Type 0} (c : Codec A) (v : A) (old new : Room) (bytes : List ℕ) → old ≡ record { bytes = []; left = 0 } → bytes ≡ new.bytes → AppendsValue c old v new → ReadsAs c v bytes
 written_is_read c v old new bytes none same w =
-    let is : bytes ≡ encodings (c.items v) = same ∙ w.is ∙ ap (λ (b : List ℕ). b ++ encodings (c.items v)) none in
+    let is : bytes ≡ encodings (c.items v) = same ∙ w.appended.is ∙ ap (λ (r : Room). r.bytes ++ encodings (c.items v)) none in
     (w.fits, subst (λ (b : List ℕ). ReadsAll (c.items v) b) (sym is) (encodings_read (c.items v) w.items_fit))
 
 -- what is read at the front of some bytes

@@ -1,8 +1,10 @@
 -- How the values of a type are encoded as a sequence of items, and how they are read (RFC 4506).
-use Rattle.std.specs.Prelude.{◌≡◌, ℕ, zero, suc, ◌≤◌, Bool, true, false, List, [], ◌∷◌, ◌++◌, length, Option, Some, None, is_some, Result, Ok, Err, ◌==◌, if◌then◌else◌}
+use Rattle.std.specs.Prelude.{◌≡◌, ℕ, zero, suc, ◌<◌, ◌≤◌, Bool, true, false, List, [], ◌∷◌, ◌++◌, length, Option, Some, None, is_some, Result, Ok, Err, ◌==◌, if◌then◌else◌}
 use Rattle.std.specs.List.{flat_map, find, AllByRecursion}
 use Rattle.nr_xdr.specs.Item.{Item, IsBytes}
 use Rattle.nr_xdr.specs.Item.Item.{Unsigned, Hyper, Boolean, Opaque}
+use Rattle.nr_xdr.specs.declared.fault.Memory.{Memory}
+use Rattle.nr_xdr.specs.Room.{Room, Appended}
 use Rattle.nr_xdr.specs.Items.{AllFit, encodings, ReadsAll, TakesAll}
 use Rattle.nr_xdr.specs.Reading.{Cursor, unsigned_at, hyper_at, boolean_at, opaque_at}
 use Rattle.nr_xdr.specs.Sequencing.{◌>>=◌, or_place}
@@ -196,15 +198,24 @@ cursor_after (Err at) = None
 
 -- ---- Results of calls
 
--- The new bytes are the old ones and the encoding of these items. Each item has an encoding, and P holds.
-pub record AppendsItems (old new : List ℕ) (items : List Item) (P : Type 0) : Type 0 where
-  pub is : new ≡ old ++ encodings items
+-- The encoding of these items was appended. Each item has an encoding, and P holds.
+pub record AppendsItems (old new : Room) (items : List Item) (P : Type 0) : Type 0 where
+  pub appended : Appended old new (encodings items)
   pub items_fit : AllFit items
   pub fits : P
 
--- the new bytes are the old ones and the encoding of the value, which is within its limits
-abbrev pub AppendsValue : {A : Type 0} → Codec A → List ℕ → A → List ℕ → Type 0
+-- the encoding of the value, which is within its limits, was appended
+abbrev pub AppendsValue : {A : Type 0} → Codec A → Room → A → Room → Type 0
 AppendsValue c old v new = AppendsItems old new (c.items v) (c.fits v)
+
+-- the result of writing these items: they are appended, or there was no room for them
+abbrev pub WritesItems : Room → List Item → Type 0 → Result Room Memory → Type 0
+WritesItems old items P (Ok new) = AppendsItems old new items P
+WritesItems old items P (Err e) = old.left < length (encodings items)
+
+-- the same of a value
+abbrev pub WritesValue : {A : Type 0} → Codec A → Room → A → Result Room Memory → Type 0
+WritesValue c old v result = WritesItems old (c.items v) (c.fits v) result
 
 -- The result is what is read, or want of memory.
 abbrev pub Answers : {A : Type 0} → Result A ValueFault → Result A ℕ → Type 0

@@ -2,12 +2,12 @@
 
 ghost use Rattle.std.specs.Prelude.{◌≡◌, ◌∷◌, [], ◌++◌, ◌+◌, ◌^◌, ◌<◌, length, IfOk};
 ghost use Rattle.std.specs.List.{flat_map, AllByRecursion};
-ghost use Rattle.nr_nfs_base.specs.Codec.{array, values_read, Answers, AppendsItems, PushesValues};
+ghost use Rattle.nr_nfs_base.specs.Codec.{array, values_read, Answers, WritesItems, PushesValues};
 ghost use Rattle.nr_nfs_base.specs.Laws.{array_lawful};
 
 use crate::fault::ValueFault;
 use crate::xdr::Xdr;
-use nr_xdr::{Memory, Reader, Writer};
+use nr_xdr::{Memory, Reader, RoomWriter};
 use std::alloc::Global;
 use std::marker::Model;
 
@@ -68,7 +68,7 @@ impl<T: Xdr> Xdr for Array<T> {
         read_values(alloc, count, reader)
     }
 
-    fn write_to(&self, writer: Writer) -> Result<Writer, Memory> {
+    fn write_to(&self, writer: RoomWriter) -> Result<RoomWriter, Memory> {
         let values = self.as_slice();
         let count = values.len() as u32;
         let writer = count.write_to(writer)?;
@@ -109,8 +109,8 @@ fn push_values<'a, T: Xdr>(
 }
 
 /// Writes the values, one after the other.
-fn write_values<T: Xdr>(values: &[T], writer: Writer) -> Result<Writer, Memory>
-    ensures { IfOk result (λ bytes. AppendsItems writer bytes (flat_map T.codec.items values.now) (AllByRecursion T.codec.fits values.now)) }
+fn write_values<T: Xdr>(values: &[T], writer: RoomWriter) -> Result<RoomWriter, Memory>
+    ensures { WritesItems writer (flat_map T.codec.items values.now) (AllByRecursion T.codec.fits values.now) result }
 {
     let mut writer = writer;
     for value in values {

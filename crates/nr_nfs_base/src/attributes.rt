@@ -7,7 +7,7 @@ use crate::file_type::FileType;
 use crate::pair::write_two;
 use crate::time::Time;
 use crate::xdr::Xdr;
-use nr_xdr::{Memory, Reader, Writer};
+use nr_xdr::{Memory, Reader, RoomWriter};
 use std::alloc::Global;
 
 /// The device that a special file stands for (RFC 1813 section 2.5, `specdata3`).
@@ -31,7 +31,7 @@ impl Xdr for SpecialData {
         Ok((SpecialData { major, minor }, reader))
     }
 
-    fn write_to(&self, writer: Writer) -> Result<Writer, Memory> {
+    fn write_to(&self, writer: RoomWriter) -> Result<RoomWriter, Memory> {
         write_two(&self.major, &self.minor, writer)
     }
 }
@@ -100,7 +100,7 @@ impl Xdr for Attributes {
         Ok((value, reader))
     }
 
-    fn write_to(&self, writer: Writer) -> Result<Writer, Memory> {
+    fn write_to(&self, writer: RoomWriter) -> Result<RoomWriter, Memory> {
         let times = (self.atime, (self.mtime, self.ctime));
         let numbers = (
             self.size,

@@ -5,7 +5,7 @@ ghost use Rattle.nr_nfs_base.specs.FileType.{each_file_type, file_type_codec, fi
 use crate::fault::ValueFault;
 use crate::numbered::{Numbered, read_numbered, write_numbered};
 use crate::xdr::Xdr;
-use nr_xdr::{Memory, Reader, Writer};
+use nr_xdr::{Memory, Reader, RoomWriter};
 use std::alloc::Global;
 
 /// What a file is (RFC 1813 section 2.5, `ftype3`).
@@ -65,7 +65,7 @@ impl Xdr for FileType {
         read_numbered(alloc, reader)
     }
 
-    fn write_to(&self, writer: Writer) -> Result<Writer, Memory> {
+    fn write_to(&self, writer: RoomWriter) -> Result<RoomWriter, Memory> {
         write_numbered(*self, writer)
     }
 }

@@ -14,7 +14,7 @@ use crate::skip::{Skip, skip_numbered};
 use crate::stable::StableHow;
 use crate::verifier::Verifier;
 use crate::xdr::Xdr;
-use nr_xdr::{Memory, Reader, Writer};
+use nr_xdr::{Memory, Reader, RoomWriter};
 use std::alloc::Global;
 
 /// The arguments of WRITE before the data (RFC 1813 section 3.3.7): file, offset, count and stable.
@@ -71,7 +71,7 @@ impl Xdr for Success {
         read_numbered(alloc, reader)
     }
 
-    fn write_to(&self, writer: Writer) -> Result<Writer, Memory> {
+    fn write_to(&self, writer: RoomWriter) -> Result<RoomWriter, Memory> {
         write_numbered(*self, writer)
     }
 }

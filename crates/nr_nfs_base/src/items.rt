@@ -5,11 +5,11 @@ ghost use Rattle.nr_nfs_base.specs.Laws.{word_lawful, hyper_lawful, boolean_lawf
 
 use crate::fault::ValueFault;
 use crate::xdr::Xdr;
-use nr_xdr::{Memory, Reader, Writer};
+use nr_xdr::{Memory, Reader, RoomWriter};
 use std::alloc::Global;
 
 /// An unsigned integer (RFC 4506 section 4.2).
-#[tactic(auto, using(crate::proofs::Appending::appends_one), unfolding(crate::specs::Codec::word))]
+#[tactic(auto, using(crate::proofs::Appending::appends_one, crate::proofs::Appending::lacks_one), unfolding(crate::specs::Codec::word))]
 impl Xdr for u32 {
     ghost codec = { word };
 
@@ -23,14 +23,14 @@ impl Xdr for u32 {
         Ok((number, reader))
     }
 
-    fn write_to(&self, mut writer: Writer) -> Result<Writer, Memory> {
+    fn write_to(&self, mut writer: RoomWriter) -> Result<RoomWriter, Memory> {
         writer.u32(*self)?;
         Ok(writer)
     }
 }
 
 /// An unsigned hyper integer (RFC 4506 section 4.5).
-#[tactic(auto, using(crate::proofs::Appending::appends_one), unfolding(crate::specs::Codec::hyper))]
+#[tactic(auto, using(crate::proofs::Appending::appends_one, crate::proofs::Appending::lacks_one), unfolding(crate::specs::Codec::hyper))]
 impl Xdr for u64 {
     ghost codec = { hyper };
 
@@ -44,14 +44,14 @@ impl Xdr for u64 {
         Ok((number, reader))
     }
 
-    fn write_to(&self, mut writer: Writer) -> Result<Writer, Memory> {
+    fn write_to(&self, mut writer: RoomWriter) -> Result<RoomWriter, Memory> {
         writer.u64(*self)?;
         Ok(writer)
     }
 }
 
 /// A boolean (RFC 4506 section 4.4).
-#[tactic(auto, using(crate::proofs::Appending::appends_one), unfolding(crate::specs::Codec::boolean))]
+#[tactic(auto, using(crate::proofs::Appending::appends_one, crate::proofs::Appending::lacks_one), unfolding(crate::specs::Codec::boolean))]
 impl Xdr for bool {
     ghost codec = { boolean };
 
@@ -65,7 +65,7 @@ impl Xdr for bool {
         Ok((flag, reader))
     }
 
-    fn write_to(&self, mut writer: Writer) -> Result<Writer, Memory> {
+    fn write_to(&self, mut writer: RoomWriter) -> Result<RoomWriter, Memory> {
         writer.boolean(*self)?;
         Ok(writer)
     }
@@ -81,7 +81,7 @@ impl Xdr for () {
         Ok(((), reader))
     }
 
-    fn write_to(&self, writer: Writer) -> Result<Writer, Memory> {
+    fn write_to(&self, writer: RoomWriter) -> Result<RoomWriter, Memory> {
         Ok(writer)
     }
 }

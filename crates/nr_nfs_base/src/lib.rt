@@ -61,7 +61,7 @@ pub use linked_list::LinkedList;
 pub use mount_status::MountStatus;
 pub use names::{Data, HANDLE_MAX, Handle, MOUNT_PATH_MAX, MountPath, Name, Path, UNLIMITED};
 pub use numbered::{Failure, Numbered, read_numbered, write_numbered};
-pub use opaque::Opaque;
+pub use opaque::{Opaque, write_opaque};
 pub use pair::{write_four, write_three, write_two};
 pub use procedure::{
     MOUNT_PROGRAM, MOUNT_VERSION, MountProcedure, NFS_PROGRAM, NFS_VERSION, NfsProcedure,

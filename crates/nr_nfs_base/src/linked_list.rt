@@ -1,12 +1,12 @@
 //! Linked lists.
 
 ghost use Rattle.std.specs.Prelude.{◌≡◌, [], ◌∷◌, ◌++◌, IfOk};
-ghost use Rattle.nr_nfs_base.specs.Codec.{linked_list, linked_list_read, Answers, AppendsValue, PushesNext, PushesValues, optional};
+ghost use Rattle.nr_nfs_base.specs.Codec.{linked_list, linked_list_read, Answers, WritesValue, PushesNext, PushesValues, optional};
 ghost use Rattle.nr_nfs_base.specs.Laws.{linked_list_lawful};
 
 use crate::fault::ValueFault;
 use crate::xdr::Xdr;
-use nr_xdr::{Memory, Reader, Writer};
+use nr_xdr::{Memory, Reader, RoomWriter};
 use std::alloc::Global;
 use std::marker::Model;
 
@@ -70,7 +70,7 @@ impl<T: Xdr> Xdr for LinkedList<T> {
         read_values(alloc, most, reader)
     }
 
-    fn write_to(&self, writer: Writer) -> Result<Writer, Memory> {
+    fn write_to(&self, writer: RoomWriter) -> Result<RoomWriter, Memory> {
         write_values(self.as_slice(), writer)
     }
 }
@@ -127,8 +127,8 @@ fn push_next<'a, T: Xdr>(
 }
 
 /// Writes the values, and the 0 behind them.
-fn write_values<T: Xdr>(values: &[T], writer: Writer) -> Result<Writer, Memory>
-    ensures { IfOk result (AppendsValue (linked_list T.codec) writer values.now) }
+fn write_values<T: Xdr>(values: &[T], writer: RoomWriter) -> Result<RoomWriter, Memory>
+    ensures { WritesValue (linked_list T.codec) writer values.now result }
 {
     let mut writer = writer;
     for value in values {

@@ -1,11 +1,11 @@
 //! Enumerations.
 
-ghost use Rattle.std.specs.Prelude.{◌≡◌, ◌==◌, false, ℕ, List, Some, IfOk};
-ghost use Rattle.nr_nfs_base.specs.Codec.{value_with_number, enumeration, Answers, AppendsValue};
+ghost use Rattle.std.specs.Prelude.{◌≡◌, ◌==◌, false, ℕ, List, Some};
+ghost use Rattle.nr_nfs_base.specs.Codec.{value_with_number, enumeration, Answers, WritesValue};
 
 use crate::fault::ValueFault;
 use crate::xdr::Xdr;
-use nr_xdr::{Memory, Reader, Writer};
+use nr_xdr::{Memory, Reader, RoomWriter};
 use std::alloc::Global;
 
 /// An enumeration (RFC 4506 section 4.3): each value has a number, and no other number is a value.
@@ -52,8 +52,8 @@ pub fn read_numbered<'a, T: Numbered>(
 
 /// Writes the number of a value.
 #[tactic(auto, unfolding(crate::specs::Codec::enumeration))]
-pub fn write_numbered<T: Numbered>(value: T, writer: Writer) -> Result<Writer, Memory>
-    ensures { IfOk result (AppendsValue (enumeration T.number T.all) writer value) }
+pub fn write_numbered<T: Numbered>(value: T, writer: RoomWriter) -> Result<RoomWriter, Memory>
+    ensures { WritesValue (enumeration T.number T.all) writer value result }
 {
     value.number().write_to(writer)
 }

@@ -1,12 +1,12 @@
 //! Opaque data of a bounded length.
 
 ghost use Rattle.std.specs.Prelude.{◌≡◌, ◌≤◌, length, IfOk};
-ghost use Rattle.nr_nfs_base.specs.Codec.{opaque};
+ghost use Rattle.nr_nfs_base.specs.Codec.{opaque, WritesValue};
 ghost use Rattle.nr_nfs_base.specs.Laws.{opaque_lawful};
 
 use crate::fault::ValueFault;
 use crate::xdr::Xdr;
-use nr_xdr::{Memory, Octets, Reader, Writer};
+use nr_xdr::{Memory, Octets, Reader, RoomWriter};
 use std::alloc::Global;
 use std::marker::Model;
 
@@ -62,7 +62,7 @@ impl<const MAX: u32> Opaque<MAX> {
     }
 }
 
-#[tactic(auto, using(crate::proofs::Appending::appends_one), unfolding(crate::specs::Codec::opaque))]
+#[tactic(auto, unfolding(crate::specs::Codec::opaque))]
 impl<const MAX: u32> Xdr for Opaque<MAX> {
     ghost codec = { opaque MAX };
 
@@ -77,8 +77,18 @@ impl<const MAX: u32> Xdr for Opaque<MAX> {
         Ok((Opaque { bytes }, reader))
     }
 
-    fn write_to(&self, mut writer: Writer) -> Result<Writer, Memory> {
-        writer.opaque(self.as_slice())?;
-        Ok(writer)
+    fn write_to(&self, writer: RoomWriter) -> Result<RoomWriter, Memory> {
+        write_opaque::<MAX>(self.as_slice(), writer)
     }
+}
+
+/// Writes opaque data of at most `MAX` bytes, which are borrowed.
+#[tactic(auto, using(crate::proofs::Appending::appends_one, crate::proofs::Appending::lacks_one), unfolding(crate::specs::Codec::opaque))]
+pub fn write_opaque<const MAX: u32>(bytes: &[u8], writer: RoomWriter) -> Result<RoomWriter, Memory>
+    requires { length bytes.now ≤ MAX }
+    ensures { WritesValue (opaque MAX) writer bytes.now result }
+{
+    let mut writer = writer;
+    writer.opaque(bytes)?;
+    Ok(writer)
 }

@@ -5,7 +5,7 @@ ghost use Rattle.nr_nfs_base.specs.Laws.{optional_lawful};
 
 use crate::fault::ValueFault;
 use crate::xdr::Xdr;
-use nr_xdr::{Memory, Reader, Writer};
+use nr_xdr::{Memory, Reader, RoomWriter};
 use std::alloc::Global;
 
 /// Optional data (RFC 4506 section 4.19): a flag, and the value where the flag is 1.
@@ -28,7 +28,7 @@ impl<T: Xdr> Xdr for Option<T> {
         }
     }
 
-    fn write_to(&self, writer: Writer) -> Result<Writer, Memory> {
+    fn write_to(&self, writer: RoomWriter) -> Result<RoomWriter, Memory> {
         match self {
             None => false.write_to(writer),
             Some(value) => {

@@ -1,12 +1,11 @@
 //! Values one after the other.
 
-ghost use Rattle.std.specs.Prelude.{IfOk};
-ghost use Rattle.nr_nfs_base.specs.Codec.{AppendsValue, ◌⊗◌, ◌&◌};
+ghost use Rattle.nr_nfs_base.specs.Codec.{WritesValue, ◌⊗◌, ◌&◌};
 ghost use Rattle.nr_nfs_base.specs.Laws.{◌⊠◌};
 
 use crate::fault::ValueFault;
 use crate::xdr::Xdr;
-use nr_xdr::{Memory, Reader, Writer};
+use nr_xdr::{Memory, Reader, RoomWriter};
 use std::alloc::Global;
 
 /// Two values, one after the other (RFC 4506 section 4.14). The fields of a structure are read as nested pairs.
@@ -24,14 +23,14 @@ impl<A: Xdr, B: Xdr> Xdr for (A, B) {
         Ok(((a, b), reader))
     }
 
-    fn write_to(&self, writer: Writer) -> Result<Writer, Memory> {
+    fn write_to(&self, writer: RoomWriter) -> Result<RoomWriter, Memory> {
         write_two(&self.0, &self.1, writer)
     }
 }
 
 /// Writes two values, one after the other.
-pub fn write_two<A: Xdr, B: Xdr>(a: &A, b: &B, writer: Writer) -> Result<Writer, Memory>
-    ensures { IfOk result (AppendsValue (A.codec ⊗ B.codec) writer (a.now & b.now)) }
+pub fn write_two<A: Xdr, B: Xdr>(a: &A, b: &B, writer: RoomWriter) -> Result<RoomWriter, Memory>
+    ensures { WritesValue (A.codec ⊗ B.codec) writer (a.now & b.now) result }
 {
     let writer = a.write_to(writer)?;
     b.write_to(writer)
@@ -42,9 +41,9 @@ pub fn write_three<A: Xdr, B: Xdr, C: Xdr>(
     a: &A,
     b: &B,
     c: &C,
-    writer: Writer,
-) -> Result<Writer, Memory>
-    ensures { IfOk result (AppendsValue (A.codec ⊗ B.codec ⊗ C.codec) writer (a.now & b.now & c.now)) }
+    writer: RoomWriter,
+) -> Result<RoomWriter, Memory>
+    ensures { WritesValue (A.codec ⊗ B.codec ⊗ C.codec) writer (a.now & b.now & c.now) result }
 {
     let writer = a.write_to(writer)?;
     write_two(b, c, writer)
@@ -56,9 +55,9 @@ pub fn write_four<A: Xdr, B: Xdr, C: Xdr, D: Xdr>(
     b: &B,
     c: &C,
     d: &D,
-    writer: Writer,
-) -> Result<Writer, Memory>
-    ensures { IfOk result (AppendsValue (A.codec ⊗ B.codec ⊗ C.codec ⊗ D.codec) writer (a.now & b.now & c.now & d.now)) }
+    writer: RoomWriter,
+) -> Result<RoomWriter, Memory>
+    ensures { WritesValue (A.codec ⊗ B.codec ⊗ C.codec ⊗ D.codec) writer (a.now & b.now & c.now & d.now) result }
 {
     let writer = a.write_to(writer)?;
     write_three(b, c, d, writer)

@@ -7,7 +7,7 @@ use crate::numbered::{Numbered, read_numbered, write_numbered};
 use crate::pair::write_two;
 use crate::time::Time;
 use crate::xdr::Xdr;
-use nr_xdr::{Memory, Reader, Writer};
+use nr_xdr::{Memory, Reader, RoomWriter};
 use std::alloc::Global;
 
 /// How a time is to be set (RFC 1813 section 2.5, `time_how`).
@@ -52,7 +52,7 @@ impl Xdr for TimeHow {
         read_numbered(alloc, reader)
     }
 
-    fn write_to(&self, writer: Writer) -> Result<Writer, Memory> {
+    fn write_to(&self, writer: RoomWriter) -> Result<RoomWriter, Memory> {
         write_numbered(*self, writer)
     }
 }
@@ -89,7 +89,7 @@ impl Xdr for SetTime {
         }
     }
 
-    fn write_to(&self, writer: Writer) -> Result<Writer, Memory> {
+    fn write_to(&self, writer: RoomWriter) -> Result<RoomWriter, Memory> {
         match self {
             SetTime::Leave => TimeHow::DontChange.write_to(writer),
             SetTime::ServerTime => TimeHow::SetToServerTime.write_to(writer),
@@ -141,7 +141,7 @@ impl Xdr for SetAttributes {
         Ok((value, reader))
     }
 
-    fn write_to(&self, writer: Writer) -> Result<Writer, Memory> {
+    fn write_to(&self, writer: RoomWriter) -> Result<RoomWriter, Memory> {
         let times = (self.atime, self.mtime);
         let parts = (self.mode, (self.uid, (self.gid, (self.size, times))));
         parts.write_to(writer)

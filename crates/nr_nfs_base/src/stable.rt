@@ -5,7 +5,7 @@ ghost use Rattle.nr_nfs_base.specs.Stable.{each_stable_how, stable_how_codec, st
 use crate::fault::ValueFault;
 use crate::numbered::{Numbered, read_numbered, write_numbered};
 use crate::xdr::Xdr;
-use nr_xdr::{Memory, Reader, Writer};
+use nr_xdr::{Memory, Reader, RoomWriter};
 use std::alloc::Global;
 
 /// What is on stable storage after a WRITE (RFC 1813 section 3.3.7, `stable_how`).
@@ -53,7 +53,7 @@ impl Xdr for StableHow {
         read_numbered(alloc, reader)
     }
 
-    fn write_to(&self, writer: Writer) -> Result<Writer, Memory> {
+    fn write_to(&self, writer: RoomWriter) -> Result<RoomWriter, Memory> {
         write_numbered(*self, writer)
     }
 }

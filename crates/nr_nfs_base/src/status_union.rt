@@ -8,7 +8,7 @@ use crate::fault::ValueFault;
 use crate::numbered::{Failure, Numbered, read_numbered, write_numbered};
 use crate::status::Status;
 use crate::xdr::Xdr;
-use nr_xdr::{Memory, Reader, Writer};
+use nr_xdr::{Memory, Reader, RoomWriter};
 use std::alloc::Global;
 
 /// The results of a procedure: one part on success, or the status of a failure and another part (RFC 1813 section 3.3, the unions over `nfsstat3`; section 5.2.1, that over `mountstat3`).
@@ -63,7 +63,7 @@ impl<D: Xdr, F: Xdr, S: Failure> Xdr for StatusUnion<D, F, S> {
         }
     }
 
-    fn write_to(&self, writer: Writer) -> Result<Writer, Memory> {
+    fn write_to(&self, writer: RoomWriter) -> Result<RoomWriter, Memory> {
         match self {
             StatusUnion::Done(done) => {
                 let writer = write_numbered(None::<S>, writer)?;

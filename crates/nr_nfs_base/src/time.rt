@@ -5,7 +5,7 @@ ghost use Rattle.nr_nfs_base.specs.Time.{time_codec, time_lawful};
 use crate::fault::ValueFault;
 use crate::pair::write_two;
 use crate::xdr::Xdr;
-use nr_xdr::{Memory, Reader, Writer};
+use nr_xdr::{Memory, Reader, RoomWriter};
 use std::alloc::Global;
 
 /// A time: seconds and nanoseconds since the start of 1970 (RFC 1813 section 2.5, `nfstime3`).
@@ -33,7 +33,7 @@ impl Xdr for Time {
         ))
     }
 
-    fn write_to(&self, writer: Writer) -> Result<Writer, Memory> {
+    fn write_to(&self, writer: RoomWriter) -> Result<RoomWriter, Memory> {
         write_two(&self.seconds, &self.nanoseconds, writer)
     }
 }

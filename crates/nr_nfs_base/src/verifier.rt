@@ -4,7 +4,7 @@ ghost use Rattle.nr_nfs_base.specs.Verifier.{verifier_codec, verifier_lawful};
 
 use crate::fault::ValueFault;
 use crate::xdr::Xdr;
-use nr_xdr::{Memory, Reader, Writer};
+use nr_xdr::{Memory, Reader, RoomWriter};
 use std::alloc::Global;
 
 /// Eight opaque bytes by which a server recognizes its own earlier state, or a repeated call (RFC 1813 section 2.5,
@@ -28,7 +28,7 @@ impl Xdr for Verifier {
         Ok((Verifier { number }, reader))
     }
 
-    fn write_to(&self, writer: Writer) -> Result<Writer, Memory> {
+    fn write_to(&self, writer: RoomWriter) -> Result<RoomWriter, Memory> {
         self.number.write_to(writer)
     }
 }

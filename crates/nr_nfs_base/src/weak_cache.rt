@@ -7,7 +7,7 @@ use crate::fault::ValueFault;
 use crate::pair::{write_three, write_two};
 use crate::time::Time;
 use crate::xdr::Xdr;
-use nr_xdr::{Memory, Reader, Writer};
+use nr_xdr::{Memory, Reader, RoomWriter};
 use std::alloc::Global;
 
 /// The attributes by which a client sees that a cached file has changed (RFC 1813 section 2.5, `wcc_attr`).
@@ -33,7 +33,7 @@ impl Xdr for WccAttributes {
         Ok((WccAttributes { size, mtime, ctime }, reader))
     }
 
-    fn write_to(&self, writer: Writer) -> Result<Writer, Memory> {
+    fn write_to(&self, writer: RoomWriter) -> Result<RoomWriter, Memory> {
         write_three(&self.size, &self.mtime, &self.ctime, writer)
     }
 }
@@ -61,7 +61,7 @@ impl Xdr for WccData {
         Ok((WccData { before, after }, reader))
     }
 
-    fn write_to(&self, writer: Writer) -> Result<Writer, Memory> {
+    fn write_to(&self, writer: RoomWriter) -> Result<RoomWriter, Memory> {
         write_two(&self.before, &self.after, writer)
     }
 }

@@ -1,12 +1,12 @@
 //! The trait of all values that are read and written.
 
 ghost use Rattle.std.specs.Prelude.{◌≡◌, IfOk, MatchResult};
-ghost use Rattle.nr_nfs_base.specs.Codec.{Codec, Lawful, Answers, AppendsValue, ReadsAs, read_all};
+ghost use Rattle.nr_nfs_base.specs.Codec.{Codec, Lawful, Answers, WritesValue, ReadsAs, read_all};
 ghost use Rattle.nr_xdr.specs.Items.{encodings};
 ghost use Rattle.nr_nfs_base.specs.declared.fault.ValueFault.TheVariants.{Memory as memory};
 
 use crate::fault::ValueFault;
-use nr_xdr::{Memory, Octets, Reader, Writer};
+use nr_xdr::{Memory, Octets, Reader, RoomWriter};
 use std::alloc::Global;
 
 /// A value that is encoded as items of XDR (RFC 4506).
@@ -22,9 +22,10 @@ pub trait Xdr: Drop {
     fn read_from<'a>(alloc: Global, reader: Reader<'a>) -> Result<(Self, Reader<'a>), ValueFault>
         ensures exact { Answers result (codec.read reader.entry) };
 
-    /// Appends the items that encode the value, each of which is within its limits.
-    fn write_to(&self, writer: Writer) -> Result<Writer, Memory>
-        ensures ok { IfOk result (AppendsValue codec writer self.now) };
+    /// Appends the items that encode the value, each of which is within its limits. Fails only if the writer has no room for
+    /// them.
+    fn write_to(&self, writer: RoomWriter) -> Result<RoomWriter, Memory>
+        ensures exact { WritesValue codec writer self.now result };
 
     /// Reading and encoding are inverse, whatever the pad bytes are.
     ghost lawful: { Lawful codec };
@@ -49,7 +50,7 @@ pub trait Xdr: Drop {
         // The bytes are read as the value.
         ensures reading { IfOk result (λ bytes. ReadsAs codec self.now bytes) }
     {
-        Ok(self.write_to(Writer::new(alloc))?.finish())
+        Ok(self.write_to(RoomWriter::new(alloc))?.finish())
     }
 }
 

@@ -3,7 +3,7 @@
 ghost use Rattle.nr_nfs_res.specs.Attributes.{access_ok_codec, access_ok_lawful};
 
 use nr_nfs_base::{Attributes, StatusUnion, ValueFault, WccData, Xdr, write_two};
-use nr_xdr::{Memory, Reader, Writer};
+use nr_xdr::{Memory, Reader, RoomWriter};
 use std::alloc::Global;
 
 /// The results of SETATTR (RFC 1813 section 3.3.2).
@@ -34,7 +34,7 @@ impl Xdr for AccessOk {
         Ok((AccessOk { attributes, access }, reader))
     }
 
-    fn write_to(&self, writer: Writer) -> Result<Writer, Memory> {
+    fn write_to(&self, writer: RoomWriter) -> Result<RoomWriter, Memory> {
         write_two(&self.attributes, &self.access, writer)
     }
 }

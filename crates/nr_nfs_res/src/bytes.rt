@@ -1,13 +1,17 @@
 //! READ, WRITE and COMMIT.
 
+ghost use Rattle.std.specs.Prelude.{◌≡◌, ◌^◌, ◌<◌, length};
+ghost use Rattle.nr_nfs_base.specs.Codec.{WritesValue};
+ghost use Rattle.nr_nfs_res.specs.Results.{read_res_codec};
 ghost use Rattle.nr_nfs_res.specs.Bytes.{commit_ok_codec, commit_ok_lawful, read_ok_codec, read_ok_lawful, write_ok_codec, write_ok_lawful};
 
 use nr_nfs_base::{
-    Attributes, Data, ReadOkFront, StableHow, StatusUnion, ValueFault, Verifier, WccData, Xdr,
-    write_four, write_two,
+    Attributes, Data, ReadOkFront, StableHow, Status, StatusUnion, UNLIMITED, ValueFault, Verifier,
+    WccData, Xdr, write_four, write_numbered, write_opaque, write_two,
 };
-use nr_xdr::{Memory, Reader, Writer};
+use nr_xdr::{Memory, Reader, RoomWriter};
 use std::alloc::Global;
+use std::marker::Model;
 
 /// The results of READ on success (RFC 1813 section 3.3.6).
 #[derive(Drop)]
@@ -43,7 +47,7 @@ impl Xdr for ReadOk {
         ))
     }
 
-    fn write_to(&self, writer: Writer) -> Result<Writer, Memory> {
+    fn write_to(&self, writer: RoomWriter) -> Result<RoomWriter, Memory> {
         let front = (self.attributes, (self.count, self.eof));
         write_two(&front, &self.bytes, writer)
     }
@@ -51,6 +55,83 @@ impl Xdr for ReadOk {
 
 /// The results of READ (RFC 1813 section 3.3.6).
 pub type ReadRes = StatusUnion<ReadOk, Option<Attributes>>;
+
+/// The results of READ on success with borrowed data, to be written (RFC 1813 section 3.3.6). Contracts see a `ReadOk`.
+#[derive(Drop)]
+pub struct ReadOkRef<'a> {
+    attributes: Option<Attributes>,
+    count: u32,
+    eof: bool,
+    bytes: &'a [u8],
+}
+
+impl<'a> Model for ReadOkRef<'a> {
+    ghost use Rattle.std.specs.Prelude.{◌^◌, ◌<◌, length};
+    ghost use Rattle.nr_nfs_res.specs.declared.bytes.ReadOk.{ReadOk};
+
+    ghost Value = { ReadOk };
+
+    ghost view = { λ r. record { attributes = r.attributes; count = r.count; eof = r.eof; bytes = r.bytes.now } };
+
+    ghost invariant = { λ r. length r.bytes.now < 2 ^ 32 };
+}
+
+impl<'a> ReadOkRef<'a> {
+    /// The results with these fields. `count`: in bytes. `eof`: the data reaches the end of the file.
+    pub fn new(
+        attributes: Option<Attributes>,
+        count: u32,
+        eof: bool,
+        bytes: &'a [u8],
+    ) -> ReadOkRef<'a>
+        requires { length bytes.now < 2 ^ 32 }
+        ensures { result ≡ record { attributes = attributes; count = count; eof = eof; bytes = bytes.now } }
+    {
+        ReadOkRef {
+            attributes,
+            count,
+            eof,
+            bytes,
+        }
+    }
+
+    /// The data.
+    pub fn bytes(&self) -> &'a [u8]
+        ensures { result.now ≡ self.now.bytes }
+    {
+        self.bytes
+    }
+
+    /// Appends the items that encode the results, as `ReadOk::write_to` does.
+    #[tactic(auto, unfolding(crate::specs::Bytes::read_ok_codec))]
+    fn write_to(&self, writer: RoomWriter) -> Result<RoomWriter, Memory>
+        ensures { WritesValue read_ok_codec writer self.now result }
+    {
+        let fields = (self.attributes, (self.count, self.eof));
+        let writer = fields.write_to(writer)?;
+        write_opaque::<UNLIMITED>(self.bytes, writer)
+    }
+}
+
+/// The results of READ with borrowed data (RFC 1813 section 3.3.6).
+pub type ReadResRef<'a> = StatusUnion<ReadOkRef<'a>, Option<Attributes>>;
+
+/// Appends the items that encode the results, as `ReadRes::write_to` does: the data are copied once.
+#[tactic(auto, unfolding(nr_nfs_base::specs::StatusUnion::status_union_codec))]
+pub fn write_read_res(results: &ReadResRef<'_>, writer: RoomWriter) -> Result<RoomWriter, Memory>
+    ensures { WritesValue read_res_codec writer results.now result }
+{
+    match results {
+        StatusUnion::Done(done) => {
+            let writer = write_numbered(None::<Status>, writer)?;
+            done.write_to(writer)
+        }
+        StatusUnion::Failed { status, part } => {
+            let writer = write_numbered(Some(*status), writer)?;
+            part.write_to(writer)
+        }
+    }
+}
 
 /// The results of WRITE on success (RFC 1813 section 3.3.7).
 #[derive(Clone, Copy)]
@@ -87,7 +168,7 @@ impl Xdr for WriteOk {
         ))
     }
 
-    fn write_to(&self, writer: Writer) -> Result<Writer, Memory> {
+    fn write_to(&self, writer: RoomWriter) -> Result<RoomWriter, Memory> {
         write_four(
             &self.wcc,
             &self.count,
@@ -122,7 +203,7 @@ impl Xdr for CommitOk {
         Ok((CommitOk { wcc, verifier }, reader))
     }
 
-    fn write_to(&self, writer: Writer) -> Result<Writer, Memory> {
+    fn write_to(&self, writer: RoomWriter) -> Result<RoomWriter, Memory> {
         write_two(&self.wcc, &self.verifier, writer)
     }
 }

@@ -3,7 +3,7 @@
 ghost use Rattle.nr_nfs_res.specs.Create.{create_ok_codec, create_ok_lawful};
 
 use nr_nfs_base::{Attributes, Handle, StatusUnion, ValueFault, WccData, Xdr, write_three};
-use nr_xdr::{Memory, Reader, Writer};
+use nr_xdr::{Memory, Reader, RoomWriter};
 use std::alloc::Global;
 
 /// The results on success of a call that creates a file (RFC 1813 sections 3.3.8 to 3.3.11).
@@ -39,7 +39,7 @@ impl Xdr for CreateOk {
         ))
     }
 
-    fn write_to(&self, writer: Writer) -> Result<Writer, Memory> {
+    fn write_to(&self, writer: RoomWriter) -> Result<RoomWriter, Memory> {
         write_three(&self.object, &self.attributes, &self.dir_wcc, writer)
     }
 }

@@ -3,7 +3,7 @@
 ghost use Rattle.nr_nfs_res.specs.FileSystem.{fsinfo_ok_codec, fsinfo_ok_lawful, fsstat_ok_codec, fsstat_ok_lawful, pathconf_ok_codec, pathconf_ok_lawful};
 
 use nr_nfs_base::{Attributes, StatusUnion, Time, ValueFault, Xdr};
-use nr_xdr::{Memory, Reader, Writer};
+use nr_xdr::{Memory, Reader, RoomWriter};
 use std::alloc::Global;
 
 /// The results of FSSTAT on success (RFC 1813 section 3.3.18).
@@ -56,7 +56,7 @@ impl Xdr for FsstatOk {
         Ok((value, reader))
     }
 
-    fn write_to(&self, writer: Writer) -> Result<Writer, Memory> {
+    fn write_to(&self, writer: RoomWriter) -> Result<RoomWriter, Memory> {
         let fields = (
             self.attributes,
             (
@@ -157,7 +157,7 @@ impl Xdr for FsinfoOk {
         Ok((value, reader))
     }
 
-    fn write_to(&self, writer: Writer) -> Result<Writer, Memory> {
+    fn write_to(&self, writer: RoomWriter) -> Result<RoomWriter, Memory> {
         let fields = (
             self.attributes,
             (
@@ -241,7 +241,7 @@ impl Xdr for PathconfOk {
         Ok((value, reader))
     }
 
-    fn write_to(&self, writer: Writer) -> Result<Writer, Memory> {
+    fn write_to(&self, writer: RoomWriter) -> Result<RoomWriter, Memory> {
         let fields = (
             self.attributes,
             (

@@ -21,7 +21,9 @@ mod readdir;
 mod remove;
 
 pub use attributes::{AccessOk, AccessRes, GetattrRes, SetattrRes};
-pub use bytes::{CommitOk, CommitRes, ReadOk, ReadRes, WriteOk, WriteRes};
+pub use bytes::{
+    CommitOk, CommitRes, ReadOk, ReadOkRef, ReadRes, ReadResRef, WriteOk, WriteRes, write_read_res,
+};
 pub use create::{CreateOk, CreateRes, MkdirRes, MknodRes, SymlinkRes};
 pub use file_system::{FsinfoOk, FsinfoRes, FsstatOk, FsstatRes, PathconfOk, PathconfRes};
 pub use laws::{fronts_of_results, results};

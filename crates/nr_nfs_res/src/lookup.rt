@@ -3,7 +3,7 @@
 ghost use Rattle.nr_nfs_res.specs.Lookup.{lookup_ok_codec, lookup_ok_lawful, readlink_ok_codec, readlink_ok_lawful};
 
 use nr_nfs_base::{Attributes, Handle, Path, StatusUnion, ValueFault, Xdr, write_three, write_two};
-use nr_xdr::{Memory, Reader, Writer};
+use nr_xdr::{Memory, Reader, RoomWriter};
 use std::alloc::Global;
 
 /// The results of LOOKUP on success (RFC 1813 section 3.3.3).
@@ -39,7 +39,7 @@ impl Xdr for LookupOk {
         ))
     }
 
-    fn write_to(&self, writer: Writer) -> Result<Writer, Memory> {
+    fn write_to(&self, writer: RoomWriter) -> Result<RoomWriter, Memory> {
         write_three(&self.object, &self.attributes, &self.dir_attributes, writer)
     }
 }
@@ -68,7 +68,7 @@ impl Xdr for ReadlinkOk {
         Ok((ReadlinkOk { attributes, path }, reader))
     }
 
-    fn write_to(&self, writer: Writer) -> Result<Writer, Memory> {
+    fn write_to(&self, writer: RoomWriter) -> Result<RoomWriter, Memory> {
         write_two(&self.attributes, &self.path, writer)
     }
 }

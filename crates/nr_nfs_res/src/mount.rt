@@ -3,7 +3,7 @@
 ghost use Rattle.nr_nfs_res.specs.Mount.{mount_ok_codec, mount_ok_lawful, umnt_res_codec, umnt_res_lawful, umntall_res_codec, umntall_res_lawful};
 
 use nr_nfs_base::{Array, Handle, MountStatus, StatusUnion, ValueFault, Xdr, write_two};
-use nr_xdr::{Memory, Reader, Writer};
+use nr_xdr::{Memory, Reader, RoomWriter};
 use std::alloc::Global;
 
 /// The results of MNT on success (RFC 1813 section 5.2.1, `mountres3_ok`).
@@ -28,7 +28,7 @@ impl Xdr for MountOk {
         Ok((MountOk { handle, flavors }, reader))
     }
 
-    fn write_to(&self, writer: Writer) -> Result<Writer, Memory> {
+    fn write_to(&self, writer: RoomWriter) -> Result<RoomWriter, Memory> {
         write_two(&self.handle, &self.flavors, writer)
     }
 }
@@ -53,7 +53,7 @@ impl Xdr for UmntRes {
         Ok((UmntRes, reader))
     }
 
-    fn write_to(&self, writer: Writer) -> Result<Writer, Memory> {
+    fn write_to(&self, writer: RoomWriter) -> Result<RoomWriter, Memory> {
         Ok(writer)
     }
 }
@@ -75,7 +75,7 @@ impl Xdr for UmntallRes {
         Ok((UmntallRes, reader))
     }
 
-    fn write_to(&self, writer: Writer) -> Result<Writer, Memory> {
+    fn write_to(&self, writer: RoomWriter) -> Result<RoomWriter, Memory> {
         Ok(writer)
     }
 }

@@ -3,7 +3,7 @@
 ghost use Rattle.nr_nfs_res.specs.Null.{null_res_codec, null_res_lawful};
 
 use nr_nfs_base::{ValueFault, Xdr};
-use nr_xdr::{Memory, Reader, Writer};
+use nr_xdr::{Memory, Reader, RoomWriter};
 use std::alloc::Global;
 
 /// The results of NULL, of NFS and of MOUNT: none (RFC 1813 sections 3.3.0 and 5.2.0).
@@ -23,7 +23,7 @@ impl Xdr for NullRes {
         Ok((NullRes, reader))
     }
 
-    fn write_to(&self, writer: Writer) -> Result<Writer, Memory> {
+    fn write_to(&self, writer: RoomWriter) -> Result<RoomWriter, Memory> {
         Ok(writer)
     }
 }

@@ -6,7 +6,7 @@ use nr_nfs_base::{
     Attributes, Handle, LinkedList, Name, StatusUnion, ValueFault, Verifier, Xdr, write_four,
     write_three,
 };
-use nr_xdr::{Memory, Reader, Writer};
+use nr_xdr::{Memory, Reader, RoomWriter};
 use std::alloc::Global;
 
 /// An entry of a directory (RFC 1813 section 3.3.16, `entry3`).
@@ -35,7 +35,7 @@ impl Xdr for Entry {
         ))
     }
 
-    fn write_to(&self, writer: Writer) -> Result<Writer, Memory> {
+    fn write_to(&self, writer: RoomWriter) -> Result<RoomWriter, Memory> {
         write_three(&self.fileid, &self.name, &self.cookie, writer)
     }
 }
@@ -75,7 +75,7 @@ impl<E: Xdr> Xdr for Listing<E> {
         ))
     }
 
-    fn write_to(&self, writer: Writer) -> Result<Writer, Memory> {
+    fn write_to(&self, writer: RoomWriter) -> Result<RoomWriter, Memory> {
         write_four(
             &self.dir_attributes,
             &self.verifier,
@@ -126,7 +126,7 @@ impl Xdr for EntryPlus {
         Ok((value, reader))
     }
 
-    fn write_to(&self, writer: Writer) -> Result<Writer, Memory> {
+    fn write_to(&self, writer: RoomWriter) -> Result<RoomWriter, Memory> {
         let writer = self.fileid.write_to(writer)?;
         write_four(
             &self.name,

@@ -3,7 +3,7 @@
 ghost use Rattle.nr_nfs_res.specs.Remove.{link_wcc_codec, link_wcc_lawful, rename_wcc_codec, rename_wcc_lawful};
 
 use nr_nfs_base::{Attributes, StatusUnion, ValueFault, WccData, Xdr, write_two};
-use nr_xdr::{Memory, Reader, Writer};
+use nr_xdr::{Memory, Reader, RoomWriter};
 use std::alloc::Global;
 
 /// The results of RMDIR (RFC 1813 section 3.3.13).
@@ -33,7 +33,7 @@ impl Xdr for RenameWcc {
         Ok((RenameWcc { from_dir, to_dir }, reader))
     }
 
-    fn write_to(&self, writer: Writer) -> Result<Writer, Memory> {
+    fn write_to(&self, writer: RoomWriter) -> Result<RoomWriter, Memory> {
         write_two(&self.from_dir, &self.to_dir, writer)
     }
 }
@@ -71,7 +71,7 @@ impl Xdr for LinkWcc {
         ))
     }
 
-    fn write_to(&self, writer: Writer) -> Result<Writer, Memory> {
+    fn write_to(&self, writer: RoomWriter) -> Result<RoomWriter, Memory> {
         write_two(&self.attributes, &self.dir_wcc, writer)
     }
 }

@@ -9,17 +9,16 @@ ghost use Rattle.nr_tree.specs.Steps.{is_regular_at};
 ghost use Rattle.nr_nfs_base.specs.declared.stable.StableHow.TheVariants.{FileSync};
 ghost use Rattle.nr_tree.specs.Tree.{is_regular, bytes_of};
 
-use nr_nfs_args::{CommitArgs, ReadArgs, WriteArgs};
+use nr_nfs_args::{CommitArgs, ReadArgs, WriteArgsRef};
 use nr_nfs_base::{
-    Attributes, Caller, Data, StableHow, Status, StatusUnion, TRANSFER_MAX, Time, WccData,
+    Attributes, Caller, StableHow, Status, StatusUnion, TRANSFER_MAX, Time, WccData,
 };
-use nr_nfs_res::{CommitOk, CommitRes, ReadOk, ReadRes, WriteOk, WriteRes};
+use nr_nfs_res::{CommitOk, CommitRes, ReadOkRef, ReadResRef, WriteOk, WriteRes};
 use nr_tree::{
     Content, FILE_SIZE_MAX, Node, Right, Space, Tree, attributes_at, check_space, live_node, may,
     wcc_attributes_at, wcc_data,
 };
-use nr_xdr::{Memory, Octets};
-use std::alloc::Global;
+use nr_xdr::Memory;
 
 /// Whether the node has bytes to be read and written.
 fn check_regular(node: &Node) -> Result<(), Status>
@@ -35,20 +34,27 @@ fn check_regular(node: &Node) -> Result<(), Status>
 }
 
 /// Bytes of a regular file from an offset on, as many as are asked for, may be moved and are there (RFC 1813 section
-/// 3.3.6). An `Err` wanted memory.
-pub fn read(alloc: Global, tree: &Tree, caller: &Caller, args: ReadArgs) -> Result<ReadRes, Memory>
-    ensures { IfOk result (λ r. r ≡ read_reply tree.now caller.now args) }
+/// 3.3.6). The data are those of the tree. Takes no memory.
+pub fn read<'a>(tree: &'a Tree, caller: &Caller, args: ReadArgs) -> ReadResRef<'a>
+    ensures { result ≡ read_reply tree.now caller.now args }
+{
+    read_inner(tree, caller, &args)
+}
+
+/// The same, of borrowed arguments.
+fn read_inner<'a>(tree: &'a Tree, caller: &Caller, args: &ReadArgs) -> ReadResRef<'a>
+    ensures { result ≡ read_reply tree.now caller.now args.now }
 {
     let attributes = attributes_at(tree, args.file.as_slice());
-    match file_to_read(tree, caller, &args) {
+    match file_to_read(tree, caller, args) {
         Ok(node) => {
-            let piece = read_piece(alloc, node, args.offset, args.count)?;
-            Ok(StatusUnion::Done(read_results(piece, node.size(), attributes, args.offset)))
+            let piece = read_piece(node, args.offset, args.count);
+            StatusUnion::Done(read_results(piece, node.size(), attributes, args.offset))
         }
-        Err(status) => Ok(StatusUnion::Failed {
+        Err(status) => StatusUnion::Failed {
             status,
             part: attributes,
-        }),
+        },
     }
 }
 
@@ -65,13 +71,13 @@ fn file_to_read<'a>(tree: &'a Tree, caller: &Caller, args: &ReadArgs) -> Result<
     Ok(node)
 }
 
-fn read_piece(alloc: Global, node: &Node, offset: u64, count: u32) -> Result<Octets, Memory>
+fn read_piece(node: &Node, offset: u64, count: u32) -> &[u8]
     requires { is_regular node.now ≡ true }
-    ensures value { IfOk result (λ piece. piece ≡ piece_read (bytes_of node.now.content) offset count) }
-    ensures bounded { IfOk result (λ piece. length piece ≤ transfer_max) }
+    ensures value { result.now ≡ piece_read (bytes_of node.now.content) offset count }
+    ensures bounded { length result.now ≤ transfer_max }
 {
     match &node.content {
-        Content::Regular(file) => file.read(alloc, offset, count.min(TRANSFER_MAX)),
+        Content::Regular(file) => file.read(offset, count.min(TRANSFER_MAX)),
         _ => unreachable!(),
     }
 }
@@ -84,17 +90,17 @@ fn reaches_end(size: u64, offset: u64, count: u32) -> bool
 }
 
 /// The piece that was read of a file of this size.
-fn read_results(piece: Octets, size: u64, attributes: Option<Attributes>, offset: u64) -> ReadOk
-    requires { length piece ≤ transfer_max }
-    ensures { result ≡ record { attributes = attributes; count = length piece; eof = nat_le size (offset + length piece); bytes = piece } }
+fn read_results(
+    piece: &[u8],
+    size: u64,
+    attributes: Option<Attributes>,
+    offset: u64,
+) -> ReadOkRef<'_>
+    requires { length piece.now ≤ transfer_max }
+    ensures { result ≡ record { attributes = attributes; count = length piece.now; eof = nat_le size (offset + length piece.now); bytes = piece.now } }
 {
     let count = piece.len() as u32;
-    ReadOk {
-        attributes,
-        count,
-        eof: reaches_end(size, offset, count),
-        bytes: Data::new(piece),
-    }
+    ReadOkRef::new(attributes, count, reaches_end(size, offset, count), piece)
 }
 
 /// Writes over the bytes of a regular file from an offset on, as many of the data as may be moved; a gap becomes zeros
@@ -104,25 +110,7 @@ pub fn write(
     now: Time,
     caller: &Caller,
     space: &Space,
-    args: WriteArgs,
-) -> Result<WriteRes, Memory>
-    requires sane { IsSane tree.old }
-    requires space { IsWithinCapacity space.now }
-    ensures result { IfOk result (λ r. r ≡ write_reply tree.old caller.now space.now now args) }
-    ensures tree { OnOk result (tree.new ≡ write_tree tree.old caller.now space.now now args) }
-    ensures err { OnErr result (tree.new ≡ tree.old) }
-    ensures sane { IsSane tree.new }
-{
-    write_inner(tree, now, caller, space, &args)
-}
-
-/// The same, of borrowed arguments.
-fn write_inner(
-    tree: &mut Tree,
-    now: Time,
-    caller: &Caller,
-    space: &Space,
-    args: &WriteArgs,
+    args: &WriteArgsRef<'_>,
 ) -> Result<WriteRes, Memory>
     requires sane { IsSane tree.old }
     requires space { IsWithinCapacity space.now }
@@ -131,12 +119,12 @@ fn write_inner(
     ensures err { OnErr result (tree.new ≡ tree.old) }
     ensures sane { IsSane tree.new }
 {
-    let handle = args.file.as_slice();
+    let handle = args.file();
     let before = wcc_attributes_at(tree, handle);
     match file_to_write(tree, caller, space, args) {
         Ok(number) => {
-            let piece = piece_of(args.bytes.as_slice());
-            tree.write(number, args.offset, piece, now)?;
+            let piece = piece_of(args.bytes());
+            tree.write(number, args.offset(), piece, now)?;
             let wcc = wcc_data(before, tree, handle);
             Ok(StatusUnion::Done(write_results(wcc, piece.len() as u32, space)))
         }
@@ -169,14 +157,14 @@ fn piece_of(bytes: &[u8]) -> &[u8]
 }
 
 /// Whether the count is the data's, and the piece lies within the most bytes of a file.
-fn check_piece(args: &WriteArgs) -> Result<(), Status>
+fn check_piece(args: &WriteArgsRef<'_>) -> Result<(), Status>
     ensures { MatchResult result (λ _. (first (piece_rules args.now) ≡ None) × (args.now.offset + length (piece_written args.now) ≤ file_size_max)) (λ s. first (piece_rules args.now) ≡ Some s) }
 {
-    let bytes = args.bytes.as_slice();
-    if args.count as usize != bytes.len() {
+    let bytes = args.bytes();
+    if args.count() as usize != bytes.len() {
         return Err(Status::Inval);
     }
-    if args.offset > FILE_SIZE_MAX - piece_of(bytes).len() as u64 {
+    if args.offset() > FILE_SIZE_MAX - piece_of(bytes).len() as u64 {
         return Err(Status::Fbig);
     }
     Ok(())
@@ -187,13 +175,13 @@ fn file_to_write(
     tree: &Tree,
     caller: &Caller,
     space: &Space,
-    args: &WriteArgs,
+    args: &WriteArgsRef<'_>,
 ) -> Result<u64, Status>
     requires { IsWithinCapacity space.now }
     ensures { MatchResult result (λ n. (first (write_rules tree.now caller.now space.now args.now) ≡ None) × (n ≡ number_of_handle args.now.file) × (is_regular_at tree.now n ≡ true) × (args.now.offset + length (piece_written args.now) ≤ file_size_max))
         (λ s. first (write_rules tree.now caller.now space.now args.now) ≡ Some s) }
 {
-    let (number, node) = live_node(tree, args.file.as_slice())?;
+    let (number, node) = live_node(tree, args.file())?;
     check_regular(node)?;
     if !may(caller, Right::Write, node) {
         return Err(Status::Acces);

@@ -1,5 +1,5 @@
 -- The results of the procedures that change the tree fit into the room of a reply. The handle in those of CREATE and its kin is short.
-use Rattle.std.proofs.Common.{◌≡◌, ℕ, ◌≤◌, List, length, Option, None, Some, Result, Ok, Err, IfOk, sym, subst, arith}
+use Rattle.std.proofs.Common.{◌≡◌, ℕ, ◌<◌, ◌≤◌, List, length, Option, None, Some, Result, Ok, Err, IfOk, sym, subst, arith}
 use Rattle.std.specs.Option.{option_map}
 use Rattle.nr_xdr.specs.Item.{hyper}
 use Rattle.nr_xdr.specs.Items.{encodings}
@@ -14,7 +14,14 @@ use Rattle.nr_nfs_args.specs.declared.create.CreateArgs.{CreateArgs}
 use Rattle.nr_nfs_args.specs.declared.create.MkdirArgs.{MkdirArgs}
 use Rattle.nr_nfs_args.specs.declared.special.MknodArgs.{MknodArgs}
 use Rattle.nr_nfs_args.specs.declared.special.SymlinkArgs.{SymlinkArgs}
-use Rattle.nr_nfs_res.specs.Results.{create_res_codec}
+use Rattle.nr_nfs_base.specs.WeakCache.{wcc_data_codec}
+use Rattle.nr_nfs_res.specs.Bytes.{write_ok_codec}
+use Rattle.nr_nfs_res.specs.Create.{create_ok_codec}
+use Rattle.nr_nfs_res.specs.Remove.{link_wcc_codec, rename_wcc_codec}
+use Rattle.nr_nfs_res.specs.Results.{setattr_res_codec, write_res_codec, create_res_codec, rename_res_codec, link_res_codec}
+use Rattle.nr_nfs_res.specs.declared.bytes.WriteOk.{WriteOk}
+use Rattle.nr_nfs_res.specs.declared.remove.LinkWcc.{LinkWcc}
+use Rattle.nr_nfs_res.specs.declared.remove.RenameWcc.{RenameWcc}
 use Rattle.nr_nfs_res.specs.declared.create.CreateOk.{CreateOk}
 use Rattle.nr_tree.specs.Tree.{Tree}
 use Rattle.nr_tree.specs.Rules.{answer, first, handle_of, number_of_handle}
@@ -24,7 +31,7 @@ use Rattle.nr_ops_dir.specs.Entries.{number_of_entry}
 use Rattle.nr_ops_dir.specs.Create.{create_rules, create_tree, create_reply}
 use Rattle.nr_ops_dir.specs.Creation.{create_ok, mkdir_rules, mkdir_tree, mkdir_reply, symlink_rules, symlink_tree, symlink_reply, mknod_rules, mknod_tree, mknod_reply}
 use Rattle.nr_plain.specs.ReplySizes.{most_results, HandleFits, ObjectFits}
-use Rattle.nr_plain.proofs.PutSizes.{create_results_fit}
+use Rattle.nr_plain.proofs.Lengths.{wcc_size, write_size, create_size, rename_size, link_size, done_size, failed_size, union_fits}
 
 -- ===== of every result, if there is one
 
@@ -36,7 +43,29 @@ pub every_ok : {R E : Type 0} {P Q : R → Type 0} (r : Result R E) → IfOk r P
 every_ok (Ok x) p holds = holds x p
 every_ok (Err e) p holds = tt
 
+pub lacks_and_has : {n m : ℕ} → n < m → m ≤ n → ⊥
+lacks_and_has p q = omega (arith, p, q)
+
+-- ===== results whose parts are all short
+
+-- SETATTR, REMOVE and RMDIR
+pub wcc_results_fit : (r : StatusUnion WccData WccData Status) → length (encodings (setattr_res_codec.items r)) ≤ most_results
+wcc_results_fit r = union_fits wcc_data_codec wcc_data_codec r most_results (λ f. omega (arith, wcc_size f)) (λ d. omega (arith, wcc_size d))
+
+pub write_results_fit : (r : StatusUnion WriteOk WccData Status) → length (encodings (write_res_codec.items r)) ≤ most_results
+write_results_fit r = union_fits write_ok_codec wcc_data_codec r most_results (λ f. omega (arith, wcc_size f)) (λ d. omega (arith, write_size d))
+
+pub rename_results_fit : (r : StatusUnion RenameWcc RenameWcc Status) → length (encodings (rename_res_codec.items r)) ≤ most_results
+rename_results_fit r = union_fits rename_wcc_codec rename_wcc_codec r most_results (λ f. omega (arith, rename_size f)) (λ d. omega (arith, rename_size d))
+
+pub link_results_fit : (r : StatusUnion LinkWcc LinkWcc Status) → length (encodings (link_res_codec.items r)) ≤ most_results
+link_results_fit r = union_fits link_wcc_codec link_wcc_codec r most_results (λ f. omega (arith, link_size f)) (λ d. omega (arith, link_size d))
+
 -- ===== CREATE and its kin
+
+create_results_fit : (r : StatusUnion CreateOk WccData Status) → ObjectFits r → length (encodings (create_res_codec.items r)) ≤ most_results
+create_results_fit (Done d) fits = omega (arith, done_size create_ok_codec wcc_data_codec d, create_size d fits)
+create_results_fit (Failed s f) fits = omega (arith, failed_size create_ok_codec wcc_data_codec s f, wcc_size f)
 
 length_handle : (n : ℕ) → length (handle_of n) ≡ 8
 unfolding hyper

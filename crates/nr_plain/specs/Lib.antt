@@ -6,6 +6,5 @@ pub mod Code
 pub mod Added
 pub mod Stands
 pub mod JournalLaws
-pub mod ReplyRoom
 pub mod ReplySizes
 pub mod ReplyLaws

@@ -2,9 +2,10 @@
 //! tree as before.
 
 ghost use Rattle.std.specs.Prelude.{◌≡◌, [], false, Ok, IfOk, OnOk, OnErr};
-ghost use Rattle.std.specs.Option.{option_map};
+ghost use Rattle.nr_xdr.specs.Room.{HasRoom};
 ghost use Rattle.nr_nfs_base.specs.Codec.{read_all, read_or_none};
-ghost use Rattle.nr_nfs_res.specs.Results.{nfs_result};
+ghost use Rattle.nr_nfs_args.specs.Bytes.{write_args_codec};
+ghost use Rattle.nr_nfs_res.specs.Results.{nfs_result, write_res_codec};
 ghost use Rattle.nr_tree.specs.Rules.{IsWithinCapacity};
 ghost use Rattle.nr_tree.specs.Sane.{IsSane};
 ghost use Rattle.nr_tree.specs.Steps.{IsBounded};
@@ -15,47 +16,37 @@ ghost use Rattle.nr_ops_dir.specs.Creation.{mkdir_tree, mkdir_reply, symlink_tre
 ghost use Rattle.nr_ops_dir.specs.Removal.{remove_tree, remove_reply, rmdir_tree, rmdir_reply};
 ghost use Rattle.nr_ops_dir.specs.Renaming.{rename_tree, rename_reply};
 ghost use Rattle.nr_ops_dir.specs.Links.{link_tree, link_reply};
-ghost use Rattle.nr_plain.specs.ReplyRoom.{HasRoom};
-ghost use Rattle.nr_plain.specs.ReplySizes.{most_reply};
 ghost use Rattle.nr_plain.specs.Code.{IsChangeWith, tree_with};
 ghost use Rattle.nr_plain.specs.Replies.{refusal, accepted, results_reply, GARBAGE_ARGS};
 ghost use Rattle.nr_plain.specs.Programs.{is_done as is_status_ok};
 
 use crate::call::{Call, Change};
-use crate::encoding::{garbage, read_arguments};
+use crate::encoding::{garbage, read_arguments, room_of_reply, write_accepted};
 use crate::procedure::Changing;
-use crate::put::{Put, accepted_reply};
-use crate::reply_room::ReplyRoom;
 use nr_nfs_args::{
     CreateArgs, LinkArgs, MkdirArgs, MknodArgs, RemoveArgs, RenameArgs, RmdirArgs, SetattrArgs,
-    SymlinkArgs, WriteArgs,
+    SymlinkArgs, WriteArgsRef,
 };
-use nr_nfs_base::{StatusUnion, WccData, Xdr};
+use nr_nfs_base::{StatusUnion, ValueFault, WccData, Xdr};
 use nr_nfs_res::{
     CreateOk, CreateRes, LinkRes, LinkWcc, MkdirRes, MknodRes, RemoveRes, RenameRes, RenameWcc,
-    RmdirRes, SetattrRes, SymlinkRes, WriteOk, WriteRes,
+    RmdirRes, SetattrRes, SymlinkRes,
 };
 use nr_tree::Tree;
-use nr_xdr::Memory;
+use nr_xdr::{Memory, RoomWriter};
 use std::alloc::Global;
 
-/// What a change begins with: the arguments of the call, and the room of its reply.
-#[derive(Drop)]
-struct Prepared<A> {
-    arguments: A,
-    room: ReplyRoom,
-}
-
-/// Reads the arguments and takes the room. None where the bytes are no encoding of the type.
-fn prepare<A: Xdr>(alloc: Global, arguments: &[u8]) -> Result<Option<Prepared<A>>, Memory>
-    ensures { IfOk result (λ o. o ≡ option_map (λ a. record { arguments = a; room = record { bytes = []; left = most_reply } }) (read_or_none (read_all A.codec arguments.now))) }
+/// The arguments of a WRITE that all of the bytes are read as; none if they are no encoding of them.
+fn write_arguments<'a>(
+    alloc: Global,
+    arguments: &'a [u8],
+) -> Result<Option<WriteArgsRef<'a>>, Memory>
+    ensures { IfOk result (λ o. o ≡ read_or_none (read_all write_args_codec arguments.now)) }
 {
-    match read_arguments::<A>(alloc, arguments)? {
-        Some(arguments) => Ok(Some(Prepared {
-            arguments,
-            room: ReplyRoom::for_results(alloc)?,
-        })),
-        None => Ok(None),
+    match WriteArgsRef::read(alloc, arguments) {
+        Ok(value) => Ok(Some(value)),
+        Err(ValueFault::Bad { .. }) => Ok(None),
+        Err(ValueFault::Memory) => Err(Memory),
     }
 }
 
@@ -67,15 +58,15 @@ fn is_done<D, F>(results: &StatusUnion<D, F>) -> bool
 }
 
 /// The reply with these results, which is an entry where their status is 0. Takes no memory.
-fn reply<D: Put, F: Put>(room: ReplyRoom, xid: u32, results: StatusUnion<D, F>) -> Change
+fn reply<D: Xdr, F: Xdr>(room: RoomWriter, xid: u32, results: StatusUnion<D, F>) -> Change
     requires empty { room.bytes ≡ [] }
     requires room { HasRoom room (results_reply xid (nfs_result D.codec F.codec) results) }
     ensures { (result.reply ≡ results_reply xid (nfs_result D.codec F.codec) results) × (result.is_entry ≡ is_status_ok results) }
 {
     let is_entry = is_done(&results);
-    Change {
-        reply: accepted_reply(room, xid, &results),
-        is_entry,
+    match write_accepted(room, xid, &results) {
+        Ok(reply) => Change { reply, is_entry },
+        Err(_) => unreachable!(),
     }
 }
 
@@ -103,30 +94,63 @@ pub(crate) fn change<A: Changing>(
     ensures err { OnErr result (tree.new ≡ tree.old) }
     ensures sane { IsSane tree.new }
 {
-    match prepare::<A>(alloc, call.arguments)? {
-        Some(Prepared { arguments, room }) => change_in(alloc, tree, call, arguments, room),
+    match read_arguments::<A>(alloc, call.arguments)? {
+        Some(arguments) => change_in(alloc, tree, call, arguments),
         None => no_change(alloc, call.xid),
     }
 }
 
-/// Executes the procedure with these arguments, and puts its results into the room.
+/// Takes the room of the reply, executes the procedure with these arguments, and writes its results into the room.
 fn change_in<A: Changing>(
     alloc: Global,
     tree: &mut Tree,
     call: &Call,
     arguments: A,
-    room: ReplyRoom,
 ) -> Result<Change, Memory>
     requires sane { IsSane tree.old }
     requires bounded { IsBounded tree.old }
     requires space { IsWithinCapacity call.now.space }
-    requires room { room ≡ record { bytes = []; left = most_reply } }
     ensures result { IfOk result (IsChangeWith call.now.xid (nfs_result A.Done.codec A.Failed.codec) is_status_ok (A.results tree.old call.now.caller.now call.now.space call.now.time) (Ok arguments)) }
     ensures tree { OnOk result (tree.new ≡ A.changed tree.old call.now.caller.now call.now.space call.now.time arguments) }
     ensures err { OnErr result (tree.new ≡ tree.old) }
     ensures sane { IsSane tree.new }
 {
+    let room = room_of_reply(alloc)?;
     let results = arguments.execute(alloc, tree, call)?;
+    Ok(reply(room, call.xid, results))
+}
+
+/// Executes a WRITE. Its data are copied once, from the arguments into the tree. After an `Err` the tree is as before.
+pub(crate) fn write_file(alloc: Global, tree: &mut Tree, call: &Call) -> Result<Change, Memory>
+    requires sane { IsSane tree.old }
+    requires space { IsWithinCapacity call.now.space }
+    ensures result { IfOk result (IsChangeWith call.now.xid write_res_codec is_status_ok (write_reply tree.old call.now.caller.now call.now.space call.now.time) (read_all write_args_codec call.now.arguments.now)) }
+    ensures tree { OnOk result (tree.new ≡ tree_with tree.old (write_tree tree.old call.now.caller.now call.now.space call.now.time) (read_all write_args_codec call.now.arguments.now)) }
+    ensures err { OnErr result (tree.new ≡ tree.old) }
+    ensures sane { IsSane tree.new }
+{
+    match write_arguments(alloc, call.arguments)? {
+        Some(arguments) => write_of(alloc, tree, call, &arguments),
+        None => no_change(alloc, call.xid),
+    }
+}
+
+/// Executes a WRITE with these arguments.
+fn write_of(
+    alloc: Global,
+    tree: &mut Tree,
+    call: &Call,
+    arguments: &WriteArgsRef<'_>,
+) -> Result<Change, Memory>
+    requires sane { IsSane tree.old }
+    requires space { IsWithinCapacity call.now.space }
+    ensures result { IfOk result (IsChangeWith call.now.xid write_res_codec is_status_ok (write_reply tree.old call.now.caller.now call.now.space call.now.time) (Ok arguments.now)) }
+    ensures tree { OnOk result (tree.new ≡ write_tree tree.old call.now.caller.now call.now.space call.now.time arguments.now) }
+    ensures err { OnErr result (tree.new ≡ tree.old) }
+    ensures sane { IsSane tree.new }
+{
+    let room = room_of_reply(alloc)?;
+    let results = nr_ops_file::write(tree, call.time, call.caller, &call.space, arguments)?;
     Ok(reply(room, call.xid, results))
 }
 
@@ -141,20 +165,6 @@ impl Changing for SetattrArgs {
 
     fn execute(self, _alloc: Global, tree: &mut Tree, call: &Call) -> Result<SetattrRes, Memory> {
         nr_ops_file::setattr(tree, call.time, call.caller, &call.space, self)
-    }
-}
-
-impl Changing for WriteArgs {
-    type Done = WriteOk;
-
-    type Failed = WccData;
-
-    ghost results = { write_reply };
-
-    ghost changed = { write_tree };
-
-    fn execute(self, _alloc: Global, tree: &mut Tree, call: &Call) -> Result<WriteRes, Memory> {
-        nr_ops_file::write(tree, call.time, call.caller, &call.space, self)
     }
 }
 
@@ -214,7 +224,7 @@ impl Changing for MknodArgs {
     }
 }
 
-#[tactic(auto, using(crate::proofs::PutSizes::wcc_results_fit))]
+#[tactic(auto, using(crate::proofs::Fits::wcc_results_fit))]
 impl Changing for RemoveArgs {
     type Done = WccData;
 
@@ -229,7 +239,7 @@ impl Changing for RemoveArgs {
     }
 }
 
-#[tactic(auto, using(crate::proofs::PutSizes::wcc_results_fit))]
+#[tactic(auto, using(crate::proofs::Fits::wcc_results_fit))]
 impl Changing for RmdirArgs {
     type Done = WccData;
 

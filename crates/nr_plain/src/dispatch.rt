@@ -8,13 +8,13 @@ ghost use Rattle.nr_plain.specs.Code.{IsChange, reply_of, tree_of};
 ghost use Rattle.nr_plain.specs.Programs.{only_reads as is_read_only};
 
 use crate::call::{Call, Change};
-use crate::changing::change;
+use crate::changing::{change, write_file};
 use crate::encoding::constant_reply;
-use crate::reading::read;
+use crate::reading::{read, read_file};
 use nr_nfs_args::{
     AccessArgs, CommitArgs, CreateArgs, FsinfoArgs, FsstatArgs, GetattrArgs, LinkArgs, LookupArgs,
-    MkdirArgs, MknodArgs, NullArgs, PathconfArgs, ReadArgs, ReaddirArgs, ReaddirplusArgs,
-    ReadlinkArgs, RemoveArgs, RenameArgs, RmdirArgs, SetattrArgs, SymlinkArgs, WriteArgs,
+    MkdirArgs, MknodArgs, NullArgs, PathconfArgs, ReaddirArgs, ReaddirplusArgs, ReadlinkArgs,
+    RemoveArgs, RenameArgs, RmdirArgs, SetattrArgs, SymlinkArgs,
 };
 use nr_nfs_base::NfsProcedure;
 use nr_nfs_res::NullRes;
@@ -57,7 +57,7 @@ fn reading(alloc: Global, tree: &Tree, p: NfsProcedure, call: &Call) -> Result<O
         NfsProcedure::Lookup => read::<LookupArgs>(alloc, tree, call),
         NfsProcedure::Access => read::<AccessArgs>(alloc, tree, call),
         NfsProcedure::Readlink => read::<ReadlinkArgs>(alloc, tree, call),
-        NfsProcedure::Read => read::<ReadArgs>(alloc, tree, call),
+        NfsProcedure::Read => read_file(alloc, tree, call),
         NfsProcedure::Readdir => read::<ReaddirArgs>(alloc, tree, call),
         NfsProcedure::Readdirplus => read::<ReaddirplusArgs>(alloc, tree, call),
         NfsProcedure::Fsstat => read::<FsstatArgs>(alloc, tree, call),
@@ -80,7 +80,7 @@ fn changing(alloc: Global, tree: &mut Tree, p: NfsProcedure, call: &Call) -> Res
 {
     match p {
         NfsProcedure::Setattr => change::<SetattrArgs>(alloc, tree, call),
-        NfsProcedure::Write => change::<WriteArgs>(alloc, tree, call),
+        NfsProcedure::Write => write_file(alloc, tree, call),
         NfsProcedure::Create => change::<CreateArgs>(alloc, tree, call),
         NfsProcedure::Mkdir => change::<MkdirArgs>(alloc, tree, call),
         NfsProcedure::Symlink => change::<SymlinkArgs>(alloc, tree, call),

@@ -1,15 +1,16 @@
 //! Arguments read, and results written behind the head of a reply.
 
-ghost use Rattle.std.specs.Prelude.{◌≡◌, [], ◌++◌, IfOk, OnOk};
+ghost use Rattle.std.specs.Prelude.{◌≡◌, ◌<◌, [], ◌++◌, length, IfOk, IfErr, OnOk};
 ghost use Rattle.nr_nfs_base.specs.Codec.{read_all, read_or_none};
 ghost use Rattle.nr_rpc.specs.Constants.{PROG_MISMATCH};
 ghost use Rattle.nr_rpc.specs.Reply.{reply_head, reply_encoding, CanWriteReply};
 ghost use Rattle.nr_plain.specs.Code.{reply_with};
-ghost use Rattle.nr_plain.specs.Replies.{accepted as accepted_head, SUCCESS as success, GARBAGE_ARGS as garbage_args, refusal, results_reply};
+ghost use Rattle.nr_plain.specs.Replies.{accepted as head_of_accepted, SUCCESS as success, GARBAGE_ARGS as garbage_args, refusal, results_reply};
+ghost use Rattle.nr_plain.specs.ReplySizes.{most_reply};
 
 use nr_nfs_base::{ValueFault, Xdr};
-use nr_rpc::{HeadFault, ReplyHead, write_reply};
-use nr_xdr::{Memory, Octets, Writer};
+use nr_rpc::{ReplyHead, write_reply, write_reply_head};
+use nr_xdr::{Memory, Octets, RoomWriter};
 use std::alloc::Global;
 
 /// The arguments that all of the bytes are read as; none where they are no encoding of the type.
@@ -23,42 +24,57 @@ pub(crate) fn read_arguments<A: Xdr>(alloc: Global, arguments: &[u8]) -> Result<
     }
 }
 
-/// The message type of a reply (RFC 5531 section 9).
-const REPLY: u32 = 1;
-
-/// The reply status of a call that was accepted (RFC 5531 section 9).
-const MSG_ACCEPTED: u32 = 0;
-
-/// The flavor without a credential, and that of a reply's verifier, which has no body (RFC 5531 section 8.2).
-pub(crate) const AUTH_NONE: u32 = 0;
-
 /// The accept status of a call whose procedure was executed (RFC 5531 section 9).
-const SUCCESS: u32 = 0;
+pub(crate) const SUCCESS: u32 = 0;
 
 /// The accept status of a call whose arguments can't be read.
 const GARBAGE_ARGS: u32 = 4;
 
-/// The words of the head of a reply to a call that was accepted with status 0 (RFC 5531 section 9): the xid, the message type and the reply
-/// status; the flavor of the verifier, the length of its body and the accept status.
-pub(crate) fn head_words(xid: u32) -> ((u32, (u32, u32)), (u32, (u32, u32)))
-    ensures { result ≡ ((xid, (1, 0)), (0, (0, 0))) }
+/// The bytes of the head of a reply to a call that was accepted (RFC 5531 section 9).
+pub(crate) const HEAD_SIZE: usize = 24;
+
+/// The most bytes of the results of a procedure that changes files, which are those of CREATE (RFC 1813 section 3.3.8).
+const MOST_RESULTS: usize = 280;
+
+/// Room for any reply with the results of a procedure that changes files.
+pub(crate) fn room_of_reply(alloc: Global) -> Result<RoomWriter, Memory>
+    ensures { IfOk result (λ room. room ≡ record { bytes = []; left = most_reply }) }
 {
-    ((xid, (REPLY, MSG_ACCEPTED)), (AUTH_NONE, (0, SUCCESS)))
+    RoomWriter::with_room(alloc, HEAD_SIZE + MOST_RESULTS)
 }
 
-/// A writer with the head of a reply to a call that was accepted with status 0.
-fn with_head(alloc: Global, xid: u32) -> Result<Writer, Memory>
-    ensures { IfOk result (λ w. w ≡ reply_head (accepted_head xid success)) }
+/// The head of a reply to a call that was accepted with this status.
+pub(crate) fn accepted_head(xid: u32, stat: u32) -> ReplyHead
+    ensures { result ≡ head_of_accepted xid stat }
 {
-    head_words(xid).write_to(Writer::new(alloc))
+    ReplyHead::Accepted {
+        xid,
+        stat,
+        results_at: 0,
+    }
+}
+
+/// The reply to a call that was accepted with status 0, with its results, written into a writer with no bytes. Fails only if that has
+/// no room for it.
+pub(crate) fn write_accepted<R: Xdr>(
+    writer: RoomWriter,
+    xid: u32,
+    results: &R,
+) -> Result<Octets, Memory>
+    requires { writer.bytes ≡ [] }
+    ensures ok { IfOk result (λ o. o ≡ results_reply xid R.codec results.now) }
+    ensures room { IfErr result (λ _. writer.left < length (results_reply xid R.codec results.now)) }
+{
+    let writer = write_reply_head(writer, &accepted_head(xid, SUCCESS))?;
+    let writer = results.write_to(writer)?;
+    Ok(writer.finish())
 }
 
 /// The reply to a call that was accepted with status 0, with its results.
 pub(crate) fn accepted<R: Xdr>(alloc: Global, xid: u32, results: &R) -> Result<Octets, Memory>
     ensures { IfOk result (λ o. o ≡ results_reply xid R.codec results.now) }
 {
-    let writer = with_head(alloc, xid)?;
-    Ok(results.write_to(writer)?.finish())
+    write_accepted(RoomWriter::new(alloc), xid, results)
 }
 
 /// The reply to a call that reaches no procedure.
@@ -74,16 +90,9 @@ pub(crate) fn refused(alloc: Global, head: ReplyHead) -> Result<Octets, Memory>
 
 /// The reply to a call whose arguments are no encoding of their type.
 pub(crate) fn garbage(alloc: Global, xid: u32) -> Result<Octets, Memory>
-    ensures { IfOk result (λ o. o ≡ (refusal (accepted_head xid garbage_args)).reply) }
+    ensures { IfOk result (λ o. o ≡ (refusal (head_of_accepted xid garbage_args)).reply) }
 {
-    refused(
-        alloc,
-        ReplyHead::Accepted {
-            xid,
-            stat: GARBAGE_ARGS,
-            results_at: 0,
-        },
-    )
+    refused(alloc, accepted_head(xid, GARBAGE_ARGS))
 }
 
 /// The reply of a procedure whose results are the same for all arguments.

@@ -8,9 +8,9 @@
 //!
 //! A procedure of NFS is a trait of its arguments (`procedure.rt`), implemented for each in `reading.rt` and `changing.rt`, which make the
 //! replies too. `mount.rt` has those of MOUNT, `dispatch.rt` and `server.rt` the way to them. A procedure that changes the tree first takes
-//! the room of its reply (`reply_room.rt`, `put.rt`), so that want of memory leaves the server as before. The laws say whose a reply is ([`replies_begin_with_the_xid`]), how long it may be
-//! ([`replies_are_within_their_limit`]), and that it can be sent ([`changes_fit_every_offer`],
-//! [`auto_offers_hold_their_replies`]).
+//! the room of its reply (`encoding.rt`), so that out of memory leaves the server as before. The laws say whose a reply is
+//! ([`replies_begin_with_the_xid`]), how long it may be ([`replies_are_within_their_limit`]), and that it can be sent
+//! ([`changes_fit_every_offer`], [`auto_offers_hold_their_replies`]).
 //!
 //! Below stand the procedures (`nr_ops_file`, `nr_ops_dir`), the heads (`nr_rpc`) and the entries of a journal (`nr_reduce`). Above, the
 //! server's connections and the drill hand calls in and send replies.
@@ -26,9 +26,7 @@ mod journal_laws;
 mod laws;
 mod mount;
 mod procedure;
-mod put;
 mod reading;
-mod reply_room;
 mod server;
 
 pub use fault::Fault;

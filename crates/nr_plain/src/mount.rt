@@ -6,11 +6,11 @@ ghost use Rattle.nr_nfs_base.specs.declared.procedure.MountProcedure.TheVariants
 ghost use Rattle.nr_plain.specs.Code.{mount_reply};
 ghost use Rattle.nr_plain.specs.Programs.{mounted as root_mounted, mount_results};
 
-use crate::encoding::{AUTH_NONE, accepted, constant_reply, garbage, read_arguments};
+use crate::encoding::{accepted, constant_reply, garbage, read_arguments};
 use nr_nfs_args::{MntArgs, NullArgs, UmntArgs, UmntallArgs};
 use nr_nfs_base::{Array, Handle, MountProcedure, MountStatus, StatusUnion};
 use nr_nfs_res::{MntRes, MountOk, NullRes, UmntRes, UmntallRes};
-use nr_rpc::AUTH_SYS;
+use nr_rpc::{AUTH_NONE, AUTH_SYS};
 use nr_xdr::{Memory, Octets};
 use std::alloc::Global;
 

@@ -1,7 +1,6 @@
 //! Procedures of NFS, by the types of their arguments.
 
 use crate::call::Call;
-use crate::put::Put;
 use nr_nfs_base::{StatusUnion, Xdr};
 use nr_tree::Tree;
 use nr_xdr::Memory;
@@ -44,10 +43,10 @@ pub(crate) trait Changing: Xdr {
     ghost use Rattle.nr_plain.specs.ReplySizes.{most_results};
 
     /// The results on success.
-    type Done: Put;
+    type Done: Xdr;
 
     /// What stands behind the status of a failure.
-    type Failed: Put;
+    type Failed: Xdr;
 
     /// The results over a tree.
     ghost results: { Tree → Caller → Space → Time → Self → StatusUnion Self.Done Self.Failed Status };

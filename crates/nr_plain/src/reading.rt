@@ -9,21 +9,26 @@ ghost use Rattle.nr_ops_file.specs.Bytes.{read_reply, commit_reply};
 ghost use Rattle.nr_ops_file.specs.FileSystem.{fsstat_reply, fsinfo_reply, pathconf_reply};
 ghost use Rattle.nr_ops_dir.specs.Lookup.{lookup_reply};
 ghost use Rattle.nr_ops_dir.specs.Readdir.{readdir_reply, readdirplus_reply};
+ghost use Rattle.nr_nfs_args.specs.Bytes.{read_args_codec};
+ghost use Rattle.nr_nfs_res.specs.Results.{read_res_codec};
 ghost use Rattle.nr_plain.specs.Code.{reply_with};
+ghost use Rattle.nr_plain.specs.Replies.{results_reply};
 
 use crate::call::Call;
-use crate::encoding::{accepted, garbage, read_arguments};
+use crate::encoding::{HEAD_SIZE, SUCCESS, accepted, accepted_head, garbage, read_arguments};
 use crate::procedure::Reading;
 use nr_nfs_args::{
     AccessArgs, CommitArgs, FsinfoArgs, FsstatArgs, GetattrArgs, LookupArgs, PathconfArgs,
     ReadArgs, ReaddirArgs, ReaddirplusArgs, ReadlinkArgs,
 };
+use nr_nfs_base::StatusUnion;
 use nr_nfs_res::{
-    AccessRes, CommitRes, FsinfoRes, FsstatRes, GetattrRes, LookupRes, PathconfRes, ReadRes,
-    ReaddirRes, ReaddirplusRes, ReadlinkRes,
+    AccessRes, CommitRes, FsinfoRes, FsstatRes, GetattrRes, LookupRes, PathconfRes, ReadResRef,
+    ReaddirRes, ReaddirplusRes, ReadlinkRes, write_read_res,
 };
+use nr_rpc::write_reply_head;
 use nr_tree::Tree;
-use nr_xdr::{Memory, Octets};
+use nr_xdr::{Memory, Octets, RoomWriter, pad_len};
 use std::alloc::Global;
 
 /// The reply to a call of the procedure with these arguments.
@@ -38,6 +43,42 @@ pub(crate) fn read<A: Reading>(alloc: Global, tree: &Tree, call: &Call) -> Resul
         }
         None => garbage(alloc, call.xid),
     }
+}
+
+/// The bytes of a reply to a READ beside its data and their pad: the head, the status, the attributes, the count, the flag and
+/// the length of the data.
+const READ_SIZE: usize = HEAD_SIZE + 104;
+
+/// The reply to a READ. Its data are copied once, from the tree into the room of the reply.
+pub(crate) fn read_file(alloc: Global, tree: &Tree, call: &Call) -> Result<Octets, Memory>
+    ensures { IfOk result (λ o. o ≡ reply_with call.now.xid read_res_codec (read_reply tree.now call.now.caller.now) (read_all read_args_codec call.now.arguments.now)) }
+{
+    match read_arguments::<ReadArgs>(alloc, call.arguments)? {
+        Some(arguments) => {
+            let results = nr_ops_file::read(tree, call.caller, arguments);
+            read_reply_of(alloc, call.xid, &results)
+        }
+        None => garbage(alloc, call.xid),
+    }
+}
+
+/// How many bytes of data the results have.
+fn data_len(results: &ReadResRef<'_>) -> usize {
+    match results {
+        StatusUnion::Done(done) => done.bytes().len(),
+        StatusUnion::Failed { .. } => 0,
+    }
+}
+
+/// The reply with these results of a READ.
+fn read_reply_of(alloc: Global, xid: u32, results: &ReadResRef<'_>) -> Result<Octets, Memory>
+    ensures { IfOk result (λ o. o ≡ results_reply xid read_res_codec results.now) }
+{
+    let data = data_len(results);
+    let writer = RoomWriter::with_room(alloc, (READ_SIZE + pad_len(data)).saturating_add(data))?;
+    let writer = write_reply_head(writer, &accepted_head(xid, SUCCESS))?;
+    let writer = write_read_res(results, writer)?;
+    Ok(writer.finish())
 }
 
 impl Reading for GetattrArgs {
@@ -77,16 +118,6 @@ impl Reading for ReadlinkArgs {
 
     fn execute(self, alloc: Global, tree: &Tree, _call: &Call) -> Result<ReadlinkRes, Memory> {
         nr_ops_file::readlink(alloc, tree, self)
-    }
-}
-
-impl Reading for ReadArgs {
-    type Results = ReadRes;
-
-    ghost results = { λ t c space a. read_reply t c a };
-
-    fn execute(self, alloc: Global, tree: &Tree, call: &Call) -> Result<ReadRes, Memory> {
-        nr_ops_file::read(alloc, tree, call.caller, self)
     }
 }
 

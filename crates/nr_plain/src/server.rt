@@ -12,13 +12,13 @@ ghost use Rattle.nr_tree.specs.Steps.{IsBelow, IsBounded};
 ghost use Rattle.nr_plain.specs.Setup.{Setup, Parameters, caller_of, space_of, time_of};
 ghost use Rattle.nr_plain.specs.Code.{IsWithin, changes_from, entry_of, reply_from, tree_from};
 ghost use Rattle.nr_plain.specs.Journal.{nfs_procedure_of, cost_of};
-ghost use Rattle.nr_plain.specs.Replies.{accepted as accepted_head, nfs_by_procedure, nfs_call, mount_call, program_call, call_by_cred, cred_refusal, answer_to};
+ghost use Rattle.nr_plain.specs.Replies.{nfs_by_procedure, nfs_call, mount_call, program_call, call_by_cred, cred_refusal, answer_to};
 ghost use Rattle.nr_plain.specs.Stands.{RepresentsJournal, ExecutesCall, IsCause, state_kept, state_after_answer};
 
 use crate::call::{Call, Change, Request};
 use crate::caller::{caller, time};
 use crate::dispatch::run;
-use crate::encoding::refused;
+use crate::encoding::{accepted_head, refused};
 use crate::fault::Fault;
 use crate::mount;
 use nr_nfs_base::{
@@ -185,7 +185,7 @@ impl Server {
         }
         match NfsProcedure::from_number(request.proc) {
             Some(p) => self.nfs_procedure(alloc, request, p),
-            None => refused(alloc, unavailable(xid, PROC_UNAVAIL)),
+            None => refused(alloc, accepted_head(xid, PROC_UNAVAIL)),
         }
     }
 
@@ -207,7 +207,7 @@ impl Server {
         }
         match MountProcedure::from_number(request.proc) {
             Some(p) => mount::reply(alloc, xid, self.export.as_slice(), p, request.arguments),
-            None => refused(alloc, unavailable(xid, PROC_UNAVAIL)),
+            None => refused(alloc, accepted_head(xid, PROC_UNAVAIL)),
         }
     }
 
@@ -228,7 +228,7 @@ impl Server {
         } else if prog == MOUNT_PROGRAM {
             self.mount(alloc, request, vers)
         } else {
-            refused(alloc, unavailable(request.xid, PROG_UNAVAIL))
+            refused(alloc, accepted_head(request.xid, PROG_UNAVAIL))
         }
     }
 
@@ -344,17 +344,6 @@ fn rest(payload: &[u8], at: usize) -> &[u8]
 {
     let (_, rest) = payload.split_at(at);
     rest
-}
-
-/// The head of a reply to a call that reaches no procedure.
-fn unavailable(xid: u32, stat: u32) -> ReplyHead
-    ensures { result ≡ accepted_head xid stat }
-{
-    ReplyHead::Accepted {
-        xid,
-        stat,
-        results_at: 0,
-    }
 }
 
 /// Why a credential is refused, if it is (RFC 5531 section 9, `auth_stat`).

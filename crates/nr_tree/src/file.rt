@@ -1,9 +1,9 @@
 //! The bytes of a regular file.
 
-ghost use Rattle.std.specs.Prelude.{◌≡◌, ◌+◌, ◌-◌, ◌<◌, ◌≤◌, ◌^◌, [], ◌++◌, length, take, drop, replicate, min, IfOk, OnOk, OnErr};
+ghost use Rattle.std.specs.Prelude.{◌≡◌, ◌+◌, ◌-◌, ◌<◌, ◌≤◌, ◌^◌, [], ◌++◌, length, take, drop, vec_capacity, OnOk, OnErr};
 ghost use Rattle.nr_tree.specs.Bytes.{with_bytes_at, with_length};
 
-use nr_xdr::{Memory, Octets};
+use nr_xdr::Memory;
 use std::alloc::{AllocError, Global};
 use std::marker::Model;
 
@@ -45,11 +45,11 @@ impl File {
         self.bytes.len() as u64
     }
 
-    /// The bytes from a place on, as many as are asked for and are there.
-    pub fn read(&self, alloc: Global, offset: u64, count: u32) -> Result<Octets, Memory>
-        ensures { IfOk result (λ part. part ≡ take count (drop offset self.now)) }
+    /// The bytes from a place on, as many as are asked for and are there. Takes no memory.
+    pub fn read(&self, offset: u64, count: u32) -> &[u8]
+        ensures { result.now ≡ take count (drop offset self.now) }
     {
-        Octets::from_slice(alloc, part_of(self.bytes.as_slice(), offset, count))
+        part_of(self.bytes.as_slice(), offset, count)
     }
 
     /// Writes over the bytes from a place on; a gap before it becomes zeros. After an `Err` the file is as before.
@@ -92,27 +92,55 @@ fn resize(bytes: &mut Vec<u8>, len: usize) -> Result<(), AllocError>
     Ok(())
 }
 
-/// Zeros up to a length, where there are fewer bytes.
-fn fill_to(bytes: &mut Vec<u8>, end: usize) -> Result<(), AllocError>
-    requires { end < 2 ^ 62 }
-    ensures ok { OnOk result (bytes.new.items ≡ bytes.old.items ++ replicate (end - length bytes.old.items) 0) }
-    ensures err { OnErr result (bytes.new.items ≡ bytes.old.items) }
-{
-    if bytes.len() < end {
-        bytes.resize(end, 0)?;
-    }
-    Ok(())
-}
-
-/// Room first: once it is there, nothing fails.
+/// Writes over the bytes from a place on. Where the piece reaches their end, they are cut there, so that no byte is written twice.
 fn write_over(bytes: &mut Vec<u8>, offset: usize, piece: &[u8]) -> Result<(), AllocError>
     requires { offset + length piece.now < 2 ^ 62 }
     ensures ok { OnOk result (bytes.new.items ≡ with_bytes_at bytes.old.items offset piece.now) }
     ensures err { OnErr result (bytes.new.items ≡ bytes.old.items) }
 {
-    fill_to(bytes, offset + piece.len())?;
+    if offset + piece.len() < bytes.len() {
+        write_inside(bytes, offset, piece);
+        return Ok(());
+    }
+    write_last(bytes, offset, piece)
+}
+
+/// Writes a piece that lies within the bytes.
+fn write_inside(bytes: &mut Vec<u8>, offset: usize, piece: &[u8])
+    requires { offset + length piece.now ≤ length bytes.old.items }
+    ensures { bytes.new.items ≡ with_bytes_at bytes.old.items offset piece.now }
+{
     put_at(bytes, offset, piece);
+}
+
+/// Writes a piece with which the bytes end. Room first: once it is there, nothing fails.
+fn write_last(bytes: &mut Vec<u8>, offset: usize, piece: &[u8]) -> Result<(), AllocError>
+    requires fits { offset + length piece.now < 2 ^ 62 }
+    requires last { length bytes.old.items ≤ offset + length piece.now }
+    ensures ok { OnOk result (bytes.new.items ≡ with_bytes_at bytes.old.items offset piece.now) }
+    ensures err { OnErr result (bytes.new.items ≡ bytes.old.items) }
+{
+    bytes.reserve(offset + piece.len() - bytes.len())?;
+    set_len_in_room(bytes, offset);
+    append(bytes, piece);
     Ok(())
+}
+
+/// Cuts the bytes, or adds zeros that have room.
+fn set_len_in_room(bytes: &mut Vec<u8>, len: usize)
+    requires { len ≤ vec_capacity bytes.old }
+    ensures items { bytes.new.items ≡ with_length bytes.old.items len }
+    ensures capacity { vec_capacity bytes.old ≤ vec_capacity bytes.new }
+{
+    let _ = bytes.resize(len, 0);
+}
+
+/// Appends bytes that have room.
+fn append(bytes: &mut Vec<u8>, piece: &[u8])
+    requires { length bytes.old.items + length piece.now ≤ vec_capacity bytes.old }
+    ensures { bytes.new.items ≡ bytes.old.items ++ piece.now }
+{
+    let _ = bytes.extend_from_slice(piece);
 }
 
 fn put_at(bytes: &mut Vec<u8>, offset: usize, piece: &[u8])

@@ -36,7 +36,7 @@ fn file(rt: &impl Abort, alloc: Global, bytes: &[u8]) -> File {
 }
 
 fn read(rt: &impl Abort, alloc: Global, file: &File, offset: u64, count: u32) -> Octets {
-    file.read(alloc, offset, count).expect(rt, "memory")
+    Octets::from_slice(alloc, file.read(offset, count)).expect(rt, "memory")
 }
 
 /// The bytes of a file of these after a write.

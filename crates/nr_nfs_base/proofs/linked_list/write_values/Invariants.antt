@@ -1,6 +1,5 @@
-use Rattle.std.proofs.Common.{take}
 use Rattle.nr_nfs_base.proofs.Appending.{LinkedListGoesOn}
 use Rattle.nr_nfs_base.proofs.linked_list.write_values.Given as goal
 
 abbrev pub invariant-loop-value : goal.invariant-loop-value
-invariant-loop-value g l = LinkedListGoesOn g.T.Xdr.codec l.fn.writer (take l.value-index l.values) l.writer
+invariant-loop-value g l = LinkedListGoesOn g.T.Xdr.codec l.fn.writer l.values l.value-index l.writer

@@ -2,11 +2,8 @@ use Rattle.std.proofs.Common.{◌≡◌, IfOk, OnOk}
 use Rattle.nr_nfs_res.specs.Results.{nfs_result}
 use Rattle.nr_plain.specs.Code.{IsChangeWith, tree_with}
 use Rattle.nr_plain.specs.Programs.{is_done}
-use Rattle.nr_plain.proofs.Calls.{room_when, read_as}
+use Rattle.nr_plain.proofs.Calls.{read_as}
 use Rattle.nr_plain.proofs.changing.change.Goals as goal
-
-pub change_in-requires-clause-room : goal.change_in-requires-clause-room
-change_in-requires-clause-room g c = room_when g.A.Xdr.codec c.args.call.now.arguments.now c.in_ok-arguments.field-0 _ c.in_ok-arguments.ensures c.in-Some.is
 
 pub returns-in-Some-clause-result : goal.returns-in-Some-clause-result
 returns-in-Some-clause-result g c =

@@ -10,10 +10,10 @@ pub returns-in-Setattr-clause-tree : goal.returns-in-Setattr-clause-tree
 returns-in-Setattr-clause-tree c = subst (λ (p : NfsProcedure). OnOk c.change.result (c.change.new.tree ≡ tree_of c.args.tree.now c.args.call.now p)) (sym c.in-Setattr.is) c.change.ensures.tree
 
 pub returns-in-Write-clause-result : goal.returns-in-Write-clause-result
-returns-in-Write-clause-result c = subst (λ (p : NfsProcedure). IfOk c.change-in-Write.result (IsChange c.args.tree.now c.args.call.now p)) (sym c.in-Write.is) c.change-in-Write.ensures.result
+returns-in-Write-clause-result c = subst (λ (p : NfsProcedure). IfOk c.write_file.result (IsChange c.args.tree.now c.args.call.now p)) (sym c.in-Write.is) c.write_file.ensures.result
 
 pub returns-in-Write-clause-tree : goal.returns-in-Write-clause-tree
-returns-in-Write-clause-tree c = subst (λ (p : NfsProcedure). OnOk c.change-in-Write.result (c.change-in-Write.new.tree ≡ tree_of c.args.tree.now c.args.call.now p)) (sym c.in-Write.is) c.change-in-Write.ensures.tree
+returns-in-Write-clause-tree c = subst (λ (p : NfsProcedure). OnOk c.write_file.result (c.write_file.new.tree ≡ tree_of c.args.tree.now c.args.call.now p)) (sym c.in-Write.is) c.write_file.ensures.tree
 
 pub returns-in-Create-clause-result : goal.returns-in-Create-clause-result
 returns-in-Create-clause-result c = subst (λ (p : NfsProcedure). IfOk c.change-in-Create.result (IsChange c.args.tree.now c.args.call.now p)) (sym c.in-Create.is) c.change-in-Create.ensures.result

@@ -19,7 +19,7 @@ pub returns-in-Readlink : goal.returns-in-Readlink
 returns-in-Readlink c = subst (λ (p : NfsProcedure). IfOk c.read-in-Readlink.result (λ o. o ≡ reply_of c.args.tree.now c.args.call.now p)) (sym c.in-Readlink.is) c.read-in-Readlink.ensures
 
 pub returns-in-Read : goal.returns-in-Read
-returns-in-Read c = subst (λ (p : NfsProcedure). IfOk c.read-in-Read.result (λ o. o ≡ reply_of c.args.tree.now c.args.call.now p)) (sym c.in-Read.is) c.read-in-Read.ensures
+returns-in-Read c = subst (λ (p : NfsProcedure). IfOk c.read_file.result (λ o. o ≡ reply_of c.args.tree.now c.args.call.now p)) (sym c.in-Read.is) c.read_file.ensures
 
 pub returns-in-Readdir : goal.returns-in-Readdir
 returns-in-Readdir c = subst (λ (p : NfsProcedure). IfOk c.read-in-Readdir.result (λ o. o ≡ reply_of c.args.tree.now c.args.call.now p)) (sym c.in-Readdir.is) c.read-in-Readdir.ensures

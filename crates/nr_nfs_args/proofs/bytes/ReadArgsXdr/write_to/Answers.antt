@@ -1,7 +1,11 @@
 use Rattle.nr_nfs_args.specs.Bytes.{read_args_codec}
-use Rattle.nr_nfs_base.proofs.Appending.{appends_then}
+use Rattle.nr_nfs_base.proofs.Appending.{writes_then, lacks_more, refused}
 use Rattle.nr_nfs_args.proofs.bytes.ReadArgsXdr.write_to.Goals as goal
 
 pub returns : goal.returns
 unfolding read_args_codec
-returns c = record { ok = appends_then c.write_to.result _ _ c.in_ok-writer.ensures c.write_to.ensures.ok }
+returns c = record { exact = writes_then c.write_to.result _ _ c.in_ok-writer.ensures c.write_to.ensures.exact }
+
+pub returns-in_err-writer : goal.returns-in_err-writer
+unfolding read_args_codec
+returns-in_err-writer c = record { exact = refused c.args.writer _ _ c.from_residual.result c.from_residual.ensures.0 (lacks_more c.args.writer.left _ _ c.in_err-writer.ensures) }

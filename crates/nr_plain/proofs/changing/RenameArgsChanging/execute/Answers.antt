@@ -1,5 +1,4 @@
-use Rattle.nr_plain.proofs.PutSizes.{rename_results_fit}
-use Rattle.nr_plain.proofs.Fits.{any_ok}
+use Rattle.nr_plain.proofs.Fits.{any_ok, rename_results_fit}
 use Rattle.nr_plain.proofs.changing.RenameArgsChanging.execute.Goals as goal
 
 pub returns-clause-fits : goal.returns-clause-fits

@@ -1,5 +1,4 @@
-use Rattle.nr_plain.proofs.PutSizes.{wcc_results_fit}
-use Rattle.nr_plain.proofs.Fits.{any_ok}
+use Rattle.nr_plain.proofs.Fits.{any_ok, wcc_results_fit}
 use Rattle.nr_plain.proofs.changing.SetattrArgsChanging.execute.Goals as goal
 
 pub returns-clause-fits : goal.returns-clause-fits
