@@ -9,6 +9,7 @@ use Rattle.nr_reduce.specs.declared.call.Call.{Call}
 use Rattle.nr_reduce.specs.declared.outline.Plan.{Plan}
 use Rattle.nr_reduce.specs.KeptCalls.{KeptCall}
 use Rattle.nr_reduce.specs.KeptClient.{KeptClient, released_all, sent_kept, kept_sent, kept_of, kept_submitted, kept_revoked, revoked_kept, stags_for as kept_stags}
+use Rattle.nr_requester.proofs.Sent.{stags_are_lem}
 use Rattle.nr_requester.specs.RequesterState.{StoredCall, RequesterSide, kept_call, kept_client}
 use Rattle.nr_requester.specs.AfterCalls.{stored_call, after_submit, sent_unless, after_drain, revoked_call, stags_for, after_revoke}
 
@@ -44,9 +45,9 @@ map_one first sent (x ∷ cs) c = ap (λ (xs : List KeptCall). kept_call first s
 pub kept_accepted : (h : RequesterSide) (call : Call) (plan : Plan) → h.state.sent ≤ h.state.next_xid - h.state.first_xid → kept_submitted (kept_client h.state) call plan ≡ kept_client (after_submit h call plan).state
 unfolding kept_submitted
 kept_accepted h call plan few =
-    let c : StoredCall = stored_call h.state.next_xid call plan h.state.side.memory.next in
+    let c : StoredCall = stored_call h.state.next_xid call plan h.state.side.memory in
     let unsent : ltb (h.state.next_xid - h.state.first_xid) h.state.sent ≡ false = le-ltb (h.state.next_xid - h.state.first_xid) h.state.sent few in
-    let one : kept_of h.state.next_xid call plan h.state.side.memory.next ≡ kept_call h.state.first_xid h.state.sent c = λ i. record { xid = h.state.next_xid; is_sent = sym unsent i; call = Some call; offered = c.offered; stags = c.stags } in
+    let one : kept_of h.state.next_xid call plan h.state.side.memory.next ≡ kept_call h.state.first_xid h.state.sent c = λ i. record { xid = h.state.next_xid; is_sent = sym unsent i; call = Some call; offered = c.offered; stags = sym (stags_are_lem h.state.side.memory plan) i } in
     let count : length h.state.outstanding + 1 ≡ length (h.state.outstanding ++ c ∷ []) = sym (length-append h.state.outstanding (c ∷ [])) in
     let calls : map (kept_call h.state.first_xid h.state.sent) h.state.outstanding ++ kept_of h.state.next_xid call plan h.state.side.memory.next ∷ [] ≡ map (kept_call h.state.first_xid h.state.sent) (h.state.outstanding ++ c ∷ []) =
     ap (λ (x : KeptCall). map (kept_call h.state.first_xid h.state.sent) h.state.outstanding ++ x ∷ []) one ∙ sym (map_one h.state.first_xid h.state.sent h.state.outstanding c) in

@@ -18,3 +18,4 @@ pub mod Fed
 pub mod OwnLaw
 pub mod HeldRegions
 pub mod OwnOffers
+pub mod Stepping

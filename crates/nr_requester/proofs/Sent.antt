@@ -6,7 +6,6 @@ use Rattle.nr_regions.specs.declared.right.Right.TheVariants.{Fetch, Fill}
 use Rattle.nr_regions.specs.RegisteredMemory.{RegisteredMemory, after_register}
 use Rattle.nr_link.specs.declared.end.End.{End}
 use Rattle.nr_endpoint.specs.declared.offering.Offered.{Offered}
-use Rattle.nr_endpoint.specs.declared.offering.Claims.{Claims}
 use Rattle.nr_endpoint.specs.LinkState.{LinkState, LinkSide}
 use Rattle.nr_endpoint.specs.SendQueue.{with_send}
 use Rattle.nr_endpoint.specs.Calls.{with_state, after_calls}
@@ -17,7 +16,7 @@ use Rattle.nr_reduce.specs.Plans.{Buffer, buffers, buffer_if, regions_needed, ha
 use Rattle.nr_reduce.specs.KeptClient.{registered_all}
 use Rattle.nr_requester.specs.AfterCalls.{submitted}
 use Rattle.nr_requester.specs.Sending.{some_if, offered_of}
-use Rattle.nr_requester.specs.Views.{stag_of, stags_of}
+use Rattle.nr_requester.specs.RequesterState.{stag_of, stags_of}
 
 -- ---- Its regions
 
@@ -86,9 +85,6 @@ stags_are_lem m p =
     ++ one_stag (with_write_buffer m (offered_of p)) (has_segment p.reply) (reply_stag m.next p) Fill (replicate (total p.reply) 0) third i))
     ∙ ap (λ (ss : List ℕ). map (λ (x : Buffer). x.stag) r ++ ss) (sym (map_both w y))
     ∙ sym (map_both r (w ++ y))
-
-pub claims_stags : (m : RegisteredMemory) (p : Plan) (offered : Offered) (claims : Claims) → claims ≡ claims_of m offered → offered ≡ offered_of p → stags_of claims ≡ map (λ b. b.stag) (buffers m.next p)
-claims_stags m p offered claims is are = ap stags_of (is ∙ ap (claims_of m) are) ∙ stags_are_lem m p
 
 -- ---- The side of the link
 

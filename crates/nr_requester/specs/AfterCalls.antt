@@ -4,12 +4,16 @@ use Rattle.std.specs.List.{find}
 use Rattle.nr_wire.specs.declared.hello.Side.TheVariants.{Initiator, Responder}
 use Rattle.nr_wire.specs.declared.stream.Awaited.TheVariants.{Hello as HelloFrom}
 use Rattle.nr_endpoint.specs.LinkState.{LinkState, has_ended, initial_state}
+use Rattle.nr_regions.specs.RegisteredMemory.{RegisteredMemory}
 use Rattle.nr_endpoint.specs.SendQueue.{written, with_send}
+use Rattle.nr_endpoint.specs.declared.offering.Claims.{Claims}
+use Rattle.nr_endpoint.specs.Offering.{claims_of}
 use Rattle.nr_reduce.specs.declared.call.Call.{Call}
 use Rattle.nr_reduce.specs.declared.outline.Plan.{Plan}
 use Rattle.nr_reduce.specs.Plans.{Buffer, buffers, call_message, lists_of}
 use Rattle.nr_reduce.specs.KeptClient.{registered_all, released_all}
-use Rattle.nr_requester.specs.RequesterState.{StoredCall, RequesterSide}
+use Rattle.nr_requester.specs.RequesterState.{stags_of, StoredCall, RequesterSide}
+use Rattle.nr_requester.specs.Sending.{offered_of}
 
 unfoldable pub opened_as : (first_xid first_stag wished : ℕ) → RequesterSide
 opened_as first_xid first_stag wished = record {
@@ -22,9 +26,9 @@ opened_as first_xid first_stag wished = record {
 abbrev pub submitted : LinkState → (message : List ℕ) → List Buffer → LinkState
 submitted s message bs = record s { memory = registered_all s.memory bs; send_queue = with_send message s.send_queue }
 
--- what is stored of a call that is accepted under an xid, by a plan whose first region gets this STag
-abbrev pub stored_call : ℕ → Call → Plan → ℕ → StoredCall
-stored_call xid call plan stag = record { xid = xid; call = Some call; offered = lists_of stag plan; stags = map (λ b. b.stag) (buffers stag plan) }
+-- what is stored of a call that is accepted under an xid, by a plan whose regions are registered in this memory
+abbrev pub stored_call : ℕ → Call → Plan → RegisteredMemory → StoredCall
+stored_call xid call plan m = record { xid = xid; call = Some call; offered = lists_of m.next plan; claims = claims_of m (offered_of plan) }
 
 -- after a call was accepted, by this plan
 abbrev pub after_submit : RequesterSide → Call → Plan → RequesterSide
@@ -32,7 +36,7 @@ after_submit h call plan = record h {
   state = record h.state {
     side = submitted h.state.side (call_message h.state.next_xid h.state.wished h.state.side.memory.next plan) (buffers h.state.side.memory.next plan);
     next_xid = h.state.next_xid + 1;
-    outstanding = h.state.outstanding ++ stored_call h.state.next_xid call plan h.state.side.memory.next ∷ [];
+    outstanding = h.state.outstanding ++ stored_call h.state.next_xid call plan h.state.side.memory ∷ [];
   };
 }
 
@@ -51,9 +55,13 @@ after_drain n h = record h {
   };
 }
 
+-- no regions
+abbrev pub no_claims : Claims
+no_claims = record { read = None; write = None; reply = None }
+
 -- the memory of a call is revoked: its regions are released, and the call is handed back
 abbrev pub revoked_if : Bool → StoredCall → StoredCall
-revoked_if true c = record { xid = c.xid; call = None; offered = c.offered; stags = [] }
+revoked_if true c = record { xid = c.xid; call = None; offered = c.offered; claims = no_claims }
 revoked_if false c = c
 
 abbrev pub revoked_call : ℕ → StoredCall → StoredCall
@@ -62,7 +70,7 @@ revoked_call xid c = revoked_if (c.xid == xid) c
 -- the STags of the call of an xid
 abbrev pub stags_in : Option StoredCall → List ℕ
 stags_in None = []
-stags_in (Some c) = c.stags
+stags_in (Some c) = stags_of c.claims
 
 abbrev pub stags_for : ℕ → List StoredCall → List ℕ
 stags_for xid calls = stags_in (find (λ c. c.xid == xid) calls)

@@ -1,8 +1,10 @@
 -- What a requester is: its side of the link, and what it keeps of its calls.
-use Rattle.std.specs.Prelude.{ℕ, ◌-◌, nat_lt, List, length, map, Option}
+use Rattle.std.specs.Prelude.{ℕ, ◌-◌, nat_lt, List, [], ◌∷◌, ◌++◌, length, map, Option, None, Some}
 use Rattle.nr_wire.specs.Feeding.{Feeding}
 use Rattle.nr_header.specs.declared.header.ChunkLists.{ChunkLists}
+use Rattle.nr_regions.specs.RegisteredMemory.{Claim}
 use Rattle.nr_link.specs.Input.{InputState}
+use Rattle.nr_endpoint.specs.declared.offering.Claims.{Claims}
 use Rattle.nr_endpoint.specs.LinkState.{LinkState}
 use Rattle.nr_endpoint.specs.SendQueue.{writable}
 use Rattle.nr_reduce.specs.declared.call.Call.{Call}
@@ -10,13 +12,21 @@ use Rattle.nr_reduce.specs.Limits.{send_max}
 use Rattle.nr_reduce.specs.KeptCalls.{KeptCall}
 use Rattle.nr_reduce.specs.KeptClient.{KeptClient}
 
--- A call that is outstanding: the call, until its memory is revoked; the lists that its reply has to repeat; the STags of its regions, in
--- the order in which they were offered, and none once they are released.
+-- the STags of some registrations, in the order in which they were made
+abbrev pub stag_of : Option Claim → List ℕ
+stag_of None = []
+stag_of (Some claim) = claim.stag ∷ []
+
+abbrev pub stags_of : Claims → List ℕ
+stags_of c = stag_of c.read ++ (stag_of c.write ++ stag_of c.reply)
+
+-- A call that is outstanding: the call, until its memory is revoked; the lists that its reply has to repeat; its regions, and none once they
+-- are released.
 pub record StoredCall : Type 0 where
   pub xid : ℕ
   pub call : Option Call
   pub offered : ChunkLists
-  pub stags : List ℕ
+  pub claims : Claims
 
 -- The side of the link, without the input that isn't a complete frame; how many Sends have wholly left, until the side has ended; the
 -- credits that it wishes for; its first xid and the one that it gives next; the credits that are granted; the outstanding calls, in the
@@ -40,7 +50,7 @@ queue_of r = writable r.side.has_hello r.side.send_queue
 
 -- A call as a client keeps it. Xids and the Sends of calls both go by the order of Submits, so a Send has left if so many have.
 abbrev pub kept_call : (first sent : ℕ) → StoredCall → KeptCall
-kept_call first sent c = record { xid = c.xid; is_sent = nat_lt (c.xid - first) sent; call = c.call; offered = c.offered; stags = c.stags }
+kept_call first sent c = record { xid = c.xid; is_sent = nat_lt (c.xid - first) sent; call = c.call; offered = c.offered; stags = stags_of c.claims }
 
 abbrev pub kept_calls : RequesterState → List KeptCall
 kept_calls r = map (kept_call r.first_xid r.sent) r.outstanding

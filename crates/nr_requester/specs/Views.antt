@@ -1,22 +1,13 @@
 -- What the code keeps, as the definitions see it.
-use Rattle.std.specs.Prelude.{◌≡◌, ℕ, ◌^◌, ◌≤◌, length, List, [], ◌∷◌, ◌++◌, map, Option, None, Some}
+use Rattle.std.specs.Prelude.{◌≡◌, ℕ, ◌^◌, ◌≤◌, length, List, [], map}
 use Rattle.std.specs.List.{AllByRecursion}
-use Rattle.nr_regions.specs.RegisteredMemory.{Claim}
-use Rattle.nr_endpoint.specs.declared.offering.Claims.{Claims}
 use Rattle.nr_endpoint.specs.LinkState.{LinkSide}
 use Rattle.nr_requester.specs.declared.outstanding.OutstandingCall.{OutstandingCall}
 use Rattle.nr_requester.specs.RequesterState.{StoredCall, RequesterSide}
 use Rattle.nr_requester.specs.HeldClaims.{AreHeldFrom, all_claims, OffersOwn}
 
-abbrev pub stag_of : Option Claim → List ℕ
-stag_of None = []
-stag_of (Some claim) = claim.stag ∷ []
-
-abbrev pub stags_of : Claims → List ℕ
-stags_of c = stag_of c.read ++ (stag_of c.write ++ stag_of c.reply)
-
 abbrev pub stored_view : OutstandingCall → StoredCall
-stored_view c = record { xid = c.xid; call = c.call; offered = c.offered; stags = stags_of c.claims }
+stored_view c = record { xid = c.xid; call = c.call; offered = c.offered; claims = c.claims }
 
 -- What holds of each requester: its numbers are in range, and no more calls are outstanding than credits can be granted; no event waits
 -- and no receive is lent; the regions of its calls are held, and are those that the calls offer.

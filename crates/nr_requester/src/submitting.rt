@@ -3,6 +3,7 @@
 ghost use Rattle.std.specs.Prelude.{◌≡◌, ◌≢◌, ℕ, ◌+◌, ◌^◌, ◌<◌, ◌≤◌, map, length, replicate, None, Ok, IfOk, IfErr, OnOk, OnErr, MatchOption};
 ghost use Rattle.nr_rpc.specs.Credential.{CanWriteCred};
 ghost use Rattle.nr_endpoint.specs.Calls.{with_state};
+ghost use Rattle.nr_endpoint.specs.Offering.{claims_of};
 ghost use Rattle.nr_endpoint.specs.LinkState.{LinkSide};
 ghost use Rattle.nr_reduce.specs.Plans.{buffers, has_segment, total, regions_needed, call_message, lists_of};
 ghost use Rattle.nr_reduce.specs.declared.call.Refused.TheVariants as refusals;
@@ -10,10 +11,9 @@ ghost use Rattle.nr_reduce.specs.declared.call.Submission.TheVariants as submiss
 ghost use Rattle.nr_reduce.specs.declared.mark.Mark.TheVariants as marks;
 ghost use Rattle.nr_requester.specs.AfterCalls.{submitted, after_submit};
 ghost use Rattle.nr_requester.specs.Answers.{answer_of, answer_by_plan, plan_under, WasSent};
-ghost use Rattle.nr_requester.specs.Sending.{AreFew, IsPlan, HasNumbers, answer_for, some_if, xid_word};
+ghost use Rattle.nr_requester.specs.Sending.{AreFew, IsPlan, HasNumbers, answer_for, offered_of, some_if, xid_word};
 ghost use Rattle.nr_requester.specs.HeldClaims.{SentHeld, IsOfferOf};
 ghost use Rattle.nr_requester.specs.Standing.{StandsOn};
-ghost use Rattle.nr_requester.specs.Views.{stags_of};
 
 use crate::messages::{call_bytes, lists_of, message_of, regions_needed, some_region, zeros};
 use crate::outstanding::OutstandingCall;
@@ -77,7 +77,7 @@ fn send_plan(
     requires stags { endpoint.old.link.state.memory.next + regions_needed plan ≤ 2 ^ 32 }
     ensures link { OnOk result (endpoint.new.link ≡ with_state (submitted endpoint.old.link.state (call_message xid credit endpoint.old.link.state.memory.next plan) (buffers endpoint.old.link.state.memory.next plan)) endpoint.old.link) }
     ensures lists { IfOk result (λ s. s.lists ≡ lists_of endpoint.old.link.state.memory.next plan) }
-    ensures claims { IfOk result (λ s. stags_of s.claims ≡ map (λ b. b.stag) (buffers endpoint.old.link.state.memory.next plan)) }
+    ensures claims { IfOk result (λ s. s.claims ≡ claims_of endpoint.old.link.state.memory (offered_of plan)) }
     ensures held { IfOk result (λ s. SentHeld endpoint.old.link.state.memory endpoint.new.link.state.memory s.claims) }
     ensures offer { IfOk result (λ s. IsOfferOf s.claims s.lists) }
     ensures err { OnErr result (endpoint.new.link ≡ endpoint.old.link) }

@@ -1,12 +1,12 @@
 use Rattle.std.proofs.Common.{◌≡◌, ℕ, ◌-◌, List, length, ap, ◌∙◌, arith}
 use Rattle.nr_regions.specs.RegisteredMemory.{RegisteredMemory}
 use Rattle.nr_endpoint.specs.declared.offering.Offered.{Offered}
-use Rattle.nr_endpoint.specs.Offering.{offered_count}
+use Rattle.nr_endpoint.specs.Offering.{offered_count, claims_of}
 use Rattle.nr_reduce.specs.Plans.{call_message, lists_of}
 use Rattle.nr_reduce.proofs.Sizes.{message_size}
 use Rattle.nr_requester.specs.declared.submitting.Prepared.{Prepared}
 use Rattle.nr_requester.proofs.Sized.{few, plan_fits}
-use Rattle.nr_requester.proofs.Sent.{count_offered, claims_stags, offered_parts, offered_memory, offered_view}
+use Rattle.nr_requester.proofs.Sent.{count_offered, offered_parts, offered_memory, offered_view}
 use Rattle.nr_requester.proofs.HeldRegions.{sent_held}
 use Rattle.nr_requester.proofs.OwnOffers.{own_offer}
 use Rattle.nr_requester.proofs.submitting.send_plan.Goals as goal
@@ -39,7 +39,7 @@ returns-in-Ok-clause-link c =
     (offered_parts c.args.plan c.some_region.result c.in_ok-message.field-0.write c.in_ok-message.field-0.reply c.some_region.ensures (ap (λ (x : Prepared). x.write) c.in_ok-message.ensures) (ap (λ (x : Prepared). x.reply) c.in_ok-message.ensures))
 
 pub returns-in-Ok-clause-claims : goal.returns-in-Ok-clause-claims
-returns-in-Ok-clause-claims c = claims_stags c.args.endpoint.now.link.state.memory c.args.plan (record { read = c.some_region.result; write = c.in_ok-message.field-0.write; reply = c.in_ok-message.field-0.reply }) c.in-Ok.claims c.in-Ok.ensures.claims (offered_parts c.args.plan c.some_region.result c.in_ok-message.field-0.write c.in_ok-message.field-0.reply c.some_region.ensures (ap (λ (x : Prepared). x.write) c.in_ok-message.ensures) (ap (λ (x : Prepared). x.reply) c.in_ok-message.ensures))
+returns-in-Ok-clause-claims c = c.in-Ok.ensures.claims ∙ ap (λ (o : Offered). claims_of c.args.endpoint.now.link.state.memory o) (offered_parts c.args.plan c.some_region.result c.in_ok-message.field-0.write c.in_ok-message.field-0.reply c.some_region.ensures (ap (λ (x : Prepared). x.write) c.in_ok-message.ensures) (ap (λ (x : Prepared). x.reply) c.in_ok-message.ensures))
 
 pub returns-in-Ok-clause-held : goal.returns-in-Ok-clause-held
 returns-in-Ok-clause-held c =
