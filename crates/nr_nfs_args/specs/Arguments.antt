@@ -1,6 +1,5 @@
 -- The arguments of each procedure: the type of their values, and its codec (RFC 1813 sections 3.3 and 5.2).
-use Rattle.std.specs.Prelude.{List, ℕ}
-use Rattle.nr_nfs_base.specs.Codec.{Codec, ReadsAs}
+use Rattle.nr_nfs_base.specs.Codec.{Codec}
 use Rattle.nr_nfs_base.specs.declared.procedure.MountProcedure.{MountProcedure}
 use Rattle.nr_nfs_base.specs.declared.procedure.MountProcedure.TheVariants as mount
 use Rattle.nr_nfs_base.specs.declared.procedure.NfsProcedure.{NfsProcedure}

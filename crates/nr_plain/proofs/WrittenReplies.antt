@@ -1,5 +1,5 @@
 -- Replies that are written into a writer with room: the head, and the results after it.
-use Rattle.std.proofs.Common.{◌≡◌, ℕ, ◌+◌, ◌≤◌, ◌<◌, List, [], ◌++◌, length, refl, ap, sym, ◌∙◌, arith, length-append}
+use Rattle.std.proofs.Common.{◌≡◌, ℕ, ◌≤◌, ◌<◌, List, [], ◌++◌, length, refl, ap, ◌∙◌, arith, length-append}
 use Rattle.nr_xdr.specs.Item.{word, pad_len}
 use Rattle.nr_xdr.specs.Items.{encodings}
 use Rattle.nr_xdr.specs.Room.{Room, HasRoom, Appended}

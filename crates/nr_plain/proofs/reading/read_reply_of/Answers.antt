@@ -1,4 +1,4 @@
-use Rattle.std.proofs.Common.{ap, ◌∙◌}
+use Rattle.std.proofs.Common.{ap}
 use Rattle.nr_xdr.specs.Room.{Room}
 use Rattle.nr_nfs_res.specs.Results.{read_res_codec}
 use Rattle.nr_plain.proofs.WrittenReplies.{reply_written}
