@@ -128,6 +128,25 @@ fn placed_and_released(rt: HostRuntime) {
     released(&rt, regions, registration);
 }
 
+/// A region that is a part of its buffer: the peer reaches that part alone, and the buffer comes back complete.
+fn placed_in_window(rt: &impl Abort, alloc: Global) {
+    let mut regions = Regions::new(alloc, 1);
+    let buf = Octets::from_slice(alloc, b"head....tail").expect(rt, "memory");
+    let Ok(registration) = regions.register_window(buf, 4, 4, Right::Sink) else {
+        panic!(rt; "memory");
+    };
+    same(rt, 0, regions.place(Kind::Response, 1, 1, b"ire"), Ok(()));
+    same(rt, 1, regions.place(Kind::Response, 1, 4, b"x"), Err(Denied::Bounds));
+    same(rt, 2, regions.bytes(&registration), b".ire".as_slice());
+    let buf = regions.release_buffer(registration);
+    same(rt, 3, buf.as_slice(), b"head.iretail".as_slice());
+}
+
+#[test]
+fn window(rt: HostRuntime) {
+    placed_in_window(&rt, rt.alloc());
+}
+
 // The STag, the place, the length, and the answer.
 static FETCHES: [(u32, u64, u64, Result<&[u8], Denied>); 8] = [
     (0xffff_fffd, 1, 4, Ok(b"hown")),
