@@ -6,8 +6,9 @@ use crate::given::Way::{Auto, Chunk, Inline, Long, Offer};
 use crate::given::{Given, Payload, Way, form_of, payload_of};
 use nr_reduce::{
     Form, Item, Lengths, PayloadFault, Plan, call_item_of, call_parts, largest_reply_of,
-    outline_of, plan, plans_convey_payloads,
+    outline_of, plan, plans_convey_payloads, written_parts,
 };
+use nr_rpc::{CallTarget, Cred, write_call_head};
 use std::alloc::Global;
 use std::process::Abort;
 
@@ -439,4 +440,21 @@ fn outlines_own_no_bytes(rt: HostRuntime) {
     let region = outline.region(rt.alloc(), parts.head, parts.args);
     let region = region.expect(&rt, "memory");
     same(&rt, 4, region.len(), 925);
+}
+
+/// A call of NULL whose head was written: none of its 40 bytes is read.
+#[test]
+fn written_heads_are_not_read(rt: HostRuntime) {
+    let cred = Cred::None;
+    let target = CallTarget {
+        xid: 9,
+        prog: 100_003,
+        vers: 3,
+        proc: 0,
+        args_at: 0,
+    };
+    let head = write_call_head(rt.alloc(), target, &cred).expect(&rt, "memory");
+    let parts = written_parts(target, &cred, head.as_slice(), &[]);
+    same(&rt, 0, parts.target.args_at, 40);
+    same(&rt, 1, largest_reply_of(parts), 32);
 }
