@@ -7,7 +7,7 @@ use Rattle.std.specs.Prelude.{slice_get, map}
 use Rattle.nr_tree.specs.Entries.{Entry, NamesAreValid}
 use Rattle.nr_tree.specs.Tree.{Tree}
 use Rattle.nr_ops_dir.specs.Readdir.{longest, total, name_size}
-use Rattle.nr_ops_dir.specs.Sizes.{size_in, within}
+use Rattle.nr_ops_dir.specs.private.Sizes.{size_in, within}
 use Rattle.nr_ops_dir.specs.declared.listings.Limits.{Limits}
 
 -- ===== lists

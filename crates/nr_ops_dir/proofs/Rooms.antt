@@ -21,7 +21,7 @@ use Rattle.nr_tree.specs.declared.node.Content.TheVariants.{Directory}
 use Rattle.nr_tree.proofs.PassedRules.{got}
 use Rattle.nr_ops_dir.specs.Readdir.{longest, goes_on, total, name_size, listing_rules, room_rules, readdir_fits, readdir_left, readdir_taken, readdir_in, readdir_rules, readdirplus_fits, readdirplus_left, readdirplus_taken, readdirplus_in, readdirplus_rules}
 use Rattle.nr_nfs_base.specs.Limits.{listing_max}
-use Rattle.nr_ops_dir.specs.Sizes.{entry_size, size_in, empty_size, within, IsRange}
+use Rattle.nr_ops_dir.specs.private.Sizes.{entry_size, size_in, empty_size, within, IsRange}
 use Rattle.nr_ops_dir.specs.declared.listings.Limits.{Limits}
 use Rattle.nr_ops_dir.specs.declared.listings.Range.{Range}
 use Rattle.nr_ops_dir.specs.declared.listings.Detail.TheVariants.{Names, Nodes}

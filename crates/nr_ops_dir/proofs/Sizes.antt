@@ -23,7 +23,7 @@ use Rattle.nr_tree.specs.Replies.{attributes_at}
 use Rattle.nr_tree.specs.declared.node.Node.{Node}
 use Rattle.nr_ops_dir.specs.Nodes.{attributes_of_number, handle_of_live}
 use Rattle.nr_ops_dir.specs.Readdir.{listed, listed_plus, readdir_ok, readdirplus_ok, cookie_verifier, total}
-use Rattle.nr_ops_dir.specs.Sizes.{entry_size, node_size, size_in, empty_size}
+use Rattle.nr_ops_dir.specs.private.Sizes.{entry_size, node_size, size_in, empty_size}
 use Rattle.nr_ops_dir.specs.declared.listings.Detail.TheVariants.{Nodes}
 
 -- ===== items

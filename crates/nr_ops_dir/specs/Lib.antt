@@ -7,4 +7,4 @@ pub mod Renaming
 pub mod Creation
 pub mod Create
 pub mod Readdir
-pub mod Sizes
+pub mod private

@@ -9,7 +9,7 @@ ghost use Rattle.nr_tree.specs.Tree.{attributes_of};
 ghost use Rattle.nr_xdr.specs.Item.{pad_len};
 ghost use Rattle.nr_ops_dir.specs.Readdir.{longest, goes_on, listing_rules, name_size as size_of_name};
 ghost use Rattle.nr_nfs_base.specs.Limits.{listing_max};
-ghost use Rattle.nr_ops_dir.specs.Sizes.{node_size as size_of_node, size_in, within, empty_size, IsRange};
+ghost use Rattle.nr_ops_dir.specs.private.Sizes.{node_size as size_of_node, size_in, within, empty_size, IsRange};
 
 use nr_nfs_base::{Caller, LISTING_MAX, Status, Verifier};
 use nr_tree::{Content, Directory, Node, Right, Tree, may};

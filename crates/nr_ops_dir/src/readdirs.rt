@@ -5,7 +5,7 @@ ghost use Rattle.nr_tree.specs.Rules.{first};
 ghost use Rattle.nr_tree.specs.Sane.{IsSane};
 ghost use Rattle.nr_tree.specs.Entries.{NamesAreValid};
 ghost use Rattle.nr_ops_dir.specs.Readdir.{readdir_rules, readdir_taken, readdir_left, readdir_reply, readdirplus_rules, readdirplus_taken, readdirplus_left, readdirplus_reply};
-ghost use Rattle.nr_ops_dir.specs.Sizes.{IsRange};
+ghost use Rattle.nr_ops_dir.specs.private.Sizes.{IsRange};
 
 use crate::listed::{list_names, list_nodes};
 use crate::listings::{Detail, Range, directory_to_list, limits_of, range_within};

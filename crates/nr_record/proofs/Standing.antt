@@ -12,7 +12,7 @@ use Rattle.nr_record.specs.declared.records.WaitingRecord.{WaitingRecord}
 use Rattle.nr_record.specs.Constants.{RECORD_MAX, HEADER_LEN, REASON_RECORD}
 use Rattle.nr_record.specs.Records.{header, fragment, fragments, Cut, content, encodings}
 use Rattle.nr_record.specs.Kept.{Kept, IsWithin, waiting_from, InHeader, InFragment, IsState, Stands, StandsFor}
-use Rattle.nr_record.specs.Step.{with_record, ended, with_header, with_byte, with_payload, with_fault}
+use Rattle.nr_record.specs.private.Step.{with_record, ended, with_header, with_byte, with_payload, with_fault}
 use Rattle.nr_record.proofs.Lists.{encodings_end, fragments_end, concat_end, waiting_end, waiting_length, drop-end, all-end, read_more, count_more}
 
 abbrev pub State : Type 1

@@ -11,7 +11,7 @@ use Rattle.nr_record.specs.declared.records.WaitingRecord.{WaitingRecord}
 use Rattle.nr_record.specs.Constants.{RECORD_MAX, HEADER_LEN, REASON_RECORD}
 use Rattle.nr_record.specs.Records.{fragments, Cut, contents, encoding, encodings}
 use Rattle.nr_record.specs.Kept.{Kept, KeepsWaiting, waiting_from, IsState, Stands, StandsFor}
-use Rattle.nr_record.specs.Step.{with_record, ended, with_header, with_byte, with_payload}
+use Rattle.nr_record.specs.private.Step.{with_record, ended, with_header, with_byte, with_payload}
 use Rattle.nr_record.proofs.Lists.{waiting_length}
 
 -- the first record that waits

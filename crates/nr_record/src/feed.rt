@@ -12,7 +12,7 @@ use std::mem;
 impl Records {
     ghost use Rattle.nr_record.specs.Kept.{kept, StandsFor, IsFaultOf, KeepsWaiting};
     ghost use Rattle.nr_record.specs.Records.{IsAboveAt};
-    ghost use Rattle.nr_record.specs.Step.{ended, with_header, with_byte, with_payload, with_fault};
+    ghost use Rattle.nr_record.specs.private.Step.{ended, with_header, with_byte, with_payload, with_fault};
 
     /// Takes in the next bytes of the stream. `Bad` exactly if the length of a fragment takes the sum of its record above 1056768;
     /// `at` is the offset of the header of the first such fragment. A fault is kept, and each later call answers it again. The
@@ -104,7 +104,7 @@ impl Records {
         self.add_to_payload(bytes)
     }
 
-    #[tactic(auto, unfolding(crate::specs::Step::with_byte))]
+    #[tactic(auto, unfolding(crate::specs::private::Step::with_byte))]
     fn add_to_header(&mut self, byte: u8)
         requires within { self.old.count < 2 ^ 62 }
         requires room { deque_len self.old.waiting < deque_capacity self.old.waiting }
@@ -120,7 +120,7 @@ impl Records {
         self.begin(word);
     }
 
-    #[tactic(auto, unfolding(crate::specs::Step::with_header))]
+    #[tactic(auto, unfolding(crate::specs::private::Step::with_header))]
     fn begin(&mut self, word: u32)
         requires count { 4 ≤ self.old.count }
         requires room { deque_len self.old.waiting < deque_capacity self.old.waiting }
@@ -140,7 +140,7 @@ impl Records {
     }
 
     // Answers how many bytes it read, none if memory ran out.
-    #[tactic(auto, unfolding(crate::specs::Step::with_payload))]
+    #[tactic(auto, unfolding(crate::specs::private::Step::with_payload))]
     fn add_to_payload(&mut self, bytes: &[u8]) -> usize
         requires some { (0 < length bytes.now) × (0 < self.old.left) }
         requires within { self.old.count + length bytes.now ≤ 2 ^ 62 }
@@ -161,7 +161,7 @@ impl Records {
         len
     }
 
-    #[tactic(auto, unfolding(crate::specs::Step::ended))]
+    #[tactic(auto, unfolding(crate::specs::private::Step::ended))]
     fn end(&mut self)
         requires { deque_len self.old.waiting < deque_capacity self.old.waiting }
         ensures { kept self.new ≡ ended (kept self.old) }

@@ -9,7 +9,7 @@ use Rattle.nr_tree.specs.Entries.{Entry, entry_of_name, list_without, entries_wi
 use Rattle.nr_tree.specs.DirectoryGraph.{one_if}
 use Rattle.nr_tree.specs.Tree.{Tree, value_at, nodes_with_change, is_dir, is_directory, entries_in}
 use Rattle.nr_tree.specs.Sane.{IsSane, skeleton}
-use Rattle.nr_tree.specs.Room.{HasRoomFor, HasEntryIn, HasEntryFor, IsSource}
+use Rattle.nr_tree.specs.private.Room.{HasRoomFor, HasEntryIn, HasEntryFor, IsSource}
 use Rattle.nr_tree.specs.Steps.{IsBounded, IsFreeTarget, CanRename, is_dir_at, entries_at, links_at}
 use Rattle.nr_tree.specs.Changes.{next_cookie_of, on_entries, node_with_entry, node_without_entry, node_with_new_name, nodes_with_name_dropped, entry_at, tree_without_entry, tree_with_entry_moved, tree_with_new_name}
 use Rattle.nr_tree.specs.declared.node.Node.{Node}

@@ -10,7 +10,7 @@ use Rattle.nr_tree.specs.Entries.{Entry, entry_of_name}
 use Rattle.nr_tree.specs.DirectoryGraph.{DirectoryGraph}
 use Rattle.nr_tree.specs.Tree.{Tree, is_dir, is_regular, is_directory, is_regular_content, entries_in}
 use Rattle.nr_tree.specs.Sane.{IsSane, IsValidContent, skeleton, file_size_max}
-use Rattle.nr_tree.specs.Room.{HasRoomIn, HasRoomFor}
+use Rattle.nr_tree.specs.private.Room.{HasRoomIn, HasRoomFor}
 use Rattle.nr_tree.specs.Steps.{IsBounded, IsFree, CanAddNode, CanAddLink, CanRemoveEntry, is_live_at, is_dir_at, is_regular_at, entries_at, links_at}
 use Rattle.nr_tree.specs.Changes.{next_cookie_of, on_bytes, node_with_bytes, node_with_size, node_with_metadata, entry_at, tree_with_node, tree_without_entry, tree_with_link, tree_with_piece, tree_with_bytes, tree_with_size, tree_with_metadata}
 use Rattle.nr_tree.specs.declared.node.Node.{Node}

@@ -4,7 +4,6 @@ pub mod Slots
 pub mod DirectoryGraph
 pub mod Tree
 pub mod Code
-pub mod Room
 pub mod Sane
 pub mod Roots
 pub mod Changes
@@ -14,3 +13,4 @@ pub mod Listing
 pub mod Within
 pub mod Rules
 pub mod Replies
+pub mod private

@@ -46,7 +46,7 @@ ghost use Rattle.nr_tree.specs.Entries.{entry_of_name};
 ghost use Rattle.nr_tree.specs.DirectoryGraph.{one_if};
 ghost use Rattle.nr_tree.specs.Tree.{is_dir as is_directory_node, is_regular as is_regular_node, entries_in, type_of, bytes_of, device_of, attributes_of};
 ghost use Rattle.nr_tree.specs.Changes.{node_with_entry, node_without_entry, node_with_link, node_without_link, node_with_bytes, node_with_size, node_with_metadata, node_with_new_name};
-ghost use Rattle.nr_tree.specs.Room.{HasRoomFor, HasEntryFor};
+ghost use Rattle.nr_tree.specs.private.Room.{HasRoomFor, HasEntryFor};
 ghost use Rattle.nr_tree.specs.Replies.{size_of};
 
 impl Node {

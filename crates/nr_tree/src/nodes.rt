@@ -7,7 +7,7 @@ ghost use Rattle.nr_tree.specs.Tree.{nodes_of, nodes_with_change, value_at, is_d
 ghost use Rattle.std.specs.Prelude.{false};
 ghost use Rattle.nr_tree.specs.Changes.{node_with_entry, node_without_entry, node_without_link, nodes_with_name_dropped, node_with_bytes, node_with_size, node_with_link, node_with_metadata, node_with_new_name};
 ghost use Rattle.nr_tree.specs.DirectoryGraph.{one_if};
-ghost use Rattle.nr_tree.specs.Room.{HasRoomFor, HasEntryFor, IsSource};
+ghost use Rattle.nr_tree.specs.private.Room.{HasRoomFor, HasEntryFor, IsSource};
 ghost use Rattle.nr_tree.specs.Entries.{entry_of_name};
 ghost use Rattle.nr_tree.specs.Tree.{entries_in};
 ghost use Rattle.std.specs.Prelude.{[]};

@@ -40,7 +40,7 @@ impl Model for Tree {
 impl Tree {
     ghost use Rattle.nr_tree.specs.Tree.{Tree, is_dir as is_directory, is_regular as is_regular_file};
     ghost use Rattle.nr_tree.specs.Changes.{tree_with_node, tree_without_entry, tree_with_link, tree_with_bytes, tree_with_size, tree_with_metadata, tree_with_new_name};
-    ghost use Rattle.nr_tree.specs.Room.{HasRoomFor};
+    ghost use Rattle.nr_tree.specs.private.Room.{HasRoomFor};
     ghost use Rattle.nr_tree.specs.Roots.{root_only as root_alone};
     ghost use Rattle.nr_tree.specs.Sane.{IsSane};
     ghost use Rattle.nr_tree.specs.Steps.{IsBelow, IsBounded, CanRename};

@@ -1,7 +1,7 @@
 use Rattle.std.proofs.Common.{◌≡◌, ◌+◌, sym, arith, inl, inr}
 use Rattle.nr_tree.specs.Entries.{Entry}
 use Rattle.nr_ops_dir.specs.Readdir.{name_size}
-use Rattle.nr_ops_dir.specs.Sizes.{size_in}
+use Rattle.nr_ops_dir.specs.private.Sizes.{size_in}
 use Rattle.nr_ops_dir.proofs.Counting.{is_counted, counted_stops}
 use Rattle.nr_ops_dir.proofs.listings.count_within.Goals.{then-entries-limits-via-then-entries-limits, then-entries-limits-via-else-entries-limits+then-names-limits}
 use Rattle.nr_ops_dir.proofs.listings.count_within.Goals as goal

@@ -3,7 +3,7 @@ use Rattle.std.specs.Ordering.{nat_cmp}
 use Rattle.std.specs.BTreeMap.{is_at}
 use Rattle.std.specs.Map.{lookup}
 use Rattle.nr_tree.specs.Changes.{node_with_entry}
-use Rattle.nr_tree.specs.Room.{HasRoomFor}
+use Rattle.nr_tree.specs.private.Room.{HasRoomFor}
 use Rattle.nr_tree.proofs.NodeMaps.{nodes_changed, nodes_same, nodes_absent, known, on_ok, on_err}
 use Rattle.nr_tree.proofs.nodes.add_entry_to.Goals as goal
 

@@ -1,7 +1,7 @@
 use Rattle.std.proofs.Common.{ap, ◌∙◌, subst, sym, IfSome, IsTrue, ◌≤◌, Bool}
 use Rattle.std.specs.Ordering.{nat_cmp}
 use Rattle.std.specs.FinMap.{FinMap, get}
-use Rattle.nr_tree.specs.Room.{HasEntryFor}
+use Rattle.nr_tree.specs.private.Room.{HasEntryFor}
 use Rattle.nr_tree.specs.Tree.{nodes_of, nodes_with_change, is_dir}
 use Rattle.nr_tree.specs.Changes.{node_with_new_name, node_with_entry, node_without_entry, nodes_with_name_dropped}
 use Rattle.nr_tree.specs.declared.node.Node.{Node}

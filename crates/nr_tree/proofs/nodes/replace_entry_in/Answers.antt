@@ -3,7 +3,7 @@ use Rattle.std.specs.Ordering.{nat_cmp}
 use Rattle.std.specs.BTreeMap.{is_at}
 use Rattle.std.specs.Map.{lookup}
 use Rattle.nr_tree.specs.Changes.{node_with_entry, node_without_entry}
-use Rattle.nr_tree.specs.Room.{HasEntryFor}
+use Rattle.nr_tree.specs.private.Room.{HasEntryFor}
 use Rattle.nr_tree.proofs.NodeMaps.{nodes_changed, nodes_absent, known}
 use Rattle.nr_tree.proofs.nodes.replace_entry_in.Goals as goal
 
