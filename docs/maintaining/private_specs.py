@@ -40,6 +40,16 @@ def public_text(text: str, types: set[str]) -> str:
     return "\n".join(out)
 
 
+def imported(text: str, crate: str) -> dict[str, str]:
+    """The names of a crate's definitions that a source file imports, by the words that stand for them there."""
+    names = {}
+    for m in re.finditer(rf"Rattle\.{crate}\.specs\.[\w.]+\.\{{([^}}]*)\}}", text):
+        for part in m.group(1).split(","):
+            name, _, alias = part.strip().partition(" as ")
+            names[alias or name] = name
+    return names
+
+
 def main() -> None:
     top = Path(sys.argv[1])
     wrong: list[str] = []
@@ -62,7 +72,8 @@ def main() -> None:
         sources = [src.read_text() for src in (crate / "src").rglob("*.rt")]
         types = set(re.findall(r"^\s*pub (?:struct|enum) (\w+)", "\n".join(sources), re.M))
         for text in sources:
-            cited |= set(TOKEN.findall(public_text(text, types))) & all_names
+            words = set(TOKEN.findall(public_text(text, types)))
+            cited |= {name for word, name in imported(text, crate.name).items() if word in words} & all_names
         outside = set()
         for other in (top / "crates").iterdir():
             if other == crate or not other.is_dir():
