@@ -11,7 +11,7 @@ use Rattle.nr_reduce.specs.Standing.{ClientRepresents, ClientRunsOut}
 use Rattle.nr_reduce.proofs.Standing.{AtEachMark_more, client_queue_lem}
 use Rattle.nr_reduce.proofs.Submitting.{accepted_keeps}
 use Rattle.nr_requester.specs.RequesterState.{queue_of, kept_client, input_kept}
-use Rattle.nr_requester.specs.Laws.{SubmitKeepsLaw, DrainKeepsLaw, DrainOutKeepsLaw, QueueIsAllDue}
+use Rattle.nr_requester.specs.Laws.{SubmitKeepsLaw, DrainKeepsLaw, DrainOutKeepsLaw, QueueIsAllDue, RefusedKeepsLaw, PieceKeepsLaw, DrainKeepsGrant}
 use Rattle.nr_requester.proofs.Accepting.{answers_as_client}
 
 pub submit_keeps_law : SubmitKeepsLaw
@@ -44,3 +44,18 @@ queue_is_all_due opened link h run s =
     let parts : ClientRepresents opened link (kept_client h.state) (input_kept h) (queue ++ []) run =
     subst (λ (q : List ℕ). ClientRepresents opened link (kept_client h.state) (input_kept h) q run) (sym (append-nil queue)) s.kept in
     ((client_queue_lem opened link (kept_client h.state) (input_kept h) queue [] run run).0 parts).1 refl
+
+-- ---- Marks of which nothing is asked
+
+pub refused_keeps_law : RefusedKeepsLaw
+refused_keeps_law opened link run call form why asked grant =
+    let mark : Mark = marks.Submit link call form (submissions.Refused why) in
+    (AtEachMark_more (AskedMark IsPrefixOf opened link) [] run mark asked tt, AtEachMark_more (WithinGrant opened link) [] run mark grant tt)
+
+pub piece_keeps_law : PieceKeepsLaw
+piece_keeps_law opened link run piece asked grant =
+    let mark : Mark = marks.Fed link Initiator piece in
+    (AtEachMark_more (AskedMark IsPrefixOf opened link) [] run mark asked tt, AtEachMark_more (WithinGrant opened link) [] run mark grant tt)
+
+pub drain_keeps_grant : DrainKeepsGrant
+drain_keeps_grant opened link run bytes grant = AtEachMark_more (WithinGrant opened link) [] run (marks.Wrote link Initiator bytes) grant tt

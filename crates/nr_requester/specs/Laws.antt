@@ -3,6 +3,7 @@ use Rattle.std.specs.Prelude.{◌≡◌, ℕ, ◌^◌, ◌<◌, ◌≤◌, List,
 use Rattle.nr_wire.specs.declared.hello.Side.TheVariants.{Initiator}
 use Rattle.nr_reduce.specs.declared.call.Call.{Call}
 use Rattle.nr_reduce.specs.declared.call.Form.{Form}
+use Rattle.nr_reduce.specs.declared.call.Refused.{Refused}
 use Rattle.nr_reduce.specs.declared.call.Submission.TheVariants as submissions
 use Rattle.nr_reduce.specs.declared.mark.LinkParameters.{LinkParameters}
 use Rattle.nr_reduce.specs.declared.mark.Mark.{Mark}
@@ -88,3 +89,15 @@ DrainOutKeepsLaw = (opened : LinkParameters) (link : ℕ) (h : RequesterSide) (s
 abbrev pub QueueIsAllDue : Type 0
 QueueIsAllDue = (opened : LinkParameters) (link : ℕ) (h : RequesterSide) (run : List Mark) → RequesterRepresents opened link h run →
     IsAll (bytes_sent link Initiator run ++ queue_of h.state) (output_due opened link Initiator run)
+
+-- A refused call, a piece that is fed, and the grant after a drain: nothing is asked of these marks.
+abbrev pub RefusedKeepsLaw : Type 0
+RefusedKeepsLaw = (opened : LinkParameters) (link : ℕ) (run : List Mark) (call : Call) (form : Form) (why : Refused) → AskedSoFar opened link run → KeepsGrant opened link run →
+    AskedSoFar opened link (run ++ marks.Submit link call form (submissions.Refused why) ∷ []) × KeepsGrant opened link (run ++ marks.Submit link call form (submissions.Refused why) ∷ [])
+
+abbrev pub PieceKeepsLaw : Type 0
+PieceKeepsLaw = (opened : LinkParameters) (link : ℕ) (run : List Mark) (piece : List ℕ) → AskedSoFar opened link run → KeepsGrant opened link run →
+    AskedSoFar opened link (run ++ marks.Fed link Initiator piece ∷ []) × KeepsGrant opened link (run ++ marks.Fed link Initiator piece ∷ [])
+
+abbrev pub DrainKeepsGrant : Type 0
+DrainKeepsGrant = (opened : LinkParameters) (link : ℕ) (run : List Mark) (bytes : List ℕ) → KeepsGrant opened link run → KeepsGrant opened link (run ++ marks.Wrote link Initiator bytes ∷ [])

@@ -1,6 +1,6 @@
 //! Laws of a requester.
 
-ghost use Rattle.nr_requester.specs.Laws.{Begins, AnswersAsClient, CountsAsClient, SubmitIsAMark, PieceIsAMark, PieceRunsOut, DrainIsAMark, RevokeIsAMark, RevokeStaysOut, OthersLeaveIt, SubmitKeepsLaw, DrainKeepsLaw, DrainOutKeepsLaw, QueueIsAllDue};
+ghost use Rattle.nr_requester.specs.Laws.{Begins, AnswersAsClient, CountsAsClient, SubmitIsAMark, PieceIsAMark, PieceRunsOut, DrainIsAMark, RevokeIsAMark, RevokeStaysOut, OthersLeaveIt, SubmitKeepsLaw, DrainKeepsLaw, DrainOutKeepsLaw, QueueIsAllDue, RefusedKeepsLaw, PieceKeepsLaw, DrainKeepsGrant};
 
 /// A requester stands for the marks of its link, from its opening on: what it keeps is what the client of the run asks for, and what it may
 /// write is what is due and not yet written. It answers a call as that client does, and knows how many calls are outstanding
@@ -18,11 +18,14 @@ pub fn requesters_stand_for_marks()
     ensures others { OthersLeaveIt }
 {}
 
-/// A requester keeps the law of its side, so far: a call that it accepts keeps it, and the last grant; and so does a drain, also if it ran
-/// out of memory. All that it may write is all that is due.
+/// A requester keeps the law of its side, so far, and the last grant: by a call that it accepts or refuses, a piece that it is fed, and a
+/// drain, also if it ran out of memory. All that it may write is all that is due.
 pub fn requesters_keep_their_law()
     ensures submit { SubmitKeepsLaw }
     ensures drain { DrainKeepsLaw }
     ensures drain_out { DrainOutKeepsLaw }
     ensures queue { QueueIsAllDue }
+    ensures refused { RefusedKeepsLaw }
+    ensures piece { PieceKeepsLaw }
+    ensures drain_grant { DrainKeepsGrant }
 {}

@@ -1,4 +1,4 @@
-use Rattle.nr_requester.proofs.OwnLaw.{submit_keeps_law, drain_keeps_law, drain_out_keeps_law, queue_is_all_due}
+use Rattle.nr_requester.proofs.OwnLaw.{submit_keeps_law, drain_keeps_law, drain_out_keeps_law, queue_is_all_due, refused_keeps_law, piece_keeps_law, drain_keeps_grant}
 use Rattle.nr_requester.proofs.laws.requesters_keep_their_law.Goals as goal
 
 pub returns-clause-submit : goal.returns-clause-submit
@@ -12,3 +12,12 @@ returns-clause-drain_out c = drain_out_keeps_law
 
 pub returns-clause-queue : goal.returns-clause-queue
 returns-clause-queue c = queue_is_all_due
+
+pub returns-clause-refused : goal.returns-clause-refused
+returns-clause-refused c = refused_keeps_law
+
+pub returns-clause-piece : goal.returns-clause-piece
+returns-clause-piece c = piece_keeps_law
+
+pub returns-clause-drain_grant : goal.returns-clause-drain_grant
+returns-clause-drain_grant c = drain_keeps_grant
