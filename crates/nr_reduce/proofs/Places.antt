@@ -27,7 +27,7 @@ use Rattle.nr_xdr.specs.Reading.{unsigned_at}
 use Rattle.nr_xdr.specs.Sequencing.{◌>>=◌, or_place, number_at}
 use Rattle.nr_nfs_base.specs.Codec.{cursor_after}
 use Rattle.nr_nfs_base.specs.Fronts.{write_args_front, symlink_args_front, readlink_res_front, read_res_front, read_args_front, readdir_args_front, readdirplus_args_front}
-use Rattle.nr_reduce.specs.AfterFront.{and_then, value_of, number_after}
+use Rattle.nr_reduce.specs.private.AfterFront.{and_then, value_of, number_after}
 use Rattle.nr_reduce.specs.Items.{before_data, before_path, before_target, before_read, from_place, item_at, target_item, call_item, results_of, results_item, reply_item, item_of}
 use Rattle.nr_reduce.specs.Largest.{count_of, read_count, readdir_count, readdirplus_count, target_reply_max, largest_reply}
 use Rattle.nr_reduce.specs.Plans.{target_offer, write_offer}

@@ -1,5 +1,4 @@
 pub mod Limits
-pub mod AfterFront
 pub mod Items
 pub mod Largest
 pub mod Plans
@@ -46,3 +45,4 @@ pub mod RunLaws
 pub mod DueItems
 pub mod OutputLaws
 pub mod MemoryLaws
+pub mod private

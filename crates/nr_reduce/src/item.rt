@@ -3,7 +3,7 @@
 ghost use Rattle.std.specs.Prelude.{◌≡◌, ◌+◌, ◌≤◌, Ok, length, IfSome};
 ghost use Rattle.nr_xdr.specs.Item.{pad_len};
 ghost use Rattle.nr_rpc.specs.Reading.{reply_of};
-ghost use Rattle.nr_reduce.specs.AfterFront.{and_then};
+ghost use Rattle.nr_reduce.specs.private.AfterFront.{and_then};
 ghost use Rattle.nr_reduce.specs.Items.{from_place, item_at, is_nfs, argument_item, result_item, results_of, call_item, reply_item, item_of};
 
 use crate::limits::{READ, READLINK, SYMLINK, WRITE};

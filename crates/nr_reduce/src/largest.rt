@@ -1,7 +1,7 @@
 //! How long a reply may be, by its call alone.
 
 ghost use Rattle.std.specs.Prelude.{◌≡◌, ◌+◌, ◌<◌, ◌≤◌};
-ghost use Rattle.nr_reduce.specs.AfterFront.{number_after};
+ghost use Rattle.nr_reduce.specs.private.AfterFront.{number_after};
 ghost use Rattle.nr_reduce.specs.Largest.{padded_length, by_count, read_reply_max, readdir_reply_max, limit_of, nfs_reply_max, program_reply_max, largest_reply};
 
 use crate::item::is_nfs;
@@ -20,7 +20,7 @@ use nr_xdr::{Reader, pad_len};
 pub(crate) const REPLY_LIMIT_MIN: u32 = 32;
 
 /// The number behind the fields before it, where these could be read.
-#[tactic(auto, unfolding(crate::specs::AfterFront::number_after))]
+#[tactic(auto, unfolding(crate::specs::private::AfterFront::number_after))]
 pub(crate) fn number_after(front: Option<Reader<'_>>) -> Option<u32>
     ensures { result ≡ number_after front.entry }
 {
