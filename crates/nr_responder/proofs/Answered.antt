@@ -1,0 +1,256 @@
+-- A responder that answers a call goes on by the execution of that call.
+use Rattle.std.proofs.Common.{◌≡◌, ◌≢◌, ℕ, zero, suc, ◌+◌, ◌<◌, ◌≤◌, Bool, true, false, not, ◌||◌, eqb, cond, List, [], ◌∷◌, ◌++◌, length, take, drop, get_or, Option, Some, None, refl, sym, ap, subst, ◌∙◌, arith, inl, inr, is_some}
+use Rattle.std.specs.Prelude.{◌⊎◌, map, slice_get}
+use Rattle.std.specs.List.{AllByRecursion, list_any, filter, find, remove}
+use Rattle.std.proofs.lemmas.List.{append-nil}
+use Rattle.nr_responder.proofs.Fed.{not_ended_lem}
+use Rattle.std.proofs.lemmas.Bool.{eqb-true, eqb-false, eq-eqb, ne_eqb}
+use Rattle.nr_header.specs.declared.header.ChunkLists.{ChunkLists}
+use Rattle.nr_rpc.specs.Reading.{call_of, target_of}
+use Rattle.nr_link.specs.declared.end.End.{End}
+use Rattle.nr_link.specs.Input.{InputState}
+use Rattle.nr_link.specs.Limits.{send_max}
+use Rattle.nr_link.specs.Output.{send}
+use Rattle.nr_endpoint.specs.declared.framing.RemoteWrite.{RemoteWrite}
+use Rattle.nr_endpoint.specs.LinkState.{LinkState, LinkSide}
+use Rattle.nr_endpoint.specs.Calls.{after_calls}
+use Rattle.nr_endpoint.specs.Offering.{answer_calls, writes_output, after_answer}
+use Rattle.nr_endpoint.proofs.WholeCalls.{answered_state}
+use Rattle.nr_reduce.specs.declared.mark.LinkParameters.{LinkParameters}
+use Rattle.nr_reduce.specs.declared.mark.Mark.{Mark}
+use Rattle.nr_reduce.specs.declared.mark.Mark.TheVariants as marks
+use Rattle.nr_outside.specs.declared.moment.Moment.{Moment}
+use Rattle.nr_reduce.specs.History.{ExecutedCall}
+use Rattle.nr_reduce.specs.Events.RunEvent.{CallExecuted}
+use Rattle.nr_reduce.specs.EndRules.{EndState, live, next_end_state_in, output_for_in, end_state_after, output_for_all}
+use Rattle.nr_reduce.specs.Holds.{Answer}
+use Rattle.nr_reduce.specs.Server.{server_rules, server_end, server_output, server_state_after, execution_output, offer_by, offer_of, answer_of_target, answer_output}
+use Rattle.nr_reduce.specs.Served.{first_ready, next_call, IsExecuted}
+use Rattle.nr_responder.specs.Keeping.{IsReadyOf, IsServer, Begins, LinkKeeps, Keeps, KeepsEnd}
+use Rattle.nr_responder.specs.Keeping.Begins.{BeforeHello, AfterHello}
+use Rattle.nr_responder.specs.Standing.{RepresentsServer, Stands}
+use Rattle.nr_responder.specs.declared.call.Sent.{Sent}
+use Rattle.nr_responder.specs.Steps.{GoesOn}
+use Rattle.nr_responder.specs.declared.call.Pending.{Pending}
+use Rattle.nr_responder.specs.Views.{call_view}
+use Rattle.nr_responder.specs.Answering.{Answers, answer_to, message_for, writes_for}
+use Rattle.nr_responder.proofs.Executed.{executed, with_answer, answered_keeps, answered_server}
+use Rattle.nr_responder.proofs.Queues.{answered_queue}
+use Rattle.nr_responder.proofs.Marks.{executed_stands, represents}
+use Rattle.nr_responder.proofs.NextCalls.{next_is_lem, next_of}
+use Rattle.nr_responder.specs.ResponderState.{queue, end_of}
+use Rattle.nr_reduce.specs.ServerState.{PendingCall, ReadyCall, ServerState}
+use Rattle.nr_responder.specs.ResponderState.{ResponderSide}
+use Rattle.nr_responder.specs.Keeping.{OwnXids}
+use Rattle.nr_responder.proofs.Executed.{without_call, none_out_lem}
+
+abbrev pub has : ℕ → PendingCall → Bool
+has x c = eqb c.xid x
+
+-- the call of an xid at its place
+pub record Found (x : ℕ) (payload : List ℕ) (calls : List PendingCall) (at : ℕ) (call : PendingCall) : Type 0 where
+  pub kept : PendingCall
+  pub same : kept ≡ call
+  pub first : find (has x) calls ≡ Some kept
+  pub inline : kept.inline ≡ Some payload
+  pub there : list_any (has x) calls ≡ true
+  pub left : remove calls at ≡ without_call x calls
+
+pub found : (x : ℕ) (payload : List ℕ) (calls : List PendingCall) (at : ℕ) (call : PendingCall) → OwnXids calls → AllByRecursion (λ c. c.xid ≡ x → c.inline ≡ Some payload) calls →
+    slice_get calls at ≡ Some call → call.xid ≡ x → Found x payload calls at call
+found x payload [] zero call own all is xid = absurd cc
+found x payload [] (suc at) call own all is xid = absurd cc
+found x payload (c ∷ calls) zero call own all is xid =
+    let same : c ≡ call = cc in
+    let c_xid : c.xid ≡ x = ap (λ (d : PendingCall). d.xid) same ∙ xid in
+    let yes : eqb c.xid x ≡ true = eq-eqb c.xid x c_xid in
+    record {
+      kept = c;
+      same = same;
+      first = ap (λ (b : Bool). cond b (Some c) (find (has x) calls)) yes;
+      inline = all.0 c_xid;
+      there = ap (λ (b : Bool). b || list_any (has x) calls) yes;
+      left = sym (ap (λ (b : Bool). cond (not b) (c ∷ without_call x calls) (without_call x calls)) yes ∙ none_out_lem x calls (ap (λ (y : ℕ). list_any (λ d. eqb d.xid y) calls) (sym c_xid) ∙ own.0));
+    }
+found x payload (c ∷ calls) (suc at) call own all is xid = by (found x payload calls at call own.1 all.1 is xid) (eqb c.xid x) refl
+  where
+    by : Found x payload calls at call → (b : Bool) → eqb c.xid x ≡ b → Found x payload (c ∷ calls) (suc at) call
+    by f true is_x =
+        let same : c.xid ≡ x = eqb-true c.xid x is_x in
+        let none : list_any (has x) calls ≡ false = ap (λ (y : ℕ). list_any (λ d. eqb d.xid y) calls) (sym same) ∙ own.0 in
+        absurd (let two : true ≡ false = sym f.there ∙ none in cc)
+    by f false other = record {
+      kept = f.kept;
+      same = f.same;
+      first = ap (λ (b : Bool). cond b (Some c) (find (has x) calls)) other ∙ f.first;
+      inline = f.inline;
+      there = ap (λ (b : Bool). b || list_any (has x) calls) other ∙ f.there;
+      left = ap (λ (cs : List PendingCall). c ∷ cs) f.left ∙ sym (ap (λ (b : Bool). cond (not b) (c ∷ without_call x calls) (without_call x calls)) other);
+    }
+
+-- ---- The side with the answer queued
+
+pub answer_link : (l : LinkSide) (writes : List RemoteWrite) (message : List ℕ) → l.state.ended ≡ None → after_calls l (answer_calls writes message) ≡ record { awaited = l.awaited; rest = l.rest; state = with_answer l.state (writes_output writes) message }
+answer_link l writes message live =
+    sym (answered_state l (after_answer writes message l.state) writes message refl)
+    ∙ ap (λ (o : Option End). record { awaited = l.awaited; rest = l.rest; state = cond (is_some o) l.state (with_answer l.state (writes_output writes) message) }) live
+
+begins_answered : (l : LinkSide) (writes message : List ℕ) → 0 < l.state.place → Begins l → Begins (record { awaited = l.awaited; rest = l.rest; state = with_answer l.state writes message })
+begins_answered l writes message some (BeforeHello place awaited hello none) = absurd (omega (arith, place, some))
+begins_answered l writes message some (AfterHello place awaited hello) = AfterHello place awaited hello
+
+-- ---- The server that executed
+
+executed_live : (opened : LinkParameters) (k : ServerState) (e : ExecutedCall) (o : Option End) → o ≡ None → next_end_state_in (server_rules opened) k (CallExecuted e) o ≡ live (executed k e.xid (execution_output k e))
+unfolding server_end server_state_after
+executed_live opened k e o is = ap (λ (x : Option End). next_end_state_in (server_rules opened) k (CallExecuted e) x) is
+
+executed_due : (opened : LinkParameters) (k : ServerState) (e : ExecutedCall) (o : Option End) → o ≡ None → output_for_in (server_rules opened) k (CallExecuted e) o ≡ execution_output k e
+unfolding server_end server_output
+executed_due opened k e o is = ap (λ (x : Option End). output_for_in (server_rules opened) k (CallExecuted e) x) is
+
+-- the output for an answer: its RDMA Writes and its message
+output_is : (k : ServerState) (xid : ℕ) (offer : ChunkLists) (a : Option Answer) → answer_output k xid offer a ≡ writes_for offer a ++ send (k.messages_queued + 1) (message_for xid k.credit offer a)
+output_is k xid offer None = refl
+output_is k xid offer (Some a) = refl
+
+due_is : (k : ServerState) (e : ExecutedCall) (offer : ChunkLists) → offer_of k e.xid ≡ offer → k.down_max ≡ send_max →
+    execution_output k e ≡ writes_for offer (answer_of_target offer send_max e.reply (target_of (call_of e.payload))) ++ send (k.messages_queued + 1) (message_for e.xid k.credit offer (answer_of_target offer send_max e.reply (target_of (call_of e.payload))))
+unfolding execution_output
+due_is k e offer is down =
+    (λ i. answer_output k e.xid (is i) (answer_of_target (is i) (down i) e.reply (target_of (call_of e.payload))))
+    ∙ output_is k e.xid offer (answer_of_target offer send_max e.reply (target_of (call_of e.payload)))
+
+first_of_lem : (ready : List ReadyCall) (r : ReadyCall) → slice_get ready 0 ≡ Some r → ready ≡ r ∷ drop 1 ready
+first_of_lem [] r is = absurd cc
+first_of_lem (q ∷ ready) r is = ap (λ (x : ReadyCall). x ∷ ready) (let h : q ≡ r = cc in h)
+
+drop_map : (ready : List ReadyCall) → drop 1 (map (λ r. r.xid) ready) ≡ map (λ r. r.xid) (drop 1 ready)
+drop_map [] = refl
+drop_map (r ∷ ready) = refl
+
+-- ---- What it keeps then
+
+not_zero : (n : ℕ) → (n ≡ 0 → ⊥) → 0 < n
+not_zero zero no_zero = absurd (no_zero refl)
+not_zero (suc n) no_zero = omega arith
+
+never_some : (ready : List ReadyCall) (r : ReadyCall) → ready ≡ r ∷ drop 1 ready → map (λ q. q.xid) ready ≡ [] → ⊥
+never_some [] r is none = (let two : [] ≡ r ∷ [] = is in cc)
+never_some (q ∷ ready) r is none = (let two : q.xid ∷ map (λ q. q.xid) ready ≡ [] = none in cc)
+
+pub answered_goes : (opened : LinkParameters) (end : EndState ServerState) (so_far : InputState) (v after : ResponderSide) (e : ExecutedCall) (r : ReadyCall) (sent : Sent) → end.ended ≡ None → Keeps opened end.state so_far v →
+    slice_get end.state.ready 0 ≡ Some r → e.xid ≡ r.xid → e.payload ≡ r.payload → Answers v after e.xid e.reply sent → GoesOn opened end so_far v (CallExecuted e ∷ []) so_far after
+answered_goes opened end so_far v after e r sent is h next xid payload a =
+    let k : ServerState = end.state in
+    let ready : k.ready ≡ r ∷ drop 1 k.ready = first_of_lem k.ready r next in
+    let behind : 0 < v.link.state.place = not_zero v.link.state.place (λ zero_place. never_some k.ready r ready (sym h.ready ∙ (h.quiet zero_place).0)) in
+    let own : IsReadyOf k.calls k.reads r = (subst (λ (rs : List ReadyCall). AllByRecursion (IsReadyOf k.calls k.reads) rs) ready h.server.ready).0 in
+    let place : slice_get k.calls a.at ≡ Some a.call = ap (λ (cs : List PendingCall). slice_get cs a.at) (sym h.calls) ∙ a.place in
+    let f : Found r.xid r.payload k.calls a.at a.call = found r.xid r.payload k.calls a.at a.call h.server.xids own.payload place (a.own ∙ xid) in
+    let stream : a.stream ≡ e.payload = (let two : Some a.stream ≡ Some r.payload = sym a.inline ∙ ap (λ (c : PendingCall). c.inline) (sym f.same) ∙ f.inline in let one : a.stream ≡ r.payload = cc in one ∙ sym payload) in
+    let offer : offer_of k e.xid ≡ a.call.lists = ap (λ (x : ℕ). offer_of k x) xid ∙ (ap offer_by f.first ∙ ap (λ (c : PendingCall). c.lists) f.same) in
+    let answer : Option Answer = answer_to a.call a.stream e.reply in
+    let same_answer : answer_of_target a.call.lists send_max e.reply (target_of (call_of e.payload)) ≡ answer = ap (λ (bytes : List ℕ). answer_of_target a.call.lists send_max e.reply (target_of (call_of bytes))) (sym stream) in
+    let message : List ℕ = message_for e.xid v.credits a.call.lists answer in
+    let writes : List ℕ = writes_output a.writes in
+    let due : execution_output k e ≡ writes ++ send (k.messages_queued + 1) message =
+    due_is k e a.call.lists offer h.server.down
+    ∙ (λ i. writes_for a.call.lists (same_answer i) ++ send (k.messages_queued + 1) (message_for e.xid (sym h.credits i) a.call.lists (same_answer i)))
+    ∙ ap (λ (bytes : List ℕ). bytes ++ send (k.messages_queued + 1) message) (sym a.written) in
+    let then : ResponderSide = record {
+      link = record { awaited = v.link.awaited; rest = v.link.rest; state = with_answer v.link.state writes message };
+      calls = remove v.calls a.at;
+      ready = drop 1 v.ready;
+      credits = v.credits;
+    } in
+    let same : after ≡ then = a.state ∙ ap (λ (l : LinkSide). record { link = l; calls = remove v.calls a.at; ready = drop 1 v.ready; credits = v.credits }) (answer_link v.link a.writes message h.link.live) in
+    let out : List ℕ = writes ++ send (k.messages_queued + 1) message in
+    let keeps : Keeps opened (executed k r.xid out) so_far then = record {
+      link = answered_keeps opened k v.link.state writes message r (drop 1 k.ready) ready h.link h.server;
+      input = record { awaited = h.input.awaited; rest = h.input.rest; place = h.input.place };
+      begins = begins_answered v.link writes message behind h.begins;
+      server = answered_server k v.link.state.place out r (drop 1 k.ready) ready h.server;
+      calls = ap (λ (cs : List PendingCall). remove cs a.at) h.calls ∙ f.left;
+      ready = ap (drop 1) h.ready ∙ drop_map k.ready;
+      credits = h.credits;
+      quiet = λ z. absurd (omega (arith, z, behind));
+    } in
+    record {
+      keeps =
+          subst (λ (s : EndState ServerState). KeepsEnd opened s so_far after) (sym (executed_live opened k e end.ended is ∙ (λ i. live (executed k (xid i) (due i)))))
+          (inl (refl, subst (λ (w : ResponderSide). Keeps opened (executed k r.xid out) so_far w) (sym same) keeps));
+      output =
+          ap queue same
+          ∙ answered_queue k.messages_queued writes message v.link.state.send_queue h.link.queue.sends
+          ∙ ap (λ (bytes : List ℕ). queue v ++ bytes) (sym due ∙ sym (executed_due opened k e end.ended is) ∙ sym (append-nil (output_for_in (server_rules opened) k (CallExecuted e) end.ended)));
+    }
+
+pub answered_stands : (opened : LinkParameters) (link : ℕ) (run : List Mark) (v after : ResponderSide) (xid : ℕ) (moment : Moment) (payload : List ℕ) (place : ℕ) (reply : List ℕ) (sent : Sent) → Stands opened link run v → end_of v ≡ None →
+    IsExecuted opened link run xid payload → Answers v after xid reply sent → Stands opened link (run ++ marks.Execute link xid moment payload place reply ∷ []) after
+answered_stands opened link run v after xid moment payload place reply sent stands live_now x a =
+    let h : RepresentsServer opened link run v = represents opened link run v live_now stands in
+    let e : ExecutedCall = record { xid = xid; moment = moment; payload = payload; place = place; reply = reply } in
+    let both : (h.end.ended ≡ None) × Keeps opened h.end.state h.input v = not_ended_lem opened h.end h.input v live_now h.keeps in
+    let next : slice_get h.end.state.ready 0 ≡ Some x.call = ap (λ (o : Option End). first_ready h.end.state.ready o) (sym both.0) ∙ sym (next_is_lem opened link run v h) ∙ x.is_next in
+    inl (executed_stands opened link run v after xid moment payload place reply h
+    (answered_goes opened h.end h.input v after e x.call sent both.0 both.1 next x.own x.conveyed a))
+
+-- ---- Its payload
+
+-- what is kept of the call that is next
+record NextKept (opened : LinkParameters) (link : ℕ) (run : List Mark) (v : ResponderSide) (xid : ℕ) : Type 0 where
+  pub server : ServerState
+  pub call : ReadyCall
+  pub calls : v.calls ≡ server.calls
+  pub xids : OwnXids server.calls
+  pub is_next : next_call opened link run ≡ Some call
+  pub own : xid ≡ call.xid
+  pub ready : IsReadyOf server.calls server.reads call
+
+xid_of_first : (ready : List ReadyCall) (xid : ℕ) → slice_get (map (λ q. q.xid) ready) 0 ≡ Some xid → (r : ReadyCall) × ((slice_get ready 0 ≡ Some r) × (xid ≡ r.xid))
+xid_of_first [] xid is = absurd cc
+xid_of_first (r ∷ ready) xid is = (r, (refl, (let h : r.xid ≡ xid = cc in sym h)))
+
+next_kept : (opened : LinkParameters) (link : ℕ) (run : List Mark) (v : ResponderSide) (xid : ℕ) → Stands opened link run v → end_of v ≡ None → slice_get v.ready 0 ≡ Some xid → NextKept opened link run v xid
+next_kept opened link run v xid stands live_now first =
+    let h : RepresentsServer opened link run v = represents opened link run v live_now stands in
+    let both : (h.end.ended ≡ None) × Keeps opened h.end.state h.input v = not_ended_lem opened h.end h.input v live_now h.keeps in
+    let f = xid_of_first h.end.state.ready xid (ap (λ (xs : List ℕ). slice_get xs 0) (sym both.1.ready) ∙ first) in
+    let ready : h.end.state.ready ≡ f.0 ∷ drop 1 h.end.state.ready = first_of_lem h.end.state.ready f.0 f.1.0 in
+    record {
+      server = h.end.state;
+      call = f.0;
+      calls = both.1.calls;
+      xids = both.1.server.xids;
+      is_next = next_is_lem opened link run v h ∙ ap (λ (o : Option End). first_ready h.end.state.ready o) both.0 ∙ f.1.0;
+      own = f.1.1;
+      ready = (subst (λ (rs : List ReadyCall). AllByRecursion (IsReadyOf h.end.state.calls h.end.state.reads) rs) ready both.1.server.ready).0;
+    }
+
+pub payload_is_lem : (opened : LinkParameters) (link : ℕ) (run : List Mark) (v : ResponderSide) (xid : ℕ) → Stands opened link run v → end_of v ≡ None → slice_get v.ready 0 ≡ Some xid →
+    (at : ℕ) (call : PendingCall) (stream : List ℕ) → slice_get v.calls at ≡ Some call → call.xid ≡ xid → call.inline ≡ Some stream → IsExecuted opened link run xid stream
+payload_is_lem opened link run v xid h live_now first at call stream place own inline =
+    let n : NextKept opened link run v xid = next_kept opened link run v xid h live_now first in
+    let f : Found n.call.xid n.call.payload n.server.calls at call = found n.call.xid n.call.payload n.server.calls at call n.xids n.ready.payload (ap (λ (cs : List PendingCall). slice_get cs at) (sym n.calls) ∙ place) (own ∙ n.own) in
+    record {
+      call = n.call;
+      is_next = n.is_next;
+      own = n.own;
+      conveyed = (let two : Some stream ≡ Some n.call.payload = sym inline ∙ ap (λ (c : PendingCall). c.inline) (sym f.same) ∙ f.inline in let one : stream ≡ n.call.payload = cc in one);
+    }
+
+pub payload_there_lem : (opened : LinkParameters) (link : ℕ) (run : List Mark) (v : ResponderSide) (xid : ℕ) → Stands opened link run v → end_of v ≡ None → slice_get v.ready 0 ≡ Some xid → list_any (has xid) v.calls ≡ true
+payload_there_lem opened link run v xid h live_now first =
+    let n : NextKept opened link run v xid = next_kept opened link run v xid h live_now first in
+    ap (λ (cs : List PendingCall). list_any (has xid) cs) n.calls ∙ ap (λ (x : ℕ). list_any (has x) n.server.calls) n.own ∙ n.ready.pending
+
+pub none_any : (x : ℕ) (calls : List Pending) → ((k : ℕ) (d : Pending) → k < length calls → (get_or calls k d).xid ≢ x) → list_any (has x) (map call_view calls) ≡ false
+none_any x [] none = refl
+none_any x (c ∷ calls) none =
+    ap (λ (b : Bool). b || list_any (has x) (map call_view calls)) (ne_eqb c.xid x (none zero c (omega arith))) ∙ none_any x calls (λ k d lt. none (suc k) d (omega (arith, lt)))
+
+pub get_view : (calls : List Pending) (at : ℕ) (c : Pending) → at < length calls → c ≡ get_or calls at c → slice_get (map call_view calls) at ≡ Some (call_view c)
+get_view [] at c lt is = absurd (omega (arith, lt))
+get_view (d ∷ calls) zero c lt is = ap (λ (x : Pending). Some (call_view x)) (sym is)
+get_view (d ∷ calls) (suc at) c lt is = get_view calls at c (omega (arith, lt)) is

@@ -1,0 +1,200 @@
+-- A frame that ends a responder for the rules of the link, and the client's hello.
+use Rattle.std.proofs.Common.{◌≡◌, ◌≢◌, ℕ, ◌+◌, ◌-◌, ◌<◌, ◌≤◌, Bool, true, false, not, eqb, cond, List, [], ◌∷◌, ◌++◌, length, Option, Some, None, Result, Ok, Err, refl, sym, ap, subst, ◌∙◌, arith, inl, inr, is_some}
+use Rattle.std.specs.Prelude.{IfSome, ◌⊎◌}
+use Rattle.std.proofs.lemmas.Bool.{ne_eqb, eq-eqb}
+use Rattle.std.proofs.lemmas.List.{append-nil}
+use Rattle.nr_wire.specs.declared.hello.Side.{Side}
+use Rattle.nr_wire.specs.declared.hello.Side.TheVariants.{Initiator, Responder}
+use Rattle.nr_wire.specs.declared.stream.Awaited.{Awaited}
+use Rattle.nr_wire.specs.declared.stream.Awaited.TheVariants.{Hello as HelloFrom, Fpdu}
+use Rattle.nr_wire.specs.Constants.{REASON_FLAGS}
+use Rattle.nr_wire.specs.Hello.{Hello, hello_of}
+use Rattle.nr_wire.specs.Segment.{Segment, segment_of}
+use Rattle.nr_link.specs.declared.end.End.{End}
+use Rattle.nr_link.specs.declared.end.End.TheVariants as ends
+use Rattle.nr_link.specs.Frames.{Frame, is_hello}
+use Rattle.nr_link.specs.Input.{InputState}
+use Rattle.nr_link.specs.Output.{own_hello}
+use Rattle.nr_link.specs.Ending.{frame_end, hello_end, last_output}
+use Rattle.nr_endpoint.specs.SendQueue.{SendQueue, with_end, with_hello}
+use Rattle.nr_endpoint.specs.LinkState.{LinkState, LinkSide}
+use Rattle.nr_endpoint.specs.Judging.{segment_end, next_frame, with_frame, with_fpdu, with_peer_hello, with_segment_by, with_effect, with_end_of, after_frame, reply_hello}
+use Rattle.nr_endpoint.specs.Laws.{KeepsInput, IsFrameEnd, IsFrameReason}
+use Rattle.nr_endpoint.proofs.EndLaws.{effect_ended, frames_end_for_these}
+use Rattle.nr_reduce.specs.declared.mark.LinkParameters.{LinkParameters}
+use Rattle.nr_reduce.specs.OfferedRegions.{region_grants}
+use Rattle.nr_reduce.specs.Events.RunEvent.{FrameReceived}
+use Rattle.nr_reduce.specs.EndRules.{EndState, live, next_end_state, next_end_state_by, output_for, output_for_by}
+use Rattle.nr_reduce.specs.ServerState.{ServerState}
+use Rattle.nr_reduce.specs.Server.{server_rules, server_end, server_output, server_state_after, with_own_hello, or_refusal, readiness}
+use Rattle.nr_reduce.proofs.MemorySteps.{holds_later, received_later, offered_later}
+use Rattle.nr_responder.specs.ResponderState.{ResponderSide, queue, queued_bytes}
+use Rattle.nr_responder.specs.Keeping.{IsServer, Begins, LinkKeeps, QueueKeeps, Keeps, KeepsEnd}
+use Rattle.nr_responder.specs.Keeping.Begins.{BeforeHello, AfterHello}
+use Rattle.nr_responder.specs.Handling.{on_link}
+use Rattle.nr_responder.proofs.FrameEnds.{frame_ends}
+use Rattle.nr_responder.proofs.Queues.{last_queue, hello_queue, greeted_has}
+
+-- ---- What is to show of a frame
+
+-- the input behind a frame
+abbrev pub behind : InputState → List ℕ → InputState
+behind input frame = record { awaited = Fpdu; rest = []; place = input.place + length frame }
+
+-- A frame was taken: after it the responder keeps the server after it, and has queued what is due for it.
+pub record TakesFrame (opened : LinkParameters) (k : ServerState) (later : InputState) (f : Frame) (before after : ResponderSide) : Type 0 where
+  pub keeps : KeepsEnd opened (next_end_state (server_rules opened) (live k) (FrameReceived f)) later after
+  pub output : queue after ≡ queue before ++ output_for (server_rules opened) (live k) (FrameReceived f)
+
+-- ---- A frame that ends the side
+
+ended_by_lem : (s : LinkState) (f : Frame) (segment : Segment) (e : Option End) (end : End) → s.ended ≡ None → (with_segment_by f segment e s).ended ≡ Some end → with_segment_by f segment e s ≡ with_end_of end s
+ended_by_lem s f segment None end live is = absurd (let h : None ≡ Some end = sym live ∙ (sym (effect_ended s segment) ∙ is) in cc)
+ended_by_lem s f segment (Some other) end live is = ap (λ (e : End). with_end_of e s) (let h : other ≡ end = cc in h)
+
+ended_fpdu : (s : LinkState) (f : Frame) (r : Result Segment ℕ) (end : End) → s.ended ≡ None → (with_fpdu f r s).ended ≡ Some end → with_fpdu f r s ≡ with_end_of end s
+unfolding with_fpdu
+ended_fpdu s f (Ok segment) end live is = ended_by_lem s f segment (segment_end s f segment) end live is
+ended_fpdu s f (Err reason) end live is = ap (λ (e : End). with_end_of e s) (let h : ends.Bad f.at reason ≡ end = cc in h)
+
+ended_hello : (s : LinkState) (f : Frame) (r : Result Hello ℕ) (end : End) → s.ended ≡ None → (with_peer_hello f r s).ended ≡ Some end → with_peer_hello f r s ≡ with_end_of end s
+unfolding with_peer_hello
+ended_hello s f (Ok hello) end live is = absurd (let h : None ≡ Some end = sym live ∙ is in cc)
+ended_hello s f (Err reason) end live is = ap (λ (e : End). with_end_of e s) (let h : ends.Bad f.at reason ≡ end = cc in h)
+
+pub ended_frame : (s : LinkState) (a : Awaited) (frame : List ℕ) (end : End) → s.ended ≡ None → (with_frame s a frame).ended ≡ Some end → with_frame s a frame ≡ with_end_of end s
+ended_frame s (HelloFrom side) frame end live is = ended_hello s (next_frame s frame) (hello_of side frame) end live is
+ended_frame s Fpdu frame end live is = ended_fpdu s (next_frame s frame) (segment_of frame) end live is
+
+no_flags : (place at : ℕ) (end : End) → IsFrameEnd Fpdu place end → end ≢ ends.Bad at REASON_FLAGS
+no_flags place at (ends.Bad other reason) h is = by h.1
+  where
+    same : reason ≡ REASON_FLAGS
+    same = cc
+
+    by : IsFrameReason Fpdu reason → ⊥
+    by (inl range) = (let low = range.0 in omega (arith, low, same))
+    by (inr long) = omega (arith, long, same)
+no_flags place at (ends.Denied stag offset why) h is = absurd cc
+no_flags place at (ends.NoBuffer msn) h is = absurd cc
+no_flags place at (ends.Terminated reason) h is = absurd cc
+no_flags place at ends.Memory h is = absurd cc
+
+-- a hello is refused before any FPDU is queued
+flags_first : (l : LinkSide) (frame : List ℕ) (end : End) → l.state.ended ≡ None → Begins l → (with_frame l.state l.awaited frame).ended ≡ Some end → (at : ℕ) → end ≡ ends.Bad at REASON_FLAGS → l.state.send_queue.fpdus ≡ []
+flags_first l frame end live (BeforeHello place awaited hello none) ended at is = none
+flags_first l frame end live (AfterHello place awaited hello) ended at is =
+    let ends : IfSome (with_frame l.state l.awaited frame).ended (IsFrameEnd l.awaited l.state.place) = frames_end_for_these l.state l.awaited frame live in
+    let end_is : IsFrameEnd l.awaited l.state.place end = subst (λ (e : Option End). IfSome e (IsFrameEnd l.awaited l.state.place)) ended ends in
+    let fpdu : IsFrameEnd Fpdu l.state.place end = subst (λ (a : Awaited). IsFrameEnd a l.state.place end) awaited end_is in
+    absurd (no_flags l.state.place at end fpdu is)
+
+-- why the frame ends the server
+by_end_lem : (k : ServerState) (f : Frame) (e : Option End) (end : End) → e ≡ Some end → or_refusal k f e ≡ Some end
+by_end_lem k f e end is = ap (or_refusal k f) is
+
+at_start_lem : (n : ℕ) → n ≡ 0 → eqb n 0 ≡ true
+at_start_lem n is = eq-eqb n 0 is
+
+pub later_frame : (n : ℕ) → 0 < n → eqb n 0 ≡ false
+later_frame n some = ne_eqb n 0 (λ e. omega (arith, e, some))
+
+hello_ended : (s : LinkState) (f : Frame) (r : Result Hello ℕ) → f.at ≡ 0 → s.ended ≡ None → (with_peer_hello f r s).ended ≡ hello_end r
+unfolding with_peer_hello
+hello_ended s f (Ok hello) at live = live
+hello_ended s f (Err reason) at live = ap (λ (n : ℕ). Some (ends.Bad n reason)) at
+
+pub server_ends : (opened : LinkParameters) (k : ServerState) (l : LinkSide) (frame : List ℕ) (end : End) → LinkKeeps opened k l.state → IsServer k l.state.place → Begins l → 0 < length frame →
+    (with_frame l.state l.awaited frame).ended ≡ Some end → server_end opened k (FrameReceived (next_frame l.state frame)) ≡ Some end
+unfolding server_end
+server_ends opened k l frame end h is (BeforeHello place awaited hello none) some ended =
+    let f : Frame = next_frame l.state frame in
+    let as_hello : (with_frame l.state (HelloFrom Initiator) frame).ended ≡ Some end = subst (λ (a : Awaited). (with_frame l.state a frame).ended ≡ Some end) awaited ended in
+    ap (λ (b : Bool). cond b (hello_end (hello_of Initiator frame)) (or_refusal k f (frame_end (readiness opened k) (region_grants f.end k.regions) f))) (at_start_lem l.state.place place)
+    ∙ sym (hello_ended l.state f (hello_of Initiator frame) place h.live) ∙ as_hello
+server_ends opened k l frame end h is (AfterHello place awaited hello) some ended =
+    let f : Frame = next_frame l.state frame in
+    let as_fpdu : (with_frame l.state Fpdu frame).ended ≡ Some end = subst (λ (a : Awaited). (with_frame l.state a frame).ended ≡ Some end) awaited ended in
+    ap (λ (b : Bool). cond b (hello_end (hello_of Initiator frame)) (or_refusal k f (frame_end (readiness opened k) (region_grants f.end k.regions) f))) (later_frame l.state.place place)
+    ∙ by_end_lem k f (frame_end (readiness opened k) (region_grants f.end k.regions) f) end (sym (frame_ends opened k l.state frame h is some) ∙ as_fpdu)
+
+pub ended_takes : (opened : LinkParameters) (k : ServerState) (input later : InputState) (v : ResponderSide) (frame : List ℕ) (end : End) → Keeps opened k input v → 0 < length frame →
+    (with_frame v.link.state v.link.awaited frame).ended ≡ Some end →
+    TakesFrame opened k later (next_frame v.link.state frame) v (on_link v (record { awaited = Fpdu; rest = []; state = with_frame v.link.state v.link.awaited frame }))
+ended_takes opened k input later v frame end h some ended =
+    let s : LinkState = v.link.state in
+    let f : Frame = next_frame s frame in
+    let why : server_end opened k (FrameReceived f) ≡ Some end = server_ends opened k v.link frame end h.link h.server h.begins some ended in
+    let state : with_frame s v.link.awaited frame ≡ with_end_of end s = ended_frame s v.link.awaited frame end h.link.live ended in
+    let next : next_end_state (server_rules opened) (live k) (FrameReceived f) ≡ record { state = k; ended = Some end } = ap (λ (e : Option End). next_end_state_by (server_rules opened) k (FrameReceived f) e) why in
+    let due : output_for (server_rules opened) (live k) (FrameReceived f) ≡ last_output Responder end = ap (λ (e : Option End). output_for_by (server_rules opened) k (FrameReceived f) e) why in
+    let last : queued_bytes (with_end s.side end s.send_queue) ≡ queued_bytes s.send_queue ++ last_output Responder end =
+    ap (λ (side : Side). queued_bytes (with_end side end s.send_queue)) h.link.side ∙ last_queue end s.send_queue (flags_first v.link frame end h.link.live h.begins ended) in
+    record {
+      keeps = inr (
+        ap (λ (e : EndState ServerState). is_some e.ended) next,
+        ended ∙ sym (ap (λ (e : EndState ServerState). e.ended) next),
+      );
+      output = ap (λ (t : LinkState). queued_bytes t.send_queue) state ∙ last ∙ ap (λ (bytes : List ℕ). queued_bytes s.send_queue ++ bytes) (sym due);
+    }
+
+-- ---- The hello
+
+pub hello_link : (opened : LinkParameters) (k : ServerState) (s : LinkState) (frame : List ℕ) (hello : Hello) → LinkKeeps opened k s → IsServer k s.place → k.message_ends ≡ [] →
+    LinkKeeps opened (with_own_hello k) (with_peer_hello (next_frame s frame) (Ok hello) s)
+unfolding with_peer_hello
+hello_link opened k s frame hello h is none = record {
+  live = h.live;
+  side = h.side;
+  received = h.received;
+  receive_length = h.receive_length;
+  message_max = h.message_max;
+  free = h.free;
+  lent = h.lent;
+  told = h.told;
+  reads = h.reads;
+  memory = holds_later k.regions k.accesses_received s.place (s.place + length frame) s.memory (omega arith) is.accesses h.memory;
+  next = h.next;
+  queue =
+      subst (λ (side : Side). QueueKeeps (with_own_hello k) (with_hello (reply_hello side) s.send_queue)) (sym h.side)
+      (greeted_has k.written k.due k.messages_queued k.requests_sent k.message_ends (own_hello Responder) s.send_queue none h.queue);
+}
+
+pub server_later : (k : ServerState) (place later : ℕ) → place ≤ later → IsServer k place → IsServer k later
+server_later k place later le is = record {
+  offered = offered_later place later k.regions le is.offered;
+  accesses = received_later place later k.accesses_received le is.accesses;
+  numbered = is.numbered;
+  sinks = is.sinks;
+  calls_before = is.calls_before;
+  reads_before = is.reads_before;
+  regions_before = is.regions_before;
+  closed = is.closed;
+  xids = is.xids;
+  ready_xids = is.ready_xids;
+  ready = is.ready;
+  no_reads = is.no_reads;
+  no_regions = is.no_regions;
+  up = is.up;
+  down = is.down;
+}
+
+-- its hello is due: nothing else of it changes
+pub own_hello_server : (k : ServerState) (place : ℕ) → IsServer k place → IsServer (with_own_hello k) place
+own_hello_server k place is = record {
+  offered = is.offered;
+  accesses = is.accesses;
+  numbered = is.numbered;
+  sinks = is.sinks;
+  calls_before = is.calls_before;
+  reads_before = is.reads_before;
+  regions_before = is.regions_before;
+  closed = is.closed;
+  xids = is.xids;
+  ready_xids = is.ready_xids;
+  ready = is.ready;
+  no_reads = is.no_reads;
+  no_regions = is.no_regions;
+  up = is.up;
+  down = is.down;
+}

@@ -1,0 +1,183 @@
+-- What the code made of a message is what is said of it, and what a step leaves of the link.
+use Rattle.std.proofs.Common.{◌≡◌, ◌≢◌, ℕ, ◌+◌, ◌-◌, ◌<◌, ◌≤◌, Bool, true, false, cond, eqb, List, [], ◌∷◌, ◌++◌, length, drop, take, Option, Some, None, Result, Ok, Err, refl, sym, ap, subst, ◌∙◌, arith, inl, inr, is_some, length-append}
+use Rattle.std.specs.Prelude.{◌⊎◌}
+use Rattle.std.proofs.lemmas.List.{length-take}
+use Rattle.nr_wire.specs.declared.stream.Awaited.{Awaited}
+use Rattle.nr_wire.specs.declared.stream.Awaited.TheVariants.{Hello as HelloFrom, Fpdu}
+use Rattle.nr_wire.specs.Hello.{Hello, hello_of}
+use Rattle.nr_wire.specs.Segment.{Segment, segment_of}
+use Rattle.nr_wire.specs.Segment.Segment.{Tagged, Untagged}
+use Rattle.nr_wire.specs.Stream.{is_whole, frame_len, IsPartial}
+use Rattle.nr_wire.specs.Feeding.{bytes_taken}
+use Rattle.nr_wire.proofs.Frames.{partial_nil, partial_from}
+use Rattle.nr_wire.proofs.Feedings.{bytes_taken_partial}
+use Rattle.nr_header.specs.declared.header.ChunkLists.{ChunkLists}
+use Rattle.nr_xdr.specs.Fields.{word_at}
+use Rattle.nr_link.specs.declared.end.End.{End}
+use Rattle.nr_link.specs.declared.end.End.TheVariants as ends
+use Rattle.nr_link.specs.Frames.{Frame}
+use Rattle.nr_link.specs.Reasons.{REASON_HEAD, REASON_XID}
+use Rattle.nr_link.specs.ReceiveState.{ReadRequest, read_request_of}
+use Rattle.nr_regions.specs.RegisteredMemory.{RegisteredMemory, after_place}
+use Rattle.nr_endpoint.specs.ReceiveQueue.{ReceiveQueue, delivered, with_segment}
+use Rattle.nr_endpoint.specs.SendQueue.{SendQueue, with_end}
+use Rattle.nr_endpoint.specs.LinkState.{LinkState, LinkSide}
+use Rattle.nr_endpoint.specs.Judging.{segment_end, next_frame, with_frame, with_fpdu, with_segment_by, with_effect, with_peer_hello, with_read_response, with_read_request}
+use Rattle.nr_endpoint.specs.Calls.{after_call}
+use Rattle.nr_endpoint.specs.Calls.Call.{NextEvent, Stop, Send}
+use Rattle.nr_endpoint.specs.FedBytes.{fed_bytes}
+use Rattle.nr_endpoint.proofs.Pieces.{frame_place}
+use Rattle.nr_endpoint.proofs.StagedFrames.{taken_whole}
+use Rattle.nr_reduce.specs.ServerState.{PendingCall, ServerState}
+use Rattle.nr_reduce.specs.ServerMessages.{verdict}
+use Rattle.nr_reduce.specs.ServerMessages.Verdict.{MakesPending}
+use Rattle.nr_reduce.specs.ServerFrames.{by_message}
+use Rattle.nr_reduce.specs.Holds.{chunk_error, version_error}
+use Rattle.nr_responder.specs.ResponderState.{ResponderSide, end_of}
+use Rattle.nr_responder.specs.Handling.{Handled, IsServerOf, MessageTakes, Begins, Makes, OrOut, begun_call, inline_call, refused_effect, on_link, out, with_ready}
+use Rattle.nr_responder.specs.Handling.Handled.{Stopped, Refused, Ready}
+use Rattle.nr_responder.specs.Handling.MessageTakes.{EndsFor, ErrorFor}
+use Rattle.nr_responder.specs.Handling.Begins.{NoCall, OtherXid, IsReady}
+use Rattle.nr_responder.specs.Handling.Makes.{Ends, RefusesVersion, RefusesChunks, Calls, LeavesReads}
+use Rattle.nr_responder.specs.Views.{IsCall}
+use Rattle.nr_responder.specs.Sound.{SameInput}
+use Rattle.nr_responder.proofs.Judged.{ends_refusal, version_refused, chunks_refused, no_call_refused, other_call_refused, plain_lists_lem}
+use Rattle.nr_responder.proofs.Fed.{StepOf}
+use Rattle.nr_responder.proofs.Fed.StepOf.{Part, WholeFrame}
+
+-- ---- What was made of a message
+
+abbrev pub told_of : ResponderSide → ResponderSide
+told_of v = on_link v (after_call v.link NextEvent)
+
+-- each server whose calls are kept goes on by it
+abbrev pub Goes : ResponderSide → ℕ → List ℕ → ResponderSide → Type 0
+Goes v number message after = (k : ServerState) → IsServerOf k v → number ≡ k.received.sends + 1 → Handled k message v after
+
+-- or memory ran out
+pub record RanOutOf (v : ResponderSide) (number : ℕ) (message : List ℕ) (after : ResponderSide) : Type 0 where
+  pub is_out : after ≡ out (told_of v)
+  pub takes : (k : ServerState) → IsServerOf k v → number ≡ k.received.sends + 1 → MessageTakes k message
+
+ended_or_out : (v after : ResponderSide) (number reason : ℕ) (message : List ℕ) → 5 ≤ reason → ((k : ServerState) → IsServerOf k v → number ≡ k.received.sends + 1 → (place : ℕ) → (by_message k place (Some message)).refusal ≡ Some reason) →
+    OrOut (told_of v) (after_call (after_call v.link NextEvent) (Stop reason)) after → Goes v number message after ⊎ RanOutOf v number message after
+ended_or_out v after number reason message other refuses (inl is) = inl (λ k server count. Stopped reason (refuses k server count) other is)
+ended_or_out v after number reason message other refuses (inr is) = inr (record { is_out = is; takes = λ k server count. EndsFor reason (refuses k server count) other })
+
+refused_or_out : (v after : ResponderSide) (number : ℕ) (message answer : List ℕ) → ((k : ServerState) → IsServerOf k v → (place : ℕ) → by_message k place (Some message) ≡ refused_effect k answer) →
+    OrOut (told_of v) (after_call (after_call v.link NextEvent) (Send answer)) after → Goes v number message after ⊎ RanOutOf v number message after
+refused_or_out v after number message answer effect (inl is) = inl (λ k server count. Refused answer (effect k server) is)
+refused_or_out v after number message answer effect (inr is) = inr (record { is_out = is; takes = λ k server count. ErrorFor answer (effect k server) })
+
+told_server_of : (k : ServerState) (v : ResponderSide) → IsServerOf k v → IsServerOf k (told_of v)
+told_server_of k v server = record { calls = server.calls; credits = server.credits; no_reads = server.no_reads; no_regions = server.no_regions }
+
+judged_call : (k : ServerState) (message : List ℕ) (lists : ChunkLists) (stream_at : ℕ) → IsCall k message lists stream_at →
+    verdict k message ≡ MakesPending (inline_call k (word_at 0 message) lists.write lists.reply (drop stream_at message))
+judged_call k message lists stream_at call = call.pending ∙ ap MakesPending (plain_lists_lem k (word_at 0 message) lists (drop stream_at message) call.no_reads)
+
+begins_handled : (v after : ResponderSide) (number : ℕ) (message : List ℕ) (lists : ChunkLists) (stream_at : ℕ) → ((k : ServerState) → IsServerOf k v → IsCall k message lists stream_at) → Begins (told_of v) after number message lists stream_at →
+    Goes v number message after ⊎ RanOutOf v number message after
+begins_handled v after number message lists stream_at call (NoCall at reads is) =
+    ended_or_out v after number REASON_HEAD message (omega arith)
+    (λ k server count place. no_call_refused k message place (word_at 0 message) at lists.write lists.reply (drop stream_at message) server.no_reads (judged_call k message lists stream_at (call k server)) reads) is
+begins_handled v after number message lists stream_at call (OtherXid head reads other is) =
+    ended_or_out v after number REASON_XID message (omega arith)
+    (λ k server count place. other_call_refused k message place (word_at 0 message) lists.write lists.reply (drop stream_at message) head server.no_reads (judged_call k message lists stream_at (call k server)) reads other) is
+begins_handled v after number message lists stream_at call (IsReady head reads own is) = inl by
+  where
+    by : Goes v number message after
+    by k server count =
+        let c : IsCall k message lists stream_at = call k server in
+        let same : begun_call number message lists stream_at ≡ inline_call k (word_at 0 message) lists.write lists.reply (drop stream_at message) =
+        λ i. record { number = count i; xid = word_at 0 message; lists = record { read = c.no_reads i; write = lists.write; reply = lists.reply }; inline = Some (drop stream_at message) } in
+        Ready (word_at 0 message) lists.write lists.reply (drop stream_at message) head c.own (judged_call k message lists stream_at c) reads own
+        (is ∙ ap (λ (c : PendingCall). with_ready (told_of v) (after_call v.link NextEvent) c) same)
+
+pub makes_handled : (v after : ResponderSide) (number : ℕ) (message : List ℕ) → Makes (told_of v) number message after → Goes v number message after ⊎ RanOutOf v number message after
+makes_handled v after number message (Ends reason other judged is) =
+    ended_or_out v after number reason message other (λ k server count place. ends_refusal k message reason place (judged k (told_server_of k v server))) is
+makes_handled v after number message (RefusesVersion judged is) =
+    refused_or_out v after number message (version_error (word_at 0 message) (word_at 4 message) v.credits)
+    (λ k server place. version_refused k message v.credits place (judged k (told_server_of k v server)) server.credits) is
+makes_handled v after number message (RefusesChunks judged is) =
+    refused_or_out v after number message (chunk_error (word_at 0 message) v.credits)
+    (λ k server place. chunks_refused k message v.credits place (judged k (told_server_of k v server)) server.credits) is
+makes_handled v after number message (Calls lists stream_at judged begins) =
+    begins_handled v after number message lists stream_at (λ k server. judged k (told_server_of k v server)) begins
+makes_handled v after number message (LeavesReads takes is) = inr (record { is_out = is; takes = λ k server count. takes k (told_server_of k v server) })
+
+-- ---- What is left of the link
+
+pub same_fed : (l m : LinkSide) → SameInput l m → fed_bytes m ≤ fed_bytes l
+same_fed l m same = by same.rest
+  where
+    by : ((m.rest ≡ l.rest) ⊎ (m.rest ≡ [])) → fed_bytes m ≤ fed_bytes l
+    by (inl is) = omega (arith, same.place, ap (λ (xs : List ℕ). length xs) is)
+    by (inr none) = omega (arith, same.place, ap (λ (xs : List ℕ). length xs) none)
+
+-- ---- The link after a step
+
+-- a frame leaves the counts of receives, and where the Sends end
+pub record SameCounts (s t : LinkState) : Type 0 where
+  pub lent : t.receive_queue.lent ≡ s.receive_queue.lent
+  pub receives : t.receive_queue.receives ≡ s.receive_queue.receives
+  pub ends_are : t.send_queue.send_ends ≡ s.send_queue.send_ends
+
+pub same_if : (b : Bool) (s t u : LinkState) → SameCounts s t → SameCounts s u → SameCounts s (cond b t u)
+same_if true s t u a b = a
+same_if false s t u a b = b
+
+response_counts : (s : LinkState) (last : Bool) (n : ℕ) → SameCounts s (with_read_response last n s)
+response_counts s true n = record { lent = refl; receives = refl; ends_are = refl }
+response_counts s false n = record { lent = refl; receives = refl; ends_are = refl }
+
+request_ends : (r : Option ReadRequest) (m : RegisteredMemory) (q : SendQueue) → (with_read_request r m q).send_ends ≡ q.send_ends
+request_ends None m q = refl
+request_ends (Some r) m q = refl
+
+effect_counts : (s : LinkState) (segment : Segment) → SameCounts s (with_effect segment s)
+unfolding with_effect with_segment
+effect_counts s (Tagged last opcode stag to payload) =
+    let placed : LinkState = record s { memory = after_place s.memory stag to payload } in
+    let r : SameCounts placed (with_read_response last (length payload) placed) = response_counts placed last (length payload) in
+    same_if (eqb opcode 2) s (with_read_response last (length payload) placed) placed (record { lent = r.lent; receives = r.receives; ends_are = r.ends_are }) (record { lent = refl; receives = refl; ends_are = refl })
+effect_counts s (Untagged last opcode w queue msn offset payload) = record { lent = refl; receives = refl; ends_are = request_ends (read_request_of (Untagged last opcode w queue msn offset payload)) s.memory s.send_queue }
+
+segment_counts : (s : LinkState) (f : Frame) (segment : Segment) (e : Option End) → SameCounts s (with_segment_by f segment e s)
+unfolding with_end
+segment_counts s f segment None = (let c = effect_counts s segment in record { lent = c.lent; receives = c.receives; ends_are = c.ends_are })
+segment_counts s f segment (Some end) = record { lent = refl; receives = refl; ends_are = refl }
+
+fpdu_counts : (s : LinkState) (f : Frame) (r : Result Segment ℕ) → SameCounts s (with_fpdu f r s)
+unfolding with_fpdu with_end
+fpdu_counts s f (Ok segment) = segment_counts s f segment (segment_end s f segment)
+fpdu_counts s f (Err reason) = record { lent = refl; receives = refl; ends_are = refl }
+
+hello_counts : (s : LinkState) (f : Frame) (r : Result Hello ℕ) → SameCounts s (with_peer_hello f r s)
+unfolding with_peer_hello with_end
+hello_counts s f (Ok hello) = record { lent = refl; receives = refl; ends_are = refl }
+hello_counts s f (Err reason) = record { lent = refl; receives = refl; ends_are = refl }
+
+pub frame_counts : (s : LinkState) (a : Awaited) (frame : List ℕ) → SameCounts s (with_frame s a frame)
+frame_counts s (HelloFrom side) frame = hello_counts s (next_frame s frame) (hello_of side frame)
+frame_counts s Fpdu frame = fpdu_counts s (next_frame s frame) (segment_of frame)
+
+pub step_counts : (l m : LinkSide) (piece : List ℕ) → StepOf l piece m → SameCounts l.state m.state
+step_counts l m piece (Part w is) = subst (λ (x : LinkSide). SameCounts l.state x.state) (sym is) (record { lent = refl; receives = refl; ends_are = refl })
+step_counts l m piece (WholeFrame frame w frame_is long is) = subst (λ (x : LinkSide). SameCounts l.state x.state) (sym is) (frame_counts l.state l.awaited frame)
+
+-- how far a step goes
+pub step_within : (l m : LinkSide) (piece : List ℕ) → IsPartial l.awaited l.rest → StepOf l piece m → m.state.ended ≡ None → fed_bytes m ≤ fed_bytes l + bytes_taken l.awaited l.rest piece
+step_within l m piece p (Part w is) lives =
+    let n = bytes_taken_partial l.awaited l.rest piece w in
+    let bytes : fed_bytes m ≡ l.state.place + length (l.rest ++ piece) = ap fed_bytes is in
+    omega (arith, n, bytes, length-append l.rest piece)
+step_within l m piece p (WholeFrame frame w frame_is long is) lives =
+    let t = taken_whole l.awaited l.rest piece p w in
+    let place = frame_place l.state l.awaited frame (sym (ap (λ (x : LinkSide). x.state.ended) is) ∙ lives) in
+    let bytes : fed_bytes m ≡ (with_frame l.state l.awaited frame).place + 0 = ap fed_bytes is in
+    let front : length (take (bytes_taken l.awaited l.rest piece) piece) ≤ bytes_taken l.awaited l.rest piece = omega (arith, length-take (bytes_taken l.awaited l.rest piece) piece) in
+    let len : length frame ≡ length l.rest + length (take (bytes_taken l.awaited l.rest piece) piece) =
+    ap (λ (xs : List ℕ). length xs) (frame_is ∙ sym t.0) ∙ length-append l.rest (take (bytes_taken l.awaited l.rest piece) piece) in
+    omega (arith, bytes, place, len, front)

@@ -1,0 +1,204 @@
+-- The verdict on a message, one question after the other.
+use Rattle.std.proofs.Common.{◌≡◌, ◌≢◌, ℕ, ◌+◌, ◌<◌, ◌≤◌, Bool, true, false, not, ◌||◌, eqb, ltb, cond, List, [], ◌∷◌, length, drop, map, Option, Some, None, Result, Ok, Err, refl, sym, ap, subst, ◌∙◌, arith, inl, inr}
+use Rattle.std.specs.Prelude.{nat_lt, ◌⊎◌}
+use Rattle.std.specs.List.{list_any, filter}
+use Rattle.std.proofs.lemmas.Bool.{ne_eqb, eq-eqb, le-ltb}
+use Rattle.nr_header.specs.Constants.{FIXED_LEN}
+use Rattle.nr_header.specs.declared.fault.HeaderFault.{HeaderFault}
+use Rattle.nr_header.specs.declared.fault.HeaderFault.TheVariants.{Short}
+use Rattle.nr_header.specs.declared.header.RdmaSegment.{RdmaSegment}
+use Rattle.nr_header.specs.declared.header.ReadSegment.{ReadSegment}
+use Rattle.nr_header.specs.declared.header.ChunkLists.{ChunkLists}
+use Rattle.nr_header.specs.declared.header.Body.{Body}
+use Rattle.nr_header.specs.declared.header.Body.TheVariants.{Msg, Nomsg, ErrVers, ErrChunk}
+use Rattle.nr_header.specs.declared.header.Header.{Header}
+use Rattle.nr_header.specs.WithinLimits.{CanRead, StreamWithin, stream_after}
+use Rattle.nr_header.specs.Reading.{header_of, header_by, body_by, error_by}
+use Rattle.nr_xdr.specs.Fields.{word_at}
+use Rattle.nr_reduce.specs.Chunks.{is_read_chunk_of_item, item_position, total_at, positions}
+use Rattle.nr_reduce.specs.Limits.{numbers_end}
+use Rattle.nr_reduce.specs.ServerState.{PendingCall, ServerState, is_pending, next_stag}
+use Rattle.nr_reduce.specs.ServerReads.{chunks_of}
+use Rattle.nr_reduce.specs.ServerMessages.{Verdict, verdict, by_header, by_body, by_stream, by_need, has_position, no_stream}
+use Rattle.nr_reduce.specs.ServerMessages.Verdict.{EndsLink, OtherVersion, BadChunks, MakesPending}
+use Rattle.nr_rpc.specs.declared.head.CallHead.{CallHead}
+use Rattle.nr_rpc.specs.Reading.{call_of}
+use Rattle.nr_reduce.specs.Holds.{chunk_error, version_error}
+use Rattle.nr_reduce.specs.ServerMessages.{by_head, call_xid}
+use Rattle.nr_reduce.specs.ServerMessages.CallVerdict.{Refuses, IsReady}
+use Rattle.nr_reduce.specs.ServerFrames.{FrameEffect, by_message, message_effect, with_verdict}
+use Rattle.nr_responder.specs.Handling.{inline_call, refused_effect}
+use Rattle.nr_responder.proofs.ServerSteps.{inline_message_lem, pending_effect}
+use Rattle.nr_responder.specs.declared.call.Pending.{Pending}
+use Rattle.nr_responder.specs.declared.judging.Judged.{Judged}
+use Rattle.nr_responder.specs.declared.judging.Judged.TheVariants as judged
+use Rattle.nr_responder.specs.Views.{call_view, IsCall, IsOfReads, HasStream, Judges, JudgesBody}
+use Rattle.nr_responder.specs.Views.IsOfReads.{Refused, Spent, Reads}
+
+pub verdict_version : (k : ServerState) (m : List ℕ) → word_at 4 m ≢ 1 → verdict k m ≡ OtherVersion
+unfolding verdict
+verdict_version k m ne =
+    ap (λ (b : Bool). cond (not b) OtherVersion (cond (eqb (word_at 12 m) 3 || eqb (word_at 12 m) 4) (EndsLink 17) (cond (is_pending k (word_at 0 m)) (EndsLink 20) (by_header k m (header_of m))))) (ne_eqb (word_at 4 m) 1 ne)
+
+verdict_later : (k : ServerState) (m : List ℕ) → word_at 4 m ≡ 1 →
+    verdict k m ≡ cond (eqb (word_at 12 m) 3 || eqb (word_at 12 m) 4) (EndsLink 17) (cond (is_pending k (word_at 0 m)) (EndsLink 20) (by_header k m (header_of m)))
+unfolding verdict
+verdict_later k m is =
+    ap (λ (b : Bool). cond (not b) OtherVersion (cond (eqb (word_at 12 m) 3 || eqb (word_at 12 m) 4) (EndsLink 17) (cond (is_pending k (word_at 0 m)) (EndsLink 20) (by_header k m (header_of m))))) (eq-eqb (word_at 4 m) 1 is)
+
+pub verdict_done : (k : ServerState) (m : List ℕ) → word_at 4 m ≡ 1 → word_at 12 m ≡ 3 → verdict k m ≡ EndsLink 17
+verdict_done k m is kind =
+    verdict_later k m is ∙ ap (λ (b : Bool). cond (b || eqb (word_at 12 m) 4) (EndsLink 17) (cond (is_pending k (word_at 0 m)) (EndsLink 20) (by_header k m (header_of m)))) (eq-eqb (word_at 12 m) 3 kind)
+
+pub verdict_error : (k : ServerState) (m : List ℕ) → word_at 4 m ≡ 1 → word_at 12 m ≡ 4 → verdict k m ≡ EndsLink 17
+verdict_error k m is kind =
+    verdict_later k m is
+    ∙ ap (λ (n : ℕ). cond (eqb n 3 || eqb n 4) (EndsLink 17) (cond (is_pending k (word_at 0 m)) (EndsLink 20) (by_header k m (header_of m)))) kind
+
+pub verdict_kinds : (k : ServerState) (m : List ℕ) → word_at 4 m ≡ 1 → word_at 12 m ≢ 3 → word_at 12 m ≢ 4 → verdict k m ≡ cond (is_pending k (word_at 0 m)) (EndsLink 20) (by_header k m (header_of m))
+verdict_kinds k m is done error =
+    verdict_later k m is
+    ∙ (λ i. cond (ne_eqb (word_at 12 m) 3 done i || ne_eqb (word_at 12 m) 4 error i) (EndsLink 17) (cond (is_pending k (word_at 0 m)) (EndsLink 20) (by_header k m (header_of m))))
+
+pub pending_view : (xid : ℕ) (calls : List Pending) → list_any (λ c. eqb c.xid xid) (map call_view calls) ≡ list_any (λ c. eqb c.xid xid) calls
+pending_view xid [] = refl
+pending_view xid (c ∷ calls) = ap (λ (b : Bool). eqb c.xid xid || b) (pending_view xid calls)
+
+xid_by : (xid credit : ℕ) (r : Result Body HeaderFault) (h : Header) → header_by xid credit r ≡ Ok h → h.xid ≡ xid
+xid_by xid credit (Ok body) h is = ap (λ (x : Header). x.xid) (let same : h ≡ record { xid = xid; credit = credit; body = body } = cc in same)
+xid_by xid credit (Err fault) h is = absurd cc
+
+pub header_xid : (m : List ℕ) (h : Header) → FIXED_LEN ≤ length m → header_of m ≡ Ok h → h.xid ≡ word_at 0 m
+unfolding header_of
+header_xid m h long is =
+    let body : Result Body HeaderFault = body_by (error_by (word_at 12 m) m) (word_at 4 m) (word_at 12 m) m in
+    xid_by (word_at 0 m) (word_at 8 m) body h
+    (sym (ap (λ (b : Bool). cond b (Err Short) (header_by (word_at 0 m) (word_at 8 m) body)) (le-ltb (length m) FIXED_LEN long)) ∙ is)
+
+-- a call without a read list is pending, as long as STags are numbers
+no_chunks_lem : (k : ServerState) (c : PendingCall) → c.lists.read ≡ [] → next_stag k ≤ 4294967296 → by_need k c ≡ MakesPending c
+no_chunks_lem k c none few =
+    let need : length (chunks_of c.lists) ≡ 0 = ap (λ (read : List ReadSegment). length (filter (λ p. not (eqb (total_at p read) 0)) (positions read))) none in
+    ap (λ (b : Bool). cond b (EndsLink 30) (MakesPending c)) (le-ltb 4294967296 (next_stag k + length (chunks_of c.lists)) (omega (arith, few, need)))
+
+item_nil : (stream : List ℕ) → is_read_chunk_of_item stream [] ≡ true
+unfolding is_read_chunk_of_item item_position
+item_nil stream = refl
+
+pub call_stream_lem : (k : ServerState) (lists : ChunkLists) (xid : ℕ) (stream : List ℕ) → lists.read ≡ [] → next_stag k ≤ 4294967296 →
+    by_stream k lists xid (Some stream) ≡ MakesPending (record { number = k.received.sends + 1; xid = xid; lists = lists; inline = Some stream })
+call_stream_lem k lists xid stream none few =
+    let c : PendingCall = record { number = k.received.sends + 1; xid = xid; lists = lists; inline = Some stream } in
+    ap (λ (b : Bool). cond b (by_need k c) BadChunks) (ap (is_read_chunk_of_item stream) none ∙ item_nil stream) ∙ no_chunks_lem k c none few
+
+pub header_verdict : (k : ServerState) (m : List ℕ) → word_at 4 m ≡ 1 → word_at 12 m ≢ 3 → word_at 12 m ≢ 4 → is_pending k (word_at 0 m) ≡ false → verdict k m ≡ by_header k m (header_of m)
+header_verdict k m is done error new = verdict_kinds k m is done error ∙ ap (λ (b : Bool). cond b (EndsLink 20) (by_header k m (header_of m))) new
+
+-- a message with a read list is refused, or makes a call with a read chunk pending
+need_of_reads : (k : ServerState) (m : List ℕ) (c : PendingCall) → c.lists.read ≢ [] → verdict k m ≡ by_need k c → IsOfReads k m
+need_of_reads k m c chunk is = by (nat_lt numbers_end (next_stag k + length (chunks_of c.lists))) refl
+  where
+    by : (b : Bool) → nat_lt numbers_end (next_stag k + length (chunks_of c.lists)) ≡ b → IsOfReads k m
+    by true e = Spent (is ∙ ap (λ (b : Bool). cond b (EndsLink 30) (MakesPending c)) e)
+    by false e = Reads c (is ∙ ap (λ (b : Bool). cond b (EndsLink 30) (MakesPending c)) e) chunk
+
+stream_of_reads : (k : ServerState) (m : List ℕ) (lists : ChunkLists) (xid : ℕ) (o : Option (List ℕ)) → lists.read ≢ [] → verdict k m ≡ by_stream k lists xid o → IsOfReads k m
+stream_of_reads k m lists xid None chunk is = need_of_reads k m (record { number = k.received.sends + 1; xid = xid; lists = lists; inline = None }) chunk is
+stream_of_reads k m lists xid (Some stream) chunk is = by (is_read_chunk_of_item stream lists.read) refl
+  where
+    c : PendingCall
+    c = record { number = k.received.sends + 1; xid = xid; lists = lists; inline = Some stream }
+
+    by : (b : Bool) → is_read_chunk_of_item stream lists.read ≡ b → IsOfReads k m
+    by true e = need_of_reads k m c chunk (is ∙ ap (λ (b : Bool). cond b (by_need k c) BadChunks) e)
+    by false e = Refused (is ∙ ap (λ (b : Bool). cond b (by_need k c) BadChunks) e)
+
+reads_judged : (k : ServerState) (m : List ℕ) (h : Header) → word_at 4 m ≡ 1 → word_at 12 m ≢ 3 → word_at 12 m ≢ 4 → is_pending k (word_at 0 m) ≡ false → next_stag k ≤ 4294967296 → header_of m ≡ Ok h → JudgesBody h.body judged.Reads → IsOfReads k m
+reads_judged k m h is done error new few read b = by b.1.1
+  where
+    verdict_is : verdict k m ≡ by_body k h.xid m h.body
+    verdict_is = header_verdict k m is done error new ∙ ap (by_header k m) read
+
+    nomsg : (has : Bool) → verdict k m ≡ cond has (by_stream k b.0 h.xid (no_stream b.0.read)) BadChunks → IsOfReads k m
+    nomsg true e = stream_of_reads k m b.0 h.xid (no_stream b.0.read) b.1.0 e
+    nomsg false e = Refused e
+
+    by : ((stream_at : ℕ) × (h.body ≡ Msg b.0 stream_at)) ⊎ (h.body ≡ Nomsg b.0) → IsOfReads k m
+    by (inl msg) = stream_of_reads k m b.0 h.xid (Some (drop msg.0 m)) b.1.0 (verdict_is ∙ ap (by_body k h.xid m) msg.1)
+    by (inr is) = nomsg (has_position b.0.read) (verdict_is ∙ ap (by_body k h.xid m) is)
+
+-- what is judged of a body is judged of its message
+pub body_judged : (k : ServerState) (m : List ℕ) (h : Header) (j : Judged) → FIXED_LEN ≤ length m → word_at 4 m ≡ 1 → word_at 12 m ≢ 3 → word_at 12 m ≢ 4 → is_pending k (word_at 0 m) ≡ false →
+    next_stag k ≤ 4294967296 → header_of m ≡ Ok h → JudgesBody h.body j → Judges k m j
+body_judged k m h j long is done error new few read judges = by j judges
+  where
+    verdict_is : verdict k m ≡ by_body k h.xid m h.body
+    verdict_is = header_verdict k m is done error new ∙ ap (by_header k m) read
+
+    by : (j : Judged) → JudgesBody h.body j → Judges k m j
+    by judged.Kind b = absurd b
+    by judged.Open b = absurd b
+    by judged.OtherVersion b = absurd b
+    by judged.BadChunks b = verdict_is ∙ b k h.xid m
+    by (judged.Call lists stream_at) b = record {
+      no_reads = b.1;
+      own = new;
+      pending =
+          verdict_is ∙ ap (by_body k h.xid m) b.0 ∙ call_stream_lem k lists h.xid (drop stream_at m) b.1 few
+          ∙ ap (λ (x : ℕ). MakesPending (record { number = k.received.sends + 1; xid = x; lists = lists; inline = Some (drop stream_at m) })) (header_xid m h long read);
+    }
+    by judged.Reads b = reads_judged k m h is done error new few read b
+
+pub verdict_open : (k : ServerState) (m : List ℕ) → word_at 4 m ≡ 1 → word_at 12 m ≢ 3 → word_at 12 m ≢ 4 → is_pending k (word_at 0 m) ≡ true → verdict k m ≡ EndsLink 20
+verdict_open k m is done error new = verdict_kinds k m is done error ∙ ap (λ (b : Bool). cond b (EndsLink 20) (by_header k m (header_of m))) new
+
+pub is_open_lem : (k : ServerState) (calls : List Pending) (xid found : ℕ) (b : Bool) → k.calls ≡ map call_view calls → found ≡ xid → list_any (λ c. eqb c.xid found) calls ≡ b → is_pending k xid ≡ b
+is_open_lem k calls xid found b same is any =
+    ap (λ (cs : List PendingCall). list_any (λ c. eqb c.xid xid) cs) same
+    ∙ pending_view xid calls
+    ∙ ap (λ (x : ℕ). list_any (λ c. eqb c.xid x) calls) (sym is)
+    ∙ any
+
+-- ---- What a verdict makes of the server
+
+pub ends_refusal : (k : ServerState) (m : List ℕ) (reason place : ℕ) → verdict k m ≡ EndsLink reason → (by_message k place (Some m)).refusal ≡ Some reason
+ends_refusal k m reason place is = ap (λ (v : Verdict). (message_effect k place m v).refusal) is
+
+pub version_refused : (k : ServerState) (m : List ℕ) (credit place : ℕ) → verdict k m ≡ OtherVersion → k.credit ≡ credit → by_message k place (Some m) ≡ refused_effect k (version_error (word_at 0 m) (word_at 4 m) credit)
+version_refused k m credit place is same =
+    ap (λ (v : Verdict). message_effect k place m v) is ∙ ap (λ (n : ℕ). refused_effect k (version_error (word_at 0 m) (word_at 4 m) n)) same
+
+pub chunks_refused : (k : ServerState) (m : List ℕ) (credit place : ℕ) → verdict k m ≡ BadChunks → k.credit ≡ credit → by_message k place (Some m) ≡ refused_effect k (chunk_error (word_at 0 m) credit)
+chunks_refused k m credit place is same =
+    ap (λ (v : Verdict). message_effect k place m v) is ∙ ap (λ (n : ℕ). refused_effect k (chunk_error (word_at 0 m) n)) same
+
+-- a pending call without a read chunk, whose stream is no call, or one of another xid
+pub no_call_refused : (k : ServerState) (m : List ℕ) (place xid at : ℕ) (write : List (List RdmaSegment)) (reply : Option (List RdmaSegment)) (stream : List ℕ) → k.reads ≡ [] → verdict k m ≡ MakesPending (inline_call k xid write reply stream) → call_of stream ≡ Err at →
+    (by_message k place (Some m)).refusal ≡ Some 18
+no_call_refused k m place xid at write reply stream none is reads =
+    let c : PendingCall = inline_call k xid write reply stream in
+    ap (λ (s : FrameEffect). s.refusal) (inline_message_lem k place m xid write reply stream none is)
+    ∙ ap (λ (r : Result CallHead ℕ). (with_verdict (by_head c stream r) (pending_effect k c)).refusal) reads
+
+pub other_call_refused : (k : ServerState) (m : List ℕ) (place xid : ℕ) (write : List (List RdmaSegment)) (reply : Option (List RdmaSegment)) (stream : List ℕ) (head : CallHead) → k.reads ≡ [] → verdict k m ≡ MakesPending (inline_call k xid write reply stream) → call_of stream ≡ Ok head → call_xid head ≢ xid →
+    (by_message k place (Some m)).refusal ≡ Some 19
+other_call_refused k m place xid write reply stream head none is reads other =
+    let c : PendingCall = inline_call k xid write reply stream in
+    ap (λ (s : FrameEffect). s.refusal) (inline_message_lem k place m xid write reply stream none is)
+    ∙ ap (λ (r : Result CallHead ℕ). (with_verdict (by_head c stream r) (pending_effect k c)).refusal) reads
+    ∙ ap (λ (b : Bool). (with_verdict (cond b (IsReady (record { number = c.number; xid = xid; payload = stream })) (Refuses 19)) (pending_effect k c)).refusal) (ne_eqb (call_xid head) xid other)
+
+-- the lists of a call without a read list
+pub plain_lists_lem : (k : ServerState) (xid : ℕ) (lists : ChunkLists) (stream : List ℕ) → lists.read ≡ [] →
+    record { number = k.received.sends + 1; xid = xid; lists = lists; inline = Some stream } ≡ inline_call k xid lists.write lists.reply stream
+plain_lists_lem k xid lists stream none = λ i. record { number = k.received.sends + 1; xid = xid; lists = record { read = none i; write = lists.write; reply = lists.reply }; inline = Some stream }
+
+-- the lists and the stream of a call that is judged by its body
+pub has_stream : (m : List ℕ) (body : Body) (j : Judged) → JudgesBody body j → StreamWithin body (length m) → CanRead body (stream_after body m) → HasStream m j
+has_stream m body judged.Kind b within can = tt
+has_stream m body judged.Open b within can = tt
+has_stream m body judged.OtherVersion b within can = tt
+has_stream m body judged.BadChunks b within can = tt
+has_stream m body (judged.Call lists stream_at) b within can =
+    (subst (λ (x : Body). StreamWithin x (length m)) b.0 within, (subst (λ (x : Body). CanRead x (stream_after x m)) b.0 can).0)
+has_stream m body judged.Reads b within can = tt

@@ -1,0 +1,133 @@
+-- A responder stands for one mark more, where it goes on by the events of that mark.
+use Rattle.std.proofs.Common.{◌≡◌, ◌≢◌, ℕ, ◌+◌, Bool, true, false, ◌&&◌, eqb, cond, List, [], ◌∷◌, ◌++◌, length, take, drop, Option, Some, None, refl, sym, ap, subst, ◌∙◌, arith, inl, inr, is_some, append_assoc}
+use Rattle.std.specs.Prelude.{map, ◌⊎◌}
+use Rattle.std.proofs.lemmas.List.{append-nil, take-append-drop}
+use Rattle.nr_wire.specs.declared.hello.Side.TheVariants.{Initiator, Responder}
+use Rattle.nr_link.specs.Input.{InputState, input_of, input_frames, input_after, initial_input}
+use Rattle.nr_link.specs.Frames.{Frame}
+use Rattle.nr_link.proofs.Inputs.{input_of_append}
+use Rattle.nr_endpoint.specs.LinkState.{LinkSide, initial_link}
+use Rattle.nr_endpoint.specs.ReceiveQueue.{initial_receives}
+use Rattle.nr_reduce.specs.declared.mark.Mark.{Mark}
+use Rattle.nr_reduce.specs.declared.mark.Mark.TheVariants as marks
+use Rattle.nr_outside.specs.declared.moment.Moment.{Moment}
+use Rattle.nr_reduce.specs.declared.mark.LinkParameters.{LinkParameters}
+use Rattle.nr_reduce.specs.History.{ExecutedCall, bytes_received, written_at, fed_at}
+use Rattle.nr_reduce.specs.Events.{RunEvent, if_own}
+use Rattle.nr_reduce.specs.Events.RunEvent.{FrameReceived, CallExecuted, QueueWritten}
+use Rattle.nr_reduce.specs.EndRules.{EndState, end_state_after, output_for_all}
+use Rattle.nr_reduce.specs.ServerState.{ServerState, initial_state}
+use Rattle.nr_reduce.specs.Server.{server_rules, initial_server}
+use Rattle.nr_reduce.specs.Standing.{input_events, ServerRepresents}
+use Rattle.nr_reduce.proofs.Standing.{itself, live_before, server_stands, server_begins_lem, server_runs_out_lem, server_stays_out_lem}
+use Rattle.nr_reduce.proofs.Steps.{output_for_all_append}
+use Rattle.nr_link.specs.declared.end.End.{End}
+use Rattle.nr_link.specs.declared.end.End.TheVariants as ends
+use Rattle.nr_responder.specs.ResponderState.{ResponderSide, queue, end_of}
+use Rattle.nr_responder.specs.Keeping.{KeepsEnd}
+use Rattle.nr_responder.specs.Standing.{RepresentsServer, Stands}
+use Rattle.nr_responder.specs.Steps.{received_events, GoesOn, FedOn, RanOutAt, Fed}
+use Rattle.nr_responder.specs.Steps.Fed.{WentOn, RanOut}
+use Rattle.nr_responder.proofs.Pieces.{events_parts}
+use Rattle.nr_responder.proofs.Fed.{ended_fed_lem}
+
+-- one mark more, whose events are these
+one_mark_lem : (opened : LinkParameters) (link : ℕ) (run : List Mark) (mark : Mark) (v after : ResponderSide) (fed written : List ℕ) (events : InputState → List RunEvent) →
+    fed_at link Responder mark ≡ fed → written_at link Responder mark ≡ written → ((input : InputState) → input_events link Responder input mark ≡ events input) → (h : RepresentsServer opened link run v) →
+    KeepsEnd opened (end_state_after (server_rules opened) h.end (events h.input)) (input_after h.input fed) after →
+    written ++ queue after ≡ queue v ++ output_for_all (server_rules opened) h.end (events h.input) → RepresentsServer opened link (run ++ mark ∷ []) after
+one_mark_lem opened link run mark v after fed written events fed_is written_is events_are h keeps output =
+    let due : written_at link Responder mark ++ queue after ≡ queue v ++ output_for_all (server_rules opened) h.end (input_events link Responder h.input mark) =
+    ap (λ (bytes : List ℕ). bytes ++ queue after) written_is ∙ output ∙ ap (λ (es : List RunEvent). queue v ++ output_for_all (server_rules opened) h.end es) (sym (events_are h.input)) in
+    let state : end_state_after (server_rules opened) h.end (input_events link Responder h.input mark) ≡ end_state_after (server_rules opened) h.end (events h.input) = ap (end_state_after (server_rules opened) h.end) (events_are h.input) in
+    let input : input_after h.input (fed_at link Responder mark) ≡ input_after h.input fed = ap (input_after h.input) fed_is in
+    record {
+      end = end_state_after (server_rules opened) h.end (events h.input);
+      input = input_after h.input fed;
+      stands =
+          subst (λ (e : EndState ServerState). ServerRepresents opened link e (input_after h.input fed) (queue after) (run ++ mark ∷ [])) state
+          (server_stands opened link h.end h.input (input_after h.input fed) (queue v) (queue after) run mark h.stands due (λ _. sym input));
+      keeps = keeps;
+    }
+
+-- no bytes leave the input of a side that hasn't ended as it was
+nothing_fed : (opened : LinkParameters) (link : ℕ) (run : List Mark) (v : ResponderSide) (h : RepresentsServer opened link run v) → h.end.ended ≡ None → input_after h.input [] ≡ h.input
+nothing_fed opened link run v h live =
+    let stream : List ℕ = bytes_received link Responder run in
+    let received : h.input ≡ input_of Initiator stream = h.stands.received (ap (λ (e : EndState ServerState). e.ended) (sym h.stands.keeps) ∙ live) in
+    ap (λ (i : InputState). input_after i []) received
+    ∙ sym (input_of_append Initiator stream [])
+    ∙ ap (λ (bytes : List ℕ). input_of Initiator bytes) (append-nil stream)
+    ∙ sym received
+
+-- what an end keeps doesn't depend on its input once it has ended
+same_kept : (opened : LinkParameters) (link : ℕ) (run : List Mark) (v after : ResponderSide) (end : EndState ServerState) (h : RepresentsServer opened link run v) → (end.ended ≡ None → h.end.ended ≡ None) → KeepsEnd opened end h.input after → KeepsEnd opened end (input_after h.input []) after
+same_kept opened link run v after end h lives (inl live) =
+    subst (λ (i : InputState). KeepsEnd opened end i after) (sym (nothing_fed opened link run v h (lives live.0))) (inl live)
+same_kept opened link run v after end h lives (inr ended) = inr ended
+
+own : (link : ℕ) (b : Bool) (es : List RunEvent) → if_own (eqb link link && true) es ≡ es
+own link b es = ap (λ (c : Bool). if_own (c && true) es) (itself link)
+
+pub own_bytes : (link : ℕ) (bytes : List ℕ) → cond (eqb link link && true) bytes [] ≡ bytes
+own_bytes link bytes = ap (λ (c : Bool). cond (c && true) bytes []) (itself link)
+
+-- a piece was fed
+pub fed_represents : (opened : LinkParameters) (link : ℕ) (run : List Mark) (v after : ResponderSide) (piece : List ℕ) → FedOn v piece after → RepresentsServer opened link run v → RepresentsServer opened link (run ++ marks.Fed link Responder piece ∷ []) after
+fed_represents opened link run v after piece fed h =
+    let goes : GoesOn opened h.end h.input v (received_events h.input piece) (input_after h.input piece) after = fed opened h.end h.input h.keeps in
+    one_mark_lem opened link run (marks.Fed link Responder piece) v after piece [] (λ (input : InputState). received_events input piece)
+    (own_bytes link piece) refl (λ (input : InputState). own link true (received_events input piece)) h goes.keeps goes.output
+
+-- a call was executed, at any moment and place
+pub executed_stands : (opened : LinkParameters) (link : ℕ) (run : List Mark) (v after : ResponderSide) (xid : ℕ) (moment : Moment) (payload : List ℕ) (place : ℕ) (reply : List ℕ) → (h : RepresentsServer opened link run v) →
+    GoesOn opened h.end h.input v (CallExecuted (record { xid = xid; moment = moment; payload = payload; place = place; reply = reply }) ∷ []) h.input after →
+    RepresentsServer opened link (run ++ marks.Execute link xid moment payload place reply ∷ []) after
+executed_stands opened link run v after xid moment payload place reply h goes =
+    let e : ExecutedCall = record { xid = xid; moment = moment; payload = payload; place = place; reply = reply } in
+    one_mark_lem opened link run (marks.Execute link xid moment payload place reply) v after [] [] (λ (input : InputState). CallExecuted e ∷ []) refl refl (λ (input : InputState). own link true (CallExecuted e ∷ [])) h
+    (same_kept opened link run v after (end_state_after (server_rules opened) h.end (CallExecuted e ∷ [])) h (live_before (server_rules opened) h.end (CallExecuted e ∷ [])) goes.keeps)
+    goes.output
+
+-- its queue was written from the front
+pub wrote_represents : (opened : LinkParameters) (link : ℕ) (run : List Mark) (v after : ResponderSide) (written : List ℕ) → (h : RepresentsServer opened link run v) → written ++ queue after ≡ queue v →
+    KeepsEnd opened (end_state_after (server_rules opened) h.end (QueueWritten (length written) ∷ [])) h.input after → output_for_all (server_rules opened) h.end (QueueWritten (length written) ∷ []) ≡ [] →
+    RepresentsServer opened link (run ++ marks.Wrote link Responder written ∷ []) after
+wrote_represents opened link run v after written h left keeps silent =
+    let es : List RunEvent = QueueWritten (length written) ∷ [] in
+    one_mark_lem opened link run (marks.Wrote link Responder written) v after [] written (λ (input : InputState). es) refl (own_bytes link written) (λ (input : InputState). own link true es) h
+    (same_kept opened link run v after (end_state_after (server_rules opened) h.end es) h (live_before (server_rules opened) h.end es) keeps)
+    (left ∙ sym (append-nil (queue v)) ∙ sym (ap (λ (bytes : List ℕ). queue v ++ bytes) silent))
+
+-- ---- A side that has ended, or runs out of memory
+
+pub not_live : (o : Option End) → o ≡ None → is_some o ≡ true → ⊥
+not_live None e t = absurd cc
+not_live (Some end) e t = absurd cc
+
+-- what is fed to a side that has ended changes nothing
+pub ended_stands : (opened : LinkParameters) (link : ℕ) (run : List Mark) (v : ResponderSide) (piece : List ℕ) → is_some (end_of v) ≡ true → Stands opened link run v → Stands opened link (run ++ marks.Fed link Responder piece ∷ []) v
+ended_stands opened link run v piece over (inl h) = inl (fed_represents opened link run v v piece (ended_fed_lem v piece over) h)
+ended_stands opened link run v piece over (inr out) = inr (server_stays_out_lem opened link (end_of v) (queue v) (queue v) run (marks.Fed link Responder piece) out refl)
+
+-- one that hasn't ended didn't run out of memory
+pub represents : (opened : LinkParameters) (link : ℕ) (run : List Mark) (v : ResponderSide) → end_of v ≡ None → Stands opened link run v → RepresentsServer opened link run v
+represents opened link run v live (inl h) = h
+represents opened link run v live (inr out) = absurd (let two : None ≡ Some ends.Memory = sym live ∙ out.0 in cc)
+
+pub fed_stands_lem : (opened : LinkParameters) (link : ℕ) (run : List Mark) (v after : ResponderSide) (piece : List ℕ) → Fed v piece after → end_of v ≡ None → Stands opened link run v → Stands opened link (run ++ marks.Fed link Responder piece ∷ []) after
+fed_stands_lem opened link run v after piece (WentOn fed) live h = inl (fed_represents opened link run v after piece fed (represents opened link run v live h))
+fed_stands_lem opened link run v after piece (RanOut n out) live h =
+    let r : RepresentsServer opened link run v = represents opened link run v live h in
+    let goes : GoesOn opened r.end r.input v (received_events r.input (take n piece)) (input_after r.input (take n piece)) out.stopped = out.fed opened r.end r.input r.keeps in
+    let es : List RunEvent = received_events r.input (take n piece) in
+    let more : List RunEvent = received_events (input_after r.input (take n piece)) (drop n piece) in
+    let all : received_events r.input piece ≡ es ++ more = ap (received_events r.input) (sym (take-append-drop n piece)) ∙ events_parts r.input (take n piece) (drop n piece) in
+    let events : input_events link Responder r.input (marks.Fed link Responder piece) ≡ es ++ more = own link true (received_events r.input piece) ∙ all in
+    let rest : List ℕ = output_for_all (server_rules opened) (end_state_after (server_rules opened) r.end es) more in
+    let first : queue after ++ rest ≡ queue v ++ output_for_all (server_rules opened) r.end (input_events link Responder r.input (marks.Fed link Responder piece)) =
+    ap (λ (bytes : List ℕ). bytes ++ rest) ((out.needs opened (end_state_after (server_rules opened) r.end es) (input_after r.input (take n piece)) goes.keeps).1.0 ∙ goes.output)
+    ∙ append_assoc (queue v) (output_for_all (server_rules opened) r.end es) rest
+    ∙ ap (λ (bytes : List ℕ). queue v ++ bytes) (sym (output_for_all_append (server_rules opened) r.end es more) ∙ ap (output_for_all (server_rules opened) r.end) (sym events)) in
+    let runs = server_runs_out_lem opened link r.end r.input (queue v) (queue after) run (marks.Fed link Responder piece) r.stands (rest, first) in
+    inr (out.ended, runs.1)

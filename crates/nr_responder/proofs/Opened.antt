@@ -1,0 +1,100 @@
+-- A responder that is opened stands for no marks.
+use Rattle.std.proofs.Common.{◌≡◌, ℕ, ◌+◌, false, List, [], ◌∷◌, length, Option, Some, None, refl, sym, ap, subst, ◌∙◌, arith, inl, inr}
+use Rattle.std.specs.FinMap.{empty, get, get-empty}
+use Rattle.std.specs.Ordering.{nat_cmp}
+use Rattle.nr_wire.specs.declared.hello.Side.TheVariants.{Initiator, Responder}
+use Rattle.nr_wire.specs.declared.stream.Awaited.TheVariants.{Hello as HelloFrom}
+use Rattle.nr_wire.specs.Stream.{IsPartial}
+use Rattle.nr_wire.proofs.Frames.{partial_nil}
+use Rattle.nr_link.specs.Input.{initial_input}
+use Rattle.nr_regions.specs.RegisteredMemory.{initial_memory, live_region, held_region}
+use Rattle.nr_endpoint.specs.LinkState.{LinkSide, LinkState, initial_link, initial_state}
+use Rattle.nr_reduce.specs.declared.mark.LinkParameters.{LinkParameters}
+use Rattle.nr_reduce.specs.ServerState as server
+use Rattle.nr_reduce.specs.Server.{initial_server}
+use Rattle.nr_reduce.specs.OfferedMemory.{HoldsRegions}
+use Rattle.nr_reduce.specs.Standing.{ServerRepresents}
+use Rattle.nr_reduce.proofs.Standing.{server_begins_lem}
+use Rattle.nr_responder.specs.ResponderState.{ResponderSide, queue}
+use Rattle.nr_responder.specs.Keeping.{IsServer, LinkKeeps, Keeps, KeepsEnd}
+use Rattle.nr_responder.specs.Keeping.Begins.{BeforeHello}
+use Rattle.nr_responder.specs.Standing.{RepresentsServer, Stands}
+use Rattle.nr_responder.proofs.Ends.{ends_none}
+
+abbrev pub opened_state : ℕ → LinkSide → ResponderSide
+opened_state credits link = record { link = link; calls = []; ready = []; credits = credits }
+
+no_regions_lem : HoldsRegions [] [] 0 (initial_memory 1)
+unfolding live_region held_region initial_memory
+no_regions_lem stag = get-empty nat_cmp stag
+
+server_first : (opened : LinkParameters) → IsServer (server.initial_state opened) 0
+server_first opened = record {
+  offered = tt;
+  accesses = tt;
+  numbered = tt;
+  sinks = tt;
+  calls_before = tt;
+  reads_before = tt;
+  regions_before = tt;
+  closed = tt;
+  xids = tt;
+  ready_xids = tt;
+  ready = tt;
+  no_reads = refl;
+  no_regions = refl;
+  up = refl;
+  down = refl;
+}
+
+next_first : (initial_memory 1).next ≡ 1 + 0
+unfolding initial_memory
+next_first = refl
+
+link_first : (opened : LinkParameters) → LinkKeeps opened (server.initial_state opened) (initial_state Responder opened.granted 1)
+link_first opened = record {
+  live = refl;
+  side = refl;
+  received = refl;
+  receive_length = refl;
+  message_max = refl;
+  free = omega arith;
+  lent = refl;
+  told = refl;
+  reads = refl;
+  memory = no_regions_lem;
+  next = next_first;
+  queue = record { due_is = refl; ends_are = sym (ends_none 0 0); each = tt; sends = refl; requests_are = refl; responses = refl };
+}
+
+keeps_first : (opened : LinkParameters) → Keeps opened (server.initial_state opened) (initial_input Initiator) (opened_state opened.granted (initial_link Responder opened.granted 1))
+unfolding initial_link
+keeps_first opened = record {
+  link = link_first opened;
+  input = record { awaited = refl; rest = refl; place = refl };
+  begins = BeforeHello refl refl refl refl;
+  server = server_first opened;
+  calls = refl;
+  ready = refl;
+  credits = refl;
+  quiet = λ e. (refl, refl);
+}
+
+queue_first : (opened : LinkParameters) → queue (opened_state opened.granted (initial_link Responder opened.granted 1)) ≡ []
+unfolding initial_link
+queue_first opened = refl
+
+pub opened_stands_lem : (opened : LinkParameters) (link : ℕ) (credits : ℕ) (l : LinkSide) → opened.granted ≡ credits → l ≡ initial_link Responder credits 1 → Stands opened link [] (opened_state credits l)
+opened_stands_lem opened link credits l same is =
+    let first : RepresentsServer opened link [] (opened_state opened.granted (initial_link Responder opened.granted 1)) = record {
+      end = initial_server opened;
+      input = initial_input Initiator;
+      stands = subst (λ (bytes : List ℕ). ServerRepresents opened link (initial_server opened) (initial_input Initiator) bytes []) (sym (queue_first opened)) (server_begins_lem opened link);
+      keeps = inl (refl, keeps_first opened);
+    } in
+    subst (λ (x : LinkSide). Stands opened link [] (opened_state credits x)) (sym is)
+    (subst (λ (n : ℕ). Stands opened link [] (opened_state n (initial_link Responder n 1))) same (inl first))
+
+pub opened_queues : (l : LinkSide) (credits : ℕ) → l ≡ initial_link Responder credits 1 → (l.state.receive_queue.lent ≡ 0) × ((l.state.receive_queue.receives ≡ credits) × (l.state.send_queue.send_ends ≡ []))
+unfolding initial_link
+opened_queues l credits is = (ap (λ (x : LinkSide). x.state.receive_queue.lent) is, (ap (λ (x : LinkSide). x.state.receive_queue.receives) is, ap (λ (x : LinkSide). x.state.send_queue.send_ends) is))

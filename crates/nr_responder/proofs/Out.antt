@@ -1,0 +1,254 @@
+-- A responder that runs out of memory at a frame: the server has output of its own for the frame, or it completes the Send of a call with a
+-- read chunk.
+use Rattle.std.proofs.Common.{◌≡◌, ◌≢◌, ℕ, ◌+◌, ◌<◌, ◌≤◌, Bool, true, false, cond, List, [], ◌∷◌, ◌++◌, length, take, drop, Option, Some, None, Result, Ok, Err, refl, sym, ap, subst, ◌∙◌, arith, inl, inr, length-append}
+use Rattle.std.specs.Prelude.{◌⊎◌}
+use Rattle.std.proofs.lemmas.Bool.{le-ltb}
+use Rattle.std.proofs.lemmas.List.{append-nil}
+use Rattle.nr_wire.specs.declared.hello.Side.TheVariants.{Initiator, Responder}
+use Rattle.nr_wire.specs.declared.stream.Awaited.{Awaited}
+use Rattle.nr_wire.specs.declared.stream.Awaited.TheVariants.{Hello as HelloFrom, Fpdu}
+use Rattle.nr_wire.specs.Constants.{OPCODE_SEND}
+use Rattle.nr_wire.specs.Hello.{hello_of}
+use Rattle.nr_wire.specs.Segment.{Segment, segment_of}
+use Rattle.nr_wire.specs.Segment.Segment.{Untagged}
+use Rattle.nr_wire.specs.Stream.{is_whole, frame_len, IsPartial}
+use Rattle.nr_link.specs.declared.end.End.{End}
+use Rattle.nr_link.specs.declared.end.End.TheVariants as ends
+use Rattle.nr_link.specs.Ending.{frame_segment, final_output, rejection, last_output}
+use Rattle.nr_link.specs.Frames.{Frame, is_hello}
+use Rattle.nr_link.specs.Input.{InputState}
+use Rattle.nr_link.specs.Output.{send, terminate_message}
+use Rattle.nr_link.specs.ReceiveState.{ReceiveState, begun_bytes, message_completed}
+use Rattle.nr_endpoint.specs.ReceiveQueue.{DeliveredEvent}
+use Rattle.nr_endpoint.specs.ReceiveQueue.DeliveredEvent.{MessageReceived}
+use Rattle.nr_endpoint.specs.SendQueue.{SendQueue, with_end, output_len}
+use Rattle.nr_endpoint.specs.SegmentEnds.{SendIsFine}
+use Rattle.nr_endpoint.specs.LinkState.{LinkState, LinkSide}
+use Rattle.nr_endpoint.specs.Judging.{segment_end, next_frame, with_frame, with_peer_hello}
+use Rattle.nr_endpoint.specs.Calls.{after_call, makes_whole, QueuesOutput}
+use Rattle.nr_endpoint.specs.Calls.Call.{FeedOne, NextEvent, OutOfMemory}
+use Rattle.nr_endpoint.proofs.Alive.{alive_send}
+use Rattle.nr_endpoint.proofs.Queued.{send_some, terminate_queues}
+use Rattle.nr_reduce.specs.declared.mark.LinkParameters.{LinkParameters}
+use Rattle.nr_reduce.specs.Events.RunEvent.{FrameReceived}
+use Rattle.nr_reduce.specs.EndRules.{EndState, live, output_for}
+use Rattle.nr_reduce.specs.ServerState.{ServerState}
+use Rattle.nr_reduce.specs.ServerMessages.{verdict}
+use Rattle.nr_reduce.specs.ServerMessages.Verdict.{MakesPending}
+use Rattle.nr_reduce.specs.ServerFrames.{by_message, frame_effect}
+use Rattle.nr_reduce.specs.Server.{server_rules}
+use Rattle.nr_responder.specs.ResponderState.{ResponderSide, queue, queued_bytes, end_of}
+use Rattle.nr_responder.specs.Keeping.{Begins, LinkKeeps, IsServer, Keeps, KeepsEnd}
+use Rattle.nr_responder.specs.Keeping.Begins.{BeforeHello, AfterHello}
+use Rattle.nr_responder.specs.Steps.{CompletesRead, TakesMemory, RanOutAt, FedOn, Fed, frame_by}
+use Rattle.nr_responder.specs.Steps.Fed.{RanOut}
+use Rattle.nr_responder.specs.Handling.{IsServerOf, MessageTakes, refused_effect, on_link, out}
+use Rattle.nr_responder.specs.Handling.MessageTakes.{EndsFor, ErrorFor, ReadsFor}
+use Rattle.nr_responder.proofs.Fed.{StepOf, step_of, not_ended_lem, same_input, input_in, empty_fed}
+use Rattle.nr_responder.proofs.Fed.StepOf.{Part, WholeFrame}
+use Rattle.nr_responder.proofs.Frames.{behind, TakesFrame, later_frame, ended_takes}
+use Rattle.nr_responder.proofs.Handled.{RanOutOf, told_of}
+use Rattle.nr_responder.proofs.Inline.{IsSend, only_sends}
+use Rattle.nr_responder.proofs.Posted.{memory_ends, told_link_lem}
+use Rattle.nr_responder.proofs.SendFrames.{frame_lives, part_framed, last_framed}
+use Rattle.nr_responder.proofs.ServerSteps.{effect_is}
+use Rattle.nr_responder.proofs.Steps.{link_behind, hello_takes, hello_notices}
+use Rattle.nr_responder.proofs.Whole.{goes_on_lem, lives_on_lem, refuses, refused_output, same_message, whole_message}
+
+-- ---- What has bytes
+
+abbrev empty_queue : SendQueue
+empty_queue = record { hello = []; fpdus = []; send_ends = []; response_ends = []; sends_left = 0; last_send = 0; last_request = 0 }
+
+terminates : (at reason : ℕ) → 5 ≤ reason → final_output (ends.Bad at reason) ≡ terminate_message reason
+unfolding final_output
+terminates at reason le = ap (λ (b : Bool). cond b [] (terminate_message reason)) (le-ltb reason 5 le)
+
+last_some : (at reason : ℕ) → 5 ≤ reason → last_output Responder (ends.Bad at reason) ≢ []
+unfolding with_end
+last_some at reason le none =
+    let end : End = ends.Bad at reason in
+    let queued : 0 < length (rejection Responder end) + length (final_output end) = terminate_queues Responder end reason empty_queue (terminates at reason le) in
+    let len : length (last_output Responder (ends.Bad at reason)) ≡ 0 = ap (λ (xs : List ℕ). length xs) none in
+    absurd (omega (arith, queued, len, length-append (rejection Responder (ends.Bad at reason)) (final_output (ends.Bad at reason))))
+
+queue_len : (q : SendQueue) → length (queued_bytes q) ≡ output_len q
+queue_len q = length-append q.hello q.fpdus
+
+-- a frame for which the queue grows has output
+grows : (opened : LinkParameters) (k : ServerState) (later : InputState) (f : Frame) (v after : ResponderSide) → TakesFrame opened k later f v after → output_len v.link.state.send_queue < output_len after.link.state.send_queue →
+    output_for (server_rules opened) (live k) (FrameReceived f) ≢ []
+grows opened k later f v after takes lt none =
+    let same : queue after ≡ queue v = takes.output ∙ ap (λ (bytes : List ℕ). queue v ++ bytes) none ∙ append-nil (queue v) in
+    absurd (omega (arith, lt, ap (λ (xs : List ℕ). length xs) same, queue_len v.link.state.send_queue, queue_len after.link.state.send_queue))
+
+-- ---- A message
+
+message_takes : (opened : LinkParameters) (k : ServerState) (so_far : InputState) (v : ResponderSide) (frame : List ℕ) (w queue_number msn offset : ℕ) (payload : List ℕ) → Keeps opened k so_far v → 0 < v.link.state.place → 0 < length frame →
+    segment_of frame ≡ Ok (Untagged true OPCODE_SEND w queue_number msn offset payload) → (with_frame v.link.state Fpdu frame).ended ≡ None → MessageTakes k (whole_message v.link.state payload) → TakesMemory opened k (next_frame v.link.state frame)
+unfolding frame_segment
+message_takes opened k so_far v frame w queue_number msn offset payload h after_hello some is lives takes = by takes
+  where
+    s : LinkState
+    s = v.link.state
+
+    f : Frame
+    f = next_frame s frame
+
+    segment : Segment
+    segment = Untagged true OPCODE_SEND w queue_number msn offset payload
+
+    fine : SendIsFine s true payload
+    fine = (alive_send s f true OPCODE_SEND w queue_number msn offset payload refl refl (λ e. omega (arith, e)) (frame_lives s frame segment is lives).0).1
+
+    later : is_hello f ≡ false
+    later = later_frame s.place after_hello
+
+    message : whole_message s payload ≡ begun_bytes k.received.begun ++ payload
+    message = same_message opened k s payload h.link (fine.fits refl)
+
+    effect : frame_effect k f ≡ by_message k f.end (Some (whole_message s payload))
+    effect = effect_is k f true OPCODE_SEND w queue_number msn offset payload is ∙ ap (λ (m : List ℕ). by_message k f.end (Some m)) (sym message)
+
+    by : MessageTakes k (whole_message s payload) → TakesMemory opened k f
+    by (EndsFor reason refusal le) =
+        let at = refuses opened k f (by_message k f.end (Some (whole_message s payload))) reason later (lives_on_lem opened k so_far v frame h after_hello some lives) effect (refusal f.end) in
+        inl (λ none. last_some f.at reason le (sym at.due ∙ none))
+    by (ErrorFor answer error) =
+        let at = goes_on_lem opened k f (refused_effect k answer) later (lives_on_lem opened k so_far v frame h after_hello some lives) (effect ∙ error f.end) refl in
+        inl (λ none. (let len : length (send (k.messages_queued + 1) answer) ≡ 0 = ap (λ (xs : List ℕ). length xs) (sym (refused_output k answer) ∙ (sym at.due ∙ none)) in
+        absurd (omega (arith, len, send_some (k.messages_queued + 1) answer))))
+    by (ReadsFor read) = inr (record {
+      segment = segment;
+      reads = is;
+      message = whole_message s payload;
+      completed = ap (λ (m : List ℕ). Some m) (sym message);
+      call = read.call;
+      judged = read.judged;
+      chunk = read.chunk;
+    })
+
+-- what a frame that lives brings to be delivered
+frame_message : (opened : LinkParameters) (k : ServerState) (so_far : InputState) (v : ResponderSide) (frame : List ℕ) (number : ℕ) (invalidated : Option ℕ) (message : List ℕ) (rest : List DeliveredEvent) → Keeps opened k so_far v → 0 < length frame →
+    (with_frame v.link.state v.link.awaited frame).ended ≡ None → (with_frame v.link.state v.link.awaited frame).receive_queue.notices ≡ MessageReceived number invalidated message ∷ rest →
+    (number ≡ k.received.sends + 1 → MessageTakes k message) → ((with_frame v.link.state v.link.awaited frame).send_queue ≡ v.link.state.send_queue) × TakesMemory opened k (next_frame v.link.state frame)
+frame_message opened k so_far v frame number invalidated message rest h some lives one takes = by h.begins
+  where
+    s : LinkState
+    s = v.link.state
+
+    none_told : (notices : List DeliveredEvent) → notices ≡ [] → notices ≡ MessageReceived number invalidated message ∷ rest → ⊥
+    none_told notices none is = (let two : [] ≡ MessageReceived number invalidated message ∷ rest = sym none ∙ is in cc)
+
+    fpdu : 0 < s.place → (with_frame s Fpdu frame).ended ≡ None → (with_frame s Fpdu frame).receive_queue.notices ≡ MessageReceived number invalidated message ∷ rest → (send : IsSend s frame) → (b : Bool) → send.last ≡ b →
+        ((with_frame s Fpdu frame).send_queue ≡ s.send_queue) × TakesMemory opened k (next_frame s frame)
+    fpdu place lives_on told send false is =
+        let reads : segment_of frame ≡ Ok (Untagged false OPCODE_SEND send.w send.queue_number send.msn send.offset send.payload) = send.reads ∙ ap (λ (b : Bool). Ok (Untagged b OPCODE_SEND send.w send.queue_number send.msn send.offset send.payload)) is in
+        let state = (frame_lives s frame (Untagged false OPCODE_SEND send.w send.queue_number send.msn send.offset send.payload) reads lives_on).1 ∙ part_framed s frame send.w send.queue_number send.msn send.offset send.payload in
+        absurd (none_told (with_frame s Fpdu frame).receive_queue.notices (ap (λ (t : LinkState). t.receive_queue.notices) state ∙ append-nil s.receive_queue.notices ∙ h.link.told) told)
+    fpdu place lives_on told send true is =
+        let reads : segment_of frame ≡ Ok (Untagged true OPCODE_SEND send.w send.queue_number send.msn send.offset send.payload) = send.reads ∙ ap (λ (b : Bool). Ok (Untagged b OPCODE_SEND send.w send.queue_number send.msn send.offset send.payload)) is in
+        let state = (frame_lives s frame (Untagged true OPCODE_SEND send.w send.queue_number send.msn send.offset send.payload) reads lives_on).1 ∙ last_framed s frame send.w send.queue_number send.msn send.offset send.payload in
+        let whole : List ℕ = whole_message s send.payload in
+        let found : (with_frame s Fpdu frame).receive_queue.notices ≡ MessageReceived (s.receive_queue.received.sends + 1) None whole ∷ [] =
+        ap (λ (t : LinkState). t.receive_queue.notices) state ∙ ap (λ (notices : List DeliveredEvent). notices ++ MessageReceived (s.receive_queue.received.sends + 1) None whole ∷ []) h.link.told in
+        let two : MessageReceived (s.receive_queue.received.sends + 1) None whole ∷ [] ≡ MessageReceived number invalidated message ∷ rest = sym found ∙ told in
+        let own : whole ≡ message = cc in
+        let count : s.receive_queue.received.sends + 1 ≡ number = cc in
+        let taken : MessageTakes k message = takes (sym count ∙ ap (λ (r : ReceiveState). r.sends + 1) h.link.received) in (
+          ap (λ (t : LinkState). t.send_queue) state,
+          message_takes opened k so_far v frame send.w send.queue_number send.msn send.offset send.payload h place some reads lives_on (subst (λ (m : List ℕ). MessageTakes k m) (sym own) taken),
+        )
+
+    by : Begins v.link → ((with_frame s v.link.awaited frame).send_queue ≡ s.send_queue) × TakesMemory opened k (next_frame s frame)
+    by (BeforeHello place awaited hello none) =
+        let as_hello : with_frame s v.link.awaited frame ≡ with_peer_hello (next_frame s frame) (hello_of Initiator frame) s = ap (λ (a : Awaited). with_frame s a frame) awaited in
+        absurd (none_told (with_frame s v.link.awaited frame).receive_queue.notices (ap (λ (t : LinkState). t.receive_queue.notices) as_hello ∙ hello_notices s (next_frame s frame) (hello_of Initiator frame) ∙ h.link.told) one)
+    by (AfterHello place awaited hello) =
+        let lives_on : (with_frame s Fpdu frame).ended ≡ None = subst (λ (a : Awaited). (with_frame s a frame).ended ≡ None) awaited lives in
+        let told_on = subst (λ (a : Awaited). (with_frame s a frame).receive_queue.notices ≡ MessageReceived number invalidated message ∷ rest) awaited one in
+        let send : IsSend s frame = only_sends opened k s frame h.link h.server lives_on in
+        subst (λ (a : Awaited). ((with_frame s a frame).send_queue ≡ s.send_queue) × TakesMemory opened k (next_frame s frame)) (sym awaited) (fpdu place lives_on told_on send send.last refl)
+
+-- ---- A step
+
+told_same : (m : LinkSide) → (after_call m NextEvent).state.send_queue ≡ m.state.send_queue
+unfolding after_call
+told_same m = refl
+
+-- it ran out of memory for a message
+pub out_by_message : (v after : ResponderSide) (piece : List ℕ) (m : LinkSide) (number : ℕ) (invalidated : Option ℕ) (message : List ℕ) (rest : List DeliveredEvent) → end_of v ≡ None → IsPartial v.link.awaited v.link.rest → StepOf v.link piece m → m.state.ended ≡ None →
+    m.state.receive_queue.notices ≡ MessageReceived number invalidated message ∷ rest → RanOutOf (on_link v m) number message after → RanOutAt v piece 0 after
+out_by_message v after piece m number invalidated message rest live_now p step lives one ran =
+    let t = told_link_lem m (after_call m NextEvent) refl in
+    let ended = memory_ends (after_call m NextEvent) (after_call (after_call m NextEvent) OutOfMemory) (t.live ∙ lives) refl in
+    record {
+      stopped = v;
+      fed = empty_fed v p;
+      live = live_now;
+      ended = ap end_of ran.is_out ∙ ended.0;
+      needs = λ opened end so_far keeps. needs opened end so_far keeps (ap (λ (x : ResponderSide). queued_bytes x.link.state.send_queue) ran.is_out ∙ ap queued_bytes ended.1) step;
+    }
+  where
+    needs : (opened : LinkParameters) (end : EndState ServerState) (so_far : InputState) → KeepsEnd opened end so_far v → queue after ≡ queued_bytes (after_call m NextEvent).state.send_queue → StepOf v.link piece m →
+        (is_whole v.link.awaited (v.link.rest ++ piece) ≡ true) × ((queue after ≡ queue v) × TakesMemory opened end.state (frame_by v.link piece))
+    needs opened end so_far keeps same (Part w link) =
+        let h = (not_ended_lem opened end so_far v live_now keeps).1 in
+        let none : m.state.receive_queue.notices ≡ [] = ap (λ (l : LinkSide). l.state.receive_queue.notices) link ∙ h.link.told in
+        absurd (let two : [] ≡ MessageReceived number invalidated message ∷ rest = sym none ∙ one in cc)
+    needs opened end so_far keeps same (WholeFrame frame w frame_is long link) =
+        let both = not_ended_lem opened end so_far v live_now keeps in
+        let h : Keeps opened end.state so_far v = both.1 in
+        let server : IsServerOf end.state (on_link v m) = record { calls = sym h.calls; credits = sym h.credits; no_reads = h.server.no_reads; no_regions = h.server.no_regions } in
+        let lives_on : (with_frame v.link.state v.link.awaited frame).ended ≡ None = sym (ap (λ (l : LinkSide). l.state.ended) link) ∙ lives in
+        let told_on : (with_frame v.link.state v.link.awaited frame).receive_queue.notices ≡ MessageReceived number invalidated message ∷ rest = sym (ap (λ (l : LinkSide). l.state.receive_queue.notices) link) ∙ one in
+        let found = frame_message opened end.state so_far v frame number invalidated message rest h long lives_on told_on (ran.takes end.state server) in (
+          w,
+          (
+            same ∙ ap queued_bytes (told_same m ∙ ap (λ (l : LinkSide). l.state.send_queue) link ∙ found.0),
+            subst (λ (bytes : List ℕ). TakesMemory opened end.state (next_frame v.link.state bytes)) frame_is found.1,
+          ),
+        )
+
+sent_same : (s : LinkState) (frame : List ℕ) (send : IsSend s frame) → (with_frame s Fpdu frame).ended ≡ None → (b : Bool) → send.last ≡ b → (with_frame s Fpdu frame).send_queue ≡ s.send_queue
+sent_same s frame send lives false is =
+    let reads : segment_of frame ≡ Ok (Untagged false OPCODE_SEND send.w send.queue_number send.msn send.offset send.payload) = send.reads ∙ ap (λ (b : Bool). Ok (Untagged b OPCODE_SEND send.w send.queue_number send.msn send.offset send.payload)) is in
+    ap (λ (t : LinkState). t.send_queue) ((frame_lives s frame (Untagged false OPCODE_SEND send.w send.queue_number send.msn send.offset send.payload) reads lives).1 ∙ part_framed s frame send.w send.queue_number send.msn send.offset send.payload)
+sent_same s frame send lives true is =
+    let reads : segment_of frame ≡ Ok (Untagged true OPCODE_SEND send.w send.queue_number send.msn send.offset send.payload) = send.reads ∙ ap (λ (b : Bool). Ok (Untagged b OPCODE_SEND send.w send.queue_number send.msn send.offset send.payload)) is in
+    ap (λ (t : LinkState). t.send_queue) ((frame_lives s frame (Untagged true OPCODE_SEND send.w send.queue_number send.msn send.offset send.payload) reads lives).1 ∙ last_framed s frame send.w send.queue_number send.msn send.offset send.payload)
+
+out_frame : (v : ResponderSide) (opened : LinkParameters) (k : ServerState) (so_far : InputState) (frame : List ℕ) → Keeps opened k so_far v → 0 < length frame → output_len v.link.state.send_queue < output_len (with_frame v.link.state v.link.awaited frame).send_queue →
+    (o : Option End) → (with_frame v.link.state v.link.awaited frame).ended ≡ o → Begins v.link → output_for (server_rules opened) (live k) (FrameReceived (next_frame v.link.state frame)) ≢ []
+out_frame v opened k so_far frame h long more (Some why) e begins =
+    grows opened k (behind so_far frame) (next_frame v.link.state frame) v (on_link v (link_behind v.link frame)) (ended_takes opened k so_far (behind so_far frame) v frame why h long e) more
+out_frame v opened k so_far frame h long more None e (BeforeHello place awaited hello none) =
+    grows opened k (behind so_far frame) (next_frame v.link.state frame) v (on_link v (link_behind v.link frame)) (hello_takes opened k so_far v frame h place awaited none long e) more
+out_frame v opened k so_far frame h long more None e (AfterHello place awaited hello) =
+    let lives_on : (with_frame v.link.state Fpdu frame).ended ≡ None = subst (λ (a : Awaited). (with_frame v.link.state a frame).ended ≡ None) awaited e in
+    let still : output_len v.link.state.send_queue < output_len (with_frame v.link.state Fpdu frame).send_queue = subst (λ (a : Awaited). output_len v.link.state.send_queue < output_len (with_frame v.link.state a frame).send_queue) awaited more in
+    let send : IsSend v.link.state frame = only_sends opened k v.link.state frame h.link h.server lives_on in
+    absurd (let same = sent_same v.link.state frame send lives_on send.last refl in omega (arith, still, ap output_len same))
+
+-- it ran out of memory in its side of the link
+pub out_by_link : (v after : ResponderSide) (piece : List ℕ) → end_of v ≡ None → IsPartial v.link.awaited v.link.rest → after ≡ on_link v (after_call v.link OutOfMemory) → makes_whole v.link piece ≡ true → QueuesOutput v.link piece → Fed v piece after
+out_by_link v after piece live_now p is whole queues =
+    let ended = memory_ends v.link (after_call v.link OutOfMemory) live_now refl in
+    RanOut 0 (record {
+      stopped = v;
+      fed = empty_fed v p;
+      live = live_now;
+      ended = ap end_of is ∙ ended.0;
+      needs = λ opened end so_far keeps.
+          (whole, (ap (λ (x : ResponderSide). queued_bytes x.link.state.send_queue) is ∙ ap queued_bytes ended.1, inl (needs opened end so_far keeps (step_of v.link (after_call v.link (FeedOne piece)) piece p live_now refl))));
+    })
+  where
+    needs : (opened : LinkParameters) (end : EndState ServerState) (so_far : InputState) → KeepsEnd opened end so_far v → StepOf v.link piece (after_call v.link (FeedOne piece)) →
+        output_for (server_rules opened) (live end.state) (FrameReceived (frame_by v.link piece)) ≢ []
+    needs opened end so_far keeps (Part w link) = absurd (let two : true ≡ false = sym whole ∙ w in cc)
+    needs opened end so_far keeps (WholeFrame frame w frame_is long link) =
+        let both = not_ended_lem opened end so_far v live_now keeps in
+        let h : Keeps opened end.state so_far v = both.1 in
+        let more : output_len v.link.state.send_queue < output_len (with_frame v.link.state v.link.awaited frame).send_queue = subst (λ (l : LinkSide). output_len v.link.state.send_queue < output_len l.state.send_queue) link queues in
+        subst (λ (bytes : List ℕ). output_for (server_rules opened) (live end.state) (FrameReceived (next_frame v.link.state bytes)) ≢ []) frame_is
+        (out_frame v opened end.state so_far frame h long more (with_frame v.link.state v.link.awaited frame).ended refl h.begins)

@@ -1,0 +1,43 @@
+use Rattle.std.proofs.Common.{rules, ◌≡◌, ◌≢◌, ℕ, ◌+◌, ◌<◌, ◌≤◌, List, [], ◌∷◌, ◌++◌, length, drop, take, get_or, All, refl, sym, ap, subst, ◌∙◌, arith}
+use Rattle.std.specs.Prelude.{map}
+use Rattle.std.specs.List.{remove}
+use Rattle.nr_endpoint.specs.LinkState.{LinkSide}
+use Rattle.nr_endpoint.specs.Calls.{after_calls}
+use Rattle.nr_endpoint.specs.Offering.{answer_calls, writes_output}
+use Rattle.nr_responder.specs.declared.call.Pending.{Pending}
+use Rattle.nr_responder.specs.Answering.{answer_to, message_for}
+use Rattle.nr_responder.specs.Views.{call_view}
+use Rattle.nr_responder.specs.Sound.{InBuffer}
+use Rattle.nr_responder.proofs.Answered.{answer_link, get_view}
+use Rattle.nr_responder.proofs.Removed.{map_removed}
+use Rattle.nr_responder.proofs.Sounds.{sound_answered}
+use Rattle.nr_responder.proofs.server_end.ServerEnd.answer_at.Goals as goal
+
+pub returns-clause-answers : goal.returns-clause-answers
+returns-clause-answers c =
+    let q = c.in_ok-sent.ensures.queued in
+    let p : Pending = c.index.result.now in
+    let stream : List ℕ = drop p.stream_at (take p.len p.buf) in
+    let own : p.xid ≡ c.args.xid = ap (λ (x : Pending). x.xid) c.index.ensures ∙ c.requires.own p in
+    let link = q.link ∙ ap (λ (x : ℕ). after_calls c.args.self.now.endpoint.link (answer_calls q.writes (message_for x c.args.self.now.credits p.lists (answer_to (call_view p) stream c.args.reply.now)))) own in
+    let calls = ap (map call_view) c.remove-call.ensures.items ∙ map_removed call_view c.args.self.now.calls.items c.args.at in
+    let ready : c.pop_front.new.self.items ≡ drop 1 c.args.self.now.ready.items = search rules in
+    record {
+      at = c.args.at;
+      call = call_view p;
+      place = get_view c.args.self.now.calls.items c.args.at p c.requires.at c.index.ensures;
+      own = own;
+      stream = stream;
+      inline = refl;
+      writes = q.writes;
+      written = q.written;
+      state = λ i. record { link = link i; calls = calls i; ready = ready i; credits = c.args.self.now.credits };
+      sent_is = q.sent_is;
+    }
+
+pub returns-clause-sound : goal.returns-clause-sound
+returns-clause-sound c =
+    let q = c.in_ok-sent.ensures.queued in
+    let one : InBuffer c.remove-call.result = subst InBuffer (sym c.remove-call.ensures.value) (c.requires.sound.bufs c.args.at c.remove-call.result c.requires.at) in
+    sound_answered c.args.self.now.endpoint.link.state c.queue_answer.new.endpoint.link.state (writes_output q.writes) _ c.args.at c.remove-call.result c.args.self.now.calls.items c.remove-call.new.self.items c.args.self.now.ready.items c.pop_front.new.self.items
+    c.args.self.now.used.items c.push_back_reserved.new.self.items _ _ _ (ap (λ (l : LinkSide). l.state) (q.link ∙ answer_link c.args.self.now.endpoint.link q.writes _ c.requires.live)) c.requires.at one c.remove-call.ensures.items (search rules) c.requires.next (search rules) (search rules)

@@ -1,0 +1,72 @@
+use Rattle.std.proofs.Common.{◌≡◌, ◌≢◌, ℕ, ◌+◌, ◌-◌, ◌<◌, ◌≤◌, Bool, true, false, cond, List, ◌++◌, length, take, drop, Option, Some, None, refl, sym, ap, subst, ◌∙◌, arith, is_some}
+use Rattle.std.proofs.lemmas.List.{take_all, length-drop}
+use Rattle.std.proofs.Math.Seq.{take-add}
+use Rattle.nr_link.specs.declared.end.End.{End}
+use Rattle.nr_wire.specs.Feeding.{bytes_taken}
+use Rattle.nr_responder.specs.Sound.{state_of}
+use Rattle.nr_responder.specs.Steps.{Fed}
+use Rattle.nr_responder.specs.Steps.Fed.{WentOn}
+use Rattle.nr_responder.proofs.Fed.{ended_fed_lem, empty_fed}
+use Rattle.nr_responder.proofs.Marks.{ended_stands, fed_stands_lem, not_live}
+use Rattle.nr_responder.proofs.Pieces.{fed_join}
+use Rattle.nr_responder.proofs.server_end.ServerEnd.feed.Goals as goal
+
+none_if : (o : Option End) → (is_some o ≡ true → ⊥) → o ≡ None
+none_if None wrong = refl
+none_if (Some end) wrong = absurd (wrong refl)
+
+pub pieces-init : goal.pieces-init
+pieces-init c = record {
+  at = omega arith;
+  over = λ over. absurd (not_live c.args.self.now.endpoint.link.state.ended (sym c.end.ensures ∙ c.in_default.is) over);
+  goes = WentOn (empty_fed (state_of c.args.self.now) c.facts.ensures.partial);
+  sound = c.requires.sound;
+  within = omega arith;
+}
+
+pub step-at-requires-clause-live : goal.step-at-requires-clause-live
+step-at-requires-clause-live c = none_if c.pieces.self.endpoint.link.state.ended (λ over. omega (arith, c.pieces.invariant.over over, c.pieces-test.true))
+
+pub pieces-preserved : goal.pieces-preserved
+pieces-preserved c =
+    let live : c.pieces.self.endpoint.link.state.ended ≡ None = none_if c.pieces.self.endpoint.link.state.ended (λ over. omega (arith, c.pieces.invariant.over over, c.pieces-test.true)) in
+    let left : take (length c.args.piece.now - c.pieces.at) (drop c.pieces.at c.args.piece.now) ≡ drop c.pieces.at c.args.piece.now =
+    take_all (length c.args.piece.now - c.pieces.at) (drop c.pieces.at c.args.piece.now) (omega (arith, length-drop c.pieces.at c.args.piece.now)) in
+    let len : length (take (length c.args.piece.now - c.pieces.at) (drop c.pieces.at c.args.piece.now)) ≡ length c.args.piece.now - c.pieces.at = ap (λ (xs : List ℕ). length xs) left ∙ length-drop c.pieces.at c.args.piece.now in
+    record {
+      at = omega (arith, c.step-at.ensures.most, c.pieces.invariant.at, len);
+      over = λ over.
+          let all : c.step-at.result ≡ length (take (length c.args.piece.now - c.pieces.at) (drop c.pieces.at c.args.piece.now)) =
+          c.step-at.ensures.taken ∙ ap (λ (b : Bool). cond b (length (take (length c.args.piece.now - c.pieces.at) (drop c.pieces.at c.args.piece.now))) (bytes_taken c.pieces.self.endpoint.link.awaited c.pieces.self.endpoint.link.rest (take (length c.args.piece.now - c.pieces.at) (drop c.pieces.at c.args.piece.now)))) over in
+          omega (arith, all, len, c.pieces-test.true);
+      goes =
+          subst (λ (bytes : List ℕ). Fed (state_of c.args.self.now) bytes (state_of c.step-at.new.self)) (sym (take-add c.pieces.at c.step-at.result c.args.piece.now))
+          (fed_join (state_of c.args.self.now) (state_of c.pieces.self) (state_of c.step-at.new.self) (take c.pieces.at c.args.piece.now) (take c.step-at.result (drop c.pieces.at c.args.piece.now)) c.pieces.invariant.goes live
+          (subst (λ (bytes : List ℕ). Fed (state_of c.pieces.self) (take c.step-at.result bytes) (state_of c.step-at.new.self)) left c.step-at.ensures.goes));
+      sound = c.step-at.ensures.sound;
+      within = omega (arith, c.step-at.ensures.within, c.pieces.invariant.within);
+    }
+
+pub returns-in-Some-clause-goes : goal.returns-in-Some-clause-goes
+returns-in-Some-clause-goes c = WentOn (ended_fed_lem (state_of c.args.self.now) c.args.piece.now (ap (λ (o : Option End). is_some o) (sym c.end.ensures ∙ c.in-Some.is)))
+
+pub returns-in-Some-clause-stands : goal.returns-in-Some-clause-stands
+returns-in-Some-clause-stands c = λ opened link run h. ended_stands opened link run (state_of c.args.self.now) c.args.piece.now (ap (λ (o : Option End). is_some o) (sym c.end.ensures ∙ c.in-Some.is)) h
+
+pub returns-in-Some-end-clause-goes : goal.returns-in-Some-end-clause-goes
+returns-in-Some-end-clause-goes c = (subst (λ (bytes : List ℕ). Fed (state_of c.args.self.now) bytes (state_of c.pieces.self)) (take_all c.pieces.at c.args.piece.now (omega (arith, c.pieces-test.false))) c.pieces.invariant.goes)
+
+pub returns-in-Some-end-clause-stands : goal.returns-in-Some-end-clause-stands
+returns-in-Some-end-clause-stands c = λ opened link run h. fed_stands_lem opened link run (state_of c.args.self.now) (state_of c.pieces.self) c.args.piece.now (subst (λ (bytes : List ℕ). Fed (state_of c.args.self.now) bytes (state_of c.pieces.self)) (take_all c.pieces.at c.args.piece.now (omega (arith, c.pieces-test.false))) c.pieces.invariant.goes) (sym c.end.ensures ∙ c.in_default.is) h
+
+pub returns-in-Some-end-clause-kept : goal.returns-in-Some-end-clause-kept
+returns-in-Some-end-clause-kept c = λ over. absurd (not_live c.args.self.now.endpoint.link.state.ended (sym c.end.ensures ∙ c.in_default.is) over)
+
+pub returns-clause-goes : goal.returns-clause-goes
+returns-clause-goes c = (subst (λ (bytes : List ℕ). Fed (state_of c.args.self.now) bytes (state_of c.pieces.self)) (take_all c.pieces.at c.args.piece.now (omega (arith, c.pieces-test.false))) c.pieces.invariant.goes)
+
+pub returns-clause-stands : goal.returns-clause-stands
+returns-clause-stands c = λ opened link run h. fed_stands_lem opened link run (state_of c.args.self.now) (state_of c.pieces.self) c.args.piece.now (subst (λ (bytes : List ℕ). Fed (state_of c.args.self.now) bytes (state_of c.pieces.self)) (take_all c.pieces.at c.args.piece.now (omega (arith, c.pieces-test.false))) c.pieces.invariant.goes) (sym c.end.ensures ∙ c.in_default.is) h
+
+pub returns-clause-kept : goal.returns-clause-kept
+returns-clause-kept c = λ over. absurd (not_live c.args.self.now.endpoint.link.state.ended (sym c.end.ensures ∙ c.in_default.is) over)

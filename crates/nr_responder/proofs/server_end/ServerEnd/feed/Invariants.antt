@@ -1,0 +1,18 @@
+use Rattle.std.proofs.Common.{◌≡◌, ℕ, ◌+◌, ◌-◌, ◌≤◌, length, take, true}
+use Rattle.std.specs.Prelude.{is_some}
+use Rattle.nr_endpoint.specs.FedBytes.{fed_bytes}
+use Rattle.nr_responder.specs.Steps.{Fed}
+use Rattle.nr_responder.specs.Sound.{state_of, IsSound}
+use Rattle.nr_responder.proofs.server_end.ServerEnd.feed.Given as goal
+
+abbrev pub invariant-pieces : goal.invariant-pieces
+invariant-pieces l = record {
+  at : l.at ≤ length l.fn.piece;
+  over : is_some l.self.endpoint.link.state.ended ≡ true → l.at ≡ length l.fn.piece;
+  goes : Fed (state_of l.fn.self) (take l.at l.fn.piece) (state_of l.self);
+  sound : IsSound l.self;
+  within : fed_bytes l.self.endpoint.link ≤ fed_bytes l.fn.self.endpoint.link + l.at;
+}
+
+abbrev pub decreases-pieces : goal.decreases-pieces
+decreases-pieces l = length l.fn.piece - l.at

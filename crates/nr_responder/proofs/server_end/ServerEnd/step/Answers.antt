@@ -1,0 +1,68 @@
+use Rattle.std.proofs.Common.{◌≡◌, ◌≢◌, ℕ, ◌+◌, ◌<◌, ◌≤◌, Bool, false, cond, List, ◌++◌, length, take, Option, Some, None, Ok, Err, refl, sym, ap, subst, ◌∙◌, arith, is_some, inl, inr}
+use Rattle.std.proofs.lemmas.List.{take_all}
+use Rattle.nr_link.specs.declared.end.End.{End}
+use Rattle.nr_link.specs.declared.end.End.TheVariants as ends
+use Rattle.nr_wire.specs.Stream.{is_whole}
+use Rattle.nr_wire.specs.Feeding.{bytes_taken}
+use Rattle.nr_wire.proofs.Feedings.{bytes_taken_within}
+use Rattle.nr_endpoint.specs.FedBytes.{fed_bytes}
+use Rattle.nr_endpoint.specs.LinkState.{LinkSide}
+use Rattle.nr_endpoint.proofs.Pieces.{some_taken}
+use Rattle.nr_responder.specs.Sound.{state_of}
+use Rattle.nr_responder.specs.Steps.{Fed}
+use Rattle.nr_responder.specs.Handling.{on_link}
+use Rattle.nr_responder.proofs.Fed.{step_of}
+use Rattle.nr_responder.proofs.Handled.{step_counts, step_within}
+use Rattle.nr_responder.proofs.Sounds.{sound_step}
+use Rattle.nr_responder.proofs.Stepped.{taken_at, at_most, at_least, step_done, step_failed, failed_sound, failed_within}
+use Rattle.nr_responder.proofs.server_end.ServerEnd.step.Goals as goal
+
+pub take_event-requires-clause-sound : goal.take_event-requires-clause-sound
+take_event-requires-clause-sound c =
+    let step = step_of c.args.self.now.endpoint.link c.feed_one.new.self.link c.args.piece.now c.facts.ensures.partial c.requires.live (c.in-Ok.ensures.state (λ e. absurd cc)) in
+    sound_step c.args.self.now.endpoint.link.state c.feed_one.new.self.link.state c.args.self.now.calls.items c.args.self.now.ready.items c.args.self.now.used.items _ _ _ (step_counts c.args.self.now.endpoint.link c.feed_one.new.self.link c.args.piece.now step) c.requires.sound
+
+pub returns-in-Ok-clause-taken : goal.returns-in-Ok-clause-taken
+returns-in-Ok-clause-taken c = c.taken_at.ensures ∙ (λ i. taken_at (c.end.ensures i) (length c.args.piece.now) (c.in-Ok.ensures.taken i))
+
+pub returns-in-Ok-clause-most : goal.returns-in-Ok-clause-most
+returns-in-Ok-clause-most c =
+    let within = bytes_taken_within c.args.self.now.endpoint.link.awaited c.args.self.now.endpoint.link.rest c.args.piece.now (is_whole c.args.self.now.endpoint.link.awaited (c.args.self.now.endpoint.link.rest ++ c.args.piece.now)) refl in
+    omega (arith, c.taken_at.ensures ∙ (λ i. taken_at (c.end.ensures i) (length c.args.piece.now) (c.in-Ok.ensures.taken i)), at_most c.take_event.new.self.endpoint.link.state.ended (length c.args.piece.now) (bytes_taken c.args.self.now.endpoint.link.awaited c.args.self.now.endpoint.link.rest c.args.piece.now) within)
+
+pub returns-in-Ok-clause-some : goal.returns-in-Ok-clause-some
+returns-in-Ok-clause-some c = λ some.
+    let within = bytes_taken_within c.args.self.now.endpoint.link.awaited c.args.self.now.endpoint.link.rest c.args.piece.now (is_whole c.args.self.now.endpoint.link.awaited (c.args.self.now.endpoint.link.rest ++ c.args.piece.now)) refl in
+    let taken = some_taken c.args.self.now.endpoint.link.awaited c.args.self.now.endpoint.link.rest c.args.piece.now c.facts.ensures.partial some in
+    omega (arith, c.taken_at.ensures ∙ (λ i. taken_at (c.end.ensures i) (length c.args.piece.now) (c.in-Ok.ensures.taken i)), taken, at_least c.take_event.new.self.endpoint.link.state.ended (length c.args.piece.now) (bytes_taken c.args.self.now.endpoint.link.awaited c.args.self.now.endpoint.link.rest c.args.piece.now) within)
+
+pub returns-in-Ok-clause-goes : goal.returns-in-Ok-clause-goes
+returns-in-Ok-clause-goes c =
+    subst (λ (n : ℕ). Fed (state_of c.args.self.now) (take n c.args.piece.now) (state_of c.take_event.new.self)) (sym (c.taken_at.ensures ∙ (λ i. taken_at (c.end.ensures i) (length c.args.piece.now) (c.in-Ok.ensures.taken i))))
+    (step_done (state_of c.args.self.now) (state_of c.take_event.new.self) c.args.piece.now c.feed_one.new.self.link c.requires.live c.facts.ensures.partial (c.in-Ok.ensures.state (λ e. absurd cc)) (sym c.in-Ok.ensures.ended) c.take_event.ensures.taken)
+
+pub returns-in-Ok-clause-within : goal.returns-in-Ok-clause-within
+returns-in-Ok-clause-within c =
+    let step = step_of c.args.self.now.endpoint.link c.feed_one.new.self.link c.args.piece.now c.facts.ensures.partial c.requires.live (c.in-Ok.ensures.state (λ e. absurd cc)) in
+    let most = bytes_taken_within c.args.self.now.endpoint.link.awaited c.args.self.now.endpoint.link.rest c.args.piece.now (is_whole c.args.self.now.endpoint.link.awaited (c.args.self.now.endpoint.link.rest ++ c.args.piece.now)) refl in
+    let within = step_within c.args.self.now.endpoint.link c.feed_one.new.self.link c.args.piece.now c.facts.ensures.partial step (sym c.in-Ok.ensures.ended) in
+    omega (arith, c.taken_at.ensures ∙ (λ i. taken_at (c.end.ensures i) (length c.args.piece.now) (c.in-Ok.ensures.taken i)), within, c.take_event.ensures.fed, at_least c.take_event.new.self.endpoint.link.state.ended (length c.args.piece.now) (bytes_taken c.args.self.now.endpoint.link.awaited c.args.self.now.endpoint.link.rest c.args.piece.now) most)
+
+pub returns-in-Err-clause-taken : goal.returns-in-Err-clause-taken
+returns-in-Err-clause-taken c = ap (λ (o : Option End). cond (is_some o) (length c.args.piece.now) (bytes_taken c.args.self.now.endpoint.link.awaited c.args.self.now.endpoint.link.rest c.args.piece.now)) c.in-Err.ensures.ended
+
+pub returns-in-Err-clause-goes : goal.returns-in-Err-clause-goes
+returns-in-Err-clause-goes c =
+    subst (λ (bytes : List ℕ). Fed (state_of c.args.self.now) bytes (on_link (state_of c.args.self.now) c.feed_one.new.self.link)) (sym (take_all (length c.args.piece.now) c.args.piece.now (omega arith)))
+    (step_failed (state_of c.args.self.now) c.args.piece.now c.feed_one.new.self.link c.in-Err.end c.requires.live c.facts.ensures.partial (λ other. c.in-Err.ensures.state (λ e. other (let h : c.in-Err.end ≡ ends.Memory = cc in h)))
+    (λ is. (c.in-Err.ensures.memory (ap (λ (e : End). Err e) is), c.in-Err.ensures.frame (ap (λ (e : End). Err e) is) (ap (λ (o : Option End). is_some o) c.requires.live))) (sym c.in-Err.ensures.ended))
+
+pub returns-in-Err-clause-sound : goal.returns-in-Err-clause-sound
+returns-in-Err-clause-sound c =
+    failed_sound c.args.self.now.endpoint.link c.feed_one.new.self.link c.args.piece.now c.in-Err.end c.args.self.now.calls.items c.args.self.now.ready.items c.args.self.now.used.items _ _ _ c.requires.live c.facts.ensures.partial (λ other. c.in-Err.ensures.state (λ e. other (let h : c.in-Err.end ≡ ends.Memory = cc in h)))
+    (λ is. c.in-Err.ensures.memory (ap (λ (e : End). Err e) is)) c.requires.sound
+
+pub returns-in-Err-clause-within : goal.returns-in-Err-clause-within
+returns-in-Err-clause-within c =
+    let within = failed_within c.args.self.now.endpoint.link c.feed_one.new.self.link c.args.piece.now c.in-Err.end (λ other. c.in-Err.ensures.state (λ e. other (let h : c.in-Err.end ≡ ends.Memory = cc in h))) (λ is. c.in-Err.ensures.memory (ap (λ (e : End). Err e) is)) in
+    omega (arith, within)

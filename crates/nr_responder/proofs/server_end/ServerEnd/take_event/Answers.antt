@@ -1,0 +1,53 @@
+use Rattle.std.proofs.Common.{◌≡◌, ◌≢◌, ℕ, ◌+◌, ◌<◌, ◌≤◌, List, [], ◌∷◌, ◌++◌, length, take, Option, Some, None, sym, ap, subst, ◌∙◌, arith}
+use Rattle.nr_endpoint.specs.declared.event.Event.{Event}
+use Rattle.nr_endpoint.specs.LinkState.{LinkSide}
+use Rattle.nr_endpoint.specs.Calls.{after_call}
+use Rattle.nr_endpoint.specs.Calls.Call.{NextEvent}
+use Rattle.nr_endpoint.specs.ReceiveQueue.{DeliveredEvent}
+use Rattle.nr_endpoint.specs.ReceiveQueue.DeliveredEvent.{MessageReceived}
+use Rattle.nr_endpoint.specs.Views.{notice}
+use Rattle.nr_responder.specs.ResponderState.{ResponderSide}
+use Rattle.nr_responder.specs.Sound.{state_of}
+use Rattle.nr_responder.specs.Handling.{Makes, on_link}
+use Rattle.nr_responder.proofs.Handled.{same_fed}
+use Rattle.nr_responder.proofs.Posted.{told_link_lem}
+use Rattle.nr_responder.proofs.Sounds.{sound_told, sound_read}
+use Rattle.nr_responder.proofs.Stepped.{same_message}
+use Rattle.nr_responder.proofs.server_end.ServerEnd.take_event.Goals as goal
+
+pub message-requires-clause-sound : goal.message-requires-clause-sound
+message-requires-clause-sound c =
+    let one = c.in-Some-Message.ensures.event ∙ ap (λ (e : Event). notice e ∷ c.next_event.new.self.link.state.receive_queue.notices) c.in-Some-Message.field-0-is in
+    sound_told c.args.self.now.endpoint.link c.next_event.new.self.link _ _ _ c.next_event.new.self.link.state.receive_queue.notices c.args.self.now.calls.items c.args.self.now.ready.items c.args.self.now.used.items _ _ _ c.in-Some-Message.ensures.state one c.requires.sound
+
+pub message-requires-clause-live : goal.message-requires-clause-live
+message-requires-clause-live c = (told_link_lem c.args.self.now.endpoint.link c.next_event.new.self.link c.in-Some-Message.ensures.state).live ∙ c.requires.live
+
+pub returns-in-Some-Message-clause-taken : goal.returns-in-Some-Message-clause-taken
+returns-in-Some-Message-clause-taken c =
+    let one = c.in-Some-Message.ensures.event ∙ ap (λ (e : Event). notice e ∷ c.next_event.new.self.link.state.receive_queue.notices) c.in-Some-Message.field-0-is in
+    let bytes : List ℕ = take c.in-Some-Message.len c.in-Some-Message.buf in
+    let v : ResponderSide = state_of c.args.self.now in
+    let after : ResponderSide = state_of c.message.new.self in
+    let made : Makes (on_link v c.next_event.new.self.link) c.in-Some-Message.number bytes after = c.message.ensures.made in
+    record {
+      none = λ none. absurd (let two = sym one ∙ none in cc);
+      some = λ number invalidated m only.
+          let same = same_message c.in-Some-Message.number number _ invalidated bytes m c.next_event.new.self.link.state.receive_queue.notices [] (sym one ∙ only) in
+          subst (λ (n : ℕ). Makes (on_link v (after_call v.link NextEvent)) n m after) same.0 (subst (λ (x : List ℕ). Makes (on_link v (after_call v.link NextEvent)) c.in-Some-Message.number x after) same.1
+          (subst (λ (l : LinkSide). Makes (on_link v l) c.in-Some-Message.number bytes after) c.in-Some-Message.ensures.state made));
+    }
+
+pub returns-in-Some-Message-clause-fed : goal.returns-in-Some-Message-clause-fed
+returns-in-Some-Message-clause-fed c =
+    let t = told_link_lem c.args.self.now.endpoint.link c.next_event.new.self.link c.in-Some-Message.ensures.state in
+    let same = same_fed c.next_event.new.self.link c.message.new.self.endpoint.link c.message.ensures.input in
+    omega (arith, same, t.place, ap (λ (xs : List ℕ). length xs) t.rest)
+
+pub returns-in-Some-ReadDone-clause-sound : goal.returns-in-Some-ReadDone-clause-sound
+returns-in-Some-ReadDone-clause-sound c = sound_read c.args.self.now.endpoint.link c.next_event.new.self.link c.args.self.now.calls.items c.args.self.now.ready.items c.args.self.now.used.items _ _ _ c.in-Some-ReadDone.ensures.state c.requires.sound
+
+pub returns-in-Some-ReadDone-clause-fed : goal.returns-in-Some-ReadDone-clause-fed
+returns-in-Some-ReadDone-clause-fed c =
+    let t = told_link_lem c.args.self.now.endpoint.link c.next_event.new.self.link c.in-Some-ReadDone.ensures.state in
+    omega (arith, t.place, ap (λ (xs : List ℕ). length xs) t.rest)

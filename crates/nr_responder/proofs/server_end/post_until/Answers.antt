@@ -1,0 +1,16 @@
+use Rattle.std.proofs.Common.{◌≡◌, ℕ, suc, ◌+◌, ◌<◌, List, length, get_or, sym, ap, subst, ◌∙◌, arith}
+use Rattle.nr_link.specs.Limits.{send_max}
+use Rattle.nr_endpoint.specs.Receives.{IsReceive}
+use Rattle.nr_responder.proofs.Posted.{post_more}
+use Rattle.nr_responder.proofs.server_end.post_until.Goals as goal
+
+pub posts-preserved : goal.posts-preserved
+posts-preserved c = record {
+  left_are = omega (arith, ap (λ (xs : List (List ℕ)). length xs) c.in-Some.ensures.items, c.posts.invariant.left_are);
+  link = c.post.ensures.state ∙ post_more c.args.endpoint.now.link c.posts.endpoint.link c.posts.i c.posts.invariant.link;
+  bufs = λ k d lt.
+      subst (λ (xs : List (List ℕ)). IsReceive send_max (get_or xs (suc k) d)) c.in-Some.ensures.items
+      (c.posts.invariant.bufs (suc k) d (omega (arith, lt, ap (λ (xs : List (List ℕ)). length xs) c.in-Some.ensures.items)));
+  room = c.pop_front.ensures.capacity ∙ c.posts.invariant.room;
+  staging = c.post.ensures.staging ∙ c.posts.invariant.staging;
+}

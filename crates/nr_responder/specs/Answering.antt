@@ -1,0 +1,62 @@
+-- What an answer makes of a responder.
+use Rattle.std.specs.Prelude.{◌≡◌, ℕ, ◌<◌, ◌^◌, List, [], drop, Option, Some, None, slice_get, length, if◌then◌else◌}
+use Rattle.std.specs.List.{remove}
+use Rattle.nr_link.specs.Limits.{send_max}
+use Rattle.nr_rpc.specs.Reading.{call_of, target_of}
+use Rattle.nr_header.specs.declared.header.ChunkLists.{ChunkLists}
+use Rattle.nr_endpoint.specs.declared.framing.RemoteWrite.{RemoteWrite}
+use Rattle.nr_endpoint.specs.LinkState.{LinkSide}
+use Rattle.nr_endpoint.specs.Calls.{after_calls}
+use Rattle.nr_endpoint.specs.Offering.{answer_calls, writes_output}
+use Rattle.nr_reduce.specs.Holds.{Answer, answer_message, answer_writes, chunk_error}
+use Rattle.nr_reduce.specs.ServerState.{PendingCall}
+use Rattle.nr_reduce.specs.Server.{answer_of_target}
+use Rattle.nr_responder.specs.declared.call.Sent.{Sent}
+use Rattle.nr_responder.specs.declared.call.Sent.TheVariants as sents
+use Rattle.nr_responder.specs.ResponderState.{ResponderSide}
+
+-- the message of an answer, and the bytes of its RDMA Writes: ERR_CHUNK if the offer doesn't hold the reply
+abbrev pub message_for : (xid credits : ℕ) → ChunkLists → Option Answer → List ℕ
+message_for xid credits offer None = chunk_error xid credits
+message_for xid credits offer (Some answer) = answer_message xid credits offer answer
+
+abbrev pub writes_for : ChunkLists → Option Answer → List ℕ
+writes_for offer None = []
+writes_for offer (Some answer) = answer_writes offer answer
+
+-- how the reply to a call with this stream is sent back
+abbrev pub answer_to : PendingCall → (stream reply : List ℕ) → Option Answer
+answer_to call stream reply = answer_of_target call.lists send_max reply (target_of (call_of stream))
+
+-- by RDMA_MSG, by RDMA_NOMSG, or by ERR_CHUNK
+abbrev pub sent_as : Option Answer → Sent
+sent_as None = sents.Chunk
+sent_as (Some answer) = if answer.long then sents.Long else sents.Inline
+
+-- the answer to a call with this stream was queued
+pub record Queues (call : PendingCall) (stream reply : List ℕ) (credits : ℕ) (before after : LinkSide) (sent : Sent) : Type 0 where
+  pub writes : List RemoteWrite
+  pub written : writes_output writes ≡ writes_for call.lists (answer_to call stream reply)
+  pub link : after ≡ after_calls before (answer_calls writes (message_for call.xid credits call.lists (answer_to call stream reply)))
+  pub sent_is : sent ≡ sent_as (answer_to call stream reply)
+
+-- with the answer to the call at a place queued
+abbrev pub answered_by : ℕ → List RemoteWrite → List ℕ → ResponderSide → ResponderSide
+answered_by at writes message v = record {
+  link = after_calls v.link (answer_calls writes message);
+  calls = remove v.calls at;
+  ready = drop 1 v.ready;
+  credits = v.credits;
+}
+
+pub record Answers (before after : ResponderSide) (xid : ℕ) (reply : List ℕ) (sent : Sent) : Type 0 where
+  pub at : ℕ
+  pub call : PendingCall
+  pub place : slice_get before.calls at ≡ Some call
+  pub own : call.xid ≡ xid
+  pub stream : List ℕ
+  pub inline : call.inline ≡ Some stream
+  pub writes : List RemoteWrite
+  pub written : writes_output writes ≡ writes_for call.lists (answer_to call stream reply)
+  pub state : after ≡ answered_by at writes (message_for xid before.credits call.lists (answer_to call stream reply)) before
+  pub sent_is : sent ≡ sent_as (answer_to call stream reply)

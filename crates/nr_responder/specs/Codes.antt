@@ -1,0 +1,39 @@
+-- The code of what contracts see, by which a proof tells two values apart.
+use Rattle.std.specs.Prelude.{ℕ, List, Option, refl}
+use Rattle.std.specs.Coded.{Coded, code_by, coded×, coded_ℕ, coded_list, coded_option}
+use Rattle.nr_header.specs.declared.header.RdmaSegment.{RdmaSegment}
+use Rattle.nr_header.specs.declared.header.ReadSegment.{ReadSegment}
+use Rattle.nr_header.specs.declared.header.ChunkLists.{ChunkLists}
+use Rattle.nr_endpoint.specs.LinkState.{LinkSide}
+use Rattle.nr_endpoint.specs.Codes.{link_code}
+use Rattle.nr_reduce.specs.ServerState.{PendingCall}
+use Rattle.nr_responder.specs.ResponderState.{ResponderSide, ResponderState}
+
+abbrev pub segment_code : Coded RdmaSegment
+segment_code =
+    code_by (ℕ × (ℕ × ℕ)) (coded× coded_ℕ (coded× coded_ℕ coded_ℕ)) (λ s. (s.handle, (s.length, s.offset)))
+    (λ p. record { handle = p.0; length = p.1.0; offset = p.1.1 }) (λ _. refl)
+
+abbrev pub entry_code : Coded ReadSegment
+entry_code =
+    code_by (ℕ × (ℕ × (ℕ × ℕ))) (coded× coded_ℕ (coded× coded_ℕ (coded× coded_ℕ coded_ℕ))) (λ r. (r.position, (r.handle, (r.length, r.offset))))
+    (λ p. record { position = p.0; handle = p.1.0; length = p.1.1.0; offset = p.1.1.1 }) (λ _. refl)
+
+abbrev pub lists_code : Coded ChunkLists
+lists_code =
+    code_by (List ReadSegment × (List (List RdmaSegment) × Option (List RdmaSegment)))
+    (coded× (coded_list entry_code) (coded× (coded_list (coded_list segment_code)) (coded_option (coded_list segment_code))))
+    (λ l. (l.read, (l.write, l.reply))) (λ p. record { read = p.0; write = p.1.0; reply = p.1.1 }) (λ _. refl)
+
+abbrev pub call_code : Coded PendingCall
+call_code =
+    code_by (ℕ × (ℕ × (ChunkLists × Option (List ℕ)))) (coded× coded_ℕ (coded× coded_ℕ (coded× lists_code (coded_option (coded_list coded_ℕ)))))
+    (λ c. (c.number, (c.xid, (c.lists, c.inline)))) (λ p. record { number = p.0; xid = p.1.0; lists = p.1.1.0; inline = p.1.1.1 }) (λ _. refl)
+
+abbrev pub side_code : Coded ResponderSide
+side_code =
+    code_by (LinkSide × (List PendingCall × (List ℕ × ℕ))) (coded× link_code (coded× (coded_list call_code) (coded× (coded_list coded_ℕ) coded_ℕ)))
+    (λ v. (v.link, (v.calls, (v.ready, v.credits)))) (λ p. record { link = p.0; calls = p.1.0; ready = p.1.1.0; credits = p.1.1.1 }) (λ _. refl)
+
+abbrev pub responder_code : Coded ResponderState
+responder_code = code_by (ResponderSide × List ℕ) (coded× side_code (coded_list coded_ℕ)) (λ v. (v.side, v.staging)) (λ p. record { side = p.0; staging = p.1 }) (λ _. refl)

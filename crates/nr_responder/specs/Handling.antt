@@ -1,0 +1,106 @@
+-- What a responder makes of a message that its side of the link delivered.
+use Rattle.std.specs.Prelude.{◌≡◌, ◌≢◌, ℕ, ◌+◌, ◌≤◌, List, [], ◌∷◌, ◌++◌, drop, map, Option, Some, None, Result, Ok, Err, ◌⊎◌, false}
+use Rattle.nr_header.specs.declared.header.RdmaSegment.{RdmaSegment}
+use Rattle.nr_header.specs.declared.header.ChunkLists.{ChunkLists}
+use Rattle.nr_xdr.specs.Fields.{word_at}
+use Rattle.nr_rpc.specs.declared.head.CallHead.{CallHead}
+use Rattle.nr_rpc.specs.Reading.{call_of}
+use Rattle.nr_link.specs.Reasons.{REASON_HEAD, REASON_XID}
+use Rattle.nr_endpoint.specs.ReceiveQueue.DeliveredEvent.{MessageReceived}
+use Rattle.nr_endpoint.specs.LinkState.{LinkSide}
+use Rattle.nr_endpoint.specs.Calls.{after_call}
+use Rattle.nr_endpoint.specs.Calls.Call.{NextEvent, Stop, Send, OutOfMemory}
+use Rattle.nr_reduce.specs.Holds.{chunk_error, version_error}
+use Rattle.nr_reduce.specs.ServerState.{PendingCall, ServerState, is_pending}
+use Rattle.nr_reduce.specs.ServerMessages.{Verdict, verdict, call_xid}
+use Rattle.nr_reduce.specs.ServerMessages.Verdict.{EndsLink, OtherVersion, BadChunks, MakesPending}
+use Rattle.nr_reduce.specs.ServerFrames.{FrameEffect, no_effect, by_message}
+use Rattle.nr_responder.specs.ResponderState.{ResponderSide}
+use Rattle.nr_responder.specs.Views.{IsCall}
+
+-- a pending call without a read chunk
+abbrev pub inline_call : ServerState → ℕ → List (List RdmaSegment) → Option (List RdmaSegment) → List ℕ → PendingCall
+inline_call k xid write reply stream = record { number = k.received.sends + 1; xid = xid; lists = record { read = []; write = write; reply = reply }; inline = Some stream }
+
+-- the effect of a message that is refused by an error message
+abbrev pub refused_effect : ServerState → List ℕ → FrameEffect
+refused_effect k message = record (no_effect k) { errors = message ∷ [] }
+
+abbrev pub on_link : ResponderSide → LinkSide → ResponderSide
+on_link v l = record { link = l; calls = v.calls; ready = v.ready; credits = v.credits }
+
+abbrev pub with_ready : ResponderSide → LinkSide → PendingCall → ResponderSide
+with_ready v l c = record { link = l; calls = v.calls ++ c ∷ []; ready = v.ready ++ c.xid ∷ []; credits = v.credits }
+
+-- the side that ran out of memory
+abbrev pub out : ResponderSide → ResponderSide
+out v = on_link v (after_call v.link OutOfMemory)
+
+abbrev pub OrOut : ResponderSide → LinkSide → ResponderSide → Type 0
+OrOut v l after = (after ≡ on_link v l) ⊎ (after ≡ out v)
+
+-- the server of a run whose calls a responder keeps
+pub record IsServerOf (k : ServerState) (v : ResponderSide) : Type 0 where
+  pub calls : k.calls ≡ v.calls
+  pub credits : k.credit ≡ v.credits
+  pub no_reads : k.reads ≡ []
+  pub no_regions : k.regions ≡ []
+
+-- ---- What the code made of a message with a number
+
+abbrev pub begun_call : (number : ℕ) → List ℕ → ChunkLists → ℕ → PendingCall
+begun_call number message lists stream_at = record { number = number; xid = word_at 0 message; lists = lists; inline = Some (drop stream_at message) }
+
+-- of one with a call whose stream stands in it
+pub data Begins (before after : ResponderSide) (number : ℕ) (message : List ℕ) (lists : ChunkLists) (stream_at : ℕ) : Type 0 where
+  NoCall : (at : ℕ) → call_of (drop stream_at message) ≡ Err at → OrOut before (after_call before.link (Stop REASON_HEAD)) after → Begins before after number message lists stream_at
+  OtherXid : (head : CallHead) → call_of (drop stream_at message) ≡ Ok head → call_xid head ≢ word_at 0 message → OrOut before (after_call before.link (Stop REASON_XID)) after →
+      Begins before after number message lists stream_at
+  IsReady : (head : CallHead) → call_of (drop stream_at message) ≡ Ok head → call_xid head ≡ word_at 0 message → after ≡ with_ready before before.link (begun_call number message lists stream_at) →
+      Begins before after number message lists stream_at
+
+-- by what holds of each server whose calls are kept
+abbrev pub OfServers : (ServerState → Type 0) → ResponderSide → Type 0
+OfServers P before = (k : ServerState) → IsServerOf k before → P k
+
+-- the message has a read list, and isn't refused without it
+pub record HasReadChunk (k : ServerState) (message : List ℕ) : Type 0 where
+  pub call : PendingCall
+  pub judged : verdict k message ≡ MakesPending call
+  pub chunk : call.lists.read ≢ []
+
+-- The server has output of its own for a message, or the message makes a call with a read chunk pending: it may run out of memory.
+pub data MessageTakes (k : ServerState) (message : List ℕ) : Type 0 where
+  EndsFor : (reason : ℕ) → ((place : ℕ) → (by_message k place (Some message)).refusal ≡ Some reason) → 5 ≤ reason → MessageTakes k message
+  ErrorFor : (answer : List ℕ) → ((place : ℕ) → by_message k place (Some message) ≡ refused_effect k answer) → MessageTakes k message
+  ReadsFor : HasReadChunk k message → MessageTakes k message
+
+pub data Makes (before : ResponderSide) (number : ℕ) (message : List ℕ) (after : ResponderSide) : Type 0 where
+  Ends : (reason : ℕ) → 5 ≤ reason → OfServers (λ k. verdict k message ≡ EndsLink reason) before → OrOut before (after_call before.link (Stop reason)) after → Makes before number message after
+  RefusesVersion : OfServers (λ k. verdict k message ≡ OtherVersion) before →
+      OrOut before (after_call before.link (Send (version_error (word_at 0 message) (word_at 4 message) before.credits))) after → Makes before number message after
+  RefusesChunks : OfServers (λ k. verdict k message ≡ BadChunks) before →
+      OrOut before (after_call before.link (Send (chunk_error (word_at 0 message) before.credits))) after → Makes before number message after
+  Calls : (lists : ChunkLists) (stream_at : ℕ) → OfServers (λ k. IsCall k message lists stream_at) before → Begins before after number message lists stream_at → Makes before number message after
+  LeavesReads : OfServers (λ k. MessageTakes k message) before → after ≡ out before → Makes before number message after
+
+-- ---- What it is for a server
+
+-- It stops the link for the reason of the server, queues the server's error message, or has one call more, which is ready.
+pub data Handled (k : ServerState) (message : List ℕ) (before after : ResponderSide) : Type 0 where
+  Stopped : (reason : ℕ) → ((place : ℕ) → (by_message k place (Some message)).refusal ≡ Some reason) → 5 ≤ reason → after ≡ on_link before (after_call (after_call before.link NextEvent) (Stop reason)) → Handled k message before after
+  Refused : (answer : List ℕ) → ((place : ℕ) → by_message k place (Some message) ≡ refused_effect k answer) → after ≡ on_link before (after_call (after_call before.link NextEvent) (Send answer)) → Handled k message before after
+  Ready : (xid : ℕ) (write : List (List RdmaSegment)) (reply : Option (List RdmaSegment)) (stream : List ℕ) (head : CallHead) → is_pending k xid ≡ false →
+      verdict k message ≡ MakesPending (inline_call k xid write reply stream) → call_of stream ≡ Ok head → call_xid head ≡ xid →
+      after ≡ with_ready before (after_call before.link NextEvent) (inline_call k xid write reply stream) → Handled k message before after
+
+-- what was made of what the link delivered
+pub record IsHandled (k : ServerState) (before after : ResponderSide) : Type 0 where
+  pub none : before.link.state.receive_queue.notices ≡ [] → after ≡ before
+  pub some : (number : ℕ) (invalidated : Option ℕ) (m : List ℕ) → before.link.state.receive_queue.notices ≡ MessageReceived number invalidated m ∷ [] → number ≡ k.received.sends + 1 → Handled k m before after
+
+-- what the code made of it
+pub record IsTaken (before after : ResponderSide) : Type 0 where
+  pub none : before.link.state.receive_queue.notices ≡ [] → after ≡ before
+  pub some : (number : ℕ) (invalidated : Option ℕ) (m : List ℕ) → before.link.state.receive_queue.notices ≡ MessageReceived number invalidated m ∷ [] →
+      Makes (on_link before (after_call before.link NextEvent)) number m after

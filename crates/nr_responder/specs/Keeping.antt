@@ -1,0 +1,125 @@
+-- What a responder keeps of the state of a server of a run.
+use Rattle.std.specs.Prelude.{◌≡◌, ℕ, ◌+◌, ◌-◌, ◌<◌, ◌≤◌, ◌==◌, nat_lt, Bool, true, false, List, [], ◌∷◌, length, map, Option, None, Some, is_some, ◌⊎◌}
+use Rattle.std.specs.List.{AllByRecursion, list_any, filter}
+use Rattle.nr_wire.specs.declared.hello.Side.TheVariants.{Initiator, Responder}
+use Rattle.nr_wire.specs.declared.stream.Awaited.TheVariants.{Hello as HelloFrom, Fpdu}
+use Rattle.nr_regions.specs.declared.right.Right.TheVariants.{Sink}
+use Rattle.nr_link.specs.Input.{InputState}
+use Rattle.nr_link.specs.Limits.{send_max}
+use Rattle.nr_link.specs.KeptSends.{received_within}
+use Rattle.nr_link.specs.Output.{msn_word}
+use Rattle.nr_link.specs.SegmentFaults.{ExpectedResponse, is_begun}
+use Rattle.nr_endpoint.specs.SendQueue.{SendQueue, output_len}
+use Rattle.nr_endpoint.specs.LinkState.{LinkState, LinkSide}
+use Rattle.nr_endpoint.specs.Laws.{KeepsInput}
+use Rattle.nr_reduce.specs.declared.mark.LinkParameters.{LinkParameters}
+use Rattle.nr_reduce.specs.Plans.{one_if}
+use Rattle.nr_reduce.specs.OfferedRegions.{Region}
+use Rattle.nr_reduce.specs.OfferedMemory.{AreOffered, AreReceived, HoldsRegions}
+use Rattle.nr_reduce.specs.EndRules.{EndState}
+use Rattle.nr_reduce.specs.ServerState.{PendingCall, PendingRead, ReadyCall, ServerState, next_stag}
+use Rattle.nr_reduce.specs.ServerReads.{open_reads, is_read, is_over}
+use Rattle.nr_reduce.proofs.OwnStags.{AreNumbered}
+use Rattle.nr_responder.specs.ResponderState.{ResponderSide, unsent, end_of}
+
+-- no two pending calls have one xid, nor have two calls that are ready
+abbrev pub OwnXids : List PendingCall → Type 0
+OwnXids [] = Unit {0}
+OwnXids (c ∷ calls) = (list_any (λ d. d.xid == c.xid) calls ≡ false) × OwnXids calls
+
+abbrev pub OwnReady : List ReadyCall → Type 0
+OwnReady [] = Unit {0}
+OwnReady (r ∷ ready) = (list_any (λ q. q.xid == r.xid) ready ≡ false) × OwnReady ready
+
+-- A call that is ready is the pending call of its xid, and nothing is left to be read for it.
+pub record IsReadyOf (calls : List PendingCall) (reads : List PendingRead) (r : ReadyCall) : Type 0 where
+  pub pending : list_any (λ c. c.xid == r.xid) calls ≡ true
+  pub own : AllByRecursion (λ c. c.xid ≡ r.xid → c.number ≡ r.number) calls
+  pub read : is_read reads r.number ≡ true
+  pub payload : AllByRecursion (λ c. c.xid ≡ r.xid → c.inline ≡ Some r.payload) calls
+
+-- The state of a server, as it comes along a run where so many bytes were received: its regions are sinks under the STags from 1 on,
+-- those that are over are closed, and nothing has the number of a Send that hasn't come. No call that is pending has a read chunk.
+pub record IsServer (k : ServerState) (place : ℕ) : Type 0 where
+  pub offered : AreOffered place k.regions
+  pub accesses : AreReceived place k.accesses_received
+  pub numbered : AreNumbered 1 k.regions
+  pub sinks : AllByRecursion (λ r. r.right ≡ Sink) k.regions
+  pub calls_before : AllByRecursion (λ c. c.number ≤ k.received.sends) k.calls
+  pub reads_before : AllByRecursion (λ r. r.number ≤ k.received.sends) k.reads
+  pub regions_before : AllByRecursion (λ r. r.call ≤ k.received.sends) k.regions
+  pub closed : AllByRecursion (λ r. is_over k.calls k.reads r ≡ true → is_some r.until ≡ true) k.regions
+  pub xids : OwnXids k.calls
+  pub ready_xids : OwnReady k.ready
+  pub ready : AllByRecursion (IsReadyOf k.calls k.reads) k.ready
+  pub no_reads : k.reads ≡ []
+  pub no_regions : k.regions ≡ []
+  pub up : k.up_max ≡ send_max
+  pub down : k.down_max ≡ send_max
+
+-- Before the client's hello it has nothing to write. After it FPDUs come.
+pub data Begins (link : LinkSide) : Type 0 where
+  BeforeHello : link.state.place ≡ 0 → link.awaited ≡ HelloFrom Initiator → link.state.has_hello ≡ false → link.state.send_queue.fpdus ≡ [] → Begins link
+  AfterHello : 0 < link.state.place → link.awaited ≡ Fpdu → link.state.has_hello ≡ true → Begins link
+
+-- the reads whose Read Requests are sent, each where its response goes on
+abbrev pub open_response : PendingRead → ExpectedResponse
+open_response r = record { sink = r.sink; at = r.at; left = r.size }
+
+abbrev pub later_responses : List PendingRead → List ExpectedResponse
+later_responses [] = []
+later_responses (r ∷ reads) = open_response r ∷ later_responses reads
+
+abbrev pub open_responses : ℕ → List PendingRead → List ExpectedResponse
+open_responses response_bytes [] = []
+open_responses response_bytes (r ∷ reads) = record { sink = r.sink; at = r.at + response_bytes; left = r.size - response_bytes } ∷ later_responses reads
+
+-- The offsets in all output that is due at which messages end, where so many bytes were written and the queue begins with `hello` bytes
+-- of a hello: those of the messages that wait, as offsets in the FPDUs of the queue.
+unfoldable pub ends_queued : (written hello : ℕ) → List ℕ → List ℕ
+ends_queued written hello ends = map (λ end. end - written - hello) (filter (nat_lt written) ends)
+
+-- a message has left, or its end lies after the hello in the queue
+abbrev pub IsEnd : (written hello end : ℕ) → Type 0
+IsEnd written hello end = (end ≤ written) ⊎ (written + hello < end)
+
+-- The send queue has the bytes that are due and not written, and knows where the messages among them end.
+pub record QueueHas (written due messages requests : ℕ) (ends : List ℕ) (q : SendQueue) : Type 0 where
+  pub due_is : written + output_len q ≡ due
+  pub ends_are : q.send_ends ≡ ends_queued written (length q.hello) ends
+  pub each : AllByRecursion (IsEnd written (length q.hello)) ends
+  pub sends : q.last_send ≡ msn_word messages
+  pub requests_are : q.last_request ≡ msn_word requests
+  pub responses : q.response_ends ≡ []
+
+abbrev pub QueueKeeps : ServerState → SendQueue → Type 0
+QueueKeeps k q = QueueHas k.written k.due k.messages_queued k.requests_sent k.message_ends q
+
+-- What an endpoint keeps of a server's state.
+pub record LinkKeeps (opened : LinkParameters) (k : ServerState) (s : LinkState) : Type 0 where
+  pub live : s.ended ≡ None
+  pub side : s.side ≡ Responder
+  pub received : s.receive_queue.received ≡ received_within send_max k.received
+  pub receive_length : s.receive_queue.receive_length ≡ send_max
+  pub message_max : s.message_max ≡ send_max
+  pub free : s.receive_queue.free + (unsent s + length k.calls + one_if (is_begun k.received.begun)) ≡ opened.granted
+  pub lent : s.receive_queue.lent ≡ length k.calls + unsent s
+  pub told : s.receive_queue.notices ≡ []
+  pub reads : s.reads ≡ open_responses k.response_bytes (open_reads k)
+  pub memory : HoldsRegions k.regions k.accesses_received s.place s.memory
+  pub next : s.memory.next ≡ next_stag k
+  pub queue : QueueKeeps k s.send_queue
+
+pub record Keeps (opened : LinkParameters) (k : ServerState) (input_now : InputState) (v : ResponderSide) : Type 0 where
+  pub link : LinkKeeps opened k v.link.state
+  pub input : KeepsInput v.link input_now
+  pub begins : Begins v.link
+  pub server : IsServer k v.link.state.place
+  pub calls : v.calls ≡ k.calls
+  pub ready : v.ready ≡ map (λ r. r.xid) k.ready
+  pub credits : v.credits ≡ k.credit
+  pub quiet : v.link.state.place ≡ 0 → (v.ready ≡ []) × (k.message_ends ≡ [])
+
+-- An end that has ended keeps why.
+abbrev pub KeepsEnd : LinkParameters → EndState ServerState → InputState → ResponderSide → Type 0
+KeepsEnd opened end input v = ((end.ended ≡ None) × Keeps opened end.state input v) ⊎ ((is_some end.ended ≡ true) × (end_of v ≡ end.ended))

@@ -1,0 +1,10 @@
+pub mod Answering
+pub mod Codes
+pub mod Draining
+pub mod Handling
+pub mod Keeping
+pub mod ResponderState
+pub mod Sound
+pub mod Standing
+pub mod Steps
+pub mod Views

@@ -1,0 +1,65 @@
+-- What contracts see of a responder: its side of the link; the calls that it has not answered, in the order of their Sends; the xids of
+-- those that wait to be executed, in the order in which they became ready; its credits; and the whole staging buffer, which begins with
+-- the bytes of the frame that isn't complete.
+use Rattle.std.specs.Prelude.{ℕ, ◌+◌, ◌-◌, List, ◌++◌, length, Option}
+use Rattle.nr_link.specs.declared.end.End.{End}
+use Rattle.nr_endpoint.specs.SendQueue.{SendQueue, writable, written}
+use Rattle.nr_endpoint.specs.LinkState.{LinkState, LinkSide}
+use Rattle.nr_reduce.specs.ServerState.{PendingCall}
+
+pub record ResponderSide : Type 0 where
+  pub link : LinkSide
+  pub calls : List PendingCall
+  pub ready : List ℕ
+  pub credits : ℕ
+
+pub record ResponderState : Type 0 where
+  pub side : ResponderSide
+  pub staging : List ℕ
+
+-- all bytes that it has to write
+abbrev pub queued_bytes : SendQueue → List ℕ
+queued_bytes q = q.hello ++ q.fpdus
+
+abbrev pub queue : ResponderSide → List ℕ
+queue v = queued_bytes v.link.state.send_queue
+
+-- why it takes no more input, once it has ended
+abbrev pub end_of : ResponderSide → Option End
+end_of v = v.link.state.ended
+
+-- what may be written: all of it, but that nothing but a hello goes before the client's
+abbrev pub may_write : ResponderSide → List ℕ
+may_write v = writable v.link.state.has_hello v.link.state.send_queue
+
+-- how many of its Sends haven't left the queue
+abbrev pub unsent : LinkState → ℕ
+unsent s = length s.send_queue.send_ends
+
+-- so many receives are posted again
+abbrev pub posted_times : ℕ → LinkSide → LinkSide
+posted_times n l = record {
+  awaited = l.awaited;
+  rest = l.rest;
+  state = record l.state { receive_queue = record l.state.receive_queue { free = l.state.receive_queue.free + n; lent = l.state.receive_queue.lent - n } };
+}
+
+-- the side of the link after n bytes of its queue were written and so many receives are posted again
+abbrev pub drained_posted : LinkState → ℕ → ℕ → LinkState
+drained_posted s n posts = record s {
+  receive_queue = record s.receive_queue { free = s.receive_queue.free + posts; lent = s.receive_queue.lent - posts };
+  send_queue = written n s.send_queue;
+}
+
+-- how many Sends left with them
+abbrev pub left_by : LinkState → ℕ → ℕ
+left_by s n = unsent s - length (written n s.send_queue).send_ends
+
+-- after n bytes of what may be written were: the receive of each message whose answer left is posted again
+abbrev pub after_drain : ResponderSide → ℕ → ResponderSide
+after_drain v n = record {
+  link = record { awaited = v.link.awaited; rest = v.link.rest; state = drained_posted v.link.state n (left_by v.link.state n) };
+  calls = v.calls;
+  ready = v.ready;
+  credits = v.credits;
+}

@@ -1,0 +1,55 @@
+-- What the code keeps, as the definitions of a run see it.
+use Rattle.std.specs.Prelude.{◌≡◌, ◌≢◌, ℕ, ◌+◌, ◌≤◌, Bool, true, false, List, [], length, take, drop, map, Option, Some, None, ◌⊎◌}
+use Rattle.nr_header.specs.declared.header.ChunkLists.{ChunkLists}
+use Rattle.nr_header.specs.declared.header.Body.{Body}
+use Rattle.nr_header.specs.declared.header.Body.TheVariants.{Msg, Nomsg}
+use Rattle.nr_header.specs.WithinLimits.{ListsWithin}
+use Rattle.nr_link.specs.Reasons.{REASON_KIND, REASON_CALL, REASON_STAGS}
+use Rattle.nr_xdr.specs.Fields.{word_at}
+use Rattle.nr_reduce.specs.ServerState.{PendingCall, ServerState, is_pending, next_stag}
+use Rattle.nr_reduce.specs.ServerMessages.{Verdict, verdict, by_body}
+use Rattle.nr_reduce.specs.ServerMessages.Verdict.{EndsLink, OtherVersion, BadChunks, MakesPending}
+use Rattle.nr_responder.specs.declared.call.Pending.{Pending}
+use Rattle.nr_responder.specs.declared.judging.Judged.{Judged}
+use Rattle.nr_responder.specs.declared.judging.Judged.TheVariants as judged
+
+abbrev pub call_view : Pending → PendingCall
+call_view c = record { number = c.number; xid = c.xid; lists = c.lists; inline = Some (drop c.stream_at (take c.len c.buf)) }
+
+-- a call without a read list is pending with its stream
+pub record IsCall (k : ServerState) (message : List ℕ) (lists : ChunkLists) (stream_at : ℕ) : Type 0 where
+  pub no_reads : lists.read ≡ []
+  pub own : is_pending k (word_at 0 message) ≡ false
+  pub pending : verdict k message ≡ MakesPending (record { number = k.received.sends + 1; xid = word_at 0 message; lists = lists; inline = Some (drop stream_at message) })
+
+-- a message with a read list: it is refused, or its call has a read chunk
+pub data IsOfReads (k : ServerState) (message : List ℕ) : Type 0 where
+  Refused : verdict k message ≡ BadChunks → IsOfReads k message
+  Spent : verdict k message ≡ EndsLink REASON_STAGS → IsOfReads k message
+  Reads : (call : PendingCall) → verdict k message ≡ MakesPending call → call.lists.read ≢ [] → IsOfReads k message
+
+abbrev pub Judges : ServerState → List ℕ → Judged → Type 0
+Judges k message judged.Kind = verdict k message ≡ EndsLink REASON_KIND
+Judges k message judged.Open = verdict k message ≡ EndsLink REASON_CALL
+Judges k message judged.OtherVersion = verdict k message ≡ OtherVersion
+Judges k message judged.BadChunks = verdict k message ≡ BadChunks
+Judges k message (judged.Call lists stream_at) = IsCall k message lists stream_at
+Judges k message judged.Reads = IsOfReads k message
+
+-- the lists and the stream of a call lie within its message
+abbrev pub HasStream : List ℕ → Judged → Type 0
+HasStream message judged.Kind = Unit {0}
+HasStream message judged.Open = Unit {0}
+HasStream message judged.OtherVersion = Unit {0}
+HasStream message judged.BadChunks = Unit {0}
+HasStream message (judged.Call lists stream_at) = (stream_at ≤ length message) × ListsWithin lists
+HasStream message judged.Reads = Unit {0}
+
+-- what is made of a body whose xid isn't pending
+abbrev pub JudgesBody : Body → Judged → Type 0
+JudgesBody body judged.Kind = ⊥
+JudgesBody body judged.Open = ⊥
+JudgesBody body judged.OtherVersion = ⊥
+JudgesBody body judged.BadChunks = (k : ServerState) (xid : ℕ) (message : List ℕ) → by_body k xid message body ≡ BadChunks
+JudgesBody body (judged.Call lists stream_at) = (body ≡ Msg lists stream_at) × (lists.read ≡ [])
+JudgesBody body judged.Reads = (lists : ChunkLists) × ((lists.read ≢ []) × (((stream_at : ℕ) × (body ≡ Msg lists stream_at)) ⊎ (body ≡ Nomsg lists)))

@@ -1,0 +1,238 @@
+//! The answer to a call: its message and its RDMA Writes (RFC 8166 sections 3.4.6, 3.5).
+
+ghost use Rattle.std.specs.Prelude.{◌≡◌, ℕ, ◌+◌, ◌≤◌, ◌<◌, ◌^◌, length, drop, take, IfOk, OnOk, OnErr, All, option_map, List, [], ◌++◌, IfSome, ◌==◌, if◌then◌else◌};
+ghost use Rattle.nr_header.specs.WithinLimits.{ListsWithin, SegmentsEnd};
+ghost use Rattle.nr_endpoint.specs.Offering.{FitsRegion, writes_output};
+ghost use Rattle.nr_link.specs.Output.{write};
+ghost use Rattle.nr_reduce.specs.Holds.{chunk_error, version_error, writes_into, first_chunk, no_segments};
+ghost use Rattle.nr_reduce.specs.CodeViews.{answer_view};
+ghost use Rattle.nr_responder.specs.Answering.{answer_to, message_for, writes_for, sent_as, Queues};
+ghost use Rattle.nr_responder.specs.Views.{call_view};
+ghost use Rattle.nr_responder.specs.Sound.{InBuffer};
+
+use crate::call::{Pending, Sent, stream_of};
+use nr_endpoint::{Endpoint, RemoteWrite};
+use nr_header::{Chunk, ChunkLists, RdmaSegment, TransportError, write_error};
+use nr_reduce::{Answer, answer_for, answer_message};
+use nr_rpc::call_target;
+use nr_xdr::{Memory, Octets};
+use std::alloc::Global;
+
+/// The most bytes of a Send.
+const SEND_MAX: u32 = 1024;
+
+/// The most bytes of a message that an endpoint sends.
+pub(crate) const SENDABLE: usize = 4294967295;
+
+/// The version of RPC-over-RDMA (RFC 8166 section 4.2.2).
+const VERSION: u32 = 1;
+
+/// ERR_CHUNK, as the answer to a message with this xid (RFC 8166 section 4.5.3).
+#[tactic(auto, unfolding(nr_reduce::specs::Holds::chunk_error))]
+pub(crate) fn chunk_error(alloc: Global, xid: u32, credits: u32) -> Result<Octets, Memory>
+    ensures bytes { IfOk result (λ m. m ≡ chunk_error xid credits) }
+{
+    write_error(alloc, xid, VERSION, credits, TransportError::Chunk)
+}
+
+/// ERR_VERS, as the answer to a message with these words (RFC 8166 section 4.5.1).
+#[tactic(auto, unfolding(nr_reduce::specs::Holds::version_error))]
+pub(crate) fn version_error(
+    alloc: Global,
+    xid: u32,
+    version: u32,
+    credits: u32,
+) -> Result<Octets, Memory>
+    ensures bytes { IfOk result (λ m. m ≡ version_error xid version credits) }
+{
+    let error = TransportError::Vers {
+        low: VERSION,
+        high: VERSION,
+    };
+    write_error(alloc, xid, version, credits, error)
+}
+
+/// How the reply to a call is sent back, by what it offered; `None` if the offer doesn't hold it.
+fn answer_to<'a>(call: &Pending, reply: &'a [u8]) -> Option<Answer<'a>>
+    requires { InBuffer call.now }
+    ensures { option_map answer_view result ≡ answer_to (call_view call.now) (drop call.now.stream_at (take call.now.len call.now.buf)) reply.now }
+{
+    match call_target(stream_of(&call.buf, call.len, call.stream_at)) {
+        Some(target) => answer_for(
+            &call.lists,
+            target.prog,
+            target.vers,
+            target.proc,
+            reply,
+            SEND_MAX,
+        ),
+        None => answer_for(&call.lists, 0, 0, 0, reply, SEND_MAX),
+    }
+}
+
+/// By which message a call is answered.
+fn sent_as(answer: &Option<Answer<'_>>) -> Sent
+    ensures { result ≡ sent_as (option_map answer_view answer.now) }
+{
+    match answer {
+        Some(answer) => {
+            if answer.long {
+                Sent::Long
+            } else {
+                Sent::Inline
+            }
+        }
+        None => Sent::Chunk,
+    }
+}
+
+/// The message of an answer to a call with this xid and these lists.
+fn message_for(
+    alloc: Global,
+    xid: u32,
+    credits: u32,
+    lists: &ChunkLists,
+    answer: Option<Answer<'_>>,
+) -> Result<Octets, Memory>
+    requires { ListsWithin lists.now }
+    ensures { IfOk result (λ m. m ≡ message_for xid credits lists.now (option_map answer_view answer.entry)) }
+{
+    match answer {
+        Some(answer) => answer_message(alloc, xid, credits, lists, answer),
+        None => chunk_error(alloc, xid, credits),
+    }
+}
+
+/// The first `length` of some bytes, or all, and the rest.
+fn part(bytes: &[u8], length: u32) -> (&[u8], &[u8])
+    ensures first { result.0.now ≡ take length bytes.now }
+    ensures rest { result.1.now ≡ drop length bytes.now }
+{
+    if bytes.len() < length as usize {
+        return bytes.split_at(bytes.len());
+    }
+    bytes.split_at(length as usize)
+}
+
+/// Puts the RDMA Write of some bytes into a segment, if there are any.
+fn push_some<'a>(
+    writes: &mut Vec<RemoteWrite<'a>>,
+    segment: RdmaSegment,
+    bytes: &'a [u8],
+) -> Result<(), Memory>
+    requires ends { segment.offset + length bytes.now ≤ 2 ^ 64 }
+    requires fits { All FitsRegion writes.old.items }
+    ensures output { OnOk result (writes_output writes.new.items ≡ writes_output writes.old.items ++ (if length bytes.now == 0 then [] else write segment.handle segment.offset bytes.now)) }
+    ensures fits { OnOk result (All FitsRegion writes.new.items) }
+{
+    if bytes.is_empty() {
+        return Ok(());
+    }
+    writes.push(RemoteWrite {
+        stag: segment.handle,
+        to: segment.offset,
+        bytes,
+    })?;
+    Ok(())
+}
+
+/// Puts the RDMA Writes of some bytes into a chunk, one for each segment that gets bytes.
+fn push_writes<'a>(
+    writes: &mut Vec<RemoteWrite<'a>>,
+    chunk: &[RdmaSegment],
+    bytes: &'a [u8],
+) -> Result<(), Memory>
+    requires ends { SegmentsEnd chunk.now }
+    requires fits { All FitsRegion writes.old.items }
+    ensures output { OnOk result (writes_output writes.new.items ≡ writes_output writes.old.items ++ writes_into chunk.now bytes.now) }
+    ensures fits { OnOk result (All FitsRegion writes.new.items) }
+{
+    let mut left = bytes;
+    'segments: for segment in chunk {
+        let (first, rest) = part(left, segment.length);
+        push_some(writes, *segment, first)?;
+        left = rest;
+    }
+    Ok(())
+}
+
+/// Puts the RDMA Writes of what moves into the first chunk of a write list.
+fn push_moved<'a>(
+    writes: &mut Vec<RemoteWrite<'a>>,
+    chunks: &[Chunk],
+    moved: &'a [u8],
+) -> Result<(), Memory>
+    requires ends { All SegmentsEnd chunks.now }
+    requires fits { All FitsRegion writes.old.items }
+    ensures output { OnOk result (writes_output writes.new.items ≡ writes_output writes.old.items ++ writes_into (first_chunk chunks.now) moved.now) }
+    ensures fits { OnOk result (All FitsRegion writes.new.items) }
+{
+    if chunks.is_empty() {
+        return Ok(());
+    }
+    push_writes(writes, chunks[0].as_slice(), moved)
+}
+
+/// Puts the RDMA Writes of a long stream into the reply chunk.
+fn push_stream<'a>(
+    writes: &mut Vec<RemoteWrite<'a>>,
+    reply: &Option<Chunk>,
+    stream: &'a [u8],
+) -> Result<(), Memory>
+    requires ends { IfSome reply.now SegmentsEnd }
+    requires fits { All FitsRegion writes.old.items }
+    ensures output { OnOk result (writes_output writes.new.items ≡ writes_output writes.old.items ++ writes_into (no_segments reply.now) stream.now) }
+    ensures fits { OnOk result (All FitsRegion writes.new.items) }
+{
+    match reply {
+        Some(chunk) => push_writes(writes, chunk.as_slice(), stream),
+        None => Ok(()),
+    }
+}
+
+/// Puts the RDMA Writes of an answer: what moves goes into the first write chunk, and a long stream into the reply chunk.
+fn push_answer<'a>(
+    writes: &mut Vec<RemoteWrite<'a>>,
+    lists: &ChunkLists,
+    answer: Option<Answer<'a>>,
+) -> Result<(), Memory>
+    requires lists { ListsWithin lists.now }
+    requires none { writes.old.items ≡ [] }
+    ensures output { OnOk result (writes_output writes.new.items ≡ writes_for lists.now (option_map answer_view answer.entry)) }
+    ensures fits { OnOk result (All FitsRegion writes.new.items) }
+{
+    let Some(answer) = answer else {
+        return Ok(());
+    };
+    push_moved(writes, lists.write.as_slice(), answer.moved)?;
+    if !answer.long {
+        return Ok(());
+    }
+    push_stream(writes, &lists.reply, answer.stream)?;
+    Ok(())
+}
+
+/// Queues the answer to a call: its RDMA Writes and its message. An `Err` changes nothing.
+pub(crate) fn queue_answer(
+    endpoint: &mut Endpoint,
+    alloc: Global,
+    call: &Pending,
+    credits: u32,
+    reply: &[u8],
+) -> Result<Sent, Memory>
+    requires call { InBuffer call.now }
+    ensures queued { IfOk result (Queues (call_view call.now) (drop call.now.stream_at (take call.now.len call.now.buf)) reply.now credits endpoint.old.link endpoint.new.link) }
+    ensures err { OnErr result (endpoint.new.link ≡ endpoint.old.link) }
+    ensures staging { endpoint.new.staging ≡ endpoint.old.staging }
+{
+    let answer = answer_to(call, reply);
+    let sent = sent_as(&answer);
+    let message = message_for(alloc, call.xid, credits, &call.lists, answer)?;
+    if message.len() > SENDABLE {
+        return Err(Memory);
+    }
+    let mut writes = Vec::new(alloc);
+    push_answer(&mut writes, &call.lists, answer)?;
+    endpoint.answer(writes.as_slice(), message.as_slice())?;
+    Ok(sent)
+}

@@ -1,0 +1,68 @@
+//! The calls that a responder has not answered.
+
+ghost use Rattle.std.specs.Prelude.{◌≡◌, ◌≢◌, ℕ, ◌==◌, ◌<◌, ◌≤◌, length, drop, take, get_or, None, IfSome};
+ghost use Rattle.std.specs.List.{list_any};
+
+use nr_header::ChunkLists;
+use nr_xdr::Octets;
+
+/// A call whose Send is complete, and which isn't answered. Its Send has this number, from 1 on. Its message is the first `len` bytes of
+/// its receive buffer, and its stream stands from `stream_at` on.
+#[derive(Drop)]
+pub struct Pending {
+    pub number: u64,
+    pub xid: u32,
+    pub lists: ChunkLists,
+    pub buf: Octets,
+    pub len: usize,
+    pub stream_at: usize,
+}
+
+/// A call that waits to be executed. It goes back to the responder that delivered it.
+#[derive(Drop)]
+pub struct CallId {
+    /// The transaction ID (XID) of the call.
+    pub xid: u32,
+}
+
+/// How a call was answered.
+#[derive(Clone, Copy, Debug, PartialEq, Eq)]
+pub enum Sent {
+    /// By RDMA_MSG: the stream of the reply is in the message.
+    Inline,
+    /// By RDMA_NOMSG: the stream of the reply is in the reply chunk (RFC 8166 section 3.5.3).
+    Long,
+    /// By ERR_CHUNK: the offer of the call doesn't hold the reply (RFC 8166 section 4.5.3).
+    Chunk,
+}
+
+/// Whether one of the calls has this xid.
+pub(crate) fn has_xid(calls: &[Pending], xid: u32) -> bool
+    ensures { result ≡ list_any (λ c. c.xid == xid) calls.now }
+{
+    calls.iter().any(|c| c.xid == xid)
+}
+
+/// The place of the first call with this xid.
+pub(crate) fn place_of(calls: &[Pending], xid: u32) -> Option<usize>
+    ensures some { IfSome result (λ at. (at < length calls.now) × ((d : Pending) → (get_or calls.now at d).xid ≡ xid)) }
+    ensures none { result ≡ None → (k : ℕ) (d : Pending) → k < length calls.now → (get_or calls.now k d).xid ≢ xid }
+{
+    'calls: for i in 0..calls.len() {
+        if calls[i].xid == xid {
+            return Some(i);
+        }
+    }
+    None
+}
+
+/// The bytes of a message from a place on.
+pub(crate) fn stream_of(buf: &Octets, len: usize, at: usize) -> &[u8]
+    requires len { len ≤ length buf.now }
+    requires at { at ≤ len }
+    ensures { result.now ≡ drop at (take len buf.now) }
+{
+    let (message, _) = buf.as_slice().split_at(len);
+    let (_, stream) = message.split_at(at);
+    stream
+}

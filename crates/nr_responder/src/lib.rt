@@ -1,0 +1,25 @@
+//! The server end of a link: it takes the client's stream, tells which calls are ready to be executed, and queues their answers
+//! (RFC 8166 sections 3.3 to 3.5, 4.2 to 4.5).
+//!
+//! It stands on `nr_endpoint`, one side of the link, on `nr_header` and `nr_rpc`, which read a message and a call head, and on `nr_reduce`,
+//! which says how a reply is sent back and what a server of a run owes.
+//!
+//! A message comes as a receive buffer. It is judged once ([`Responder::feed`]): it ends the link, is refused by an error message, or
+//! makes a call pending, which keeps that buffer until its answer has left the queue. So the payload of a call is read where its Send
+//! was placed ([`Responder::payload`]). [`Responder::answer`] queues RDMA Writes and one Send, or ERR_CHUNK, or changes nothing; and
+//! [`Responder::drain_into`] posts the receive of each answer that has left.
+//!
+//! Calls with a read chunk are not supported yet: the Send of one ends the side as out of memory does.
+//!
+//! A responder keeps neither marks nor bytes of the past. Each call says, for every list of marks that the value stood for, what it
+//! answers, and that the value stands for that list with the marks of the call.
+#![tactic(auto)]
+
+mod answering;
+mod call;
+mod judging;
+mod responder;
+mod server_end;
+
+pub use call::{CallId, Sent};
+pub use responder::Responder;

@@ -1,0 +1,206 @@
+//! The responder: what contracts see of the server end of a link, and its calls.
+
+ghost use Rattle.std.specs.Prelude.{◌≡◌, ◌≢◌, ℕ, ◌+◌, ◌<◌, ◌≤◌, ◌^◌, List, [], ◌∷◌, ◌++◌, length, take, None, Some, Ok, Err, IfOk, OnOk, IfErr, IfSome, is_some, MatchOption, MatchResult, true, nat_lt, OnErr, ◌⊎◌};
+ghost use Rattle.std.specs.Result.{result_err};
+ghost use Rattle.nr_outside.specs.Faults.{Rises};
+ghost use Rattle.nr_wire.specs.declared.hello.Side.TheVariants.{Responder as ResponderSide};
+ghost use Rattle.nr_wire.specs.Feeding.{bytes_taken};
+ghost use Rattle.nr_wire.specs.Stream.{bytes_needed};
+ghost use Rattle.nr_endpoint.specs.declared.fault.DrainFault.TheVariants as drains;
+ghost use Rattle.nr_endpoint.specs.FedBytes.{fed_bytes};
+ghost use Rattle.nr_reduce.specs.declared.mark.LinkParameters.{LinkParameters};
+ghost use Rattle.nr_reduce.specs.declared.mark.Mark.{Mark};
+ghost use Rattle.nr_reduce.specs.declared.mark.Mark.TheVariants as marks;
+ghost use Rattle.nr_outside.specs.declared.moment.Moment.{Moment};
+ghost use Rattle.nr_reduce.specs.Served.{next_call, IsExecuted};
+ghost use Rattle.nr_responder.specs.Answering.{Answers};
+ghost use Rattle.nr_responder.specs.Draining.{Drains};
+ghost use Rattle.nr_link.specs.declared.end.End.TheVariants as ends;
+ghost use Rattle.nr_link.specs.SegmentFaults.{is_begun};
+ghost use Rattle.nr_reduce.specs.Plans.{one_if};
+ghost use Rattle.nr_reduce.specs.Run.{server};
+ghost use Rattle.nr_reduce.specs.ServerState.{receives_in_use};
+ghost use Rattle.nr_responder.specs.ResponderState.{end_of, may_write, unsent};
+ghost use Rattle.nr_responder.specs.Sound.{IsNext};
+ghost use Rattle.nr_responder.specs.Standing.{Stands};
+ghost use Rattle.nr_responder.specs.Steps.{Fed, taken_of};
+
+use crate::call::{CallId, Sent};
+use crate::server_end::ServerEnd;
+use nr_endpoint::DrainFault;
+use nr_link::End;
+use nr_outside::Sink;
+use nr_xdr::Memory;
+use std::alloc::Global;
+use std::marker::Model;
+
+/// The server end of a link.
+#[derive(Drop)]
+pub struct Responder {
+    end: ServerEnd,
+}
+
+impl Model for Responder {
+    ghost use Rattle.nr_responder.specs.ResponderState.{ResponderState};
+    ghost use Rattle.nr_responder.specs.Codes.{responder_code};
+
+    ghost Value = { ResponderState };
+
+    ghost coded = { responder_code };
+
+    ghost use Rattle.nr_responder.specs.Sound.{state_of, IsSound};
+
+    ghost view = { λ r. record { side = state_of r.end; staging = r.end.endpoint.staging } };
+
+    ghost invariant = { λ r. IsSound r.end };
+}
+
+impl Responder {
+    /// The server end of a link that grants this many credits. Takes all memory that a connection needs: the hello, the staging buffer, a
+    /// receive for each credit, and room for a call of each. `Err`: memory ran out, and nothing was made.
+    pub fn open(alloc: Global, credits: u32) -> Result<Responder, Memory>
+        ensures stands { IfOk result (λ r. (opened : LinkParameters) (link : ℕ) → opened.granted ≡ credits → Stands opened link [] r.side) }
+    {
+        Ok(Responder {
+            end: ServerEnd::open(alloc, credits)?,
+        })
+    }
+
+    /// Takes a piece of the client's stream. `Err` if and only if the side has ended, with why; a side that has ended takes no more.
+    /// `End::Memory`: memory ran out at a frame, which the piece completed, for output of the server's own; the side ended as it was
+    /// before that frame, and what was queued until then is still written. Calls with a read chunk aren't supported yet: the Send of one
+    /// ends the side so.
+    pub fn feed(&mut self, piece: &[u8]) -> Result<(), End>
+        requires { fed_bytes self.old.side.link + length piece.now ≤ 2 ^ 62 }
+        ensures ended { result_err result ≡ end_of self.new.side }
+        ensures goes { Fed self.old.side piece.now self.new.side }
+        ensures stands { (opened : LinkParameters) (link : ℕ) (run : List Mark) → Stands opened link run self.old.side →
+            Stands opened link (run ++ marks.Fed link ResponderSide piece.now ∷ []) self.new.side }
+        ensures kept { is_some (end_of self.old.side) ≡ true → self.new ≡ self.old }
+        ensures within { fed_bytes self.new.side.link ≤ fed_bytes self.old.side.link + length piece.now }
+    {
+        self.end.feed(piece)
+    }
+
+    /// Takes a piece up to the end of the frame that it completes, or all of it. `Ok` has the number of bytes taken. `Err` as [`Responder::feed`].
+    pub fn feed_one(&mut self, piece: &[u8]) -> Result<usize, End>
+        requires { fed_bytes self.old.side.link + length piece.now ≤ 2 ^ 62 }
+        ensures ended { result_err result ≡ end_of self.new.side }
+        ensures taken { IfOk result (λ n. n ≡ bytes_taken self.old.side.link.awaited self.old.side.link.rest piece.now) }
+        ensures goes { Fed self.old.side (taken_of result piece.now) self.new.side }
+        ensures stands { (opened : LinkParameters) (link : ℕ) (run : List Mark) → Stands opened link run self.old.side →
+            Stands opened link (run ++ marks.Fed link ResponderSide (taken_of result piece.now) ∷ []) self.new.side }
+        ensures kept { is_some (end_of self.old.side) ≡ true → self.new ≡ self.old }
+        ensures within { fed_bytes self.new.side.link ≤ fed_bytes self.old.side.link + length piece.now }
+    {
+        self.end.feed_one(piece)
+    }
+
+    /// Why the side takes no more input, once it has ended. Takes no memory.
+    pub fn end(&self) -> Option<End>
+        ensures { result ≡ end_of self.now.side }
+    {
+        self.end.endpoint.end()
+    }
+
+    /// The first call that is ready and isn't executed; `None` if and only if none is, or the side has ended. Takes no memory.
+    pub fn next_ready(&self) -> Option<CallId>
+        ensures next { IfSome result (λ id. IsNext self.now.side id.xid) }
+        ensures live { is_some result ≡ true → end_of self.now.side ≡ None }
+        ensures none { result ≡ None → (is_some (end_of self.now.side) ≡ true) ⊎ (self.now.side.ready ≡ []) }
+        // It is the next call of the server of a run, unless memory ran out: then nothing more is executed.
+        ensures exact { end_of self.now.side ≢ Some ends.Memory → (opened : LinkParameters) (link : ℕ) (run : List Mark) → Stands opened link run self.now.side →
+            MatchOption result (next_call opened link run ≡ None) (λ id. IfSome (next_call opened link run) (λ r. id.xid ≡ r.xid) × (is_some (next_call opened link run) ≡ true)) }
+    {
+        match self.end.next_ready() {
+            Some(xid) => Some(CallId { xid }),
+            None => None,
+        }
+    }
+
+    /// The payload of the next call, as its Send conveyed it. Takes no memory.
+    pub fn payload(&self, call: &CallId) -> &[u8]
+        requires live { end_of self.now.side ≡ None }
+        requires next { IsNext self.now.side call.now.xid }
+        ensures exact { (opened : LinkParameters) (link : ℕ) (run : List Mark) → Stands opened link run self.now.side → IsExecuted opened link run call.now.xid result.now }
+    {
+        self.end.payload(call.xid)
+    }
+
+    /// Queues the answer to the next call: RDMA Writes into what it offered and one Send, or ERR_CHUNK if its offer doesn't hold the reply
+    /// (RFC 8166 sections 3.4.6, 3.5). An `Err` changes nothing and gives the call back.
+    pub fn answer(&mut self, call: CallId, reply: &[u8]) -> Result<Sent, (CallId, Memory)>
+        requires live { end_of self.old.side ≡ None }
+        requires next { IsNext self.old.side call.xid }
+        ensures answers { IfOk result (λ sent. Answers self.old.side self.new.side call.xid reply.now sent) }
+        ensures stands { OnOk result ((opened : LinkParameters) (link : ℕ) (run : List Mark) (moment : Moment) (payload : List ℕ) (place : ℕ) → Stands opened link run self.old.side →
+            IsExecuted opened link run call.xid payload → Stands opened link (run ++ marks.Execute link call.xid moment payload place reply.now ∷ []) self.new.side) }
+        ensures err { OnErr result (self.new ≡ self.old) }
+        ensures returned { IfErr result (λ e. e.0 ≡ call) }
+    {
+        match self.end.answer(call.xid, reply) {
+            Ok(sent) => Ok(sent),
+            Err(memory) => Err((call, memory)),
+        }
+    }
+
+    /// Hands the output to a sink, in order: for `Ok` all that may be written, else some of it from the front, and the rest stays. The receive
+    /// of each message whose answer has left is posted again. `Err`: the sink failed. Takes no memory.
+    pub fn drain_into<K: Sink>(&mut self, sink: &mut K) -> Result<(), DrainFault>
+        ensures taken { (n : ℕ) × (Drains self.old.side self.new.side (K.taken sink.old) (K.taken sink.new) n × OnOk result (n ≡ length (may_write self.old.side))) }
+        ensures counted { MatchResult result
+            (λ _. K.faults sink.new ≡ K.faults sink.old) (λ e. (e ≡ drains.LinkWrite) × Rises (K.faults sink.old) (K.faults sink.new)) }
+        ensures never_falls { K.faults sink.old ≤ K.faults sink.new }
+        ensures staging { self.new.staging ≡ self.old.staging }
+    {
+        self.end.drain_into(sink)
+    }
+
+    /// How many calls are pending: their Send is complete, and they aren't answered. Takes no memory.
+    pub fn unanswered(&self) -> usize
+        ensures exact { result ≡ length self.now.side.calls }
+        ensures of_run { end_of self.now.side ≡ None → (opened : LinkParameters) (link : ℕ) (run : List Mark) → Stands opened link run self.now.side → result ≡ length (server opened link run).state.calls }
+    {
+        self.end.unanswered()
+    }
+
+    /// How many receives are in use: one for each Send that is begun, until its answer has wholly left. Takes no memory.
+    pub fn in_use(&self) -> usize
+        ensures exact { result ≡ length self.now.side.calls + (unsent self.now.side.link.state + one_if (is_begun self.now.side.link.state.receive_queue.received.begun)) }
+        ensures of_run { end_of self.now.side ≡ None → (opened : LinkParameters) (link : ℕ) (run : List Mark) → Stands opened link run self.now.side → result ≡ receives_in_use (server opened link run).state }
+    {
+        self.end.in_use()
+    }
+
+    /// How many bytes the frame that is begun still needs, as far as its length fields are there; if none is begun, those up to the end of
+    /// the next one's length fields. At least 1. Takes no memory.
+    pub fn wants(&self) -> usize
+        ensures exact { result ≡ bytes_needed self.now.side.link.awaited self.now.side.link.rest }
+        ensures some { 0 < result }
+    {
+        self.end.endpoint.wants()
+    }
+
+    /// Whether a frame is begun and not complete. Takes no memory.
+    pub fn begun(&self) -> bool
+        ensures { result ≡ nat_lt 0 (length self.now.side.link.rest) }
+    {
+        self.end.endpoint.begun()
+    }
+
+    /// The staging buffer, of which the first bytes are those of the frame that isn't complete. Takes no memory.
+    pub fn staging(&self) -> &[u8]
+        ensures bytes { result.now ≡ self.now.staging }
+        ensures begins { take (length self.now.side.link.rest) result.now ≡ self.now.side.link.rest }
+    {
+        self.end.endpoint.staging()
+    }
+
+    /// How many bytes of the frame that isn't complete are staged; 0 once the side has ended. Takes no memory.
+    pub fn staged(&self) -> usize
+        ensures rest { result ≡ length self.now.side.link.rest }
+        ensures ended { is_some (end_of self.now.side) ≡ true → result ≡ 0 }
+    {
+        self.end.endpoint.staged()
+    }
+}

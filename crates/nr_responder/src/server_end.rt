@@ -1,0 +1,455 @@
+//! What a responder keeps: its endpoint, the calls that it has not answered, and the receives of answers that haven't left.
+
+ghost use Rattle.std.specs.Prelude.{◌≡◌, ◌≢◌, ℕ, ◌+◌, ◌-◌, ◌<◌, ◌≤◌, ◌^◌, List, [], ◌∷◌, ◌++◌, length, take, drop, get_or, None, Some, IfOk, OnOk, OnErr, IfSome, IsOk, is_some, All, MatchOption, MatchResult, true, false, if◌then◌else◌, ◌⊎◌, vec_len, vec_capacity};
+ghost use Rattle.std.specs.VecDeque.{deque_capacity};
+ghost use Rattle.nr_outside.specs.Faults.{Rises};
+ghost use Rattle.nr_endpoint.specs.declared.fault.DrainFault.TheVariants as drains;
+ghost use Rattle.nr_wire.specs.Feeding.{bytes_taken};
+ghost use Rattle.nr_link.specs.Limits.{send_max};
+ghost use Rattle.nr_link.specs.SegmentFaults.{is_begun};
+ghost use Rattle.nr_reduce.specs.Plans.{one_if};
+ghost use Rattle.nr_header.specs.Constants.{FIXED_LEN};
+ghost use Rattle.nr_header.specs.WithinLimits.{ListsWithin};
+ghost use Rattle.nr_endpoint.specs.FedBytes.{fed_bytes};
+ghost use Rattle.nr_endpoint.specs.Receives.{IsReceive};
+ghost use Rattle.nr_endpoint.specs.Calls.{after_call, IsStopReason};
+ghost use Rattle.nr_endpoint.specs.Calls.Call.{Stop, Send, OutOfMemory};
+ghost use Rattle.std.specs.Result.{result_err};
+ghost use Rattle.nr_wire.specs.declared.hello.Side.TheVariants.{Responder as ResponderSide};
+ghost use Rattle.nr_link.specs.declared.end.End.TheVariants as ends;
+ghost use Rattle.nr_reduce.specs.declared.mark.LinkParameters.{LinkParameters};
+ghost use Rattle.nr_reduce.specs.declared.mark.Mark.{Mark};
+ghost use Rattle.nr_reduce.specs.declared.mark.Mark.TheVariants as marks;
+ghost use Rattle.nr_outside.specs.declared.moment.Moment.{Moment};
+ghost use Rattle.nr_reduce.specs.Run.{server};
+ghost use Rattle.nr_reduce.specs.ServerState.{receives_in_use};
+ghost use Rattle.nr_reduce.specs.Served.{next_call, IsExecuted};
+ghost use Rattle.nr_responder.specs.Answering.{Answers};
+ghost use Rattle.nr_responder.specs.Draining.{Drains};
+ghost use Rattle.nr_responder.specs.Handling.{Begins, IsTaken, Makes};
+ghost use Rattle.nr_responder.specs.ResponderState.{end_of, posted_times, unsent, may_write};
+ghost use Rattle.nr_responder.specs.Sound.{state_of, AreSound, InBuffer, IsNext, IsSound, IsSoundWith, SameInput};
+ghost use Rattle.nr_responder.specs.Standing.{Stands};
+ghost use Rattle.nr_responder.specs.Steps.{Fed, taken_of};
+
+use crate::answering::{SENDABLE, chunk_error, queue_answer, version_error};
+use crate::call::{Pending, Sent, place_of, stream_of};
+use crate::judging::{Judged, judge};
+use nr_endpoint::{DrainFault, Endpoint, Event};
+use nr_header::ChunkLists;
+use nr_link::End;
+use nr_outside::Sink;
+use nr_rpc::call_xid;
+use nr_wire::Side;
+use nr_xdr::{Memory, Octets, word_at};
+use std::alloc::Global;
+use std::collections::VecDeque;
+
+/// The reasons for which a message ends the link: a kind that a client doesn't send, no call head, another xid in it, an xid that is open.
+const REASON_KIND: u32 = 17;
+
+const REASON_HEAD: u32 = 18;
+
+const REASON_XID: u32 = 19;
+
+const REASON_CALL: u32 = 20;
+
+/// The server end of a link. A pending call keeps the receive buffer of its message; `used` has those of messages that were answered or
+/// refused, whose answer hasn't left the queue.
+#[derive(Drop)]
+pub struct ServerEnd {
+    pub(crate) endpoint: Endpoint,
+    pub(crate) calls: Vec<Pending>,
+    pub(crate) ready: VecDeque<u32>,
+    pub(crate) used: VecDeque<Octets>,
+    pub(crate) credits: u32,
+    pub(crate) alloc: Global,
+}
+
+/// Ends a side for a reason that a message gives, or because memory ran out for its Terminate.
+fn stop(endpoint: &mut Endpoint, reason: u32)
+    requires live { endpoint.old.link.state.ended ≡ None }
+    requires frame { 0 < endpoint.old.link.state.place }
+    requires reason { IsStopReason reason }
+    ensures link { (endpoint.new.link ≡ after_call endpoint.old.link (Stop reason)) ⊎ (endpoint.new.link ≡ after_call endpoint.old.link OutOfMemory) }
+{
+    match endpoint.stop(reason) {
+        End::Memory => (),
+        _ => (),
+    }
+}
+
+/// Queues an error message, and answers whether memory sufficed. If it didn't, the side ends.
+fn send_error(endpoint: &mut Endpoint, made: Result<Octets, Memory>) -> bool
+    requires live { endpoint.old.link.state.ended ≡ None }
+    ensures sent { result ≡ true → IfOk made (λ m. endpoint.new.link ≡ after_call endpoint.old.link (Send m)) × IsOk made }
+    ensures out { result ≡ false → endpoint.new.link ≡ after_call endpoint.old.link OutOfMemory }
+{
+    if let Ok(message) = made {
+        if message.len() <= SENDABLE && endpoint.send(message.as_slice()).is_ok() {
+            return true;
+        }
+    }
+    let _ = endpoint.run_out();
+    false
+}
+
+/// Posts the last of these receives again until only so many are left.
+fn post_until(endpoint: &mut Endpoint, used: &mut VecDeque<Octets>, left: usize)
+    requires left { left ≤ length used.old.items }
+    requires lent { length used.old.items ≤ endpoint.old.link.state.receive_queue.lent + left }
+    requires bufs { All (IsReceive send_max) used.old.items }
+    ensures posted { endpoint.new.link ≡ posted_times (length used.old.items - left) endpoint.old.link }
+    ensures left { length used.new.items ≡ left }
+    ensures bufs { All (IsReceive send_max) used.new.items }
+    ensures room { deque_capacity used.new ≡ deque_capacity used.old }
+    ensures staging { endpoint.new.staging ≡ endpoint.old.staging }
+{
+    let count = used.len() - left;
+    'posts: for i in 0..count {
+        match used.pop_front() {
+            Some(buf) => endpoint.post(buf),
+            None => unreachable!(),
+        }
+    }
+}
+
+fn one_if(condition: bool) -> usize
+    ensures { result ≡ one_if condition }
+{
+    if condition { 1 } else { 0 }
+}
+
+/// How many bytes of a piece are taken: all of them if the side has ended.
+fn taken_at(end: Option<End>, all: usize, part: usize) -> usize
+    ensures { result ≡ (if is_some end then all else part) }
+{
+    match end {
+        Some(_) => all,
+        None => part,
+    }
+}
+
+impl ServerEnd {
+    /// The server end of a link that grants so many credits.
+    pub fn open(alloc: Global, credits: u32) -> Result<ServerEnd, Memory>
+        ensures sound { IfOk result IsSound }
+        ensures stands { IfOk result (λ r. (opened : LinkParameters) (link : ℕ) → opened.granted ≡ credits → Stands opened link [] (state_of r)) }
+    {
+        let endpoint = Endpoint::open(alloc, Side::Responder, credits, 1)?;
+        let calls = Vec::with_capacity(alloc, credits as usize)?;
+        let ready = VecDeque::with_capacity(alloc, credits as usize)?;
+        let used = VecDeque::with_capacity(alloc, credits as usize)?;
+        Ok(ServerEnd {
+            endpoint,
+            calls,
+            ready,
+            used,
+            credits,
+            alloc,
+        })
+    }
+
+    /// Takes a piece of the client's stream. Once the side has ended it takes no more.
+    pub fn feed(&mut self, piece: &[u8]) -> Result<(), End>
+        requires sound { IsSound self.old }
+        requires within { fed_bytes self.old.endpoint.link + length piece.now ≤ 2 ^ 62 }
+        ensures ended { result_err result ≡ end_of (state_of self.new) }
+        ensures goes { Fed (state_of self.old) piece.now (state_of self.new) }
+        ensures stands { (opened : LinkParameters) (link : ℕ) (run : List Mark) → Stands opened link run (state_of self.old) →
+            Stands opened link (run ++ marks.Fed link ResponderSide piece.now ∷ []) (state_of self.new) }
+        ensures kept { is_some (end_of (state_of self.old)) ≡ true → (state_of self.new ≡ state_of self.old) × (self.new.endpoint.staging ≡ self.old.endpoint.staging) }
+        ensures within { fed_bytes self.new.endpoint.link ≤ fed_bytes self.old.endpoint.link + length piece.now }
+        ensures sound { IsSound self.new }
+    {
+        if let Some(end) = self.endpoint.end() {
+            return Err(end);
+        }
+        self.endpoint.facts();
+        let mut at = 0;
+        'pieces: while at < piece.len() {
+            at += self.step(&piece[at..]);
+        }
+        if let Some(end) = self.endpoint.end() {
+            return Err(end);
+        }
+        Ok(())
+    }
+
+    /// Takes a piece up to the end of the frame that it completes, or all of it. Once the side has ended it takes no more.
+    pub fn feed_one(&mut self, piece: &[u8]) -> Result<usize, End>
+        requires sound { IsSound self.old }
+        requires within { fed_bytes self.old.endpoint.link + length piece.now ≤ 2 ^ 62 }
+        ensures ended { result_err result ≡ end_of (state_of self.new) }
+        ensures taken { IfOk result (λ n. n ≡ bytes_taken self.old.endpoint.link.awaited self.old.endpoint.link.rest piece.now) }
+        ensures goes { Fed (state_of self.old) (taken_of result piece.now) (state_of self.new) }
+        ensures stands { (opened : LinkParameters) (link : ℕ) (run : List Mark) → Stands opened link run (state_of self.old) →
+            Stands opened link (run ++ marks.Fed link ResponderSide (taken_of result piece.now) ∷ []) (state_of self.new) }
+        ensures kept { is_some (end_of (state_of self.old)) ≡ true → (state_of self.new ≡ state_of self.old) × (self.new.endpoint.staging ≡ self.old.endpoint.staging) }
+        ensures within { fed_bytes self.new.endpoint.link ≤ fed_bytes self.old.endpoint.link + length piece.now }
+        ensures sound { IsSound self.new }
+    {
+        if let Some(end) = self.endpoint.end() {
+            return Err(end);
+        }
+        let taken = self.step(piece);
+        if let Some(end) = self.endpoint.end() {
+            return Err(end);
+        }
+        Ok(taken)
+    }
+
+    /// The first call that is ready and isn't executed, unless the side has ended.
+    pub fn next_ready(&self) -> Option<u32>
+        ensures next { IfSome result (IsNext (state_of self.now)) }
+        ensures live { is_some result ≡ true → end_of (state_of self.now) ≡ None }
+        ensures none { result ≡ None → (is_some (end_of (state_of self.now)) ≡ true) ⊎ (self.now.ready.items ≡ []) }
+        ensures exact { end_of (state_of self.now) ≢ Some ends.Memory → (opened : LinkParameters) (link : ℕ) (run : List Mark) → Stands opened link run (state_of self.now) →
+            MatchOption result (next_call opened link run ≡ None) (λ xid. IfSome (next_call opened link run) (λ r. xid ≡ r.xid) × (is_some (next_call opened link run) ≡ true)) }
+    {
+        if self.endpoint.end().is_some() {
+            return None;
+        }
+        match self.ready.front() {
+            Some(xid) => Some(*xid),
+            None => None,
+        }
+    }
+
+    /// The payload of the next call.
+    pub fn payload(&self, xid: u32) -> &[u8]
+        requires sound { IsSound self.now }
+        requires live { end_of (state_of self.now) ≡ None }
+        requires next { IsNext (state_of self.now) xid }
+        ensures exact { (opened : LinkParameters) (link : ℕ) (run : List Mark) → Stands opened link run (state_of self.now) → IsExecuted opened link run xid result.now }
+    {
+        match place_of(self.calls.as_slice(), xid) {
+            Some(at) => {
+                let pending = &self.calls[at];
+                stream_of(&pending.buf, pending.len, pending.stream_at)
+            }
+            None => &[],
+        }
+    }
+
+    /// Takes a piece up to the end of the frame that it completes, and all of it if the side ends; answers the bytes taken.
+    fn step(&mut self, piece: &[u8]) -> usize
+        requires sound { IsSound self.old }
+        requires live { self.old.endpoint.link.state.ended ≡ None }
+        requires within { fed_bytes self.old.endpoint.link + length piece.now ≤ 2 ^ 62 }
+        ensures taken { result ≡ (if is_some self.new.endpoint.link.state.ended then length piece.now else bytes_taken self.old.endpoint.link.awaited self.old.endpoint.link.rest piece.now) }
+        ensures most { result ≤ length piece.now }
+        ensures some { 0 < length piece.now → 0 < result }
+        ensures goes { Fed (state_of self.old) (take result piece.now) (state_of self.new) }
+        ensures sound { IsSound self.new }
+        ensures within { fed_bytes self.new.endpoint.link ≤ fed_bytes self.old.endpoint.link + result }
+    {
+        self.endpoint.facts();
+        let all = piece.len();
+        match self.endpoint.feed_one(piece) {
+            Ok(taken) => {
+                self.take_event();
+                taken_at(self.endpoint.end(), all, taken)
+            }
+            Err(end) => {
+                let _ = end;
+                all
+            }
+        }
+    }
+
+    /// Takes what the link delivered, if anything.
+    fn take_event(&mut self)
+        requires sound { IsSound self.old }
+        requires live { self.old.endpoint.link.state.ended ≡ None }
+        ensures taken { IsTaken (state_of self.old) (state_of self.new) }
+        ensures sound { IsSound self.new }
+        ensures fed { fed_bytes self.new.endpoint.link ≤ fed_bytes self.old.endpoint.link }
+    {
+        match self.endpoint.next_event() {
+            None => (),
+            Some(
+                Event::Message {
+                    number,
+                    buf,
+                    len,
+                    ..
+                },
+            ) => self.message(number, buf, len),
+            Some(Event::ReadDone) => (),
+        }
+    }
+
+    /// A message, which may make a call.
+    fn message(&mut self, number: u64, buf: Octets, len: usize)
+        requires sound { IsSoundWith 1 self.old }
+        requires live { self.old.endpoint.link.state.ended ≡ None }
+        requires frame { 0 < self.old.endpoint.link.state.place }
+        requires buf { IsReceive send_max buf }
+        requires len { (FIXED_LEN ≤ len) × (len ≤ send_max) }
+        ensures made { Makes (state_of self.old) number (take len buf) (state_of self.new) }
+        ensures sound { IsSound self.new }
+        ensures input { SameInput self.old.endpoint.link self.new.endpoint.link }
+    {
+        let message = stream_of(&buf, len, 0);
+        let xid = word_at(message, 0);
+        let version = word_at(message, 4);
+        match judge(message, self.calls.as_slice()) {
+            Judged::Kind => stop(&mut self.endpoint, REASON_KIND),
+            Judged::Open => stop(&mut self.endpoint, REASON_CALL),
+            Judged::OtherVersion => {
+                let made = version_error(self.alloc, xid, version, self.credits);
+                self.refuse(buf, made);
+            }
+            Judged::BadChunks => {
+                let made = chunk_error(self.alloc, xid, self.credits);
+                self.refuse(buf, made);
+            }
+            Judged::Call { lists, stream_at } => self.begin(number, buf, len, lists, stream_at),
+            Judged::Reads => {
+                let _ = self.endpoint.run_out();
+            }
+        }
+    }
+
+    /// Queues an error message for the message in this receive.
+    fn refuse(&mut self, buf: Octets, made: Result<Octets, Memory>)
+        requires sound { IsSoundWith 1 self.old }
+        requires live { self.old.endpoint.link.state.ended ≡ None }
+        requires buf { IsReceive send_max buf }
+        ensures link { (IfOk made (λ m. self.new.endpoint.link ≡ after_call self.old.endpoint.link (Send m)) × IsOk made) ⊎ (self.new.endpoint.link ≡ after_call self.old.endpoint.link OutOfMemory) }
+        ensures same { (self.new.calls ≡ self.old.calls) × (self.new.ready ≡ self.old.ready) × (self.new.credits ≡ self.old.credits) }
+        ensures sound { IsSound self.new }
+    {
+        self.endpoint.facts();
+        if send_error(&mut self.endpoint, made) {
+            self.used.push_back_reserved(buf);
+        }
+    }
+
+    /// A call whose stream stands in its message: it is ready if that is an RPC call of its xid, else it ends the link.
+    fn begin(&mut self, number: u64, buf: Octets, len: usize, lists: ChunkLists, stream_at: usize)
+        requires sound { IsSoundWith 1 self.old }
+        requires live { self.old.endpoint.link.state.ended ≡ None }
+        requires frame { 0 < self.old.endpoint.link.state.place }
+        requires buf { IsReceive send_max buf }
+        requires len { (FIXED_LEN ≤ len) × (len ≤ send_max) }
+        requires lists { (stream_at ≤ len) × ListsWithin lists }
+        ensures begun { Begins (state_of self.old) (state_of self.new) number (take len buf) lists stream_at }
+        ensures sound { IsSound self.new }
+        ensures input { SameInput self.old.endpoint.link self.new.endpoint.link }
+    {
+        let xid = word_at(stream_of(&buf, len, 0), 0);
+        match call_xid(stream_of(&buf, len, stream_at)) {
+            None => stop(&mut self.endpoint, REASON_HEAD),
+            Some(found) => {
+                if found != xid {
+                    stop(&mut self.endpoint, REASON_XID);
+                    return;
+                }
+                self.push(Pending {
+                    number,
+                    xid,
+                    lists,
+                    buf,
+                    len,
+                    stream_at,
+                });
+            }
+        }
+    }
+
+    /// A call that is ready. There is room for it.
+    fn push(&mut self, call: Pending)
+        requires sound { IsSoundWith 1 self.old }
+        requires call { InBuffer call }
+        ensures pushed { (self.new.calls.items ≡ self.old.calls.items ++ call ∷ []) × (self.new.ready.items ≡ self.old.ready.items ++ call.xid ∷ []) }
+        ensures same { (self.new.endpoint ≡ self.old.endpoint) × (self.new.credits ≡ self.old.credits) }
+        ensures sound { IsSound self.new }
+    {
+        self.endpoint.facts();
+        let xid = call.xid;
+        self.calls.push_reserved(call);
+        self.ready.push_back_reserved(xid);
+    }
+
+    /// Queues the answer to the call at this place, which has this xid and is the first that is ready. An `Err` changes nothing.
+    fn answer_at(&mut self, at: usize, xid: u32, reply: &[u8]) -> Result<Sent, Memory>
+        requires sound { IsSound self.old }
+        requires live { self.old.endpoint.link.state.ended ≡ None }
+        requires at { at < length self.old.calls.items }
+        requires own { (d : Pending) → (get_or self.old.calls.items at d).xid ≡ xid }
+        requires next { 0 < length self.old.ready.items }
+        ensures answers { IfOk result (λ sent. Answers (state_of self.old) (state_of self.new) xid reply.now sent) }
+        ensures err { OnErr result (state_of self.new ≡ state_of self.old) }
+        ensures staging { self.new.endpoint.staging ≡ self.old.endpoint.staging }
+        ensures sound { IsSound self.new }
+    {
+        self.endpoint.facts();
+        let sent = queue_answer(
+            &mut self.endpoint,
+            self.alloc,
+            &self.calls[at],
+            self.credits,
+            reply,
+        )?;
+        let call = self.calls.remove(at);
+        self.used.push_back_reserved(call.buf);
+        let _ = self.ready.pop_front();
+        Ok(sent)
+    }
+
+    /// Queues the answer to the call with this xid, which is the first that is ready. An `Err` changes nothing.
+    pub fn answer(&mut self, xid: u32, reply: &[u8]) -> Result<Sent, Memory>
+        requires sound { IsSound self.old }
+        requires live { self.old.endpoint.link.state.ended ≡ None }
+        requires next { IsNext (state_of self.old) xid }
+        ensures answers { IfOk result (λ sent. Answers (state_of self.old) (state_of self.new) xid reply.now sent) }
+        ensures stands { OnOk result ((opened : LinkParameters) (link : ℕ) (run : List Mark) (moment : Moment) (payload : List ℕ) (place : ℕ) → Stands opened link run (state_of self.old) →
+            IsExecuted opened link run xid payload → Stands opened link (run ++ marks.Execute link xid moment payload place reply.now ∷ []) (state_of self.new)) }
+        ensures err { OnErr result (state_of self.new ≡ state_of self.old) }
+        ensures staging { self.new.endpoint.staging ≡ self.old.endpoint.staging }
+        ensures sound { IsSound self.new }
+    {
+        match place_of(self.calls.as_slice(), xid) {
+            Some(at) => self.answer_at(at, xid, reply),
+            // A call that is ready is pending.
+            None => Err(Memory),
+        }
+    }
+
+    /// How many calls are pending.
+    pub fn unanswered(&self) -> usize
+        ensures exact { result ≡ length self.now.calls.items }
+        ensures of_run { end_of (state_of self.now) ≡ None → (opened : LinkParameters) (link : ℕ) (run : List Mark) → Stands opened link run (state_of self.now) → result ≡ length (server opened link run).state.calls }
+    {
+        self.calls.len()
+    }
+
+    /// How many receives are in use.
+    pub fn in_use(&self) -> usize
+        requires sound { IsSound self.now }
+        ensures of_run { end_of (state_of self.now) ≡ None → (opened : LinkParameters) (link : ℕ) (run : List Mark) → Stands opened link run (state_of self.now) → result ≡ receives_in_use (server opened link run).state }
+        ensures exact { result ≡ length self.now.calls.items + (unsent self.now.endpoint.link.state + one_if (is_begun self.now.endpoint.link.state.receive_queue.received.begun)) }
+    {
+        self.endpoint.facts();
+        let begun = one_if(self.endpoint.is_send_begun());
+        self.calls.len() + self.used.len() + begun
+    }
+
+    /// Hands the output to a sink, in order, and posts the receives of the answers that left.
+    pub fn drain_into<K: Sink>(&mut self, sink: &mut K) -> Result<(), DrainFault>
+        requires sound { IsSound self.old }
+        ensures taken { (n : ℕ) × (Drains (state_of self.old) (state_of self.new) (K.taken sink.old) (K.taken sink.new) n × OnOk result (n ≡ length (may_write (state_of self.old)))) }
+        ensures counted { MatchResult result
+            (λ _. K.faults sink.new ≡ K.faults sink.old) (λ e. (e ≡ drains.LinkWrite) × Rises (K.faults sink.old) (K.faults sink.new)) }
+        ensures never_falls { K.faults sink.old ≤ K.faults sink.new }
+        ensures sound { IsSound self.new }
+        ensures staging { self.new.endpoint.staging ≡ self.old.endpoint.staging }
+    {
+        let result = self.endpoint.drain_into(sink);
+        let left = self.endpoint.sends_waiting();
+        post_until(&mut self.endpoint, &mut self.used, left);
+        result
+    }
+}
