@@ -7,6 +7,11 @@ use Rattle.nr_link.specs.Output.{write}
 use Rattle.nr_endpoint.specs.declared.framing.RemoteWrite.{RemoteWrite}
 use Rattle.nr_endpoint.specs.Offering.{FitsRegion, writes_output}
 use Rattle.nr_header.specs.declared.header.ChunkLists.{ChunkLists}
+use Rattle.std.specs.Prelude.{Option, Some}
+use Rattle.std.specs.Option.{option_map}
+use Rattle.nr_reduce.specs.declared.holding.Answer.{Answer as HeldAnswer}
+use Rattle.nr_reduce.specs.CodeViews.{answer_view}
+use Rattle.nr_responder.specs.Answering.{writes_for}
 use Rattle.nr_reduce.specs.Holds.{Answer, answer_writes, first_chunk, no_segments, writes_into}
 
 pub output_push : (ws : List RemoteWrite) (w : RemoteWrite) → writes_output (ws ++ w ∷ []) ≡ writes_output ws ++ write w.stag w.to w.bytes.now
@@ -45,3 +50,7 @@ unfolding answer_writes
 answer_long offer a before between out none long first is =
     is ∙ ap (λ (bytes : List ℕ). bytes ++ writes_into (no_segments offer.reply) a.stream) (first ∙ ap (λ (bytes : List ℕ). bytes ++ writes_into (first_chunk offer.write) a.moved) none)
     ∙ ap (λ (b : Bool). writes_into (first_chunk offer.write) a.moved ++ cond b (writes_into (no_segments offer.reply) a.stream) []) (sym long)
+
+-- the RDMA Writes of an answer that is there
+pub writes_is : (offer : ChunkLists) (o : Option HeldAnswer) (a : HeldAnswer) (out : List ℕ) → o ≡ Some a → out ≡ answer_writes offer (answer_view a) → out ≡ writes_for offer (option_map answer_view o)
+writes_is offer o a out some is = is ∙ ap (λ (x : Option HeldAnswer). writes_for offer (option_map answer_view x)) (sym some)

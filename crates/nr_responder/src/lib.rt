@@ -9,7 +9,7 @@
 //! was placed ([`Responder::payload`]). [`Responder::answer`] queues RDMA Writes and one Send, or ERR_CHUNK, or changes nothing; and
 //! [`Responder::drain_into`] posts the receive of each answer that has left.
 //!
-//! Calls with a read chunk are not supported yet: the Send of one ends the side as out of memory does.
+//! Calls with a read list are not supported yet: the Send of one ends the side as out of memory does.
 //!
 //! A responder keeps neither marks nor bytes of the past. Each call says, for every list of marks that the value stood for, what it
 //! answers, and that the value stands for that list with the marks of the call.

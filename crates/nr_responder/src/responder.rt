@@ -68,7 +68,7 @@ impl Responder {
 
     /// Takes a piece of the client's stream. `Err` if and only if the side has ended, with why; a side that has ended takes no more.
     /// `End::Memory`: memory ran out at a frame, which the piece completed, for output of the server's own; the side ended as it was
-    /// before that frame, and what was queued until then is still written. Calls with a read chunk aren't supported yet: the Send of one
+    /// before that frame, and what was queued until then is still written. Calls with a read list are not supported yet: the Send of one
     /// ends the side so.
     pub fn feed(&mut self, piece: &[u8]) -> Result<(), End>
         requires { fed_bytes self.old.side.link + length piece.now ≤ 2 ^ 62 }

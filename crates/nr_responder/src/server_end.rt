@@ -432,6 +432,13 @@ impl ServerEnd {
         ensures of_run { end_of (state_of self.now) ≡ None → (opened : LinkParameters) (link : ℕ) (run : List Mark) → Stands opened link run (state_of self.now) → result ≡ receives_in_use (server opened link run).state }
         ensures exact { result ≡ length self.now.calls.items + (unsent self.now.endpoint.link.state + one_if (is_begun self.now.endpoint.link.state.receive_queue.received.begun)) }
     {
+        self.in_use_inner()
+    }
+
+    fn in_use_inner(&self) -> usize
+        requires sound { IsSound self.now }
+        ensures { result ≡ length self.now.calls.items + (unsent self.now.endpoint.link.state + one_if (is_begun self.now.endpoint.link.state.receive_queue.received.begun)) }
+    {
         self.endpoint.facts();
         let begun = one_if(self.endpoint.is_send_begun());
         self.calls.len() + self.used.len() + begun
