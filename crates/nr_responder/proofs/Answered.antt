@@ -1,10 +1,10 @@
 -- A responder that answers a call goes on by the execution of that call.
-use Rattle.std.proofs.Common.{◌≡◌, ◌≢◌, ℕ, zero, suc, ◌+◌, ◌<◌, ◌≤◌, Bool, true, false, not, ◌||◌, eqb, cond, List, [], ◌∷◌, ◌++◌, length, take, drop, get_or, Option, Some, None, refl, sym, ap, subst, ◌∙◌, arith, inl, inr, is_some}
-use Rattle.std.specs.Prelude.{◌⊎◌, map, slice_get}
-use Rattle.std.specs.List.{AllByRecursion, list_any, filter, find, remove}
+use Rattle.std.proofs.Common.{◌≡◌, ◌≢◌, ℕ, zero, suc, ◌+◌, ◌<◌, Bool, true, false, not, ◌||◌, eqb, cond, List, [], ◌∷◌, ◌++◌, length, drop, get_or, Option, Some, None, refl, sym, ap, subst, ◌∙◌, arith, inl, is_some}
+use Rattle.std.specs.Prelude.{map, slice_get}
+use Rattle.std.specs.List.{AllByRecursion, list_any, find, remove}
 use Rattle.std.proofs.lemmas.List.{append-nil}
 use Rattle.nr_responder.proofs.Fed.{not_ended_lem}
-use Rattle.std.proofs.lemmas.Bool.{eqb-true, eqb-false, eq-eqb, ne_eqb}
+use Rattle.std.proofs.lemmas.Bool.{eqb-true, eq-eqb, ne_eqb}
 use Rattle.nr_header.specs.declared.header.ChunkLists.{ChunkLists}
 use Rattle.nr_rpc.specs.Reading.{call_of, target_of}
 use Rattle.nr_link.specs.declared.end.End.{End}
@@ -12,7 +12,7 @@ use Rattle.nr_link.specs.Input.{InputState}
 use Rattle.nr_link.specs.Limits.{send_max}
 use Rattle.nr_link.specs.Output.{send}
 use Rattle.nr_endpoint.specs.declared.framing.RemoteWrite.{RemoteWrite}
-use Rattle.nr_endpoint.specs.LinkState.{LinkState, LinkSide}
+use Rattle.nr_endpoint.specs.LinkState.{LinkSide}
 use Rattle.nr_endpoint.specs.Calls.{after_calls}
 use Rattle.nr_endpoint.specs.Offering.{answer_calls, writes_output, after_answer}
 use Rattle.nr_endpoint.proofs.WholeCalls.{answered_state}
@@ -22,11 +22,11 @@ use Rattle.nr_reduce.specs.declared.mark.Mark.TheVariants as marks
 use Rattle.nr_outside.specs.declared.moment.Moment.{Moment}
 use Rattle.nr_reduce.specs.History.{ExecutedCall}
 use Rattle.nr_reduce.specs.Events.RunEvent.{CallExecuted}
-use Rattle.nr_reduce.specs.EndRules.{EndState, live, next_end_state_in, output_for_in, end_state_after, output_for_all}
+use Rattle.nr_reduce.specs.EndRules.{EndState, live, next_end_state_in, output_for_in}
 use Rattle.nr_reduce.specs.Holds.{Answer}
 use Rattle.nr_reduce.specs.Server.{server_rules, server_end, server_output, server_state_after, execution_output, offer_by, offer_of, answer_of_target, answer_output}
 use Rattle.nr_reduce.specs.Served.{first_ready, next_call, IsExecuted}
-use Rattle.nr_responder.specs.Keeping.{IsReadyOf, IsServer, Begins, LinkKeeps, Keeps, KeepsEnd}
+use Rattle.nr_responder.specs.Keeping.{IsReadyOf, Begins, Keeps, KeepsEnd}
 use Rattle.nr_responder.specs.Keeping.Begins.{BeforeHello, AfterHello}
 use Rattle.nr_responder.specs.Standing.{RepresentsServer, Stands}
 use Rattle.nr_responder.specs.declared.call.Sent.{Sent}
@@ -37,7 +37,7 @@ use Rattle.nr_responder.specs.Answering.{Answers, answer_to, message_for, writes
 use Rattle.nr_responder.proofs.Executed.{executed, with_answer, answered_keeps, answered_server}
 use Rattle.nr_responder.proofs.Queues.{answered_queue}
 use Rattle.nr_responder.proofs.Marks.{executed_stands, represents}
-use Rattle.nr_responder.proofs.NextCalls.{next_is_lem, next_of}
+use Rattle.nr_responder.proofs.NextCalls.{next_is_lem}
 use Rattle.nr_responder.specs.ResponderState.{queue, end_of}
 use Rattle.nr_reduce.specs.ServerState.{PendingCall, ReadyCall, ServerState}
 use Rattle.nr_responder.specs.ResponderState.{ResponderSide}

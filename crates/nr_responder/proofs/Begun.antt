@@ -1,5 +1,5 @@
 -- A message with a call whose stream stands in it: what the code did is what is said of it.
-use Rattle.std.proofs.Common.{◌≡◌, ◌≢◌, ℕ, List, [], ◌∷◌, ◌++◌, length, map, Option, Some, None, Result, Ok, Err, refl, sym, ap, ◌∙◌, ◌≤◌, arith, inl, inr}
+use Rattle.std.proofs.Common.{◌≡◌, ℕ, List, [], ◌∷◌, ◌++◌, length, map, Some, None, Result, Ok, Err, refl, ap, ◌∙◌, ◌≤◌, arith, inl, inr}
 use Rattle.std.specs.Prelude.{◌⊎◌}
 use Rattle.nr_xdr.specs.Fields.{word_at}
 use Rattle.nr_rpc.specs.declared.head.CallHead.{CallHead}

@@ -1,5 +1,5 @@
 -- What a responder counts is what the server of a run does.
-use Rattle.std.proofs.Common.{◌≡◌, ℕ, ◌+◌, List, [], ◌∷◌, ◌++◌, length, Option, None, Ok, Err, sym, ap, ◌∙◌, arith}
+use Rattle.std.proofs.Common.{◌≡◌, ℕ, ◌+◌, List, [], ◌∷◌, ◌++◌, length, None, Ok, Err, ap, ◌∙◌, arith}
 use Rattle.std.specs.Prelude.{Result, IfOk, OnOk}
 use Rattle.nr_link.specs.SegmentFaults.{is_begun}
 use Rattle.nr_outside.specs.declared.moment.Moment.{Moment}

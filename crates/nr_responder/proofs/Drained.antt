@@ -1,25 +1,23 @@
 -- A responder whose output was handed on, some or all of it, and whose receives are posted again for the answers that left.
-use Rattle.std.proofs.Common.{◌≡◌, ◌≢◌, ℕ, zero, suc, ◌+◌, ◌-◌, ◌<◌, ◌≤◌, Bool, true, false, cond, List, [], ◌∷◌, ◌++◌, length, take, drop, Option, Some, None, refl, sym, ap, subst, ◌∙◌, arith, inl, inr, is_some, length-append, append_assoc}
-use Rattle.std.specs.Prelude.{◌⊎◌}
-use Rattle.std.proofs.lemmas.List.{append-nil, drop_all, length-take, take_at, take_all, take-append-drop}
+use Rattle.std.proofs.Common.{◌≡◌, ℕ, zero, suc, ◌-◌, ◌≤◌, Bool, true, false, List, [], ◌∷◌, ◌++◌, length, take, drop, Option, Some, None, refl, sym, ap, subst, ◌∙◌, arith, inl, inr, is_some, length-append, append_assoc}
+use Rattle.std.proofs.lemmas.List.{append-nil, drop_all, length-take, take-append-drop}
 use Rattle.nr_wire.specs.declared.hello.Side.TheVariants.{Responder}
 use Rattle.nr_link.specs.declared.end.End.{End}
-use Rattle.nr_link.specs.declared.end.End.TheVariants as ends
 use Rattle.nr_link.specs.Input.{InputState}
 use Rattle.nr_endpoint.specs.SendQueue.{SendQueue, writable, written, output_len}
-use Rattle.nr_endpoint.specs.LinkState.{LinkState, LinkSide}
+use Rattle.nr_endpoint.specs.LinkState.{LinkSide}
 use Rattle.nr_endpoint.specs.Calls.{after_call}
 use Rattle.nr_endpoint.specs.Calls.Call.{Drain}
 use Rattle.nr_reduce.specs.declared.mark.Mark.{Mark}
 use Rattle.nr_reduce.specs.declared.mark.Mark.TheVariants as marks
 use Rattle.nr_reduce.specs.declared.mark.LinkParameters.{LinkParameters}
 use Rattle.nr_reduce.specs.Events.RunEvent.{QueueWritten}
-use Rattle.nr_reduce.specs.EndRules.{EndState, live, next_end_state_by, next_end_state_in, output_for_by, output_for_in, end_state_after, output_for_all}
+use Rattle.nr_reduce.specs.EndRules.{EndState, live, next_end_state_in, output_for_in, end_state_after}
 use Rattle.nr_reduce.specs.ServerState.{ServerState}
 use Rattle.nr_reduce.specs.Server.{server_rules, server_end, server_output, server_state_after}
-use Rattle.nr_reduce.proofs.Standing.{server_stays_out_lem, itself}
-use Rattle.nr_responder.specs.ResponderState.{ResponderSide, queue, queued_bytes, may_write, posted_times, unsent, drained_posted, left_by, after_drain}
-use Rattle.nr_responder.specs.Keeping.{IsServer, Begins, LinkKeeps, Keeps, KeepsEnd}
+use Rattle.nr_reduce.proofs.Standing.{server_stays_out_lem}
+use Rattle.nr_responder.specs.ResponderState.{ResponderSide, queue, queued_bytes, may_write, posted_times, drained_posted, left_by, after_drain}
+use Rattle.nr_responder.specs.Keeping.{Begins, Keeps, KeepsEnd}
 use Rattle.nr_responder.specs.Keeping.Begins.{BeforeHello, AfterHello}
 use Rattle.nr_responder.specs.Standing.{Stands}
 use Rattle.nr_responder.proofs.Executed.{drained, drained_keeps, drained_server}

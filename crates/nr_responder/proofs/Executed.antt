@@ -1,8 +1,7 @@
 -- What a responder keeps after a call was answered, and after its queue was written.
-use Rattle.std.proofs.Common.{◌≡◌, ◌≢◌, ℕ, ◌+◌, ◌-◌, ◌<◌, ◌≤◌, Bool, true, false, not, ◌&&◌, ◌||◌, eqb, cond, min, List, [], ◌∷◌, ◌++◌, length, take, drop, Option, Some, None, refl, sym, ap, subst, ◌∙◌, arith, length-append, is_some}
+use Rattle.std.proofs.Common.{◌≡◌, ◌≢◌, ℕ, ◌+◌, ◌-◌, ◌≤◌, Bool, true, false, not, ◌||◌, eqb, cond, List, [], ◌∷◌, ◌++◌, length, drop, Some, refl, sym, ap, subst, ◌∙◌, arith, length-append, is_some}
 use Rattle.std.specs.List.{AllByRecursion, list_any, filter}
-use Rattle.std.proofs.lemmas.List.{append-nil, drop_all}
-use Rattle.std.proofs.lemmas.Bool.{eqb-true, eqb-false, eq-eqb, ne_eqb}
+use Rattle.std.proofs.lemmas.Bool.{eqb-true, eqb-false}
 use Rattle.nr_link.specs.Output.{send}
 use Rattle.nr_endpoint.specs.SendQueue.{SendQueue, output_len, send_output, with_fpdus, with_send, written}
 use Rattle.nr_endpoint.specs.LinkState.{LinkState}

@@ -1,6 +1,5 @@
 -- A responder after one step on a piece.
-use Rattle.std.proofs.Common.{◌≡◌, ◌≢◌, ℕ, ◌+◌, ◌-◌, ◌<◌, ◌≤◌, Bool, true, false, cond, List, [], ◌∷◌, ◌++◌, length, take, drop, map, Option, Some, None, refl, sym, ap, subst, ◌∙◌, arith, inl, inr, is_some}
-use Rattle.std.specs.Prelude.{◌⊎◌}
+use Rattle.std.proofs.Common.{◌≡◌, ℕ, ◌+◌, ◌<◌, Bool, true, false, List, [], ◌∷◌, ◌++◌, length, take, drop, map, Option, Some, None, refl, sym, ap, subst, ◌∙◌, arith, inl, inr, is_some}
 use Rattle.std.proofs.lemmas.List.{append-nil, take_all, take-append-drop}
 use Rattle.nr_wire.specs.declared.stream.Awaited.{Awaited}
 use Rattle.nr_wire.specs.declared.stream.Awaited.TheVariants.{Hello as HelloFrom, Fpdu}
@@ -10,8 +9,8 @@ use Rattle.nr_wire.proofs.Frames.{partial_not_whole}
 use Rattle.std.proofs.Math.Seq.{take-nil}
 use Rattle.nr_wire.proofs.Feedings.{feeding_after_step-whole, feeding_after_step-partial, bytes_taken_partial}
 use Rattle.nr_link.specs.declared.end.End.{End}
-use Rattle.nr_link.specs.Input.{InputState, input_frames, input_after}
-use Rattle.nr_endpoint.specs.LinkState.{LinkState, LinkSide, has_ended}
+use Rattle.nr_link.specs.Input.{InputState, input_after}
+use Rattle.nr_endpoint.specs.LinkState.{LinkSide, has_ended}
 use Rattle.nr_endpoint.specs.Judging.{next_frame, with_frame}
 use Rattle.nr_endpoint.specs.Calls.{after_call}
 use Rattle.nr_endpoint.specs.Calls.Call.{FeedOne}

@@ -1,16 +1,14 @@
 -- Why a frame ends a responder's side of the link is why it ends the server of a run.
-use Rattle.std.proofs.Common.{◌≡◌, ℕ, ◌+◌, ◌-◌, ◌<◌, ◌≤◌, Bool, true, false, not, ◌&&◌, eqb, ltb, cond, List, [], ◌∷◌, ◌++◌, length, take, replicate, Option, Some, None, Result, Ok, Err, refl, sym, ap, ◌∙◌, arith, inl, inr, length-append}
+use Rattle.std.proofs.Common.{◌≡◌, ℕ, ◌+◌, ◌<◌, ltb, List, [], ◌∷◌, length, take, Option, Result, Ok, Err, refl, sym, ap, ◌∙◌, arith, inl, inr}
 use Rattle.std.specs.List.{filter}
 use Rattle.std.proofs.lemmas.Bool.{cases_lt, lt-ltb, le-ltb}
-use Rattle.nr_wire.specs.declared.stream.Awaited.TheVariants.{Hello as HelloFrom, Fpdu}
+use Rattle.nr_wire.specs.declared.stream.Awaited.TheVariants.{Fpdu}
 use Rattle.nr_wire.specs.Segment.{Segment}
-use Rattle.nr_wire.specs.Segment.Segment.{Tagged, Untagged}
 use Rattle.nr_regions.specs.declared.denied.Denied.{Denied}
 use Rattle.nr_regions.specs.RegisteredMemory.{Access}
 use Rattle.nr_regions.specs.Access.{Grant}
-use Rattle.nr_link.specs.declared.end.End.{End}
 use Rattle.nr_link.specs.Frames.{Frame}
-use Rattle.nr_link.specs.SegmentFaults.{ExpectedResponse, Readiness, SegmentReason, segment_reason, is_begun}
+use Rattle.nr_link.specs.SegmentFaults.{Readiness, SegmentReason, segment_reason, is_begun}
 use Rattle.nr_link.specs.Ending.{end_of_fault, frame_end, frame_end_by, frame_segment, missing_access}
 use Rattle.nr_link.specs.KeptSends.{received_within}
 use Rattle.nr_link.proofs.BegunSends.{judged_alike}

@@ -1,8 +1,7 @@
 -- A frame that ends a responder for the rules of the link, and the client's hello.
-use Rattle.std.proofs.Common.{◌≡◌, ◌≢◌, ℕ, ◌+◌, ◌-◌, ◌<◌, ◌≤◌, Bool, true, false, not, eqb, cond, List, [], ◌∷◌, ◌++◌, length, Option, Some, None, Result, Ok, Err, refl, sym, ap, subst, ◌∙◌, arith, inl, inr, is_some}
-use Rattle.std.specs.Prelude.{IfSome, ◌⊎◌}
+use Rattle.std.proofs.Common.{◌≡◌, ◌≢◌, ℕ, ◌+◌, ◌<◌, ◌≤◌, Bool, true, false, eqb, cond, List, [], ◌++◌, length, Option, Some, None, Result, Ok, Err, sym, ap, subst, ◌∙◌, arith, inl, inr, is_some}
+use Rattle.std.specs.Prelude.{IfSome}
 use Rattle.std.proofs.lemmas.Bool.{ne_eqb, eq-eqb}
-use Rattle.std.proofs.lemmas.List.{append-nil}
 use Rattle.nr_wire.specs.declared.hello.Side.{Side}
 use Rattle.nr_wire.specs.declared.hello.Side.TheVariants.{Initiator, Responder}
 use Rattle.nr_wire.specs.declared.stream.Awaited.{Awaited}
@@ -12,28 +11,28 @@ use Rattle.nr_wire.specs.Hello.{Hello, hello_of}
 use Rattle.nr_wire.specs.Segment.{Segment, segment_of}
 use Rattle.nr_link.specs.declared.end.End.{End}
 use Rattle.nr_link.specs.declared.end.End.TheVariants as ends
-use Rattle.nr_link.specs.Frames.{Frame, is_hello}
+use Rattle.nr_link.specs.Frames.{Frame}
 use Rattle.nr_link.specs.Input.{InputState}
 use Rattle.nr_link.specs.Output.{own_hello}
 use Rattle.nr_link.specs.Ending.{frame_end, hello_end, last_output}
-use Rattle.nr_endpoint.specs.SendQueue.{SendQueue, with_end, with_hello}
+use Rattle.nr_endpoint.specs.SendQueue.{with_end, with_hello}
 use Rattle.nr_endpoint.specs.LinkState.{LinkState, LinkSide}
-use Rattle.nr_endpoint.specs.Judging.{segment_end, next_frame, with_frame, with_fpdu, with_peer_hello, with_segment_by, with_effect, with_end_of, after_frame, reply_hello}
-use Rattle.nr_endpoint.specs.Laws.{KeepsInput, IsFrameEnd, IsFrameReason}
+use Rattle.nr_endpoint.specs.Judging.{segment_end, next_frame, with_frame, with_fpdu, with_peer_hello, with_segment_by, with_end_of, reply_hello}
+use Rattle.nr_endpoint.specs.Laws.{IsFrameEnd, IsFrameReason}
 use Rattle.nr_endpoint.proofs.EndLaws.{effect_ended, frames_end_for_these}
 use Rattle.nr_reduce.specs.declared.mark.LinkParameters.{LinkParameters}
 use Rattle.nr_reduce.specs.OfferedRegions.{region_grants}
 use Rattle.nr_reduce.specs.Events.RunEvent.{FrameReceived}
 use Rattle.nr_reduce.specs.EndRules.{EndState, live, next_end_state, next_end_state_by, output_for, output_for_by}
 use Rattle.nr_reduce.specs.ServerState.{ServerState}
-use Rattle.nr_reduce.specs.Server.{server_rules, server_end, server_output, server_state_after, with_own_hello, or_refusal, readiness}
+use Rattle.nr_reduce.specs.Server.{server_rules, server_end, with_own_hello, or_refusal, readiness}
 use Rattle.nr_reduce.proofs.MemorySteps.{holds_later, received_later, offered_later}
 use Rattle.nr_responder.specs.ResponderState.{ResponderSide, queue, queued_bytes}
 use Rattle.nr_responder.specs.Keeping.{IsServer, Begins, LinkKeeps, QueueKeeps, Keeps, KeepsEnd}
 use Rattle.nr_responder.specs.Keeping.Begins.{BeforeHello, AfterHello}
 use Rattle.nr_responder.specs.Handling.{on_link}
 use Rattle.nr_responder.proofs.FrameEnds.{frame_ends}
-use Rattle.nr_responder.proofs.Queues.{last_queue, hello_queue, greeted_has}
+use Rattle.nr_responder.proofs.Queues.{last_queue, greeted_has}
 
 -- ---- What is to show of a frame
 

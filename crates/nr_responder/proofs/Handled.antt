@@ -1,5 +1,5 @@
 -- What the code made of a message is what is said of it, and what a step leaves of the link.
-use Rattle.std.proofs.Common.{◌≡◌, ◌≢◌, ℕ, ◌+◌, ◌-◌, ◌<◌, ◌≤◌, Bool, true, false, cond, eqb, List, [], ◌∷◌, ◌++◌, length, drop, take, Option, Some, None, Result, Ok, Err, refl, sym, ap, subst, ◌∙◌, arith, inl, inr, is_some, length-append}
+use Rattle.std.proofs.Common.{◌≡◌, ℕ, ◌+◌, ◌≤◌, Bool, true, false, cond, eqb, List, [], ◌++◌, length, drop, take, Option, Some, None, Result, Ok, Err, refl, sym, ap, subst, ◌∙◌, arith, inl, inr, length-append}
 use Rattle.std.specs.Prelude.{◌⊎◌}
 use Rattle.std.proofs.lemmas.List.{length-take}
 use Rattle.nr_wire.specs.declared.stream.Awaited.{Awaited}
@@ -7,19 +7,17 @@ use Rattle.nr_wire.specs.declared.stream.Awaited.TheVariants.{Hello as HelloFrom
 use Rattle.nr_wire.specs.Hello.{Hello, hello_of}
 use Rattle.nr_wire.specs.Segment.{Segment, segment_of}
 use Rattle.nr_wire.specs.Segment.Segment.{Tagged, Untagged}
-use Rattle.nr_wire.specs.Stream.{is_whole, frame_len, IsPartial}
+use Rattle.nr_wire.specs.Stream.{IsPartial}
 use Rattle.nr_wire.specs.Feeding.{bytes_taken}
-use Rattle.nr_wire.proofs.Frames.{partial_nil, partial_from}
 use Rattle.nr_wire.proofs.Feedings.{bytes_taken_partial}
 use Rattle.nr_header.specs.declared.header.ChunkLists.{ChunkLists}
 use Rattle.nr_xdr.specs.Fields.{word_at}
 use Rattle.nr_link.specs.declared.end.End.{End}
-use Rattle.nr_link.specs.declared.end.End.TheVariants as ends
 use Rattle.nr_link.specs.Frames.{Frame}
 use Rattle.nr_link.specs.Reasons.{REASON_HEAD, REASON_XID}
 use Rattle.nr_link.specs.ReceiveState.{ReadRequest, read_request_of}
 use Rattle.nr_regions.specs.RegisteredMemory.{RegisteredMemory, after_place}
-use Rattle.nr_endpoint.specs.ReceiveQueue.{ReceiveQueue, delivered, with_segment}
+use Rattle.nr_endpoint.specs.ReceiveQueue.{with_segment}
 use Rattle.nr_endpoint.specs.SendQueue.{SendQueue, with_end}
 use Rattle.nr_endpoint.specs.LinkState.{LinkState, LinkSide}
 use Rattle.nr_endpoint.specs.Judging.{segment_end, next_frame, with_frame, with_fpdu, with_segment_by, with_effect, with_peer_hello, with_read_response, with_read_request}
@@ -33,7 +31,7 @@ use Rattle.nr_reduce.specs.ServerMessages.{verdict}
 use Rattle.nr_reduce.specs.ServerMessages.Verdict.{MakesPending}
 use Rattle.nr_reduce.specs.ServerFrames.{by_message}
 use Rattle.nr_reduce.specs.Holds.{chunk_error, version_error}
-use Rattle.nr_responder.specs.ResponderState.{ResponderSide, end_of}
+use Rattle.nr_responder.specs.ResponderState.{ResponderSide}
 use Rattle.nr_responder.specs.Handling.{Handled, IsServerOf, MessageTakes, Begins, Makes, OrOut, begun_call, inline_call, refused_effect, on_link, out, with_ready}
 use Rattle.nr_responder.specs.Handling.Handled.{Stopped, Refused, Ready}
 use Rattle.nr_responder.specs.Handling.MessageTakes.{EndsFor, ErrorFor}

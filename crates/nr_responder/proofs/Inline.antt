@@ -1,5 +1,5 @@
 -- No call that is pending has a read chunk: so an FPDU that doesn't end the side is a segment of a Send.
-use Rattle.std.proofs.Common.{◌≡◌, ◌≢◌, ℕ, ◌+◌, Bool, true, false, eqb, ltb, cond, List, [], length, Option, Some, None, Result, Ok, Err, refl, sym, ap, subst, ◌∙◌, arith}
+use Rattle.std.proofs.Common.{◌≡◌, ◌≢◌, ℕ, Bool, true, false, eqb, List, length, Option, Some, None, Result, Ok, Err, refl, sym, ap, subst, ◌∙◌}
 use Rattle.std.proofs.lemmas.Bool.{eqb-true, eqb-false}
 use Rattle.nr_wire.specs.declared.stream.Awaited.TheVariants.{Fpdu}
 use Rattle.nr_wire.specs.Constants.{OPCODE_SEND, OPCODE_READ_REQUEST}
@@ -7,19 +7,18 @@ use Rattle.nr_wire.specs.Segment.{Segment, segment_of}
 use Rattle.nr_wire.specs.Segment.Segment.{Tagged, Untagged}
 use Rattle.nr_regions.specs.declared.denied.Denied.{Denied}
 use Rattle.nr_regions.specs.declared.denied.Denied.TheVariants.{NoStag}
-use Rattle.nr_regions.specs.RegisteredMemory.{Region as HeldRegion, RegisteredMemory, Access, denial, denial_in, region_offer, live_region, right_for}
+use Rattle.nr_regions.specs.RegisteredMemory.{Region as HeldRegion, Access, denial, denial_in, region_offer, live_region, right_for}
 use Rattle.nr_link.specs.declared.end.End.{End}
-use Rattle.nr_link.specs.declared.end.End.TheVariants as ends
 use Rattle.nr_link.specs.Frames.{Frame}
 use Rattle.nr_link.specs.ReceiveState.{read_request_in}
 use Rattle.nr_link.specs.Ending.{kind_of}
 use Rattle.nr_endpoint.specs.LinkState.{LinkState}
 use Rattle.nr_endpoint.specs.Judging.{segment_end, next_frame, with_frame, with_fpdu, fetch_access}
-use Rattle.nr_endpoint.specs.SegmentEnds.{denied_if, bad_if, tagged_end, RequestIsFine}
+use Rattle.nr_endpoint.specs.SegmentEnds.{denied_if, tagged_end, RequestIsFine}
 use Rattle.nr_endpoint.proofs.Alive.{alive_tagged, alive_request, alive_send}
 use Rattle.nr_reduce.specs.declared.mark.LinkParameters.{LinkParameters}
 use Rattle.nr_reduce.specs.OfferedRegions.{Region, region_grants}
-use Rattle.nr_reduce.specs.OfferedMemory.{HoldsRegions, registered_region, region_at}
+use Rattle.nr_reduce.specs.OfferedMemory.{registered_region, region_at}
 use Rattle.nr_reduce.specs.ServerState.{ServerState}
 use Rattle.nr_responder.specs.Keeping.{IsServer, LinkKeeps}
 use Rattle.nr_responder.proofs.SendFrames.{frame_lives}

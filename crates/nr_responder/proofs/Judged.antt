@@ -1,5 +1,5 @@
 -- The verdict on a message, one question after the other.
-use Rattle.std.proofs.Common.{◌≡◌, ◌≢◌, ℕ, ◌+◌, ◌<◌, ◌≤◌, Bool, true, false, not, ◌||◌, eqb, ltb, cond, List, [], ◌∷◌, length, drop, map, Option, Some, None, Result, Ok, Err, refl, sym, ap, subst, ◌∙◌, arith, inl, inr}
+use Rattle.std.proofs.Common.{◌≡◌, ◌≢◌, ℕ, ◌+◌, ◌≤◌, Bool, true, false, not, ◌||◌, eqb, cond, List, [], ◌∷◌, length, drop, map, Option, Some, None, Result, Ok, Err, refl, sym, ap, subst, ◌∙◌, arith, inl, inr}
 use Rattle.std.specs.Prelude.{nat_lt, ◌⊎◌}
 use Rattle.std.specs.List.{list_any, filter}
 use Rattle.std.proofs.lemmas.Bool.{ne_eqb, eq-eqb, le-ltb}
@@ -10,7 +10,7 @@ use Rattle.nr_header.specs.declared.header.RdmaSegment.{RdmaSegment}
 use Rattle.nr_header.specs.declared.header.ReadSegment.{ReadSegment}
 use Rattle.nr_header.specs.declared.header.ChunkLists.{ChunkLists}
 use Rattle.nr_header.specs.declared.header.Body.{Body}
-use Rattle.nr_header.specs.declared.header.Body.TheVariants.{Msg, Nomsg, ErrVers, ErrChunk}
+use Rattle.nr_header.specs.declared.header.Body.TheVariants.{Msg, Nomsg}
 use Rattle.nr_header.specs.declared.header.Header.{Header}
 use Rattle.nr_header.specs.WithinLimits.{CanRead, StreamWithin, stream_after}
 use Rattle.nr_header.specs.Reading.{header_of, header_by, body_by, error_by}
@@ -32,7 +32,7 @@ use Rattle.nr_responder.proofs.ServerSteps.{inline_message_lem, pending_effect}
 use Rattle.nr_responder.specs.declared.call.Pending.{Pending}
 use Rattle.nr_responder.specs.declared.judging.Judged.{Judged}
 use Rattle.nr_responder.specs.declared.judging.Judged.TheVariants as judged
-use Rattle.nr_responder.specs.Views.{call_view, IsCall, IsOfReads, HasStream, Judges, JudgesBody}
+use Rattle.nr_responder.specs.Views.{call_view, IsOfReads, HasStream, Judges, JudgesBody}
 use Rattle.nr_responder.specs.Views.IsOfReads.{Refused, Spent, Reads}
 
 pub verdict_version : (k : ServerState) (m : List ℕ) → word_at 4 m ≢ 1 → verdict k m ≡ OtherVersion

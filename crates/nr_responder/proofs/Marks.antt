@@ -1,32 +1,28 @@
 -- A responder stands for one mark more, where it goes on by the events of that mark.
-use Rattle.std.proofs.Common.{◌≡◌, ◌≢◌, ℕ, ◌+◌, Bool, true, false, ◌&&◌, eqb, cond, List, [], ◌∷◌, ◌++◌, length, take, drop, Option, Some, None, refl, sym, ap, subst, ◌∙◌, arith, inl, inr, is_some, append_assoc}
-use Rattle.std.specs.Prelude.{map, ◌⊎◌}
+use Rattle.std.proofs.Common.{◌≡◌, ℕ, Bool, true, ◌&&◌, eqb, cond, List, [], ◌∷◌, ◌++◌, length, take, drop, Option, Some, None, refl, sym, ap, subst, ◌∙◌, inl, inr, is_some, append_assoc}
 use Rattle.std.proofs.lemmas.List.{append-nil, take-append-drop}
 use Rattle.nr_wire.specs.declared.hello.Side.TheVariants.{Initiator, Responder}
-use Rattle.nr_link.specs.Input.{InputState, input_of, input_frames, input_after, initial_input}
-use Rattle.nr_link.specs.Frames.{Frame}
+use Rattle.nr_link.specs.Input.{InputState, input_of, input_after}
 use Rattle.nr_link.proofs.Inputs.{input_of_append}
-use Rattle.nr_endpoint.specs.LinkState.{LinkSide, initial_link}
-use Rattle.nr_endpoint.specs.ReceiveQueue.{initial_receives}
 use Rattle.nr_reduce.specs.declared.mark.Mark.{Mark}
 use Rattle.nr_reduce.specs.declared.mark.Mark.TheVariants as marks
 use Rattle.nr_outside.specs.declared.moment.Moment.{Moment}
 use Rattle.nr_reduce.specs.declared.mark.LinkParameters.{LinkParameters}
 use Rattle.nr_reduce.specs.History.{ExecutedCall, bytes_received, written_at, fed_at}
 use Rattle.nr_reduce.specs.Events.{RunEvent, if_own}
-use Rattle.nr_reduce.specs.Events.RunEvent.{FrameReceived, CallExecuted, QueueWritten}
+use Rattle.nr_reduce.specs.Events.RunEvent.{CallExecuted, QueueWritten}
 use Rattle.nr_reduce.specs.EndRules.{EndState, end_state_after, output_for_all}
-use Rattle.nr_reduce.specs.ServerState.{ServerState, initial_state}
-use Rattle.nr_reduce.specs.Server.{server_rules, initial_server}
+use Rattle.nr_reduce.specs.ServerState.{ServerState}
+use Rattle.nr_reduce.specs.Server.{server_rules}
 use Rattle.nr_reduce.specs.Standing.{input_events, ServerRepresents}
-use Rattle.nr_reduce.proofs.Standing.{itself, live_before, server_stands, server_begins_lem, server_runs_out_lem, server_stays_out_lem}
+use Rattle.nr_reduce.proofs.Standing.{itself, live_before, server_stands, server_runs_out_lem, server_stays_out_lem}
 use Rattle.nr_reduce.proofs.Steps.{output_for_all_append}
 use Rattle.nr_link.specs.declared.end.End.{End}
 use Rattle.nr_link.specs.declared.end.End.TheVariants as ends
 use Rattle.nr_responder.specs.ResponderState.{ResponderSide, queue, end_of}
 use Rattle.nr_responder.specs.Keeping.{KeepsEnd}
 use Rattle.nr_responder.specs.Standing.{RepresentsServer, Stands}
-use Rattle.nr_responder.specs.Steps.{received_events, GoesOn, FedOn, RanOutAt, Fed}
+use Rattle.nr_responder.specs.Steps.{received_events, GoesOn, FedOn, Fed}
 use Rattle.nr_responder.specs.Steps.Fed.{WentOn, RanOut}
 use Rattle.nr_responder.proofs.Pieces.{events_parts}
 use Rattle.nr_responder.proofs.Fed.{ended_fed_lem}

@@ -1,6 +1,6 @@
 -- The next call of a responder is that of the server of a run.
-use Rattle.std.proofs.Common.{◌≡◌, ◌≢◌, ℕ, ◌<◌, ◌≤◌, Bool, true, false, cond, List, [], ◌∷◌, length, get_or, Option, Some, None, refl, sym, ap, subst, ◌∙◌, inl, inr, is_some, arith}
-use Rattle.std.specs.Prelude.{map, slice_get, ◌⊎◌, IfSome}
+use Rattle.std.proofs.Common.{◌≡◌, ◌≢◌, ℕ, ◌<◌, ◌≤◌, true, false, List, [], ◌∷◌, length, get_or, Option, Some, None, refl, sym, ap, subst, ◌∙◌, inl, inr, is_some, arith}
+use Rattle.std.specs.Prelude.{map, slice_get, IfSome}
 use Rattle.nr_link.specs.declared.end.End.{End}
 use Rattle.nr_link.specs.declared.end.End.TheVariants as ends
 use Rattle.nr_reduce.specs.declared.mark.Mark.{Mark}
@@ -8,9 +8,8 @@ use Rattle.nr_reduce.specs.declared.mark.LinkParameters.{LinkParameters}
 use Rattle.nr_reduce.specs.EndRules.{EndState}
 use Rattle.nr_reduce.specs.ServerState.{ReadyCall, ServerState}
 use Rattle.nr_reduce.specs.Served.{first_ready, next_call}
-use Rattle.nr_reduce.specs.Run.{server}
 use Rattle.nr_responder.specs.ResponderState.{ResponderSide, end_of}
-use Rattle.nr_responder.specs.Keeping.{Keeps, KeepsEnd}
+use Rattle.nr_responder.specs.Keeping.{KeepsEnd}
 use Rattle.nr_responder.specs.Standing.{RepresentsServer, Stands}
 use Rattle.nr_responder.proofs.Marks.{represents}
 

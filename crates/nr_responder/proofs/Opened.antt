@@ -1,14 +1,11 @@
 -- A responder that is opened stands for no marks.
-use Rattle.std.proofs.Common.{◌≡◌, ℕ, ◌+◌, false, List, [], ◌∷◌, length, Option, Some, None, refl, sym, ap, subst, ◌∙◌, arith, inl, inr}
-use Rattle.std.specs.FinMap.{empty, get, get-empty}
+use Rattle.std.proofs.Common.{◌≡◌, ℕ, ◌+◌, List, [], refl, sym, ap, subst, arith, inl}
+use Rattle.std.specs.FinMap.{get-empty}
 use Rattle.std.specs.Ordering.{nat_cmp}
 use Rattle.nr_wire.specs.declared.hello.Side.TheVariants.{Initiator, Responder}
-use Rattle.nr_wire.specs.declared.stream.Awaited.TheVariants.{Hello as HelloFrom}
-use Rattle.nr_wire.specs.Stream.{IsPartial}
-use Rattle.nr_wire.proofs.Frames.{partial_nil}
 use Rattle.nr_link.specs.Input.{initial_input}
 use Rattle.nr_regions.specs.RegisteredMemory.{initial_memory, live_region, held_region}
-use Rattle.nr_endpoint.specs.LinkState.{LinkSide, LinkState, initial_link, initial_state}
+use Rattle.nr_endpoint.specs.LinkState.{LinkSide, initial_link, initial_state}
 use Rattle.nr_reduce.specs.declared.mark.LinkParameters.{LinkParameters}
 use Rattle.nr_reduce.specs.ServerState as server
 use Rattle.nr_reduce.specs.Server.{initial_server}
@@ -16,7 +13,7 @@ use Rattle.nr_reduce.specs.OfferedMemory.{HoldsRegions}
 use Rattle.nr_reduce.specs.Standing.{ServerRepresents}
 use Rattle.nr_reduce.proofs.Standing.{server_begins_lem}
 use Rattle.nr_responder.specs.ResponderState.{ResponderSide, queue}
-use Rattle.nr_responder.specs.Keeping.{IsServer, LinkKeeps, Keeps, KeepsEnd}
+use Rattle.nr_responder.specs.Keeping.{IsServer, LinkKeeps, Keeps}
 use Rattle.nr_responder.specs.Keeping.Begins.{BeforeHello}
 use Rattle.nr_responder.specs.Standing.{RepresentsServer, Stands}
 use Rattle.nr_responder.proofs.Ends.{ends_none}

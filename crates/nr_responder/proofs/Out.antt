@@ -1,30 +1,29 @@
 -- A responder that runs out of memory at a frame: the server has output of its own for the frame, or it completes the Send of a call with a
 -- read chunk.
-use Rattle.std.proofs.Common.{◌≡◌, ◌≢◌, ℕ, ◌+◌, ◌<◌, ◌≤◌, Bool, true, false, cond, List, [], ◌∷◌, ◌++◌, length, take, drop, Option, Some, None, Result, Ok, Err, refl, sym, ap, subst, ◌∙◌, arith, inl, inr, length-append}
-use Rattle.std.specs.Prelude.{◌⊎◌}
+use Rattle.std.proofs.Common.{◌≡◌, ◌≢◌, ℕ, ◌+◌, ◌<◌, ◌≤◌, Bool, true, false, cond, List, [], ◌∷◌, ◌++◌, length, Option, Some, None, Ok, refl, sym, ap, subst, ◌∙◌, arith, inl, inr, length-append}
 use Rattle.std.proofs.lemmas.Bool.{le-ltb}
 use Rattle.std.proofs.lemmas.List.{append-nil}
 use Rattle.nr_wire.specs.declared.hello.Side.TheVariants.{Initiator, Responder}
 use Rattle.nr_wire.specs.declared.stream.Awaited.{Awaited}
-use Rattle.nr_wire.specs.declared.stream.Awaited.TheVariants.{Hello as HelloFrom, Fpdu}
+use Rattle.nr_wire.specs.declared.stream.Awaited.TheVariants.{Fpdu}
 use Rattle.nr_wire.specs.Constants.{OPCODE_SEND}
 use Rattle.nr_wire.specs.Hello.{hello_of}
 use Rattle.nr_wire.specs.Segment.{Segment, segment_of}
 use Rattle.nr_wire.specs.Segment.Segment.{Untagged}
-use Rattle.nr_wire.specs.Stream.{is_whole, frame_len, IsPartial}
+use Rattle.nr_wire.specs.Stream.{is_whole, IsPartial}
 use Rattle.nr_link.specs.declared.end.End.{End}
 use Rattle.nr_link.specs.declared.end.End.TheVariants as ends
 use Rattle.nr_link.specs.Ending.{frame_segment, final_output, rejection, last_output}
 use Rattle.nr_link.specs.Frames.{Frame, is_hello}
 use Rattle.nr_link.specs.Input.{InputState}
 use Rattle.nr_link.specs.Output.{send, terminate_message}
-use Rattle.nr_link.specs.ReceiveState.{ReceiveState, begun_bytes, message_completed}
+use Rattle.nr_link.specs.ReceiveState.{ReceiveState, begun_bytes}
 use Rattle.nr_endpoint.specs.ReceiveQueue.{DeliveredEvent}
 use Rattle.nr_endpoint.specs.ReceiveQueue.DeliveredEvent.{MessageReceived}
 use Rattle.nr_endpoint.specs.SendQueue.{SendQueue, with_end, output_len}
 use Rattle.nr_endpoint.specs.SegmentEnds.{SendIsFine}
 use Rattle.nr_endpoint.specs.LinkState.{LinkState, LinkSide}
-use Rattle.nr_endpoint.specs.Judging.{segment_end, next_frame, with_frame, with_peer_hello}
+use Rattle.nr_endpoint.specs.Judging.{next_frame, with_frame, with_peer_hello}
 use Rattle.nr_endpoint.specs.Calls.{after_call, makes_whole, QueuesOutput}
 use Rattle.nr_endpoint.specs.Calls.Call.{FeedOne, NextEvent, OutOfMemory}
 use Rattle.nr_endpoint.proofs.Alive.{alive_send}
@@ -33,21 +32,19 @@ use Rattle.nr_reduce.specs.declared.mark.LinkParameters.{LinkParameters}
 use Rattle.nr_reduce.specs.Events.RunEvent.{FrameReceived}
 use Rattle.nr_reduce.specs.EndRules.{EndState, live, output_for}
 use Rattle.nr_reduce.specs.ServerState.{ServerState}
-use Rattle.nr_reduce.specs.ServerMessages.{verdict}
-use Rattle.nr_reduce.specs.ServerMessages.Verdict.{MakesPending}
 use Rattle.nr_reduce.specs.ServerFrames.{by_message, frame_effect}
 use Rattle.nr_reduce.specs.Server.{server_rules}
 use Rattle.nr_responder.specs.ResponderState.{ResponderSide, queue, queued_bytes, end_of}
-use Rattle.nr_responder.specs.Keeping.{Begins, LinkKeeps, IsServer, Keeps, KeepsEnd}
+use Rattle.nr_responder.specs.Keeping.{Begins, Keeps, KeepsEnd}
 use Rattle.nr_responder.specs.Keeping.Begins.{BeforeHello, AfterHello}
-use Rattle.nr_responder.specs.Steps.{CompletesRead, TakesMemory, RanOutAt, FedOn, Fed, frame_by}
+use Rattle.nr_responder.specs.Steps.{TakesMemory, RanOutAt, Fed, frame_by}
 use Rattle.nr_responder.specs.Steps.Fed.{RanOut}
-use Rattle.nr_responder.specs.Handling.{IsServerOf, MessageTakes, refused_effect, on_link, out}
+use Rattle.nr_responder.specs.Handling.{IsServerOf, MessageTakes, refused_effect, on_link}
 use Rattle.nr_responder.specs.Handling.MessageTakes.{EndsFor, ErrorFor, ReadsFor}
-use Rattle.nr_responder.proofs.Fed.{StepOf, step_of, not_ended_lem, same_input, input_in, empty_fed}
+use Rattle.nr_responder.proofs.Fed.{StepOf, step_of, not_ended_lem, empty_fed}
 use Rattle.nr_responder.proofs.Fed.StepOf.{Part, WholeFrame}
 use Rattle.nr_responder.proofs.Frames.{behind, TakesFrame, later_frame, ended_takes}
-use Rattle.nr_responder.proofs.Handled.{RanOutOf, told_of}
+use Rattle.nr_responder.proofs.Handled.{RanOutOf}
 use Rattle.nr_responder.proofs.Inline.{IsSend, only_sends}
 use Rattle.nr_responder.proofs.Posted.{memory_ends, told_link_lem}
 use Rattle.nr_responder.proofs.SendFrames.{frame_lives, part_framed, last_framed}

@@ -1,29 +1,28 @@
 -- A piece in parts, and a piece that makes one frame whole, or none.
-use Rattle.std.proofs.Common.{◌≡◌, ℕ, suc, ◌+◌, Bool, true, false, List, [], ◌∷◌, ◌++◌, length, take, drop, Option, Some, None, refl, sym, ap, subst, ◌∙◌, append_assoc, arith, length-append, is_some}
+use Rattle.std.proofs.Common.{◌≡◌, ℕ, suc, ◌+◌, true, false, List, [], ◌∷◌, ◌++◌, length, take, drop, Some, None, refl, sym, ap, subst, ◌∙◌, append_assoc, arith, length-append}
 use Rattle.std.specs.Prelude.{map}
 use Rattle.std.specs.List.{concat}
 use Rattle.std.proofs.lemmas.List.{append-nil, map-append}
 use Rattle.nr_wire.specs.declared.stream.Awaited.{Awaited}
 use Rattle.nr_wire.specs.declared.stream.Awaited.TheVariants.{Fpdu}
-use Rattle.nr_wire.specs.Stream.{Split, split, is_whole, frame_len, awaited_after, frames_then, IsPartial, IsFrame}
+use Rattle.nr_wire.specs.Stream.{Split, split, is_whole, frame_len, awaited_after, frames_then, IsPartial}
 use Rattle.nr_wire.specs.Feeding.{bytes_taken}
 use Rattle.nr_wire.proofs.Splits.{split_append, split_partial, split_frame, awaited_after_Fpdu}
-use Rattle.nr_link.specs.declared.end.End.{End}
-use Rattle.nr_link.specs.Frames.{Frame, frames_from}
+use Rattle.nr_link.specs.Frames.{frames_from}
 use Rattle.nr_link.specs.Input.{InputState, input_split, input_frames, input_after}
 use Rattle.nr_link.proofs.Streams.{frames_from_append}
 use Rattle.nr_endpoint.proofs.StagedFrames.{taken_whole, taken_all}
 use Rattle.nr_reduce.specs.declared.mark.LinkParameters.{LinkParameters}
 use Rattle.nr_reduce.specs.Events.{RunEvent}
 use Rattle.nr_reduce.specs.Events.RunEvent.{FrameReceived}
-use Rattle.nr_reduce.specs.EndRules.{EndMachine, EndState, end_state_after, output_for_all}
+use Rattle.nr_reduce.specs.EndRules.{EndState, end_state_after, output_for_all}
 use Rattle.nr_reduce.specs.ServerState.{ServerState}
 use Rattle.nr_reduce.specs.Server.{server_rules}
 use Rattle.nr_reduce.proofs.Steps.{end_state_after_append, output_for_all_append}
 use Rattle.nr_responder.specs.ResponderState.{ResponderSide, queue, end_of}
 use Rattle.nr_responder.specs.Keeping.{KeepsEnd}
 use Rattle.nr_link.specs.declared.end.End.TheVariants as ends
-use Rattle.nr_responder.specs.Steps.{received_events, GoesOn, FedOn, TakesMemory, frame_by, RanOutAt, Fed}
+use Rattle.nr_responder.specs.Steps.{received_events, GoesOn, FedOn, TakesMemory, frame_by, Fed}
 use Rattle.nr_responder.specs.Steps.Fed.{WentOn, RanOut}
 
 -- ---- The input of a piece in two parts

@@ -1,18 +1,17 @@
 -- What a responder's side of the link queues is what is due of the server of a run.
-use Rattle.std.proofs.Common.{◌≡◌, ◌≢◌, ℕ, ◌+◌, ◌-◌, ◌<◌, ◌≤◌, ◌%◌, ◌^◌, Bool, true, false, eqb, cond, List, [], ◌∷◌, ◌++◌, length, drop, Option, refl, sym, ap, ◌∙◌, arith, append_assoc, subst, length-append, length-drop}
+use Rattle.std.proofs.Common.{◌≡◌, ℕ, ◌+◌, ◌-◌, ◌<◌, ◌≤◌, ◌^◌, Bool, true, false, eqb, cond, List, [], ◌∷◌, ◌++◌, length, drop, refl, sym, ap, ◌∙◌, arith, append_assoc, subst, length-append, length-drop}
 use Rattle.std.specs.List.{AllByRecursion}
 use Rattle.std.proofs.lemmas.Bool.{eqb-true}
-use Rattle.std.proofs.lemmas.List.{append-nil, drop_all}
+use Rattle.std.proofs.lemmas.List.{append-nil}
 use Rattle.std.proofs.Math.Nat.{mod-add-mod, mod-mod}
-use Rattle.nr_wire.specs.declared.hello.Side.{Side}
 use Rattle.nr_wire.specs.declared.hello.Side.TheVariants.{Responder}
 use Rattle.nr_wire.specs.Constants.{REASON_FLAGS}
 use Rattle.nr_wire.specs.Segment.Segment.{Untagged}
 use Rattle.nr_link.specs.declared.end.End.{End}
 use Rattle.nr_link.specs.declared.end.End.TheVariants as ends
-use Rattle.nr_link.specs.Output.{cut, msn_word, send, own_hello, refusing_hello, terminate_message}
-use Rattle.nr_link.specs.Ending.{is_hello_reason, final_output, rejection, last_output}
-use Rattle.nr_endpoint.specs.SendQueue.{SendQueue, next_number, with_hello, with_send, with_fpdus, with_end, written, fpdus_written, output_len, send_output, ends_left}
+use Rattle.nr_link.specs.Output.{cut, msn_word, send, refusing_hello}
+use Rattle.nr_link.specs.Ending.{final_output, last_output}
+use Rattle.nr_endpoint.specs.SendQueue.{SendQueue, next_number, with_hello, with_send, with_fpdus, with_end, written, output_len, send_output, ends_left}
 use Rattle.nr_responder.specs.ResponderState.{queued_bytes}
 use Rattle.nr_responder.specs.Keeping.{QueueHas, IsEnd, ends_queued}
 use Rattle.nr_endpoint.proofs.Queued.{send_some}

@@ -1,22 +1,20 @@
 -- What a responder's side of the link keeps after a segment of a Send that doesn't end it, and after a Send that it was told.
-use Rattle.std.proofs.Common.{◌≡◌, ◌≢◌, ℕ, ◌+◌, ◌-◌, ◌<◌, ◌≤◌, Bool, true, false, not, ◌&&◌, ◌||◌, eqb, cond, List, [], ◌∷◌, ◌++◌, length, take, drop, replicate, Option, Some, None, Result, Ok, Err, refl, sym, ap, ◌∙◌, arith, inl, inr, length-append, is_some}
+use Rattle.std.proofs.Common.{◌≡◌, ℕ, ◌+◌, ◌-◌, ◌<◌, ◌≤◌, Bool, true, false, not, ◌||◌, eqb, cond, List, [], ◌∷◌, ◌++◌, length, Option, Some, None, Result, Ok, refl, sym, ap, ◌∙◌, arith, length-append}
 use Rattle.std.specs.List.{AllByRecursion, list_any}
-use Rattle.std.proofs.lemmas.List.{append-nil, take_all, take_at, length-take, length-replicate, take-append-le, replicate-append-replicate}
-use Rattle.std.proofs.lemmas.Bool.{cases_lt, ne_eqb, eqb-false, eqb-true, eq-eqb}
+use Rattle.std.proofs.lemmas.List.{append-nil}
+use Rattle.std.proofs.lemmas.Bool.{ne_eqb, eqb-false, eqb-true, eq-eqb}
 use Rattle.nr_wire.specs.declared.stream.Awaited.TheVariants.{Fpdu}
 use Rattle.nr_wire.specs.Segment.{Segment, segment_of}
-use Rattle.nr_wire.specs.Segment.Segment.{Tagged, Untagged}
+use Rattle.nr_wire.specs.Segment.Segment.{Untagged}
 use Rattle.nr_wire.specs.Constants.{OPCODE_SEND}
 use Rattle.nr_link.specs.declared.end.End.{End}
 use Rattle.nr_link.specs.Limits.{send_max}
-use Rattle.nr_link.specs.Frames.{Frame}
-use Rattle.nr_link.specs.ReceiveState.{ReceiveState, begun_bytes, send_continued, received_after, message_completed}
+use Rattle.nr_link.specs.ReceiveState.{ReceiveState, begun_bytes, send_continued}
 use Rattle.nr_link.specs.KeptSends.{begun_within, received_within}
 use Rattle.nr_link.specs.SegmentFaults.{is_begun}
 use Rattle.nr_link.proofs.BegunSends.{kept_alike}
-use Rattle.nr_endpoint.specs.ReceiveQueue.{ReceiveQueue, DeliveredEvent, with_segment, delivered}
+use Rattle.nr_endpoint.specs.ReceiveQueue.{DeliveredEvent, with_segment}
 use Rattle.nr_endpoint.specs.ReceiveQueue.DeliveredEvent.{MessageReceived}
-use Rattle.nr_endpoint.specs.SegmentEnds.{SendIsFine, send_len}
 use Rattle.nr_endpoint.specs.LinkState.{LinkState}
 use Rattle.nr_endpoint.specs.Judging.{segment_end, next_frame, with_frame, with_fpdu, with_segment_by, with_effect, after_frame}
 use Rattle.nr_endpoint.proofs.ReceiveQueueBytes.{kept_short}
@@ -24,7 +22,6 @@ use Rattle.nr_reduce.specs.declared.mark.LinkParameters.{LinkParameters}
 use Rattle.nr_reduce.specs.Plans.{one_if}
 use Rattle.nr_reduce.specs.OfferedRegions.{Region}
 use Rattle.nr_reduce.specs.ServerState.{PendingCall, PendingRead, ReadyCall, ServerState, is_pending}
-use Rattle.nr_reduce.specs.ServerReads.{is_over}
 use Rattle.nr_reduce.proofs.MemorySteps.{holds_later, received_later, offered_later}
 use Rattle.nr_responder.specs.Keeping.{OwnXids, OwnReady, IsReadyOf, IsServer, LinkKeeps}
 use Rattle.nr_responder.specs.ResponderState.{unsent}

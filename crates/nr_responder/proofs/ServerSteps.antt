@@ -1,10 +1,10 @@
 -- What an untagged frame makes of the server of a run, where it doesn't end it.
-use Rattle.std.proofs.Common.{◌≡◌, ℕ, ◌+◌, ◌-◌, ◌<◌, ◌≤◌, Bool, true, false, not, ◌&&◌, ◌||◌, eqb, cond, List, [], ◌∷◌, ◌++◌, length, take, drop, Option, Some, None, Result, Ok, Err, refl, sym, ap, ◌∙◌, arith, length-append, is_some}
+use Rattle.std.proofs.Common.{◌≡◌, ℕ, ◌+◌, ◌≤◌, Bool, true, false, ◌||◌, eqb, cond, List, [], ◌∷◌, ◌++◌, length, take, drop, Option, Some, None, Result, Ok, refl, sym, ap, ◌∙◌, arith, is_some}
 use Rattle.std.specs.List.{AllByRecursion, list_any}
-use Rattle.std.proofs.lemmas.List.{append-nil, drop_all, length-take}
+use Rattle.std.proofs.lemmas.List.{append-nil, drop_all}
 use Rattle.std.proofs.lemmas.Bool.{ne_eqb, eq-eqb}
 use Rattle.nr_wire.specs.Segment.{Segment}
-use Rattle.nr_wire.specs.Segment.Segment.{Tagged, Untagged}
+use Rattle.nr_wire.specs.Segment.Segment.{Untagged}
 use Rattle.nr_header.specs.declared.header.RdmaSegment.{RdmaSegment}
 use Rattle.nr_rpc.specs.declared.head.CallHead.{CallHead}
 use Rattle.nr_rpc.specs.Reading.{call_of}
@@ -20,7 +20,7 @@ use Rattle.nr_reduce.specs.ServerMessages.CallVerdict.{Refuses, IsReady}
 use Rattle.nr_reduce.specs.ServerMessages.Verdict.{MakesPending}
 use Rattle.nr_reduce.specs.ServerFrames.{FrameEffect, no_effect, with_verdict, ready_if_whole, by_message, message_effect, effect_in, frame_effect}
 use Rattle.nr_responder.specs.Handling.{inline_call}
-use Rattle.nr_reduce.specs.Server.{with_effect, received_by, response_bytes_after, tagged_accesses, newly_open_reads, effect_output, requests_from}
+use Rattle.nr_reduce.specs.Server.{with_effect, received_by, response_bytes_after, tagged_accesses, effect_output, requests_from}
 
 -- ---- Regions that are over are closed already
 

@@ -1,12 +1,12 @@
 -- What a responder keeps of its own, call by call.
-use Rattle.std.proofs.Common.{◌≡◌, ◌≢◌, ℕ, zero, suc, true, false, ◌+◌, ◌-◌, ◌<◌, ◌≤◌, List, [], ◌∷◌, ◌++◌, length, drop, Option, Some, None, All, refl, sym, ap, subst, ◌∙◌, arith, length-append}
+use Rattle.std.proofs.Common.{◌≡◌, ℕ, true, false, ◌+◌, ◌<◌, ◌≤◌, List, [], ◌∷◌, ◌++◌, length, drop, Option, None, All, sym, ap, subst, ◌∙◌, arith, length-append}
 use Rattle.std.specs.Prelude.{◌⊎◌, Result, Ok, Err, IfOk, IsOk}
 use Rattle.std.specs.List.{remove}
 use Rattle.nr_link.specs.Limits.{send_max}
 use Rattle.nr_endpoint.specs.Receives.{IsReceive}
 use Rattle.nr_endpoint.specs.ReceiveQueue.{ReceiveQueue, DeliveredEvent, receives_kept, lent_for}
 use Rattle.nr_endpoint.specs.ReceiveQueue.DeliveredEvent.{MessageReceived}
-use Rattle.nr_endpoint.specs.SendQueue.{SendQueue, with_send, with_fpdus, send_output, written}
+use Rattle.nr_endpoint.specs.SendQueue.{SendQueue, with_fpdus, send_output, written}
 use Rattle.nr_endpoint.specs.LinkState.{LinkState, LinkSide}
 use Rattle.nr_endpoint.specs.Calls.{after_call}
 use Rattle.nr_endpoint.specs.Calls.Call.{NextEvent, Stop, Send, OutOfMemory}
@@ -15,7 +15,7 @@ use Rattle.nr_responder.specs.ResponderState.{unsent, drained_posted, left_by}
 use Rattle.nr_responder.specs.Sound.{InBuffer, AreSound}
 use Rattle.nr_responder.proofs.Executed.{with_answer, fewer_wait}
 use Rattle.nr_responder.proofs.Handled.{SameCounts}
-use Rattle.nr_responder.proofs.Posted.{ended_as, memory_as, sent_link, told_link_lem}
+use Rattle.nr_responder.proofs.Posted.{ended_as, sent_link, told_link_lem}
 use Rattle.nr_responder.proofs.Removed.{length_removed, all_removed, all_pushed_lem}
 
 -- with the same counts, and no more lent than before

@@ -1,6 +1,5 @@
 -- One step of a responder on a piece of the client's stream.
-use Rattle.std.proofs.Common.{◌≡◌, ◌≢◌, ℕ, ◌+◌, ◌-◌, ◌<◌, ◌≤◌, Bool, true, false, not, eqb, cond, List, [], ◌∷◌, ◌++◌, length, take, drop, Option, Some, None, Result, Ok, Err, refl, sym, ap, subst, ◌∙◌, arith, inl, inr, is_some}
-use Rattle.std.specs.Prelude.{◌⊎◌}
+use Rattle.std.proofs.Common.{◌≡◌, ◌≢◌, ℕ, ◌+◌, ◌<◌, Bool, true, false, cond, List, [], ◌∷◌, ◌++◌, length, Option, None, Result, Ok, Err, refl, sym, ap, subst, ◌∙◌, arith, inl}
 use Rattle.std.proofs.lemmas.List.{append-nil}
 use Rattle.std.proofs.lemmas.Bool.{eq-eqb}
 use Rattle.nr_wire.specs.declared.hello.Side.{Side}
@@ -9,7 +8,7 @@ use Rattle.nr_wire.specs.declared.stream.Awaited.{Awaited}
 use Rattle.nr_wire.specs.declared.stream.Awaited.TheVariants.{Hello as HelloFrom, Fpdu}
 use Rattle.nr_wire.specs.Constants.{OPCODE_SEND}
 use Rattle.nr_wire.specs.Hello.{Hello, hello_of}
-use Rattle.nr_wire.specs.Segment.{Segment, segment_of}
+use Rattle.nr_wire.specs.Segment.{segment_of}
 use Rattle.nr_wire.specs.Segment.Segment.{Untagged}
 use Rattle.nr_link.specs.declared.end.End.{End}
 use Rattle.nr_link.specs.declared.end.End.TheVariants as ends
@@ -22,7 +21,7 @@ use Rattle.nr_endpoint.specs.ReceiveQueue.{DeliveredEvent, delivered}
 use Rattle.nr_endpoint.specs.ReceiveQueue.DeliveredEvent.{MessageReceived}
 use Rattle.nr_endpoint.specs.SendQueue.{with_hello}
 use Rattle.nr_endpoint.specs.LinkState.{LinkState, LinkSide}
-use Rattle.nr_endpoint.specs.Judging.{segment_end, next_frame, with_frame, with_peer_hello, with_end_of, reply_hello}
+use Rattle.nr_endpoint.specs.Judging.{next_frame, with_frame, with_peer_hello, with_end_of, reply_hello}
 use Rattle.nr_endpoint.specs.Calls.{after_call}
 use Rattle.nr_endpoint.specs.Calls.Call.{NextEvent, Stop, Send}
 use Rattle.nr_endpoint.proofs.Standing.{live_state}
@@ -33,14 +32,14 @@ use Rattle.nr_reduce.specs.EndRules.{EndState, live, next_end_state, next_end_st
 use Rattle.nr_reduce.specs.ServerState.{ServerState}
 use Rattle.nr_reduce.specs.ServerFrames.{frame_effect}
 use Rattle.nr_reduce.specs.Server.{server_rules, server_end, server_output, server_state_after, or_refusal, readiness, with_effect, with_own_hello, effect_output}
-use Rattle.nr_responder.specs.ResponderState.{ResponderSide, queue, queued_bytes}
-use Rattle.nr_responder.specs.Keeping.{IsServer, Begins, LinkKeeps, Keeps, KeepsEnd}
+use Rattle.nr_responder.specs.ResponderState.{ResponderSide, queued_bytes}
+use Rattle.nr_responder.specs.Keeping.{Begins, Keeps, KeepsEnd}
 use Rattle.nr_responder.specs.Keeping.Begins.{BeforeHello, AfterHello}
 use Rattle.nr_responder.specs.Handling.{Handled, IsHandled, on_link, with_ready, inline_call}
 use Rattle.nr_responder.specs.Handling.Handled.{Stopped, Refused, Ready}
 use Rattle.nr_responder.proofs.Queues.{hello_queue}
 use Rattle.nr_responder.proofs.Executed.{with_message}
-use Rattle.nr_responder.proofs.SendFrames.{framed, frame_lives, send_framed, part_framed, last_framed}
+use Rattle.nr_responder.proofs.SendFrames.{frame_lives, part_framed, last_framed}
 use Rattle.nr_responder.proofs.Frames.{behind, TakesFrame, hello_link, server_later, own_hello_server}
 use Rattle.nr_responder.proofs.Whole.{part_takes, ready_takes, refused_takes, stopped_takes, told_link, told_framed, whole_message}
 use Rattle.nr_responder.proofs.Inline.{IsSend, only_sends}

@@ -1,9 +1,8 @@
 -- The opcode of a segment that is read is supported.
-use Rattle.std.proofs.Common.{◌≡◌, ℕ, Bool, true, false, not, ◌||◌, eqb, ltb, cond, List, Option, Some, None, Result, Ok, Err, refl, sym, ap, subst, ◌∙◌}
-use Rattle.std.specs.Prelude.{IsTrue}
+use Rattle.std.proofs.Common.{◌≡◌, ℕ, Bool, true, false, not, ◌||◌, eqb, ltb, cond, List, Option, Some, None, Ok, refl, sym, ap, subst, ◌∙◌}
 use Rattle.nr_wire.specs.Hello.{value_unless}
-use Rattle.nr_wire.specs.Segment.{Segment, segment_of, frame_reason, segment_by_form, flaw_by, header_len, is_supported, is_tagged, is_tagged_opcode, is_untagged_opcode, is_of_other_form, is_of_other_queue, opcode_of, queue_of, ddp_version, rdmap_version, ulpdu_len}
-use Rattle.nr_wire.specs.Segment.Segment.{Tagged, Untagged}
+use Rattle.nr_wire.specs.Segment.{Segment, segment_of, frame_reason, segment_by_form, flaw_by, header_len, is_supported, is_tagged, is_tagged_opcode, is_untagged_opcode, is_of_other_form, opcode_of, queue_of, ddp_version, rdmap_version, ulpdu_len}
+use Rattle.nr_wire.specs.Segment.Segment.{Untagged}
 
 if_none_lem : (b : Bool) (r : ℕ) (o : Option ℕ) → cond b (Some r) o ≡ None → (b ≡ false) × (o ≡ None)
 if_none_lem true r o is = absurd cc

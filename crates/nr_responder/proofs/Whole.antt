@@ -1,9 +1,8 @@
 -- A whole frame with a segment of a Send at a responder: a part of a message, and a message whose call is ready at once, is refused by an
 -- error message, or ends the link.
-use Rattle.std.proofs.Common.{◌≡◌, ◌≢◌, ℕ, ◌+◌, ◌-◌, ◌<◌, ◌≤◌, Bool, true, false, not, eqb, cond, List, [], ◌∷◌, ◌++◌, length, Option, Some, None, Result, Ok, Err, refl, sym, ap, subst, ◌∙◌, arith, inl, inr, is_some, length-append}
+use Rattle.std.proofs.Common.{◌≡◌, ℕ, ◌+◌, ◌-◌, ◌<◌, ◌≤◌, Bool, true, false, not, cond, List, [], ◌∷◌, ◌++◌, length, Option, Some, None, Ok, refl, sym, ap, subst, ◌∙◌, arith, inl, inr, is_some, length-append}
 use Rattle.std.specs.List.{AllByRecursion}
 use Rattle.std.proofs.lemmas.List.{append-nil, map-append}
-use Rattle.nr_wire.specs.declared.stream.Awaited.{Awaited}
 use Rattle.nr_wire.specs.declared.stream.Awaited.TheVariants.{Fpdu}
 use Rattle.nr_wire.specs.Constants.{OPCODE_SEND}
 use Rattle.nr_wire.specs.Hello.{hello_of}
@@ -18,7 +17,7 @@ use Rattle.nr_link.specs.declared.end.End.TheVariants as ends
 use Rattle.nr_link.specs.Limits.{send_max}
 use Rattle.nr_link.specs.Frames.{Frame, is_hello}
 use Rattle.nr_link.specs.Input.{InputState}
-use Rattle.nr_link.specs.ReceiveState.{ReceiveState, begun_bytes, send_continued, received_after, message_completed}
+use Rattle.nr_link.specs.ReceiveState.{ReceiveState, begun_bytes, send_continued, received_after}
 use Rattle.nr_link.specs.KeptSends.{begun_within, received_within}
 use Rattle.nr_link.specs.SegmentFaults.{is_begun}
 use Rattle.nr_link.proofs.BegunSends.{kept_len_lem}
@@ -31,7 +30,6 @@ use Rattle.nr_endpoint.specs.SegmentEnds.{SendIsFine, send_len}
 use Rattle.nr_endpoint.specs.LinkState.{LinkState, LinkSide}
 use Rattle.nr_endpoint.specs.Judging.{segment_end, next_frame, with_frame, with_end_of}
 use Rattle.nr_endpoint.specs.SendQueue.{with_end, send_output}
-use Rattle.nr_endpoint.specs.Laws.{KeepsInput}
 use Rattle.nr_endpoint.proofs.Alive.{alive_send}
 use Rattle.nr_reduce.specs.declared.mark.LinkParameters.{LinkParameters}
 use Rattle.nr_reduce.specs.OfferedRegions.{region_grants}
@@ -40,10 +38,10 @@ use Rattle.nr_reduce.specs.EndRules.{EndState, live, next_end_state, next_end_st
 use Rattle.nr_reduce.specs.ServerState.{PendingCall, ReadyCall, ServerState, is_pending}
 use Rattle.nr_reduce.specs.ServerReads.{is_over}
 use Rattle.nr_reduce.specs.ServerMessages.{verdict, call_xid}
-use Rattle.nr_reduce.specs.ServerMessages.Verdict.{EndsLink, OtherVersion, BadChunks, MakesPending}
+use Rattle.nr_reduce.specs.ServerMessages.Verdict.{MakesPending}
 use Rattle.nr_reduce.specs.ServerFrames.{FrameEffect, no_effect, by_message, frame_effect}
 use Rattle.nr_reduce.specs.Server.{server_rules, server_end, server_output, server_state_after, with_own_hello, or_refusal, refusal_end, readiness, with_effect, effect_output}
-use Rattle.nr_responder.specs.ResponderState.{ResponderSide, queue, queued_bytes, unsent}
+use Rattle.nr_responder.specs.ResponderState.{ResponderSide, queued_bytes, unsent}
 use Rattle.nr_responder.specs.Keeping.{IsServer, Begins, LinkKeeps, Keeps, KeepsEnd}
 use Rattle.nr_responder.specs.Keeping.Begins.{BeforeHello, AfterHello}
 use Rattle.nr_responder.specs.Handling.{inline_call, refused_effect, on_link, with_ready}

@@ -1,5 +1,5 @@
 -- What an answer makes of a responder.
-use Rattle.std.specs.Prelude.{◌≡◌, ℕ, ◌<◌, ◌^◌, List, [], drop, Option, Some, None, slice_get, length, if◌then◌else◌}
+use Rattle.std.specs.Prelude.{◌≡◌, ℕ, List, [], drop, Option, Some, None, slice_get, if◌then◌else◌}
 use Rattle.std.specs.List.{remove}
 use Rattle.nr_link.specs.Limits.{send_max}
 use Rattle.nr_rpc.specs.Reading.{call_of, target_of}

@@ -1,5 +1,5 @@
 -- What a piece of the client's stream makes of a responder.
-use Rattle.std.specs.Prelude.{◌≡◌, ◌≢◌, ℕ, List, [], ◌∷◌, ◌++◌, map, take, drop, Option, Some, None, Result, Ok, Err, true, ◌⊎◌}
+use Rattle.std.specs.Prelude.{◌≡◌, ◌≢◌, ℕ, List, [], ◌++◌, map, take, drop, Some, None, Result, Ok, Err, true, ◌⊎◌}
 use Rattle.nr_wire.specs.Segment.{Segment}
 use Rattle.nr_wire.specs.Stream.{is_whole, frame_len}
 use Rattle.nr_link.specs.declared.end.End.TheVariants as ends

@@ -1,13 +1,13 @@
 -- What the code keeps, as the definitions of a run see it.
-use Rattle.std.specs.Prelude.{◌≡◌, ◌≢◌, ℕ, ◌+◌, ◌≤◌, Bool, true, false, List, [], length, take, drop, map, Option, Some, None, ◌⊎◌}
+use Rattle.std.specs.Prelude.{◌≡◌, ◌≢◌, ℕ, ◌+◌, ◌≤◌, false, List, [], length, take, drop, Some, ◌⊎◌}
 use Rattle.nr_header.specs.declared.header.ChunkLists.{ChunkLists}
 use Rattle.nr_header.specs.declared.header.Body.{Body}
 use Rattle.nr_header.specs.declared.header.Body.TheVariants.{Msg, Nomsg}
 use Rattle.nr_header.specs.WithinLimits.{ListsWithin}
 use Rattle.nr_link.specs.Reasons.{REASON_KIND, REASON_CALL, REASON_STAGS}
 use Rattle.nr_xdr.specs.Fields.{word_at}
-use Rattle.nr_reduce.specs.ServerState.{PendingCall, ServerState, is_pending, next_stag}
-use Rattle.nr_reduce.specs.ServerMessages.{Verdict, verdict, by_body}
+use Rattle.nr_reduce.specs.ServerState.{PendingCall, ServerState, is_pending}
+use Rattle.nr_reduce.specs.ServerMessages.{verdict, by_body}
 use Rattle.nr_reduce.specs.ServerMessages.Verdict.{EndsLink, OtherVersion, BadChunks, MakesPending}
 use Rattle.nr_responder.specs.declared.call.Pending.{Pending}
 use Rattle.nr_responder.specs.declared.judging.Judged.{Judged}

@@ -1,4 +1,4 @@
-use Rattle.std.proofs.Common.{rules, ◌≡◌, ap, ◌∙◌, ◌++◌, List, Some}
+use Rattle.std.proofs.Common.{rules, ap, ◌∙◌, ◌++◌, List}
 use Rattle.nr_header.specs.declared.header.RdmaSegment.{RdmaSegment}
 use Rattle.nr_endpoint.specs.Offering.{writes_output}
 use Rattle.nr_reduce.specs.Holds.{first_chunk, writes_into}

@@ -1,8 +1,6 @@
-use Rattle.std.proofs.Common.{◌≡◌, ℕ, ◌+◌, ◌≤◌, List, length, take, get_or, ap, arith}
-use Rattle.std.proofs.lemmas.List.{length-take}
 use Rattle.nr_header.specs.declared.header.RdmaSegment.{RdmaSegment}
 use Rattle.nr_endpoint.specs.Offering.{writes_output}
-use Rattle.nr_responder.proofs.Writes.{writes_step, writes_done}
+use Rattle.nr_responder.proofs.Writes.{writes_step}
 use Rattle.nr_responder.proofs.answering.push_writes.Goals as goal
 
 pub segments-preserved : goal.segments-preserved

@@ -1,12 +1,8 @@
-use Rattle.std.proofs.Common.{◌≡◌, ◌≢◌, ℕ, sym, ap, ◌∙◌, false, true, List, map, Result}
-use Rattle.std.specs.List.{list_any}
+use Rattle.std.proofs.Common.{sym, ap, ◌∙◌, false, true, Result}
 use Rattle.nr_header.specs.declared.fault.HeaderFault.{HeaderFault}
 use Rattle.nr_header.specs.declared.header.Header.{Header}
 use Rattle.nr_xdr.specs.Fields.{word_at}
-use Rattle.nr_reduce.specs.ServerState.{PendingCall}
 use Rattle.nr_reduce.specs.ServerMessages.{by_header}
-use Rattle.nr_responder.specs.declared.call.Pending.{Pending}
-use Rattle.nr_responder.specs.Views.{call_view}
 use Rattle.nr_responder.proofs.Judged.{verdict_version, verdict_done, verdict_error, verdict_open, header_verdict, is_open_lem, body_judged, has_stream}
 use Rattle.nr_responder.proofs.judging.judge.Goals as goal
 

@@ -1,4 +1,4 @@
-use Rattle.std.proofs.Common.{◌≡◌, ℕ, suc, ◌+◌, ◌<◌, List, length, get_or, sym, ap, subst, ◌∙◌, arith}
+use Rattle.std.proofs.Common.{ℕ, suc, List, length, get_or, ap, subst, ◌∙◌, arith}
 use Rattle.nr_link.specs.Limits.{send_max}
 use Rattle.nr_endpoint.specs.Receives.{IsReceive}
 use Rattle.nr_responder.proofs.Posted.{post_more}

@@ -1,6 +1,5 @@
-use Rattle.std.proofs.Common.{rules, ◌≡◌, ◌≢◌, ℕ, ◌+◌, ◌<◌, ◌≤◌, List, [], ◌∷◌, ◌++◌, length, drop, take, get_or, All, refl, sym, ap, subst, ◌∙◌, arith}
+use Rattle.std.proofs.Common.{rules, ◌≡◌, ℕ, List, drop, take, refl, sym, ap, subst, ◌∙◌}
 use Rattle.std.specs.Prelude.{map}
-use Rattle.std.specs.List.{remove}
 use Rattle.nr_endpoint.specs.LinkState.{LinkSide}
 use Rattle.nr_endpoint.specs.Calls.{after_calls}
 use Rattle.nr_endpoint.specs.Offering.{answer_calls, writes_output}

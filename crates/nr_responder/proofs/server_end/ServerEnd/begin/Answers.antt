@@ -1,4 +1,4 @@
-use Rattle.std.proofs.Common.{◌≡◌, ◌≢◌, ℕ, List, drop, take, Some, sym, ap, ◌∙◌}
+use Rattle.std.proofs.Common.{◌≡◌, ℕ, List, drop, take, Some, sym, ap, ◌∙◌}
 use Rattle.nr_rpc.specs.Reading.{call_of, xid_of_call}
 use Rattle.nr_xdr.specs.Fields.{word_at}
 use Rattle.nr_responder.specs.Handling.{with_ready}

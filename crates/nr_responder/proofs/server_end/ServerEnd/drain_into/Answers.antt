@@ -1,7 +1,7 @@
-use Rattle.std.proofs.Common.{◌≡◌, ℕ, ◌+◌, ◌-◌, List, [], ◌∷◌, ◌++◌, length, take, map, sym, ap, subst, ◌∙◌, arith}
+use Rattle.std.proofs.Common.{◌≡◌, ℕ, ◌-◌, [], ◌∷◌, ◌++◌, length, take, sym, ap, subst, ◌∙◌, arith}
 use Rattle.nr_endpoint.specs.LinkState.{LinkSide}
 use Rattle.nr_endpoint.specs.ReceiveQueue.{ReceiveQueue}
-use Rattle.nr_endpoint.specs.SendQueue.{SendQueue, written}
+use Rattle.nr_endpoint.specs.SendQueue.{SendQueue}
 use Rattle.nr_responder.specs.ResponderState.{ResponderSide, drained_posted, left_by, after_drain, may_write}
 use Rattle.nr_responder.specs.Standing.{Stands}
 use Rattle.nr_wire.specs.declared.hello.Side.TheVariants.{Responder}

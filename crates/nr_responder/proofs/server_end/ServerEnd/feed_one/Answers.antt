@@ -1,14 +1,12 @@
-use Rattle.std.proofs.Common.{◌≡◌, ◌≢◌, ℕ, ◌+◌, ◌-◌, ◌<◌, ◌≤◌, Bool, true, false, cond, List, ◌++◌, length, take, drop, Option, Some, None, refl, sym, ap, subst, ◌∙◌, arith, is_some}
-use Rattle.std.proofs.lemmas.List.{take_all, length-drop}
-use Rattle.std.proofs.Math.Seq.{take-add}
+use Rattle.std.proofs.Common.{ℕ, cond, List, length, take, Option, sym, ap, subst, ◌∙◌, arith, is_some}
+use Rattle.std.proofs.lemmas.List.{take_all}
 use Rattle.nr_link.specs.declared.end.End.{End}
 use Rattle.nr_wire.specs.Feeding.{bytes_taken}
 use Rattle.nr_responder.specs.Sound.{state_of}
 use Rattle.nr_responder.specs.Steps.{Fed}
 use Rattle.nr_responder.specs.Steps.Fed.{WentOn}
-use Rattle.nr_responder.proofs.Fed.{ended_fed_lem, empty_fed}
+use Rattle.nr_responder.proofs.Fed.{ended_fed_lem}
 use Rattle.nr_responder.proofs.Marks.{ended_stands, fed_stands_lem, not_live}
-use Rattle.nr_responder.proofs.Pieces.{fed_join}
 use Rattle.nr_responder.proofs.server_end.ServerEnd.feed_one.Goals as goal
 
 pub returns-in-Some-clause-goes : goal.returns-in-Some-clause-goes

@@ -1,10 +1,9 @@
-use Rattle.std.proofs.Common.{◌≡◌, ◌≢◌, ℕ, ◌≤◌, List, map, sym, ap, subst, ◌∙◌, arith, inr}
-use Rattle.nr_reduce.specs.ServerState.{ServerState}
+use Rattle.std.proofs.Common.{◌≡◌, ℕ, List, map, sym, ap, subst, ◌∙◌, arith, inr}
 use Rattle.nr_reduce.specs.ServerMessages.{verdict}
 use Rattle.nr_reduce.specs.ServerMessages.Verdict.{EndsLink}
 use Rattle.nr_responder.specs.declared.call.Pending.{Pending}
 use Rattle.nr_responder.specs.Views.{call_view, IsCall, IsOfReads}
-use Rattle.nr_responder.specs.Handling.{IsServerOf, on_link}
+use Rattle.nr_responder.specs.Handling.{on_link}
 use Rattle.nr_responder.specs.Handling.Makes.{Ends, Calls, LeavesReads}
 use Rattle.nr_endpoint.specs.LinkState.{LinkSide}
 use Rattle.nr_responder.specs.Sound.{state_of}

@@ -1,4 +1,4 @@
-use Rattle.std.proofs.Common.{◌≡◌, ℕ, List, Option, is_some, sym, ap, ◌∙◌}
+use Rattle.std.proofs.Common.{Option, is_some, sym, ap, ◌∙◌}
 use Rattle.nr_link.specs.declared.end.End.{End}
 use Rattle.nr_responder.specs.Sound.{state_of}
 use Rattle.nr_responder.proofs.NextCalls.{next_over, not_over, first_xid_lem, first_none_lem, first_get, none_get}

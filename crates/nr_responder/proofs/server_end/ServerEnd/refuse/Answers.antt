@@ -1,4 +1,4 @@
-use Rattle.std.proofs.Common.{rules, sym, inr}
+use Rattle.std.proofs.Common.{rules, inr}
 use Rattle.nr_responder.proofs.Sounds.{sound_refused, sound_ended}
 use Rattle.nr_responder.proofs.server_end.ServerEnd.refuse.Goals as goal
 

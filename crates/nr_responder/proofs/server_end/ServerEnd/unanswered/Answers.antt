@@ -1,5 +1,5 @@
 use Rattle.nr_responder.specs.Sound.{state_of}
-use Rattle.std.proofs.Common.{rules, length, ◌∙◌, sym, List, ap, ◌≡◌}
+use Rattle.std.proofs.Common.{rules, length, ◌∙◌, sym, ◌≡◌}
 use Rattle.std.proofs.lemmas.List.{length-map}
 use Rattle.nr_responder.specs.Views.{call_view}
 use Rattle.nr_responder.proofs.Counts.{calls_of_run}
