@@ -147,6 +147,17 @@ impl TestEndpoint {
         self.endpoint.send(message)
     }
 
+    /// Queues the Send of a message in two parts.
+    pub fn send_parts(
+        &mut self,
+        rt: &impl Abort,
+        front: &[u8],
+        stream: &[u8],
+    ) -> Result<(), Memory> {
+        check(rt, front.len() + stream.len() < MANY);
+        self.endpoint.send_parts(front, stream)
+    }
+
     /// Queues an RDMA Write of some bytes into the peer's region, from byte `to` on.
     pub fn write_remote(
         &mut self,
@@ -204,9 +215,10 @@ impl TestEndpoint {
     /// Registers a region of these bytes, and releases it.
     pub fn register_briefly(&mut self, rt: &impl Abort, alloc: Global, bytes: &[u8], right: Right) {
         let buf = Octets::from_slice(alloc, bytes).expect(rt, "memory");
-        match self.endpoint.register(buf, right) {
+        match self.endpoint.register_window(buf, 0, bytes.len(), right) {
             Ok(registration) => {
-                self.endpoint.release(registration);
+                let buf = self.endpoint.release_buffer(registration);
+                check(rt, buf.len() == bytes.len());
             }
             Err(_) => panic!(rt; "a region is registered"),
         }

@@ -3,4 +3,4 @@ use Rattle.nr_endpoint_tests.proofs.endpoint.TestEndpoint.register_briefly.Goals
 
 pub invariant_of-self : goal.invariant_of-self
 invariant_of-self g c =
-    passing_counted c.self.inside.endpoint.link c.register.new.self.link c.release.new.self.link _ _ c.in-Ok.registration _ _ _ c.in-Ok.ensures.state c.in-Ok.ensures.claim c.release.ensures.state c.self.invariant
+    passing_counted c.self.inside.endpoint.link c.register_window.new.self.link c.release_buffer-buf.new.self.link _ _ c.in-Ok.registration _ _ _ c.in-Ok.ensures.state c.in-Ok.ensures.claim c.release_buffer-buf.ensures.state c.self.invariant
