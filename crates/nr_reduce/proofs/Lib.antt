@@ -24,6 +24,7 @@ pub mod RefusedChunks
 pub mod Offers
 pub mod Outlining
 pub mod CallForms
+pub mod InPlace
 pub mod Answering
 pub mod Asking
 pub mod WrittenChunks

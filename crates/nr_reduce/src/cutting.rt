@@ -1,6 +1,6 @@
 //! A payload cut at its item, and put together again (RFC 8166 section 3.4.1).
 
-ghost use Rattle.std.specs.Prelude.{◌≡◌, ◌+◌, ◌==◌, ◌<◌, ◌≤◌, ◌++◌, length, take, replicate, Some, IfOk, IfErr, IfSome, OnErr};
+ghost use Rattle.std.specs.Prelude.{◌≡◌, ◌+◌, ◌==◌, ◌<◌, ◌≤◌, ◌++◌, length, take, drop, replicate, Some, IfOk, IfErr, IfSome, OnErr};
 ghost use Rattle.std.specs.List.{list_all};
 ghost use Rattle.nr_xdr.specs.Item.{pad_len};
 ghost use Rattle.nr_reduce.specs.Items.{item_of, ends_with_item, reducible_item, stream_of, moved_of, restored_payload};
@@ -247,6 +247,73 @@ pub fn rebuild_item_into(
         return Err(Mismatch::Length);
     }
     Ok(restore_into(room, stream, &item, moved))
+}
+
+/// Completes a payload in the buffer that holds its item's bytes at the item's position, and gives its length.
+#[tactic(auto, unfolding(crate::specs::Items::restored_payload))]
+fn complete(buffer: &mut Octets, stream: &[u8], item: &Item) -> usize
+    requires place { item.now.pos ≤ length stream.now }
+    requires room { length stream.now + item.now.len + 3 ≤ length buffer.old }
+    ensures payload { take result buffer.new ≡ restored_payload item.now stream.now (drop item.now.pos buffer.old) }
+    ensures within { result ≤ length buffer.new }
+    ensures length { length buffer.new ≡ length buffer.old }
+{
+    let len = item.len as usize;
+    let (front, behind) = stream.split_at(item.pos);
+    put_front(buffer, front, len);
+    let behind_at = put_at(buffer, item.pos + len, zeros(pad_len(len)));
+    put_at(buffer, behind_at, behind)
+}
+
+/// Writes some bytes over the first bytes of a buffer, and leaves those after them.
+fn put_front(buffer: &mut Octets, front: &[u8], len: usize)
+    requires { length front.now + len ≤ length buffer.old }
+    ensures front { take (length front.now + len) buffer.new ≡ front.now ++ take len (drop (length front.now) buffer.old) }
+    ensures length { length buffer.new ≡ length buffer.old }
+{
+    let _len = len;
+    buffer.overwrite(0, front);
+}
+
+/// Whether the bytes of a buffer from `at` on, `len` of them, are as many as an item has.
+fn has_placed_length(of: &Of, item: &Item, buffer: &Octets, at: usize, len: usize) -> bool
+    requires { at + len ≤ length buffer.now }
+    ensures { result ≡ has_moved_length of.now item.now (take len (drop at buffer.now)) }
+{
+    let (_, after) = buffer.as_slice().split_at(at);
+    let (placed, _) = after.split_at(len);
+    has_moved_length(of, item, placed)
+}
+
+/// The same as [`rebuild_item_into`], if the bytes of the chunk stand in the room already, `moved` of them from `pos` on: they stay
+/// where they are.
+#[tactic(auto, unfolding(crate::specs::Cuts::rebuilt_of))]
+pub fn rebuild_in_place(
+    room: &mut Octets,
+    of: &Of,
+    item: Option<Item>,
+    stream: &[u8],
+    pos: u32,
+    moved: usize,
+) -> Result<usize, Mismatch>
+    requires item { item ≡ item_of of.now stream.now }
+    requires room { length stream.now + moved + 3 ≤ length room.old }
+    requires placed { pos + moved ≤ length room.old }
+    ensures whole { IfOk result (λ len. IsWhole of.now (take len room.new) stream.now (Some (take moved (drop pos room.old)))) }
+    ensures exact { RebuildsInto result room.new (rebuilt_of of.now stream.now pos (take moved (drop pos room.old))) }
+    ensures refused { OnErr result (room.new ≡ room.old) }
+    ensures length { length room.new ≡ length room.old }
+{
+    let Some(item) = item else {
+        return Err(Mismatch::NoItem);
+    };
+    if item.pos != pos as usize {
+        return Err(Mismatch::Position);
+    }
+    if !has_placed_length(of, &item, room, pos as usize, moved) {
+        return Err(Mismatch::Length);
+    }
+    Ok(complete(room, stream, &item))
 }
 
 /// The first bytes of a room, as a byte string of their own. Takes no memory.

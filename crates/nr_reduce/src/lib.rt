@@ -37,7 +37,8 @@ mod two_slices;
 pub use call::{Call, Form, Lengths, Offer, Outcome, Refused, Submission};
 pub use comparing::answers_offer;
 pub use cutting::{
-    cut, first_bytes, rebuild, rebuild_into, rebuild_item, rebuild_item_into, reducible_item,
+    cut, first_bytes, rebuild, rebuild_in_place, rebuild_into, rebuild_item, rebuild_item_into,
+    reducible_item,
 };
 pub use fault::{Mismatch, PayloadFault, TooLarge};
 pub use holding::{Answer, answer_for, holds};
