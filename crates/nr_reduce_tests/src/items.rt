@@ -4,7 +4,7 @@ use crate::compare::same;
 use crate::given::{MOUNT, NFS, Payload, call_of, payload_of, put_text, put_words};
 use nr_reduce::{
     Item, Mismatch, Of, PayloadFault, call_item, cut, first_bytes, largest_reply, rebuild,
-    rebuild_into, rebuild_undoes_cut, reducible_item,
+    rebuild_in_place, rebuild_into, rebuild_undoes_cut, reducible_item,
 };
 use nr_xdr::Octets;
 use std::alloc::Global;
@@ -187,6 +187,28 @@ fn streams_are_rebuilt_in_room(rt: HostRuntime) {
         let got = is_hello_in_room(&rt, rt.alloc(), &stream, *pos, moved);
         same(&rt, row, got, *want);
     }
+}
+
+/// The same of the payload that is completed in a room in which the chunk's bytes stand at 72.
+fn is_hello_in_place(rt: &impl Abort, alloc: Global, stream: &[u8]) -> Result<bool, Mismatch> {
+    let whole = hello(rt, alloc, b"HELLO\0\0\0");
+    let mut room = Octets::from_vec(vec![in alloc; 0xff; 100].expect(rt, "memory"));
+    if stream.len() > 80 {
+        return Ok(false);
+    }
+    room.overwrite(72, b"HELLO");
+    let item = call_item(stream);
+    match rebuild_in_place(&mut room, &Of::Call, item, stream, 72, 5) {
+        Ok(len) => Ok(first_bytes(room, len).as_slice() == whole.as_slice()),
+        Err(why) => Err(why),
+    }
+}
+
+#[test]
+fn streams_are_rebuilt_in_place(rt: HostRuntime) {
+    let stream = hello(&rt, rt.alloc(), b"");
+    let got = is_hello_in_place(&rt, rt.alloc(), &stream);
+    same(&rt, 0, got, Ok(true));
 }
 
 #[test]
