@@ -19,13 +19,13 @@ use std::process::ExitCode;
 /// The bytes of a piece of the stream, which is in one buffer.
 const PIECE: usize = 65536;
 
-/// The receives: more than Sends come whole within a piece.
+/// The receives: more than the Sends that a piece completes.
 const RECEIVES: u32 = 1024;
 
 /// More pieces than there are.
 const FPDUS_MAX: u64 = 1 << 30;
 
-/// Where an FPDU of a Send has its message number.
+/// The offset of the message number in an FPDU of a Send.
 const MSN_AT: usize = 12;
 
 /// What is fed, and how.
@@ -99,7 +99,7 @@ fn feed(endpoint: &mut Endpoint, piece: &[u8]) -> bool
     endpoint.feed(piece).is_ok()
 }
 
-/// Feeds a piece, so many bytes in each call. False once the side has ended.
+/// Feeds a piece, `step` bytes in each call. False once the side has ended.
 fn feed_piece(endpoint: &mut Endpoint, piece: &[u8], step: usize) -> bool
     requires { fed_bytes endpoint.old.link + length piece.now ≤ 2 ^ 62 }
     ensures { OnTrue result (fed_bytes endpoint.new.link ≤ fed_bytes endpoint.old.link + length piece.now) }
@@ -149,7 +149,7 @@ fn take_messages(endpoint: &mut Endpoint) -> u64
     count
 }
 
-/// The first FPDU of a piece that begins behind so many bytes, and the bytes of it that are behind.
+/// The number of the first FPDU of a piece that begins at byte `fed` of the stream, and how many of its bytes came before.
 fn place_of(fed: u64, len: u64) -> (u64, u64)
     requires { 0 < len }
     ensures { result.1 < len }
@@ -176,7 +176,7 @@ fn feed_next(endpoint: &mut Endpoint, bytes: &[u8], at: usize, left: u64, work: 
     size
 }
 
-/// Feeds all FPDUs, piece by piece. Gives how many Sends came whole, or of Writes how many were fed.
+/// Feeds all FPDUs, piece by piece. Gives how many Sends were completed, or of Writes how many were fed.
 fn feed_all(endpoint: &mut Endpoint, bytes: &mut Vec<u8>, len: usize, work: Work) -> u64
     requires few { work.frames ≤ 2 ^ 30 }
     requires fed { fed_bytes endpoint.old.link ≤ 2 ^ 20 }

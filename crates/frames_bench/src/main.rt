@@ -12,7 +12,7 @@ use std::alloc::Global;
 use std::env;
 use std::process::ExitCode;
 
-/// The most payload bytes, so that the FPDU can be written.
+/// The maximum payload in bytes, so that the FPDU can be written.
 const PAYLOAD_MAX: usize = 65_000;
 
 /// What is written, and how often it is read.
@@ -20,14 +20,14 @@ const PAYLOAD_MAX: usize = 65_000;
 struct Work<'a> {
     /// How many FPDUs there are.
     frames: u32,
-    /// The most FPDUs of a piece.
+    /// The maximum number of FPDUs of a piece.
     piece: u32,
     payload: &'a [u8],
     /// How often each piece is read.
     readings: u64,
 }
 
-/// Reads a piece to its end, or to the first FPDU that isn't whole. Gives the number of segments.
+/// Reads a piece to its end, or to the first FPDU that is incomplete. Gives the number of segments.
 fn count(piece: &[u8]) -> u64 {
     let mut rest = piece;
     let mut count: u64 = 0;
@@ -64,7 +64,7 @@ fn count_often(piece: &[u8], readings: u64) -> u64 {
     total
 }
 
-/// Writes a piece of this many FPDUs, whose message numbers begin behind `before`.
+/// Writes a piece of this many FPDUs, whose message numbers begin after `before`.
 fn fill(
     alloc: Global,
     piece: &mut Vec<u8>,

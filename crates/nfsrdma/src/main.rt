@@ -1,5 +1,5 @@
-//! The program: it opens the streams of its process and hands them to [`nr_top::run`], or to [`nr_top::refuse`] where
-//! it can't have its arguments.
+//! The program: it opens the streams of its process and hands them to [`nr_top::run`], or to [`nr_top::refuse`] if it
+//! can't have its arguments.
 #![tactic(auto)]
 
 use nr_outside::{StdSink, StdSource};

@@ -1,4 +1,4 @@
--- What a call tells its pass.
+-- What a call says to its pass.
 use Rattle.std.specs.Prelude.{◌≡◌, ℕ, List, [], ◌∷◌, ◌++◌, length}
 use Rattle.nr_apart_tests.specs.declared.counter.Counter.{Counter}
 use Rattle.nr_turnstile.specs.declared.turnstile.Pass.{Pass}

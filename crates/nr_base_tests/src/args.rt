@@ -249,7 +249,7 @@ fn each_row_is_read_and_written(rt: HostRuntime) {
     }
 }
 
-/// Parts of a value, each in words, one behind the other.
+/// Parts of a value, each in words, one after the other.
 struct Long(Type, &'static [&'static [u32]]);
 
 // Names, link paths and data have no limit but that of a count word.

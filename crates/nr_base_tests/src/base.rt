@@ -1,4 +1,4 @@
-//! Tests of nr_nfs_base: values in words, and the place of each field.
+//! Tests of nr_nfs_base: values in words, and the offset of each field.
 
 use crate::compare::{Want, again, bytes_of, encoded_as, row_gives, same};
 use nr_nfs_base::*;
@@ -235,7 +235,7 @@ fn five_values(alloc: Global) -> Result<Octets, Memory> {
     Ok(write_four(&true, &false, &1u32, &2u64, writer)?.finish())
 }
 
-/// The number of the enumeration at the front, and the place behind it.
+/// The number of the enumeration at the front, and the offset after it.
 fn numbered_front(alloc: Global, bytes: &[u8]) -> Option<(u32, usize)> {
     match read_numbered::<FileType>(alloc, Reader::new(bytes)) {
         Ok((kind, reader)) => Some((kind.number(), reader.at())),
@@ -336,7 +336,7 @@ enum Field {
     ReadlinkPath,
 }
 
-/// The place of the field, if it can be skipped to.
+/// The offset of the field, if it can be skipped to.
 fn place_of(field: Field, bytes: &[u8]) -> Option<usize> {
     let reader = Reader::new(bytes);
     let reader = match field {

@@ -96,7 +96,7 @@ fn one_segment(rt: &impl Abort, alloc: Global) -> ChunkLists
     }
 }
 
-/// RDMA_NOMSG where the stream is in a chunk, else RDMA_MSG.
+/// RDMA_NOMSG if the stream is in a chunk, else RDMA_MSG.
 static KINDS: [(bool, &[u32]); 2] = [
     (false, &[9, 1, 16, 0, 1, 8, 11, 12, 13, 14, 0, 0, 0]),
     (true, &[9, 1, 16, 1, 1, 8, 11, 12, 13, 14, 0, 0, 0]),

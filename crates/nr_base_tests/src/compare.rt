@@ -6,7 +6,7 @@ use std::alloc::Global;
 use std::fmt::Debug;
 use std::process::Abort;
 
-/// Ends the test where the two values differ, and prints both with the number of the row.
+/// Ends the test if the two values differ, and prints both with the number of the row.
 pub fn same<T: PartialEq + Debug + Drop>(rt: &impl Abort, row: usize, got: T, want: T) {
     if got != want {
         differ(rt, row, &got, &want);
@@ -34,7 +34,7 @@ pub fn bytes_of(rt: &impl Abort, alloc: Global, words: &[u32]) -> Vec<u8> {
     bytes
 }
 
-/// The bytes of parts in words, one behind the other.
+/// The bytes of parts in words, one after the other.
 pub fn joined(rt: &impl Abort, alloc: Global, parts: &[&[u32]]) -> Vec<u8> {
     let mut bytes = Vec::new(alloc);
     for part in parts {
@@ -49,21 +49,21 @@ pub fn again<T: Xdr>(alloc: Global, bytes: &[u8]) -> Result<Octets, ValueFault> 
     Ok(value.write(alloc)?)
 }
 
-/// Ends the test where the value is not encoded by the words of these parts.
+/// Ends the test if the value is not encoded by the words of these parts.
 pub fn encoded_as<T: Xdr>(rt: &impl Abort, alloc: Global, row: usize, value: &T, parts: &[&[u32]]) {
     let got = value.write(alloc).expect(rt, "memory").into_vec();
     same(rt, row, got, joined(rt, alloc, parts));
 }
 
-/// Ends the test where a value does not have the number beside it.
+/// Ends the test if a value does not have the number beside it.
 pub fn numbered_as<T: Numbered>(rt: &impl Abort, rows: &[(T, u32)]) {
     for (row, (value, number)) in rows.iter().enumerate() {
         same(rt, row, value.number(), *number);
     }
 }
 
-/// What the words of a row are written as, once they are read: the same words, or others; or the place at which they are
-/// no value.
+/// What the words of a row are written as, once they are read: the same words, or others; or the offset at which they
+/// are no value.
 #[derive(Clone, Copy)]
 pub enum Want {
     Same,
@@ -85,7 +85,7 @@ fn wanted(
     }
 }
 
-/// Ends the test where what a row's words were written as, once they were read, is not what the row wants.
+/// Ends the test if what a row's words were written as, once they were read, is not what the row wants.
 pub fn row_gives(
     rt: &impl Abort,
     alloc: Global,
@@ -98,7 +98,7 @@ pub fn row_gives(
     same(rt, row, got.map(Octets::into_vec), wanted);
 }
 
-/// Ends the test where the value of these parts is not written as it was read.
+/// Ends the test if the value of these parts is not written as it was read.
 pub fn parts_again(
     rt: &impl Abort,
     alloc: Global,

@@ -41,7 +41,7 @@ static MESSAGES: [(&[u32], Read); 46] = [
     (&[1, 2, 16, 0], Read::Version(2)),
     (&[1, 2, 16, 0, 0, 0, 0], Read::Version(2)),
     (&[1, MOST, 16, 3], Read::Version(MOST)),
-    // Whole error messages of any version, and others: another code, or other bytes than those of the code.
+    // Complete error messages of any version, and others: another code, or other bytes than those of the code.
     (&[1, 2, 16, 4, 1, 1, 3], Read::Header),
     (&[1, 1, 16, 4, 2], Read::Header),
     (&[1, 7, 16, 4, 2], Read::Header),
@@ -145,21 +145,20 @@ fn messages(rt: HostRuntime) {
     same(&rt, 46, read_as(&[0; 15]), Read::Short);
 }
 
-/// Puts these words so many times at the end.
 fn put_times(rt: &impl Abort, bytes: &mut Vec<u8>, words: &[u32], times: u32) {
     for _ in 0..times {
         put_words(rt, bytes, words);
     }
 }
 
-/// A list of so many segments behind a word that says that it is there.
+/// A list of `count` segments after a word that says that it is there.
 fn put_chunk(rt: &impl Abort, bytes: &mut Vec<u8>, count: u32) {
     put_words(rt, bytes, &[1, count]);
     put_times(rt, bytes, &[1, 1, 0, 0], count);
 }
 
-/// RDMA_MSG with so many read entries, two write chunks of so many segments each, a reply chunk of so many segments, and so
-/// many words of a stream.
+/// RDMA_MSG by five counts: of read entries, of segments in the first write chunk, in the second, and in the reply chunk, and
+/// of words of a stream.
 fn message(rt: &impl Abort, alloc: Global, counts: [u32; 5]) -> Vec<u8> {
     let [entries, first, second, reply, stream] = counts;
     let mut bytes = bytes_of(rt, alloc, &[1, 1, 16, 0]);
@@ -233,8 +232,8 @@ const NOMSG_WORDS: [&[u32]; 3] = [
     &WRITE_AND_REPLY,
 ];
 
-/// The kind; of ERR_VERS the version word, the lowest and the highest version, of ERR_CHUNK the version word; and where the
-/// stream begins.
+/// The kind; of ERR_VERS the version word, the lowest and the highest version, of ERR_CHUNK the version word; and the offset
+/// of the stream.
 fn body_numbers(body: &Body) -> ([u32; 4], usize) {
     match body {
         Body::Msg { stream_at, .. } => ([0; 4], *stream_at),
@@ -255,7 +254,7 @@ fn written(rt: &impl Abort, alloc: Global, header: &Header) -> Octets
     write_header(alloc, header).expect(rt, "memory")
 }
 
-/// Ends the test where the header doesn't have these numbers, or isn't written as the front of the bytes.
+/// Ends the test if the header doesn't have these numbers, or isn't written as the front of the bytes.
 fn same_header(
     rt: &impl Abort,
     alloc: Global,
@@ -404,7 +403,7 @@ fn long_header_words(rt: &impl Abort, alloc: Global) -> Vec<u8> {
     bytes
 }
 
-/// A read list of 17 entries is written whole, and refused at its last one when it is read.
+/// A read list of 17 entries is written completely, and refused at its last one when it is read.
 #[test]
 fn written_above_the_limit(rt: HostRuntime) {
     let written = long_header_written(&rt, rt.alloc()).into_vec();

@@ -223,7 +223,7 @@ fn a_pipe_hands_out_each_byte_once_and_keeps_all(rt: HostRuntime) {
     same(&rt, 6, pipe.log(), b"abcdefg".as_slice());
 }
 
-/// What is read of "abcde", where the call of a number fails: how many bytes, or why none.
+/// What is read of "abcde", if the call of a number fails: how many bytes, or why none.
 fn read_five(
     rt: &impl Abort,
     alloc: Global,
@@ -256,7 +256,7 @@ fn whole_inputs(rt: HostRuntime) {
     }
 }
 
-/// Writes each piece whole: what the call answers.
+/// Writes each piece completely: what the call answers.
 fn whole_writes<K: Sink>(
     rt: &impl Abort,
     row: usize,

@@ -77,7 +77,7 @@ fn registered_without_room(rt: HostRuntime) {
     same(&rt, 0, got, Ok((1, 4)));
 }
 
-// The kind, the STag, the place, and the answer to a segment of four bytes.
+// The kind, the STag, the offset, and the answer to a segment of four bytes.
 static PLACES: [(Kind, u32, u64, Result<(), Denied>); 13] = [
     (Kind::Write, 2, 0xffff_ffff_ffff_fffe, Err(Denied::Bounds)),
     (Kind::Write, 2, 0xffff_ffff_ffff_ffff, Err(Denied::Bounds)),
@@ -94,7 +94,7 @@ static PLACES: [(Kind, u32, u64, Result<(), Denied>); 13] = [
     (Kind::Write, 2, 3, Ok(())),
 ];
 
-/// Ends the test where the regions have not so many STags left, or hold not so many bytes.
+/// Ends the test if the regions have another number of STags left, or hold another number of bytes.
 fn same_counts(rt: &impl Abort, row: usize, regions: &Regions, want: (u64, u128)) {
     let counts = (regions.stags_left(), regions.bytes_held());
     same(rt, row, counts, want);
@@ -136,7 +136,12 @@ fn placed_in_window(rt: &impl Abort, alloc: Global) {
         panic!(rt; "memory");
     };
     same(rt, 0, regions.place(Kind::Response, 1, 1, b"ire"), Ok(()));
-    same(rt, 1, regions.place(Kind::Response, 1, 4, b"x"), Err(Denied::Bounds));
+    same(
+        rt,
+        1,
+        regions.place(Kind::Response, 1, 4, b"x"),
+        Err(Denied::Bounds),
+    );
     same(rt, 2, regions.bytes(&registration), b".ire".as_slice());
     let buf = regions.release_buffer(registration);
     same(rt, 3, buf.as_slice(), b"head.iretail".as_slice());
@@ -147,7 +152,7 @@ fn window(rt: HostRuntime) {
     placed_in_window(&rt, rt.alloc());
 }
 
-// The STag, the place, the length, and the answer.
+// The STag, the offset, the length, and the answer.
 static FETCHES: [(u32, u64, u64, Result<&[u8], Denied>); 8] = [
     (0xffff_fffd, 1, 4, Ok(b"hown")),
     (0xffff_fffd, 5, 0, Ok(b"")),

@@ -278,7 +278,7 @@ fn each_row_is_read_and_written(rt: HostRuntime) {
     }
 }
 
-/// A value with every optional part there: its parts in words, one behind the other.
+/// A value with every optional part there: its parts in words, one after the other.
 struct Full(Type, &'static [&'static [u32]]);
 
 // RFC 1813 section 2.5, fattr3: a word for each of its fields of 4 bytes, two for each of 8
@@ -291,7 +291,7 @@ pub const ATTRIBUTES: [u32; 22] = [
     1, 2, 0o755, 3, 1, 2, 0, 4096, 0, 8192, 5, 6, 0, 1, 0, 9, 10, 11, 12, 13, 14, 15,
 ];
 
-// section 2.5, pre_op_attr: a 1, a size and two times. With post_op_attr behind it, a wcc_data
+// section 2.5, pre_op_attr: a 1, a size and two times. With post_op_attr after it, a wcc_data
 const BEFORE: [u32; 7] = [1, 0, 1, 2, 3, 4, 5];
 
 // section 2.5, post_op_fh3: a 1 and a handle of eight bytes

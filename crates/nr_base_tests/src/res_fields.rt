@@ -1,4 +1,4 @@
-//! Tests of nr_nfs_res: the place of each field.
+//! Tests of nr_nfs_res: the offset of each field.
 
 use crate::compare::encoded_as;
 use crate::res::ATTRIBUTES;

@@ -30,8 +30,8 @@ fn cred_words(cred: &Cred) -> ([u32; 7], usize) {
     }
 }
 
-/// What is read of a call: RPC's version, the xid, the program, its version and the procedure; the place of the arguments; and
-/// the credential.
+/// What is read of a call: RPC's version, the xid, the program, its version and the procedure; the offset of the arguments;
+/// and the credential.
 type CallWords = ([u32; 5], usize, ([u32; 7], usize));
 
 fn call_words(head: &CallHead) -> CallWords {
@@ -48,7 +48,7 @@ fn call_words(head: &CallHead) -> CallWords {
     }
 }
 
-/// The words of the call head at the front, or the place of the first item that fails.
+/// The words of the call head at the front, or the offset of the first item that fails.
 fn call_answer(alloc: Global, bytes: &[u8]) -> Result<CallWords, usize> {
     match read_call(alloc, bytes) {
         Ok(head) => Ok(call_words(&head)),
@@ -212,7 +212,6 @@ fn targets(rt: HostRuntime) {
     same(&rt, 0, call_target(&bytes), Some(target));
 }
 
-/// Puts so many zeros at the end.
 fn put_zeros(rt: &impl Abort, bytes: &mut Vec<u8>, count: u32) {
     for _ in 0..count {
         bytes.push(0).expect(rt, "memory");
@@ -227,7 +226,7 @@ fn counted(rt: &impl Abort, alloc: Global, before: &[u32], count: u32) -> Vec<u8
     bytes
 }
 
-/// The place of the arguments of the call at the front, or of the first item that fails.
+/// The offset of the arguments of the call at the front, or of the first item that fails.
 fn args_at(alloc: Global, bytes: &[u8]) -> Result<usize, usize> {
     call_answer(alloc, bytes).map(|words| words.1)
 }
@@ -261,8 +260,8 @@ fn longest_bodies_of_replies(rt: HostRuntime) {
     }
 }
 
-/// A call of AUTH_SYS with a body of so many bytes, whose machine's name has so many, in 64 words, and so many further
-/// groups.
+/// A call of AUTH_SYS: `body` is the length of the credential's body, `machine` that of the machine's name, which takes 64
+/// words, and `groups` the number of further groups.
 fn sys_call(rt: &impl Abort, alloc: Global, body: u32, machine: u32, groups: u32) -> Vec<u8> {
     let head = [1, 0, 2, 100_003, 3, 0, 1, body, 0, machine];
     let mut bytes = bytes_of(rt, alloc, &head);
@@ -322,7 +321,7 @@ fn sys_cred(rt: &impl Abort, alloc: Global) -> Cred
     }
 }
 
-/// Ends the test where a call with these arguments is not written as these words.
+/// Ends the test if a call with these arguments is not written as these words.
 fn written_as(
     rt: &impl Abort,
     alloc: Global,
@@ -385,7 +384,7 @@ fn other_version_written(rt: HostRuntime) {
 }
 
 /// What is read of a reply: 0, the xid, the accept status and 0; 1 (PROG_MISMATCH) or 2 (RPC_MISMATCH), the xid, the lowest
-/// and the highest version; 3, the xid, the auth status and 0. Then the place of the results.
+/// and the highest version; 3, the xid, the auth status and 0. Then the offset of the results.
 fn reply_words(head: &ReplyHead) -> ([u32; 4], usize) {
     match *head {
         ReplyHead::Accepted {
@@ -424,7 +423,7 @@ fn reply_head(words: [u32; 4]) -> ReplyHead
     }
 }
 
-/// The words of the reply head at the front, or the place of the first item that fails.
+/// The words of the reply head at the front, or the offset of the first item that fails.
 fn reply_answer(bytes: &[u8]) -> Result<([u32; 4], usize), usize> {
     match read_reply(bytes) {
         Ok(head) => Ok(reply_words(&head)),
@@ -475,7 +474,7 @@ fn replies(rt: HostRuntime) {
     }
 }
 
-/// Ends the test where a reply head with these words, and two bytes of results, is not written as the words of its row.
+/// Ends the test if a reply head with these words, and two bytes of results, is not written as the words of its row.
 fn reply_written_as(rt: &impl Abort, alloc: Global, row: usize, head: [u32; 4], words: &[u32]) {
     let mut want = bytes_of(rt, alloc, words);
     want.extend_from_slice(b"hi").expect(rt, "memory");

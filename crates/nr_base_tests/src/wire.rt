@@ -6,7 +6,7 @@ use nr_xdr::{Memory, Octets};
 use std::alloc::Global;
 use std::process::Abort;
 
-/// What an answer is: 0 for a whole frame, `MORE`, or the reason for which it is refused.
+/// What an answer is: 0 for a complete frame, `MORE`, or the reason for which it is refused.
 const MORE: u32 = 100;
 
 fn segment_answer(next: &NextSegment<'_>) -> u32 {
@@ -17,8 +17,8 @@ fn segment_answer(next: &NextSegment<'_>) -> u32 {
     }
 }
 
-/// The form (1 for tagged), the last bit and the opcode; the STag and the place, or the word, the queue, the message's number
-/// and the offset; the length of the payload.
+/// The form (1 for tagged), the last bit and the opcode; the STag and the offset, or the word, the queue, the message's
+/// number and the offset; the length of the payload.
 fn numbers_of(segment: &Segment<'_>) -> [u64; 8] {
     match *segment {
         Segment::Tagged {
@@ -144,8 +144,8 @@ fn segment_written(rt: &impl Abort, alloc: Global, bytes: &[u8]) -> Octets {
     }
 }
 
-/// Ends the test where the segment that the bytes begin with doesn't have this length and these numbers, or is written as
-/// other bytes.
+/// Ends the test if the segment that the bytes begin with doesn't have this length and these numbers, or is written as other
+/// bytes.
 fn segment_again(
     rt: &impl Abort,
     alloc: Global,
@@ -343,14 +343,14 @@ fn hello_bytes(key: u8, flags: u8, revision: u8, private: u16) -> [u8; 532] {
     bytes
 }
 
-/// Ends the test where one of these numbers of bytes more is not what the hello needs: of 19 bytes, and of 20.
+/// Ends the test if one of these numbers of bytes more is not what the hello needs: of 19 bytes, and of 20.
 fn needs(rt: &impl Abort, row: usize, side: Side, bytes: &[u8; 532], rest: usize) {
     let awaited = Awaited::Hello(side);
     same(rt, row, bytes_needed(awaited, &bytes[..19]), 1);
     same(rt, row, bytes_needed(awaited, &bytes[..20]), rest);
 }
 
-/// Ends the test where the hello of these bytes is not answered so, and its first 19 as a part of one.
+/// Ends the test if the hello of these bytes is not answered so, and its first 19 as a part of one.
 fn answers(rt: &impl Abort, row: usize, side: Side, bytes: &[u8; 532], want: Result<usize, u32>) {
     same(
         rt,
@@ -393,7 +393,7 @@ fn hello_fields(rt: HostRuntime) {
     }
 }
 
-/// Ends the test where the hello of these bytes is written as others.
+/// Ends the test if the hello of these bytes is written as others.
 fn hello_written(rt: &impl Abort, alloc: Global, row: usize, side: Side, bytes: &[u8], len: usize) {
     let written = hello_again(alloc, side, bytes).expect(rt, "memory");
     same(rt, row, Some(written.as_slice()), bytes.get(..len));

@@ -8,13 +8,13 @@ use std::process::Abort;
 /// The name `a.txt` as opaque data (RFC 4506 section 4.10), with a pad that isn't zero.
 const NAME_WITH_OTHER_PAD: [u8; 12] = [0, 0, 0, 5, 0x61, 0x2e, 0x74, 0x78, 0x74, 0, 0, 0xff];
 
-/// 100003, 2^56 + .., true, `a.txt` behind its length, and `abcde` alone.
+/// 100003, 2^56 + .., true, `a.txt` after its length, and `abcde` alone.
 const ITEMS: [u8; 36] = [
     0, 1, 0x86, 0xa3, 1, 2, 3, 4, 5, 6, 7, 8, 0, 0, 0, 1, 0, 0, 0, 5, 0x61, 0x2e, 0x74, 0x78, 0x74,
     0, 0, 0, 0x61, 0x62, 0x63, 0x64, 0x65, 0, 0, 0,
 ];
 
-/// The items of `ITEMS`, one behind the other.
+/// The items of `ITEMS`, one after the other.
 fn put_items(writer: &mut Writer) -> Result<(), Memory> {
     writer.u32(100_003)?;
     writer.u64(0x0102_0304_0506_0708)?;

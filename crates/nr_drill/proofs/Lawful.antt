@@ -314,7 +314,7 @@ one_in {X = X} x c h = by (Contains-push_cases [] x c h)
     by (inl none) = none_in {W = x ≡ c} c none
     by (inr is) = is
 
--- the element that stands at a place of a list, and the first one that passes a test
+-- the element at an index of a list, and the first one that passes a test
 got_in : {X : Type 0} (xs : List X) (i : ℕ) (c : X) → slice_get xs i ≡ Some c → Contains xs c
 got_in [] i c e = absurd cc
 got_in {X = X} (x ∷ xs) zero c e = here x xs c (ap (λ (o : Option X). unwrap_or o c) e)

@@ -20,8 +20,8 @@ use Rattle.nr_drill.specs.Headline.{IsLink, HasNoRaw}
 use Rattle.nr_drill.specs.WorkLeft.{DrainStep, after_step, work_left, IsLess}
 use Rattle.nr_drill.specs.WorkLeft.DrainStep.{AllUp, Work, AllDown}
 
--- How a link of a drill stands before and after each step: both sides keep their laws and have written what was due; what each received and what
--- waits is what the other sent, until the link is dropped, and then nothing waits; each side has the hello of the other.
+-- The state of a link of a drill before and after each step: both sides keep their laws and have written what was due; what each received and
+-- what waits is what the other sent, until the link is dropped, and then nothing waits; each side has the hello of the other.
 pub record IsRunning (s : Setting) (link : ℕ) (d : Drill) : Type 0 where
   pub asked : Asked (s.opened link) link d.marks
   pub served : Served (s.opened link) link d.marks

@@ -24,17 +24,16 @@ use Rattle.nr_laws.specs.Touches.{StopsAt, IsUnchanged}
 use Rattle.nr_laws.specs.PlacedBytes.{HoldsAllowed}
 use Rattle.nr_laws.specs.Sent.{IsSentFor}
 
--- Each access of a frame to a side's memory is allowed by a region that the side offers at that frame for this access, or the side stops there.
+-- Each access of a frame to a side's memory is allowed by a region that the side offers at that frame for this access, or the frame ends the side.
 abbrev pub IsTouched : {S : Type 0} → EndMachine S → (S → List Region) → (initial : EndState S) → (received : List RunEvent) → (after : EndState S) → Type 0
 IsTouched {S = S} rules regions initial received after = (earlier later : List RunEvent) (f : Frame) (segment : Segment) (access : Access) →
     (let before : EndState S = end_state_after rules initial earlier in
     received ≡ earlier ++ FrameReceived f ∷ later → before.ended ≡ None → is_hello f ≡ false → frame_segment f ≡ Ok segment → access_of segment ≡ Some access →
     Allowed (region_grants f.end (regions before.state)) access f.end ⊎ StopsAt rules before f after)
 
--- Whatever the peer sends. A server stops at a Read Request, so it discloses nothing. Each byte of a region is the one that was registered, or one
--- that an allowed frame brought. Each byte that a client has sent is of its hello, of the Send
--- of an accepted call, of its last output, or of the response to a Read Request that is allowed. What a Revoke gives back is what stood then,
--- and nothing later changes it.
+-- Whatever the peer sends. A Read Request ends a server, so it discloses nothing. Each byte of a region is the one that was registered, or one
+-- that an allowed frame brought. Each byte that a client has sent is of its hello, of the Send of an accepted call, of its last output, or of the
+-- response to a Read Request that is allowed. What a Revoke gives back is what the regions held then, and nothing later changes it.
 pub record KeepsMemory (opened : LinkParameters) (link : ℕ) (run : List Mark) : Type 0 where
   pub client_touched : IsTouched (client_rules opened) (λ s. s.regions) (initial_client opened) (events link Initiator run) (client opened link run)
   pub server_touched : IsTouched (server_rules opened) (λ s. s.regions) (initial_server opened) (events link Responder run) (server opened link run)

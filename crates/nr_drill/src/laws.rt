@@ -4,8 +4,8 @@ ghost use Rattle.nr_drill.specs.Laws.{DrillsAreRuns, OneRun, ReportsTellRuns, Pl
 ghost use Rattle.nr_drill.specs.Drains.{StepsLeaveLess, RepliesKeepTypes, DrainsEnd};
 
 /// Whatever made the marks: if they are those that a script makes over a sane first tree, and each reply is bytes, then the run is that of a
-/// drill. Each end of each link keeps its laws; each access to memory is allowed, or ends the side; a call that completes has the
-/// plain server's reply at its place in the one journal, or ends with Chunk exactly for its causes; and on a link that stays all
+/// drill. Each end of each link keeps its laws; each access to memory is allowed, or ends the side; a call that completes has the plain
+/// server's reply at its place in the one journal, or ends with Chunk if and only if it has one of its causes; and on a link that stays all
 /// calls complete after a last drain.
 pub fn drill_is_run()
     ensures { DrillsAreRuns }
@@ -27,7 +27,7 @@ pub fn drains_end()
     ensures answers { PlainServersAnswer }
 {}
 
-/// What is printed of a run, and its sums, are told by its report alone.
+/// What is printed of a run, and its sums, are determined by its report alone.
 pub fn reports_tell_runs()
     ensures { ReportsTellRuns }
 {}

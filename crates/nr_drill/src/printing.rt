@@ -27,7 +27,6 @@ fn push_two(text: &mut String, first: u128, second: u64) -> Result<(), Memory>
     Ok(())
 }
 
-/// A text.
 fn push_text(text: &mut String, words: &str) -> Result<(), Memory>
     ensures { OnOk result (string_bytes text.new ≡ string_bytes text.old ++ words.now) }
 {
@@ -344,7 +343,6 @@ fn reply_sum(calls: &[CallReport]) -> u128
     sum
 }
 
-/// The sums of the calls.
 #[tactic(auto, unfolding(crate::specs::Shown::call_sums))]
 fn push_call_sums(text: &mut String, calls: &[CallReport]) -> Result<(), Memory>
     ensures { OnOk result (string_bytes text.new ≡ string_bytes text.old ++ call_sums calls.now) }

@@ -1,4 +1,4 @@
--- For which reasons a frame ends a side, and where the others come from.
+-- For which reasons a frame ends a side, and what makes the other reasons.
 use Rattle.std.proofs.Common.{◌≡◌, ℕ, Bool, true, false, cond, List, [], ◌∷◌, ◌++◌, length, take, Option, Some, None, Result, Ok, Err, IfSome, Contains, inl, inr, refl, sym, subst, ◌∙◌, append_assoc, eqb, arith}
 use Rattle.std.specs.Prelude.{◌⊎◌, is_some, IfErr, ◌||◌, nat_lt, not}
 use Rattle.std.proofs.lemmas.List.{append-nil}
@@ -234,7 +234,7 @@ no_frame_stops Fpdu reason (inr long) (inr (inr (inr (inr (inl is))))) = omega (
 no_frame_stops Fpdu reason (inr long) (inr (inr (inr (inr (inr (inl is)))))) = omega (arith, long, is)
 no_frame_stops Fpdu reason (inr long) (inr (inr (inr (inr (inr (inr is)))))) = omega (arith, long, is)
 
--- ---- Where an End comes from
+-- ---- What makes an End
 
 abbrev HasCause : List Call → End → Type 0
 HasCause calls (ends.Bad at reason) = ((a : Awaited) × IsFrameReason a reason) ⊎ Contains calls (Stop reason)

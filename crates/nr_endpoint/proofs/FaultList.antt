@@ -50,7 +50,7 @@ first_two at true b2 others = refl
 first_two at false true others = refl
 first_two at false false others = refl
 
--- the faults behind number and offset
+-- the faults after number and offset
 abbrev later_faults : LinkState → Bool → (opcode w queue msn offset : ℕ) → List ℕ → Faults
 later_faults s last opcode w queue msn offset payload =
     no_buffer (readiness s (missing_access s.memory (Untagged last opcode w queue msn offset payload))) (eqb opcode OPCODE_SEND) msn

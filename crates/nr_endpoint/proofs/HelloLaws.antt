@@ -28,7 +28,7 @@ abbrev awaits_hello : Awaited → Bool
 awaits_hello (HelloFrom side) = true
 awaits_hello Fpdu = false
 
--- a side to which the peer's hello didn't come yet, after so many bytes were written
+-- a side to which the peer's hello didn't come yet, after these bytes were written
 record IsEarly (side : Side) (out : List ℕ) (a : Awaited) (s : LinkState) : Type 0 where
   pub start : s.place ≡ 0
   pub awaited : has_ended s ≡ false → awaits_hello a ≡ true

@@ -1,4 +1,5 @@
--- Where the items of a list end, as items are queued and bytes are written; and how many were written whole.
+-- The offsets at which the items of a list end, as items are queued and bytes are written; and how many were written
+-- completely.
 use Rattle.std.proofs.Common.{◌≡◌, ℕ, ◌+◌, ◌-◌, ◌<◌, ◌≤◌, Bool, true, false, cond, ◌&&◌, ltb, nat_lt, nat_le, List, [], ◌∷◌, ◌++◌, length, inl, inr, refl, sym, ap, ◌∙◌, arith, add-zero, append_assoc, length-append}
 use Rattle.std.specs.Prelude.{map}
 use Rattle.std.specs.List.{filter}
@@ -15,7 +16,7 @@ encoding_more [] more = refl
 encoding_more (item ∷ items) more =
     ap (λ (bytes : List ℕ). item_encoding item ++ bytes) (encoding_more items more) ∙ sym (append_assoc (item_encoding item) (items_encoding items) (items_encoding more))
 
--- the end of an item, where it is of the kind
+-- the end of an item, if it is of the kind
 abbrev pub end_of_item : (OutputItem → Bool) → ℕ → OutputItem → List ℕ
 end_of_item is at item = cond (is item) ((at + length (item_encoding item)) ∷ []) []
 
@@ -62,7 +63,7 @@ passed_twice n m ends =
 
 -- ---- Counts
 
--- whether an item that ends here was written whole: by the bytes that were written, or by those of the FPDUs
+-- whether an item that ends here was written completely: by the bytes that were written, or by those of the FPDUs
 abbrev pub EndsAlike : (hello written fpdus : ℕ) → Type 0
 EndsAlike hello written fpdus = (end : ℕ) → 1 ≤ end → nat_lt written (hello + end) ≡ nat_lt fpdus end
 
@@ -99,7 +100,7 @@ left_counts is hello written fpdus at (item ∷ items) some alike =
         ap (λ (w : Bool). one_if_true (is item && w)) same
         ∙ sym (one_left fpdus (at + length (item_encoding item)) (is item) (nat_lt fpdus (at + length (item_encoding item))) refl)
 
--- those that were written whole and those that weren't are all of the kind
+-- those that were written completely and those that weren't are all of the kind
 one_or_other : (b : Bool) (written end : ℕ) → one_if_true (b && nat_le end written) + one_if_true (b && nat_lt written end) ≡ length (cond b (end ∷ []) [])
 one_or_other false written end = refl
 one_or_other true written end =
@@ -115,7 +116,7 @@ written_and_left is at written (item ∷ items) =
     let n : ℕ = length (item_encoding item) in
     omega (arith, one_or_other (is item) written (at + n), written_and_left is (at + n) written items, length-append (end_of_item is at item) (item_ends is (at + n) items))
 
--- the ends of the same items from another place on are as many
+-- the ends of the same items from another offset on are as many
 pub ends_count : (is : OutputItem → Bool) (at other : ℕ) (items : List OutputItem) → length (item_ends is at items) ≡ length (item_ends is other items)
 ends_count is at other [] = refl
 ends_count is at other (item ∷ items) =

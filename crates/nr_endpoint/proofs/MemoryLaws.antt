@@ -203,7 +203,7 @@ open_region_holds grants link calls stag right buf given there stays =
     ∙ live_held (after_events link.state.memory (memory_events link calls)) stag
     ∙ contents_are grants stag right (length buf) (memory_events link calls) link.state.memory buf refl given (sym (live_held link.state.memory stag) ∙ there) stays
 
--- the law of the whole stream, at a memory that is equal to the one after the events before
+-- the law of the complete stream, at a memory that is equal to the one after the events before
 whole_stream_lem : (grants : List Grant) (m : RegisteredMemory) (from until : ℕ) (right : Right) (buf : List ℕ) (before between after : List MemoryEvent) (now : RegisteredMemory) → after_events m before ≡ now →
     IsRegisteredAt grants now.next from before → IsReleasedAt grants now.next right (length buf) until between after →
     bytes_in (held_region (after_events m (before ++ RegisterRegion right buf ∷ between)) now.next)

@@ -1,4 +1,4 @@
--- What the owner is told, and that it comes behind all tagged segments before it.
+-- What is delivered to the owner, and that it comes after all tagged segments before it.
 use Rattle.std.proofs.Common.{◌≡◌, ℕ, ◌+◌, ◌<◌, ◌≤◌, Bool, true, false, cond, ◌&&◌, eqb, List, [], ◌∷◌, ◌++◌, length, map, take, drop, Option, Some, None, Result, Ok, Err, refl, sym, ap, subst, ◌∙◌, arith, append_assoc}
 use Rattle.std.specs.Prelude.{All}
 use Rattle.std.proofs.lemmas.List.{append-nil, map-append}
@@ -34,7 +34,7 @@ use Rattle.nr_endpoint.proofs.PlaceOrder.{Between, calls_between}
 abbrev names : List QueuedEvent → List DeliveredEvent
 names made = map (λ (m : QueuedEvent). m.notice) made
 
--- from a state to a later one: what is told, and what is made
+-- from a state to a later one: what is delivered, and what is made
 abbrev Makes : LinkState → List DeliveredEvent → List QueuedEvent → LinkState → Type 0
 Makes s delivered made after = (delivered ++ after.receive_queue.notices ≡ s.receive_queue.notices ++ names made) × NoticesRise s.place made after.place
 
@@ -66,7 +66,7 @@ joined s between after first second xs ys one two = (
 
 -- ---- A frame
 
--- all of them are made at one place
+-- all of them are made at one offset
 abbrev AtEnd : ℕ → List QueuedEvent → Type 0
 AtEnd n [] = Unit {0}
 AtEnd n (m ∷ made) = (m.end ≡ n) × AtEnd n made

@@ -85,7 +85,7 @@ pub not_judged : (result : Bool) (next one other : LinkState) → next ≡ (cond
 not_judged true next one other is t = absurd cc
 not_judged false next one other is t = is
 
--- ---- A frame that lies whole in the piece, and one that doesn't
+-- ---- A frame that lies completely in the piece, and one that doesn't
 
 pub in_piece : (s : ℕ) (a : Awaited) (piece : List ℕ) (r : Option ℕ) (len : ℕ) → r ≡ cond (eqb s 0 && is_whole a piece) (Some (frame_len a piece)) None → r ≡ Some len →
     (s ≡ 0) × ((is_whole a piece ≡ true) × (len ≡ frame_len a piece))
@@ -174,7 +174,7 @@ staged_facts a old new piece s t len within p taken is =
       behind = λ k within. staged_behind old new piece s t k is few room within;
     }
 
--- how it is kept: where the frame isn't whole, where it is judged
+-- how it is kept: when the frame is incomplete, and when it is judged
 pub keeps_partial : {room later : ℕ} {outside others : FinMap nat_cmp Outside} (a : Awaited) (st : LinkState) (old new piece : List ℕ) (s t : ℕ) → StagedFacts a old new piece s t → length old ≡ FPDU_MAX →
     KeepsStaging (record { link = record { awaited = a; rest = take s old; state = st }; staging = old; room = room; outside = outside }) (record { link = record { awaited = a; rest = take (s + t) new; state = st }; staging = new; room = later; outside = others }) piece
 keeps_partial a st old new piece s t facts len = record {
@@ -194,7 +194,7 @@ keeps_whole a after st next old new piece s t facts len p taken whole other =
       len = facts.len ∙ sym len;
     }
 
--- ---- No frame makes want of memory
+-- ---- No frame runs out of memory
 
 not_memory : (f : Frame) (segment : Segment) (fault : Option (SegmentReason Denied)) → end_of_fault f segment fault ≢ Some ends.Memory
 not_memory f segment None is = absurd cc
@@ -251,7 +251,7 @@ memory_stays st a rest is none =
 pub unchanged : (e : EndpointState) (piece : List ℕ) → KeepsStaging e e piece
 unchanged e piece = record { others = refl; len = refl }
 
--- what one step left, where it wasn't for want of memory, and where it was
+-- what one step left, if it didn't run out of memory, and if it did
 step_not_memory : (before : LinkSide) (piece : List ℕ) → before.state.ended ≡ None → (after_call before (FeedOne piece)).state.ended ≢ Some ends.Memory
 unfolding after_call
 step_not_memory before piece none is = by (is_whole before.awaited (before.rest ++ piece)) refl
@@ -277,7 +277,7 @@ pub step_frame : (before after : LinkSide) (piece : List ℕ) → IsStep before 
 step_frame before after piece (inl is) none memory = absurd (step_not_memory before piece none (ap (λ (l : LinkSide). l.state.ended) (sym is) ∙ memory))
 step_frame before after piece (inr (is, whole, queues)) none memory = (whole, queues)
 
--- no feed makes want of memory either
+-- no feed runs out of memory either
 ended_or_on : (b : Bool) (s : LinkState) (one other : LinkSide) → has_ended s ≡ b → s.ended ≢ Some ends.Memory → one.state ≡ s → (has_ended s ≡ false → other.state.ended ≢ Some ends.Memory) → (cond b one other).state.ended ≢ Some ends.Memory
 ended_or_on true s one other e kept same on is = kept (ap (λ (t : LinkState). t.ended) (sym same) ∙ is)
 ended_or_on false s one other e kept same on is = on e is

@@ -11,11 +11,11 @@ use Rattle.nr_endpoint.proofs.SendQueues.{ends_left_append, ends_passed_append}
 use Rattle.nr_endpoint.proofs.Queued.{send_some, response_some}
 use Rattle.nr_endpoint.proofs.ItemEnds.{encoding_more, end_of_item, ends_more, left_twice, passed_twice, left_kept, EndsAlike, HasBytes, left_counts, written_counts}
 
--- the most that the count of Sends tells
+-- the maximum of the count of Sends
 abbrev pub most : ℕ
 most = 2 ^ 64 - 1
 
--- A queue: of all of the hello so far, and of the encodings of these items, so many bytes were written, in this order.
+-- A queue: of all of the hello so far, and of the encodings of these items, these bytes were written, in this order.
 pub record QueueIs (all : List ℕ) (has_hello : Bool) (out : List ℕ) (items : List OutputItem) (q : SendQueue) : Type 0 where
   pub greeted : ℕ
   pub gone : ℕ

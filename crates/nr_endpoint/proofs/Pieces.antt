@@ -79,11 +79,11 @@ module _ {S : Type 0} (ended : S → Bool) (advanced : S → Awaited → List �
       ∙ feeding_after_step-rest ended advanced f piece p
       ∙ ap (feeding_after ended advanced f) (sym all)
 
--- ---- The places of frames
+-- ---- The offsets of frames
 
 -- ---- The loop
 
--- After some steps: the side stands where the first n bytes of the piece bring it, and the others are left; or memory ran out there.
+-- After some steps: the side has taken the first n bytes of the piece, and the others are left; or memory ran out there.
 pub record IsOn (before : LinkSide) (piece : List ℕ) (now : LinkSide) (left : List ℕ) : Type 0 where
   pub count : ℕ
   pub left_is : left ≡ drop count piece
@@ -134,7 +134,7 @@ runs_out before now after piece left on none is whole queues some first = record
     by (inl same) far = absurd (omega (arith, some, far, ap (λ (x : List ℕ). length x) same, ap (λ (x : List ℕ). length x) on.left_is, length-drop on.count piece))
     by (inr rest) far = rest
 
--- at the end of the piece, or where the side ended before it
+-- at the end of the piece, or at the end of the side before it
 pub all_fed : (before now : LinkSide) (piece left : List ℕ) → IsOn before piece now left → left ≡ [] → now ≡ after_call before (Feed piece)
 all_fed before now piece left on none =
     on.now_is ∙ ap (λ (bytes : List ℕ). after_call before (Feed bytes)) (take_all on.count piece (omega (arith, length-drop on.count piece, ap (λ (x : List ℕ). length x) (sym on.left_is ∙ none))))
@@ -165,7 +165,7 @@ some_taken a rest left p some = by (is_whole a (rest ++ left)) refl
     by true whole = omega (arith, (taken_whole a rest left p whole).1.1, not_frame a rest left p whole)
     by false partial = omega (arith, some, bytes_taken_partial a rest left partial)
 
--- ---- The place after a frame
+-- ---- The offset after a frame
 
 place_by : (b : Bool) (one other : LinkState) (n : ℕ) → one.place ≡ n → other.place ≡ n → (cond b one other).place ≡ n
 place_by true one other n h k = h
@@ -194,7 +194,7 @@ pub frame_place : (s : LinkState) (a : Awaited) (bytes : List ℕ) → (with_fra
 frame_place s (HelloFrom side) bytes none = hello_place (next_frame s bytes) (hello_of side bytes) s none
 frame_place s Fpdu bytes none = fpdu_place (next_frame s bytes) (segment_of bytes) s none
 
--- where something is left and the side goes on, the frame was whole: nothing is kept, and the place is behind it
+-- if something is left and the side goes on, the frame was complete: nothing is kept, and the offset is after it
 pub record IsBehindFrame (now after : LinkSide) (left : List ℕ) : Type 0 where
   pub rest : after.rest ≡ []
   pub place : after.state.ended ≡ None → after.state.place ≡ now.state.place + (length now.rest + bytes_taken now.awaited now.rest left)
@@ -243,7 +243,7 @@ keeps_on old now new piece left first (inr none) then =
 
 -- ---- What holds from step to step
 
--- how far a piece was taken: the side stands where its first bytes bring it, and the others are left; or it has all of it; or memory ran out
+-- how far a piece was taken: its first bytes, and the others are left; or all of it; or memory ran out
 pub data HowFar (before : LinkSide) (piece : List ℕ) (now : LinkSide) (left : List ℕ) : Type 0 where
   On : IsOn before piece now left → HowFar before piece now left
   All : now ≡ after_call before (Feed piece) → left ≡ [] → HowFar before piece now left
@@ -411,7 +411,7 @@ fewer_left old now new piece left after fed some adv = by (has_ended new.link.st
     by true e = omega (arith, some, ap (λ (x : List ℕ). length x) (none_left_lem (has_ended new.link.state) _ after adv.left_is e))
     by false e = omega (arith, some_taken now.link.awaited now.link.rest left fed.partial some, ap (λ (x : List ℕ). length x) (rest_left (has_ended new.link.state) _ after adv.left_is e), length-drop (bytes_taken now.link.awaited now.link.rest left) left)
 
--- ---- Where nothing is left
+-- ---- If nothing is left
 
 pub fed_all : (old now : EndpointState) (piece : List ℕ) → IsFedTo old piece now [] → (now.link.state.ended ≢ Some ends.Memory) → now.link ≡ after_call old.link (Feed piece)
 fed_all old now piece fed other = by fed.far
@@ -424,7 +424,7 @@ fed_all old now piece fed other = by fed.far
 memory_again : (l : LinkSide) → l.state.ended ≡ Some ends.Memory → l.rest ≡ [] → l ≡ after_call l OutOfMemory
 memory_again l memory none = memory_stays l.state l.awaited l.rest memory none
 
--- what a feed leaves where memory ran out
+-- what a feed leaves if memory ran out
 abbrev pub IsFedOut : LinkSide → List ℕ → LinkSide → Type 0
 IsFedOut before piece after =
     (n : ℕ) × (after ≡ after_calls before (Feed (take n piece) ∷ OutOfMemory ∷ [])) × StandsOnAll before (Feed (take n piece) ∷ OutOfMemory ∷ []) after

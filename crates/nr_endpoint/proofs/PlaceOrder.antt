@@ -23,7 +23,7 @@ use Rattle.nr_endpoint.specs.Calls.Call.{Feed, FeedOne, NextEvent, Post, Stop, O
 use Rattle.nr_endpoint.specs.Laws.{segment_arrivals, fpdu_arrivals, frame_arrivals, arrivals, frames_made_whole, call_events, memory_events, EndsWithin, PlacesAreInOrder, EndsRise, ArrivalsRise}
 use Rattle.nr_endpoint.proofs.MemoryLaws.{ended_arrivals, one_arrival}
 
--- from one place to another, the events' segments each end behind the one before
+-- from one offset to another, the events' segments each end after the one before
 abbrev pub Between : ℕ → ℕ → List MemoryEvent → Type 0
 Between from until [] = from ≤ until
 Between from until (RegisterRegion right buf ∷ events) = Between from until events
@@ -147,7 +147,7 @@ low_end from until (RegisterRegion right buf ∷ events) between = low_end from 
 low_end from until (ReleaseRegion stag ∷ events) between = low_end from until events between
 low_end from until (Arrive segment ∷ events) between = omega (arith, between.0, low_end segment.end until events between.1)
 
--- the segments end within wider places
+-- the segments end within wider offsets
 pub all_within : (first from until : ℕ) (events : List MemoryEvent) → first ≤ from → Between from until events → All (EndsWithin first until) (tagged_segments events)
 all_within first from until [] low between = All-nil (EndsWithin first until)
 all_within first from until (RegisterRegion right buf ∷ events) low between = all_within first from until events low between

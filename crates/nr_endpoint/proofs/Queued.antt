@@ -81,7 +81,7 @@ unfolding with_end
 terminate_queues side end word q is =
     omega (arith, terminate_some word, ap (λ (bytes : List ℕ). length bytes) is, length-append q.hello (rejection side end), length-append q.fpdus (final_output end))
 
--- what holds anyway holds where there is an error
+-- what holds anyway holds if there is an error
 pub on_any_err : {T E P : Type 0} (r : Result T E) → P → OnErr r P
 on_any_err (Ok x) p = tt
 on_any_err (Err e) p = p

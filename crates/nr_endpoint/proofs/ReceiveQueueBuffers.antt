@@ -1,4 +1,5 @@
--- What a receive queue keeps of its buffers, and what it tells: as a read is done, as a message comes, as the owner is told.
+-- What a receive queue keeps of its buffers, and what it delivers: when a read is done, when a message comes, when a notice
+-- is delivered.
 use Rattle.std.proofs.Common.{◌≡◌, ℕ, zero, suc, ◌+◌, ◌-◌, ◌<◌, ◌≤◌, nat_lt, true, List, [], ◌∷◌, ◌++◌, length, take, replicate, Option, None, refl, sym, ap, ◌∙◌, arith, append_assoc, length-append}
 use Rattle.std.proofs.lemmas.List.{length-replicate, replicate_more}
 use Rattle.std.proofs.lemmas.List.Elements.{All-head, All-tail, All-rest, All-cons}
@@ -9,7 +10,7 @@ use Rattle.nr_endpoint.specs.Views.{notices, reads_first, without_first_read}
 use Rattle.nr_endpoint.specs.declared.receive_queue.BegunSend.{BegunSend}
 use Rattle.nr_endpoint.specs.declared.receive_queue.ReceivedMessage.{ReceivedMessage}
 
--- ---- What it tells
+-- ---- What it delivers
 
 -- the same reads stand before the notices of the other messages
 behind : (m : ReceivedMessage) (xs ys : List DeliveredEvent) (zs : List DeliveredEvent) → xs ≡ ys ++ zs →
@@ -51,7 +52,7 @@ messages_in_notices (m ∷ messages) reads_done =
     let first : messages_in (notices (m ∷ messages) reads_done) ≡ 1 + messages_in (notices messages reads_done) = messages_in_reads m.reads_done (MessageReceived m.number None (take m.len m.buf) ∷ notices messages reads_done) in
     omega (arith, first, messages_in_notices messages reads_done)
 
--- the owner is told a read that was done before the first message, or behind the last one
+-- what is delivered is a read that was done before the first message, or after the last one
 pub notices_first_read : (messages : List ReceivedMessage) (reads_done : ℕ) → nat_lt 0 (reads_first messages) ≡ true →
     notices messages reads_done ≡ ReadDone ∷ notices (without_first_read messages) reads_done
 notices_first_read [] reads_done some = absurd cc

@@ -8,7 +8,7 @@ use Rattle.nr_endpoint.specs.Receives.{IsReceive}
 use Rattle.nr_endpoint.specs.Views.{begun_send, begun}
 use Rattle.nr_endpoint.specs.declared.receive_queue.BegunSend.{BegunSend}
 
--- the first bytes of some, with more behind them
+-- the first bytes of some, with more after them
 first_kept : (n m : ℕ) (x d : List ℕ) → length x ≡ m → take m (take n (x ++ d)) ≡ take n x
 first_kept n m x d h =
     elim (cases_lt m n) [
@@ -27,7 +27,7 @@ pub begun_send_len : (n : ℕ) (b : BegunSend) → length b.buf ≡ n → length
 begun_send_len n b h =
     omega (arith, length-append (take b.len b.buf) (replicate (b.len - n) 0), length-take b.len b.buf, length-replicate {A = ℕ} (b.len - n) 0)
 
--- bytes that are written into a buffer: all of them where they fit it, or else its rest
+-- bytes that are written into a buffer: all of them if they fit it, or else its rest
 pub written_all : (n : ℕ) (buf bytes : List ℕ) (at : ℕ) → length buf ≡ n → at < n → length bytes ≤ n - at →
     take at buf ++ (bytes ++ drop (at + length bytes) buf) ≡ take n (take at buf ++ (bytes ++ drop (at + length bytes) buf))
 written_all n buf bytes at h lt fits =

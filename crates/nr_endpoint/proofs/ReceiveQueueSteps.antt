@@ -1,4 +1,4 @@
--- A receive queue after one more segment, and as its owner is told something.
+-- A receive queue after one more segment, and after a notice was delivered.
 use Rattle.std.proofs.Common.{◌≡◌, ℕ, ◌+◌, ◌-◌, Bool, true, not, if◌then◌else◌, List, [], ◌∷◌, ◌++◌, drop, None, sym, ap, arith}
 use Rattle.std.proofs.lemmas.List.{append-nil}
 use Rattle.nr_wire.specs.Segment.Segment.{Untagged}

@@ -30,7 +30,7 @@ use Rattle.nr_endpoint.proofs.Pieces.{frame_place}
 use Rattle.nr_endpoint.proofs.PlaceOrder.{Between, low_end, frames_between, calls_between}
 use Rattle.nr_endpoint.proofs.StreamLaws.{IsFed, call_fed, stream_fed}
 
--- each tagged segment of the events ends after this place
+-- each tagged segment of the events ends after this offset
 abbrev Above : ℕ → List MemoryEvent → Type 0
 Above low [] = Unit {0}
 Above low (RegisterRegion right buf ∷ events) = Above low events
@@ -85,7 +85,7 @@ frame_above : (low : ℕ) (s : LinkState) (a : Awaited) (frame : List ℕ) → l
 frame_above low s (HelloFrom side) frame long = tt
 frame_above low s Fpdu frame long = fpdu_above low s (next_frame s frame) (segment_of frame) long
 
--- the first frame ends after this place
+-- the first frame ends after this offset
 abbrev pub FirstAbove : ℕ → ℕ → List (List ℕ) → Type 0
 FirstAbove low place [] = Unit {0}
 FirstAbove low place (frame ∷ frames) = low < place + length frame

@@ -64,13 +64,13 @@ passed_more n i passed more ends old h so_far passed_is more_is =
 pub passed_within : (n i : ℕ) (ends : List ℕ) → ends_passed n (take i ends) ≤ i
 passed_within n i ends = omega (arith, length-take i ends)
 
--- the whole hello and then `count` bytes of the FPDUs were written
+-- the complete hello and then `count` bytes of the FPDUs were written
 taken_both : (hello fpdus : List ℕ) (count : ℕ) → take (length hello + count) (hello ++ fpdus) ≡ hello ++ take count fpdus
 taken_both hello fpdus count =
     take-add (length hello) count (hello ++ fpdus)
     ∙ (λ t. take_at hello fpdus (length hello) refl t ++ take count (drop_at hello fpdus (length hello) refl t))
 
--- what `write_queue` says where n bytes of those that may be written were written
+-- what `write_queue` says if n bytes of those that may be written were written
 abbrev pub Written : {T E : Type 0} → (may hello fpdus hello_left fpdus_left : List ℕ) → ℕ → Option (List ℕ) → Option (List ℕ) → Result T E → ℕ → Type 0
 Written may hello fpdus hello_left fpdus_left count before after r n =
     (count ≡ n - length hello) × (n ≤ length may) × (hello_left ≡ drop n hello) × (fpdus_left ≡ drop (n - length hello) fpdus)

@@ -24,7 +24,7 @@ none_needed a rest whole =
       | inr none ↦ omega (arith, none)
     ]
 
--- where the fields are there, one part is all that is taken
+-- if the fields are there, one part is all that is taken
 one_part : (a : Awaited) (rest piece : List ℕ) → IsPartial a rest → fields_len a ≤ length rest → part a rest piece ≡ bytes_taken a rest piece
 one_part a rest piece p fields =
     elim (cases_lt (length piece) (bytes_needed a rest)) [
@@ -37,7 +37,7 @@ one_part a rest piece p fields =
           omega (arith, enough, taken, all, count)
     ]
 
--- a frame that the first part makes whole
+-- a frame that the first part completes
 whole_part : (a : Awaited) (rest front back : List ℕ) → length rest ≤ length (rest ++ front) → is_whole a (rest ++ front) ≡ true → frame_len a (rest ++ front) ≡ length (rest ++ front) →
     bytes_taken a rest (front ++ back) ≡ length front
 whole_part a rest front back le whole len =
@@ -92,7 +92,7 @@ two_parts a rest piece p =
 
 -- ---- What is staged then
 
--- the frame, where it is whole, else all
+-- the frame, if it is complete, else all
 pub taken_whole : (a : Awaited) (rest piece : List ℕ) → IsPartial a rest → is_whole a (rest ++ piece) ≡ true →
     (rest ++ take (bytes_taken a rest piece) piece ≡ take (frame_len a (rest ++ piece)) (rest ++ piece)) × (IsFrame a (rest ++ take (bytes_taken a rest piece) piece) × (length rest + bytes_taken a rest piece ≡ frame_len a (rest ++ piece)))
 taken_whole a rest piece p whole =
@@ -106,7 +106,7 @@ taken_whole a rest piece p whole =
 pub taken_all : (a : Awaited) (rest piece : List ℕ) → is_whole a (rest ++ piece) ≡ false → rest ++ take (bytes_taken a rest piece) piece ≡ rest ++ piece
 taken_all a rest piece partial = ap (λ (bytes : List ℕ). rest ++ bytes) (ap (λ (n : ℕ). take n piece) (bytes_taken_partial a rest piece partial) ∙ take_all (length piece) piece (omega arith))
 
--- what is staged is whole exactly where the piece made the frame whole
+-- what is staged is complete if and only if the piece completed the frame
 pub whole_as_staged : (a : Awaited) (rest piece : List ℕ) → IsPartial a rest → is_whole a (rest ++ take (bytes_taken a rest piece) piece) ≡ is_whole a (rest ++ piece)
 whole_as_staged a rest piece p = by (is_whole a (rest ++ piece)) refl
   where

@@ -91,7 +91,7 @@ pub released_state : (l : LinkSide) (t : LinkState) (stag : ℕ) → t ≡ recor
 unfolding after_call
 released_state l t stag is = ap (λ (s : LinkState). with_state s l) is
 
--- ---- Where a call does nothing, or some of it
+-- ---- If a call does nothing, or some of it
 
 pub told_if : {room : ℕ} {outside : FinMap nat_cmp Outside} (b : Bool) (l : LinkSide) (staging : List ℕ) (now : EndpointState) (t : LinkState) → record { link = l; staging = staging; room = room; outside = outside } ≡ now →
     t ≡ (if b then record l.state { receive_queue = delivered l.state.receive_queue } else l.state) → with_state t l ≡ (if b then after_call now.link NextEvent else now.link)
@@ -102,12 +102,12 @@ pub told_stands : (b : Bool) (before after : LinkSide) → after ≡ (if b then 
 told_stands true before after is = λ holds. stands_on before NextEvent after is
 told_stands false before after is = λ holds. absurd cc
 
--- where a result is an error, nothing is asked of `Ok`
+-- if a result is an error, nothing is asked of `Ok`
 pub on_err : {T E : Type 0} (r : Result T E) → IsErr r → (Q : Type 0) → OnOk r Q
 on_err (Ok x) is Q = absurd cc
 on_err (Err e) is Q = cc
 
--- After a drain of some bytes: they were taken, as this says, and they are all, where that was said.
+-- After a drain of some bytes: they were taken, as this says, and they are all, if that was said.
 abbrev pub IsDrained : (List ℕ → Type 0) → (ℕ → ℕ → Type 0) → LinkSide → LinkSide → Type 0
 IsDrained IsTaken IsAll before after =
     (n : ℕ) × (n ≤ length (writable before.state.has_hello before.state.send_queue)) × IsTaken (take n (writable before.state.has_hello before.state.send_queue))

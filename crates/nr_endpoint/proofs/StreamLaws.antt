@@ -1,4 +1,4 @@
--- What a side keeps of the stream is what the bytes that were fed leave behind their whole frames.
+-- What a side keeps of the stream is what the bytes that were fed leave after their complete frames.
 use Rattle.std.proofs.Common.{◌≡◌, ℕ, ◌+◌, ◌≤◌, is_some, Bool, true, false, cond, List, [], ◌∷◌, ◌++◌, length, take, Option, Some, None, Result, Ok, Err, refl, sym, ap, subst, ◌∙◌, append_assoc, arith, append-nil, length-append}
 use Rattle.std.specs.List.{concat}
 use Rattle.nr_wire.specs.declared.hello.Side.{Side}
@@ -37,7 +37,7 @@ unfolding with_peer_hello
 hello_within s f (Ok hello) le = omega arith
 hello_within s f (Err reason) le = le
 
--- the place goes on by the frame, or stays where the frame ends the side
+-- the offset goes on by the frame, or stays if the frame ends the side
 frame_within : (s : LinkState) (a : Awaited) (frame : List ℕ) → (with_frame s a frame).place ≤ s.place + length frame
 frame_within s (HelloFrom side) frame = hello_within s (next_frame s frame) (hello_of side frame) (omega arith)
 frame_within s Fpdu frame = fpdu_within s (next_frame s frame) (segment_of frame) (omega arith)

@@ -11,8 +11,8 @@ use Rattle.nr_endpoint.specs.ReceiveQueue.{delivered, posted}
 use Rattle.nr_endpoint.specs.LinkState.{LinkState, LinkSide, has_ended}
 use Rattle.nr_endpoint.specs.Judging.{with_frame, with_end_of}
 
--- A call with what it was given. `Drain` has the number of bytes that the sink took, `Post` and `NextEvent` nothing. `OutOfMemory`
--- is want of memory within a feed or a stop, which ends the side.
+-- A call with what it was given. `Drain` has the number of bytes that the sink took, `Post` and `NextEvent` nothing. `OutOfMemory` means that
+-- memory ran out within a feed or a stop, which ends the side.
 pub data Call : Type 0 where
   Feed : (piece : List ℕ) → Call
   FeedOne : (piece : List ℕ) → Call
@@ -80,22 +80,22 @@ StandsOnAll before more after = (start : LinkSide) (calls : List Call) → Repre
 abbrev pub StandsOn : LinkSide → Call → LinkSide → Type 0
 StandsOn before call after = StandsOnAll before (call ∷ []) after
 
--- the frame that a side awaits is whole with these bytes behind what it keeps
+-- these bytes, after what a side keeps, complete the frame that it awaits
 abbrev pub makes_whole : LinkSide → List ℕ → Bool
 makes_whole link bytes = is_whole link.awaited (link.rest ++ bytes)
 
--- With memory, the frame that these bytes make whole would queue output: a responder's hello, a Read Response, or what is written last.
+-- With memory, the frame that these bytes complete would queue output: a responder's hello, a Read Response, or what is written last.
 abbrev pub QueuesOutput : LinkSide → List ℕ → Type 0
 QueuesOutput link bytes = output_len link.state.send_queue < output_len (after_call link (FeedOne bytes)).state.send_queue
 
--- After one step on a piece: it is taken up to the end of the frame that it makes whole, else all of it; or memory ran out for the output of
--- a frame that it makes whole.
+-- After one step on a piece: it is taken up to the end of the frame that it completes, else all of it; or memory ran out for the output of a
+-- frame that it completes.
 abbrev pub IsStep : LinkSide → List ℕ → LinkSide → Type 0
 IsStep before piece after =
     (after ≡ after_call before (FeedOne piece)) ⊎ ((after ≡ after_call before OutOfMemory) × (makes_whole before piece ≡ true) × QueuesOutput before piece)
 
--- Where memory ran out in a piece: behind its first n bytes the side hasn't ended, and the bytes that follow make the next frame whole, which
--- would queue output. Only a frame that was begun before the piece can be begun there.
+-- If memory ran out in a piece: after its first n bytes the side hasn't ended, and the bytes that follow complete the next frame, which would
+-- queue output. Only a frame that was begun before the piece can be begun there.
 pub record RanOutAt (before : LinkSide) (piece : List ℕ) (n : ℕ) : Type 0 where
   pub live : has_ended (after_call before (Feed (take n piece))).state ≡ false
   pub whole : makes_whole (after_call before (Feed (take n piece))) (drop n piece) ≡ true

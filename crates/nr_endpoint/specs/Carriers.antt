@@ -11,7 +11,7 @@ operation_segment (carriers.Send msn) last offset payload = Untagged last OPCODE
 operation_segment (carriers.Write stag to) last offset payload = Tagged last OPCODE_WRITE stag (to + offset) payload
 operation_segment (carriers.Response stag to) last offset payload = Tagged last OPCODE_READ_RESPONSE stag (to + offset) payload
 
--- so many bytes can be carried: their offsets fit
+-- this number of bytes can be carried: their offsets fit
 abbrev pub FitsCarrier : Operation → ℕ → Type 0
 FitsCarrier (carriers.Send msn) n = n < 2 ^ 32
 FitsCarrier (carriers.Write stag to) n = to + n ≤ 2 ^ 64

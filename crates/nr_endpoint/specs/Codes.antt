@@ -1,4 +1,4 @@
--- The codes of the values that contracts see, by which a proof tells them apart.
+-- The codes of the values that contracts see, by which a proof distinguishes them.
 use Rattle.std.specs.Prelude.{◌≡◌, ℕ, ◌==◌, Bool, if◌then◌else◌, List, Option, None, Some, refl}
 use Rattle.std.specs.Ordering.{nat_cmp}
 use Rattle.std.specs.FinMap.{FinMap, code}

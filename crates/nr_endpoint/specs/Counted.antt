@@ -1,5 +1,5 @@
--- The counts of untagged messages are no greater than the number of bytes that they came in, and no more waits to be told than bytes
--- came. Once the peer's hello was accepted, some bytes came. Each receive has send_max bytes, and a message of the peer fits it.
+-- The counts of untagged messages are at most the number of bytes that they came in, and so is the number of events to deliver. Once
+-- the peer's hello was accepted, some bytes came. Each receive has send_max bytes, and a message of the peer fits it.
 use Rattle.std.specs.Prelude.{◌≡◌, ℕ, ◌+◌, ◌<◌, ◌≤◌, Bool, true, length}
 use Rattle.nr_link.specs.Limits.{send_max}
 use Rattle.nr_link.specs.ReceiveState.{begun_bytes}

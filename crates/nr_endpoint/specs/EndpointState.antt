@@ -22,7 +22,7 @@ pub record LinkView : Type 0 where
   pub room : ℕ
   pub outside : FinMap nat_cmp Outside
 
--- The number of bytes of the frame that was begun before a piece, as far as it was fed with it; none where no frame was begun.
+-- The number of bytes of the frame that was begun before a piece, as far as it was fed with it; 0 if no frame was begun.
 abbrev pub cut_frame_len : Awaited → List ℕ → List ℕ → ℕ
 cut_frame_len awaited [] piece = 0
 cut_frame_len awaited (byte ∷ rest) piece =

@@ -1,4 +1,4 @@
--- How many bytes of the peer's stream a side has gone over: those of its frames, and of the frame that isn't whole.
+-- How many bytes of the peer's stream a side has processed: those of its frames, and of the incomplete frame.
 use Rattle.std.specs.Prelude.{ℕ, ◌+◌, length}
 use Rattle.nr_endpoint.specs.LinkState.{LinkSide}
 

@@ -25,7 +25,7 @@ use Rattle.nr_endpoint.specs.LinkState.{LinkState}
 
 -- ---- What ends the side
 
--- what the access of a segment lacks of the regions, where it lacks something
+-- what the access of a segment lacks of the regions, if anything
 abbrev pub missing_access : RegisteredMemory → Segment → Option Denied
 missing_access m segment = option_and_then (denial m) (access_of segment)
 
@@ -53,7 +53,7 @@ with_end_of end s = record s { ended = Some end; send_queue = with_end s.side en
 
 -- ---- What a segment does that doesn't end the side
 
--- the open reads after a Read Response with so many bytes, which may be its last segment
+-- the open reads after a Read Response with n bytes, which may be its last segment
 abbrev pub reads_after : Bool → ℕ → List ExpectedResponse → List ExpectedResponse
 reads_after last n [] = []
 reads_after true n (r ∷ reads) = reads
@@ -68,7 +68,7 @@ with_read_response last n s = record s {
 abbrev pub fetch_access : ReadRequest → Access
 fetch_access r = record { right = Fetch; stag = r.stag; to = r.to; len = r.size }
 
--- a Read Request is answered with the bytes as they stand (RFC 5040 section 5.2)
+-- a Read Request is answered with the present bytes (RFC 5040 section 5.2)
 abbrev pub with_read_request : Option ReadRequest → RegisteredMemory → SendQueue → SendQueue
 with_read_request None m q = q
 with_read_request (Some r) m q = with_response r.sink r.sink_to (bytes_at m (fetch_access r)) q
@@ -85,7 +85,7 @@ with_effect (Untagged last opcode w queue msn offset payload) s = record s {
 
 -- ---- A frame
 
--- the next frame, with its place
+-- the next frame, with its offset
 abbrev pub next_frame : LinkState → List ℕ → Frame
 next_frame s bytes = record { at = s.place; end = s.place + length bytes; bytes = bytes }
 

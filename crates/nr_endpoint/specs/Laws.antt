@@ -36,7 +36,7 @@ use Rattle.nr_endpoint.specs.Calls.Call.{Feed, FeedOne, NextEvent, Post, Stop, O
 abbrev pub PiecesJoin : Type 0
 PiecesJoin = (link : LinkSide) (x y : List ℕ) → after_calls link (Feed x ∷ Feed y ∷ []) ≡ after_call link (Feed (x ++ y))
 
--- One step on a piece, and then the rest of the piece, is the whole piece.
+-- One step on a piece, and then the rest of the piece, equals a feed of the complete piece.
 abbrev pub StepsReach : Type 0
 StepsReach = (link : LinkSide) (piece : List ℕ) → IsPartial link.awaited link.rest →
     after_calls link (FeedOne piece ∷ Feed (drop (bytes_taken link.awaited link.rest piece) piece) ∷ []) ≡ after_call link (Feed piece)
@@ -86,14 +86,14 @@ pub record KeepsInput (link : LinkSide) (input : InputState) : Type 0 where
   pub rest : link.rest ≡ input.rest
   pub place : link.state.place ≡ input.place
 
--- Until a side has ended, what it keeps is the rest of the bytes that were fed behind their whole frames, and its place is the end of
--- these.
+-- Until a side has ended, what it keeps is the rest of the bytes that were fed after their complete frames, and its offset is the end
+-- of these frames.
 abbrev pub StreamIsKept : Type 0
 StreamIsKept = (side : Side) (receives first_stag : ℕ) (calls : List Call) →
     let start = initial_link side receives first_stag in
     has_ended (after_calls start calls).state ≡ false → KeepsInput (after_calls start calls) (input_of (peer side) (bytes_fed start calls))
 
--- Ended or not, its place and what it keeps are no more than the bytes that were fed.
+-- Ended or not, its offset and what it keeps are no more than the bytes that were fed.
 abbrev pub PlaceIsFed : Type 0
 PlaceIsFed = (side : Side) (receives first_stag : ℕ) (calls : List Call) →
     let start = initial_link side receives first_stag in
@@ -120,11 +120,11 @@ abbrev pub arrivals : List (List ℕ) → Awaited → LinkState → List MemoryE
 arrivals [] a s = []
 arrivals (frame ∷ frames) a s = if has_ended s then [] else frame_arrivals s a frame ++ arrivals frames Fpdu (with_frame s a frame)
 
--- the frames that a piece makes whole
+-- the frames that a piece completes
 abbrev pub frames_made_whole : LinkSide → List ℕ → List (List ℕ)
 frames_made_whole link piece = (split link.awaited (link.rest ++ piece)).frames
 
--- What a call does to the memory. A feed of one frame takes the first that the piece makes whole.
+-- What a call does to the memory. A feed of one frame takes the first that the piece completes.
 abbrev pub call_events : LinkSide → Call → List MemoryEvent
 call_events link (Feed piece) = arrivals (frames_made_whole link piece) link.awaited link.state
 call_events link (FeedOne piece) = arrivals (take 1 (frames_made_whole link piece)) link.awaited link.state
@@ -147,7 +147,7 @@ memory_events link (call ∷ calls) = call_events link call ++ memory_events (af
 abbrev pub MemoryFollowsEvents : Type 0
 MemoryFollowsEvents = (link : LinkSide) (calls : List Call) → (after_calls link calls).state.memory ≡ after_events link.state.memory (memory_events link calls)
 
--- the memory denies none of the tagged segments, each as it stands when that segment arrives
+-- the memory denies none of the tagged segments, each judged by the memory at the time it arrives
 abbrev pub IsUndenied : RegisteredMemory → MemoryEvent → Type 0
 IsUndenied m (RegisterRegion right buf) = Unit {0}
 IsUndenied m (ReleaseRegion stag) = Unit {0}
@@ -160,7 +160,7 @@ NoneIsDenied m (event ∷ events) = IsUndenied m event × NoneIsDenied (after_ev
 abbrev pub PlacesAreAllowed : Type 0
 PlacesAreAllowed = (link : LinkSide) (calls : List Call) → NoneIsDenied link.state.memory (memory_events link calls)
 
--- They come in the order of the stream: each ends behind the frames before these calls, and not behind the last of these calls.
+-- They come in the order of the stream: each ends after the frames before these calls, and not after the last frame of these calls.
 abbrev pub EndsWithin : ℕ → ℕ → TaggedSegment → Type 0
 EndsWithin from until segment = (from < segment.end) × (segment.end ≤ until)
 
@@ -168,7 +168,7 @@ abbrev pub PlacesAreInOrder : Type 0
 PlacesAreInOrder = (link : LinkSide) (calls : List Call) →
     All (EndsWithin link.state.place (after_calls link calls).state.place) (tagged_segments (memory_events link calls))
 
--- Each ends behind the one before it, and the first behind this place.
+-- Each ends after the one before it, and the first after this offset.
 abbrev pub EndsRise : ℕ → List TaggedSegment → Type 0
 EndsRise from [] = Unit {0}
 EndsRise from (segment ∷ segments) = (from < segment.end) × EndsRise segment.end segments
@@ -176,9 +176,9 @@ EndsRise from (segment ∷ segments) = (from < segment.end) × EndsRise segment.
 abbrev pub ArrivalsRise : Type 0
 ArrivalsRise = (link : LinkSide) (calls : List Call) → EndsRise link.state.place (tagged_segments (memory_events link calls))
 
--- ---- What the owner is told
+-- ---- What is delivered to the owner
 
--- what a segment that doesn't end the side tells: that a read is done, by its last Read Response, or the message that it completes
+-- what a segment that doesn't end the side delivers: that a read is done, by its last Read Response, or the message that it completes
 abbrev pub notices_of : ReceiveState → Segment → List DeliveredEvent
 notices_of received (Tagged last opcode stag to payload) = if (opcode == OPCODE_READ_RESPONSE) && last then ReadDone ∷ [] else []
 notices_of received (Untagged last opcode w queue msn offset payload) = message_notices (received.sends + 1) (message_completed received (Untagged last opcode w queue msn offset payload))
@@ -226,7 +226,7 @@ abbrev pub notices_made : LinkSide → List Call → List QueuedEvent
 notices_made link [] = []
 notices_made link (call ∷ calls) = call_notices link call ++ notices_made (after_call link call) calls
 
--- what a call tells the owner: `NextEvent` the first notice that waits
+-- what a call delivers to the owner: `NextEvent` the first notice that waits
 abbrev pub call_delivers : LinkSide → Call → List DeliveredEvent
 call_delivers link (Feed piece) = []
 call_delivers link (FeedOne piece) = []
@@ -245,14 +245,14 @@ abbrev pub events_delivered : LinkSide → List Call → List DeliveredEvent
 events_delivered link [] = []
 events_delivered link (call ∷ calls) = call_delivers link call ++ events_delivered (after_call link call) calls
 
--- What the owner was told and then what still waits is what waited before these calls and then what their frames made, in order. So the
--- owner is told each once, and nothing else.
+-- What was delivered to the owner and then what still waits is what waited before these calls and then what their frames made, in
+-- order. So each notice is delivered once, and nothing else is.
 abbrev pub EventsAreTold : Type 0
 EventsAreTold = (link : LinkSide) (calls : List Call) →
     events_delivered link calls ++ (after_calls link calls).state.receive_queue.notices
     ≡ link.state.receive_queue.notices ++ map (λ made. made.notice) (notices_made link calls)
 
--- They come in the order of the stream: each is made at a frame behind that of the one before it.
+-- They come in the order of the stream: each is made at a frame after that of the one before it.
 abbrev pub NoticesRise : ℕ → List QueuedEvent → ℕ → Type 0
 NoticesRise from [] until = from ≤ until
 NoticesRise from (made ∷ others) until = (from < made.end) × NoticesRise made.end others until
@@ -260,8 +260,8 @@ NoticesRise from (made ∷ others) until = (from < made.end) × NoticesRise made
 abbrev pub EventsAreInOrder : Type 0
 EventsAreInOrder = (link : LinkSide) (calls : List Call) → NoticesRise link.state.place (notices_made link calls) (after_calls link calls).state.place
 
--- Once a notice is made, and so when the owner is told it, all tagged segments of the frames up to its own have been placed: the memory
--- is that of the events so far, and of the events of all calls only those are left whose tagged segments end behind that frame.
+-- Once a notice is made, and so when it is delivered, all tagged segments of the frames up to its own have been placed: the memory is
+-- that of the events so far, and of the events of all calls only those are left whose tagged segments end after that frame.
 abbrev pub EventsFollowAccesses : Type 0
 EventsFollowAccesses = (link : LinkSide) (before after : List Call) →
     let now = after_calls link before in
@@ -269,7 +269,8 @@ EventsFollowAccesses = (link : LinkSide) (before after : List Call) →
     × ((memory_events link (before ++ after) ≡ memory_events link before ++ memory_events now after)
     × All (λ made. All (λ segment. made.end < segment.end) (tagged_segments (memory_events now after))) (notices_made link before))
 
--- A feed of one frame makes its notice at the place where the side stands then, so no tagged segment of a later frame has been placed.
+-- A feed of one frame makes its notice at the offset that the side has reached then, so no tagged segment of a later frame has been
+-- placed.
 abbrev pub OneFrameTellsAtItsEnd : Type 0
 OneFrameTellsAtItsEnd = (link : LinkSide) (piece : List ℕ) →
     All (λ made. made.end ≡ (after_call link (FeedOne piece)).state.place) (notices_made link (FeedOne piece ∷ []))
@@ -282,7 +283,7 @@ OneFrameTellsOnce = (link : LinkSide) (piece : List ℕ) →
 -- ---- What the peer reads of it
 
 -- A Read Request that doesn't end the side makes an access that the memory doesn't deny, and is answered with the bytes of that
--- access, as they stand at its frame.
+-- access, by their values at its frame.
 abbrev pub ReadsAreAllowed : Type 0
 ReadsAreAllowed = (s : LinkState) (frame : List ℕ) (segment : Segment) (request : ReadRequest) →
     segment_of frame ≡ Ok segment → read_request_of segment ≡ Some request → segment_end s (next_frame s frame) segment ≡ None →
@@ -350,7 +351,7 @@ ClaimsStay = (link : LinkSide) (claim : Claim) (calls : List Call) → IsHeld li
 
 -- ---- What a side writes before the peer's hello
 
--- A side is stopped behind a frame of the peer. `stop` asks this of its caller.
+-- A side is stopped after a frame of the peer. `stop` asks this of its caller.
 abbrev pub MayBeCalled : LinkSide → Call → Type 0
 MayBeCalled link (Feed piece) = Unit {0}
 MayBeCalled link (FeedOne piece) = Unit {0}
@@ -408,7 +409,7 @@ abbrev pub IsFrameReason : Awaited → ℕ → Type 0
 IsFrameReason (HelloFrom side) reason = (REASON_KEY ≤ reason) × (reason ≤ REASON_PRIVATE)
 IsFrameReason Fpdu reason = ((REASON_LENGTH ≤ reason) × (reason ≤ REASON_SHORT)) ⊎ (reason ≡ REASON_LONG)
 
--- how a frame at this place ends a side, which is never for want of memory
+-- how a frame at this offset ends a side, which is never by lack of memory
 abbrev pub IsFrameEnd : Awaited → ℕ → End → Type 0
 IsFrameEnd a place (ends.Bad at reason) = (at ≡ place) × IsFrameReason a reason
 IsFrameEnd a place (ends.Denied stag offset why) = a ≡ Fpdu
@@ -423,7 +424,7 @@ FramesEndForThese = (s : LinkState) (a : Awaited) (frame : List ℕ) → s.ended
 abbrev pub NoFrameStops : Type 0
 NoFrameStops = (a : Awaited) (reason : ℕ) → IsFrameReason a reason → IsStopReason reason → ⊥
 
--- So a side that ended for such a reason was stopped for it, and one that ended for want of memory ran out of it.
+-- So a side that ended for such a reason was stopped for it, and a side that ended out of memory ran out of it.
 abbrev pub OthersComeFromStop : Type 0
 OthersComeFromStop = (side : Side) (receives first_stag : ℕ) (calls : List Call) (at reason : ℕ) →
     (after_calls (initial_link side receives first_stag) calls).state.ended ≡ Some (ends.Bad at reason) → IsStopReason reason → Contains calls (Stop reason)
@@ -436,19 +437,20 @@ MemoryComesFromOutOfMemory = (side : Side) (receives first_stag : ℕ) (calls : 
 abbrev pub DeniesAlike : RegisteredMemory → List Grant → ℕ → Type 0
 DeniesAlike m grants end = (access : Access) → denial m access ≡ grant_denial grants access end
 
--- So an FPDU ends a side exactly where, and as, it ends a side that offered these grants, by the whole list of nr_link.
+-- So an FPDU ends a side if and only if it ends a side that offered these grants, and with the same reason, by the complete list of
+-- nr_link.
 abbrev pub GrantsEndAlike : Type 0
 GrantsEndAlike = (s : LinkState) (grants : List Grant) (frame : List ℕ) → s.ended ≡ None →
     DeniesAlike s.memory grants (next_frame s frame).end → (with_frame s Fpdu frame).ended ≡ frame_end (readiness s) grants (next_frame s frame)
 
--- They do where memory and grants offer the same under every STag.
+-- They do if memory and grants offer the same under every STag.
 abbrev pub OffersDenyAlike : Type 0
 OffersDenyAlike = (m : RegisteredMemory) (grants : List Grant) (end : ℕ) →
     ((stag : ℕ) → region_offer (live_region m stag) ≡ grant_offer (grant_at grants stag end)) → DeniesAlike m grants end
 
 -- ---- What a side writes once it has ended
 
--- the output where nothing more is queued: only what is written leaves it
+-- the output if nothing more is queued: only what is written leaves it
 abbrev pub queue_drained : Call → SendQueue → SendQueue
 queue_drained (Feed piece) q = q
 queue_drained (FeedOne piece) q = q
@@ -472,7 +474,7 @@ abbrev pub EndedQueuesNothing : Type 0
 EndedQueuesNothing = (link : LinkSide) (calls : List Call) → has_ended link.state ≡ true →
     (after_calls link calls).state.send_queue ≡ queue_drained_by calls link.state.send_queue
 
--- Where a side is stopped it queues what it writes last, and where memory ran out, nothing.
+-- A side that is stopped queues what it writes last; one that ran out of memory queues nothing.
 abbrev pub StopQueuesLast : Type 0
 StopQueuesLast = (link : LinkSide) (reason : ℕ) → link.state.ended ≡ None →
     (after_call link (Stop reason)).state.send_queue.fpdus ≡ link.state.send_queue.fpdus ++ final_output (ends.Bad link.state.last reason)

@@ -11,10 +11,10 @@ use Rattle.nr_regions.specs.RegisteredMemory.{RegisteredMemory, initial_memory}
 use Rattle.nr_endpoint.specs.SendQueue.{SendQueue, initial_queue}
 use Rattle.nr_endpoint.specs.ReceiveQueue.{ReceiveQueue, initial_receives}
 
--- Which side it is. Whether the peer's hello was accepted. The place of the last whole frame of the peer's stream, and the place
--- behind it, in bytes. Why the side ended, once it has. What came, and what has to be written. The Read Requests that are open,
--- the oldest first, each with the place in its own region where its response goes on, and how many bytes are left. The regions. The bytes
--- that a message of the peer has at most.
+-- Which side it is. Whether the peer's hello was accepted. The offset of the last complete frame of the peer's stream, and the offset after
+-- it, in bytes. Why the side ended, once it has. What came, and what has to be written. The Read Requests that are open, the oldest first,
+-- each with the offset in its own region at which its response continues, and how many bytes are left. The regions. The maximum length of a
+-- message of the peer in bytes.
 pub record LinkState : Type 0 where
   pub side : Side
   pub has_hello : Bool
@@ -35,8 +35,8 @@ abbrev pub peer : Side → Side
 peer Initiator = Responder
 peer Responder = Initiator
 
--- What a side was opened with: so many receives, and the STag that its first region gets. Each receive has the length that a message has at
--- most.
+-- What a side was opened with: the number of receives, and the STag that its first region gets. Each receive has the maximum length of a
+-- message.
 abbrev pub initial_state : Side → ℕ → ℕ → LinkState
 initial_state side receives first_stag = record {
   side = side;

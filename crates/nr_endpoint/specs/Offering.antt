@@ -74,7 +74,7 @@ after_offer message o s = record s {
 
 -- ---- RDMA Writes and a Send
 
--- the places of a Write lie within 2^64
+-- the offsets of a Write lie within 2^64
 abbrev pub FitsRegion : RemoteWrite → Type 0
 FitsRegion w = w.to + length w.bytes.now ≤ 2 ^ 64
 

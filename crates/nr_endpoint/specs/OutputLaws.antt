@@ -27,7 +27,7 @@ use Rattle.nr_endpoint.specs.Laws.{frames_made_whole, bytes_written}
 
 -- ---- The items that are queued
 
--- the Read Response to a Read Request, with the bytes as they stand
+-- the Read Response to a Read Request, with the present bytes
 abbrev pub response_items : RegisteredMemory → Option ReadRequest → List OutputItem
 response_items m None = []
 response_items m (Some r) = ReadResponseItem r.sink r.sink_to (bytes_at m (fetch_access r)) ∷ []
@@ -53,7 +53,7 @@ abbrev pub items_of_frames : List (List ℕ) → Awaited → LinkState → List 
 items_of_frames [] a s = []
 items_of_frames (frame ∷ frames) a s = if has_ended s then [] else frame_items s a frame ++ items_of_frames frames Fpdu (with_frame s a frame)
 
--- What a call queues. A feed of one frame takes the first that the piece makes whole. Nothing is queued once the side has ended.
+-- What a call queues. A feed of one frame takes the first that the piece completes. Nothing is queued once the side has ended.
 abbrev pub call_items : LinkSide → Call → List OutputItem
 call_items link (Feed piece) = items_of_frames (frames_made_whole link piece) link.awaited link.state
 call_items link (FeedOne piece) = items_of_frames (take 1 (frames_made_whole link piece)) link.awaited link.state
@@ -79,8 +79,8 @@ abbrev pub rejection_by : Side → Option End → List ℕ
 rejection_by side None = []
 rejection_by side (Some end) = rejection side end
 
--- All of its hello that a side has queued: an initiator's stands there from the start, a responder's answers that of the initiator, or
--- rejects the connection (RFC 5044 section 7.1).
+-- All of its hello that a side has queued: an initiator's is there from the start, a responder's answers that of the initiator, or rejects
+-- the connection (RFC 5044 section 7.1).
 abbrev pub hello_queued : Side → Bool → Option End → List ℕ
 hello_queued Initiator has_hello ended = own_hello Initiator
 hello_queued Responder has_hello ended = if has_hello then own_hello Responder else rejection_by Responder ended
@@ -90,8 +90,8 @@ own_output_hello s = hello_queued s.side s.has_hello s.ended
 
 -- ---- What the calls ask
 
--- What a call asks of its caller or answers itself: a drain took no more than may be written, a side is stopped for a reason of the
--- layer above, a receive is posted that was lent, and no Read Request is queued while as many as may be are open.
+-- What a call asks of its caller or answers itself: a drain took no more than may be written, a side is stopped for a reason of the layer
+-- above, a receive is posted that was lent, and no Read Request is queued while the maximum number is open.
 abbrev pub IsAllowedCall : LinkSide → Call → Type 0
 IsAllowedCall link (Feed piece) = Unit {0}
 IsAllowedCall link (FeedOne piece) = Unit {0}
@@ -124,8 +124,8 @@ OutputIsItems = (side : Side) (receives first_stag : ℕ) (calls : List Call) �
     let s = (after_calls start calls).state in
     bytes_written start calls ++ (s.send_queue.hello ++ s.send_queue.fpdus) ≡ own_output_hello s ++ items_encoding (items_queued start calls)
 
--- The Sends that have left are those of the items that were written whole, and the Read Responses owed are those that weren't, by how
--- many bytes were written. The count of Sends stands still at 2 ^ 64 - 1.
+-- The Sends that have left are those of the items that were written completely, and the Read Responses owed are those that weren't, by the
+-- number of bytes written. The count of Sends saturates at 2 ^ 64 - 1.
 abbrev pub SendsGoByItems : Type 0
 SendsGoByItems = (side : Side) (receives first_stag : ℕ) (calls : List Call) → AreAllowedCalls (initial_link side receives first_stag) calls →
     let start = initial_link side receives first_stag in

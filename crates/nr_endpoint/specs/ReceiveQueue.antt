@@ -6,15 +6,15 @@ use Rattle.nr_link.specs.ReceiveState.{ReceiveState, nothing_received, is_send, 
 use Rattle.nr_link.specs.KeptSends.{received_within}
 use Rattle.nr_link.specs.SegmentFaults.{is_begun}
 
--- What the owner is told: the Send with a number, from 1 on, came whole, with the STag that it invalidates, if any (no Send that is
--- received here does so); the response to the Read Request that was open longest came whole.
+-- What is delivered to the owner: the Send with a number, from 1 on, is complete, with the STag that it invalidates, if any (no Send that is
+-- received here does so); the response to the Read Request that was open longest is complete.
 pub data DeliveredEvent : Type 0 where
   MessageReceived : (number : ℕ) → (invalidated : Option ℕ) → (bytes : List ℕ) → DeliveredEvent
   ReadDone : DeliveredEvent
 
--- How many receives the side was opened with, and the length of each in bytes. The untagged messages so far. How many receives are free.
--- How many messages were taken whose receive wasn't posted again. What the owner wasn't told yet, in order. Of a Send that is longer than its
--- receive the bytes beyond it are counted and not kept.
+-- How many receives the side was opened with, and the length of each in bytes. The untagged messages so far. How many receives are free. How
+-- many messages were taken whose receive wasn't posted again. What wasn't delivered to the owner yet, in order. Of a Send that is longer than
+-- its receive the bytes beyond it are counted and not kept.
 pub record ReceiveQueue : Type 0 where
   pub receives : ℕ
   pub receive_length : ℕ
@@ -56,7 +56,7 @@ with_segment segment q = record {
 abbrev pub with_read_done : ReceiveQueue → ReceiveQueue
 with_read_done q = record q { notices = q.notices ++ ReadDone ∷ [] }
 
--- the owner was told the first notice: the receive of a message is lent until it is posted again
+-- the first notice was delivered to the owner: the receive of a message is lent until it is posted again
 abbrev pub lent_for : List DeliveredEvent → ℕ
 lent_for [] = 0
 lent_for (MessageReceived number invalidated bytes ∷ notices) = 1
@@ -78,7 +78,7 @@ messages_in [] = 0
 messages_in (MessageReceived number invalidated bytes ∷ notices) = 1 + messages_in notices
 messages_in (ReadDone ∷ notices) = messages_in notices
 
--- How many receive buffers are kept: those of the free receives, that of a begun Send, and those of the
--- messages that the owner wasn't told yet. A receive that is lent isn't kept.
+-- How many receive buffers are kept: those of the free receives, that of a begun Send, and those of the messages that weren't delivered to
+-- the owner yet. A receive that is lent isn't kept.
 abbrev pub receives_kept : ReceiveQueue → ℕ
 receives_kept q = q.free + (sends_begun q.received.begun + messages_in q.notices)

@@ -7,7 +7,7 @@ use Rattle.nr_endpoint.specs.Calls.{Call, after_calls}
 use Rattle.nr_endpoint.specs.Laws.{bytes_fed, memory_events, notices_made}
 
 -- The bytes that were fed by some calls, those of an incomplete frame among them, divide the tagged segments: each that these calls placed
--- ends within the bytes, and each that later calls place ends after them. So a grant that begins once these bytes came covers just the later
+-- ends within the bytes, and each that later calls place ends after them. So a grant that begins once these bytes came covers only the later
 -- ones.
 abbrev pub ReceivedBytes : Type 0
 ReceivedBytes = (side : Side) (receives first_stag : ℕ) (before after : List Call) →

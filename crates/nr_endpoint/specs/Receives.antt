@@ -17,12 +17,12 @@ abbrev pub HasBuffer : ℕ → Event → Type 0
 HasBuffer n (events.Message number invalidated buf len) = IsReceive n buf × ((16 ≤ len) × (len ≤ n))
 HasBuffer n events.ReadDone = Unit {0}
 
--- the same of a message that the owner wasn't told yet
+-- the same of a message that wasn't delivered to the owner yet
 abbrev pub InBuffer : ℕ → ReceivedMessage → Type 0
 InBuffer n m = IsReceive n m.buf × ((16 ≤ m.len) × (m.len ≤ n))
 
--- Each buffer has the length of a receive, n. Each receive is free, has a begun Send or a message that the owner wasn't told yet, or is
--- lent. The vector of the free ones and the queue of the messages have room for all receives.
+-- Each buffer has the length of a receive, n. Each receive is free, has a begun Send or a message that wasn't delivered to the owner
+-- yet, or is lent. The vector of the free ones and the queue of the messages have room for all receives.
 pub record AreReceives (n : ℕ) (free : List (List ℕ)) (begun : Option BegunSend) (messages : List ReceivedMessage) (lent receives free_room message_room : ℕ) : Type 0 where
   pub free_len : All (IsReceive n) free
   pub begun_len : IfSome begun (λ b. IsReceive n b.buf)

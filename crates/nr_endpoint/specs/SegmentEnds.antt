@@ -1,4 +1,4 @@
--- Why a segment ends a side, one kind of segment at a time: for the code. nr_link has the whole list.
+-- Why a segment ends a side, one kind of segment at a time: for the code. nr_link has the complete list.
 use Rattle.std.specs.Prelude.{◌≡◌, ◌<◌, ◌≤◌, ◌^◌, ℕ, ◌+◌, Bool, true, false, not, ◌&&◌, ◌||◌, ◌==◌, nat_lt, nat_le, List, length, Option, None, Some}
 use Rattle.nr_wire.specs.Constants.{OPCODE_READ_REQUEST, OPCODE_READ_RESPONSE, OPCODE_TERMINATE}
 use Rattle.nr_wire.specs.Segment.{Segment}
@@ -21,7 +21,7 @@ abbrev pub IsUntagged : Segment → Type 0
 IsUntagged (Tagged last opcode stag to payload) = ⊥
 IsUntagged (Untagged last opcode w queue msn offset payload) = Unit {0}
 
--- a reason, where a test holds, else what follows
+-- a reason if a test holds, else what follows
 abbrev pub bad_if : ℕ → ℕ → Bool → Option End → Option End
 bad_if at reason true others = Some (ends.Bad at reason)
 bad_if at reason false others = others

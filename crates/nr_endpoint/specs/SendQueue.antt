@@ -1,4 +1,4 @@
--- What a side of a link has to write: its hello, and behind it FPDUs (RFC 5044 sections 4 and 7.1).
+-- What a side of a link has to write: its hello, and after it FPDUs (RFC 5044 sections 4 and 7.1).
 use Rattle.std.specs.Prelude.{ℕ, ◌+◌, ◌-◌, ◌^◌, min, nat_lt, Bool, if◌then◌else◌, List, [], ◌∷◌, ◌++◌, length, drop, map, Option, None, Some}
 use Rattle.std.specs.List.{filter}
 use Rattle.nr_wire.specs.declared.hello.Side.{Side}
@@ -8,8 +8,8 @@ use Rattle.nr_link.specs.Output.{msn_word, terminate_message, send, write, read_
 use Rattle.nr_link.specs.Ending.{final_output, rejection}
 
 -- The bytes of the hello and of the FPDUs that weren't written yet. For each Send and for each Read Response among the FPDUs, in
--- order, how many bytes of them go up to its end. How many Sends were written whole. The numbers of the last Send and of the last
--- Read Request, modulo 2 ^ 32.
+-- order, the number of bytes of them up to its end. How many Sends were written completely. The numbers of the last Send and of
+-- the last Read Request, modulo 2 ^ 32.
 pub record SendQueue : Type 0 where
   pub hello : List ℕ
   pub fpdus : List ℕ
@@ -31,7 +31,7 @@ first_hello Responder = []
 abbrev pub initial_queue : Side → SendQueue
 initial_queue side = record { hello = first_hello side; fpdus = []; send_ends = []; response_ends = []; sends_left = 0; last_send = 0; last_request = 0 }
 
--- the number behind another (RFC 5041 section 4.3)
+-- the number after another (RFC 5041 section 4.3)
 abbrev pub next_number : ℕ → ℕ
 next_number n = msn_word (n + 1)
 
@@ -70,12 +70,12 @@ with_response stag to bytes q = record q {
   response_ends = q.response_ends ++ length (q.fpdus ++ read_response stag to bytes) ∷ [];
 }
 
--- the Terminate with a word, where there is one
+-- the Terminate with a word, if there is one
 abbrev pub terminate_by : Option ℕ → List ℕ
 terminate_by None = []
 terminate_by (Some word) = terminate_message word
 
--- what a side writes last, where it ends
+-- what a side writes last, if it ends
 unfoldable pub with_end : Side → End → SendQueue → SendQueue
 with_end side end q = record q { hello = q.hello ++ rejection side end; fpdus = q.fpdus ++ final_output end }
 
@@ -85,7 +85,7 @@ with_end side end q = record q { hello = q.hello ++ rejection side end; fpdus = 
 abbrev pub writable : Bool → SendQueue → List ℕ
 writable has_hello q = q.hello ++ (if has_hello then q.fpdus else [])
 
--- The ends that are left where n bytes were written, and how many went by. A count stands still at 2 ^ 64 - 1.
+-- The ends that are left once n bytes were written, and how many went by. A count saturates at 2 ^ 64 - 1.
 abbrev pub ends_left : ℕ → List ℕ → List ℕ
 ends_left n ends = map (λ end. end - n) (filter (nat_lt n) ends)
 

@@ -1,4 +1,4 @@
--- What an endpoint keeps of the frame that isn't whole. A side that awaits an FPDU and hasn't ended has accepted the peer's hello.
+-- What an endpoint keeps of the incomplete frame. A side that awaits an FPDU and hasn't ended has accepted the peer's hello.
 use Rattle.std.specs.Prelude.{◌≡◌, ℕ, ◌≤◌, List, length, take, Bool, Option, is_some, true, false}
 use Rattle.nr_wire.specs.Constants.{FPDU_MAX}
 use Rattle.nr_wire.specs.declared.stream.Awaited.{Awaited}

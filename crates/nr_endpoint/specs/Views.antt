@@ -11,17 +11,17 @@ use Rattle.nr_endpoint.specs.declared.receive_queue.ReceivedMessage.{ReceivedMes
 use Rattle.nr_endpoint.specs.ReceiveQueue.{DeliveredEvent}
 use Rattle.nr_endpoint.specs.ReceiveQueue.DeliveredEvent.{MessageReceived, ReadDone}
 
--- an event is told with the receive buffer, of which the message is the first bytes
+-- an event is delivered with the receive buffer, of which the message is the first bytes
 abbrev pub notice : Event → DeliveredEvent
 notice (events.Message number invalidated buf len) = MessageReceived number invalidated (take len buf)
 notice events.ReadDone = ReadDone
 
--- each message stands behind the reads that were done before it, and behind the last message stand those that were done since
+-- each message comes after the reads that were done before it, and after the last message come those that were done since
 abbrev pub notices : List ReceivedMessage → ℕ → List DeliveredEvent
 notices [] reads_done = replicate reads_done ReadDone
 notices (m ∷ messages) reads_done = replicate m.reads_done ReadDone ++ MessageReceived m.number None (take m.len m.buf) ∷ notices messages reads_done
 
--- how many reads were done before the first message, and the messages once the owner was told one of those
+-- how many reads were done before the first message, and the messages once one of those was delivered to the owner
 abbrev pub reads_first : List ReceivedMessage → ℕ
 reads_first [] = 0
 reads_first (m ∷ messages) = m.reads_done
@@ -33,7 +33,7 @@ without_first_read (m ∷ messages) = record { reads_done = m.reads_done - 1; nu
 abbrev pub expected : OpenRead → ExpectedResponse
 expected r = record { sink = r.sink; at = r.at; left = r.end - r.at }
 
--- the bytes so far of a begun Send whose receive has n bytes: those beyond it are counted, and stand as zeros
+-- the bytes so far of a begun Send whose receive has n bytes: those beyond it are counted, and are zeros here
 abbrev pub begun_send : ℕ → BegunSend → List ℕ
 begun_send n b = take b.len b.buf ++ replicate (b.len - n) 0
 

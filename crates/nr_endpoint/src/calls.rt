@@ -29,9 +29,9 @@ use nr_regions::{Regions, Registration, Right, Why};
 use nr_xdr::{Memory, Octets};
 
 impl Endpoint {
-    /// Takes the next event; `None` exactly where none waits. It stands behind all tagged segments that came before it. Takes no memory.
+    /// Takes the next event; `None` if and only if none waits. It comes after all tagged segments that arrived before it. Takes no memory.
     pub fn next_event(&mut self) -> Option<Event>
-        // The events are told in order. An event is told only after bytes came, so `stop` may be called with it.
+        // The events are delivered in order, each only after bytes came, so `stop` may be called with it.
         ensures event { self.old.link.state.receive_queue.notices ≡ option_to_list (option_map notice result) ++ self.new.link.state.receive_queue.notices }
         ensures waits { is_some result ≡ nat_lt 0 (length self.old.link.state.receive_queue.notices) }
         ensures place { is_some result ≡ true → 0 < self.new.link.state.place }
@@ -59,7 +59,7 @@ impl Endpoint {
         self.link.post(buf);
     }
 
-    /// Ends the side for what the layer above made of a message: `Bad` at the last whole frame, with one Terminate queued; or `Memory`, where
+    /// Ends the side for what the layer above made of a message: `Bad` at the last complete frame, with one Terminate queued; or `Memory`, if
     /// memory ran out for it.
     pub fn stop(&mut self, reason: u32) -> End
         requires live { self.old.link.state.ended ≡ None }
@@ -84,7 +84,7 @@ impl Endpoint {
     }
 
     /// Ends the side because the layer above is out of memory. It writes nothing more than what is queued, and no Terminate. A side that has
-    /// ended stays as it is. Takes no memory; answers why the side has ended.
+    /// ended doesn't change. Takes no memory; answers why the side has ended.
     pub fn run_out(&mut self) -> End
         ensures ended { self.new.link.state.ended ≡ Some result }
         ensures end { self.old.link.state.ended ≡ None → result ≡ ends.Memory }
@@ -115,7 +115,7 @@ impl Endpoint {
         self.link.run_out()
     }
 
-    /// Queues a Send. Where the side has ended, it queues nothing. An `Err` changes nothing.
+    /// Queues a Send. If the side has ended, it queues nothing. An `Err` changes nothing.
     pub fn send(&mut self, message: &[u8]) -> Result<(), Memory>
         requires { length message.now < 2 ^ 32 }
         ensures state { OnOk result (self.new.link ≡ after_call self.old.link (Send message.now)) }
@@ -144,8 +144,8 @@ impl Endpoint {
         self.link.send_parts(front, stream)
     }
 
-    /// Queues an RDMA Write of some bytes into the peer's region, from byte `to` on. Where the side has ended, it queues nothing. An `Err`
-    /// changes nothing.
+    /// Queues an RDMA Write of some bytes into the peer's region, from byte `to` on. If the side has ended, it queues nothing. An `Err` changes
+    /// nothing.
     pub fn write_remote(&mut self, stag: u32, to: u64, bytes: &[u8]) -> Result<(), Memory>
         requires { to + length bytes.now ≤ 2 ^ 64 }
         ensures state { OnOk result (self.new.link ≡ after_call self.old.link (WriteRemote stag to bytes.now)) }
@@ -159,8 +159,8 @@ impl Endpoint {
         self.link.write_remote(stag, to, bytes)
     }
 
-    /// Queues a Read Request for `len` bytes of the peer's region, from byte `to` on, into an own region, from byte `at` on. `Full` exactly
-    /// where as many as may be are open. Where the side has ended, it queues nothing. An `Err` changes nothing.
+    /// Queues a Read Request for `len` bytes of the peer's region, from byte `to` on, into an own region, from byte `at` on. `Full` if and only
+    /// if the maximum number is open. If the side has ended, it queues nothing. An `Err` changes nothing.
     pub fn read_remote(
         &mut self,
         registration: &Registration,
@@ -217,8 +217,8 @@ impl Endpoint {
         self.link.make_room(more)
     }
 
-    /// Registers a buffer under the next STag, for a peer that may do this with it. `Spent` exactly when STag 2^32 - 1 was given. Within the room
-    /// memory never runs out. The buffer comes back with an error, which changes nothing: no STag is given.
+    /// Registers a buffer under the next STag, for a peer that may do this with it. `Spent` if and only if STag 2^32 - 1 was given. Within the
+    /// room memory never runs out. The buffer comes back with an error, which changes nothing: no STag is given.
     pub fn register(&mut self, buf: Octets, right: Right) -> Result<Registration, (Octets, Why)>
         ensures claim { IfOk result (λ claim. claim ≡ claim_of self.old.link.state.memory buf) }
         ensures held { IfOk result (λ claim. IsHeld self.new.link.state.memory claim) }
@@ -314,14 +314,14 @@ impl Endpoint {
         self.link.receive_queue.free()
     }
 
-    /// Whether a Send of the peer is begun and not whole: it has a receive.
+    /// Whether a Send of the peer is begun and incomplete: it has a receive.
     pub fn is_send_begun(&self) -> bool
         ensures { result ≡ is_begun self.now.link.state.receive_queue.received.begun }
     {
         self.link.receive_queue.is_begun()
     }
 
-    /// How many Sends have wholly left the queue, in the order of `send`. It stands still at 2^64 - 1.
+    /// How many Sends have completely left the queue, in the order of `send`. It saturates at 2^64 - 1.
     pub fn sends_left(&self) -> u64
         ensures { result ≡ self.now.link.state.send_queue.sends_left }
     {

@@ -106,7 +106,7 @@ impl LinkSide {
         self.place += frame.len() as u64;
     }
 
-    /// A Read Request is answered with the bytes as they stand (RFC 5040 section 5.2). An `Err` changes nothing.
+    /// A Read Request is answered with the present bytes (RFC 5040 section 5.2). An `Err` changes nothing.
     fn apply_request(&mut self, payload: &[u8], frame: &[u8]) -> Result<(), Memory>
         requires fine { RequestIsFine self.old.state payload.now }
         requires some { 0 < length frame.now }

@@ -58,7 +58,7 @@ fn peer(side: Side) -> Side
 }
 
 impl Endpoint {
-    /// A side of a link, with so many receives. The first region gets this STag, which isn't 0.
+    /// A side of a link, with this number of receives. The first region gets this STag, which isn't 0.
     pub fn open(
         alloc: Global,
         side: Side,
@@ -79,9 +79,9 @@ impl Endpoint {
         })
     }
 
-    /// Takes a piece of the peer's stream. `Err` where the side has ended, with why. It wants memory only for a frame that queues output: a
-    /// responder's hello, a Read Response, or what the side writes last. Want of it ends the side as it was before such a frame, which the piece
-    /// makes whole; the piece was taken up to that frame.
+    /// Takes a piece of the peer's stream. `Err` if the side has ended, with why. It takes memory only for a frame that queues output: a
+    /// responder's hello, a Read Response, or what the side writes last. If memory runs out, the side ends in its state before such a frame,
+    /// which the piece completes; the piece was taken up to that frame.
     pub fn feed(&mut self, piece: &[u8]) -> Result<(), End>
         requires { self.old.link.state.place + length self.old.link.rest + length piece.now ≤ 2 ^ 62 }
         ensures ended { result_err result ≡ self.new.link.state.ended }
@@ -114,7 +114,7 @@ impl Endpoint {
         // What is kept of the stream is less than a frame, and nothing once the side has ended.
         ensures partial { IsPartial self.now.link.awaited self.now.link.rest }
         ensures ended { has_ended self.now.link.state ≡ true → self.now.link.rest ≡ [] }
-        // Each receive is free, has a begun Send or a message that the owner wasn't told yet, or is lent.
+        // Each receive is free, has a begun Send or a message that wasn't delivered to the owner yet, or is lent.
         ensures receives { receives_kept self.now.link.state.receive_queue + self.now.link.state.receive_queue.lent ≡ self.now.link.state.receive_queue.receives }
         // An event waits, or the hello was accepted, only after some bytes came: `stop` requires this.
         ensures waiting { length self.now.link.state.receive_queue.notices ≤ self.now.link.state.place }
@@ -153,9 +153,9 @@ impl Endpoint {
         rest
     }
 
-    /// Takes a piece up to the end of the frame that it makes whole, else all of it. `Ok` has the number of bytes taken. `Err` where the
-    /// side has ended, with why. It wants memory only for a frame that queues output, as [`Endpoint::feed`] does; want of it ends the side as it
-    /// was before the frame, which the piece makes whole.
+    /// Takes a piece up to the end of the frame that it completes, else all of it. `Ok` has the number of bytes taken. `Err` if the side has
+    /// ended, with why. It takes memory only for a frame that queues output, as [`Endpoint::feed`] does; if memory runs out, the side ends in
+    /// its state before the frame, which the piece completes.
     pub fn feed_one(&mut self, piece: &[u8]) -> Result<usize, End>
         requires { self.old.link.state.place + length self.old.link.rest + length piece.now ≤ 2 ^ 62 }
         ensures ended { result_err result ≡ self.new.link.state.ended }
@@ -180,8 +180,8 @@ impl Endpoint {
         Ok(taken)
     }
 
-    /// Takes a piece up to the end of the frame that it makes whole, else all of it, where the side hasn't ended; answers the bytes taken. A
-    /// frame that lies whole in the piece is judged where it lies. Want of memory ends the side as it was before the frame.
+    /// Takes a piece up to the end of the frame that it completes, else all of it, if the side hasn't ended; answers the bytes taken. A frame
+    /// that lies completely in the piece is judged in it, without a copy. If memory runs out, the side ends in its state before the frame.
     fn step(&mut self, piece: &[u8]) -> usize
         requires live { self.old.link.state.ended ≡ None }
         requires within { self.old.link.state.place + length self.old.link.rest + length piece.now ≤ 2 ^ 62 }
@@ -212,8 +212,8 @@ impl Endpoint {
         taken
     }
 
-    /// How many bytes the frame that is begun still needs, as far as its length fields are there; where none is begun, those up to the end
-    /// of the next one's length fields. At least 1.
+    /// How many bytes the frame that is begun still needs, as far as its length fields are there; if none is begun, those up to the end of the
+    /// next one's length fields. At least 1.
     pub fn wants(&self) -> usize
         ensures exact { result ≡ bytes_needed self.now.link.awaited self.now.link.rest }
         ensures some { 0 < result }
@@ -221,14 +221,14 @@ impl Endpoint {
         bytes_needed(self.awaited, &self.staging[..self.staged])
     }
 
-    /// Whether a frame is begun and not whole.
+    /// Whether a frame is begun and incomplete.
     pub fn begun(&self) -> bool
         ensures { result ≡ nat_lt 0 (length self.now.link.rest) }
     {
         self.staged > 0
     }
 
-    /// The staging buffer, of which the first bytes are those of the frame that isn't whole.
+    /// The staging buffer, of which the first bytes are those of the incomplete frame.
     pub fn staging(&self) -> &[u8]
         ensures bytes { result.now ≡ self.now.staging }
         ensures begins { take (length self.now.link.rest) result.now ≡ self.now.link.rest }
@@ -236,7 +236,7 @@ impl Endpoint {
         self.staging.as_slice()
     }
 
-    /// How many bytes of the frame that isn't whole are staged. 0 once the side has ended.
+    /// How many bytes of the incomplete frame are staged. 0 once the side has ended.
     pub fn staged(&self) -> usize
         ensures rest { result ≡ length self.now.link.rest }
         ensures ended { is_some self.now.link.state.ended ≡ true → result ≡ 0 }

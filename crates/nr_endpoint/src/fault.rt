@@ -30,7 +30,7 @@ impl From<Failed> for DrainFault {
 /// Why a Read Request is not queued. The endpoint is as before.
 #[derive(Clone, Copy, Debug, PartialEq, Eq)]
 pub enum ReadRefused {
-    /// As many Read Requests as may be are open.
+    /// The maximum number of Read Requests is open.
     Full { reads: u32 },
     /// Memory ran out.
     Memory,

@@ -31,10 +31,15 @@ use nr_xdr::word_at;
 /// `sink` of the peer, from `sink_to` on.
 #[derive(Clone, Copy)]
 pub struct ReadRequest {
+    /// The STag of the sink (Data Sink STag).
     pub sink: u32,
+    /// The offset in the sink (Data Sink Tagged Offset).
     pub sink_to: u64,
+    /// In bytes (RDMA Read Message Size).
     pub size: u32,
+    /// The STag of the source (Data Source STag).
     pub stag: u32,
+    /// The offset in the source (Data Source Tagged Offset).
     pub to: u64,
 }
 
@@ -63,7 +68,7 @@ pub fn kind_of(opcode: u8) -> Kind
     }
 }
 
-/// Whether a Read Request isn't one segment of its length, or its place and size in the peer's region pass 2^64.
+/// Whether a Read Request isn't one segment of its length, or its offset and size in the peer's region pass 2^64.
 fn is_bad_request(last: bool, payload: &[u8]) -> bool
     ensures { result ≡ is_malformed OPCODE_READ_REQUEST last payload.now }
 {
@@ -178,7 +183,7 @@ impl LinkSide {
         None
     }
 
-    /// A Send that finds no receive, or one that becomes whole and is too long or too short.
+    /// A Send that finds no receive, or one that is complete and too long or too short.
     #[tactic(auto, unfolding(crate::specs::SegmentEnds::send_end))]
     fn send_fault(&self, last: bool, msn: u32, payload: &[u8]) -> Option<End>
         requires place { self.now.state.place ≤ 2 ^ 62 }

@@ -1,4 +1,4 @@
-//! Whole frames of the peer.
+//! Complete frames of the peer.
 
 ghost use Rattle.std.specs.Prelude.{◌≡◌, ◌+◌, ◌^◌, ◌<◌, ◌≤◌, length, IfOk};
 ghost use Rattle.std.specs.Result.{result_err};

@@ -4,8 +4,8 @@ ghost use Rattle.nr_endpoint.specs.ReceivedLaws.{EventsOfReceivedBytes, Received
 ghost use Rattle.nr_endpoint.specs.OutputLaws.{AllowedCallsJoin, FpdusFollowHello, OutputIsItems, SendsGoByItems, ResponsesGoByItems, SidesStayBounded};
 ghost use Rattle.nr_endpoint.specs.Laws.{PiecesJoin, StepsReach, StepsFeed, EndStays, KeepsLessThanFrame, EndedKeepsNothing, StreamIsKept, PlaceIsFed, MemoryFollowsEvents, PlacesAreAllowed, PlacesAreInOrder, ArrivalsRise, EventsAreTold, EventsAreInOrder, EventsFollowAccesses, OneFrameTellsAtItsEnd, OneFrameTellsOnce, ReadsAreAllowed, NothingElseIsRead, OtherFramesQueueNothing, OpenRegionHolds, ReleasedBufferHolds, ReleasedStaysDead, ClaimsStay, NoFpduBeforeHello, FramesEndForThese, GrantsEndAlike, OffersDenyAlike, NoFrameStops, OthersComeFromStop, MemoryComesFromOutOfMemory, EndedQueuesNothing, EndIsKept, StopQueuesLast, OutOfMemoryQueuesNothing};
 
-/// What a side is after some bytes does not depend on how they were cut: to feed two pieces is to feed both joined, and one step on a
-/// piece and then the rest of it is the whole piece. A side that has ended stays as it is.
+/// The state of a side after some bytes does not depend on how they were split: to feed two pieces is to feed both joined, and one step on a
+/// piece and then the rest of it equals a feed of the complete piece. A side that has ended doesn't change.
 pub fn however_cut()
     ensures pieces { PiecesJoin }
     ensures steps { StepsReach }
@@ -16,7 +16,7 @@ pub fn however_cut()
     ensures ended_empty { EndedKeepsNothing }
 {}
 
-/// A side keeps of its peer's stream what the bytes that were fed leave behind their whole frames (RFC 5044 section 4). Its place and what
+/// A side keeps of its peer's stream what the bytes that were fed leave after their complete frames (RFC 5044 section 4). Its offset and what
 /// it keeps are no more than those bytes: a caller that feeds at most 2^62 bytes in all stays within the limit of a feed.
 pub fn stream_is_kept()
     ensures kept { StreamIsKept }
@@ -33,7 +33,7 @@ pub fn memory_follows_accesses()
     ensures rise { ArrivalsRise }
     ensures reads { ReadsAreAllowed }
     ensures nothing_else { NothingElseIsRead }
-    // So a feed wants no memory for a Send, an RDMA Write or a Read Response that doesn't end the side.
+    // So a feed takes no memory for a Send, an RDMA Write or a Read Response that doesn't end the side.
     ensures others { OtherFramesQueueNothing }
     ensures while_open { OpenRegionHolds }
     ensures released { ReleasedBufferHolds }
@@ -47,8 +47,8 @@ pub fn accesses_follow_bytes()
     ensures events { EventsOfReceivedBytes }
 {}
 
-/// The owner is told each message and each read that a frame completes, once and in the order of the stream. When it is told, all tagged
-/// segments of the frames up to that one have been placed, and the later ones end behind it (RFC 5040 section 5.5).
+/// Each message and each read that a frame completes is delivered to the owner, once and in the order of the stream. When it is delivered, all
+/// tagged segments of the frames up to that one have been placed, and the later ones end after it (RFC 5040 section 5.5).
 pub fn events_follow_accesses()
     ensures delivered { EventsAreTold }
     ensures order { EventsAreInOrder }
@@ -100,9 +100,8 @@ pub fn reasons_of_frames()
     ensures no_memory { OutOfMemoryQueuesNothing }
 {}
 
-/// Where grants deny just the accesses that the memory denies, as they do where both offer the same under every STag, an FPDU ends a side
-/// exactly where, and as, it ends a side that offered these grants: by regions or by grants, a segment ends a link for the same reason
-/// (RFC 5040 section 7; RFC 5041 section 7).
+/// If grants deny exactly the accesses that the memory denies, as they do if both offer the same under every STag, an FPDU ends a side if and
+/// only if it ends a side that offered these grants, and for the same reason (RFC 5040 section 7; RFC 5041 section 7).
 pub fn ends_by_grants()
     ensures ends { GrantsEndAlike }
     ensures offers { OffersDenyAlike }

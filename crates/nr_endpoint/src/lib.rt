@@ -5,9 +5,9 @@
 //! ([`Endpoint::next_event`]), queue messages and accesses, and hand its output to a sink ([`Endpoint::drain_into`]). It knows
 //! nothing of RPC-over-RDMA headers.
 //!
-//! Any bytes may come. Each frame is judged once it is whole, in the order of the stream, and either ends the side or has its effect. A
-//! frame that lies whole in a piece is judged where it lies; only one that a piece cuts goes through the staging buffer. So what an
-//! endpoint is after some pieces does not depend on how the stream was cut.
+//! Any bytes may come. Each frame is judged once it is complete, in the order of the stream, and either ends the side or has its
+//! effect. A frame that lies completely in a piece is judged in it, without a copy; only one that a piece splits goes through the
+//! staging buffer. So the state of an endpoint after some pieces does not depend on how the stream was split.
 //!
 //! An endpoint keeps neither the bytes that it was fed nor its calls. Contracts see its side of the link, and each call says
 //! which list of calls it stands for.

@@ -85,8 +85,8 @@ impl LinkSide {
         })
     }
 
-    /// The next frame, which is whole, ends the side or has its effect. False where memory ran out for what it queues: the side has then ended
-    /// as it was before the frame. A frame that queues nothing wants no memory.
+    /// The next frame, which is complete, ends the side or has its effect. False if memory ran out for what it queues: the side has then ended
+    /// in its state before the frame. A frame that queues nothing takes no memory.
     pub fn receive_frame(&mut self, awaited: Awaited, frame: &[u8]) -> bool
         requires frame { IsFrame awaited frame.now }
         requires within { self.old.state.place + length frame.now ≤ 2 ^ 62 }
@@ -119,7 +119,7 @@ impl LinkSide {
         Ok(())
     }
 
-    /// The side ends for this, or for want of memory; answers which.
+    /// The side ends for this, or out of memory; answers which.
     pub fn stop(&mut self, end: End) -> End
         requires { end ≢ ends.Memory }
         ensures ended { self.new.state.ended ≡ Some result }

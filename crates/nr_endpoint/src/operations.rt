@@ -27,6 +27,7 @@ use nr_regions::{Registration, Right, Why};
 use nr_xdr::{Memory, Octets};
 
 impl LinkSide {
+    /// Why the side takes no more input; `None` if it hasn't ended.
     pub fn end(&self) -> Option<End>
         ensures { result ≡ self.now.state.ended }
     {
@@ -55,6 +56,7 @@ impl LinkSide {
         End::Memory
     }
 
+    /// Takes the next event; `None` if and only if none waits. Takes no memory.
     pub fn next_event(&mut self) -> Option<Event>
         ensures event { self.old.state.receive_queue.notices ≡ option_to_list (option_map notice result) ++ self.new.state.receive_queue.notices }
         ensures waits { is_some result ≡ nat_lt 0 (length self.old.state.receive_queue.notices) }
@@ -66,6 +68,7 @@ impl LinkSide {
         self.receive_queue.next_event()
     }
 
+    /// A buffer that an event lent is a receive again. Takes no memory.
     pub fn post(&mut self, buf: Octets)
         requires lent { 0 < self.old.state.receive_queue.lent }
         requires len { length buf ≡ send_max }
@@ -76,6 +79,7 @@ impl LinkSide {
         self.receive_queue.post(buf);
     }
 
+    /// Queues a Send (RFC 5040 section 4). If the side has ended, it queues nothing. An `Err` changes nothing.
     pub fn send(&mut self, message: &[u8]) -> Result<(), Memory>
         requires { length message.now < 2 ^ 32 }
         ensures ok { OnOk result (self.new.state ≡ unless_ended self.old.state (record self.old.state { send_queue = with_send message.now self.old.state.send_queue })) }
@@ -104,6 +108,8 @@ impl LinkSide {
         self.send_queue.send_parts(front, stream)
     }
 
+    /// Queues an RDMA Write of some bytes into the peer's region `stag`, from byte `to` on (RFC 5040 section 4.3). If
+    /// the side has ended, it queues nothing. An `Err` changes nothing.
     pub fn write_remote(&mut self, stag: u32, to: u64, bytes: &[u8]) -> Result<(), Memory>
         requires { to + length bytes.now ≤ 2 ^ 64 }
         ensures ok { OnOk result (self.new.state ≡ unless_ended self.old.state (record self.old.state { send_queue = with_write stag to bytes.now self.old.state.send_queue })) }
@@ -118,6 +124,9 @@ impl LinkSide {
         self.send_queue.write(stag, to, bytes)
     }
 
+    /// Queues a Read Request for `len` bytes of the peer's region `stag`, from byte `to` on, into an own region, from
+    /// byte `at` on (RFC 5040 section 4.4). `Full` if and only if the maximum number is open. If the side has ended, it
+    /// queues nothing. An `Err` changes nothing.
     pub fn read_remote(
         &mut self,
         registration: &Registration,
@@ -157,6 +166,8 @@ impl LinkSide {
         Ok(())
     }
 
+    /// Hands the output to a sink, in order: for `Ok` all that may be written, else some of it from the front, and the
+    /// rest stays.
     pub fn drain_into<K: Sink>(&mut self, sink: &mut K) -> Result<(), Failed>
         ensures written { (n : ℕ) × (n ≤ length (writable self.old.state.has_hello self.old.state.send_queue))
             × (self.new.state ≡ record self.old.state { send_queue = written n self.old.state.send_queue })
@@ -182,6 +193,8 @@ impl LinkSide {
         self.regions.make_room(more)
     }
 
+    /// Registers a buffer under the next STag, for a peer that may do this with it. `Spent` if and only if STag
+    /// 2^32 - 1 was given. The buffer comes back with an error, which changes nothing: no STag is given.
     pub fn register(&mut self, buf: Octets, right: Right) -> Result<Registration, (Octets, Why)>
         ensures claim { IfOk result (λ claim. claim ≡ claim_of self.old.state.memory buf) }
         ensures held { IfOk result (λ claim. IsHeld self.new.state.memory claim) }
@@ -222,6 +235,7 @@ impl LinkSide {
         self.regions.register_window(buf, start, len, right)
     }
 
+    /// Returns a region's buffer with its present content. From then on its STag is invalid. Takes no memory.
     pub fn release(&mut self, registration: Registration) -> Octets
         requires { IsHeld self.old.state.memory registration }
         ensures bytes { result ≡ bytes_in (held_region self.old.state.memory registration.stag) }

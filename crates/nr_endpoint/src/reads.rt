@@ -8,7 +8,8 @@ ghost use Rattle.nr_endpoint.specs.Views.{expected};
 use crate::constants::OPEN_READS_MAX;
 use arrayvec::ArrayVec;
 
-/// A Read Request that is open: its response goes on at byte `at` of the own region `sink`, and ends before byte `end`.
+/// A Read Request that is open: its response continues at byte `at` of the own region `sink`, and ends before byte
+/// `end`.
 #[derive(Clone, Copy, Default)]
 pub struct OpenRead {
     pub sink: u32,
@@ -19,7 +20,8 @@ pub struct OpenRead {
 /// The open ones, the oldest first.
 pub type Reads = ArrayVec<OpenRead, OPEN_READS_MAX>;
 
-/// Whether a Read Response with `n` payload bytes goes on where the oldest open one stands (RFC 5040 section 5.2).
+/// Whether a Read Response with `n` payload bytes continues the oldest open read at its next offset (RFC 5040
+/// section 5.2).
 pub fn is_expected(reads: &Reads, last: bool, stag: u32, to: u64, n: u64) -> bool
     ensures { result ≡ is_expected (expected_response (map expected reads.now.items)) last stag to n }
 {

@@ -24,8 +24,8 @@ pub struct BegunSend {
     pub len: u64,
 }
 
-/// A complete Send with its number, from 1 on: the first `len` bytes of its receive buffer. After the message before it and before this one,
-/// the responses to `reads_done` Read Requests became complete that were not yet reported to the owner.
+/// A complete Send with its number, from 1 on: the first `len` bytes of its receive buffer. Between the message before it and this one, the
+/// responses to `reads_done` Read Requests were completed that were not yet delivered to the owner.
 #[derive(Drop)]
 pub struct ReceivedMessage {
     pub reads_done: u64,
@@ -34,9 +34,9 @@ pub struct ReceivedMessage {
     pub len: usize,
 }
 
-/// The receives, each of `receive_length` bytes, and what came in untagged messages. Of the `receives`, `lent` are with the owner. What the
-/// owner wasn't told takes no memory: there is room for a message of each receive, and the Read Requests that are done are counted,
-/// `reads_done` of them behind the last message.
+/// The receives, each of `receive_length` bytes, and what came in untagged messages. Of the `receives`, `lent` are with the owner. What
+/// wasn't delivered yet takes no memory: there is room for a message of each receive, and the Read Requests that are done are counted,
+/// `reads_done` of them after the last message.
 #[derive(Drop)]
 pub struct ReceiveQueue {
     sends: u64,
@@ -68,14 +68,14 @@ impl Model for ReceiveQueue {
     ghost invariant = { λ q. AreReceives q.receive_length q.free.items q.begun q.messages.items q.lent q.receives (vec_capacity q.free) (deque_capacity q.messages) };
 }
 
-/// A receive buffer of so many zeros.
+/// A receive buffer of `receive_length` zeros.
 fn receive_buffer(alloc: Global, receive_length: usize) -> Result<Octets, Memory>
     ensures { IfOk result (λ buf. length buf ≡ receive_length) }
 {
     Ok(Octets::from_vec(vec![in alloc; 0u8; receive_length]?))
 }
 
-/// Puts so many receive buffers of this length into a vector with room for them.
+/// Puts this number of receive buffers of this length into a vector with room for them.
 fn fill(
     free: &mut Vec<Octets>,
     alloc: Global,
@@ -143,7 +143,7 @@ fn write_from(buf: &mut Octets, receive_length: usize, at: usize, bytes: &[u8])
     }
 }
 
-/// Writes a segment's payload behind what a begun Send has, as far as its buffer goes.
+/// Writes a segment's payload after what a begun Send has, as far as its buffer goes.
 fn extend(begun: &mut BegunSend, receive_length: usize, payload: &[u8])
     requires buf { IsReceive receive_length begun.old.buf }
     requires count { begun.old.len + length payload.now < 2 ^ 63 }
@@ -157,7 +157,7 @@ fn extend(begun: &mut BegunSend, receive_length: usize, payload: &[u8])
     begun.len += payload.len() as u64;
 }
 
-/// Takes one of the reads that were done before the first message; false where there is none.
+/// Takes one of the reads that were done before the first message; false if there is none.
 fn take_first_read(messages: &mut VecDeque<ReceivedMessage>) -> bool
     ensures some { result ≡ nat_lt 0 (reads_first messages.old.items) }
     ensures left { messages.new.items ≡ (if result then without_first_read messages.old.items else messages.old.items) }
@@ -177,7 +177,7 @@ fn take_first_read(messages: &mut VecDeque<ReceivedMessage>) -> bool
 }
 
 impl ReceiveQueue {
-    /// So many receives of this length, all free, and room for the message of each.
+    /// This number of receives of this length, all free, and room for the message of each.
     pub fn new(alloc: Global, receives: u32, receive_length: usize) -> Result<ReceiveQueue, Memory>
         ensures { IfOk result (λ q. q ≡ initial_receives receives receive_length) }
     {
@@ -212,26 +212,28 @@ impl ReceiveQueue {
         self.free.len()
     }
 
-    /// How many Sends were whole, how many Read Requests came, and how many bytes of a begun Send, which is `None` where none is
-    /// begun.
+    /// How many Sends were completed.
     pub fn sends(&self) -> u64
         ensures { result ≡ self.now.received.sends }
     {
         self.sends
     }
 
+    /// How many Read Requests were received.
     pub fn requests(&self) -> u64
         ensures { result ≡ self.now.received.requests }
     {
         self.requests
     }
 
+    /// Whether a Send is begun and incomplete.
     pub fn is_begun(&self) -> bool
         ensures { result ≡ is_begun self.now.received.begun }
     {
         self.begun.is_some()
     }
 
+    /// How many bytes of a begun Send were received; 0 if none is begun.
     pub fn begun_len(&self) -> u64
         ensures { result ≡ length (begun_bytes self.now.received.begun) }
     {
@@ -241,7 +243,7 @@ impl ReceiveQueue {
         }
     }
 
-    /// One more segment of a Send, which is begun or finds a receive, and fits it where it becomes whole. Takes no memory.
+    /// One more segment of a Send, which is begun or finds a receive, and fits it if it becomes complete. Takes no memory.
     #[tactic(auto, unfolding(crate::specs::ReceiveQueue::with_segment))]
     pub fn receive(&mut self, last: bool, payload: &[u8])
         requires receive { is_begun self.old.received.begun ≡ false → 0 < self.old.free }
@@ -298,7 +300,7 @@ impl ReceiveQueue {
         self.requests += 1;
     }
 
-    /// The response to the Read Request that was open longest is whole. Takes no memory.
+    /// The response to the Read Request that was open longest is complete. Takes no memory.
     pub fn read_done(&mut self)
         requires { length self.old.notices < 2 ^ 63 }
         ensures { self.new ≡ with_read_done self.old }
@@ -306,7 +308,7 @@ impl ReceiveQueue {
         self.reads_done += 1;
     }
 
-    /// The next event; `None` exactly where none waits. Takes no memory.
+    /// The next event; `None` if and only if none waits. Takes no memory.
     pub fn next_event(&mut self) -> Option<Event>
         ensures waits { is_some result ≡ nat_lt 0 (length self.old.notices) }
         ensures event { self.old.notices ≡ option_to_list (option_map notice result) ++ self.new.notices }
@@ -342,7 +344,7 @@ impl ReceiveQueue {
         self.free.push_reserved(buf);
     }
 
-    /// Each receive is free, has a begun Send or a message that the owner wasn't told yet, or is lent.
+    /// Each receive is free, has a begun Send or a message that wasn't delivered to the owner yet, or is lent.
     pub fn sum(&self)
         ensures { receives_kept self.now + self.now.lent ≡ self.now.receives }
     {

@@ -30,7 +30,7 @@ use std::alloc::Global;
 use std::collections::VecDeque;
 use std::marker::Model;
 
-/// What a side has to write, in order: its hello, and behind it FPDUs.
+/// What a side has to write, in order: its hello, and after it FPDUs.
 #[derive(Drop)]
 pub struct SendQueue {
     alloc: Global,
@@ -71,7 +71,7 @@ fn push_hello(out: &mut BytesMut, alloc: Global, side: Side, flags: u8) -> Resul
     Ok(())
 }
 
-/// Writes a place in a region: its STag and an offset.
+/// Writes an address in a region: its STag and an offset.
 fn write_place(writer: &mut Writer, stag: u32, to: u64) -> Result<(), Memory>
     ensures { OnOk result (writer.new ≡ writer.old ++ (word stag ++ hyper to)) }
 {
@@ -98,7 +98,7 @@ fn request_payload(
     Ok(writer.finish())
 }
 
-/// The word of the Terminate that a side writes last, where it writes one (RFC 5040 section 4.8; the words are own).
+/// The word of the Terminate that a side writes last, if it writes one (RFC 5040 section 4.8; the words are own).
 #[tactic(auto, unfolding(nr_link::specs::Ending::final_output))]
 fn terminate_word(end: End) -> Option<u32>
     ensures { final_output end ≡ terminate_by result }
@@ -145,7 +145,7 @@ fn joined(alloc: Global, front: &[u8], stream: &[u8]) -> Result<Octets, Memory>
     Ok(Octets::from_vec(message))
 }
 
-/// Drops the first end where `n` more written bytes reach it, and answers 1. Else it goes to the back, counted from there on.
+/// Drops the first end if `n` more written bytes reach it, and answers 1. Else it goes to the back, counted from there on.
 fn retire_first(ends: &mut VecDeque<usize>, n: usize) -> usize
     ensures left { ends.new.items ≡ drop 1 ends.old.items ++ ends_left n (take 1 ends.old.items) }
     ensures passed { result ≡ ends_passed n (take 1 ends.old.items) }
@@ -199,8 +199,8 @@ fn write_out<K: Sink>(out: &mut BytesMut, sink: &mut K) -> (usize, Result<(), Fa
     (count, Ok(()))
 }
 
-/// Writes a hello to a sink, and behind it FPDUs where these may be written, and drops from the front what the sink took. It
-/// answers how many bytes of the FPDUs those were.
+/// Writes a hello to a sink, and after it FPDUs if these may be written, and drops from the front what the sink took. It answers
+/// how many bytes of the FPDUs those were.
 fn write_queue<K: Sink>(
     hello: &mut BytesMut,
     fpdus: &mut BytesMut,
@@ -369,7 +369,7 @@ impl SendQueue {
         Ok(())
     }
 
-    /// What a side writes last, where it ends. `Err` only where it writes something; it changes nothing.
+    /// What a side writes last, if it ends. `Err` only if it writes something; it changes nothing.
     #[tactic(auto, unfolding(crate::specs::SendQueue::with_end, nr_link::specs::Output::refusing_hello))]
     pub fn finish(&mut self, side: Side, end: End) -> Result<(), Memory>
         ensures ok { OnOk result (self.new ≡ with_end side end self.old) }
@@ -385,14 +385,14 @@ impl SendQueue {
         }
     }
 
-    /// How many Read Responses were not written whole.
+    /// How many Read Responses were not written completely.
     pub fn responses(&self) -> usize
         ensures { result ≡ length self.now.response_ends }
     {
         self.response_ends.len()
     }
 
-    /// How many Sends were written whole.
+    /// How many Sends were written completely.
     pub fn sends_left(&self) -> u64
         ensures { result ≡ self.now.sends_left }
     {

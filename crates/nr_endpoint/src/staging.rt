@@ -7,7 +7,7 @@ ghost use Rattle.nr_wire.specs.Stream.{IsPartial, bytes_needed, is_whole, frame_
 
 use nr_wire::{Awaited, bytes_needed, whole_frame};
 
-/// The length of the awaited frame, where none of it is staged and it lies whole at the front of a piece.
+/// The length of the awaited frame, if none of it is staged and it lies completely at the front of a piece.
 pub fn whole_in_piece(staged: usize, awaited: Awaited, piece: &[u8]) -> Option<usize>
     ensures { result ≡ (if staged == 0 && is_whole awaited piece.now then Some (frame_len awaited piece.now) else None) }
 {

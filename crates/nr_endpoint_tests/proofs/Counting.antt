@@ -33,7 +33,7 @@ no_end (Some end) is = absurd cc
 never : {A : Type 0} (b : Bool) → b ≡ true → b ≡ false → A
 never b is live = absurd (let h : true ≡ false = sym is ∙ live in cc)
 
--- a side after some frames, where it lives, went over all their bytes
+-- a side that is live after some frames went over all their bytes
 abbrev WentOver : ℕ → LinkState → LinkSide → Type 0
 WentOver n s after = has_ended after.state ≡ false → (has_ended s ≡ false) × (s.place + n ≤ fed_bytes after)
 

@@ -4,7 +4,7 @@ use Rattle.nr_regions.specs.RegisteredMemory.{Claim, IsHeld}
 use Rattle.nr_endpoint.specs.LinkState.{LinkSide}
 use Rattle.nr_endpoint.specs.FedBytes.{fed_bytes}
 
--- At most so many bytes were fed, and at least so many, until the side ends; and the region that the test keeps is registered.
+-- At most `most` bytes were fed, and at least `least`, until the side ends; and the region that the test keeps is registered.
 pub record IsCounted (link : LinkSide) (most least : ℕ) (region : Option Claim) : Type 0 where
   pub most_fed : fed_bytes link ≤ most
   pub least_fed : link.state.ended ≡ None → least ≤ fed_bytes link

@@ -1,4 +1,4 @@
-//! An endpoint of a test. Its calls check at run time what an endpoint asks of its owner, and end the test where it doesn't hold.
+//! An endpoint of a test. Its calls check at run time what an endpoint asks of its owner, and end the test if it doesn't hold.
 
 ghost use Rattle.std.specs.Prelude.{◌≡◌, ◌+◌, ◌^◌, ◌≤◌, length, true};
 ghost use Rattle.nr_endpoint.specs.Calls.{IsStopReason};
@@ -38,7 +38,7 @@ impl Model for TestEndpoint {
     ghost invariant = { λ e. IsCounted e.endpoint.link e.most e.least e.region };
 }
 
-/// Ends the test where a call may not be made.
+/// Ends the test if a call may not be made.
 fn check(rt: &impl Abort, holds: bool)
     ensures { holds ≡ true }
 {
@@ -115,7 +115,7 @@ impl TestEndpoint {
         self.endpoint.feed_one(piece)
     }
 
-    /// Ends the side for what the layer above made of a message, after a whole frame of the peer.
+    /// Ends the side for what the layer above made of a message, after a complete frame of the peer.
     pub fn stop(&mut self, rt: &impl Abort, reason: u32) -> End {
         let staged = self.endpoint.staged() as u64;
         check(rt, self.endpoint.end().is_none());

@@ -1,5 +1,5 @@
 //! FPDUs that end a side by their form, and those that don't, on each side: the reasons 5 to 12. The first FPDU lies at byte 20,
-//! behind the hello.
+//! after the hello.
 
 use crate::endpoint::TestEndpoint;
 use crate::given::{feed_runs, four_regions, outcome, own_hello, peer_hello};
@@ -8,11 +8,11 @@ use nr_wire::Side;
 use std::alloc::Global;
 use std::process::Abort;
 
-/// The words that a side is fed behind the hello, its end, and what it writes behind its own.
+/// The words that a side is fed after the hello, its end, and what it writes after its own.
 pub type Row = (&'static [u32], Option<End>, &'static [u32]);
 
 static FRAMES: [Row; 37] = [
-    // The length of the ULPDU: 0, 1, 5, 17 untagged, 13 tagged, and with another fault behind it.
+    // The length of the ULPDU: 0, 1, 5, 17 untagged, 13 tagged, and with another fault after it.
     (
         &[0, 0],
         Some(End::Bad { at: 20, reason: 5 }),
@@ -43,7 +43,7 @@ static FRAMES: [Row; 37] = [
         Some(End::Bad { at: 20, reason: 5 }),
         &[0x0016_4147, 0, 2, 1, 0, 5, 0],
     ),
-    // The versions of DDP: 0, 2, 3, and with another fault behind it.
+    // The versions of DDP: 0, 2, 3, and with another fault after it.
     (
         &[0x0012_4043, 0, 0, 1, 0, 0],
         Some(End::Bad { at: 20, reason: 6 }),
@@ -196,7 +196,7 @@ static FRAMES: [Row; 37] = [
         Some(End::Bad { at: 20, reason: 11 }),
         &[0x0016_4147, 0, 2, 1, 0, 11, 0],
     ),
-    // Message offsets: 1 at the beginning, 0 and 8 behind four bytes, and of each queue.
+    // Message offsets: 1 at the beginning, 0 and 8 after four bytes, and of each queue.
     (
         &[0x0012_4143, 0, 0, 1, 1, 0],
         Some(End::Bad { at: 20, reason: 12 }),
@@ -240,7 +240,7 @@ fn fed(
     endpoint
 }
 
-/// Ends the test where a row, fed in pieces of this length, comes to something else.
+/// Ends the test if a row, fed in pieces of this length, comes to something else.
 fn frame_row(rt: &impl Abort, alloc: Global, row: usize, side: Side, cells: Row, piece: usize) {
     let (words, end, written) = cells;
     let mut endpoint = fed(rt, alloc, row, side, words, piece);
@@ -248,7 +248,7 @@ fn frame_row(rt: &impl Abort, alloc: Global, row: usize, side: Side, cells: Row,
     drop(endpoint);
 }
 
-/// Ends the test where one of these rows, fed whole or byte by byte, comes to something else.
+/// Ends the test if one of these rows, fed in one piece or byte by byte, comes to something else.
 pub fn frame_rows(rt: &impl Abort, alloc: Global, side: Side, rows: &[Row]) {
     for (row, cells) in rows.iter().enumerate() {
         frame_row(rt, alloc, row, side, *cells, 1000);

@@ -45,7 +45,6 @@ pub fn peer_hello(side: Side) -> &'static [u32] {
     }
 }
 
-/// Puts the bytes of some words at the end.
 fn put_words(rt: &impl Abort, bytes: &mut Vec<u8>, words: &[u32]) {
     for word in words {
         bytes
@@ -61,7 +60,7 @@ pub fn bytes_of(rt: &impl Abort, alloc: Global, words: &[u32]) -> Vec<u8> {
     bytes
 }
 
-/// The bytes of two runs of words, one behind the other.
+/// The bytes of two runs of words, one after the other.
 pub fn joined(rt: &impl Abort, alloc: Global, words: &[u32], more: &[u32]) -> Vec<u8> {
     let mut bytes = Vec::new(alloc);
     put_words(rt, &mut bytes, words);
@@ -97,7 +96,7 @@ pub fn feed_pieces(
     }
 }
 
-/// Feeds the bytes of two runs of words, one behind the other, in pieces of this length.
+/// Feeds the bytes of two runs of words, one after the other, in pieces of this length.
 pub fn feed_runs(
     rt: &impl Abort,
     alloc: Global,
@@ -110,7 +109,7 @@ pub fn feed_runs(
     feed_pieces(rt, row, endpoint, bytes.as_slice(), piece);
 }
 
-/// Feeds the bytes of some words in one piece. Ends the test where the side then has another end.
+/// Feeds the bytes of some words in one piece. Ends the test if the side then has another end.
 pub fn feed_words(
     rt: &impl Abort,
     alloc: Global,
@@ -140,7 +139,7 @@ pub fn read_done(endpoint: &mut TestEndpoint) -> bool {
     }
 }
 
-/// Ends the test where the endpoint has other bytes to write than those of these words, one run behind the other.
+/// Ends the test if the endpoint has other bytes to write than those of these words, one run after the other.
 pub fn writes(
     rt: &impl Abort,
     alloc: Global,
@@ -155,7 +154,7 @@ pub fn writes(
     same(rt, row, sink.bytes(), want.as_slice());
 }
 
-/// Ends the test where the endpoint has another end, or writes other bytes; and where it takes more after an end.
+/// Ends the test if the endpoint has another end, or writes other bytes; and if it takes more after an end.
 pub fn outcome(
     rt: &impl Abort,
     alloc: Global,

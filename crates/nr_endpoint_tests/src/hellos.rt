@@ -389,7 +389,7 @@ static TO_INITIATOR: [Row; 12] = [
     ),
 ];
 
-/// Ends the test where a row, fed in pieces of this length, comes to something else.
+/// Ends the test if a row, fed in pieces of this length, comes to something else.
 fn hello_row(rt: &impl Abort, alloc: Global, row: usize, side: Side, cells: Row, piece: usize) {
     let (fed, end, written) = cells;
     let mut endpoint = TestEndpoint::open(rt, alloc, side);

@@ -42,17 +42,17 @@ fn three_segments(rt: &impl Abort, alloc: Global, last: &[u32]) -> Vec<u8> {
     bytes
 }
 
-/// The first bytes, so many.
+/// The first `count` bytes.
 fn front<'a>(rt: &impl Abort, bytes: &'a [u8], count: usize) -> &'a [u8] {
     bytes.get(..count).expect(rt, "so many bytes")
 }
 
-/// The bytes behind the first ones.
+/// The bytes after the first ones.
 fn behind<'a>(rt: &impl Abort, bytes: &'a [u8], count: usize) -> &'a [u8] {
     bytes.get(count..).expect(rt, "so many bytes")
 }
 
-/// A Send of 1025 bytes ends the side at its last segment, behind 20 and twice 536 bytes.
+/// A Send of 1025 bytes ends the side at its last segment, after 20 and twice 536 bytes.
 fn too_long(rt: &impl Abort, alloc: Global, side: Side, piece: usize) {
     let bytes = three_segments(rt, alloc, &[0x0013_4143, 0, 0, 1, 1024, 0x0700_0000, 0]);
     let mut endpoint = greeted(rt, alloc, side);
@@ -100,7 +100,7 @@ fn long_sends(rt: HostRuntime) {
     }
 }
 
-/// Feeds the Send with this number, of four words. Ends the test where the side then has another end.
+/// Feeds the Send with this number, of four words. Ends the test if the side then has another end.
 fn feed_send(
     rt: &impl Abort,
     alloc: Global,
@@ -122,7 +122,7 @@ fn receives_again(rt: &impl Abort, alloc: Global, side: Side) {
     feed_send(rt, alloc, 2, &mut endpoint, 3, None);
     let end = End::NoBuffer { msn: 4 };
     feed_send(rt, alloc, 3, &mut endpoint, 4, Some(end));
-    // What came before the end is still told.
+    // What came before the end is still delivered.
     receives_first(rt, alloc, &mut endpoint);
     receives(rt, alloc, 4, &mut endpoint, &[3, 1, 16, 0]);
     outcome(rt, alloc, 5, &mut endpoint, Some(end), &terminate(104), &[]);
@@ -191,7 +191,7 @@ static NULL_CALL: [u32; 23] = [
     0,
 ];
 
-/// Ends the test where an endpoint needs another number of bytes, or staged others.
+/// Ends the test if an endpoint needs another number of bytes, or staged others.
 fn stages(rt: &impl Abort, row: usize, endpoint: &TestEndpoint, wants: usize, bytes: &[u8]) {
     let staged = endpoint.endpoint().staged();
     same(
@@ -247,7 +247,7 @@ fn staged_bytes(rt: &impl Abort, alloc: Global, side: Side) {
     drop(endpoint);
 }
 
-/// Ends the test where of a piece another number of bytes is taken, or others are staged.
+/// Ends the test if of a piece another number of bytes is taken, or others are staged.
 fn takes_one(
     rt: &impl Abort,
     row: usize,
@@ -288,7 +288,7 @@ fn staging(rt: HostRuntime) {
     }
 }
 
-/// The layer above ends a side at its last whole frame: the second FPDU, which is at byte 112.
+/// The layer above ends a side at its last complete frame: the second FPDU, which is at byte 112.
 fn stops(rt: &impl Abort, alloc: Global, side: Side) {
     let mut endpoint = greeted(rt, alloc, side);
     feed_words(rt, alloc, 0, &mut endpoint, &NULL_CALL, None);

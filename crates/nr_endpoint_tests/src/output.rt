@@ -55,7 +55,7 @@ fn writes_requests(
     writes(rt, alloc, 2, endpoint, words.as_slice(), &[]);
 }
 
-/// Eight Read Requests are open; once a response is whole, there is room for one more.
+/// Eight Read Requests are open; once a response is complete, there is room for one more.
 fn eight_reads(rt: &impl Abort, alloc: Global, side: Side) {
     let mut endpoint = greeted(rt, alloc, side);
     endpoint.register(rt, alloc, b"1234", Right::Sink);
@@ -88,7 +88,7 @@ fn feed_requests(
     }
 }
 
-/// Feeds eight Read Requests. Gives the words of their responses, which are owed until they are wholly written.
+/// Feeds eight Read Requests. Gives the words of their responses, which are owed until they are completely written.
 fn eight_owed(rt: &impl Abort, alloc: Global, endpoint: &mut TestEndpoint) -> Vec<u32> {
     endpoint.register(rt, alloc, b"hello", Right::Fetch);
     feed_requests(rt, alloc, endpoint, 1, 8);
@@ -141,12 +141,12 @@ fn eight(rt: HostRuntime) {
     }
 }
 
-/// The words that a side is fed behind the hello, and its end.
+/// The words that a side is fed after the hello, and its end.
 type Row = (&'static [u32], Option<End>);
 
 /// What comes of responses to a Read Request of five bytes, to byte 2 of region 1 of eight.
 static RESPONSES: [Row; 11] = [
-    // Whole; in two segments; in two, the first of them without bytes.
+    // In one segment; in two; in two, the first of them without bytes.
     (&[0x0013_c142, 1, 0, 2, 0x4845_4c4c, 0x4f00_0000, 0], None),
     (
         &[
@@ -246,14 +246,14 @@ static RESPONSES: [Row; 11] = [
     ),
 ];
 
-/// Ends the test where the Read Request isn't answered, or the region holds other bytes.
+/// Ends the test if the Read Request isn't answered, or the region holds other bytes.
 fn holds_response(rt: &impl Abort, row: usize, endpoint: &mut TestEndpoint) {
     same(rt, row, read_done(endpoint), true);
     let buf = endpoint.release(rt);
     same(rt, row, buf.as_slice(), b"12HELLO8".as_slice());
 }
 
-/// Ends the test where a row comes to something else.
+/// Ends the test if a row comes to something else.
 fn response_row(
     rt: &impl Abort,
     alloc: Global,

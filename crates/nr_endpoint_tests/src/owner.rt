@@ -1,4 +1,4 @@
-//! What the layers above an endpoint ask of it, at sizes where a body that answers out of memory is seen.
+//! What the layers above an endpoint ask of it, at sizes at which a body that answers out of memory is seen.
 
 use crate::compare::same;
 use crate::endpoint::TestEndpoint;
@@ -14,14 +14,14 @@ use nr_xdr::Octets;
 use std::alloc::Global;
 use std::process::Abort;
 
-/// Puts so many bytes at the end, all 7.
+/// Puts `len` bytes at the end, all 7.
 fn put_sevens(rt: &impl Abort, bytes: &mut Vec<u8>, len: usize) {
     for _ in 0..len {
         bytes.push(7).expect(rt, "memory");
     }
 }
 
-/// A buffer of so many bytes, all 7.
+/// A buffer of `len` bytes, all 7.
 fn sevens(rt: &impl Abort, alloc: Global, len: usize) -> Octets {
     let mut bytes = Vec::new(alloc);
     put_sevens(rt, &mut bytes, len);
@@ -163,7 +163,7 @@ fn answers(rt: HostRuntime) {
     answer(&rt, rt.alloc());
 }
 
-/// Puts a word so many times at the end.
+/// Puts a word at the end, `count` times.
 fn put_word(rt: &impl Abort, words: &mut Vec<u32>, word: u32, count: usize) {
     for _ in 0..count {
         words.push(word).expect(rt, "memory");
@@ -217,7 +217,7 @@ fn longest_write(rt: &impl Abort, alloc: Global) -> Vec<u8> {
     bytes
 }
 
-/// It is placed, whole in a piece and cut.
+/// It is placed, in one piece and split.
 fn longest(rt: &impl Abort, alloc: Global, side: Side, piece: usize) {
     let bytes = longest_write(rt, alloc);
     same(rt, 0, bytes.len(), 65544);
@@ -248,7 +248,7 @@ fn told(endpoint: &mut TestEndpoint) -> Option<u64> {
     }
 }
 
-/// Messages and reads are told in the order of their frames.
+/// Messages and reads are delivered in the order of their frames.
 fn in_turn(rt: &impl Abort, alloc: Global, side: Side) {
     let mut endpoint = greeted(rt, alloc, side);
     endpoint.register(rt, alloc, b"1234", Right::Sink);

@@ -1,5 +1,5 @@
-//! What a peer may do with a region: each kind of segment into each right, at the region's last byte, one past it, and where
-//! the sum of offset and length passes 2^64; into an STag that was never given, and into a released one.
+//! What a peer may do with a region: each kind of segment into each right, at the region's last byte, one past it, and with
+//! a sum of offset and length that passes 2^64; into an STag that was never given, and into a released one.
 
 use crate::compare::same;
 use crate::endpoint::TestEndpoint;
@@ -40,7 +40,7 @@ static ACCESSES: [(Kind, u32, Option<Denied>, Denied); 18] = [
     (Kind::Request, 5, Some(Denied::NoStag), Denied::NoStag),
 ];
 
-/// An access of four bytes, at a place whose offset has these two words, and why it is denied.
+/// An access of four bytes, at an offset with these two words, and why it is denied.
 #[derive(Clone, Copy)]
 struct Access {
     kind: Kind,
@@ -102,7 +102,7 @@ fn reading(rt: &impl Abort, alloc: Global, side: Side) -> TestEndpoint {
     endpoint
 }
 
-/// Ends the test where an access, fed in pieces of this length, comes to something else.
+/// Ends the test if an access, fed in pieces of this length, comes to something else.
 fn access_row(
     rt: &impl Abort,
     alloc: Global,

@@ -1,5 +1,5 @@
 //! Segments of a right form that end a side by what it has ready for them, and those that don't, on each side: a Send without a receive,
-//! denied Read Requests, the reasons 13, 14 and 16, a Terminate. The first FPDU lies at byte 20, behind the hello.
+//! denied Read Requests, the reasons 13, 14 and 16, a Terminate. The first FPDU lies at byte 20, after the hello.
 
 use crate::frames::{Row, frame_rows};
 use nr_link::End;
@@ -7,7 +7,7 @@ use nr_regions::Denied;
 use nr_wire::Side;
 
 static SEGMENTS: [Row; 25] = [
-    // Two Sends take both receives. The third finds none, also where it is long, and one that is begun has its own.
+    // Two Sends take both receives. The third finds none, also if it is long, and one that is begun has its own.
     (
         &[
             0x0022_4143,

@@ -94,7 +94,7 @@ static SENDS: [(&[u32], &[u32]); 4] = [
     ),
 ];
 
-/// Ends the test where the next event is not a message of these words, or another one follows. Its buffer is a receive again.
+/// Ends the test if the next event is not a message of these words, or another one follows. Its buffer is a receive again.
 pub fn receives(
     rt: &impl Abort,
     alloc: Global,
@@ -173,7 +173,7 @@ fn with_region(
     endpoint
 }
 
-/// Ends the test where a region has other bytes at its release.
+/// Ends the test if a region has other bytes at its release.
 fn releases(rt: &impl Abort, endpoint: &mut TestEndpoint, bytes: &[u8]) {
     let buf = endpoint.release(rt);
     same(rt, 0, buf.as_slice(), bytes);
@@ -195,7 +195,7 @@ fn write_fed(rt: &impl Abort, alloc: Global, side: Side) {
     drop(endpoint);
 }
 
-/// The words of a Write and of a Send of four words behind it.
+/// The words of a Write and of a Send of four words after it.
 static WRITE_AND_SEND: [u32; 17] = [
     0x0013_c140,
     1,
@@ -216,7 +216,7 @@ static WRITE_AND_SEND: [u32; 17] = [
     0,
 ];
 
-/// Feeds the Write and the Send in pieces of this length: as the message is told, the Write was placed.
+/// Feeds the Write and the Send in pieces of this length: when the message is delivered, the Write was placed.
 fn write_before_message(rt: &impl Abort, alloc: Global, side: Side, piece: usize) {
     let mut endpoint = with_region(rt, alloc, side, b"12345", Right::Fill);
     feed_runs(rt, alloc, 5, &mut endpoint, (&WRITE_AND_SEND, &[]), piece);

@@ -27,7 +27,7 @@ short_read bytes lt = rw (lt-ltb (length bytes) 16 lt) refl
 pub short_is : (bytes : List ℕ) → length bytes < 16 → (header_of bytes ≡ Err faults.Short) × (HeaderBad bytes → ⊥)
 short_is bytes lt = let is = short_read bytes lt in (is, fine_by bytes (Err faults.Short) is (λ bad. bad))
 
--- a message that is no whole error message isn't read as one
+-- a message that is no complete error message isn't read as one
 no_error : (bytes : List ℕ) → (IsWholeError bytes → ⊥) → error_by (word_at 12 bytes) bytes ≡ None
 no_error bytes none =
     elim (eqb_tells (word_at 12 bytes) 4) [
@@ -51,7 +51,7 @@ no_error bytes none =
       | inr other ↦ rw other.0 refl
     ]
 
--- what is read behind the fixed words
+-- what is read after the fixed words
 read_by : (bytes : List ℕ) (error : Option Body) → 16 ≤ length bytes → error_by (word_at 12 bytes) bytes ≡ error
     → header_of bytes ≡ header_by (word_at 0 bytes) (word_at 8 bytes) (body_by error (word_at 4 bytes) (word_at 12 bytes) bytes)
 unfolding header_of
@@ -67,7 +67,7 @@ other_version version kind bytes h apart none =
     let is = version_read version kind bytes h apart none in
     (is, fine_by bytes (Err (faults.Version version)) is (λ bad. bad))
 
--- version 1 and no whole error message
+-- version 1 and no complete error message
 version1_is : (kind : ℕ) (bytes : List ℕ) → HasFixedWords 1 kind bytes → (IsWholeError bytes → ⊥)
     → header_of bytes ≡ header_by (word_at 0 bytes) (word_at 8 bytes) (version1_of kind bytes)
 unfolding body_by
@@ -115,7 +115,7 @@ above_is kind bytes h above =
     let is = kind_is kind bytes h (other_kind kind bytes h (λ e. omega (arith, e))) (omega arith) in
     (is, bad_by bytes (Err (faults.Kind kind)) is (λ e. omega (arith, e), λ e. omega (arith, e)))
 
--- a whole error message is read as what it says
+-- a complete error message is read as what it says
 whole_read : (bytes : List ℕ) (body : Body) → 16 ≤ length bytes → word_at 12 bytes ≡ 4 → error_of bytes ≡ Some body
     → header_of bytes ≡ Ok (record { xid = word_at 0 bytes; credit = word_at 8 bytes; body = body })
 unfolding body_by

@@ -8,7 +8,7 @@ use Rattle.nr_header.specs.declared.header.RdmaSegment.{RdmaSegment}
 use Rattle.nr_header.specs.declared.header.ReadSegment.{ReadSegment}
 use Rattle.nr_header.specs.Reading.{optional_at, more_at, end_at, entry_at, segment_at, chunk_at, other_position, read_list_at, segments_at, write_list_at}
 
--- what follows an optional element, or the word 0 in its place
+-- what follows an optional element, or the word 0 instead of it
 abbrev pub either : {A B : Type 0} → Option A → Cursor → (A → Cursor → Result B ℕ) → (Cursor → Result B ℕ) → Result B ℕ
 either (Some a) d some none = some a d
 either None d some none = none d

@@ -1,4 +1,4 @@
--- A message is read exactly where it is encoded within the limits.
+-- A message is read if and only if it is encoded within the limits.
 use Rattle.std.proofs.Common.{◌≡◌, ◌≢◌, ℕ, ◌+◌, ◌≤◌, Bool, true, false, cond, eqb, ltb, ◌||◌, ◌&&◌, List, [], ◌∷◌, ◌++◌, length, take, drop, sum_by, All, Option, Some, None, Result, Ok, Err, refl, sym, ap, subst, ◌∙◌, arith, inl, inr, ◌⊎◌, ◌↔◌}
 use Rattle.std.specs.Prelude.{IfSome, IfOk}
 use Rattle.std.specs.List.{AllByRecursion}
@@ -34,7 +34,7 @@ use Rattle.nr_header.proofs.ReadLists.{EntryEnds, Stand, ZeroAllowed, position_o
 -- ---- the words of a message
 
 module _ (bytes : List ℕ) (k : ℕ) where
-  -- what was taken as a word at a place is the word there, and the next place is four further on
+  -- what was taken as a word at an offset is the word there, and the next offset is four further on
   pub word_taken : (d : Cursor) (n : ℕ) → Takes (standing k (drop k bytes)) d (Unsigned n)
       → (k + 4 ≤ length bytes) × (word_at k bytes ≡ n) × (d ≡ standing (k + 4) (drop (k + 4) bytes))
   unfolding unsigned_at cursor_past
@@ -55,7 +55,7 @@ module _ (bytes : List ℕ) (k : ℕ) where
       subst (λ (d : Cursor). Takes c d (Unsigned (word_at k bytes))) (cursor_is (cursor_past 4 c) (standing (k + 4) (drop (k + 4) bytes)) refl (drop-drop 4 k bytes))
       (unsigned_takes c (word_of (take 4 rest)) (cursor_past 4 c) (IsBytes_drop k bytes fits) there)
 
--- the fixed words of a message, and what was taken behind them
+-- the fixed words of a message, and what was taken after them
 record Fixed (bytes : List ℕ) (xid version credit kind : ℕ) (more : List Item) (after : Cursor) : Type 0 where
   long : 16 ≤ length bytes
   xid_is : word_at 0 bytes ≡ xid
@@ -250,7 +250,7 @@ encoded_by h bytes after taken =
 ended : (rest : List ℕ) → ltb 0 (length rest) ≡ false → rest ≡ []
 ended rest e = nil_from_length rest (omega (arith, ltb-false 0 (length rest) e))
 
--- the fixed words of a message are these, with this body's items behind them
+-- the fixed words of a message are these, with this body's items after them
 abbrev Front : List ℕ → ℕ → ℕ → Type 0
 Front bytes version kind = (16 ≤ length bytes) × IsBytes bytes × (word_at 4 bytes ≡ version) × (word_at 12 bytes ≡ kind)
 
@@ -335,7 +335,7 @@ and_true : (a b : Bool) → (a && b) ≡ true → (a ≡ true) × (b ≡ true)
 and_true true b e = (refl, e)
 and_true false b e = absurd cc
 
--- a whole error message that was read
+-- a complete error message that was read
 error_take : (bytes : List ℕ) (body : Body) → IsBytes bytes → word_at 12 bytes ≡ ERROR → error_of bytes ≡ Some body → IsMessage (in_message bytes body) bytes
 error_take bytes body fits kind e =
     let vers = ErrVers (word_at 4 bytes) (word_at 20 bytes) (word_at 24 bytes) in
@@ -481,7 +481,7 @@ message_is_read h bytes m = by_body h.xid h.credit h.body bytes m.stream m.fits 
         answer bytes xid credit (ErrChunk version) f.long f.xid_is f.credit_is
         (rw (f.kind_is, len, wa.1, f.version_is) refl)
 
--- a message that is read is bad exactly where it is RDMA_NOMSG and has no stream
+-- a message that is read is bad if and only if it is RDMA_NOMSG and has no stream
 pub message_is_bad : (h : Header) (bytes : List ℕ) → IsMessage h bytes → HeaderBad bytes ↔ HasNoStream h.body
 message_is_bad h bytes m =
     subst (λ (r : Result Header HeaderFault). IsBad r ↔ HasNoStream h.body) (sym (message_is_read h bytes m)) (λ bad. bad, λ lacks. lacks)

@@ -1,4 +1,4 @@
--- Read lists are read exactly where they are encoded and their positions may stand.
+-- Read lists are read if and only if they are encoded and their positions may stand.
 use Rattle.std.proofs.Common.{◌≡◌, ◌≢◌, ℕ, zero, suc, ◌≤◌, Bool, true, false, List, [], ◌∷◌, length, Ok, Err, refl, sym, subst, ◌∙◌, arith, inl, inr}
 use Rattle.std.specs.List.{AllByRecursion}
 use Rattle.std.proofs.lemmas.Bool.Decides.{eqb_tells, nat_tests}
@@ -18,7 +18,7 @@ use Rattle.nr_header.proofs.Segments.{Before, Again, segment_take, segment_again
 abbrev pub EntryEnds : ReadSegment → Type 0
 EntryEnds r = Ends r.offset r.length
 
--- each position may stand behind those before it
+-- each position may stand after those before it
 abbrev pub Stand : Bool → ℕ → List ReadSegment → Type 0
 Stand zero_allowed seen [] = Unit {0}
 Stand zero_allowed seen (r ∷ rs) = (is_allowed zero_allowed seen r.position ≡ true) × Stand zero_allowed (other_position seen r.position) rs
@@ -126,7 +126,7 @@ read_list_again (r ∷ rs) (suc room) zero_allowed seen more c after within stan
 
 -- ---- positions
 
--- the position other than 0 of a list, 0 where there is none
+-- the position other than 0 of a list, 0 if there is none
 abbrev pub position_of : ℕ → List ReadSegment → ℕ
 position_of seen [] = seen
 position_of seen (r ∷ rs) = position_of (other_position seen r.position) rs

@@ -1,4 +1,4 @@
--- Lists written one element after the other: what is written and what is still to be written make the whole.
+-- Lists written one element after the other: what is written and what is still to be written make all of it.
 use Rattle.std.proofs.Common.{◌≡◌, ℕ, ◌+◌, ◌<◌, true, List, [], ◌∷◌, ◌++◌, length, get_or, drop, refl, sym, ap, ◌∙◌, append_assoc}
 use Rattle.std.proofs.lemmas.List.{drop_more}
 use Rattle.nr_xdr.specs.Item.{Item, encoding}
@@ -49,7 +49,7 @@ write_split (chunk ∷ chunks) more =
     ∙ sym (append_assoc (chunk_items chunk []) (write_items chunks []) more)
     ∙ ap (λ (is : List Item). is ++ more) (sym (chunk_split chunk (write_items chunks []))))
 
--- the three lists one behind the other
+-- the three lists one after the other
 lists_encoded : (lists : ChunkLists) → encodings (lists_items lists) ≡ encodings (read_items lists.read []) ++ (encodings (write_items lists.write []) ++ encodings (reply_items lists.reply []))
 lists_encoded lists =
     ap encodings (read_split lists.read (write_items lists.write (reply_items lists.reply [])))
@@ -57,7 +57,7 @@ lists_encoded lists =
     ∙ ap (λ (b : List ℕ). encodings (read_items lists.read []) ++ b)
     (ap encodings (write_split lists.write (reply_items lists.reply [])) ∙ encodings_append (write_items lists.write []) (reply_items lists.reply []))
 
--- the lists are written one behind the other
+-- the lists are written one after the other
 pub lists_put : (lists : ChunkLists) (start read write all : List ℕ) → read ≡ start ++ encodings (read_items lists.read []) → write ≡ read ++ encodings (write_items lists.write [])
     → all ≡ write ++ encodings (reply_items lists.reply []) → all ≡ start ++ encodings (lists_items lists)
 lists_put lists start read write all r w p =

@@ -40,15 +40,15 @@ SEGMENT_LEN = 16
 abbrev pub READ_SEGMENT_LEN : ℕ
 READ_SEGMENT_LEN = 24
 
--- the most entries of a read list
+-- the maximum number of entries of a read list
 abbrev pub READ_SEGMENTS_MAX : ℕ
 READ_SEGMENTS_MAX = 16
 
--- the most chunks of a write list
+-- the maximum number of chunks of a write list
 abbrev pub WRITE_CHUNKS_MAX : ℕ
 WRITE_CHUNKS_MAX = 4
 
--- the most segments of one chunk of a write list, of all of them, and of a reply chunk
+-- the maximum number of segments of one chunk of a write list, of all of them, and of a reply chunk
 abbrev pub CHUNK_SEGMENTS_MAX : ℕ
 CHUNK_SEGMENTS_MAX = 16
 
@@ -58,6 +58,6 @@ WRITE_SEGMENTS_MAX = 16
 abbrev pub REPLY_SEGMENTS_MAX : ℕ
 REPLY_SEGMENTS_MAX = 16
 
--- the most bytes of a stream after its header and of the read list together
+-- the maximum length of a stream after its header and of the read list together, in bytes
 abbrev pub PAYLOAD_MAX : ℕ
 PAYLOAD_MAX = 40960

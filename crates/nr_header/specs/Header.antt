@@ -62,7 +62,7 @@ body_items xid credit (ErrChunk version) = fixed_items xid version credit ERROR 
 abbrev pub header_encoding : Header → List ℕ
 header_encoding h = encodings (body_items h.xid h.credit h.body)
 
--- a message with these lists: RDMA_NOMSG where its stream is in a chunk, else RDMA_MSG (RFC 8166 section 4.2.4)
+-- a message with these lists: RDMA_NOMSG if its stream is in a chunk, else RDMA_MSG (RFC 8166 section 4.2.4)
 abbrev pub lists_body : Bool → ChunkLists → Body
 lists_body long lists = if long then Nomsg lists else Msg lists 0
 

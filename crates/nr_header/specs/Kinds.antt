@@ -8,7 +8,7 @@ pub record HasFixedWords (version kind : ℕ) (bytes : List ℕ) : Type 0 where
   pub version_is : word_at 4 bytes ≡ version
   pub kind_is : word_at 12 bytes ≡ kind
 
--- a whole error message, of any version: RDMA_ERROR with ERR_VERS and 28 bytes, or with ERR_CHUNK and 20 bytes
+-- a complete error message, of any version: RDMA_ERROR with ERR_VERS and 28 bytes, or with ERR_CHUNK and 20 bytes
 abbrev pub IsWholeError : List ℕ → Type 0
 IsWholeError bytes =
     (word_at 12 bytes ≡ 4) × (((length bytes ≡ 28) × (word_at 16 bytes ≡ 1)) ⊎ ((length bytes ≡ 20) × (word_at 16 bytes ≡ 2)))

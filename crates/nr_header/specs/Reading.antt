@@ -1,4 +1,4 @@
--- What is read of a message, or why nothing is: the places are those of the first word or entry at fault.
+-- What is read of a message, or why nothing is: the offsets are those of the first word or entry at fault.
 use Rattle.std.specs.Prelude.{◌≢◌, ℕ, zero, suc, ◌+◌, ◌^◌, Bool, true, false, ◌||◌, ◌&&◌, List, [], ◌∷◌, length, drop, sum_by, All, Option, Some, None, Result, Ok, Err, nat_lt, ◌==◌, if◌then◌else◌}
 use Rattle.nr_xdr.specs.Fields.{word_at}
 use Rattle.nr_xdr.specs.Reading.{Cursor, hyper_at, boolean_at}
@@ -24,7 +24,7 @@ optional_at element c = do
   more ← more_at c
   if more.0 then (element more.1 >>= λ x. Ok (Some x.0, x.1)) else Ok (None, more.1)
 
--- a segment; one that ends past 2 ^ 64 fails at the given place
+-- a segment; one that ends past 2 ^ 64 fails at the given offset
 unfoldable pub segment_at : ℕ → Cursor → Result (RdmaSegment × Cursor) ℕ
 segment_at place c = do
   handle ← number_at c
@@ -32,7 +32,7 @@ segment_at place c = do
   offset ← or_place (hyper_at len.1)
   if nat_lt (2 ^ 64) (offset.0 + len.0) then Err place else Ok (record { handle = handle.0; length = len.0; offset = offset.0 }, offset.1)
 
--- Whether an entry may have this position: 0 where that is allowed, or the one other position of the list. seen is that other
+-- Whether an entry may have this position: 0 if that is allowed, or the one other position of the list. seen is that other
 -- position among the entries before it, 0 if there is none yet.
 abbrev pub is_allowed : Bool → ℕ → ℕ → Bool
 is_allowed zero_allowed seen position = if position == 0 then zero_allowed else (seen == 0 || seen == position)
@@ -41,7 +41,7 @@ is_allowed zero_allowed seen position = if position == 0 then zero_allowed else 
 abbrev pub other_position : ℕ → ℕ → ℕ
 other_position seen position = if position == 0 then seen else position
 
--- an entry of a read list, after the word 1 at this place; an entry at fault fails there
+-- an entry of a read list, after the word 1 at this offset; an entry at fault fails there
 unfoldable pub entry_at : ℕ → Bool → ℕ → Cursor → Result (ReadSegment × Cursor) ℕ
 entry_at place zero_allowed seen c = do
   position ← number_at c
@@ -120,7 +120,7 @@ abbrev pub sums_pass : ChunkLists → ℕ → Bool
 sums_pass lists stream =
     nat_lt WRITE_SEGMENTS_MAX (sum_by (λ chunk. length chunk) lists.write) || nat_lt PAYLOAD_MAX (stream + read_total lists.read)
 
--- the body of RDMA_MSG, and of RDMA_NOMSG, whose lists end at this place with this many bytes after them
+-- the body of RDMA_MSG, and of RDMA_NOMSG, whose lists end at this offset with this many bytes after them
 abbrev pub msg_body : ChunkLists → ℕ → ℕ → Result Body ℕ
 msg_body lists at left = if sums_pass lists left then Err at else Ok (Msg lists at)
 
@@ -138,7 +138,7 @@ nomsg_at c = do
   lists ← lists_at true c
   nomsg_body lists.0 lists.1.place (length lists.1.rest)
 
--- a whole error message: its code is one of two, and it has exactly the bytes of that code
+-- a complete error message: its code is one of two, and it has exactly the bytes of that code
 abbrev pub error_of : List ℕ → Option Body
 error_of bytes =
     if (length bytes == 28) && (word_at 16 bytes == ERR_VERS) then Some (ErrVers (word_at 4 bytes) (word_at 20 bytes) (word_at 24 bytes))
@@ -149,7 +149,7 @@ abbrev pub in_lists : Result Body ℕ → Result Body HeaderFault
 in_lists (Ok body) = Ok body
 in_lists (Err at) = Err (BadChunks at)
 
--- a message of version 1 that is no whole error message
+-- a message of version 1 that is no complete error message
 unfoldable pub version1_of : ℕ → List ℕ → Result Body HeaderFault
 version1_of kind bytes =
     let c : Cursor = record { place = FIXED_LEN; rest = drop FIXED_LEN bytes } in
@@ -160,11 +160,11 @@ unfoldable pub body_by : Option Body → ℕ → ℕ → List ℕ → Result Bod
 body_by (Some body) version kind bytes = Ok body
 body_by None version kind bytes = if version == VERSION then version1_of kind bytes else Err (Version version)
 
--- the whole error message, if the kind is RDMA_ERROR
+-- the complete error message, if the kind is RDMA_ERROR
 abbrev pub error_by : ℕ → List ℕ → Option Body
 error_by kind bytes = if kind == ERROR then error_of bytes else None
 
--- the header with this transaction's number, these credits and this body, unless the body has a fault
+-- the header with this XID, these credits and this body, unless the body has a fault
 abbrev pub header_by : ℕ → ℕ → Result Body HeaderFault → Result Header HeaderFault
 header_by xid credit (Ok body) = Ok (record { xid = xid; credit = credit; body = body })
 header_by xid credit (Err fault) = Err fault
@@ -175,7 +175,7 @@ header_of bytes =
     if nat_lt (length bytes) FIXED_LEN then Err Short
     else header_by (word_at 0 bytes) (word_at 8 bytes) (body_by (error_by (word_at 12 bytes) bytes) (word_at 4 bytes) (word_at 12 bytes) bytes)
 
--- RDMA_NOMSG whose read list has no entry at position 0, where its stream has to begin (RFC 8166 section 3.5)
+-- RDMA_NOMSG whose read list has no entry at position 0, at which its stream has to begin (RFC 8166 section 3.5)
 abbrev pub HasNoStream : Body → Type 0
 HasNoStream (Msg lists stream_at) = ⊥
 HasNoStream (Nomsg lists) = All (λ r. r.position ≢ 0) lists.read

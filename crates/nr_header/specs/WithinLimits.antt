@@ -52,7 +52,7 @@ StreamAt (Nomsg lists) len = Unit {0}
 StreamAt (ErrVers version low high) len = Unit {0}
 StreamAt (ErrChunk version) len = Unit {0}
 
--- the stream of RDMA_MSG is that from its place on, which is at most the message's length
+-- the stream of RDMA_MSG is that from its offset on, which is at most the message's length
 abbrev pub StreamWithin : Body → ℕ → Type 0
 StreamWithin (Msg lists stream_at) len = stream_at ≤ len
 StreamWithin (Nomsg lists) len = Unit {0}

@@ -30,27 +30,27 @@ pub const SEGMENT_LEN: usize = 16;
 /// The bytes of an entry of a read list, with the word 1 before it (RFC 8166 section 4.3.1).
 pub const READ_SEGMENT_LEN: usize = 24;
 
-/// The most segments in a read list.
+/// The maximum number of segments in a read list.
 pub const READ_SEGMENTS_MAX: usize = 16;
 
-/// The most chunks in a write list.
+/// The maximum number of chunks in a write list.
 pub const WRITE_CHUNKS_MAX: usize = 4;
 
-/// The most segments in one chunk of a write list.
+/// The maximum number of segments in one chunk of a write list.
 pub const CHUNK_SEGMENTS_MAX: usize = 16;
 
-/// The most segments in all chunks of a write list.
+/// The maximum number of segments in all chunks of a write list.
 pub const WRITE_SEGMENTS_MAX: usize = 16;
 
-/// The most segments in a reply chunk.
+/// The maximum number of segments in a reply chunk.
 pub const REPLY_SEGMENTS_MAX: usize = 16;
 
-/// How many segments a chunk holds inline: the most that a chunk of a write list or a reply chunk may have.
+/// How many segments a chunk holds inline: the maximum of a chunk of a write list and of a reply chunk.
 pub const CHUNK_ROOM: usize = if CHUNK_SEGMENTS_MAX < REPLY_SEGMENTS_MAX {
     REPLY_SEGMENTS_MAX
 } else {
     CHUNK_SEGMENTS_MAX
 };
 
-/// The most bytes of a stream after its header and of the read list together.
+/// The maximum length of a stream after its header and of the read list together, in bytes.
 pub const PAYLOAD_MAX: usize = 40960;

@@ -5,11 +5,11 @@
 pub enum HeaderFault {
     /// The message has fewer than 16 bytes.
     Short,
-    /// The message has a version word other than 1, and is no whole error message.
+    /// The message has a version word other than 1, and is no complete error message.
     Version { version: u32 },
-    /// The message is of a kind that isn't read, or is an error message that isn't whole.
+    /// The message is of a kind that isn't read, or is an incomplete error message.
     Kind { kind: u32 },
-    /// The lists of chunks don't parse or pass a limit. `at` is the place of the word or entry at fault, for sums the end
-    /// of the lists, in bytes from the front.
+    /// The lists of chunks don't parse or pass a limit. `at` is the offset of the word or entry at fault, for sums the
+    /// end of the lists, in bytes from the front.
     BadChunks { at: usize },
 }

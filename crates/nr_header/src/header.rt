@@ -6,17 +6,24 @@ use crate::inline_vec::InlineVec;
 /// Memory that a peer offers (RFC 8166 section 3.4): `length` bytes from `offset` on in the region that `handle` names.
 #[derive(Clone, Copy, Debug, PartialEq, Eq, Default)]
 pub struct RdmaSegment {
+    /// The STag of the region.
     pub handle: u32,
+    /// In bytes.
     pub length: u32,
+    /// The offset of the first byte in the region.
     pub offset: u64,
 }
 
 /// An entry of a read list (RFC 8166 section 3.4.5): memory whose bytes belong at `position` of the payload.
 #[derive(Clone, Copy, Debug, PartialEq, Eq, Default)]
 pub struct ReadSegment {
+    /// The offset in the payload at which the bytes belong, in bytes.
     pub position: u32,
+    /// The STag of the region.
     pub handle: u32,
+    /// In bytes.
     pub length: u32,
+    /// The offset of the first byte in the region.
     pub offset: u64,
 }
 
@@ -43,16 +50,19 @@ impl Default for Chunk {
 /// The lists of chunks (RFC 8166 section 3.4).
 #[derive(Drop)]
 pub struct ChunkLists {
+    /// The memory from which the call is read (RFC 8166 section 3.4.5).
     pub read: ReadList,
+    /// The memory into which items of the reply are written (RFC 8166 section 3.4.6).
     pub write: WriteList,
+    /// The memory into which the rest of the reply is written, if it is long (RFC 8166 section 3.5).
     pub reply: Option<Chunk>,
 }
 
 /// What follows the fixed words of a header (RFC 8166 section 4.2).
 #[derive(Drop)]
 pub enum Body {
-    /// RDMA_MSG: the stream follows the header, from the place `stream_at` of the message on. A header that is written
-    /// needs no `stream_at`.
+    /// RDMA_MSG: the stream follows the header, from the offset `stream_at` of the message on. A header that is written needs no
+    /// `stream_at`.
     Msg { lists: ChunkLists, stream_at: usize },
     /// RDMA_NOMSG: the stream is in a chunk.
     Nomsg { lists: ChunkLists },
@@ -74,6 +84,7 @@ pub enum TransportError {
 /// A transport header (RFC 8166 section 4.2). `credit` is the number of credits that a requester asks for or a responder grants.
 #[derive(Drop)]
 pub struct Header {
+    /// The transaction ID, that of the RPC message.
     pub xid: u32,
     pub credit: u32,
     pub body: Body,

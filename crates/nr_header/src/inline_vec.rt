@@ -61,6 +61,7 @@ impl<T, const N: usize> InlineVec<T, N> {
         }
     }
 
+    /// The elements in order.
     pub fn as_slice(&self) -> &[T]
         ensures { result.now ≡ self.now }
     {
@@ -77,6 +78,7 @@ impl<T, const N: usize> InlineVec<T, N> {
         self.as_slice().len()
     }
 
+    /// Whether there are no elements.
     pub fn is_empty(&self) -> bool
         ensures { IsTrue result ↔ (self.now ≡ []) }
     {

@@ -1,4 +1,4 @@
-//! The items of a header: each is read, or refused with its place.
+//! The items of a header: each is read, or refused with its offset.
 
 ghost use Rattle.std.specs.Prelude.{◌≡◌, ◌+◌, ◌^◌, ◌<◌, ◌≤◌, nat_lt, length};
 ghost use Rattle.nr_xdr.specs.Matching.{MatchesRead, MatchesStep};
@@ -14,7 +14,7 @@ pub(crate) fn more(reader: &mut Reader<'_>) -> Result<bool, DecodeError>
     Ok(reader.boolean()?)
 }
 
-/// Reads the end of a list; an entry in its place fails at its word.
+/// Reads the end of a list; an entry instead of it fails at its word.
 #[tactic(auto, unfolding(crate::specs::Reading::end_at))]
 pub(crate) fn end(reader: &mut Reader<'_>) -> Result<(), DecodeError>
     ensures { MatchesStep result reader.new (end_at reader.old) }

@@ -18,7 +18,7 @@ pub fn header_round_trip()
         header_of (header_encoding h ++ stream) ≡ Ok (header_again h) }
 {}
 
-/// A message within the limits is bad exactly where it is RDMA_NOMSG without an entry at position 0.
+/// A message within the limits is bad if and only if it is RDMA_NOMSG without an entry at position 0.
 pub fn bad_messages()
     ensures { (h : Header) (bytes : List ℕ) → IsMessage h bytes → HeaderBad bytes ↔ HasNoStream h.body }
 {}
@@ -49,7 +49,7 @@ pub fn kinds_of_messages()
     // RDMA_MSGP and RDMA_DONE.
     ensures msgp { (bytes : List ℕ) → HasFixedWords 1 2 bytes → (header_of bytes ≡ Err (HeaderFault.Kind 2)) × HeaderBad bytes }
     ensures done { (bytes : List ℕ) → HasFixedWords 1 3 bytes → (header_of bytes ≡ Err (HeaderFault.Kind 3)) × ¬ HeaderBad bytes }
-    // RDMA_ERROR: not whole, with ERR_VERS, with ERR_CHUNK.
+    // RDMA_ERROR: incomplete, with ERR_VERS, with ERR_CHUNK.
     ensures error { (bytes : List ℕ) → HasFixedWords 1 4 bytes → ¬ IsWholeError bytes →
         (header_of bytes ≡ Err (HeaderFault.Kind 4)) × ¬ HeaderBad bytes }
     ensures versions { (bytes : List ℕ) → word_at 12 bytes ≡ 4 → length bytes ≡ 28 → word_at 16 bytes ≡ 1 →

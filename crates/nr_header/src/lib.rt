@@ -2,10 +2,9 @@
 //!
 //! The crate stands on `nr_xdr`. A header begins each message. It carries the XID, the credit value and the procedure
 //! (RDMA_MSG, RDMA_NOMSG or RDMA_ERROR), then the chunk lists (memory that the requester offers, or that the responder filled)
-//! or an error. [`read_header`] judges a
-//! whole message: its lists are within fixed limits, or it says why not and where. [`write_header`] encodes any header,
-//! within the limits or not; [`write_plain`], [`write_with_lists`] and [`write_error`] do so without a [`Header`].
-//! The crates above decide which chunks a call offers and what they carry.
+//! or an error. [`read_header`] judges a complete message: its lists are within fixed limits, or it says why not and at which
+//! offset. [`write_header`] encodes any header, within the limits or not; [`write_plain`], [`write_with_lists`] and
+//! [`write_error`] do so without a [`Header`]. The crates above decide which chunks a call offers and what they carry.
 #![tactic(auto)]
 
 mod constants;

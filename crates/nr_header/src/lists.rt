@@ -14,7 +14,7 @@ use crate::item::{end, more, segment};
 use arrayvec::ArrayVec;
 use nr_xdr::{DecodeError, Reader, number};
 
-/// Whether an entry may have this position, where `seen` is the position other than 0 among the entries before it.
+/// Whether an entry may have this position, if `seen` is the position other than 0 among the entries before it.
 fn is_allowed(zero_allowed: bool, seen: u32, position: u32) -> bool
     ensures { result ≡ is_allowed zero_allowed seen position }
 {
@@ -97,7 +97,6 @@ fn read_list(reader: &mut Reader<'_>, zero_allowed: bool) -> Result<ReadList, De
     list_end(reader, entries)
 }
 
-/// Reads this many segments.
 fn segments(reader: &mut Reader<'_>, count: u32) -> Result<Chunk, DecodeError>
     requires { count ≤ CHUNK_ROOM }
     ensures { MatchesRead (λ c. c) result reader.new (segments_at count reader.old) }
@@ -124,7 +123,7 @@ fn chunk(reader: &mut Reader<'_>, max: usize) -> Result<Chunk, DecodeError>
     segments(reader, count)
 }
 
-/// Reads a chunk of at most `max` segments after the word 1, or the word 0 in its place.
+/// Reads a chunk of at most `max` segments after the word 1, or the word 0 instead.
 fn optional_chunk(reader: &mut Reader<'_>, max: usize) -> Result<Option<Chunk>, DecodeError>
     requires { max ≤ CHUNK_ROOM }
     ensures { MatchesRead (λ c. c) result reader.new (optional_at (chunk_at max) reader.old) }
@@ -165,7 +164,7 @@ fn lists_after(reader: &mut Reader<'_>, read: ReadList) -> Result<ChunkLists, De
     Ok(ChunkLists { read, write, reply })
 }
 
-/// Reads the lists. An entry of the read list may have position 0 only where `zero_allowed`.
+/// Reads the lists. An entry of the read list may have position 0 only if `zero_allowed`.
 #[tactic(auto, unfolding(crate::specs::Reading::lists_at))]
 pub(crate) fn lists(reader: &mut Reader<'_>, zero_allowed: bool) -> Result<ChunkLists, DecodeError>
     ensures { MatchesRead (λ l. l) result reader.new (lists_at zero_allowed reader.old) }

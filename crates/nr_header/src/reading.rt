@@ -54,7 +54,7 @@ fn sums_pass(lists: &ChunkLists, stream: usize) -> bool
     passes_segments(&lists.write) || passes_payload(&lists.read, stream)
 }
 
-/// A whole error message: its code is one of two, and it has exactly the bytes of that code.
+/// A complete error message: its code is one of two, and it has exactly the bytes of that code.
 fn whole_error(bytes: &[u8]) -> Option<Body>
     ensures { result ≡ error_of bytes.now }
 {
@@ -122,7 +122,7 @@ fn or_bad_chunks(body: Result<Body, DecodeError>) -> Result<Body, HeaderFault>
     }
 }
 
-/// Reads what follows the fixed words of a message of version 1 that is no whole error message.
+/// Reads what follows the fixed words of a message of version 1 that is no complete error message.
 #[tactic(auto, unfolding(crate::specs::Reading::version1_of))]
 fn version1(reader: &mut Reader<'_>, kind: u32, bytes: &[u8]) -> Result<Body, HeaderFault>
     requires { reader.old ≡ record { place = FIXED_LEN; rest = drop FIXED_LEN bytes.now } }
@@ -173,15 +173,15 @@ fn read_header_inner(bytes: &[u8]) -> Result<Header, HeaderFault>
 }
 
 /// Reads a message's header and checks it against the limits. Takes no memory. Only in RDMA_MSG may bytes follow the header.
-/// `Short`: the message has fewer than 16 bytes. `Version`: its version word isn't 1, and it is no whole error message (28
+/// `Short`: the message has fewer than 16 bytes. `Version`: its version word isn't 1, and it is no complete error message (28
 /// bytes with ERR_VERS, 20 bytes with ERR_CHUNK). `Kind`: its version is 1, and it is neither RDMA_MSG, nor RDMA_NOMSG, nor a
-/// whole error message. `BadChunks`: the lists don't parse or pass a limit; the first fault in the order of the bytes.
+/// complete error message. `BadChunks`: the lists don't parse or pass a limit; the first fault in the order of the bytes.
 pub fn read_header(bytes: &[u8]) -> Result<Header, HeaderFault>
     // What is read is encoded so, within the limits.
     ensures found { IfOk result (λ header. IsMessage header bytes.now) }
     // What is encoded so is read.
     ensures only { (header : Header) → IsMessage header bytes.now → result ≡ Ok header }
-    // Which fault it is, and where.
+    // Which fault it is, and at which offset.
     ensures exact { result ≡ header_of bytes.now }
     // Its numbers are words of the message.
     ensures words { IfOk result (λ header. (header.xid ≡ word_at 0 bytes.now) × (header.credit ≡ word_at 8 bytes.now)) }

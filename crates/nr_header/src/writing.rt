@@ -153,7 +153,6 @@ fn put_no_lists(writer: &mut Writer) -> Result<(), Memory>
     writer.boolean(false)
 }
 
-/// Puts a header.
 fn put_header(writer: &mut Writer, header: &Header) -> Result<(), Memory>
     requires { CanWriteHeader header.now }
     ensures { OnOk result (writer.new ≡ writer.old ++ header_encoding header.now) }
@@ -211,7 +210,7 @@ fn octets_with_lists(
     Ok(writer.finish())
 }
 
-/// The encoding of a message with borrowed lists, up to its stream: RDMA_NOMSG where `long`, its stream being in a chunk, else
+/// The encoding of a message with borrowed lists, up to its stream: RDMA_NOMSG if `long`, its stream being in a chunk, else
 /// RDMA_MSG. The lists may be within the limits or not.
 pub fn write_with_lists(
     alloc: Global,

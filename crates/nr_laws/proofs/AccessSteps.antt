@@ -1,4 +1,4 @@
--- What a server accesses stays offered behind each frame that a side of a matched link receives.
+-- What a server accesses stays offered after each frame that a side of a matched link receives.
 use Rattle.std.proofs.Common.{◌≡◌, ℕ, ◌≤◌, ◌<◌, true, eqb, List, [], ◌∷◌, ◌++◌, Ok, refl, sym, ap, subst, ◌∙◌, arith}
 use Rattle.std.specs.List.{AllByRecursion, list_any}
 use Rattle.std.proofs.lemmas.Bool.{eq-eqb}
@@ -34,7 +34,7 @@ use Rattle.nr_laws.proofs.SendFrames.{at_front}
 
 -- ---- The client
 
--- what the frame at the front carries, behind the hello
+-- what the frame at the front carries, after the hello
 pub front_piece_down : (opened : LinkParameters) (k : ClientState) (s : ServerState) (u : List FrameContent) (q : FrameContent) (d all_up all_down : List FrameContent) (w : Transit) (p : FrameContent) (rest : List FrameContent) (n r place : ℕ) → EndsAgree opened k s u (q ∷ d) all_up all_down w → w.down ≡ p ∷ rest
     → n ≡ total_of sends_in (q ∷ d) → r ≡ total_of requests_in (q ∷ d) → 0 < place → Carries k.received.sends k.received.requests (frame_of (frame_bytes Responder (numbered_segment n r p)) place) p
 front_piece_down opened k s u q d all_up all_down w p rest n r place l first sends requests at =

@@ -1,4 +1,4 @@
--- What a server accesses stays offered where it receives a frame, executes a call, and writes its queue.
+-- What a server accesses stays offered when it receives a frame, executes a call, and writes its queue.
 use Rattle.std.proofs.Common.{◌≡◌, ◌≢◌, ℕ, zero, suc, ◌+◌, ◌*◌, ◌≤◌, ◌<◌, min, Bool, true, false, cond, not, ◌&&◌, ◌||◌, eqb, List, [], ◌∷◌, ◌++◌, length, map, take, drop, filter, Option, None, Some, refl, sym, ap, subst, ◌∙◌, arith, inl, inr, eqb-true, length-take, length-drop, append_assoc}
 use Rattle.std.specs.List.{AllByRecursion, find, list_any, range_with_len}
 use Rattle.std.proofs.lemmas.Bool.{eq-eqb, ne_eqb}
@@ -60,7 +60,7 @@ each_first P n (suc m) [] h = h
 each_first P zero (suc m) (x ∷ xs) h = (h.0, each_first P zero m xs h.1)
 each_first P (suc n) (suc m) (x ∷ xs) h = each_first P n m xs h
 
--- the Read Request of a read of a pending call, where no message answers that call
+-- the Read Request of a read of a pending call, if no message answers that call
 read_access : (regions : List Region) (answered : List ℕ) (calls : List PendingCall) (r : PendingRead) → ((x : ℕ) → times x answered + times x (call_xids calls) ≤ 1) → ReadOffered regions calls r → IsAccess regions answered (request_frame r)
 read_access regions answered [] r once h = absurd h
 read_access regions answered (c ∷ calls) r once (inl h) =

@@ -39,7 +39,7 @@ record GivenOutcome (gone : ℕ → Bool) (xid : ℕ) (v : ReplyVerdict) : Type 
   is : v ≡ GivesOutcome xid outcome
   if_none : outcome ≡ None → gone xid ≡ true
 
--- the memory of a call is revoked only where it was given up
+-- the memory of a call is revoked only if it was given up
 abbrev pub RevokedGone : (ℕ → Bool) → OutstandingCall → Type 0
 RevokedGone gone o = o.is_revoked ≡ true → gone o.xid ≡ true
 

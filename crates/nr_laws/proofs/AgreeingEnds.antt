@@ -56,12 +56,12 @@ pub record EndsAgree (opened : LinkParameters) (k : ClientState) (s : ServerStat
   pub requests_sent : s.requests_sent ≡ total_of requests_in all_down
   pub bytes_up : IsBytes (begun_bytes s.received.begun)
 
--- the first frame is at place 0, and no other is
+-- the first frame is at offset 0, and no other is
 abbrev pub IsPlace : List FrameContent → ℕ → Type 0
 IsPlace [] place = place ≡ 0
 IsPlace (p ∷ ps) place = 0 < place
 
--- the frame of a frame behind so many Sends and Read Requests
+-- the frame of these bytes at an offset
 abbrev pub frame_of : List ℕ → ℕ → Frame
 frame_of bytes place = record { at = place; end = place + length bytes; bytes = bytes }
 
@@ -206,7 +206,7 @@ no_bytes = λ i. omega arith
 pub message_bytes : (h : ReceiveState) (message : SentMessage) → CompletesMessage h message → IsBytes (begun_bytes h.begun) → IsBytes message.payload → IsBytes message.bytes
 message_bytes h message completes front rest = subst IsBytes completes (bytes_both (begun_bytes h.begun) message.payload front rest)
 
--- a frame behind the hello
+-- a frame after the hello
 took_piece : (opened : LinkParameters) (k : ClientState) (s : ServerState) (u d all_up all_down : List FrameContent) (w : Transit) (p : FrameContent) (rest : List FrameContent) (f : Frame) → EndsAgree opened k s u d all_up all_down w → w.up ≡ p ∷ rest
     → IsWritable p → 0 < total_of hellos_in all_down → Carries s.received.sends s.received.requests f p → IsBytes f.bytes → f.bytes ≡ frame_bytes Initiator (numbered_segment s.received.sends s.received.requests p)
     → server_end opened s (FrameReceived f) ≡ None → ServerTook opened k s u d all_up all_down w p rest f

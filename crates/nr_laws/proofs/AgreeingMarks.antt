@@ -245,7 +245,7 @@ first_is : (ready : List ReadyCall) (r : ReadyCall) → slice_get ready 0 ≡ So
 first_is [] r e = absurd cc
 first_is (x ∷ rest) r e = (rest, (let same : x ≡ r = cc in ap (λ (y : ReadyCall). y ∷ rest) same))
 
--- some Send was received behind the hello
+-- some Send was received after the hello
 begun : (ps : List FrameContent) → IsOutput ps → 0 < total_of sends_in ps → 0 < total_of hellos_in ps
 begun [] h some = absurd (omega (arith, some))
 begun (HelloFrame ∷ ps) h some = omega arith

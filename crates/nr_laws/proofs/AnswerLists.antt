@@ -1,4 +1,4 @@
--- The lists of an answer are within the limits of a header where those of its call are: so the message of an answer can be read.
+-- The lists of an answer are within the limits of a header if those of its call are: so the message of an answer can be read.
 use Rattle.std.proofs.Common.{◌≡◌, ℕ, ◌^◌, ◌<◌, ◌≤◌, Bool, true, false, cond, List, [], ◌∷◌, ◌++◌, length, sum_by, IfSome, Option, Some, None, Ok, refl, subst, arith, append-nil}
 use Rattle.std.proofs.lemmas.List.Sums.{sum_by-cons}
 use Rattle.std.proofs.lemmas.List.Elements.{All-nil, recursion_from_All, All-from_recursion}

@@ -1,4 +1,4 @@
--- A call in form Auto that completes has a reply, where a plain server replies.
+-- A call in form Auto that completes has a reply, if a plain server replies.
 use Rattle.std.proofs.Common.{◌≡◌, ℕ, List, Ok, refl, sym, ap, subst, ◌∙◌, arith, inl, inr, ◌⊎◌}
 use Rattle.nr_xdr.specs.Item.{IsBytes}
 use Rattle.nr_reduce.specs.declared.call.Form.TheVariants as forms

@@ -61,7 +61,7 @@ has_append (x ∷ xs) ys s (inr there) = by (has_append xs ys s there)
     by (inl h) = inl (inr h)
     by (inr h) = inr h
 
--- the allowed segments for the region under an STag lie within so many bytes
+-- the allowed segments for the region under an STag lie within the first len bytes
 abbrev pub LieWithin : List Grant → (stag len : ℕ) → List TaggedSegment → Type 0
 LieWithin grants stag len [] = Unit {0}
 LieWithin grants stag len (a ∷ accesses) = (a.stag ≡ stag → grant_denial grants (access_of_tagged a) a.end ≡ None → a.to + length a.payload ≤ len) × LieWithin grants stag len accesses

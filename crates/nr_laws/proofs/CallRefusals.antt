@@ -1,4 +1,4 @@
--- Where a server ends for a call: at the frame by which the call became whole, its payload is refused.
+-- When a server ends for a call: at the frame that completed the call, its payload is refused.
 use Rattle.std.proofs.Common.{◌≡◌, ℕ, ◌<◌, Bool, true, false, cond, List, [], ◌∷◌, ◌++◌, Option, None, Some, Result, Ok, refl, sym, ap, subst, ◌∙◌, arith, inl, inr, ◌⊎◌}
 use Rattle.nr_regions.specs.declared.denied.Denied.{Denied}
 use Rattle.nr_wire.specs.Segment.{Segment}

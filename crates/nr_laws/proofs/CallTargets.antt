@@ -1,4 +1,4 @@
--- What a form conveys of a call's payload has, where it has an RPC call head, the target and the xid of that payload's own head.
+-- What a form conveys of a call's payload has, if it has an RPC call head, the target and the xid of that payload's own head.
 use Rattle.std.proofs.Common.{◌≡◌, ℕ, zero, suc, ◌-◌, Bool, true, false, cond, eqb, List, [], ◌∷◌, ◌++◌, length, take, drop, replicate, Option, None, Some, Result, Ok, Err, refl, sym, ap, subst, ◌∙◌, arith, append_assoc, append-nil, take_all, take-append-drop, length-take-le, ne_eqb, inl, inr}
 use Rattle.std.specs.Prelude.{sum}
 use Rattle.std.proofs.lemmas.Bool.{cases_lt}
@@ -33,7 +33,7 @@ pub bytes_region : (payload : List ℕ) (at size : ℕ) → IsBytes payload → 
 bytes_region payload at size fits =
     bytes_both (take size (drop at payload)) (replicate (size - length (take size (drop at payload))) 0) (IsBytes_take size (drop at payload) (IsBytes_drop at payload fits)) (bytes_zeros (size - length (take size (drop at payload))))
 
--- ---- A head that is read is read with bytes behind it
+-- ---- A head that is read is read with bytes after it
 
 head_behind : (x more : List ℕ) (head : CallHead) → IsBytes (x ++ more) → call_of x ≡ Ok head → call_of (x ++ more) ≡ Ok head
 head_behind x more head fits e =
@@ -49,7 +49,7 @@ same_front_lem front x y head fx fy e = head_behind front x head fx e ∙ sym (h
 
 -- ---- What an offer conveys
 
--- its payload's first bytes, with zeros behind all of them
+-- its payload's first bytes, with zeros after all of them
 region_head : (own : List ℕ) (size : ℕ) (own_head head : CallHead) → IsBytes own → call_of own ≡ Ok own_head → call_of (given_region own 0 size) ≡ Ok head → call_of (given_region own 0 size) ≡ call_of own
 region_head own size own_head head fits is e =
     elim (cases_lt size (length own)) [
@@ -118,7 +118,7 @@ given_head own q (suc at) (Some lengths) own_head head fits is e read =
     let apart : eqb (suc at) 0 ≡ false = ne_eqb (suc at) 0 (λ f. omega (arith, f)) in
     given_item_head own region q (suc at) lengths head fits (bytes_region own (suc at) (sum lengths) fits) (sym (ap (λ (b : Bool). cond b (Some region) (whole Call (take (suc at) own) (moved_by lengths region))) apart) ∙ e) read
 
--- What a form conveys of a payload with a call head has just that head, where it has one.
+-- What a form conveys of a payload with a call head has exactly that head, if it has one.
 pub conveyed_head : (form : Form) (own q : List ℕ) (own_head head : CallHead) → IsBytes own → call_of own ≡ Ok own_head → form_conveyed form own ≡ Some q → call_of q ≡ Ok head → call_of q ≡ call_of own
 conveyed_head forms.Auto own q own_head head fits is e read = ap call_of (sym (some_is_lem own q e))
 conveyed_head forms.Inline own q own_head head fits is e read = ap call_of (sym (some_is_lem own q e))

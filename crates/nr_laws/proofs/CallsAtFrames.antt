@@ -1,4 +1,4 @@
--- What is conveyed of a call at the frame by which it becomes whole, whether that ends the server or not: what its form conveys of its own
+-- What is conveyed of a call at the frame that completes it, whether that ends the server or not: what its form conveys of its own
 -- payload.
 use Rattle.std.proofs.Common.{◌≡◌, ℕ, ◌+◌, zero, suc, ◌<◌, true, false, eqb, List, [], ◌∷◌, ◌++◌, Option, None, Some, Ok, refl, sym, ap, subst, ◌∙◌, arith}
 use Rattle.std.specs.Prelude.{IfSome}
@@ -68,7 +68,7 @@ use Rattle.nr_laws.proofs.SinksKept.{total_nil}
 
 -- ---- The chunks of a plan
 
--- a call that is whole by its message has no bytes to be read
+-- a call that its message completes has no bytes to be read
 nothing_read : (regions : List Region) (reads : List PendingRead) (c : PendingCall) (stag : ℕ) (p : Plan) → HasChunk p → c.lists.read ≡ (lists_of stag p).read → is_read (reads ++ reads_of regions c) c.number ≡ true → added_up p.read ≡ 0
 unfolding lists_of
 nothing_read regions reads c stag p chunk lists whole = by p.read_at refl lists
@@ -122,7 +122,7 @@ module _ (opened : LinkParameters) (link : ℕ) (run : List Mark) (typed : IsTyp
       let fits = w.accepted.xids in
       ap (λ (x : List ℕ). word_at 0 x) w.message_is ∙ call_xid_lem w.xid opened.wished (client opened link w.earlier).state.stag w.accepted.plan (omega (arith, fits))
 
-  -- where its chunks hold the plan's region
+  -- if its chunks hold the plan's region
   submit_conveys : (c : PendingCall) (chunk : ℕ → List ℕ) (header : Header) → header_of m ≡ Ok header → c.lists ≡ lists_by header.body → c.inline ≡ known_stream m header.body
       → ((position : ℕ) → c.lists.read ≡ entries_from position (client opened link w.earlier).state.stag 0 w.accepted.plan.read → chunk position ≡ w.accepted.plan.region)
       → call_conveyed c.inline c.lists.read chunk ≡ form_conveyed w.form (call_payload w.xid w.call)
@@ -147,7 +147,7 @@ pub record ConveyedAt (opened : LinkParameters) (link : ℕ) (run : List Mark) (
 module _ (opened : LinkParameters) (link : ℕ) (run : List Mark) (typed : IsTyped run) (asked : AskedSoFar opened link run) (served : ServedSoFar opened link run) (matched : Matched link run)
     (es : List RunEvent) (f : Frame) (more : List RunEvent) (segment : Segment) (all : events link Responder run ≡ es ++ FrameReceived f ∷ more) (behind : is_hello f ≡ false) (is : frame_segment f ≡ Ok segment)
     (live : (end_state_after (server_rules opened) (initial_server opened) es).ended ≡ None) where
-  -- of a call that is whole by its message
+  -- of a call that its message completes
   pub conveyed-by-message : (message : List ℕ) (c : PendingCall) → message_completed (server_by opened es).received segment ≡ Some message → verdict (server_by opened es) message ≡ MakesPending c
       → is_read ((server_by opened es).reads ++ reads_of ((server_by opened es).regions ++ regions_of (server_by opened es) f.end c) c) c.number ≡ true → ConveyedAt opened link run c (payload_of (server_by opened es) f.end c)
   unfolding payload_of
@@ -173,7 +173,7 @@ module _ (opened : LinkParameters) (link : ℕ) (run : List Mark) (typed : IsTyp
             (λ position own. empty_brings c stag position p (chunk position) region own none (λ e. new_empty opened es f.end c position new.number));
       }
 
-  -- and of one that is whole by the last read for it, where the access of the frame is allowed
+  -- and of one that the last read for it completes, if the access of the frame is allowed
   pub conveyed-by-read : missing_access (region_grants f.end (server_by opened es).regions) f segment ≡ None → (q : PendingRead) (rest : List PendingRead) (c : PendingCall) → ends_response segment ≡ true → (server_by opened es).reads ≡ q ∷ rest
       → call_of_number (server_by opened es) q.number ≡ Some c → is_read rest c.number ≡ true → ConveyedAt opened link run c (payload_of (with_access (server_by opened es) f segment) f.end c)
   unfolding payload_of

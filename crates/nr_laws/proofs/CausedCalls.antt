@@ -1,4 +1,4 @@
--- Where nothing is left to do, a call whose message is refused or whose reply isn't held has its Done with Chunk.
+-- If nothing is left to do, a call whose message is refused or whose reply isn't held has its Done with Chunk.
 use Rattle.std.proofs.Common.{◌≡◌, ℕ, Bool, true, false, cond, eqb, List, [], ◌∷◌, refl, ap, subst, arith, inl, inr, ◌⊎◌, eqb-true}
 use Rattle.std.specs.Prelude.{Contains}
 use Rattle.std.proofs.lemmas.List.Elements.{Contains-push_cases, Contains-append_cases}

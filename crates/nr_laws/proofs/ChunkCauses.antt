@@ -1,4 +1,4 @@
--- A call completes with Chunk exactly where its message is refused, or its offer doesn't hold the reply.
+-- A call completes with Chunk if and only if its message is refused, or its offer doesn't hold the reply.
 use Rattle.std.proofs.Common.{◌≡◌, ◌≢◌, ℕ, List, ◌∷◌, ◌++◌, None, Some, refl, sym, ap, subst, ◌∙◌, inl, inr, ◌⊎◌}
 use Rattle.nr_wire.specs.declared.hello.Side.TheVariants.{Responder}
 use Rattle.nr_rpc.specs.Reading.{call_of, target_of}
@@ -67,7 +67,7 @@ pub held_at : (opened : LinkParameters) (link : ℕ) (before : List Mark) (es : 
 unfolding server
 held_at opened link before es xid e is own = λ i. answer_of_target (offer_of (server_by opened (is i)) (sym own i)) (server_by opened (is i)).down_max e.reply (target_of (call_of e.payload))
 
--- ---- What ERR_CHUNK tells
+-- ---- What ERR_CHUNK says
 
 -- a call was executed under this xid with a reply that the offer which its server keeps doesn't hold
 pub record ExecuteNotHeld (opened : LinkParameters) (link : ℕ) (run : List Mark) (xid : ℕ) : Type 0 where
@@ -134,7 +134,7 @@ planned_cause opened link run xid typed far (inr u) =
       none = sym (held_by_plan opened link run u.before xid p.0 u.moment u.payload u.place u.reply typed far has u.at) ∙ u.none;
     })
 
--- ---- Where one of them stands, no reply is handed over
+-- ---- If one of them stands, no reply is handed over
 
 executed_without_cause : (opened : LinkParameters) (link : ℕ) (run before : List Mark) (xid : ℕ) (moment : Moment) (payload : List ℕ) (place : ℕ) (reply : List ℕ) (a : Answer) → IsTyped run → MatchedSoFar opened link run
     → MarkAt run before (marks.Execute link xid moment payload place reply) → answer_held opened link before xid payload reply ≡ Some a → HasChunkCause opened link run xid → ⊥

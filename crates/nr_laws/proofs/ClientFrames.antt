@@ -98,7 +98,7 @@ client_runs opened s u all_down left (p ∷ new) k d all_up w n r place l first 
           (subst (λ (ps : List FrameContent). EndsAgree opened m.after s u ((d ++ p ∷ []) ++ new) ((all_up ++ t.said) ++ m.said) all_down (record { queued_up = ps; up = w.up; queued_down = w.queued_down; down = left })) (append_assoc w.queued_up t.said m.said) m.linked));
     }
 
--- ---- Where the client ends by them, it does so for what it makes of a message, or for what its memory denies
+-- ---- If the client ends by them, it does so for what it makes of a message, or for what its memory denies
 
 pub client_ends : (opened : LinkParameters) (s : ServerState) (u all_down left : List FrameContent) (o : IsOpened opened) (end : End) (up : ℕ) (new : List FrameContent) (k : ClientState) (d all_up : List FrameContent) (w : Transit) (n r place : ℕ) → EndsAgree opened k s u d all_up all_down w → Guards opened k s u d all_up all_down w up → w.down ≡ new ++ left
     → n ≡ total_of sends_in d → r ≡ total_of requests_in d → IsPlace d place → IsBytes (concat (frames_at Responder n r new)) → AreSome (frames_at Responder n r new)

@@ -184,7 +184,7 @@ tagged_responses : (stag to : ℕ) (bytes : List ℕ) (is : List ℕ) → tagged
 tagged_responses stag to bytes [] = refl
 tagged_responses stag to bytes (i ∷ is) = ap (λ (ss : List Segment). one_response stag to bytes i ∷ ss) (tagged_responses stag to bytes is)
 
--- an event without a Read Request, or behind the end, for which nothing tagged is said
+-- an event without a Read Request, or after the end, for which nothing tagged is said
 quiet_answers : (opened : LinkParameters) (es : List RunEvent) (e : RunEvent) (k after : ClientState) (ended now : Option Stop) (outs more : List Output) → tagged_in more ≡ [] → (now ≡ None → (ended ≡ None) × (heard_in (e ∷ []) ≡ []))
     → ((a : Answered) → IsData k.regions a → IsData after.regions a) → ClientAnswers opened es k ended outs → ClientAnswers opened (es ++ e ∷ []) after now (outs ++ more)
 quiet_answers opened es e k after ended now outs more none live kept h = record {
@@ -217,7 +217,7 @@ fetched_request opened k f opcode w queue msn offset last payload own behind is 
 
 -- ---- Each event
 
--- a frame that doesn't end the client, behind the hello
+-- a frame that doesn't end the client, after the hello
 heard_answers : (opened : LinkParameters) (es : List RunEvent) (k : ClientState) (outs : List Output) (f : Frame) → HaveOwnStags (region_grants f.end k.regions) → is_hello f ≡ false → client_end k (FrameReceived f) ≡ None → ClientAnswers opened es k None outs
     → (r : Result Segment ℕ) → frame_segment f ≡ r → ClientAnswers opened (es ++ FrameReceived f ∷ []) (with_segment k f r) None (outs ++ response_outputs k f.end (segment_request r))
 heard_answers opened es k outs f own behind stays h (Err reason) is =

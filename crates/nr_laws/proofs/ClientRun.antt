@@ -184,7 +184,7 @@ submitted_later opened link run mark index o w = record {
   own_stag = w.own_stag;
 }
 
--- a list with one more behind it, split at one of its elements
+-- a list with one more element at its end, split at one of its elements
 pub data Parted {X : Type 0} (xs : List X) (y : X) (pre : List X) (m : X) (post : List X) : Type 0 where
   Within : (more : List X) → xs ≡ pre ++ m ∷ more → Parted xs y pre m post
   Last : xs ≡ pre → m ≡ y → Parted xs y pre m post

@@ -129,7 +129,7 @@ denied_end : (access : Option Access) (why : Denied) → IsDenied (denied_at acc
 denied_end None why = (0, 0, why, refl)
 denied_end (Some access) why = (access.stag, access.to, why, refl)
 
--- a frame behind the hello, and what its access lacks
+-- a frame after the hello, and what its access lacks
 pub record LacksAccess (k : ClientState) (f : Frame) (end : End) : Type 0 where
   pub behind : is_hello f ≡ false
   pub segment : Segment

@@ -1,4 +1,4 @@
--- A region of a server is closed at the end of a frame behind which nothing is left to be read for it.
+-- A region of a server is closed at the end of a frame after which nothing is left to be read for it.
 use Rattle.std.proofs.Common.{◌≡◌, ℕ, Bool, true, false, cond, List, [], ◌∷◌, ◌++◌, Option, None, Some, refl, sym, ap, subst, ◌∙◌, append_assoc, inl, inr, ◌⊎◌}
 use Rattle.std.specs.Prelude.{Contains}
 use Rattle.std.specs.List.{AllByRecursion}

@@ -64,7 +64,7 @@ fed side got bytes rest came way proper before sent =
       all = all;
     }
 
--- behind the hello each of them is a frame as it was sent
+-- after the hello each of them is a frame as it was sent
 pub is_piece : (side : Side) (n r place : ℕ) (p : FrameContent) → IsWritableAs Fpdu (numbered_segment n r p) → 0 < place
     → Carries n r (record { at = place; end = place + length (frame_bytes side (numbered_segment n r p)); bytes = frame_bytes side (numbered_segment n r p) }) p
 unfolding frame_segment

@@ -1,4 +1,4 @@
--- A call that was received with the lists and the stream of its plan conveys what its form conveys, where its read chunk brings the
+-- A call that was received with the lists and the stream of its plan conveys what its form conveys, if its read chunk brings the
 -- plan's region.
 use Rattle.std.proofs.Common.{◌≡◌, ℕ, zero, suc, ◌+◌, ◌^◌, ◌≤◌, Bool, true, false, cond, eqb, not, List, [], ◌∷◌, length, take, Option, None, Some, Ok, refl, sym, ap, subst, ◌∙◌, arith, eqb-true}
 use Rattle.std.specs.Prelude.{sum, find, IfSome}
@@ -143,7 +143,7 @@ plan_conveys payload forms.Chunk down stag p chunk bytes typed e stags holds = o
 plan_conveys payload forms.Long down stag p chunk bytes typed e stags holds = own_conveys payload forms.Long down stag p chunk bytes tt tt e stags holds
 plan_conveys payload (forms.Given offer) down stag p chunk bytes typed e stags holds = given_conveys payload offer send_max down stag p chunk e holds
 
--- What is conveyed to the server by a call with the lists and the stream of its plan, where its read chunk brings the plan's region.
+-- What is conveyed to the server by a call with the lists and the stream of its plan, if its read chunk brings the plan's region.
 pub received_conveys : (payload : List ℕ) (form : Form) (down stag : ℕ) (p : Plan) (c : PendingCall) (chunk : ℕ → List ℕ) → IsBytes payload → IsTypedForm form → plan_of payload form send_max down ≡ Ok p → stag + regions_needed p ≤ 2 ^ 32
     → IsOfPlan stag p c → ChunkHolds chunk p → call_conveyed c.inline c.lists.read chunk ≡ form_conveyed form payload
 received_conveys payload form down stag p c chunk bytes typed e stags is holds =

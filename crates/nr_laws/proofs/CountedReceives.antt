@@ -1,4 +1,4 @@
--- The receives in use of a server: one for each Send that is begun or complete, until its answer is wholly written.
+-- The receives in use of a server: one for each Send that is begun or complete, until its answer is completely written.
 use Rattle.std.proofs.Common.{◌≡◌, ℕ, suc, ◌+◌, Bool, true, false, not, cond, ◌&&◌, ◌||◌, eqb, List, [], ◌∷◌, ◌++◌, length, Option, None, Some, Result, Ok, Err, refl, sym, ap, subst, ◌∙◌, arith, append_assoc, append-nil, length-append, eqb-true}
 use Rattle.std.specs.List.{filter, find, list_any}
 use Rattle.std.proofs.lemmas.Bool.{ne_eqb}

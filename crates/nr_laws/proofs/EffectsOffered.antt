@@ -1,4 +1,4 @@
--- Behind a frame that a server receives each read that waits, or is newly open, is of a pending call that offers it.
+-- After a frame that a server receives each read that waits, or is newly open, is of a pending call that offers it.
 use Rattle.std.proofs.Common.{◌≡◌, ℕ, zero, suc, ◌-◌, ◌≤◌, Bool, true, false, cond, not, eqb, List, [], ◌∷◌, ◌++◌, length, take, drop, filter, Ok, refl, sym, ap, subst, ◌∙◌, arith, inl, inr, length-take}
 use Rattle.std.specs.List.{AllByRecursion}
 use Rattle.nr_xdr.specs.Fields.{word_at}

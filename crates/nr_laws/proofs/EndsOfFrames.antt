@@ -37,7 +37,7 @@ server_by_lem : (opened : LinkParameters) (s : ServerState) (f : Frame) (first_f
 unfolding server_end
 server_by_lem opened s f first_fault behind is = λ i. cond (behind i) (hello_end (hello_of Initiator f.bytes)) (or_refusal s f (is i))
 
--- a Send: none of the link's reasons, and never for want of a receive
+-- a Send: none of the link's reasons, and never a missing receive
 pub server_send : (opened : LinkParameters) (k : ClientState) (s : ServerState) (w : Transit) (f : Frame) (message : SentMessage) (rest : List FrameContent) → TotalsAgree k s w → WithinWindow opened k → w.up ≡ SendFrame message ∷ rest
     → Carries s.received.sends s.received.requests f (SendFrame message) → 16 ≤ length message.bytes → length message.bytes ≤ send_max → ServerLimits s → server_end opened s (FrameReceived f) ≡ refusal_end f (frame_effect s f).refusal
 server_send opened k s w f message rest c g head p long short limits =

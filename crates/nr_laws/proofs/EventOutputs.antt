@@ -134,7 +134,7 @@ places_frames : (place : ℕ) (fs : List (List ℕ)) → places_after place (map
 places_frames place [] = sym (add-zero place)
 places_frames place (f ∷ fs) = (let e = places_frames (place + length f) fs in let l = length-append f (concat fs) in omega (arith, e, l))
 
--- how many bytes of whole frames a side received
+-- how many bytes of complete frames a side received
 abbrev pub whole_bytes : ℕ → Side → List Mark → ℕ
 whole_bytes link side run = length (concat (split (HelloFrom (other side)) (bytes_received link side run)).frames)
 

@@ -1,4 +1,4 @@
--- What a server keeps where it executes a call and writes.
+-- What a server keeps when it executes a call and writes.
 use Rattle.std.proofs.Common.{◌≡◌, ℕ, ◌+◌, List, [], ◌∷◌, ◌++◌, refl}
 use Rattle.nr_rpc.specs.Reading.{call_of, target_of}
 use Rattle.nr_reduce.specs.declared.mark.LinkParameters.{LinkParameters}

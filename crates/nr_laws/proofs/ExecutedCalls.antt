@@ -42,7 +42,7 @@ server_receives_of opened link run typed asked matched =
 
 -- ---- The message of a Send that was received
 
--- a message that a frame made whole is that of the accepted call with the number of its Send
+-- a message that a frame completed is that of the accepted call with the number of its Send
 pub frame_message : (opened : LinkParameters) (link : ℕ) (run : List Mark) → IsTyped run → AskedSoFar opened link run → Matched link run
     → (es : List RunEvent) (f : Frame) (rest : List RunEvent) (s : Segment) (message : List ℕ) → events link Responder run ≡ es ++ FrameReceived f ∷ rest → is_hello f ≡ false → frame_segment f ≡ Ok s
     → message_completed (server_by opened es).received s ≡ Some message → (end_state_after (server_rules opened) (initial_server opened) es).ended ≡ None

@@ -11,7 +11,7 @@ use Rattle.nr_laws.proofs.FrameContents.{FrameContent, tagged_frame, tagged_fram
 use Rattle.nr_laws.proofs.FrameContents.FrameContent.{HelloFrame, PartFrame, SendFrame, RequestFrame, TaggedFrame}
 use Rattle.nr_laws.proofs.LinkInvariants.{AreResponses, ContinuesRead}
 
--- ---- Answers behind answers
+-- ---- Answers after answers
 
 goes_more : (last : Bool) (came n : ℕ) (r : PendingRead) (rs others : List PendingRead) (Later NewFrames : ℕ → List PendingRead → Type 0) → ((c : ℕ) (qs : List PendingRead) → Later c qs → NewFrames c (qs ++ others))
     → ContinuesRead last came n r rs Later → ContinuesRead last came n r (rs ++ others) NewFrames
@@ -44,7 +44,7 @@ sends_answers f (x ∷ xs) = answers_append 0 [] (send_frames (f x)) [] (sends_f
 
 -- ---- A response as it is cut
 
--- so many segments, and that they are as many as are needed
+-- `total` segments are as many as `size` bytes need
 record SegmentTotals (size total : ℕ) : Type 0 where
   enough : size ≤ segment_max * total
   needed : segment_max * total < size + segment_max

@@ -162,7 +162,7 @@ one_ends opened k es event true end other is e =
     absurd (let wrong : None ≡ Some end = sym (ap (λ (xs : List RunEvent). (end_state_after (client_rules opened) (live k) xs).ended) is ∙ ap (λ (x : EndState ClientState). x.ended) (client_event opened k event other).state) ∙ e in cc)
 one_ends opened k es event false end other is e = none_ends opened k es end is e
 
--- so a client ends where it is fed bytes
+-- so a client ends when it is fed bytes
 pub fed_ends : (opened : LinkParameters) (link : ℕ) (run : List Mark) (mark : Mark) (k : ClientState) (end : End) (Lasting : Type 0) → MatchedMark link run mark → TypedMark run mark
     → ((bytes : List ℕ) → IsPrefixOf (bytes_received link Initiator run ++ bytes) (bytes_sent link Responder run) → IsBytes bytes
     → (end_state_after (client_rules opened) (live k) (map FrameReceived (frames_completed Responder (bytes_received link Initiator run) bytes))).ended ≡ Some end → Lasting)

@@ -25,7 +25,7 @@ prefix_through xs ys zs p q = (p.0 ++ q.0, sym (append_assoc xs p.0 q.0) ∙ ap 
 prefix_more : (xs ys more : List ℕ) → IsPrefixOf xs ys → IsPrefixOf xs (ys ++ more)
 prefix_more xs ys more p = prefix_through xs ys (ys ++ more) p (more, refl)
 
--- what grows with each mark keeps within what grows too, where each growth of it does
+-- what grows with each mark keeps within what grows too, if each growth of it does
 record Keeps (P : List Mark → Mark → Type 0) (X Y : List Mark → List ℕ) : Type 0 where
   add : Mark → List ℕ
   adds : (before : List Mark) (mark : Mark) → X (before ++ mark ∷ []) ≡ X before ++ add mark

@@ -79,7 +79,7 @@ abbrev pub total_of : (FrameContent → ℕ) → List FrameContent → ℕ
 total_of one [] = 0
 total_of one (p ∷ ps) = one p + total_of one ps
 
--- ---- As segments, behind so many Sends and Read Requests of the side: their message numbers go on (RFC 5041 section 4.3)
+-- ---- As segments, after n Sends and r Read Requests of the side: their message numbers go on (RFC 5041 section 4.3)
 
 abbrev pub part_segment : (sends offset : ℕ) → List ℕ → Segment
 part_segment n offset payload = Untagged false OPCODE_SEND 0 QUEUE_SEND (msn_word (n + 1)) offset payload

@@ -145,7 +145,7 @@ own_xids : (opened : LinkParameters) (os : List OutstandingCall) → AreSized op
 own_xids opened [] h = tt
 own_xids opened (o ∷ os) h = (h.0.1, own_xids opened os h.1)
 
--- a frame behind the hello leaves the client with it
+-- a frame after the hello leaves the client with it
 behind_hello_lem : (opened : LinkParameters) (k t : ClientState) (s : ServerState) (u d all_up all_down : List FrameContent) (w : Transit) (f : Frame) (r : Result Segment ℕ) → t ≡ with_segment k f r → k.has_hello ≡ true → t.has_hello ≡ true
 behind_hello_lem opened k t s u d all_up all_down w f r is hello = ap (λ (x : ClientState). x.has_hello) is ∙ by r
   where

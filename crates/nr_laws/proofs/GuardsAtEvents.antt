@@ -1,4 +1,4 @@
--- The guards of both ends are kept where a call is submitted or executed, memory is revoked, and a queue is written.
+-- The guards of both ends are kept when a call is submitted or executed, memory is revoked, and a queue is written.
 use Rattle.nr_laws.proofs.OneChunk.{one_chunk}
 use Rattle.std.proofs.Common.{◌≡◌, ℕ, ◌+◌, ◌≤◌, ◌<◌, ◌^◌, Bool, true, false, cond, not, eqb, List, [], ◌∷◌, ◌++◌, length, map, Option, None, Ok, refl, sym, ap, subst, ◌∙◌, arith, length-append, append-nil}
 use Rattle.nr_rpc.specs.Reading.{call_of, target_of}

@@ -55,7 +55,7 @@ pub front_up : (opened : LinkParameters) (k : ClientState) (s : ServerState) (u 
 front_up opened k s u d all_up all_down w place p rest l g first =
     each_at ClientContent u p (rest ++ w.queued_up) (subst (AllByRecursion ClientContent) (sym l.parts_up ∙ ap (λ (ps : List FrameContent). u ++ (ps ++ w.queued_up)) first) g.up_said)
 
--- and its xid, where it is a message
+-- and its xid, if it is a message
 pub front_xid : (opened : LinkParameters) (k : ClientState) (s : ServerState) (u d all_up all_down : List FrameContent) (w : Transit) (place : ℕ) (message : SentMessage) (rest : List FrameContent) → EndsAgree opened k s u d all_up all_down w → Guards opened k s u d all_up all_down w place → w.up ≡ SendFrame message ∷ rest → word_at 0 message.bytes ≡ opened.first_xid + s.received.sends
 front_xid opened k s u d all_up all_down w place message rest l g first =
     xids_at opened.first_xid u message (rest ++ w.queued_up) (subst (XidsFrom opened.first_xid) (sym l.parts_up ∙ ap (λ (ps : List FrameContent). u ++ (ps ++ w.queued_up)) first) g.xids)

@@ -14,7 +14,7 @@ use Rattle.nr_laws.proofs.ClientSays.{ClientGood}
 use Rattle.nr_laws.proofs.ClientRun.{client_goes}
 use Rattle.nr_laws.proofs.Outcomes.{OutcomeSaid}
 
--- it ends behind what was received before, and is of bytes
+-- it ends after what was received before, and is of bytes
 pub outcome_frame : (opened : LinkParameters) (link : ℕ) (run : List Mark) (c : CompletedCall) → IsTyped run → AskedSoFar opened link run → (d : OutcomeSaid opened link run c) → (places_after 0 d.given.earlier < d.given.frame.end) × IsBytes d.given.frame.bytes
 outcome_frame opened link run c typed asked d =
     let w = d.given in

@@ -1,4 +1,4 @@
--- A call that became whole at the end of a Read Response: the sink of its read chunk holds the region of its plan.
+-- A call that the end of a Read Response completed: the sink of its read chunk holds the region of its plan.
 use Rattle.std.proofs.Common.{◌≡◌, ℕ, ◌+◌, ◌^◌, ◌<◌, Bool, true, false, cond, eqb, List, [], ◌∷◌, ◌++◌, length, replicate, None, Some, Ok, refl, sym, ap, subst, ◌∙◌, arith}
 use Rattle.std.specs.List.{find, list_any}
 use Rattle.std.proofs.lemmas.List.{length-replicate}
@@ -45,7 +45,7 @@ use Rattle.nr_laws.proofs.SplitResponses.{laid_tagged}
 use Rattle.std.proofs.Common.{append_assoc, append-nil}
 use Rattle.std.proofs.lemmas.Bool.{not-true}
 
--- ---- Entries of one chunk tell its fields
+-- ---- Entries of one chunk determine its fields
 
 abbrev lengths_in : List ReadSegment → List ℕ
 lengths_in [] = []

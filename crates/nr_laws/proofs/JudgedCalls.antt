@@ -1,4 +1,4 @@
--- What a form conveys of a call is judged to be ready, where it has a call head; a message that makes a call pending isn't refused.
+-- What a form conveys of a call is judged to be ready, if it has a call head; a message that makes a call pending isn't refused.
 use Rattle.std.proofs.Common.{◌≡◌, ◌≢◌, ℕ, ◌+◌, ◌^◌, ◌≤◌, ◌<◌, Bool, true, false, cond, eqb, ltb, List, [], ◌∷◌, length, Option, None, Some, Result, Ok, Err, refl, sym, ap, subst, ◌∙◌, eqb-true, eq-eqb, inl, inr}
 use Rattle.std.specs.Prelude.{IfSome, is_ok}
 use Rattle.std.proofs.lemmas.Bool.{eqb-false, or_parts, not-false, ltb-false}
@@ -48,7 +48,7 @@ ready_not r reason e = cc
 head_same : (a b : CallHead) → ◌≡◌ {A = Result CallHead ℕ} (Ok a) (Ok b) → a ≡ b
 head_same a b e = cc
 
--- what a form conveys of it is that of a call under the same xid, where it has a head
+-- what a form conveys of it is that of a call under the same xid, if it has a head
 pub conveyed_ready : (xid : ℕ) (call : Call) (form : Form) (c : PendingCall) (reason : ℕ) → xid < 2 ^ 32 → IsTypedCall call → CanWriteCred call.cred → IsBytes (call_payload xid call) → c.xid ≡ xid
     → (o : Option (List ℕ)) → o ≡ form_conveyed form (call_payload xid call) → HasCallHead o → by_payload c o ≡ Refuses reason → ⊥
 conveyed_ready xid call form c reason small typed can bytes same None is h e = h
@@ -68,7 +68,7 @@ conveyed_ready xid call form c reason small typed can bytes same (Some q) is h e
         ready_not (record { number = c.number; xid = c.xid; payload = q }) reason
         (ap (λ (b : Bool). cond b (IsReady (record { number = c.number; xid = c.xid; payload = q })) (Refuses 19)) (sym number) ∙ e)
 
--- what is conveyed has a head, where the message isn't refused
+-- what is conveyed has a head, if the message isn't refused
 pub conveyed_head_there : (xid : ℕ) (call : Call) (form : Form) (message : List ℕ) → xid < 2 ^ 32 → IsTypedCall call → CanWriteCred call.cred → IsConveyedOrRefused form (call_payload xid call) message → (IsRefusedMessage message → ⊥)
     → HasCallHead (form_conveyed form (call_payload xid call))
 conveyed_head_there xid call form message small typed can given fine = by form given
@@ -134,7 +134,7 @@ entries_none position stag offset [] zero_is none = tt
 entries_none position stag offset (n ∷ lengths) zero_is none =
     absurd (All-head (λ (r : ReadSegment). r.position ≢ 0) (record { position = position; handle = stag; length = n; offset = offset }) (entries_from position stag (offset + n) lengths) none zero_is)
 
--- RDMA_NOMSG without a stream has no bytes to be read, where it goes out by a plan
+-- RDMA_NOMSG without a stream has no bytes to be read, if it goes out by a plan
 no_stream_lem : (stag : ℕ) (p : Plan) (message : List ℕ) (body : Body) → HasNoStream body → inline_by message body ≡ inline_stream p → lists_by body ≡ lists_of stag p → HasNoBytes (lists_by body).read
 unfolding lists_of
 no_stream_lem stag p message (Msg lists at) none inline is = absurd none

@@ -1,4 +1,4 @@
--- A client that ends for what it makes of a message: no rule of the link has such a reason, so a frame made that message whole.
+-- A client that ends for what it makes of a message: no rule of the link has such a reason, so a frame completed that message.
 use Rattle.std.proofs.Common.{◌≡◌, ℕ, Bool, true, false, cond, List, [], ◌∷◌, ◌++◌, Option, None, Some, Result, Ok, refl, sym, ap, subst, ◌∙◌, append_assoc}
 use Rattle.nr_wire.specs.declared.hello.Side.TheVariants.{Initiator, Responder}
 use Rattle.nr_wire.specs.declared.stream.Awaited.TheVariants.{Hello as HelloFrom, Fpdu}
@@ -41,7 +41,7 @@ use Rattle.nr_laws.proofs.OtherReasons.{OtherFault, fault_other}
 
 -- ---- A segment that ends a client by such a reason
 
--- it makes a message whole, for which the client ends
+-- it completes a message, for which the client ends
 record JudgesMessage (k : ClientState) (f : Frame) (s : Segment) (reason : ℕ) : Type 0 where
   message : List ℕ
   whole : message_completed k.received s ≡ Some message

@@ -1,5 +1,5 @@
 -- What a client makes of a message that it can read: an error message doesn't end it; an answer whose lists suit the offer of its call, and that
--- conveys a reply, ends it for that reply alone, and not where that has the call's xid.
+-- conveys a reply, ends it for that reply alone, and not if that has the call's xid.
 use Rattle.std.proofs.Common.{◌≡◌, ℕ, Bool, true, false, cond, eqb, eq-eqb, List, drop, Option, None, Some, Result, Ok, Err, refl, sym, ap, subst, ◌∙◌, arith, inl, inr}
 use Rattle.nr_header.specs.declared.fault.HeaderFault.{HeaderFault}
 use Rattle.nr_header.specs.declared.fault.HeaderFault.TheVariants as faults

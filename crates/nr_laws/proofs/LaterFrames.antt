@@ -1,4 +1,4 @@
--- Frames that more bytes of a stream complete end behind the bytes that were there before.
+-- Frames that more bytes of a stream complete end after the bytes that were there before.
 use Rattle.std.proofs.Common.{◌≡◌, ℕ, ◌+◌, ◌≤◌, ◌<◌, List, [], ◌∷◌, ◌++◌, length, refl, sym, ap, subst, ◌∙◌, arith, append_assoc, length-append, inl, inr}
 use Rattle.std.proofs.lemmas.Bool.{cases_lt}
 use Rattle.std.specs.List.{concat}
@@ -36,7 +36,7 @@ later_ends : (n at : ℕ) (fs : List (List ℕ)) → n < at → EndBehind n (fra
 later_ends n at [] lt = tt
 later_ends n at (f ∷ fs) lt = (omega (arith, lt), later_ends n (at + length f) fs (omega (arith, lt)))
 
--- a rest is no whole frame, so the first frame with more bytes is longer
+-- a rest is no complete frame, so the first frame with more bytes is longer
 longer : (a : Awaited) (rest more : List ℕ) (fs : List (List ℕ)) (left : List ℕ) → split a rest ≡ record { frames = []; rest = rest } → AreFrames a fs → rest ++ more ≡ concat fs ++ left → (at n : ℕ) → n ≡ at + length rest → EndBehind n (frames_from at fs)
 longer a rest more [] left none h e at n is = tt
 longer a rest more (f ∷ fs) left none h e at n is = elim (cases_lt (length rest) (length f)) [

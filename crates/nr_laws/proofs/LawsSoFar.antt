@@ -1,4 +1,4 @@
--- The laws of a link hold so far where each Wrote writes all output due.
+-- The laws of a link hold so far if each Wrote writes all output due.
 use Rattle.std.proofs.Common.{ℕ, List, []}
 use Rattle.nr_reduce.specs.declared.mark.Mark.{Mark}
 use Rattle.nr_reduce.specs.declared.mark.LinkParameters.{LinkParameters}

@@ -78,13 +78,13 @@ pub record WithinWindow (opened : LinkParameters) (k : ClientState) : Type 0 whe
 
 -- ---- Read Requests and their Read Responses
 
--- a segment of the Read Response to a read of which so many bytes were received: the last one completes it, any other leaves some
+-- a segment of the Read Response to a read of which `came` bytes were received: the last one completes it, any other leaves some
 abbrev pub ContinuesRead : Bool → (came n : ℕ) → PendingRead → List PendingRead → (ℕ → List PendingRead → Type 0) → Type 0
 ContinuesRead true came n r rs Later = (came + n ≡ r.size) × Later 0 rs
 ContinuesRead false came n r rs Later = (came + n < r.size) × Later (came + n) (r ∷ rs)
 
--- the tagged segments among some frames are the Read Responses to just these reads, in order, of the first of which so many bytes
--- were received before
+-- the tagged segments among some frames are the Read Responses to exactly these reads, in order, of the first of which this many
+-- bytes were received before
 abbrev pub AreResponses : ℕ → List PendingRead → List FrameContent → Type 0
 AreResponses came rs [] = (came ≡ 0) × (rs ≡ [])
 AreResponses came rs (HelloFrame ∷ ps) = AreResponses came rs ps
@@ -104,7 +104,7 @@ requests_of (SendFrame message ∷ ps) = requests_of ps
 requests_of (RequestFrame sink at size stag to ∷ ps) = RequestFrame sink at size stag to ∷ requests_of ps
 requests_of (TaggedFrame last opcode stag to payload ∷ ps) = requests_of ps
 
--- The open reads are those whose Read Responses are in transit, and behind them those whose Read Requests are.
+-- The open reads are those whose Read Responses are in transit, and after them those whose Read Requests are.
 pub record ReadsAgree (s : ServerState) (w : Transit) : Type 0 where
   pub answered : List PendingRead
   pub asked : List PendingRead
@@ -142,7 +142,7 @@ pub record PendingAgree (s : ServerState) : Type 0 where
 
 -- ---- Sinks
 
--- the sink region of a read: it is live, and has room for the whole Read Response
+-- the sink region of a read: it is live, and has room for the complete Read Response
 pub record IsSink (place : ℕ) (r : PendingRead) (g : Region) : Type 0 where
   pub stag : g.stag ≡ r.sink
   pub call : g.call ≡ r.number

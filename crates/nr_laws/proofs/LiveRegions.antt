@@ -125,7 +125,7 @@ same_number_lem calls c d apart one two same = at one.0 two.0 calls apart one.1 
     at (suc i) zero (y ∷ xs) apart lt is ltj isj = absurd (unused y.xid i xs c apart.0 (omega (arith, lt)) is (same ∙ sym (ap (λ (z : PendingCall). z.xid) isj)))
     at (suc i) (suc j) (y ∷ xs) apart lt is ltj isj = at i j xs apart.1 (omega (arith, lt)) is (omega (arith, ltj)) isj
 
--- the pending call of this xid is whole
+-- the pending call of this xid is complete
 is_whole_lem : (k : ServerState) (xid : ℕ) (x : ReadyCall) (rest : List ReadyCall) → PendingAgree k → k.ready ≡ x ∷ rest → xid ≡ x.xid → (c : PendingCall) → Contains k.calls c → c.xid ≡ xid → (read : PendingRead) → Contains k.reads read → read.number ≡ c.number → ⊥
 is_whole_lem k xid x rest agree first is c there own read left of_call =
     let w : AreWhole k.reads k.calls (x ∷ rest) = subst (λ (xs : List ReadyCall). AreWhole k.reads k.calls xs) first agree.whole_calls in

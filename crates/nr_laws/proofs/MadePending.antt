@@ -17,7 +17,7 @@ use Rattle.nr_reduce.specs.ServerMessages.{verdict, by_header, by_body, by_strea
 use Rattle.nr_reduce.specs.ServerMessages.Verdict.{EndsLink, OtherVersion, BadChunks, MakesPending}
 use Rattle.nr_reduce.proofs.Opens.{IsCall}
 
--- the call suits its read list, where its stream is in the message
+-- the call suits its read list, if its stream is in the message
 abbrev pub Suits : PendingCall → Type 0
 Suits c = IfSome c.inline (λ stream. is_read_chunk_of_item stream c.lists.read ≡ true)
 

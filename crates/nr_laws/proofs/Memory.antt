@@ -24,7 +24,7 @@ use Rattle.nr_laws.proofs.Brought.{Brought, Brings}
 use Rattle.nr_laws.proofs.ReceivedMessages.{was_live_lem}
 use Rattle.std.proofs.lemmas.List.{map-append}
 
--- ---- Parts: where a tagged segment goes, and its payload
+-- ---- Parts: the address of a tagged segment, and its payload
 
 pub record Part : Type 0 where
   pub stag : ℕ
@@ -179,7 +179,7 @@ closed_alike test place later (r ∷ regions) le = (one (test r), closed_alike t
 pub settled_closed : (test : Region → Bool) (place later : ℕ) (regions : List Region) (accesses : List TaggedSegment) → place ≤ later → Settled place regions accesses → Settled later (regions_closed test later regions) accesses
 settled_closed test place later regions accesses le s = alike_settled place place later regions (regions_closed test later regions) accesses refl le (closed_alike test place later regions le) s
 
--- regions that are closed at a later place, by the lifetimes up to this one
+-- regions that are closed at a later offset, by the lifetimes up to this one
 revoked_alike : (test : Region → Bool) (place later : ℕ) (regions : List Region) → place ≤ later → AreAlike place place place regions (regions_closed test later regions)
 unfolding regions_closed
 revoked_alike test place later [] le = tt

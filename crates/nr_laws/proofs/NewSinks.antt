@@ -125,7 +125,7 @@ given number place stag lists (p ∷ ps) position e = by (eqb p position) refl e
           sink = λ r sink_is number_is position_is room. inr ((λ same. omega (arith, same, sink_is, mine, rest.from)), rest.sink r (sink_is ∙ mine) number_is position_is room);
         }
 
--- behind regions of other calls, with smaller STags
+-- after regions of other calls, with smaller STags
 sink_behind : (place n : ℕ) (r : PendingRead) (old news : List Region) → AreAtMost (λ (g : Region). g.stag) n old → n < r.sink → HasSink place r news → HasSink place r (old ++ news)
 sink_behind place n r [] news below lt h = h
 sink_behind place n r (g ∷ old) news below lt h = inr ((λ same. omega (arith, same, lt, below.0)), sink_behind place n r old news below.1 lt h)

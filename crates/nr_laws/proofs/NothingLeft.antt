@@ -1,4 +1,4 @@
--- Where nothing is queued or in transit, and no call is ready, no call is outstanding.
+-- If nothing is queued or in transit, and no call is ready, no call is outstanding.
 use Rattle.std.proofs.Common.{◌≡◌, ℕ, Bool, true, false, cond, eqb, List, [], ◌∷◌, length, take, refl, sym, ap, ◌∙◌, arith}
 use Rattle.std.specs.List.{list_any}
 use Rattle.nr_reduce.specs.declared.mark.LinkParameters.{LinkParameters}

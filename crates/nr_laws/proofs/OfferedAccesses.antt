@@ -26,7 +26,7 @@ use Rattle.nr_laws.proofs.Basics.{each_all}
 
 -- ---- What is offered
 
--- a region of a call, under an STag, with a right to so many bytes
+-- a region of a call, under an STag, with a right to n bytes
 pub record IsRegionOf (xid stag : ℕ) (right : Right) (n : ℕ) (g : Region) : Type 0 where
   pub own_stag : g.stag ≡ stag
   pub own_call : g.call ≡ xid
@@ -82,7 +82,7 @@ IsAccess regions answered (SendFrame message) = Unit {0}
 IsAccess regions answered (RequestFrame sink at size stag to) = (xid : ℕ) × (times xid answered ≡ 0) × IsOffered xid stag Fetch (to + size) regions
 IsAccess regions answered (TaggedFrame last opcode stag to payload) = (xid : ℕ) × (times xid answered ≡ 0) × IsOffered xid stag Fill (to + length payload) regions
 
--- of each of some frames behind others
+-- of each of some frames after others
 abbrev pub AreAccesses : List Region → (before : List FrameContent) → List FrameContent → Type 0
 AreAccesses regions before [] = Unit {0}
 AreAccesses regions before (p ∷ ps) = IsAccess regions (message_xids before) p × AreAccesses regions (before ++ p ∷ []) ps
@@ -94,8 +94,8 @@ IsLive answered g = (g.until ≡ None) ⊎ (1 ≤ times g.call answered)
 abbrev pub IsEarly : ℕ → Region → Type 0
 IsEarly place g = g.from ≤ place
 
--- What the client sent and the server keeps of it is offered, and so is what the server accessed, by regions that were offered where
--- so many bytes had been received.
+-- What the client sent and the server keeps of it is offered, and so is what the server accessed, by regions that were offered when
+-- these bytes had been received.
 pub record AccessesAgree (opened : LinkParameters) (k : ClientState) (s : ServerState) (d all_up all_down : List FrameContent) (place : ℕ) : Type 0 where
   pub early : AllByRecursion (IsEarly place) k.regions
   pub lives : AllByRecursion (IsLive (message_xids d)) k.regions
@@ -170,7 +170,7 @@ offered_less xid stag right n m [] le h = absurd h
 offered_less xid stag right n m (g ∷ regions) le (inl h) = inl (record { own_stag = h.own_stag; own_call = h.own_call; own_right = h.own_right; room = omega (arith, le, h.room) })
 offered_less xid stag right n m (g ∷ regions) le (inr h) = inr (offered_less xid stag right n m regions le h)
 
--- ---- Frames behind others
+-- ---- Frames after others
 
 pub accesses_append : (regions : List Region) (before ps qs : List FrameContent) → AreAccesses regions before ps → AreAccesses regions (before ++ ps) qs → AreAccesses regions before (ps ++ qs)
 accesses_append regions before [] qs h k = subst (λ (xs : List FrameContent). AreAccesses regions xs qs) (append-nil before) k

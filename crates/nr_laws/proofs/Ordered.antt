@@ -3,7 +3,7 @@ use Rattle.std.proofs.Common.{◌≡◌, List, [], ◌∷◌, ◌++◌, refl, sy
 use Rattle.nr_reduce.specs.declared.mark.Mark.{Mark}
 use Rattle.nr_laws.proofs.Basics.{first_is_lem, rest_is_lem}
 
--- of two marks in one list: the second behind the first, at it, or before it
+-- of two marks in one list: the second after the first, at it, or before it
 pub data Order (before : List Mark) (m : Mark) (after others : List Mark) (n : Mark) (rest : List Mark) : Type 0 where
   Behind : (between : List Mark) → others ≡ before ++ m ∷ between → after ≡ between ++ n ∷ rest → Order before m after others n rest
   Here : before ≡ others → m ≡ n → Order before m after others n rest

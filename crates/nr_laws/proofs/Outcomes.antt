@@ -144,7 +144,7 @@ outcome_given opened link run c there =
 
 pub record OutcomeSaid (opened : LinkParameters) (link : ℕ) (run : List Mark) (c : CompletedCall) : Type 0 where
   pub given : WasGiven opened (events link Initiator run) c
-  -- what came before its message, and behind it
+  -- what came before its message, and after it
   pub before : List Output
   pub behind : List Output
   pub parts : outs_of opened (events link Responder run) ≡ before ++ ASegment given.segment ∷ behind

@@ -1,4 +1,4 @@
--- What holds between both ends of a link is kept where a call is submitted or executed, memory is revoked, and a queue is written.
+-- What holds between both ends of a link is kept when a call is submitted or executed, memory is revoked, and a queue is written.
 use Rattle.std.proofs.Common.{◌≡◌, ℕ, ◌+◌, ◌<◌, Bool, true, false, cond, not, eqb, List, [], ◌∷◌, ◌++◌, length, map, Result, Ok, refl, sym, ap, subst, ◌∙◌, arith, append_assoc, append-nil}
 use Rattle.std.specs.List.{list_any}
 use Rattle.std.proofs.lemmas.List.{length-map}

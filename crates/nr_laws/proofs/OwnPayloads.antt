@@ -17,7 +17,7 @@ use Rattle.nr_laws.proofs.OnceByXid.{executed_at_lem, before_mark}
 use Rattle.nr_laws.proofs.ExecutedReads.{read_call_lem}
 use Rattle.nr_laws.proofs.Basics.{first_is_lem, rest_is_lem}
 
--- two places of a list: one, or one behind the other
+-- two positions of a list: one, or one after the other
 data Places (pre : List Mark) (a : Mark) (post one : List Mark) (b : Mark) (two : List Mark) : Type 0 where
   AtOne : pre ≡ one → a ≡ b → Places pre a post one b two
   Behind : (between : List Mark) → post ≡ between ++ b ∷ two → Places pre a post one b two

@@ -1,4 +1,4 @@
--- Pending calls where a call is executed, and behind a Read Response.
+-- Pending calls when a call is executed, and after a Read Response.
 use Rattle.std.proofs.Common.{◌≡◌, ◌≢◌, ℕ, Bool, true, false, not, cond, ◌||◌, ◌&&◌, eqb, List, [], ◌∷◌, ◌++◌, take, drop, Option, None, Some, refl, sym, ap, subst, ◌∙◌, arith, eq-eqb, ne_eqb, eqb-true, append-nil, take-append-drop}
 use Rattle.std.specs.Prelude.{find}
 use Rattle.std.specs.List.{filter, list_any}
@@ -179,7 +179,7 @@ whole_tail : (r : PendingRead) (others : List PendingRead) (calls : List Pending
 whole_tail r others calls [] h = tt
 whole_tail r others calls (x ∷ ready) h = (h.0, read_tail_lem r others x.number (unread_head r others x.number h.1) ∙ h.1, whole_tail r others calls ready h.2)
 
--- a call is ready where its own read was the last
+-- a call is ready if its own read was the last
 ready_new : (r : PendingRead) (others : List PendingRead) (ready new : List ReadyCall) (n : ℕ) (calls : List PendingCall) → r.number ≡ n
     → (is_read others n ≡ true → list_any (λ (x : ReadyCall). eqb x.number n) new ≡ true) → AreReady (r ∷ others) ready calls → AreReady others (ready ++ new) calls
 ready_new r others ready new n [] own h k = tt
@@ -221,7 +221,7 @@ ready_kept reads ready p (c ∷ calls) h = by (p c) (ready_kept reads ready p ca
     by true rest = (h.0, rest)
     by false rest = rest
 
--- the reads of a call that is refused are dropped where they aren't open: what is read of the others stays
+-- the reads of a call that is refused are dropped if they aren't open: what is read of the others stays
 abbrev dropped : ℕ → ℕ → List PendingRead → List PendingRead
 dropped kept m reads = take kept reads ++ filter (λ (x : PendingRead). not (eqb x.number m)) (drop kept reads)
 

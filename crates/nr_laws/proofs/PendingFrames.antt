@@ -1,4 +1,4 @@
--- Pending calls and sinks behind each frame at a server.
+-- Pending calls and sinks after each frame at a server.
 use Rattle.std.proofs.Common.{◌≡◌, ℕ, ◌-◌, ◌≤◌, Bool, true, false, not, cond, ◌&&◌, eqb, List, [], ◌∷◌, ◌++◌, length, take, drop, Option, None, Some, Ok, refl, sym, ap, subst, ◌∙◌, arith, append-nil}
 use Rattle.nr_wire.specs.Constants.{OPCODE_READ_RESPONSE}
 use Rattle.nr_wire.specs.Segment.{Segment}

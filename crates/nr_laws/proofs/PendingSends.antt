@@ -1,4 +1,4 @@
--- Pending calls behind a Send.
+-- Pending calls after a Send.
 use Rattle.std.proofs.Common.{◌≡◌, ◌≢◌, ℕ, ◌+◌, ◌≤◌, ◌<◌, Bool, true, false, not, cond, ◌||◌, ◌&&◌, eqb, List, [], ◌∷◌, ◌++◌, Option, None, Some, Result, Ok, Err, refl, sym, ap, subst, ◌∙◌, arith, eq-eqb, append-nil}
 use Rattle.std.specs.List.{list_any}
 use Rattle.nr_header.specs.declared.header.ReadSegment.{ReadSegment}
@@ -95,7 +95,7 @@ whole_append reads calls (r ∷ ready) more h k = (h.0, h.1, whole_append reads 
 
 -- ---- A Send
 
--- what a state behind a step is made of
+-- what a state after a step is made of
 pub record AfterEffect (k t : ServerState) (st : FrameEffect) (sends : ℕ) : Type 0 where
   pub sends_are : t.received.sends ≡ k.received.sends + sends
   pub calls : t.calls ≡ st.calls

@@ -96,7 +96,7 @@ given_fit payload offer stag small at sized stags = by offer.read offer.write of
 
 -- ---- What is read
 
--- the stream of a plan, where it is there before anything is read
+-- the stream of a plan, if it is there before anything is read
 abbrev pub stream_known : Option ℕ → List ℕ → List ReadSegment → Option (List ℕ)
 stream_known None stream read = Some stream
 stream_known (Some position) stream read = cond (eqb position 0) (no_stream read) (Some stream)

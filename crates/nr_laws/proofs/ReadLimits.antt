@@ -98,7 +98,7 @@ within_tagged k f last opcode stag to payload h is =
     read : (r : PendingRead) (reads : List PendingRead) → k.reads ≡ r ∷ reads → AreWithin reads k.regions
     read r reads is = (let all : AreWithin (r ∷ reads) k.regions = subst (λ (rs : List PendingRead). AreWithin rs k.regions) is h in record { fit = all.fit.1; few = all.few; small = all.small })
 
--- where regions are closed
+-- when regions are closed
 small_closed : (test : Region → Bool) (place : ℕ) (regions : List Region) → AllByRecursion IsSmall regions → AllByRecursion IsSmall (map (λ (g : Region). closed_if (test g) place g) regions)
 small_closed test place [] h = tt
 small_closed test place (g ∷ regions) h = (by (test g), small_closed test place regions h.1)

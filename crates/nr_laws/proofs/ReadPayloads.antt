@@ -82,7 +82,7 @@ some_same x y e = cc
 pub region_holds : (regions : List Region) (stag : ℕ) (bytes : List ℕ) → HasRegion regions stag bytes → (f : IsFetched regions stag) → f.region.bytes ≡ bytes
 region_holds regions stag bytes h f = ap (λ (r : Region). r.bytes) (some_same f.region h.region (sym f.there ∙ h.there)) ∙ h.holds
 
--- ---- A call with bytes to be read isn't whole by its message
+-- ---- A call with bytes to be read isn't completed by its message
 
 pub any_right : (number : ℕ) (xs ys : List PendingRead) → list_any (λ r. eqb r.number number) (xs ++ ys) ≡ false → list_any (λ r. eqb r.number number) ys ≡ false
 any_right number [] ys e = e

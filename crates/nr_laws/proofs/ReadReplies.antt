@@ -1,4 +1,4 @@
--- On a matched link what a client makes of a message ends it for a reply alone, and never where its calls are answered as the plain server answers.
+-- On a matched link what a client makes of a message ends it for a reply alone, and never if its calls are answered as the plain server answers.
 use Rattle.std.proofs.Common.{◌≡◌, ℕ, List, Option, Some, ap, ◌∙◌, inl, inr, ◌⊎◌}
 use Rattle.nr_xdr.specs.Fields.{word_at}
 use Rattle.nr_wire.specs.declared.hello.Side.TheVariants.{Initiator, Responder}
@@ -55,8 +55,8 @@ message_ends_for_reply opened link run opens typed far at reason bad e = by d.sa
     by (IsNoAnswer s) = absurd (error_ends_none k d.frame.end d.message reason j (error_kind d.message (OfChunks s.call.xid (credit_word (server_by opened s.earlier)) s.message)))
     by (IsAnswer s) = reply_judged j.call.xid s.call.reply reason (answer_judges opened link run reason opens typed far d j s).by_reply
 
--- On a matched link what a client makes of a message never ends it, where its calls are answered as a plain server answers: the reply that an
--- answer conveys has an RPC reply head of the call's xid.
+-- On a matched link what a client makes of a message never ends it, if its calls are answered as a plain server answers: the reply that an answer
+-- conveys has an RPC reply head of the call's xid.
 pub client_reads_replies : (reply_to : List Entry → Moment → List ℕ → Option (List ℕ)) (adds : Moment → List ℕ → List ℕ → List Entry) (opened : LinkParameters) (link : ℕ) (run : List Mark) → IsOpened opened → IsTyped run → MatchedSoFar opened link run
     → HasPlainReplies (server_with reply_to adds) link run → KeepsReplyLimits (server_with reply_to adds) → (at reason : ℕ) → IsReplyReason reason → end_of_side opened link Initiator run ≡ Some (ends.Bad at reason) → ⊥
 unfolding end_of_side

@@ -1,4 +1,4 @@
--- Reads agree behind each event of the client, and where the server executes a call and writes.
+-- Reads agree after each event of the client, and when the server executes a call and writes.
 use Rattle.std.proofs.Common.{◌≡◌, ℕ, ◌+◌, ◌*◌, ◌≤◌, ◌<◌, min, Bool, true, false, cond, eqb, List, [], ◌∷◌, ◌++◌, length, map, take, drop, Option, None, Some, Ok, refl, sym, ap, subst, ◌∙◌, arith, append_assoc, append-nil, length-take, length-drop}
 use Rattle.std.specs.List.{range_with_len}
 use Rattle.nr_wire.specs.Constants.{OPCODE_WRITE, OPCODE_READ_REQUEST, OPCODE_READ_RESPONSE, QUEUE_READ_REQUEST}
@@ -24,7 +24,7 @@ use Rattle.nr_laws.proofs.ExpectedResponses.{answers_append, answers_one}
 use Rattle.nr_laws.proofs.ReadsAtServer.{requests_append, send_asks_none}
 use Rattle.nr_link.specs.Limits.{segment_max}
 
--- ---- The client receives a Read Request, and answers it by as many bytes
+-- ---- The client receives a Read Request, and answers it by the bytes that it asks for
 
 -- the request can be read back, it asks for some bytes, and they are there
 pub record IsThere (k : ClientState) (place sink at size stag to : ℕ) : Type 0 where

@@ -1,4 +1,4 @@
--- Reads agree behind each frame at the server.
+-- Reads agree after each frame at the server.
 use Rattle.std.proofs.Common.{◌≡◌, ℕ, zero, suc, ◌-◌, ◌≤◌, Bool, true, false, not, cond, ◌&&◌, eqb, List, [], ◌∷◌, ◌++◌, length, map, take, drop, Option, None, Some, Ok, refl, sym, ap, subst, ◌∙◌, arith, append_assoc, length-append, length-take, take-append-drop}
 use Rattle.std.specs.List.{filter, range_with_len}
 use Rattle.std.proofs.lemmas.List.{take-append-le, map-append}
@@ -64,7 +64,7 @@ front_read_lem k place r (Some c) st xs le h = by (is_stream_read c r st.reads &
         ∙ take_less st.kept st.kept st.reads (omega arith) ∙ h
     by false = front_whole k place c st xs h
 
--- as many as stay are there
+-- at least the reads that stay are there
 kept_read : (k : ServerState) (place : ℕ) (r : PendingRead) (o : Option PendingCall) (st : FrameEffect) → st.kept ≤ length (take open_reads_max st.reads) → st.kept ≤ length st.reads
     → (read_effect k place r o st).kept ≤ length (take open_reads_max (read_effect k place r o st).reads)
 kept_read k place r None st le all = le
@@ -81,7 +81,7 @@ kept_read k place r (Some c) st le all = by (is_stream_read c r st.reads && not 
         omega (arith, le, all, length-take open_reads_max st.reads, length-take st.kept st.reads, length-take open_reads_max (take st.kept st.reads ++ others), length-append (take st.kept st.reads) others)
     by false = whole-same (is_read st.reads c.number) (by_payload c (payload_of k place c))
 
--- the reads that are open behind a step: those that stay, and those that are opened by it
+-- the reads that are open after a step: those that stay, and those that are opened by it
 open_parts_lem : (st : FrameEffect) (xs : List PendingRead) → st.kept ≤ length (take open_reads_max st.reads) → take st.kept st.reads ≡ xs → take open_reads_max st.reads ≡ xs ++ newly_open_reads st
 open_parts_lem st xs le h =
     sym (take-append-drop st.kept (take open_reads_max st.reads))

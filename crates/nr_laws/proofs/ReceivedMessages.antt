@@ -45,7 +45,7 @@ received_event h (QueueWritten taken) = h
 abbrev pub Receiving : {S : Type 0} → EndMachine S → (S → ReceiveState) → Type 0
 Receiving rules received = (s : _) (e : RunEvent) → received (rules.state_after s e) ≡ received_event (received s) e
 
--- so many Sends were completed, and these bytes of one have begun
+-- n Sends were completed, and these bytes of one have begun
 pub record Count (before after : ReceiveState) (n : ℕ) (bytes : Option (List ℕ)) : Type 0 where
   pub sends : after.sends ≡ before.sends + n
   pub begun : after.begun ≡ bytes

@@ -65,7 +65,7 @@ use Rattle.nr_laws.proofs.PendingReads.{HasPosition, IsOwn}
 use Rattle.nr_laws.proofs.KeptAtServer.{kept_at_server}
 use Rattle.nr_laws.proofs.OwnPlans.{own_found}
 
--- ---- A list of one position suits any stream, where that position is 0
+-- ---- A list of one position suits any stream, if that position is 0
 
 entries_suit : (stream : List ℕ) (handle offset : ℕ) (lengths : List ℕ) → item_position (entries_from 0 handle offset lengths) ≡ None
 unfolding item_position

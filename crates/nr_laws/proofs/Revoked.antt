@@ -30,7 +30,7 @@ use Rattle.nr_laws.proofs.Basics.{and_second}
 
 -- ---- Regions of an STag that are closed
 
--- the regions of this STag are closed, at this place at the latest
+-- the regions of this STag are closed, at this offset at the latest
 abbrev pub IsClosedBy : ℕ → Option ℕ → Type 0
 IsClosedBy p None = ⊥
 IsClosedBy p (Some u) = u ≤ p
@@ -124,7 +124,7 @@ frame_regions P k f closes h (Ok s) =
     by None = h
     by (Some m) = closes (λ r. eqb r.call (Rattle.nr_xdr.specs.Fields.word_at 0 m)) h
 
--- events that close by a place
+-- events that close by an offset
 abbrev EventBy : ℕ → RunEvent → Type 0
 EventBy n (FrameReceived f) = f.end ≤ n
 EventBy n (CallSubmitted q a) = Unit {0}

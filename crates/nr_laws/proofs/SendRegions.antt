@@ -32,7 +32,7 @@ use Rattle.nr_reduce.proofs.Steps.{end_state_after_append}
 use Rattle.nr_laws.specs.ServerRegions.{IsChunkOfFrame, IsChunkOfSend, ServerRegionsAreChunks}
 use Rattle.nr_laws.proofs.Basics.{each_all, each_append}
 
--- ---- The regions of a frame are those before, and behind them the chunks of the call that it makes pending
+-- ---- The regions of a frame are those before, and after them the chunks of the call that it makes pending
 
 abbrev pub chunks_by : ServerState → ℕ → Verdict → List Region
 chunks_by k place (EndsLink reason) = []

@@ -38,7 +38,7 @@ use Rattle.nr_laws.proofs.ClientRun.{client_goes}
 use Rattle.nr_laws.proofs.ClientSays.{ClientGood, HasHello}
 use Rattle.nr_laws.proofs.OwnXids.{segment_out}
 
--- ---- Places in a list
+-- ---- Positions in a list
 
 get_first : {X : Type 0} (xs : List X) (x : X) (ys : List X) → slice_get (xs ++ x ∷ ys) (length xs) ≡ Some x
 get_first [] x ys = refl

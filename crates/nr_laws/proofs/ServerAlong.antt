@@ -225,7 +225,7 @@ outs_append opened r (x ∷ es) e =
     ∙ sym (append_assoc o (outputs_all (server_rules opened) (server_says opened) server_final_outputs (next_end_state (server_rules opened) r x) es)
     (outputs_for (server_rules opened) (server_says opened) server_final_outputs (end_state_after (server_rules opened) (next_end_state (server_rules opened) r x) es) e))
 
--- one event more, where its outputs are `more`
+-- one event more, if its outputs are `more`
 pub record Grows (opened : LinkParameters) (es : List RunEvent) (place : ℕ) (r : EndState ServerState) (outs : List Output) (e : RunEvent) (more : List Output) : Type 0 where
   pub outputs : outputs_for (server_rules opened) (server_says opened) server_final_outputs r e ≡ more
   pub said : output_for (server_rules opened) r e ≡ bytes_of_all more

@@ -43,7 +43,7 @@ lives rules s event es e = by (rules.end_at s event) refl
         ap (λ (x : Option End). (end_state_after rules (next_end_state_by rules s event x) es).ended) is ∙ ap (λ (r : EndState _). r.ended) (ended_stays rules s end es).0 in
         absurd (let wrong : Some end ≡ None = sym ended ∙ e in cc)
 
--- ---- Places
+-- ---- Offsets
 
 pub place_next_lem : (u : List FrameContent) (p : FrameContent) (bytes : List ℕ) (place : ℕ) → IsPlace u place → 0 < length bytes → IsPlace (u ++ p ∷ []) (place + length bytes)
 place_next_lem [] p bytes place at some = omega (arith, some)
@@ -130,7 +130,7 @@ server_runs opened k d all_up left (p ∷ new) s u all_down w n r place l first 
           (subst (λ (ps : List FrameContent). EndsAgree opened k m.after ((u ++ p ∷ []) ++ new) d all_up ((all_down ++ t.said) ++ m.said) (record { queued_up = w.queued_up; up = left; queued_down = ps; down = w.down })) (append_assoc w.queued_down t.said m.said) m.linked));
     }
 
--- ---- Where the server ends by them, it does so for what it makes of a call
+-- ---- If the server ends by them, it does so for what it makes of a call
 
 pub record Ends {S : Type 0} (rules : EndMachine S) (s : S) (event : RunEvent) (es : List RunEvent) (end : End) (Lasting : Type 0) : Type 0 where
   pub first : (rules.end_at s event ≡ Some end → Lasting) → (rules.end_at s event ≡ None → (end_state_after rules (live (rules.state_after s event)) es).ended ≡ Some end → Lasting) → Lasting

@@ -1,4 +1,4 @@
--- What a server keeps behind each frame: totals, reads, pending calls, sinks, and the bounds of its regions.
+-- What a server keeps after each frame: totals, reads, pending calls, sinks, and the bounds of its regions.
 use Rattle.std.proofs.Common.{◌≡◌, ℕ, suc, ◌+◌, ◌≤◌, ◌<◌, Bool, true, false, List, [], ◌∷◌, ◌++◌, length, None, Ok, refl, sym, ap, subst, ◌∙◌, arith, length-append}
 use Rattle.nr_wire.specs.Segment.{Segment}
 use Rattle.nr_wire.specs.Segment.Segment.{Tagged}

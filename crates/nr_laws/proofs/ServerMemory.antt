@@ -23,7 +23,7 @@ use Rattle.nr_laws.proofs.Memory.{Gathering, Settled, settled_later, settled_clo
 use Rattle.nr_laws.proofs.ServerAlong.{ServerGood}
 use Rattle.nr_laws.proofs.EachEffect.{each_effect}
 
--- ---- The regions of a frame are those before, and new ones behind
+-- ---- The regions of a frame are those before, and new ones after them
 
 record HasNew (old : List Region) (s : FrameEffect) : Type 0 where
   new : List Region

@@ -1,4 +1,4 @@
--- On a link where nothing is left to do, nothing is queued or in transit; so no call is outstanding, and each has its outcome.
+-- On a link with nothing left to do, nothing is queued or in transit; so no call is outstanding, and each has its outcome.
 use Rattle.std.proofs.Common.{◌≡◌, ℕ, ◌+◌, Bool, true, false, cond, not, ◌||◌, eqb, List, [], ◌∷◌, ◌++◌, length, map, filter, None, refl, sym, ap, subst, ◌∙◌, arith, append_assoc, append-nil, length-append}
 use Rattle.std.specs.Prelude.{slice_get, Contains}
 use Rattle.std.specs.List.{concat, flat_map, AllByRecursion}
@@ -33,7 +33,7 @@ use Rattle.nr_laws.proofs.EachRun.{joins}
 use Rattle.nr_laws.proofs.AccountedCalls.{IsAccounted, is_outstanding, has_outcome}
 use Rattle.nr_laws.proofs.AccountedRuns.{gone_in, accounts}
 
--- ---- A stream tells its frames
+-- ---- A stream determines its frames
 
 are_frames : (side : Side) (a : Awaited) (n r : ℕ) (ps : List FrameContent) → IsOf side a → AreWritableFrom a n r ps → AreFrames a (frames_at side n r ps)
 are_frames side a n r [] of h = tt

@@ -1,4 +1,4 @@
--- The reads of a pending call whose read list has one position: where they go, and what they leave.
+-- The reads of a pending call whose read list has one position: their sink, and what they leave.
 use Rattle.std.proofs.Common.{◌≡◌, ◌≢◌, ℕ, ◌+◌, ◌≤◌, ◌<◌, Bool, true, false, cond, ◌||◌, not, eqb, List, [], ◌∷◌, ◌++◌, sum_by, refl, sym, ap, ◌∙◌, arith, eq-eqb, ne_eqb, eqb-true}
 use Rattle.std.specs.List.{filter, list_any}
 use Rattle.std.proofs.lemmas.List.Sums.{sum_by-cons}
@@ -174,7 +174,7 @@ own_number number position sink handle at (n ∷ ns) = number_append number (one
     by true = tt
     by false = (refl, tt)
 
--- where nothing is left to be read for a number, nothing is left that goes into its sink
+-- if nothing is left to be read for a number, nothing is left that goes into its sink
 pub nothing_left_lem : (number sink : ℕ) (reads : List PendingRead) → OfNumber number (into sink reads) → list_any (λ r. eqb r.number number) reads ≡ false → into sink reads ≡ []
 nothing_left_lem number sink [] h e = refl
 nothing_left_lem number sink (r ∷ reads) h e = by (eqb r.sink sink) h (eqb r.number number) refl e (λ g f. nothing_left_lem number sink reads g f)

@@ -20,7 +20,7 @@ same_itself Fetch = refl
 same_itself Fill = refl
 same_itself Sink = refl
 
--- a live region that has the right and the room, behind regions of other STags
+-- a live region that has the right and the room, after regions of other STags
 pub found : (end : ℕ) (right : Right) (stag to n : ℕ) (g : Region) (rest : Option Grant) → g.stag ≡ stag → g.until ≡ None → g.right ≡ right → g.from < end → to + n ≤ length g.bytes
     → denial_in (grant_offer (cond (applies stag end (region_grant end g)) (Some (region_grant end g)) rest)) (record { right = right; stag = stag; to = to; len = n }) ≡ None
 found end right stag to n g rest same lives own before room =

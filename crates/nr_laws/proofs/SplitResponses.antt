@@ -1,4 +1,4 @@
--- Read Responses that came whole are the first ones; and what they leave in a sink.
+-- Complete Read Responses are the first ones; and what they leave in a sink.
 use Rattle.std.proofs.Common.{◌≡◌, ◌≢◌, ℕ, zero, suc, ◌+◌, ◌*◌, ◌≤◌, Bool, cond, eqb, List, [], ◌∷◌, ◌++◌, length, take, map, refl, sym, ap, subst, ◌∙◌, arith, eq-eqb, ne_eqb}
 use Rattle.std.specs.List.{range_with_len}
 use Rattle.nr_wire.specs.Segment.{Segment}

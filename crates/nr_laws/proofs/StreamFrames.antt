@@ -61,7 +61,7 @@ pub length_frames : (side : Side) (n r : ℕ) (ps : List FrameContent) → lengt
 length_frames side n r [] = refl
 length_frames side n r (p ∷ ps) = ap (λ (k : ℕ). suc k) (length_frames side (n + sends_in p) (r + requests_in p) ps)
 
--- ---- Each is a whole frame
+-- ---- Each is a complete frame
 
 abbrev pub IsOf : Side → Awaited → Type 0
 IsOf side (HelloFrom other) = other ≡ side
@@ -86,7 +86,7 @@ no_bytes : (x y : List ℕ) → x ++ y ≡ [] → x ≡ []
 no_bytes [] y e = refl
 no_bytes (b ∷ x) y e = absurd cc
 
--- where fewer are there, they are less than a frame
+-- if fewer are there, they are less than a frame
 short : (frame more x y : List ℕ) → length x < length frame → x ++ y ≡ frame ++ more → x ++ drop (length x) frame ≡ frame
 short frame more x y lt e =
     let same : take (length x) frame ≡ x =

@@ -1,4 +1,4 @@
--- Each pending call of a server suits its read list, where its stream is in its message; and no read is left of a call whose read list
+-- Each pending call of a server suits its read list, if its stream is in its message; and no read is left of a call whose read list
 -- has no bytes.
 use Rattle.std.proofs.Common.{◌≡◌, ℕ, zero, suc, ◌+◌, ◌≤◌, Bool, true, false, cond, not, eqb, List, [], ◌∷◌, ◌++◌, take, drop, Result, Ok, Err, refl, sym, ap, subst, ◌∙◌, arith, eq-eqb}
 use Rattle.std.specs.List.{filter}

@@ -1,4 +1,4 @@
--- Totals agree behind each event of the server.
+-- Totals agree after each event of the server.
 use Rattle.std.proofs.Common.{◌≡◌, ℕ, ◌+◌, ◌-◌, ◌≤◌, ◌<◌, Bool, true, false, not, cond, ◌&&◌, eqb, List, [], ◌∷◌, ◌++◌, length, map, take, drop, Option, None, Some, Result, Ok, refl, sym, ap, subst, ◌∙◌, arith, eqb-true, length-append, length-take}
 use Rattle.std.specs.Prelude.{find, min}
 use Rattle.std.specs.List.{filter, list_any, range_with_len}
@@ -38,7 +38,7 @@ use Rattle.nr_laws.proofs.EndsWaiting.{waiting_append, all_waiting_lem, one_wait
 use Rattle.nr_reduce.specs.Written.{ends_waiting}
 use Rattle.nr_reduce.proofs.WholeWrotes.{ServerEnds, none_waiting}
 
--- ---- What a step counts: the calls and error messages of so many Sends more, and how many reads stay open
+-- ---- What a step counts: the calls and error messages of `new` Sends more, and how many reads stay open
 
 pub record EffectTotals (k : ServerState) (st : FrameEffect) (new kept : ℕ) : Type 0 where
   pub counted : length st.errors + length st.calls ≡ length k.calls + new
@@ -52,7 +52,7 @@ shape_ready k st new kept (IsReady r) h = record { counted = h.counted; kept_is 
 shape_whole : (k c_k : ServerState) (place : ℕ) (c : PendingCall) (st : FrameEffect) (new kept : ℕ) → EffectTotals k st new kept → EffectTotals k (ready_if_whole c_k place c st) new kept
 shape_whole k c_k place c st new kept h = whole_rule (λ x. EffectTotals k x new kept) c_k place c st (λ g. shape_ready k st new kept (by_payload c (payload_of c_k place c)) g) h
 
--- more reads behind
+-- more reads at the end
 taken_more : (n : ℕ) (xs ys : List PendingRead) → length (take n xs) ≤ length (take n (xs ++ ys))
 taken_more n xs ys = omega (arith, length-take n xs, length-take n (xs ++ ys), length-append xs ys)
 
@@ -126,9 +126,9 @@ hello_said st =
     total_append hellos_in (errors_frames st.errors) (map request_frame (newly_open_reads st))
     ∙ omega (arith, sends_zero hellos_in (λ (m : List ℕ). m) st.errors (λ offset payload. refl) (λ x. refl), total_map_zero hellos_in request_frame (newly_open_reads st) (λ x. refl))
 
--- ---- Counts behind a frame
+-- ---- Counts after a frame
 
--- what it does to the counts of a server: so many Sends more, so many reads ended
+-- what it does to the counts of a server: `new` Sends more, `gone` reads ended
 record FrameTotals (s t : ServerState) (st : FrameEffect) (up rest : List FrameContent) (new kept gone : ℕ) : Type 0 where
   shape : EffectTotals s st new kept
   kept_gone : kept + gone ≡ length (open_reads s)
@@ -176,7 +176,7 @@ errors_wait s errors le =
     waiting_append s.written s.message_ends news
     ∙ ap (λ (n : ℕ). ends_waiting s.written s.message_ends + n) (all_waiting_lem s.written news (sends_above s.written s.due (s.messages_queued + 1) errors le) ∙ sends_length s.due (s.messages_queued + 1) errors)
 
--- the state behind a frame, by the segment that the frame holds
+-- the state after a frame, by the segment that the frame holds
 abbrev pub with_by : ServerState → Frame → Result Segment ℕ → FrameEffect → ServerState
 with_by k f r st = record {
   received = received_by k.received r;

@@ -1,4 +1,4 @@
--- What a peer accesses is allowed, or is where a side stops.
+-- What a peer accesses is allowed, or ends the side.
 use Rattle.std.proofs.Common.{◌≡◌, List, ◌∷◌, Option, None, Some, refl, ap, ◌∙◌, inl, inr, ◌⊎◌}
 use Rattle.nr_regions.specs.Access.{Allowed}
 use Rattle.nr_link.specs.declared.end.End.{End as Stop}

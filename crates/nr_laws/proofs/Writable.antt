@@ -93,7 +93,7 @@ stream_left (SendFrame message ∷ ps) qs h = h
 stream_left (RequestFrame sink at size stag to ∷ ps) qs h = h
 stream_left (TaggedFrame last opcode stag to payload ∷ ps) qs h = h
 
--- behind a hello more may come
+-- after a hello more may come
 pub stream_more : (ps qs : List FrameContent) → IsOutput ps → 0 < total_of hellos_in ps → AreWritable qs → IsOutput (ps ++ qs)
 stream_more [] qs h some k = absurd (omega (arith, some))
 stream_more (HelloFrame ∷ ps) qs h some k = all_proper_append ps qs h k
@@ -102,7 +102,7 @@ stream_more (SendFrame message ∷ ps) qs h some k = h
 stream_more (RequestFrame sink at size stag to ∷ ps) qs h some k = h
 stream_more (TaggedFrame last opcode stag to payload ∷ ps) qs h some k = h
 
--- where none is, nothing is
+-- if none is, nothing is
 pub stream_none : (ps : List FrameContent) → IsOutput ps → total_of hellos_in ps ≡ 0 → ps ≡ []
 stream_none [] h none = refl
 stream_none (HelloFrame ∷ ps) h none = absurd (omega (arith, none))
@@ -111,7 +111,7 @@ stream_none (SendFrame message ∷ ps) h none = absurd h
 stream_none (RequestFrame sink at size stag to ∷ ps) h none = absurd h
 stream_none (TaggedFrame last opcode stag to payload ∷ ps) h none = absurd h
 
--- the first one is the hello, and each behind it is another
+-- the first one is the hello, and each after it is another
 pub stream_first : (p : FrameContent) (qs : List FrameContent) → IsOutput (p ∷ qs) → p ≡ HelloFrame
 stream_first HelloFrame qs h = refl
 stream_first (PartFrame offset payload) qs h = absurd h

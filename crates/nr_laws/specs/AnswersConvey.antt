@@ -63,7 +63,8 @@ replied_by None = Reply 0 0 0
 replied_by (Some target) = Reply target.prog target.vers target.proc
 
 -- The answer of an executed call: what is due for the call is one RDMA Write for each segment that the answer returns with a length above 0, and
--- then its Send. The Writes bring as many bytes as the answer returns, and what it brings is the reply, put together for the procedure of the call.
+-- then its Send. The Writes carry as many bytes as the answer returns, and what it conveys is the reply, put together for the procedure of the
+-- call.
 pub record ConveysItsReply (opened : LinkParameters) (link : ℕ) (before : List Mark) (xid : ℕ) (moment : Moment) (payload : List ℕ) (place : ℕ) (reply : List ℕ) : Type 0 where
   pub answered : IsAnswered opened link before xid moment payload place reply
   pub writes : (let offer : ChunkLists = offer_of (server opened link before).state xid in

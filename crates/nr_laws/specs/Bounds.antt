@@ -10,15 +10,15 @@ use Rattle.nr_reduce.specs.Served.{ServedSoFar}
 use Rattle.nr_reduce.specs.Run.{client, server}
 use Rattle.nr_laws.specs.Typed.{IsTyped}
 
--- On every link a client owes at most open_reads_max Read Responses that haven't wholly left,
+-- On every link a client owes at most open_reads_max Read Responses that haven't completely left,
 abbrev pub ClientOwesFewResponses : Type 0
 ClientOwesFewResponses = (opened : LinkParameters) (link : ℕ) (run : List Mark) → responses_owed (client opened link run).state ≤ open_reads_max
 
--- a server has at most as many Read Requests open,
+-- a server has at most the same number of Read Requests open,
 abbrev pub ServerReadsFew : Type 0
 ServerReadsFew = (opened : LinkParameters) (link : ℕ) (run : List Mark) → length (open_reads (server opened link run).state) ≤ open_reads_max
 
 -- and a server that keeps its law uses no more receives than it granted credits: those of pending calls, of a Send that is begun, and of answers
--- that haven't wholly left.
+-- that haven't completely left.
 abbrev pub ServerUsesItsReceives : Type 0
 ServerUsesItsReceives = (opened : LinkParameters) (link : ℕ) (run : List Mark) → IsTyped run → ServedSoFar opened link run → receives_in_use (server opened link run).state ≤ opened.granted

@@ -1,5 +1,4 @@
--- Which calls complete without a reply: by ERR_CHUNK (RFC 8166 section 4.5), where the call's message is refused or its offer doesn't hold the
--- reply.
+-- Which calls complete without a reply: by ERR_CHUNK (RFC 8166 section 4.5), if the call's message is refused or its offer doesn't hold the reply.
 use Rattle.std.specs.Prelude.{◌≡◌, ◌≢◌, ℕ, ◌+◌, List, [], ◌∷◌, ◌++◌, Option, None, Some, Contains, ◌⊎◌, ◌↔◌}
 use Rattle.nr_wire.specs.declared.hello.Side.TheVariants.{Responder}
 use Rattle.nr_rpc.specs.Reading.{call_of, target_of}
@@ -53,7 +52,7 @@ pub record HasReplyNotHeld (opened : LinkParameters) (link : ℕ) (run : List Ma
 abbrev pub HasChunkCause : LinkParameters → ℕ → List Mark → ℕ → Type 0
 HasChunkCause opened link run xid = HasRefusedMessage opened link run xid ⊎ HasReplyNotHeld opened link run xid
 
--- On a matched link a call completes with Chunk exactly where one of these two stands before.
+-- On a matched link a call completes with Chunk if and only if one of these two stands before.
 abbrev pub ChunkHasCause : Type 0
 ChunkHasCause = (opened : LinkParameters) (link : ℕ) (run before : List Mark) (xid : ℕ) (outcome : Outcome) →
     IsTyped run → MatchedSoFar opened link run → MarkAt run before (marks.Done link xid outcome) → (outcome ≡ outcomes.Chunk) ↔ HasChunkCause opened link before xid
@@ -63,8 +62,8 @@ abbrev pub OthersHaveNoCause : Type 0
 OthersHaveNoCause = (opened : LinkParameters) (link : ℕ) (run before : List Mark) (xid : ℕ) (outcome : Outcome) →
     IsTyped run → MatchedSoFar opened link run → MarkAt run before (marks.Done link xid outcome) → outcome ≢ outcomes.Chunk → HasChunkCause opened link run xid → ⊥
 
--- On a matched link where nothing is left to do, and once all outcomes that are due are handed over, each accepted call with such a cause that wasn't
--- given up has its Done with Chunk.
+-- On a matched link, if nothing is left to do and all outcomes that are due are handed over, each accepted call with such a cause that wasn't given
+-- up has its Done with Chunk.
 abbrev pub CausedCallsComplete : Type 0
 CausedCallsComplete = (opened : LinkParameters) (link : ℕ) (run : List Mark) → IsTyped run → Asked opened link run → Served opened link run → Matched link run →
     IsQuiescent opened link run → outcomes_due opened link run ≡ [] → (a : AcceptedCall) → IsKept link run a → HasChunkCause opened link run a.xid →
@@ -89,7 +88,7 @@ abbrev pub NoOwnPlanIsRefused : Type 0
 NoOwnPlanIsRefused = (opened : LinkParameters) (link : ℕ) (run : List Mark) (xid : ℕ) →
     IsTyped run → AskedSoFar opened link run → (refused : HasRefusedMessage opened link run xid) → IsNotGiven refused.has.form → ⊥
 
--- ---- Where a plain server replies
+-- ---- When a plain server replies
 
 -- On a matched link whose calls are answered as a plain server answers, a call in form Auto that completes has a reply.
 abbrev pub AutoHasReplies : Type 0

@@ -46,7 +46,7 @@ LiveClientRegionsAreOutstanding = (opened : LinkParameters) (link : ℕ) (run : 
     (let k : ClientState = (end_state_after (client_rules opened) (initial_client opened) earlier).state in
     Contains k.regions r → r.until ≡ None → HasOutstandingCall k r.call)
 
--- a frame makes the message of this xid whole, and ends at this place
+-- a frame completes the message of this xid, and ends at this offset
 pub record IsMessageOf (k : ClientState) (event : RunEvent) (xid place : ℕ) : Type 0 where
   pub frame : Frame
   pub segment : Segment
@@ -69,12 +69,12 @@ pub record IsClosedForCall (opened : LinkParameters) (received : List RunEvent) 
   pub was_live : Contains (end_state_after (client_rules opened) (initial_client opened) earlier).state.regions (record r { until = None })
   pub why : IsMessageOf (end_state_after (client_rules opened) (initial_client opened) earlier).state event r.call place ⊎ (event ≡ MemoryRevoked place r.call)
 
--- On every link, whatever the server sends, a region of a client is closed only so, and at that place.
+-- On every link, whatever the server sends, a region of a client is closed only so, and at that offset.
 abbrev pub ClientRegionsCloseWithCalls : Type 0
 ClientRegionsCloseWithCalls = (opened : LinkParameters) (link : ℕ) (run : List Mark) (r : Region) (place : ℕ) → Contains (client opened link run).state.regions r → r.until ≡ Some place →
     IsClosedForCall opened (events link Initiator run) r place
 
--- A call that is accepted before the client ends adds a region for each chunk of its plan, in order, behind those that were there.
+-- A call that is accepted before the client ends adds a region for each chunk of its plan, in order, after the existing ones.
 abbrev pub CallsAddChunks : Type 0
 CallsAddChunks = (opened : LinkParameters) (link : ℕ) (run : List Mark) (earlier later : List RunEvent) (place : ℕ) (call : AcceptedCall) →
     (let before : EndState ClientState = end_state_after (client_rules opened) (initial_client opened) earlier in

@@ -13,8 +13,8 @@ use Rattle.nr_reduce.specs.Served.{Served, next_call}
 use Rattle.nr_reduce.specs.Matched.{Matched}
 use Rattle.nr_laws.specs.Typed.{IsTyped}
 
--- Nothing is in transit on a link, and nothing waits to be executed: each side received all that the other sent, and no call that is whole
--- isn't executed yet. That each side wrote all its output is part of its law in full.
+-- Nothing is in transit on a link, and nothing waits to be executed: each side received all that the other sent, and each complete call is
+-- executed. That each side wrote all its output is part of its law in full.
 pub record NothingInTransit (opened : LinkParameters) (link : ℕ) (run : List Mark) : Type 0 where
   pub up : bytes_received link Responder run ≡ bytes_sent link Initiator run
   pub down : bytes_received link Initiator run ≡ bytes_sent link Responder run

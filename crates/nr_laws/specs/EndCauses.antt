@@ -42,8 +42,8 @@ IsReplyEnd end = (at : ℕ) × (reason : ℕ) × (end ≡ ends.Bad at reason) ×
 abbrev pub IsDenied : End → Type 0
 IsDenied end = (stag : ℕ) × (offset : ℕ) × (why : Denied) × (end ≡ ends.Denied stag offset why)
 
--- On a matched link whose client hasn't ended, the server ends only where a call conveys a payload without an RPC call head: no segment of
--- the client breaks a rule of the link, finds no receive, or is denied by the server's memory; each message is of a kind that a client sends,
+-- On a matched link whose client hasn't ended, the server ends only if a call conveys a payload without an RPC call head: no segment of the
+-- client breaks a rule of the link, finds no receive, or is denied by the server's memory; each message is of a kind that a client sends,
 -- none has the xid of a call that is pending, and a payload with a head has the xid of its message.
 abbrev pub ServerEndsForCalls : Type 0
 ServerEndsForCalls = (opened : LinkParameters) (link : ℕ) (run : List Mark) → IsOpened opened → IsTyped run → KeepLaws opened link run →

@@ -8,7 +8,7 @@ use Rattle.nr_reduce.specs.AtEachMark.{AtEachMark}
 use Rattle.nr_reduce.specs.SubmitAnswer.{submit_answer_after}
 use Rattle.nr_reduce.specs.Credits.{KeepsGrant}
 
--- a call is accepted only where that is a client's answer to it
+-- a call is accepted only if that is a client's answer to it
 abbrev pub AcceptedMark : LinkParameters → ℕ → List Mark → Mark → Type 0
 AcceptedMark opened link before (marks.Submit l call form (submissions.Accepted xid)) = l ≡ link → submit_answer_after opened link before call form ≡ submissions.Accepted xid
 AcceptedMark opened link before mark = Unit {0}
@@ -16,6 +16,7 @@ AcceptedMark opened link before mark = Unit {0}
 abbrev pub AcceptsByRule : LinkParameters → ℕ → List Mark → Type 0
 AcceptsByRule opened link run = AtEachMark (AcceptedMark opened link) [] run
 
--- On every link whose client accepts by its rule, whatever its server sends: each accepted Submit stands where fewer calls are outstanding than are granted.
+-- On every link whose client accepts by its rule, whatever its server sends: at each accepted Submit fewer calls are
+-- outstanding than are granted.
 abbrev pub SubmitsWithinGrant : Type 0
 SubmitsWithinGrant = (opened : LinkParameters) (link : ℕ) (run : List Mark) → AcceptsByRule opened link run → KeepsGrant opened link run

@@ -1,4 +1,4 @@
--- What the regions of a client hold once their call has completed, or the client has ended: buffers are handed back with what stood in them
+-- What the regions of a client hold once their call has completed, or the client has ended: buffers are handed back with what they held then
 -- (RFC 5040 section 5).
 use Rattle.std.specs.Prelude.{◌≡◌, ℕ, false, List, ◌∷◌, ◌++◌, None, Some, Ok, Contains}
 use Rattle.nr_xdr.specs.Fields.{word_at}

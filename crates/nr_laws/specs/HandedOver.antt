@@ -19,7 +19,7 @@ abbrev pub RepliesHavePlans : Type 0
 RepliesHavePlans = (opened : LinkParameters) (link : ℕ) (run before : List Mark) (xid : ℕ) (reply : List ℕ) →
     IsTyped run → MatchedSoFar opened link run → MarkAt run before (marks.Done link xid (outcomes.Reply reply)) → (plan : Plan) × HasPlan opened link before xid plan
 
--- The call was executed under this xid on the link, with what its form conveys of its own payload, and just these bytes are its reply.
+-- The call was executed under this xid on the link, with what its form conveys of its own payload, and exactly these bytes are its reply.
 pub record HasReply (link : ℕ) (run : List Mark) (xid : ℕ) (call : Call) (form : Form) (reply : List ℕ) : Type 0 where
   pub moment : Moment
   pub payload : List ℕ

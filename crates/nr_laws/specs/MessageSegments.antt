@@ -36,7 +36,7 @@ abbrev pub messages_completed : ReceiveState → List Segment → List (List ℕ
 messages_completed h [] = []
 messages_completed h (s ∷ segments) = option_to_list (message_completed h s) ++ messages_completed (received_after h s) segments
 
--- A side that has no Send begun has received just the message after its segments.
+-- A side that has no Send begun has received exactly the message after its segments.
 pub record IsReceived (h : ReceiveState) (segments : List Segment) (message : List ℕ) : Type 0 where
   pub messages : messages_completed h segments ≡ message ∷ []
   pub state : received_after_all h segments ≡ record { sends = h.sends + 1; begun = None; requests = h.requests }

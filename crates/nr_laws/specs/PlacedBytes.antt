@@ -21,8 +21,8 @@ use Rattle.nr_reduce.specs.Server.{server_rules, initial_server}
 use Rattle.nr_reduce.specs.ClientState.{ClientState, OutstandingCall, client_memory_at}
 use Rattle.nr_reduce.specs.Run.{client, server, grants_of, placed_bytes}
 
--- A frame brought the byte that the region under an STag has at a place: the frame doesn't end the side, its tagged segment is
--- allowed by what the side offers at the end of the frame, and has this byte for that place.
+-- A frame brought the byte that the region under an STag has at an offset: the frame doesn't end the side, its tagged segment is allowed by
+-- what the side offers at the end of the frame, and has this byte for that offset.
 pub record IsBrought {S : Type 0} (rules : EndMachine S) (initial : EndState S) (received : List RunEvent) (grants : List Grant) (stag at byte : ℕ) : Type 0 where
   pub earlier : List RunEvent
   pub later : List RunEvent
@@ -54,7 +54,7 @@ abbrev pub ServerBytesAreAllowed : Type 0
 ServerBytesAreAllowed = (opened : LinkParameters) (link : ℕ) (run : List Mark) (r : Region) → Contains (server opened link run).state.regions r →
     HoldsAllowed (server_rules opened) (initial_server opened) (events link Responder run) (grants_of opened link Responder run) r (placed_bytes opened link Responder run r.stag)
 
--- A Read Request is answered with just the bytes that it asks for, as they stand at the end of its frame, and is allowed there.
+-- A Read Request is answered with exactly the bytes that it asks for, by their values at the end of its frame, and is allowed there.
 pub record IsDisclosed (opened : LinkParameters) (before : EndState ClientState) (f : Frame) (request : ReadRequest) : Type 0 where
   pub bytes : List ℕ
   pub output : output_for (client_rules opened) before (FrameReceived f) ≡ read_response request.sink request.sink_to bytes
@@ -78,7 +78,7 @@ pub record IsSubmittedCall (opened : LinkParameters) (received : List RunEvent) 
   pub is_submitted : received ≡ earlier ++ CallSubmitted place call ∷ later
   pub own : record o { is_revoked = false } ≡ outstanding_of (end_state_after (client_rules opened) (initial_client opened) earlier).state call
 
--- Output that isn't read from memory: the Sends of calls that were accepted, each by its plan, or what the side writes last where the event
+-- Output that isn't read from memory: the Sends of calls that were accepted, each by its plan, or what the side writes last if the event
 -- ends it.
 abbrev pub IsOwnOutput : LinkParameters → (received : List RunEvent) → Option End → List ℕ → Type 0
 IsOwnOutput opened received ended bytes =

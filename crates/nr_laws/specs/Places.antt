@@ -15,7 +15,7 @@ use Rattle.nr_laws.specs.MatchedSoFar.{MatchedSoFar}
 use Rattle.nr_laws.specs.MarkAt.{MarkAt}
 use Rattle.nr_laws.specs.Typed.{IsTyped}
 
--- On matched links, which may be one, a call is submitted after the outcome of another was handed over. Where both are executed, at
+-- On matched links, which may be one, a call is submitted after the outcome of another was handed over. If both are executed, at
 -- whatever time, its place isn't smaller.
 abbrev pub PlacesFollow : Type 0
 PlacesFollow = (adds : Moment → List ℕ → List ℕ → List Entry) (J : List Entry) (opened other_opened : LinkParameters) (link other_link : ℕ)

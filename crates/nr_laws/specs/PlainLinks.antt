@@ -20,8 +20,8 @@ PlainOnMark plain link before mark = Unit {0}
 abbrev pub AnsweredByPlainServerOn : PlainServer → ℕ → List Mark → Type 0
 AnsweredByPlainServerOn plain link run = AtEachMark (PlainOnMark plain link) [] run
 
--- Each call of a link is answered as the plain server answers at the call's place in a journal, and what it adds stands there. A run that has the
--- marks of one link alone is so over a journal with the entries of all links.
+-- Each call of a link is answered as the plain server answers at the call's place in a journal, and what it adds stands there. So a run that has
+-- the marks of one link alone has this property over a journal with the entries of all links.
 abbrev pub AtPlaceOnMark : PlainServer → List Entry → ℕ → List Mark → Mark → Type 0
 AtPlaceOnMark plain J link before (marks.Execute l xid moment payload place reply) = l ≡ link → AtPlace plain J moment payload place reply
 AtPlaceOnMark plain J link before mark = Unit {0}

@@ -18,8 +18,8 @@ use Rattle.nr_laws.specs.Payloads.{HasPlan}
 use Rattle.nr_laws.specs.HandedOver.{HasReply}
 use Rattle.nr_laws.specs.PlainLinks.{server_with, AnsweredByPlainServerOn, AtPlacesOn}
 
--- The call was executed under this xid on the link, with what its form conveys of its own payload, and these bytes are what the server
--- replies to that over the first entries of the journal, as many as its place says; what the call adds stands behind them.
+-- The call was executed under this xid on the link, with what its form conveys of its own payload, and these bytes are what the server replies to
+-- that over the first entries of the journal, the number that its place gives; what the call adds follows them.
 pub record HasPlainReply (plain : PlainServer) (J : List Entry) (link : ℕ) (run : List Mark) (xid : ℕ) (call : Call) (form : Form) (reply : List ℕ) : Type 0 where
   pub own : HasReply link run xid call form reply
   pub plainly : AtPlace plain J own.moment own.payload own.place reply

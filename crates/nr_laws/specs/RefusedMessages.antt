@@ -11,7 +11,7 @@ use Rattle.nr_laws.specs.Payloads.{HasPlan}
 
 -- A server answers a call's message by ERR_CHUNK: its header can't be read, it is RDMA_NOMSG without a read chunk at position 0, or its
 -- stream is there and its read chunk isn't that of the stream's item (RFC 8166 sections 3.4.5 and 3.5.3). A plan has one read position, so
--- where a stream has to be read no other chunk is there to be judged.
+-- a call whose stream has to be read has no other read chunk to judge.
 abbrev pub IsRefusedMessage : List ℕ → Type 0
 IsRefusedMessage message = HeaderBad message ⊎ HasOtherChunk message (header_of message)
 

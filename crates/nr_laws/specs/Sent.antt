@@ -23,8 +23,8 @@ ClientSendsWhatIsDue = (opened : LinkParameters) (link : ℕ) (run : List Mark) 
 abbrev pub ServerSendsWhatIsDue : Type 0
 ServerSendsWhatIsDue = (opened : LinkParameters) (link : ℕ) (run : List Mark) → ServedSoFar opened link run → IsPrefixOf (bytes_sent link Responder run) (output_due opened link Responder run)
 
--- A byte at an offset of what a client sends is due for one of its events: the response to a Read Request that is allowed, with just the bytes
--- that it asks for, or output that isn't read from memory.
+-- A byte at an offset of what a client sends is due for one of its events: the response to a Read Request that is allowed, with exactly the
+-- bytes that it asks for, or output that isn't read from memory.
 pub record IsSentFor (opened : LinkParameters) (received : List RunEvent) (offset byte : ℕ) : Type 0 where
   pub earlier : List RunEvent
   pub event : RunEvent

@@ -26,7 +26,8 @@ ServerCountsItems = (opened : LinkParameters) (link : ℕ) (run : List Mark) →
     ends_waiting (server opened link run).state.written (server opened link run).state.message_ends
     ≡ items_left is_send_item (length (hello_due opened link Responder run)) (length (bytes_sent link Responder run)) (items_due opened link Responder run)
 
--- While it hasn't ended, the receives in use are those of the Sends that are begun or complete, without those whose answers are wholly written.
+-- While it hasn't ended, the receives in use are those of the Sends that are begun or complete, without those whose answers are completely
+-- written.
 abbrev pub ReceivesFollowSends : Type 0
 ReceivesFollowSends = (opened : LinkParameters) (link : ℕ) (run : List Mark) → IsTyped run → ServedSoFar opened link run → (server opened link run).ended ≡ None →
     receives_in_use (server opened link run).state

@@ -21,7 +21,7 @@ use Rattle.nr_reduce.specs.RunLaws.{server_by}
 use Rattle.nr_reduce.specs.Served.{ServedSoFar}
 use Rattle.nr_laws.specs.Typed.{IsTyped}
 
--- After these events a frame makes a Send whole, and its call is pending: the Send isn't refused, and the frame doesn't end the server.
+-- After these events a frame completes a Send, and its call is pending: the Send isn't refused, and the frame doesn't end the server.
 pub record MakesCall (opened : LinkParameters) (earlier : List RunEvent) (frame : Frame) (call : PendingCall) : Type 0 where
   pub segment : Segment
   pub message : List ℕ
@@ -56,7 +56,7 @@ without_end r = record r { until = None }
 abbrev pub without_ends : List Region → List Region
 without_ends regions = map without_end regions
 
--- Such a frame adds a region for each read chunk with bytes of its call, in the order of their first entries, behind those that were there.
+-- Such a frame adds a region for each read chunk with bytes of its call, in the order of their first entries, after the existing ones.
 abbrev pub SendsAddChunks : Type 0
 SendsAddChunks = (opened : LinkParameters) (link : ℕ) (run : List Mark) (earlier later : List RunEvent) (frame : Frame) (call : PendingCall) →
     events link Responder run ≡ earlier ++ FrameReceived frame ∷ later → MakesCall opened earlier frame call →
@@ -68,7 +68,7 @@ NothingElseAddsRegions = (opened : LinkParameters) (link : ℕ) (run : List Mark
     events link Responder run ≡ earlier ++ event ∷ later → ((frame : Frame) (call : PendingCall) → event ≡ FrameReceived frame → MakesCall opened earlier frame call → ⊥) →
     without_ends (server_by opened (earlier ++ event ∷ [])).regions ≡ without_ends (server_by opened earlier).regions
 
--- A region that is closed stays as it is.
+-- A region that is closed doesn't change.
 abbrev pub ClosedRegionsStay : Type 0
 ClosedRegionsStay = (opened : LinkParameters) (link : ℕ) (run : List Mark) (earlier later : List RunEvent) (r : Region) (place : ℕ) → events link Responder run ≡ earlier ++ later →
     Contains (server_by opened earlier).regions r → r.until ≡ Some place → Contains (server opened link run).state.regions r
@@ -91,7 +91,7 @@ abbrev pub LiveServerRegionsAreRead : Type 0
 LiveServerRegionsAreRead = (opened : LinkParameters) (link : ℕ) (run : List Mark) (earlier later : List RunEvent) (r : Region) → IsTyped run → ServedSoFar opened link run → events link Responder run ≡ earlier ++ later →
     Contains (server_by opened earlier).regions r → r.until ≡ None → HasReadLeft (server_by opened earlier) r
 
--- A frame closes a region: it was offered before that frame, or is from it on, and behind that frame it has no read left.
+-- A frame closes a region: it was offered before that frame, or is from it on, and after that frame it has no read left.
 pub record IsClosedAt (opened : LinkParameters) (received : List RunEvent) (r : Region) (place : ℕ) : Type 0 where
   pub earlier : List RunEvent
   pub later : List RunEvent

@@ -1,4 +1,4 @@
--- Neither side of a matched link ends, where no memory is taken back and each payload that is conveyed is that of a call.
+-- Neither side of a matched link ends, if no memory is taken back and each payload that is conveyed is that of a call.
 use Rattle.std.specs.Prelude.{◌≡◌, ◌≢◌, ℕ, List, [], Option, None, Some, Ok, IsOk, ◌⊎◌}
 use Rattle.nr_rpc.specs.Reading.{call_of}
 use Rattle.nr_wire.specs.declared.hello.Side.TheVariants.{Initiator, Responder}
@@ -56,27 +56,27 @@ ConveyedMark opened link before mark = Unit {0}
 abbrev pub AreConveyedOrRefused : LinkParameters → ℕ → List Mark → Type 0
 AreConveyedOrRefused opened link run = AtEachMark (ConveyedMark opened link) [] run
 
--- On a matched link that was opened with numbers and credits in range, where each Wrote writes all output due, no memory is taken back, each
--- offer that is given conveys a payload with a call head or is refused, and calls are answered as a plain server answers that keeps
--- what `KeepsReplyLimits` says: neither side ends.
+-- On a matched link that was opened with numbers and credits in range, if each Wrote writes all output due, no memory is taken back, each
+-- offer that is given conveys a payload with a call head or is refused, and calls are answered as a plain server answers that keeps what
+-- `KeepsReplyLimits` says: neither side ends.
 abbrev pub MatchedLinksStayOpen : Type 0
 MatchedLinksStayOpen = (reply_to : List Entry → Moment → List ℕ → Option (List ℕ)) (adds : Moment → List ℕ → List ℕ → List Entry) (opened : LinkParameters) (link : ℕ) (run : List Mark) →
     IsOpened opened → IsTyped run → KeepLaws opened link run → HasNoRevoke link run → AreConveyedOrRefused opened link run → KeepsReplyLimits (server_with reply_to adds) → HasPlainReplies (server_with reply_to adds) link run →
     (end_of_side opened link Initiator run ≡ None) × (end_of_side opened link Responder run ≡ None)
 
--- So where its laws hold in full and nothing waits, all its calls have completed.
+-- So if its laws hold in full and nothing waits, all its calls have completed.
 abbrev pub MatchedCallsComplete : Type 0
 MatchedCallsComplete = (reply_to : List Entry → Moment → List ℕ → Option (List ℕ)) (adds : Moment → List ℕ → List ℕ → List Entry) (opened : LinkParameters) (link : ℕ) (run : List Mark) →
     IsOpened opened → IsTyped run → InFull opened link run → HasNoRevoke link run → AreConveyedOrRefused opened link run → KeepsReplyLimits (server_with reply_to adds) → HasPlainReplies (server_with reply_to adds) link run →
     NothingInTransit opened link run → HaveCompleted opened link run
 
--- Where no memory is taken back, no access to the memory of a client is denied before its server ends, whatever its offers convey and
--- whatever is replied.
+-- If no memory is taken back, no access to the memory of a client is denied before its server ends, whatever its offers convey and whatever
+-- is replied.
 abbrev pub NoAccessIsDenied : Type 0
 NoAccessIsDenied = (opened : LinkParameters) (link : ℕ) (run : List Mark) → IsOpened opened → IsTyped run → KeepLaws opened link run → HasNoRevoke link run →
     end_of_side opened link Responder run ≡ None → (end : End) → end_of_side opened link Initiator run ≡ Some end → IsReplyEnd end
 
--- Where calls are answered as a plain server answers, the client doesn't end before its server, whatever its offers convey.
+-- If calls are answered as a plain server answers, the client doesn't end before its server, whatever its offers convey.
 abbrev pub ClientsStayOpen : Type 0
 ClientsStayOpen = (reply_to : List Entry → Moment → List ℕ → Option (List ℕ)) (adds : Moment → List ℕ → List ℕ → List Entry) (opened : LinkParameters) (link : ℕ) (run : List Mark) →
     IsOpened opened → IsTyped run → KeepLaws opened link run → HasNoRevoke link run → KeepsReplyLimits (server_with reply_to adds) → HasPlainReplies (server_with reply_to adds) link run →

@@ -30,8 +30,8 @@ pub record StopsAt {S : Type 0} (rules : EndMachine S) (before : EndState S) (f 
   pub stops : next_end_state rules before (FrameReceived f) ≡ record { state = before.state; ended = Some end }
   pub stays : after ≡ record { state = before.state; ended = Some end }
 
--- On every link, whatever the server sends. The client hasn't ended when a frame is received that would fill or read its memory:
--- a region that it offers at that frame allows the access, or that frame is where the client stops: neither it nor any later one
+-- On every link, whatever the server sends: if the client hasn't ended when a frame is received that would fill or read its
+-- memory, a region that it offers at that frame allows the access, or that frame ends the client: neither it nor any later one
 -- changes what the client knows, of which its memory is part.
 abbrev pub ClientAccessesAreAllowed : Type 0
 ClientAccessesAreAllowed = (opened : LinkParameters) (link : ℕ) (run : List Mark) (earlier later : List RunEvent) (f : Frame) (segment : Segment) (access : Access) →
@@ -46,7 +46,7 @@ ServerAccessesAreAllowed = (opened : LinkParameters) (link : ℕ) (run : List Ma
     events link Responder run ≡ earlier ++ FrameReceived f ∷ later → before.ended ≡ None → is_hello f ≡ false → frame_segment f ≡ Ok segment → access_of segment ≡ Some access →
     Allowed (region_grants f.end before.state.regions) access f.end ⊎ StopsAt (server_rules opened) before f (server opened link run))
 
--- A server offers nothing to be read: a Read Request is where it stops, whatever the client sends.
+-- A server offers nothing to be read: a Read Request ends it, whatever the client sends.
 abbrev pub ServerRefusesRequests : Type 0
 ServerRefusesRequests = (opened : LinkParameters) (link : ℕ) (run : List Mark) (earlier later : List RunEvent) (f : Frame) (segment : Segment) (request : ReadRequest) →
     (let before : EndState ServerState = end_state_after (server_rules opened) (initial_server opened) earlier in

@@ -13,8 +13,8 @@ pub fn replies_handed_over()
 {}
 
 /// On a matched link whose calls are answered as a plain server answers, each at its place in a journal, the reply that is handed over of a call is
-/// what that server replies to the call's own payload (for an offer that is given, to what that offer conveys of it), over the entries before
-/// that place; what it adds stands there. The journal may have the entries of links of which the run has no marks.
+/// what that server replies to the call's own payload (for an offer that is given, to what that offer conveys of it), over the entries before that
+/// place; what it adds stands there. The journal may have the entries of links of which the run has no marks.
 pub fn replies_are_plain()
     ensures at_places { RepliesArePlainAtPlaces }
     // So it is if each call is answered over the journal of its moment, and the journal is what the run's Executes of all links add.

@@ -20,8 +20,8 @@ pub fn places()
     ensures { PlacesFollow }
 {}
 
-/// On every link an access of a frame is allowed by a live region that is offered for that access, or the frame is where the side
-/// stops. A Read Request is where a server stops. What a Revoke gives back is what stood then, and nothing later changes it.
+/// On every link an access of a frame is allowed by a live region that is offered for that access, or the frame ends the side. A Read Request ends
+/// a server. What a Revoke gives back is what the region held then, and nothing later changes it.
 pub fn touches()
     ensures client { ClientAccessesAreAllowed }
     ensures server { ServerAccessesAreAllowed }
@@ -34,13 +34,13 @@ pub fn grant()
     ensures { SubmitsWithinGrant }
 {}
 
-/// On a matched link a call completes with Chunk (ERR_CHUNK, RFC 8166 section 4.5) exactly where its Send is refused, or where it was
-/// executed before with a reply that what its plan offers doesn't hold. A Send is refused where its header can't be read, where it is
-/// RDMA_NOMSG without a read chunk at position 0, or where its read chunk isn't that of its item (RFC 8166 sections 3.4.5, 3.5.3).
+/// On a matched link a call completes with Chunk (ERR_CHUNK, RFC 8166 section 4.5) if and only if its Send is refused, or it was executed before
+/// with a reply that what its plan offers doesn't hold. A Send is refused if its header can't be read, if it is RDMA_NOMSG without a read chunk at
+/// position 0, or if its read chunk isn't that of its item (RFC 8166 sections 3.4.5, 3.5.3).
 pub fn chunk_outcomes()
     ensures causes { ChunkHasCause }
     ensures others { OthersHaveNoCause }
-    // Where nothing is left to do, and all outcomes that are due are handed over, each such call that wasn't given up completed with Chunk.
+    // If nothing is left to do, and all outcomes that are due are handed over, each such call that wasn't given up completed with Chunk.
     ensures completed { CausedCallsComplete }
     // No call completes with another version.
     ensures version { NoOtherVersion }
@@ -48,7 +48,7 @@ pub fn chunk_outcomes()
     ensures offers { OffersArePlanned }
     // On every link whose client keeps its law, a Send is refused only of a call whose offer is given.
     ensures own_plans { NoOwnPlanIsRefused }
-    // Where calls are answered as a plain server answers, a call in form Auto that completes has a reply.
+    // If calls are answered as a plain server answers, a call in form Auto that completes has a reply.
     ensures auto { AutoHasReplies }
     // On every link, whatever its client sends, an executed call that adds an entry to the journal is then answered by its reply.
     ensures changes { ChangesAreAnswered }
@@ -56,9 +56,9 @@ pub fn chunk_outcomes()
     ensures nothing_added { ChunkAddsNothing }
 {}
 
-/// On every link, whatever the peer sends, a side holds little for it at a time. A client owes at most 8 Read Responses that haven't wholly left, and a
-/// server has at most 8 Read Requests open. A server that keeps its law uses no more receives than it granted credits: those of pending calls, of a
-/// Send that is begun, and of answers that haven't wholly left.
+/// On every link, whatever the peer sends, a side holds little for it at a time. A client owes at most 8 Read Responses that haven't completely
+/// left, and a server has at most 8 Read Requests open. A server that keeps its law uses no more receives than it granted credits: those of pending
+/// calls, of a Send that is begun, and of answers that haven't completely left.
 pub fn sides_stay_bounded()
     ensures responses { ClientOwesFewResponses }
     ensures reads { ServerReadsFew }

@@ -27,8 +27,8 @@ pub fn answers_convey()
 {}
 
 /// A message of any length goes as segments of at most 4096 bytes each (RFC 5041 section 5.2), each read as it was written. A side that has no Send
-/// begun receives from them just that message, complete with the last; and no segment breaks a rule of the link (RFC 5041 section 7), if the message has
-/// the next number, finds a receive and is no longer than a message may be.
+/// begun receives from them exactly that message, complete with the last; and no segment breaks a rule of the link (RFC 5041 section 7), if the
+/// message has the next number, finds a receive and is no longer than a message may be.
 pub fn messages_in_segments()
     ensures sent { SendIsItsSegments }
     ensures read { SegmentsReadBack }

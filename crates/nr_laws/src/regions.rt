@@ -7,9 +7,9 @@ ghost use Rattle.nr_laws.specs.Sent.{ClientSendsWhatIsDue, ServerSendsWhatIsDue,
 ghost use Rattle.nr_laws.specs.ServerRegions.{ServerRegionsAreChunks, SendsAddChunks, NothingElseAddsRegions, ClosedRegionsStay, LiveServerRegionsAreRead, ServerRegionsCloseWhenRead};
 
 /// Which regions a side offers, and how long, whatever the peer sends. An accepted call adds a region at its client for each chunk of its plan
-/// (RFC 8166 section 3.4). A region lives only while its call is outstanding and its memory isn't taken back, and is closed by the message of
-/// the call or by a Revoke. A Send that makes a call pending adds a sink at its server for each read chunk with bytes (RFC 8166 section
-/// 3.4.5), which is closed once, where nothing is left to be read for it. Nothing else adds a region.
+/// (RFC 8166 section 3.4). A region lives only while its call is outstanding and its memory isn't taken back, and is closed by the message of the
+/// call or by a Revoke. A Send that makes a call pending adds a sink at its server for each read chunk with bytes (RFC 8166 section 3.4.5), which
+/// is closed once, when nothing is left to be read for it. Nothing else adds a region.
 pub fn offered_regions()
     ensures client_chunks { ClientRegionsAreChunks }
     ensures calls { CallsAddChunks }
@@ -23,9 +23,9 @@ pub fn offered_regions()
     ensures closed_stay { ClosedRegionsStay }
 {}
 
-/// What regions hold, and what of them is disclosed, whatever the peer sends. Each byte of a region is the one that was registered, or that of
-/// an allowed segment. A Read Request is answered with just the bytes of a region that it is allowed to read, and nothing else that a client
-/// writes is read from its regions.
+/// What regions hold, and what of them is disclosed, whatever the peer sends. Each byte of a region is the one that was registered, or that of an
+/// allowed segment. A Read Request is answered with exactly the bytes of a region that it is allowed to read, and nothing else that a client writes
+/// is read from its regions.
 pub fn offered_memory()
     ensures client_bytes { ClientBytesAreAllowed }
     ensures server_bytes { ServerBytesAreAllowed }
@@ -34,8 +34,8 @@ pub fn offered_memory()
 {}
 
 /// What buffers hold that a client hands back, whatever the server sends. A region that was closed holds the same in every longer run, and after
-/// the client has ended all its regions do. The message of a call leaves its regions as they stood when its frame ended. So what is handed back at
-/// a Done, or of a call that is lost, is what stands from then on.
+/// the client has ended all its regions do. The message of a call leaves its regions as they were at the end of its frame. So what is handed back
+/// at a Done, or of a call that is lost, doesn't change from then on.
 pub fn regions_handed_back()
     ensures closed { ClosedRegionsStand }
     ensures ended { EndedRegionsStand }
@@ -45,7 +45,8 @@ pub fn regions_handed_back()
 {}
 
 /// What has been sent, whatever the peer sends: the first of the output that is due, in order. Each byte that a client has sent is of its hello, of
-/// the Send of an accepted call, of its last output, or of the response to a Read Request that it allowed, with just the bytes that were asked for.
+/// the Send of an accepted call, of its last output, or of the response to a Read Request that it allowed, with exactly the bytes that were asked
+/// for.
 pub fn sent_bytes()
     ensures client { ClientSendsWhatIsDue }
     ensures server { ServerSendsWhatIsDue }

@@ -61,7 +61,7 @@ short n x le = (λ i. take_all n x le i ++ replicate (none i) 0) ∙ append-nil 
     none : length x - n ≡ 0
     none = omega (arith, le)
 
--- the bytes that are kept, with more behind them
+-- the bytes that are kept, with more after them
 kept_more : (n : ℕ) (x p : List ℕ) → kept_within n (kept_within n x ++ p) ≡ kept_within n (x ++ p)
 kept_more n x p =
     elim (cases_lt n (length x)) [

@@ -1,4 +1,4 @@
--- The input that an end keeps is that of the whole stream so far, piece after piece.
+-- The input that an end keeps is that of the complete stream so far, piece after piece.
 use Rattle.std.proofs.Common.{◌≡◌, ℕ, ◌+◌, List, [], ◌∷◌, ◌++◌, length, refl, sym, ap, ◌∙◌, append_assoc, length-append}
 use Rattle.std.specs.List.{concat}
 use Rattle.nr_wire.specs.declared.hello.Side.{Side}

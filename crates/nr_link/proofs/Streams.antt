@@ -1,4 +1,4 @@
--- The frames that some more bytes of a stream make whole are those of what was left of it and of these bytes, placed behind the
+-- The frames that some more bytes of a stream complete are those of what was left of it and of these bytes, placed after the
 -- frames before.
 use Rattle.std.proofs.Common.{◌≡◌, ℕ, ◌+◌, List, [], ◌∷◌, ◌++◌, length, drop, sym, ap, ◌∙◌, arith, add-zero, length-append}
 use Rattle.std.proofs.Math.Seq.{drop-append_seam}

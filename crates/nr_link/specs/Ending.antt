@@ -25,7 +25,7 @@ use Rattle.nr_link.specs.SegmentFaults.SegmentReason.{Reason, NoBuffer, AccessDe
 abbrev pub kind_of : ℕ → Kind
 kind_of opcode = if opcode == OPCODE_READ_RESPONSE then Response else Write
 
--- the tagged segment of a frame as an access to memory, with the place at which the frame ends
+-- the tagged segment of a frame as an access to memory, with the offset at which the frame ends
 abbrev pub tagged_access : Frame → Segment → List TaggedSegment
 tagged_access f (Tagged last opcode stag to payload) =
     record { kind = kind_of opcode; stag = stag; to = to; payload = payload; end = f.end } ∷ []
@@ -40,7 +40,7 @@ access_of (Untagged last opcode w queue msn offset payload) =
     then Some (record { right = Fetch; stag = (read_request_in payload).stag; to = (read_request_in payload).to; len = (read_request_in payload).size })
     else None
 
--- what the access of a frame's segment lacks of the grants, where it lacks something
+-- what the access of a frame's segment lacks of the grants, if anything
 abbrev pub missing_access : List Grant → Frame → Segment → Option Denied
 missing_access grants f segment = option_and_then (λ access. grant_denial grants access f.end) (access_of segment)
 
@@ -73,8 +73,8 @@ abbrev pub hello_end : Result Hello ℕ → Option End
 hello_end (Ok hello) = None
 hello_end (Err reason) = Some (ends.Bad 0 reason)
 
--- What a side writes last: one Terminate with its word (RFC 5040 section 4.8). It writes none for a refused hello, for the peer's
--- own Terminate, and where memory ran out.
+-- What a side writes last: one Terminate with its word (RFC 5040 section 4.8). It writes none if it refused the hello, if the peer
+-- sent a Terminate, or if memory ran out.
 abbrev pub is_hello_reason : ℕ → Bool
 is_hello_reason reason = nat_lt reason 5
 

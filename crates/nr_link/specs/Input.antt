@@ -7,7 +7,7 @@ use Rattle.nr_wire.specs.declared.stream.Awaited.TheVariants.{Hello as HelloFrom
 use Rattle.nr_wire.specs.Stream.{Split, split, awaited_after}
 use Rattle.nr_link.specs.Frames.{Frame, frames_from}
 
--- the kind of the frame that comes next, the bytes of it so far, and the place of its first byte
+-- the kind of the frame that comes next, the bytes of it so far, and the offset of its first byte
 pub record InputState : Type 0 where
   pub awaited : Awaited
   pub rest : List ℕ
@@ -27,7 +27,7 @@ initial_input peer = record { awaited = HelloFrom peer; rest = []; place = 0 }
 abbrev pub input_count : InputState → ℕ
 input_count input = input.place + length input.rest
 
--- the frames that a piece makes whole, and the input after it
+-- the frames that a piece completes, and the input after it
 abbrev pub input_split : InputState → List ℕ → Split
 input_split input piece = split input.awaited (input.rest ++ piece)
 

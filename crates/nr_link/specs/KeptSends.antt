@@ -6,7 +6,7 @@ use Rattle.nr_regions.specs.declared.denied.Denied.{Denied}
 use Rattle.nr_link.specs.ReceiveState.{ReceiveState, received_after, message_completed}
 use Rattle.nr_link.specs.SegmentFaults.{Readiness, segment_reason}
 
--- the bytes that a receive of n bytes keeps: those beyond it stand as zeros
+-- the bytes that a receive of n bytes keeps: those beyond it are zeros
 abbrev pub kept_within : ℕ → List ℕ → List ℕ
 kept_within n bytes = take n bytes ++ replicate (length bytes - n) 0
 

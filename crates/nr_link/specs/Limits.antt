@@ -1,7 +1,7 @@
 -- Limits of a link, each by its one name. All are own.
 use Rattle.std.specs.Prelude.{ℕ}
 
--- the payload bytes that a segment has at most when it is written; one that is received may have more
+-- the maximum payload of a segment that is written, in bytes; one that is received may have more
 abbrev pub segment_max : ℕ
 segment_max = 4096
 
@@ -10,6 +10,6 @@ segment_max = 4096
 abbrev pub open_reads_max : ℕ
 open_reads_max = 8
 
--- the bytes that a Send has at most, in each direction, where the sides agree on nothing else
+-- the maximum length of a Send in bytes, in each direction, unless the sides agree on another
 abbrev pub send_max : ℕ
 send_max = 1024

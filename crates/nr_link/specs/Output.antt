@@ -30,7 +30,7 @@ msn_word n = n % 2 ^ 32
 unfoldable pub send : ℕ → List ℕ → List ℕ
 send msn message = cut (λ last offset payload. Untagged last OPCODE_SEND 0 QUEUE_SEND (msn_word msn) offset payload) message
 
--- an RDMA Write, and a Read Response, from a place of a region on (RFC 5040 sections 4.3 and 4.5)
+-- an RDMA Write, and a Read Response, from an offset of a region on (RFC 5040 sections 4.3 and 4.5)
 unfoldable pub write : (stag to : ℕ) → List ℕ → List ℕ
 write stag to bytes = cut (λ last offset payload. Tagged last OPCODE_WRITE stag (to + offset) payload) bytes
 

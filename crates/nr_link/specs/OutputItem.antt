@@ -50,7 +50,7 @@ item_ends is_item at [] = []
 item_ends is_item at (item ∷ items) =
     (if is_item item then (at + length (item_encoding item)) ∷ [] else []) ++ item_ends is_item (at + length (item_encoding item)) items
 
--- How many items of a kind were written whole with the first `written` bytes, hello included, and how many weren't.
+-- How many items of a kind the first `written` bytes contain completely, hello included, and how many they don't.
 abbrev pub items_written : (OutputItem → Bool) → (at written : ℕ) → List OutputItem → ℕ
 items_written is_item at written [] = 0
 items_written is_item at written (item ∷ items) =

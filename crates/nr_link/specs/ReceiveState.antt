@@ -6,8 +6,8 @@ use Rattle.nr_wire.specs.Segment.{Segment}
 use Rattle.nr_wire.specs.Segment.Segment.{Tagged, Untagged}
 use Rattle.nr_xdr.specs.Fields.{word_at}
 
--- The untagged queues of a side that receives (RFC 5041 section 4.3): how many Sends are whole, the bytes so far of a Send that is
--- begun, and how many Read Requests were received.
+-- The untagged queues of a side that receives (RFC 5041 section 4.3): the number of complete Sends, the bytes so far of a Send
+-- that is begun, and the number of Read Requests received.
 pub record ReceiveState : Type 0 where
   pub sends : ℕ
   pub begun : Option (List ℕ)
@@ -37,7 +37,7 @@ received_after h (Untagged last opcode w queue msn offset payload) =
     else (if opcode == OPCODE_READ_REQUEST then record { sends = h.sends; begun = h.begun; requests = h.requests + 1 }
     else h)
 
--- the message that a segment makes whole, where it does
+-- the message that a segment completes, if it completes one
 abbrev pub message_completed : ReceiveState → Segment → Option (List ℕ)
 message_completed h (Tagged last opcode stag to payload) = None
 message_completed h (Untagged last opcode w queue msn offset payload) =

@@ -10,15 +10,15 @@ use Rattle.nr_link.specs.Output.{msn_word}
 use Rattle.nr_link.specs.ReceiveState.{ReceiveState, is_send, begun_bytes, message_completed, read_request_in}
 use Rattle.nr_xdr.specs.Fields.{word_at}
 
--- where the oldest open Read Request goes on: its sink, the next place in it, and how many bytes are left
+-- where the oldest open Read Request continues: its sink, the next offset in it, and the number of bytes left
 pub record ExpectedResponse : Type 0 where
   pub sink : ℕ
   pub at : ℕ
   pub left : ℕ
 
--- What the end that receives a segment has ready: what it received before; whether a receive is left for a Send that begins; how
--- long a message may be; what the segment's access to memory lacks, where it lacks something; which Read Response is expected;
--- how many Read Responses of its own aren't written yet.
+-- What the end that receives a segment has ready: what it received before; whether a receive is free for a Send that begins; the
+-- maximum length of a message; what the segment's access to memory lacks, if anything; which Read Response is expected; how many
+-- of its own Read Responses aren't written yet.
 pub record Readiness (D : Type 0) : Type 0 where
   pub received : ReceiveState
   pub has_receive : Bool
@@ -70,8 +70,8 @@ is_malformed opcode last payload =
     else (if opcode == OPCODE_TERMINATE then not last || nat_lt (length payload) 4
     else false)
 
--- A Read Response goes on where the oldest open request stands, doesn't pass its size, and has the L bit exactly at its end
--- (RFC 5040 section 5.2).
+-- A Read Response continues the oldest open request at its next offset, doesn't pass its size, and has the L bit if and only if it
+-- reaches its end (RFC 5040 section 5.2).
 abbrev pub is_expected : Option ExpectedResponse → Bool → ℕ → ℕ → ℕ → Bool
 is_expected None last stag to n = false
 is_expected (Some e) last stag to n =
@@ -80,11 +80,11 @@ is_expected (Some e) last stag to n =
 abbrev pub is_unexpected : {D : Type 0} → Readiness D → ℕ → Bool → ℕ → ℕ → ℕ → Bool
 is_unexpected r opcode last stag to n = opcode == OPCODE_READ_RESPONSE && not (is_expected r.expected last stag to n)
 
--- a Read Request while as many responses as may be aren't written
+-- a Read Request while the maximum number of Read Responses isn't written yet
 abbrev pub is_too_many : {D : Type 0} → Readiness D → ℕ → Bool
 is_too_many r opcode = opcode == OPCODE_READ_REQUEST && nat_le open_reads_max r.responses
 
--- whether the length of the message that became whole passes a test
+-- whether the length of the message that is complete passes a test
 abbrev pub message_length_is : (ℕ → Bool) → Option (List ℕ) → Bool
 message_length_is test None = false
 message_length_is test (Some message) = test (length message)
@@ -98,8 +98,8 @@ first_fault [] = None
 first_fault (None ∷ others) = first_fault others
 first_fault (Some x ∷ others) = Some x
 
--- Why a segment ends the link: the first fault that applies, in this order. The reasons of a frame alone go before (nr_wire), and
--- what an end makes of a whole message comes behind.
+-- Why a segment ends the link: the first fault that applies, in this order. The reasons of a frame alone are checked before
+-- (nr_wire), and what the layer above makes of a complete message after.
 unfoldable pub segment_reason : {D : Type 0} → Readiness D → Segment → Option (SegmentReason D)
 segment_reason r (Tagged last opcode stag to payload) = first_fault (
     missing_fault r.missing

@@ -13,7 +13,7 @@ pub const REASON_FORM: u32 = 13;
 /// A Read Response isn't the one that is expected (RFC 5040 section 5.2).
 pub const REASON_RESPONSE: u32 = 14;
 
-/// A Read Request while as many responses as may be are owed.
+/// A Read Request while the maximum number of Read Responses is owed.
 pub const REASON_REQUESTS: u32 = 15;
 
 /// A Send is shorter than the fixed words of a transport header (RFC 8166 section 4.1).

@@ -55,7 +55,7 @@ create_how_arms = record {
 unfoldable pub create_how_codec : Codec CreateHow
 create_how_codec = discriminated_union create_mode_codec create_how_arms
 
--- what is read behind the tag is a value of that tag
+-- what is read after the tag is a value of that tag
 abbrev create_how_claim : CreateMode → Cursor → CreateHow → Cursor → Type 0
 create_how_claim tag old v new = (create_how_tag v ≡ tag) × (create_how_fits v × TakesAll old new (create_how_items v))
 

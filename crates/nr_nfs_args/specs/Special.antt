@@ -103,7 +103,7 @@ mknod_data_arms = record {
 unfoldable pub mknod_data_codec : Codec MknodData
 mknod_data_codec = discriminated_union file_type_codec mknod_data_arms
 
--- what is read behind the tag is a value of that tag
+-- what is read after the tag is a value of that tag
 abbrev mknod_data_claim : FileType → Cursor → MknodData → Cursor → Type 0
 mknod_data_claim tag old v new = (mknod_data_tag v ≡ tag) × (mknod_data_fits v × TakesAll old new (mknod_data_items v))
 

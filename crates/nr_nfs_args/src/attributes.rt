@@ -11,6 +11,7 @@ use std::alloc::Global;
 /// The arguments of GETATTR (RFC 1813 section 3.3.1).
 #[derive(Drop)]
 pub struct GetattrArgs {
+    /// The file handle of the object.
     pub object: Handle,
 }
 
@@ -36,7 +37,9 @@ impl Xdr for GetattrArgs {
 /// The arguments of SETATTR (RFC 1813 section 3.3.2).
 #[derive(Drop)]
 pub struct SetattrArgs {
+    /// The file handle of the object.
     pub object: Handle,
+    /// `new_attributes`: the attributes to set.
     pub attributes: SetAttributes,
     /// The change time that the object must have, if it is given.
     pub guard: Option<Time>,
@@ -74,6 +77,7 @@ impl Xdr for SetattrArgs {
 /// The arguments of ACCESS (RFC 1813 section 3.3.4).
 #[derive(Drop)]
 pub struct AccessArgs {
+    /// The file handle of the object.
     pub object: Handle,
     /// A bit for each right to check.
     pub access: u32,

@@ -54,7 +54,9 @@ pub struct WriteArgs {
     pub offset: u64,
     /// In bytes; it need not be the length of the data.
     pub count: u32,
+    /// How far the server has to commit the data before it replies.
     pub stable: StableHow,
+    /// `data`: the data to write.
     pub bytes: Data,
 }
 

@@ -69,7 +69,9 @@ fn read_attributes<'a>(
 /// The arguments of CREATE (RFC 1813 section 3.3.8).
 #[derive(Drop)]
 pub struct CreateArgs {
+    /// `where.dir`: the directory in which the file is created.
     pub dir: Handle,
+    /// `where.name`: the name of the new entry.
     pub name: Name,
     pub how: CreateHow,
 }
@@ -96,8 +98,11 @@ impl Xdr for CreateArgs {
 /// The arguments of MKDIR (RFC 1813 section 3.3.9).
 #[derive(Drop)]
 pub struct MkdirArgs {
+    /// `where.dir`: the directory in which the subdirectory is created.
     pub dir: Handle,
+    /// `where.name`: the name of the new entry.
     pub name: Name,
+    /// The initial attributes.
     pub attributes: SetAttributes,
 }
 

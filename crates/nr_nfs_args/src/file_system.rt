@@ -9,6 +9,7 @@ use std::alloc::Global;
 /// The arguments of FSSTAT (RFC 1813 section 3.3.18).
 #[derive(Drop)]
 pub struct FsstatArgs {
+    /// The file handle of an object in the file system.
     pub fsroot: Handle,
 }
 
@@ -34,6 +35,7 @@ impl Xdr for FsstatArgs {
 /// The arguments of FSINFO (RFC 1813 section 3.3.19).
 #[derive(Drop)]
 pub struct FsinfoArgs {
+    /// The file handle of an object in the file system.
     pub fsroot: Handle,
 }
 
@@ -59,6 +61,7 @@ impl Xdr for FsinfoArgs {
 /// The arguments of PATHCONF (RFC 1813 section 3.3.20).
 #[derive(Drop)]
 pub struct PathconfArgs {
+    /// The file handle of an object in the file system.
     pub object: Handle,
 }
 

@@ -1,7 +1,7 @@
 //! The arguments of the 22 procedures of NFS version 3, and of those of MOUNT version 3 (RFC 1813).
 //!
 //! There is a type for each procedure, with the fields of the RFC. All are read and written by the trait `Xdr` of
-//! `nr_nfs_base`, the crate below. The codecs stand in `specs/`, each with its section of the RFC. `specs/Arguments.antt` is
+//! `nr_nfs_base`, the crate below. The codecs are in `specs/`, each with its section of the RFC. `specs/Arguments.antt` is
 //! the table of the procedures and the codecs of their arguments, and [`arguments`] says that the types here have these
 //! codecs.
 //!

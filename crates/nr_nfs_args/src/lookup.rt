@@ -9,7 +9,9 @@ use std::alloc::Global;
 /// The arguments of LOOKUP (RFC 1813 section 3.3.3).
 #[derive(Drop)]
 pub struct LookupArgs {
+    /// `what.dir`: the directory to search.
     pub dir: Handle,
+    /// `what.name`: the name to look up.
     pub name: Name,
 }
 

@@ -9,6 +9,7 @@ use std::alloc::Global;
 /// The arguments of MNT (RFC 1813 section 5.2.1).
 #[derive(Drop)]
 pub struct MntArgs {
+    /// The server pathname of the directory.
     pub dirpath: MountPath,
 }
 
@@ -34,6 +35,7 @@ impl Xdr for MntArgs {
 /// The arguments of UMNT (RFC 1813 section 5.2.3).
 #[derive(Drop)]
 pub struct UmntArgs {
+    /// The server pathname of the directory.
     pub dirpath: MountPath,
 }
 

@@ -15,8 +15,9 @@ pub struct ReaddirArgs {
     pub dir: Handle,
     /// The cookie of the last known entry, or 0.
     pub cookie: u64,
+    /// `cookieverf`: that of the results which had the cookie, or 0.
     pub verifier: Verifier,
-    /// The most bytes of the results on success, without the status.
+    /// The maximum length of the results on success, without the status, in bytes.
     pub count: u32,
 }
 
@@ -55,10 +56,11 @@ pub struct ReaddirplusArgs {
     pub dir: Handle,
     /// The cookie of the last known entry, or 0.
     pub cookie: u64,
+    /// `cookieverf`: that of the results which had the cookie, or 0.
     pub verifier: Verifier,
-    /// The most bytes of names, file numbers and cookies in the results.
+    /// The maximum length of names, file numbers and cookies in the results, in bytes.
     pub dircount: u32,
-    /// The most bytes of the results on success, without the status.
+    /// The maximum length of the results on success, without the status, in bytes.
     pub maxcount: u32,
 }
 

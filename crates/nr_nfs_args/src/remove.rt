@@ -9,7 +9,9 @@ use std::alloc::Global;
 /// The arguments of REMOVE (RFC 1813 section 3.3.12).
 #[derive(Drop)]
 pub struct RemoveArgs {
+    /// `object.dir`: the directory of the entry to remove.
     pub dir: Handle,
+    /// `object.name`: the name of the entry to remove.
     pub name: Name,
 }
 
@@ -35,7 +37,9 @@ impl Xdr for RemoveArgs {
 /// The arguments of RMDIR (RFC 1813 section 3.3.13).
 #[derive(Drop)]
 pub struct RmdirArgs {
+    /// `object.dir`: the directory of the subdirectory to remove.
     pub dir: Handle,
+    /// `object.name`: the name of the entry to remove.
     pub name: Name,
 }
 
@@ -61,9 +65,13 @@ impl Xdr for RmdirArgs {
 /// The arguments of RENAME (RFC 1813 section 3.3.14).
 #[derive(Drop)]
 pub struct RenameArgs {
+    /// `from.dir`: the directory of the entry to rename.
     pub from_dir: Handle,
+    /// `from.name`: the name of the entry.
     pub from_name: Name,
+    /// `to.dir`: the directory of the new entry.
     pub to_dir: Handle,
+    /// `to.name`: the name of the new entry.
     pub to_name: Name,
 }
 
@@ -106,8 +114,11 @@ impl Xdr for RenameArgs {
 /// The arguments of LINK (RFC 1813 section 3.3.15).
 #[derive(Drop)]
 pub struct LinkArgs {
+    /// The existing file.
     pub file: Handle,
+    /// `link.dir`: the directory in which the link is created.
     pub dir: Handle,
+    /// `link.name`: the name of the link.
     pub name: Name,
 }
 

@@ -14,9 +14,13 @@ use std::alloc::Global;
 /// The arguments of SYMLINK (RFC 1813 section 3.3.10).
 #[derive(Drop)]
 pub struct SymlinkArgs {
+    /// `where.dir`: the directory in which the link is created.
     pub dir: Handle,
+    /// `where.name`: the name of the new entry.
     pub name: Name,
+    /// `symlink_attributes`: the initial attributes.
     pub attributes: SetAttributes,
+    /// `symlink_data`: the path that the link holds.
     pub path: Path,
 }
 
@@ -52,7 +56,9 @@ impl Xdr for SymlinkArgs {
 /// The data of a device (RFC 1813 section 3.3.11, `devicedata3`).
 #[derive(Clone, Copy)]
 pub struct DeviceData {
+    /// `dev_attributes`: the initial attributes.
     pub attributes: SetAttributes,
+    /// `spec`: the device numbers.
     pub device: SpecialData,
 }
 
@@ -167,7 +173,9 @@ fn read_pipe<'a>(
 /// The arguments of MKNOD (RFC 1813 section 3.3.11).
 #[derive(Drop)]
 pub struct MknodArgs {
+    /// `where.dir`: the directory in which the special file is created.
     pub dir: Handle,
+    /// `where.name`: the name of the new entry.
     pub name: Name,
     pub what: MknodData,
 }

@@ -1,4 +1,4 @@
--- The cursor behind a value that is made of the parts that are read.
+-- The cursor after a value that is made of the parts that are read.
 use Rattle.std.proofs.Common.{◌≡◌, ℕ, Result, Ok, Err, refl}
 use Rattle.nr_xdr.specs.Reading.{Cursor}
 use Rattle.nr_xdr.specs.Sequencing.{◌>>=◌}

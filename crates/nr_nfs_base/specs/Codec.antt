@@ -12,7 +12,7 @@ use Rattle.nr_nfs_base.specs.declared.fault.ValueFault.{ValueFault}
 use Rattle.nr_nfs_base.specs.declared.fault.ValueFault.TheVariants as faults
 
 -- The codec of a type: the items that encode a value; whether a value is within the limits of its type; and what is read
--- at a cursor, which is a value and the cursor behind it, or the place of the first item that fails.
+-- at a cursor, which is a value and the cursor after it, or the offset of the first item that fails.
 pub record Codec (A : Type 0) : Type 1 where
   pub items : A → List Item
   pub fits : A → Type 0
@@ -26,7 +26,7 @@ ReadsAs c v bytes = c.fits v × ReadsAll (c.items v) bytes
 abbrev pub start : List ℕ → Cursor
 start bytes = record { place = 0; rest = bytes }
 
--- a value with no bytes behind it, or a fault at the first byte left over
+-- a value with no bytes after it, or a fault at the first byte left over
 abbrev pub value_at_end : {A : Type 0} → A × Cursor → Result A ℕ
 value_at_end x = if length (x.1).rest == 0 then Ok x.0 else Err (x.1).place
 
@@ -91,7 +91,7 @@ structure make parts c = record {
 abbrev pub value_with_number : {A : Type 0} → (A → ℕ) → List A → ℕ → Option A
 value_with_number number all n = find (λ v. number v == n) all
 
--- a value and the cursor behind it, or a fault at the word where there is no value
+-- a value and the cursor after it, or a fault at the word if there is no value
 abbrev pub value_or_fault : {A : Type 0} → Cursor → Option A → Cursor → Result (A × Cursor) ℕ
 value_or_fault from None to = Err from.place
 value_or_fault from (Some v) to = Ok (v, to)
@@ -105,7 +105,7 @@ enumeration number all = record {
 }
 
 -- The arms of a union: the tag of a value (the discriminant), its other items, whether these are within their limits, and
--- what is read behind a tag.
+-- what is read after a tag.
 pub record Arms (T A : Type 0) : Type 1 where
   pub tag_of : A → T
   pub items : A → List Item
@@ -124,7 +124,7 @@ discriminated_union tag arms = record {
 abbrev pub arm_value : {A B : Type 0} → (A → B) → Result (A × Cursor) ℕ → Result (B × Cursor) ℕ
 arm_value make read = read >>= λ x. Ok (make x.0, x.1)
 
--- the items of a value that may be absent, behind the flag
+-- the items of a value that may be absent, after the flag
 abbrev pub value_items : {A : Type 0} → Codec A → Option A → List Item
 value_items c (Some v) = c.items v
 value_items c None = []
@@ -137,7 +137,7 @@ abbrev pub value_read : {A : Type 0} → Codec A → Bool → Cursor → Result 
 value_read c true at = arm_value Some (c.read at)
 value_read c false at = Ok (None, at)
 
--- optional data: a flag, and the value where the flag is 1 (RFC 4506 section 4.19)
+-- optional data: a flag, and the value if the flag is 1 (RFC 4506 section 4.19)
 unfoldable pub optional : {A : Type 0} → Codec A → Codec (Option A)
 optional c = discriminated_union boolean (record { tag_of = is_some; items = value_items c; fits = value_fits c; read = value_read c })
 
@@ -156,12 +156,12 @@ linked_list_fits c (v ∷ vs) = (optional c).fits (Some v) × linked_list_fits c
 abbrev pub with_first : {A : Type 0} → A → Result (List A × Cursor) ℕ → Result (List A × Cursor) ℕ
 with_first v others = others >>= λ vs. Ok (v ∷ vs.0, vs.1)
 
--- the list that begins with a value, or that ends where there is none
+-- the list that begins with a value, or that ends if there is none
 abbrev pub linked_list_rest : {A : Type 0} → Option A → Cursor → Result (List A × Cursor) ℕ → Result (List A × Cursor) ℕ
 linked_list_rest None at others = Ok ([], at)
 linked_list_rest (Some v) at others = with_first v others
 
--- what is read as a linked list. n bounds the number of flags. Each flag takes bytes, so where n is the number of bytes,
+-- What is read as a linked list. n bounds the number of flags. Each flag takes bytes, so if n is the number of bytes,
 -- none is left after n flags, and the 0 at the end is missing.
 unfoldable pub linked_list_read : {A : Type 0} → Codec A → ℕ → Cursor → Result (List A × Cursor) ℕ
 linked_list_read c zero at = Err at.place
@@ -171,7 +171,7 @@ linked_list_read c (suc n) at = (optional c).read at >>= λ x. linked_list_rest 
 unfoldable pub linked_list : {A : Type 0} → Codec A → Codec (List A)
 linked_list c = record { items = linked_list_items c; fits = linked_list_fits c; read = λ at. linked_list_read c (length at.rest) at }
 
--- so many values, one after the other
+-- n values, one after the other
 unfoldable pub values_read : {A : Type 0} → Codec A → ℕ → Cursor → Result (List A × Cursor) ℕ
 values_read c zero at = Ok ([], at)
 values_read c (suc n) at = c.read at >>= λ x. with_first x.0 (values_read c n x.1)
@@ -186,12 +186,12 @@ array c = record {
 
 -- ---- Skipping
 
--- what is read, or nothing where an item fails
+-- what is read, or nothing if an item fails
 abbrev pub read_or_none : {A : Type 0} → Result A ℕ → Option A
 read_or_none (Ok x) = Some x
 read_or_none (Err at) = None
 
--- the cursor behind the value that is read, or nothing where an item fails
+-- the cursor after the value that is read, or nothing if an item fails
 abbrev pub cursor_after : {A : Type 0} → Result (A × Cursor) ℕ → Option Cursor
 cursor_after (Ok x) = Some x.1
 cursor_after (Err at) = None
@@ -217,24 +217,24 @@ WritesItems old items P (Err e) = old.left < length (encodings items)
 abbrev pub WritesValue : {A : Type 0} → Codec A → Room → A → Result Room Memory → Type 0
 WritesValue c old v result = WritesItems old (c.items v) (c.fits v) result
 
--- The result is what is read, or want of memory.
+-- The result is what is read, or out of memory.
 abbrev pub Answers : {A : Type 0} → Result A ValueFault → Result A ℕ → Type 0
 Answers (Ok v) read = read ≡ Ok v
 Answers (Err faults.Memory) read = Unit {0}
 Answers (Err (faults.Bad at)) read = read ≡ Err at
 
--- the values that stand in front, and behind them those that are read
+-- the values that come first, and after them those that are read
 abbrev pub with_front : {A : Type 0} → List A → Result (List A × Cursor) ℕ → Result (List A × Cursor) ℕ
 with_front front read = read >>= λ x. Ok (front ++ x.0, x.1)
 
--- The values that are read stand behind the old ones, and the result is the cursor behind them. Else it is the fault, or
--- want of memory.
+-- The values that are read come after the old ones, and the result is the cursor after them. Else it is the fault, or out
+-- of memory.
 abbrev pub PushesValues : {A : Type 0} → List A → List A → Result Cursor ValueFault → Result (List A × Cursor) ℕ → Type 0
 PushesValues {A} old new (Ok behind) read = with_front old read ≡ Ok (new, behind)
 PushesValues {A} old new (Err e) read = Answers {A = List A × Cursor} (Err e) (with_front old read)
 
--- The value behind a flag stands behind the old ones, or there is none; the result says which, with the cursor behind it.
--- Else it is the fault, or want of memory.
+-- The value after a flag comes after the old ones, or there is none; the result says which, with the cursor after it.
+-- Else it is the fault, or out of memory.
 abbrev pub NextPushed : {A : Type 0} → List A → List A → Bool → Cursor → Result (Option A × Cursor) ℕ → Type 0
 NextPushed {A} old new true behind read = (v : A) × (read ≡ Ok (Some v, behind)) × (new ≡ old ++ v ∷ [])
 NextPushed old new false behind read = (read ≡ Ok (None, behind)) × (new ≡ old)

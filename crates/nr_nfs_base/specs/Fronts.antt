@@ -50,7 +50,7 @@ readdirplus_args_front = handle_codec ⊗ hyper ⊗ verifier_codec ⊗ word
 pub readdirplus_args_front_lawful : Lawful readdirplus_args_front
 readdirplus_args_front_lawful = handle_lawful ⊠ hyper_lawful ⊠ verifier_lawful ⊠ word_lawful
 
--- before the data of READ, behind the status: the attributes, the count, and whether the file ends there (RFC 1813
+-- before the data of READ, after the status: the attributes, the count, and whether the file ends there (RFC 1813
 -- section 3.3.6)
 abbrev pub read_ok_front : Codec (Option Attributes × (ℕ × Bool))
 read_ok_front = optional attributes_codec ⊗ word ⊗ boolean
@@ -58,7 +58,7 @@ read_ok_front = optional attributes_codec ⊗ word ⊗ boolean
 pub read_ok_front_lawful : Lawful read_ok_front
 read_ok_front_lawful = optional_lawful _ attributes_lawful ⊠ word_lawful ⊠ boolean_lawful
 
--- before the path of READLINK, behind the status: the attributes (RFC 1813 section 3.3.5)
+-- before the path of READLINK, after the status: the attributes (RFC 1813 section 3.3.5)
 abbrev pub readlink_ok_front : Codec (Option Attributes)
 readlink_ok_front = optional attributes_codec
 

@@ -151,7 +151,7 @@ enumeration_lawful {A} number all each = record {
   encoded_is_read = λ old v new fits t. rw (word_lawful.encoded_is_read old (number v) new fits t, each v) refl;
 }
 
--- what is read behind a tag is a value of that tag
+-- what is read after a tag is a value of that tag
 pub record LawfulArms {T A : Type 0} (arms : Arms T A) : Type 0 where
   pub read_is_encoded : (t : T) (old : Cursor) (v : A) (new : Cursor) → IsBytes old.rest → arms.read t old ≡ Ok (v, new) → (arms.tag_of v ≡ t) × (arms.fits v × TakesAll old new (arms.items v))
   pub encoded_is_read : (v : A) (old new : Cursor) → arms.fits v → TakesAll old new (arms.items v) → arms.read (arms.tag_of v) old ≡ Ok (v, new)
@@ -176,7 +176,7 @@ arm_takes {A} {B} c l make Claim old v new fits e claim =
     let x = bind_ok (c.read old) (λ x. Ok (make x.0, x.1)) (v, new) e in
     subst (λ (z : B × Cursor). Claim z.0 z.1) (ok_is {A = B × Cursor} (make (x.0).0, (x.0).1) (v, new) x.2) (claim (x.0).0 (x.0).1 (l.read_is_encoded old (x.0).0 (x.0).1 fits x.1))
 
--- the same where nothing stands behind the tag
+-- the same if nothing follows the tag
 pub bare_takes : {B : Type 0} (value : B) (Claim : B → Cursor → Type 0) (old : Cursor) (v : B) (new : Cursor) → done {A = B × Cursor} (value, old) ≡ Ok (v, new) → Claim value old → Claim v new
 bare_takes {B} value Claim old v new e claim = subst (λ (z : B × Cursor). Claim z.0 z.1) (ok_is {A = B × Cursor} (value, old) (v, new) e) claim
 

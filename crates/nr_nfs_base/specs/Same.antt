@@ -4,7 +4,7 @@ use Rattle.std.specs.Prelude.{◌≡◌, ◌↔◌}
 use Rattle.nr_xdr.specs.Reading.{Cursor}
 use Rattle.nr_nfs_base.specs.Codec.{Codec}
 
--- Values are encoded by the same items, the same values are within the limits, and the same is read at each place.
+-- Values are encoded by the same items, the same values are within the limits, and the same is read at each offset.
 pub record Same {A : Type 0} (a b : Codec A) : Type 0 where
   pub items : (v : A) → a.items v ≡ b.items v
   pub fits : (v : A) → a.fits v ↔ b.fits v

@@ -66,7 +66,7 @@ set_time_arms = record {
 unfoldable pub set_time_codec : Codec SetTime
 set_time_codec = discriminated_union time_how_codec set_time_arms
 
--- what is read behind the tag is a value of that tag
+-- what is read after the tag is a value of that tag
 abbrev set_time_claim : TimeHow → Cursor → SetTime → Cursor → Type 0
 set_time_claim tag old v new = (set_time_tag v ≡ tag) × (set_time_fits v × TakesAll old new (set_time_items v))
 

@@ -1,4 +1,4 @@
--- Unions over a status: one part behind the status 0, another behind any other (RFC 1813 sections 3.3 and 5.2.1).
+-- Unions over a status: one part after the status 0, another after any other (RFC 1813 sections 3.3 and 5.2.1).
 use Rattle.std.proofs.Common.{refl, cond}
 use Rattle.std.specs.Prelude.{◌≡◌, ℕ, true, false, List, [], ◌∷◌, map, Some, None, Option, option_map, Result, Ok, ◌==◌}
 use Rattle.std.specs.List.{find}
@@ -60,7 +60,7 @@ status_union_arms done failed = record {
 unfoldable pub status_union_codec : {D F S : Type 0} → (S → ℕ) → List S → Codec D → Codec F → Codec (StatusUnion D F S)
 status_union_codec number all done failed = discriminated_union (enumeration (status_tag_number number) (status_tags all)) (status_union_arms done failed)
 
--- what is read behind the status is a value of that status
+-- what is read after the status is a value of that status
 abbrev status_union_claim : {D F S : Type 0} → Codec D → Codec F → Option S → Cursor → StatusUnion D F S → Cursor → Type 0
 status_union_claim done failed tag old v new =
     (status_union_tag v ≡ tag) × (status_union_fits done failed v × TakesAll old new (status_union_items done failed v))

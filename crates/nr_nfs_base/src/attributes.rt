@@ -13,7 +13,9 @@ use std::alloc::Global;
 /// The device that a special file stands for (RFC 1813 section 2.5, `specdata3`).
 #[derive(Clone, Copy)]
 pub struct SpecialData {
+    /// `specdata1`: the major device number.
     pub major: u32,
+    /// `specdata2`: the minor device number.
     pub minor: u32,
 }
 
@@ -39,6 +41,7 @@ impl Xdr for SpecialData {
 /// The attributes of a file (RFC 1813 section 2.5, `fattr3`).
 #[derive(Clone, Copy)]
 pub struct Attributes {
+    /// `type`: the type of the file.
     pub file_type: FileType,
     /// The permission bits.
     pub mode: u32,
@@ -50,11 +53,17 @@ pub struct Attributes {
     pub size: u64,
     /// The bytes of disk space that the file uses.
     pub used: u64,
+    /// The device, of a block or character special file.
     pub rdev: SpecialData,
+    /// The identifier of the file system.
     pub fsid: u64,
+    /// The number that identifies the file within its file system.
     pub fileid: u64,
+    /// The time of the last access to the data.
     pub atime: Time,
+    /// The time of the last modification of the data.
     pub mtime: Time,
+    /// The time of the last change of the attributes.
     pub ctime: Time,
 }
 

@@ -11,8 +11,8 @@ use thiserror::Error;
 /// Why some bytes were not read as a value.
 #[derive(Clone, Copy, Debug, PartialEq, Eq, Error)]
 pub enum ValueFault {
-    /// The bytes are not read as a value of the type. `at` is the place of the first item that fails, in bytes from the
-    /// first, or that of the first byte left over.
+    /// The bytes are not read as a value of the type. `at` is the offset of the first item that fails, in bytes from
+    /// the first, or that of the first byte left over.
     #[error("the item at byte {at} fails")]
     Bad { at: usize },
     /// Memory ran out.

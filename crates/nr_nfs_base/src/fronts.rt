@@ -83,7 +83,7 @@ impl Skip for Success {
     }
 }
 
-/// The reader at the length word of WRITE's data. `arguments` is at the first byte of WRITE's arguments. `None` where an
+/// The reader at the length word of WRITE's data. `arguments` is at the first byte of WRITE's arguments. `None` if an
 /// item before the data fails. Takes no memory.
 pub fn skip_to_write_data<'a>(arguments: Reader<'a>) -> Option<Reader<'a>>
     ensures { result ≡ cursor_after (write_args_front.read arguments.entry) }
@@ -91,15 +91,15 @@ pub fn skip_to_write_data<'a>(arguments: Reader<'a>) -> Option<Reader<'a>>
     WriteArgsFront::skip_from(arguments)
 }
 
-/// The reader at the length word of SYMLINK's path. `arguments` is at the first byte of SYMLINK's arguments. `None`
-/// where an item before the path fails. Takes no memory.
+/// The reader at the length word of SYMLINK's path. `arguments` is at the first byte of SYMLINK's arguments. `None` if an
+/// item before the path fails. Takes no memory.
 pub fn skip_to_symlink_path<'a>(arguments: Reader<'a>) -> Option<Reader<'a>>
     ensures { result ≡ cursor_after (symlink_args_front.read arguments.entry) }
 {
     SymlinkArgsFront::skip_from(arguments)
 }
 
-/// The reader at the count of READ. `arguments` is at the first byte of READ's arguments. `None` where an item before the
+/// The reader at the count of READ. `arguments` is at the first byte of READ's arguments. `None` if an item before the
 /// count fails. Takes no memory.
 pub fn skip_to_read_count<'a>(arguments: Reader<'a>) -> Option<Reader<'a>>
     ensures { result ≡ cursor_after (read_args_front.read arguments.entry) }
@@ -107,31 +107,31 @@ pub fn skip_to_read_count<'a>(arguments: Reader<'a>) -> Option<Reader<'a>>
     ReadArgsFront::skip_from(arguments)
 }
 
-/// The reader at the count of READDIR. `arguments` is at the first byte of READDIR's arguments. `None` where an item
-/// before the count fails. Takes no memory.
+/// The reader at the count of READDIR. `arguments` is at the first byte of READDIR's arguments. `None` if an item before
+/// the count fails. Takes no memory.
 pub fn skip_to_readdir_count<'a>(arguments: Reader<'a>) -> Option<Reader<'a>>
     ensures { result ≡ cursor_after (readdir_args_front.read arguments.entry) }
 {
     ReaddirArgsFront::skip_from(arguments)
 }
 
-/// The reader at the maxcount of READDIRPLUS. `arguments` is at the first byte of READDIRPLUS's arguments. `None` where
-/// an item before the maxcount fails. Takes no memory.
+/// The reader at the maxcount of READDIRPLUS. `arguments` is at the first byte of READDIRPLUS's arguments. `None` if an
+/// item before the maxcount fails. Takes no memory.
 pub fn skip_to_readdirplus_maxcount<'a>(arguments: Reader<'a>) -> Option<Reader<'a>>
     ensures { result ≡ cursor_after (readdirplus_args_front.read arguments.entry) }
 {
     ReaddirplusArgsFront::skip_from(arguments)
 }
 
-/// The reader at the length word of READ's data. `results` is at the status of READ's results. `None` where the status
-/// isn't 0 or an item before the data fails. Takes no memory.
+/// The reader at the length word of READ's data. `results` is at the status of READ's results. `None` if the status isn't
+/// 0 or an item before the data fails. Takes no memory.
 pub fn skip_to_read_data<'a>(results: Reader<'a>) -> Option<Reader<'a>>
     ensures { result ≡ cursor_after (read_res_front.read results.entry) }
 {
     <(Success, ReadOkFront)>::skip_from(results)
 }
 
-/// The reader at the length word of READLINK's path. `results` is at the status of READLINK's results. `None` where the
+/// The reader at the length word of READLINK's path. `results` is at the status of READLINK's results. `None` if the
 /// status isn't 0 or an item before the path fails. Takes no memory.
 pub fn skip_to_readlink_path<'a>(results: Reader<'a>) -> Option<Reader<'a>>
     ensures { result ≡ cursor_after (readlink_res_front.read results.entry) }

@@ -19,7 +19,7 @@ pub fn opaque_limits()
     ensures bytes { Same ⟦<Data as Xdr>⟧.codec text_codec }
 {}
 
-/// Where some bytes begin with readings of two values of one type, the values are equal and both readings have the same
+/// If some bytes begin with readings of two values of one type, the values are equal and both readings have the same
 /// length.
 pub fn one_value<T: Xdr>()
     ensures { (v w : T) (x y more others : List ℕ) → ReadsAs T.codec v x → ReadsAs T.codec w y →

@@ -2,12 +2,12 @@
 //! are read and written.
 //!
 //! [`Xdr`] is that trait. Its ghost member `codec` describes the encoding of a type (RFC 4506): the items that encode a
-//! value, whether a value is within the limits of its type, and what is read at a place. Its law says that reading and
-//! encoding are inverse. The codec of a structure is made of the codecs of its fields, and that of a union of the codecs
-//! of its tag and its arms, so a type is described as briefly as in the RFC.
+//! value, whether a value is within the limits of its type, and what is read at an offset. Its law says that reading and
+//! encoding are inverse. The codec of a structure is made of the codecs of its fields, and that of a union of the codecs of
+//! its tag and its arms, so a type is described as briefly as in the RFC.
 //!
 //! `read` gives the value that all of the bytes are read as, whatever their pad bytes are. If there is none, it gives the
-//! place of the first item that fails, or of the first byte left over. `write` gives the one encoding of a value, with
+//! offset of the first item that fails, or of the first byte left over. `write` gives the one encoding of a value, with
 //! zeros as pad bytes. It accepts every value. [`one_value`] says that no reading of a value is a proper prefix of another,
 //! and [`opaque_limits`] states the limits of handles, names, paths and data.
 //!

@@ -75,7 +75,7 @@ impl<T: Xdr> Xdr for LinkedList<T> {
     }
 }
 
-/// Reads the values, up to the 0 behind them. `most` bounds the number of flags.
+/// Reads the values, up to the 0 after them. `most` bounds the number of flags.
 fn read_values<'a, T: Xdr>(
     alloc: Global,
     most: usize,
@@ -88,7 +88,7 @@ fn read_values<'a, T: Xdr>(
     Ok((LinkedList { values }, reader))
 }
 
-/// Reads the values, up to the 0 behind them, and pushes each. `most` bounds the number of flags.
+/// Reads the values, up to the 0 after them, and pushes each. `most` bounds the number of flags.
 fn push_values<'a, T: Xdr>(
     alloc: Global,
     values: &mut Vec<T>,
@@ -108,7 +108,7 @@ fn push_values<'a, T: Xdr>(
     Err(ValueFault::Bad { at: reader.at() })
 }
 
-/// Reads a flag. Where it is 1, the value behind it is read and pushed.
+/// Reads a flag. If it is 1, the value after it is read and pushed.
 fn push_next<'a, T: Xdr>(
     alloc: Global,
     values: &mut Vec<T>,
@@ -126,7 +126,7 @@ fn push_next<'a, T: Xdr>(
     }
 }
 
-/// Writes the values, and the 0 behind them.
+/// Writes the values, and the 0 after them.
 fn write_values<T: Xdr>(values: &[T], writer: RoomWriter) -> Result<RoomWriter, Memory>
     ensures { WritesValue (linked_list T.codec) writer values.now result }
 {

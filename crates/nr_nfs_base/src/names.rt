@@ -2,14 +2,14 @@
 
 use crate::opaque::Opaque;
 
-/// The most bytes that a file handle has (RFC 1813 section 2.4, `NFS3_FHSIZE`; section 5.1.4, `FHSIZE3`).
+/// The maximum length of a file handle in bytes (RFC 1813 section 2.4, `NFS3_FHSIZE`; section 5.1.4, `FHSIZE3`).
 pub const HANDLE_MAX: u32 = 64;
 
-/// The most bytes that a path to mount has (RFC 1813 section 5.1.4, `MNTPATHLEN`).
+/// The maximum length of a path to mount in bytes (RFC 1813 section 5.1.4, `MNTPATHLEN`).
 pub const MOUNT_PATH_MAX: u32 = 1024;
 
-/// The most bytes of any opaque data, since its length is a word (RFC 4506 section 4.10). Names, paths and data have no
-/// other limit.
+/// The maximum length of any opaque data in bytes, since its length is a word (RFC 4506 section 4.10). Names, paths and
+/// data have no other limit.
 pub const UNLIMITED: u32 = u32::MAX;
 
 /// A file handle: it names a file, and only the server knows what its bytes mean (RFC 1813 section 2.5, `nfs_fh3`; section

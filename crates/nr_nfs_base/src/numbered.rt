@@ -34,7 +34,7 @@ pub trait Failure: Numbered {
     ghost not_ok: { (v : Self) → (0 == Self.number v) ≡ false };
 }
 
-/// Reads a value of an enumeration. `Bad` at its word where the word is not the number of a value.
+/// Reads a value of an enumeration. `Bad` at its word if the word is not the number of a value.
 #[tactic(auto, unfolding(crate::specs::Codec::enumeration))]
 pub fn read_numbered<'a, T: Numbered>(
     alloc: Global,

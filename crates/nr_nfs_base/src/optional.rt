@@ -8,7 +8,7 @@ use crate::xdr::Xdr;
 use nr_xdr::{Memory, Reader, RoomWriter};
 use std::alloc::Global;
 
-/// Optional data (RFC 4506 section 4.19): a flag, and the value where the flag is 1.
+/// Optional data (RFC 4506 section 4.19): a flag, and the value if the flag is 1.
 #[tactic(auto, unfolding(crate::specs::Codec::optional))]
 impl<T: Xdr> Xdr for Option<T> {
     ghost codec = { optional T.codec };

@@ -101,9 +101,11 @@ impl Xdr for SetTime {
 /// The attributes that a call sets; one that is absent stays (RFC 1813 section 2.5, `sattr3`).
 #[derive(Clone, Copy)]
 pub struct SetAttributes {
+    /// The permission bits.
     pub mode: Option<u32>,
     pub uid: Option<u32>,
     pub gid: Option<u32>,
+    /// In bytes.
     pub size: Option<u64>,
     pub atime: SetTime,
     pub mtime: SetTime,

@@ -16,7 +16,7 @@ use nr_xdr::Reader;
 
 /// A value that can be skipped without memory.
 pub trait Skip: Xdr {
-    /// The reader behind the value at the reader's place. `None` where an item of it fails.
+    /// The reader after the value at the reader's offset. `None` if an item of it fails.
     fn skip_from<'a>(reader: Reader<'a>) -> Option<Reader<'a>>
         ensures { result ≡ cursor_after (Self.codec.read reader.entry) };
 }

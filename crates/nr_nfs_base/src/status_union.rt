@@ -77,7 +77,7 @@ impl<D: Xdr, F: Xdr, S: Failure> Xdr for StatusUnion<D, F, S> {
     }
 }
 
-/// Reads the part behind the status 0.
+/// Reads the part after the status 0.
 fn read_done<'a, D: Xdr, F: Xdr, S: Failure>(
     alloc: Global,
     reader: Reader<'a>,
@@ -88,7 +88,7 @@ fn read_done<'a, D: Xdr, F: Xdr, S: Failure>(
     Ok((StatusUnion::Done(done), reader))
 }
 
-/// Reads the part behind another status.
+/// Reads the part after another status.
 fn read_failed<'a, D: Xdr, F: Xdr, S: Failure>(
     alloc: Global,
     status: S,

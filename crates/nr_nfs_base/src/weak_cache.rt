@@ -41,7 +41,9 @@ impl Xdr for WccAttributes {
 /// A file before and after a call that may change it (RFC 1813 section 2.5, `wcc_data`).
 #[derive(Clone, Copy)]
 pub struct WccData {
+    /// The attributes before the call, if the server knows them.
     pub before: Option<WccAttributes>,
+    /// The attributes after the call, if the server knows them.
     pub after: Option<Attributes>,
 }
 

@@ -14,10 +14,10 @@ use std::alloc::Global;
 /// An implementation provides `codec`, `read_from`, `write_to` and the law. `read` and `write` treat a value that stands
 /// alone. Pad bytes may have any value when read, and are written as zeros.
 pub trait Xdr: Drop {
-    /// The items that encode a value, whether a value is within the limits of the type, and what is read at a place.
+    /// The items that encode a value, whether a value is within the limits of the type, and what is read at an offset.
     ghost codec: { Codec Self };
 
-    /// The value at the reader's place, and the reader behind it. `Bad` at the first item that fails, in bytes from
+    /// The value at the reader's offset, and the reader after it. `Bad` at the first item that fails, in bytes from
     /// where the reader began.
     fn read_from<'a>(alloc: Global, reader: Reader<'a>) -> Result<(Self, Reader<'a>), ValueFault>
         ensures exact { Answers result (codec.read reader.entry) };
@@ -35,7 +35,7 @@ pub trait Xdr: Drop {
     final fn read(alloc: Global, bytes: &[u8]) -> Result<Self, ValueFault>
         // The bytes are read as the value that is given.
         ensures found { IfOk result (λ v. ReadsAs codec v bytes.now) }
-        // Where they are read as a value, it is given.
+        // If they are read as a value, it is given.
         ensures only { (v : Self) → ReadsAs codec v bytes.now → MatchResult result (λ w. w ≡ v) (λ e. e ≡ memory) }
         // Which fault it is.
         ensures exact { Answers result (read_all codec bytes.now) }

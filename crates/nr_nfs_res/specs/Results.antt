@@ -1,5 +1,5 @@
 -- The results of each procedure: the type of their values, and its codec (RFC 1813 sections 3.3 and 5.2). Most are a status,
--- and then one part behind the status 0, another behind any other.
+-- and then one part after the status 0, another after any other.
 use Rattle.std.specs.Prelude.{Bool, Option, ℕ}
 use Rattle.nr_nfs_base.specs.Attributes.{attributes_codec}
 use Rattle.nr_nfs_base.specs.Codec.{Codec, void, optional, ◌&◌}
@@ -46,7 +46,7 @@ use Rattle.nr_nfs_res.specs.declared.null.NullRes.{NullRes}
 use Rattle.nr_nfs_res.specs.declared.remove.LinkWcc.{LinkWcc}
 use Rattle.nr_nfs_res.specs.declared.remove.RenameWcc.{RenameWcc}
 
--- a union over the statuses of NFS: the first codec behind 0, the second behind any other (RFC 1813 section 3.3)
+-- a union over the statuses of NFS: the first codec after 0, the second after any other (RFC 1813 section 3.3)
 abbrev pub nfs_result : {D F : Type 0} → Codec D → Codec F → Codec (StatusUnion D F Status)
 nfs_result = status_union_codec status_number statuses
 

@@ -15,6 +15,7 @@ pub type GetattrRes = StatusUnion<Attributes, ()>;
 /// The results of ACCESS on success (RFC 1813 section 3.3.4).
 #[derive(Clone, Copy)]
 pub struct AccessOk {
+    /// `obj_attributes`: the attributes of the object.
     pub attributes: Option<Attributes>,
     /// A bit for each right that is granted.
     pub access: u32,

@@ -16,11 +16,13 @@ use std::marker::Model;
 /// The results of READ on success (RFC 1813 section 3.3.6).
 #[derive(Drop)]
 pub struct ReadOk {
+    /// `file_attributes`: the attributes of the file.
     pub attributes: Option<Attributes>,
     /// In bytes.
     pub count: u32,
     /// The data reaches the end of the file.
     pub eof: bool,
+    /// `data`: the data that was read.
     pub bytes: Data,
 }
 
@@ -136,10 +138,13 @@ pub fn write_read_res(results: &ReadResRef<'_>, writer: RoomWriter) -> Result<Ro
 /// The results of WRITE on success (RFC 1813 section 3.3.7).
 #[derive(Clone, Copy)]
 pub struct WriteOk {
+    /// `file_wcc`: the file before and after the call.
     pub wcc: WccData,
     /// The bytes that were written.
     pub count: u32,
+    /// How far the server has committed the data.
     pub committed: StableHow,
+    /// `verf`: the write verifier.
     pub verifier: Verifier,
 }
 
@@ -185,7 +190,9 @@ pub type WriteRes = StatusUnion<WriteOk, WccData>;
 /// The results of COMMIT on success (RFC 1813 section 3.3.21).
 #[derive(Clone, Copy)]
 pub struct CommitOk {
+    /// `file_wcc`: the file before and after the call.
     pub wcc: WccData,
+    /// `verf`: the write verifier.
     pub verifier: Verifier,
 }
 

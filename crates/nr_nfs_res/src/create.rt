@@ -9,6 +9,7 @@ use std::alloc::Global;
 /// The results on success of a call that creates a file (RFC 1813 sections 3.3.8 to 3.3.11).
 #[derive(Drop)]
 pub struct CreateOk {
+    /// The file handle of the new object.
     pub object: Option<Handle>,
     /// The attributes of the object.
     pub attributes: Option<Attributes>,

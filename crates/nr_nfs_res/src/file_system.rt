@@ -9,18 +9,19 @@ use std::alloc::Global;
 /// The results of FSSTAT on success (RFC 1813 section 3.3.18).
 #[derive(Clone, Copy)]
 pub struct FsstatOk {
+    /// `obj_attributes`: the attributes of the object.
     pub attributes: Option<Attributes>,
-    /// The bytes of the file system.
+    /// The size of the file system in bytes.
     pub tbytes: u64,
     /// Free bytes.
     pub fbytes: u64,
     /// Free bytes for the caller.
     pub abytes: u64,
-    /// The files that the file system has room for.
+    /// The number of files that the file system has room for.
     pub tfiles: u64,
-    /// The files that may still be created.
+    /// The number of files that may still be created.
     pub ffiles: u64,
-    /// The files that the caller may still create.
+    /// The number of files that the caller may still create.
     pub afiles: u64,
     /// The seconds for which these numbers are not expected to change.
     pub invarsec: u32,
@@ -80,24 +81,25 @@ pub type FsstatRes = StatusUnion<FsstatOk, Option<Attributes>>;
 /// The results of FSINFO on success (RFC 1813 section 3.3.19).
 #[derive(Clone, Copy)]
 pub struct FsinfoOk {
+    /// `obj_attributes`: the attributes of the object.
     pub attributes: Option<Attributes>,
-    /// The most bytes of a READ.
+    /// The maximum size of a READ in bytes.
     pub rtmax: u32,
-    /// The preferred bytes of a READ.
+    /// The preferred size of a READ in bytes.
     pub rtpref: u32,
-    /// What the bytes of a READ should be a multiple of.
+    /// The suggested multiple for the size of a READ.
     pub rtmult: u32,
-    /// The most bytes of a WRITE.
+    /// The maximum size of a WRITE in bytes.
     pub wtmax: u32,
-    /// The preferred bytes of a WRITE.
+    /// The preferred size of a WRITE in bytes.
     pub wtpref: u32,
-    /// What the bytes of a WRITE should be a multiple of.
+    /// The suggested multiple for the size of a WRITE.
     pub wtmult: u32,
-    /// The preferred bytes of a READDIR.
+    /// The preferred size of a READDIR in bytes.
     pub dtpref: u32,
-    /// In bytes.
+    /// The maximum size of a file in bytes.
     pub maxfilesize: u64,
-    /// The steps of the times of files.
+    /// The resolution of the times of files.
     pub time_delta: Time,
     /// A bit for each property.
     pub properties: u32,
@@ -193,16 +195,19 @@ pub type FsinfoRes = StatusUnion<FsinfoOk, Option<Attributes>>;
 /// The results of PATHCONF on success (RFC 1813 section 3.3.20).
 #[derive(Clone, Copy)]
 pub struct PathconfOk {
+    /// `obj_attributes`: the attributes of the object.
     pub attributes: Option<Attributes>,
-    /// The most hard links of a file.
+    /// The maximum number of hard links of a file.
     pub linkmax: u32,
-    /// The most bytes of a name.
+    /// The maximum length of a name in bytes.
     pub name_max: u32,
     /// A longer name is refused, not truncated.
     pub no_trunc: bool,
     /// Only a privileged caller may change owners.
     pub chown_restricted: bool,
+    /// Names that differ only in case name the same file.
     pub case_insensitive: bool,
+    /// The case of a name is kept.
     pub case_preserving: bool,
 }
 

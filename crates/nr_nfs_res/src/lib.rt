@@ -1,9 +1,9 @@
 //! The results of the 22 procedures of NFS version 3, and of those of MOUNT version 3 (RFC 1813).
 //!
 //! There is a type for each procedure. Most are a `StatusUnion`: the results on success, or the status of a failure with its
-//! own part. All are read and written by the trait `Xdr` of `nr_nfs_base`, the crate below. The codecs stand in `specs/`,
-//! each with its section of the RFC. `specs/Results.antt` is the table of the procedures and the codecs of their results,
-//! and [`results`] says that the types here have these codecs.
+//! own part. All are read and written by the trait `Xdr` of `nr_nfs_base`, the crate below. The codecs are in `specs/`, each
+//! with its section of the RFC. `specs/Results.antt` is the table of the procedures and the codecs of their results, and
+//! [`results`] says that the types here have these codecs.
 //!
 //! The crates above execute calls and read replies. They decide whether results make sense: here the count of a READ need
 //! not be the length of its data.

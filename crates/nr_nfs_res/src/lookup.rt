@@ -9,9 +9,11 @@ use std::alloc::Global;
 /// The results of LOOKUP on success (RFC 1813 section 3.3.3).
 #[derive(Drop)]
 pub struct LookupOk {
+    /// The file handle of the object that was looked up.
     pub object: Handle,
     /// The attributes of the object.
     pub attributes: Option<Attributes>,
+    /// The attributes of the directory.
     pub dir_attributes: Option<Attributes>,
 }
 
@@ -50,7 +52,9 @@ pub type LookupRes = StatusUnion<LookupOk, Option<Attributes>>;
 /// The results of READLINK on success (RFC 1813 section 3.3.5).
 #[derive(Drop)]
 pub struct ReadlinkOk {
+    /// `symlink_attributes`: the attributes of the link.
     pub attributes: Option<Attributes>,
+    /// `data`: the path that the link holds.
     pub path: Path,
 }
 

@@ -9,6 +9,7 @@ use std::alloc::Global;
 /// The results of MNT on success (RFC 1813 section 5.2.1, `mountres3_ok`).
 #[derive(Drop)]
 pub struct MountOk {
+    /// `fhandle`: the file handle of the directory.
     pub handle: Handle,
     /// The flavors of credentials that the server accepts.
     pub flavors: Array<u32>,

@@ -14,6 +14,7 @@ use std::alloc::Global;
 pub struct Entry {
     pub fileid: u64,
     pub name: Name,
+    /// From which a listing goes on after this entry.
     pub cookie: u64,
 }
 
@@ -44,6 +45,7 @@ impl Xdr for Entry {
 #[derive(Drop)]
 pub struct Listing<E> {
     pub dir_attributes: Option<Attributes>,
+    /// `cookieverf`: the verifier of the cookies.
     pub verifier: Verifier,
     pub entries: LinkedList<E>,
     /// No entry follows these.
@@ -97,8 +99,11 @@ pub type ReaddirRes = StatusUnion<ReaddirOk, Option<Attributes>>;
 pub struct EntryPlus {
     pub fileid: u64,
     pub name: Name,
+    /// From which a listing goes on after this entry.
     pub cookie: u64,
+    /// `name_attributes`: the attributes of the object of the entry.
     pub attributes: Option<Attributes>,
+    /// `name_handle`: the file handle of the object of the entry.
     pub handle: Option<Handle>,
 }
 

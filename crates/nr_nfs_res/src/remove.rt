@@ -15,7 +15,9 @@ pub type RemoveRes = StatusUnion<WccData, WccData>;
 /// The directories of RENAME before and after it (RFC 1813 section 3.3.14).
 #[derive(Clone, Copy)]
 pub struct RenameWcc {
+    /// `fromdir_wcc`: the directory `from.dir` before and after the call.
     pub from_dir: WccData,
+    /// `todir_wcc`: the directory `to.dir` before and after the call.
     pub to_dir: WccData,
 }
 
@@ -46,6 +48,7 @@ pub type RenameRes = StatusUnion<RenameWcc, RenameWcc>;
 pub struct LinkWcc {
     /// Those of the file.
     pub attributes: Option<Attributes>,
+    /// `linkdir_wcc`: the directory `link.dir` before and after the call.
     pub dir_wcc: WccData,
 }
 

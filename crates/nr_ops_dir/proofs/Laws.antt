@@ -1,4 +1,5 @@
--- Of the procedures that change a directory: where no rule refuses, the journal has space; and the next number and each next cookie rise by at most one.
+-- Of the procedures that change a directory: if no rule refuses, the journal has space; and the next number and each
+-- next cookie rise by at most one.
 use Rattle.std.proofs.Common.{◌≡◌, ℕ, ◌+◌, ◌<◌, Bool, true, false, cond, List, Option, None, Some, refl, arith}
 use Rattle.std.specs.Prelude.{is_none}
 use Rattle.std.specs.Option.{option_map_or}

@@ -34,7 +34,7 @@ use Rattle.nr_ops_dir.specs.Creation.{create_ok}
 use Rattle.nr_ops_dir.specs.Nodes.{attributes_of_number}
 use Rattle.nr_ops_dir.specs.Create.{size_to_set, tree_with_existing_file, tree_with_file, create_rules, create_reply}
 
--- what a reply tells where the name leads to a node
+-- what a reply says if the name has a node
 pub create_ok_is : (old new : Tree) (h name : List ℕ) (n : ℕ) → number_of_entry new (number_of_handle h) name ≡ Some n
     → create_ok old new h name ≡ record { object = Some (handle_of n); attributes = attributes_of_number new n; dir_wcc = wcc_data old new h }
 create_ok_is old new h name n e =
@@ -77,7 +77,7 @@ same_after_size nodes now n size None e = ap (λ (p : Option Node). value_at ent
 same_after_size nodes now n size (Some v) e =
     ap (value_at entries_in []) (with_change_at nodes n v (node_with_size now size) e) ∙ value_at_metadata entries_in [] nodes n v (node_with_size now size v) e (same_entries _ v.content)
 
--- names lead where they did before
+-- names have the nodes that they had before
 pub named_after_size : (t : Tree) (now : Time) (n size d : ℕ) (name : List ℕ) → number_of_entry (tree_with_size t now n size) d name ≡ number_of_entry t d name
 named_after_size t now n size d name =
     ap (λ (f : ℕ → List Entry). option_map (λ (x : Entry). x.number) (entry_of_name name (f d))) (same_after_size t.nodes now n size (get t.nodes n) refl)

@@ -34,7 +34,7 @@ or_none : (o : Option Status) → or_else o None ≡ o
 or_none None = refl
 or_none (Some s) = refl
 
--- where the rules of the directory pass, those of room answer
+-- if the rules of the directory pass, those of room answer
 pub rules_of_room : (t : Tree) (h : List ℕ) (v : Node) (rest : Node → List (Option Status)) (listing : Option Status) (room : List (Option Status)) → handle_rule t h ≡ None → node_of_handle t h ≡ Some v
     → rest v ≡ listing ∷ first room ∷ [] → listing ≡ None → first (handle_rule t h ∷ on (node_of_handle t h) rest) ≡ first room
 rules_of_room t h v rest listing room handled named is passed =
@@ -55,7 +55,7 @@ names_within : (t : Tree) (es : List Entry) → total name_size es ≤ total (si
 names_within t [] = omega arith
 names_within t (e ∷ es) = omega (arith, names_within t es)
 
--- a bound of the whole is a bound of the entries
+-- a bound of the results is a bound of the entries
 part_by : (most size : ℕ) → empty_size ≤ most → ((leb size (most - empty_size) ≡ true) × (size ≤ most - empty_size)) ⊎ ((leb size (most - empty_size) ≡ false) × (most - empty_size < size))
     → leb (empty_size + size) most ≡ leb size (most - empty_size)
 part_by most size le (inl p) = le-leb (empty_size + size) most (omega (arith, le, p.1)) ∙ sym p.0

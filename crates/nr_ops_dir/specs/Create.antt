@@ -44,7 +44,7 @@ new_file_rules c a =
     time_rule a ∷
     size_rule a.size ∷ []
 
--- a new file has zeros as bytes, none where no size is given
+-- a new file has zeros as bytes, none if no size is given
 abbrev pub new_file : Caller → Time → ℕ → CreateHow → Node
 new_file c now d how = record (new_node c now d file_mode (given_attributes how) (Regular (replicate (unwrap_or (given_attributes how).size 0) 0))) { verifier = given_verifier how }
 

@@ -35,6 +35,6 @@ entry_rules t c h name =
     first (name_rules name) ∷
     directory_rule t c (number_of_handle h) ∷ []
 
--- a node with the most links gets no other one
+-- a node with the maximum number of links gets no other one
 abbrev pub links_rule : Tree → ℕ → Option Status
 links_rule t n = nat_le links_max (links_at t n) ⇒ Mlink

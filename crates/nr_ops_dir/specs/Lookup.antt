@@ -35,7 +35,7 @@ lookup_in c d name dir =
 abbrev pub lookup_rules : Tree → Caller → LookupArgs → List (Option Status)
 lookup_rules t c args = handle_rule t args.dir ∷ on (node_of_handle t args.dir) (lookup_in c (number_of_handle args.dir) args.name)
 
--- the number of the node, where no rule refuses
+-- the number of the node, if no rule refuses
 abbrev pub found_by : Tree → LookupArgs → Option ℕ
 found_by t args = option_and_then (λ (dir : Node). number_of_name (number_of_handle args.dir) args.name dir) (node_of_handle t args.dir)
 

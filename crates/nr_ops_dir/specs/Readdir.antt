@@ -1,4 +1,4 @@
--- READDIR and READDIRPLUS (RFC 1813 sections 3.3.16 and 3.3.17): the entries behind a cookie, as many as fit. Refusals: of the
+-- READDIR and READDIRPLUS (RFC 1813 sections 3.3.16 and 3.3.17): the entries after a cookie, as many as fit. Refusals: of the
 -- handle; not a directory; no right to read it; a cookie with another verifier than this server's; too little room.
 use Rattle.std.specs.Prelude.{ℕ, ◌+◌, ◌==◌, nat_le, min, Bool, false, not, ◌&&◌, ◌||◌, if◌then◌else◌, List, [], ◌∷◌, ◌++◌, length, map, Option}
 use Rattle.std.specs.Option.{option_map_or}
@@ -30,7 +30,7 @@ use Rattle.nr_nfs_base.specs.Limits.{listing_max}
 abbrev pub cookie_verifier : Verifier
 cookie_verifier = record { number = 0 }
 
--- the entries of a directory behind a cookie
+-- the entries of a directory after a cookie
 abbrev pub entries_behind : Tree → List ℕ → ℕ → List Entry
 entries_behind t h cookie = option_map_or (λ dir. entries_after cookie (entries_in dir)) (node_of_handle t h) []
 
@@ -82,7 +82,7 @@ readdir_in t c args dir =
 abbrev pub readdir_rules : Tree → Caller → ReaddirArgs → List (Option Status)
 readdir_rules t c args = handle_rule t args.dir ∷ on (node_of_handle t args.dir) (readdir_in t c args)
 
--- eof where every entry that was left is taken
+-- eof if every entry that was left is taken
 abbrev pub readdir_reply : Tree → Caller → ReaddirArgs → StatusUnion ReaddirOk (Option Attributes) Status
 readdir_reply t c args = answer (first (readdir_rules t c args)) (λ s. Failed s (attributes_at t args.dir))
     (Done (readdir_ok t args.dir (readdir_taken t args) (length (readdir_taken t args) == length (readdir_left t args))))

@@ -28,7 +28,7 @@ is_same_node target n = option_map_or (λ g. g == n) target false
 abbrev pub exactly_one : Bool → Bool → Bool
 exactly_one a b = (a && not b) || (not a && b)
 
--- a target that is not replaced: a directory where the node is none, none where it is one, or a directory with entries
+-- a target that is not replaced: a directory if the node is none, none if it is one, or a directory with entries
 abbrev pub target_rule : Tree → ℕ → Option ℕ → Option Status
 target_rule t n None = None
 target_rule t n (Some g) = (exactly_one (is_dir_at t n) (is_dir_at t g) || has_entries t g) ⇒ Exist
@@ -37,12 +37,12 @@ target_rule t n (Some g) = (exactly_one (is_dir_at t n) (is_dir_at t g) || has_e
 abbrev pub move_rule : Tree → ℕ → ℕ → ℕ → Option Status
 move_rule t d d_to n = if is_dir_at t n && not (d == d_to) then links_rule t d_to else None
 
--- nothing changes where the target is the same node
+-- nothing changes if the target is the same node
 abbrev pub replacement_rule : Tree → ℕ → ℕ → ℕ → Option ℕ → Option Status
 replacement_rule t d d_to n target = if is_same_node target n then None else first (target_rule t n target ∷ move_rule t d d_to n ∷ [])
 
--- what is asked of the node n that moves: INVAL where it is a directory and the target's directory is it or lies below it. In a sane tree is_within says
--- exactly that (the clauses below and apart of Tree::is_within)
+-- what is asked of the node n that moves: INVAL if it is a directory and the target's directory is it or lies below it.
+-- In a sane tree is_within says exactly that (the clauses below and apart of Tree::is_within)
 abbrev pub rename_of : Tree → Space → RenameArgs → ℕ → List (Option Status)
 rename_of t space args n =
     ((is_dir_at t n && is_within (skeleton t) (number_of_handle args.to_dir) n) ⇒ Inval) ∷
@@ -59,8 +59,9 @@ both_rules t c args =
     directory_rule t c (number_of_handle args.from_dir) ∷
     directory_rule t c (number_of_handle args.to_dir) ∷ []
 
--- RENAME (section 3.3.14): both handles; both names; both directories' types and rights; INVAL for . and ..; NOENT; INVAL for a directory into itself or below;
--- then, where the target is another node or none: EXIST, and MLINK for a directory into another directory; NOSPC
+-- RENAME (section 3.3.14): both handles; both names; both directories' types and rights; INVAL for . and ..; NOENT;
+-- INVAL for a directory into itself or below; then, if the target is another node or none: EXIST, and MLINK for a
+-- directory into another directory; NOSPC
 abbrev pub rename_rules : Tree → Caller → Space → RenameArgs → List (Option Status)
 rename_rules t c space args =
     first (both_rules t c args) ∷

@@ -36,7 +36,7 @@ pub(crate) fn check_owner(caller: &Caller, attributes: &SetAttributes) -> Result
     Ok(())
 }
 
-/// The number of the directory that a handle names, where a new entry of the name may be put in for a node of these
+/// The number of the directory that a handle names, if a new entry of the name may be put in for a node of these
 /// attributes.
 #[tactic(auto, unfolding(crate::specs::Creation::new_name_rules))]
 pub(crate) fn check_new_name(
@@ -62,7 +62,7 @@ pub(crate) fn check_new_name(
     Ok(directory)
 }
 
-/// What is given of a node where a call gives nothing.
+/// What is given of a node if a call gives nothing.
 pub(crate) fn nothing_given() -> SetAttributes
     ensures { result ≡ no_attributes }
 {
@@ -76,7 +76,7 @@ pub(crate) fn nothing_given() -> SetAttributes
     }
 }
 
-/// The mode of a node that is no directory and no symbolic link, where none is given.
+/// The mode of a node that is no directory and no symbolic link, if none is given.
 pub(crate) const FILE_MODE: u32 = 0o644;
 
 /// A node that is made now in a directory. What is not given is the caller's, now, and this mode.
@@ -111,7 +111,7 @@ pub(crate) fn new_node(
     }
 }
 
-/// What a reply tells of the node that a name leads to. Takes no memory.
+/// What a reply says of the node of a name. Takes no memory.
 pub(crate) fn create_ok(
     before: Option<WccAttributes>,
     tree: &Tree,
@@ -147,7 +147,7 @@ pub(crate) fn create_failure(
     }
 }
 
-/// Puts a new node and its entry into a directory, and says what the reply tells. The handle is that of the node. After an
+/// Puts a new node and its entry into a directory, and gives what the reply says. The handle is that of the node. After an
 /// `Err` the tree is as before.
 #[tactic(auto, using(crate::proofs::NamesAfter::create_ok_is, crate::proofs::NamesAfter::named_after_addition))]
 fn add_with_handle(
@@ -174,7 +174,7 @@ fn add_with_handle(
     Ok(StatusUnion::Done(create_ok(before, tree, dir, object, number)))
 }
 
-/// Puts a new node and its entry into a directory, and says what the reply tells. After an `Err` the tree is as before.
+/// Puts a new node and its entry into a directory, and gives what the reply says. After an `Err` the tree is as before.
 pub(crate) fn add_node(
     alloc: Global,
     tree: &mut Tree,

@@ -75,7 +75,7 @@ pub(crate) fn check_directory(tree: &Tree, caller: &Caller, directory: u64) -> R
     }
 }
 
-/// The number of the directory that a handle names, where an entry of the name may be put in or taken out.
+/// The number of the directory that a handle names, if an entry of the name may be put in or taken out.
 #[tactic(auto, unfolding(crate::specs::Entries::entry_rules))]
 pub(crate) fn check_entry(
     tree: &Tree,

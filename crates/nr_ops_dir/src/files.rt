@@ -155,7 +155,6 @@ fn place_of_file(
     Ok((directory, existing))
 }
 
-/// So many zeros.
 fn zeros(alloc: Global, len: u64) -> Result<Vec<u8>, Memory>
     ensures { IfOk result (λ v. v.items ≡ replicate len 0) }
 {

@@ -13,7 +13,7 @@ use nr_tree::{Node, Right, Tree, attributes_at, check_name, live_node, may};
 use nr_xdr::Memory;
 use std::alloc::Global;
 
-/// Finds what a name in a directory leads to (RFC 1813 section 3.3.3). `Err` is want of memory.
+/// Finds the node of a name in a directory (RFC 1813 section 3.3.3). `Err` is out of memory.
 pub fn lookup(
     alloc: Global,
     tree: &Tree,

@@ -7,10 +7,10 @@
 //! changes nothing. The tree after a call and its reply are defined there too, and each clause is an equation with these
 //! definitions. A procedure that changes the tree asks for a sane tree and leaves one; after an `Err` of memory the tree is as before.
 //!
-//! `entries.rt` has what the changing ones share: what a name leads to, and the test of the handle, the name and the directory.
+//! `entries.rt` has what the changing ones share: the node of a name, and the test of the handle, the name and the directory.
 //! `creation.rt` has new nodes with their entries and replies, `listings.rt` which entries fit into a listing. The values of arguments
-//! and results are those of `nr_nfs_args` and `nr_nfs_res`. The server, which decides on the order of calls and keeps the journal,
-//! stands above.
+//! and results are those of `nr_nfs_args` and `nr_nfs_res`. The server, which decides on the order of calls and keeps the journal, is
+//! above.
 #![tactic(auto)]
 
 mod counts;

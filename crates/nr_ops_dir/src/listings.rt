@@ -14,7 +14,7 @@ ghost use Rattle.nr_ops_dir.specs.private.Sizes.{node_size as size_of_node, size
 use nr_nfs_base::{Caller, LISTING_MAX, Status, Verifier};
 use nr_tree::{Content, Directory, Node, Right, Tree, may};
 
-/// What a listing tells of each entry.
+/// What a listing says of each entry.
 #[derive(Clone, Copy)]
 pub(crate) enum Detail {
     /// Its name and number (READDIR).
@@ -33,7 +33,7 @@ pub(crate) struct Limits {
     pub(crate) names: u32,
 }
 
-/// The attributes and the handle of a node, each behind a flag.
+/// The size of the attributes and the handle of a node, each after a flag, in bytes.
 fn node_size(tree: &Tree, number: u64) -> u64
     ensures { result ≡ size_of_node tree.now number }
 {
@@ -63,7 +63,7 @@ fn entry_size(tree: &Tree, detail: Detail, name: &[u8], number: u64) -> u64
     }
 }
 
-/// How many entries from a place on are within the limits. Takes no memory.
+/// How many entries from an index on are within the limits. Takes no memory.
 pub(crate) fn count_within(tree: &Tree, dir: &Directory, place: usize, limits: &Limits) -> usize
     requires { place ≤ length dir.now.list }
     ensures bounded { place + result ≤ length dir.now.list }
@@ -89,7 +89,7 @@ pub(crate) fn count_within(tree: &Tree, dir: &Directory, place: usize, limits: &
 const EMPTY_SIZE: u32 = 104;
 
 /// The limits of a listing of at most `count` bytes, whose entries have at most `names` bytes of numbers, cookies and names;
-/// none where the results without entries are larger.
+/// none if the results without entries are larger.
 pub(crate) fn limits_of(detail: Detail, count: u32, names: u32) -> Option<Limits>
     ensures { SomeIff result (empty_size ≤ min count listing_max) (record { detail = detail; entries = min count listing_max - empty_size; names = names }) }
 {
@@ -128,7 +128,7 @@ pub(crate) fn directory_to_list<'a>(
     Ok(dir)
 }
 
-/// Entries of a directory, from one place up to another.
+/// Entries of a directory, from one index up to another.
 #[derive(Clone, Copy)]
 pub(crate) struct Range<'a> {
     pub(crate) dir: &'a Directory,
@@ -145,7 +145,7 @@ impl Range<'_> {
     }
 }
 
-/// The entries behind a cookie that are within the limits, or want of room for the first one.
+/// The entries after a cookie that are within the limits, or the status TOOSMALL if the first one isn't.
 pub(crate) fn range_within<'a>(
     tree: &Tree,
     dir: &'a Directory,

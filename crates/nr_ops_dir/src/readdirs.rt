@@ -19,8 +19,7 @@ use std::alloc::Global;
 /// The verifier of every cookie: entries keep their cookies.
 const COOKIE_VERIFIER: Verifier = Verifier { number: 0 };
 
-/// Lists the entries of a directory behind a cookie, as many as fit (RFC 1813 section 3.3.16). `Err` is want of
-/// memory.
+/// Lists the entries of a directory after a cookie, as many as fit (RFC 1813 section 3.3.16). `Err` is out of memory.
 pub fn readdir(
     alloc: Global,
     tree: &Tree,
@@ -85,8 +84,8 @@ fn readdir_range<'a>(
     }
 }
 
-/// Lists the entries of a directory behind a cookie with their attributes and handles, as many as fit (RFC 1813 section
-/// 3.3.17). `Err` is want of memory.
+/// Lists the entries of a directory after a cookie with their attributes and handles, as many as fit (RFC 1813
+/// section 3.3.17). `Err` is out of memory.
 pub fn readdirplus(
     alloc: Global,
     tree: &Tree,

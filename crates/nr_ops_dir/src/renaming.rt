@@ -55,7 +55,7 @@ fn check_move(tree: &Tree, from: u64, to: u64, number: u64) -> Result<(), Status
     Ok(())
 }
 
-/// What is asked where the target is another node, or none.
+/// What is asked if the target is another node, or none.
 #[tactic(auto, unfolding(crate::specs::Renaming::replacement_rule))]
 fn check_replacement(
     tree: &Tree,
@@ -242,7 +242,7 @@ fn move_node(
     )
 }
 
-/// Moves the node, and says what the reply tells. After an `Err` the tree is as before.
+/// Moves the node, and gives what the reply says. After an `Err` the tree is as before.
 fn renamed(tree: &mut Tree, now: Time, args: RenameArgs, step: Move) -> Result<RenameRes, Memory>
     requires sane { IsSane tree.old }
     requires bounded { IsBounded tree.old }

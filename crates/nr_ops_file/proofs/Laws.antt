@@ -1,4 +1,4 @@
--- Of the procedures that change a file: where no rule refuses, the journal has space; and the next number and each next cookie rise by at most one.
+-- Of the procedures that change a file: if no rule refuses, the journal has space; and the next number and each next cookie rise by at most one.
 use Rattle.std.proofs.Common.{◌≡◌, ℕ, ◌+◌, Option, None, Some}
 use Rattle.std.specs.Option.{option_map_or}
 use Rattle.nr_nfs_base.specs.declared.caller.Caller.{Caller}

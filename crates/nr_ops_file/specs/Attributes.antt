@@ -40,8 +40,8 @@ getattr_reply t a = answer (first (getattr_rules t a)) (λ s. Failed s tt) (geta
 
 -- ===== SETATTR (section 3.3.2). In order: the handle; a guard unlike the change time (NOT_SYNC); another owner or group, by other than
 -- uid 0 (PERM); the mode or a client's time, by neither the owner nor uid 0 (PERM); the size without the write right (ACCES); the server's
--- time, by neither the owner nor one with the write right (ACCES); the size of a directory (ISDIR), and of what else is no regular
--- file (INVAL); a client's time of 10^9 or more nanoseconds (INVAL); a size above the most bytes of a file (FBIG); the space (NOSPC).
+-- time, by neither the owner nor one with the write right (ACCES); the size of a directory (ISDIR), and of what else is no regular file
+-- (INVAL); a client's time of 10^9 or more nanoseconds (INVAL); a size above the maximum of a file (FBIG); the space (NOSPC).
 
 abbrev pub same_time : Time → Time → Bool
 same_time a b = (a.seconds == b.seconds) && (a.nanoseconds == b.nanoseconds)

@@ -50,7 +50,7 @@ read_rules t c a = handle_rule t a.file ∷ on (node_of_handle t a.file) (read_o
 abbrev pub piece_read : List ℕ → ℕ → ℕ → List ℕ
 piece_read bytes offset count = take (min count transfer_max) (drop offset bytes)
 
--- the end of a file is told where the piece reaches it, and where the offset is past it
+-- eof is true if the piece reaches the end of the file, or the offset is past it
 abbrev pub read_ok : Option Attributes → List ℕ → ℕ → List ℕ → ReadOk
 read_ok attributes bytes offset piece = record {
   attributes = attributes;
@@ -66,9 +66,9 @@ abbrev pub read_reply : Tree → Caller → ReadArgs → StatusUnion ReadOk (Opt
 read_reply t c a = answer (first (read_rules t c a)) (λ s. Failed s (attributes_at t a.file)) (Done (read_done t a))
 
 -- ===== WRITE (section 3.3.7). In order: the handle; a directory (ISDIR); else no regular file (INVAL); no write right (ACCES); a count unlike
--- the length of the data (INVAL); an end above the most bytes of a file (FBIG); the space (NOSPC).
+-- the length of the data (INVAL); an end above the maximum of a file (FBIG); the space (NOSPC).
 
--- the bytes that one call writes: as many of the data as may be moved
+-- the bytes that one call writes: the data, at most transfer_max bytes of it
 abbrev pub piece_written : WriteArgs → List ℕ
 piece_written a = take transfer_max a.bytes
 

@@ -51,7 +51,7 @@ fsstat_reply t space a = answer (first (fsstat_rules t a)) (λ s. Failed s (attr
 abbrev pub transfer_multiple : ℕ
 transfer_multiple = 4096
 
--- times are told apart by a nanosecond
+-- the resolution of times: a nanosecond
 abbrev pub time_step : Time
 time_step = record { seconds = 0; nanoseconds = 1 }
 

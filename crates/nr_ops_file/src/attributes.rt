@@ -22,7 +22,7 @@ use nr_xdr::Memory;
 /// The attributes of the node that the handle names (RFC 1813 section 3.3.1). Takes no memory.
 pub fn getattr(tree: &Tree, args: GetattrArgs) -> GetattrRes
     ensures result { result ≡ getattr_reply tree.now args }
-    // Where no rule refuses there are attributes, so SERVERFAULT is never answered.
+    // If no rule refuses there are attributes, so SERVERFAULT is never answered.
     ensures live { first (getattr_rules tree.now args) ≡ None → IsSome (attributes_of_handle tree.now args.object) }
 {
     match live_node(tree, args.object.as_slice()) {

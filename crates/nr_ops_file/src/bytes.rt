@@ -147,7 +147,7 @@ fn write_results(wcc: WccData, count: u32, space: &Space) -> WriteOk
     }
 }
 
-/// As many of the data as may be moved.
+/// The data that one call writes: at most `TRANSFER_MAX` bytes.
 fn piece_of(bytes: &[u8]) -> &[u8]
     ensures value { result.now ≡ take transfer_max bytes.now }
     ensures bounded { length result.now ≤ transfer_max }
@@ -156,7 +156,7 @@ fn piece_of(bytes: &[u8]) -> &[u8]
     piece
 }
 
-/// Whether the count is the data's, and the piece lies within the most bytes of a file.
+/// Whether the count is the data's, and the piece lies within the maximum size of a file.
 fn check_piece(args: &WriteArgsRef<'_>) -> Result<(), Status>
     ensures { MatchResult result (λ _. (first (piece_rules args.now) ≡ None) × (args.now.offset + length (piece_written args.now) ≤ file_size_max)) (λ s. first (piece_rules args.now) ≡ Some s) }
 {

@@ -13,7 +13,7 @@ use nr_tree::{
 /// What the bytes of a READ and of a WRITE should be a multiple of.
 const TRANSFER_MULTIPLE: u32 = 4096;
 
-/// Times are told apart by a nanosecond.
+/// The resolution of times: a nanosecond.
 const TIME_STEP: Time = Time {
     seconds: 0,
     nanoseconds: 1,

@@ -14,7 +14,7 @@ use nr_tree::{Content, Tree, attributes_at, live_node};
 use nr_xdr::Memory;
 use std::alloc::Global;
 
-/// The path in a symbolic link (RFC 1813 section 3.3.5). An `Err` wanted memory.
+/// The path in a symbolic link (RFC 1813 section 3.3.5). An `Err` is out of memory.
 pub fn readlink(alloc: Global, tree: &Tree, args: ReadlinkArgs) -> Result<ReadlinkRes, Memory>
     requires { IsSane tree.now }
     ensures { IfOk result (λ r. r ≡ readlink_reply tree.now args) }

@@ -6,7 +6,7 @@ use std::alloc::Global;
 use std::marker::Model;
 
 /// A sink in memory. It keeps what it takes. It fails at the calls whose numbers it was given, the first call being
-/// number 0, and where memory runs out.
+/// number 0, and if memory runs out.
 #[derive(Drop)]
 pub struct MemSink {
     bytes: Vec<u8>,
@@ -29,7 +29,7 @@ impl Model for MemSink {
 }
 
 impl MemSink {
-    /// A sink with no bytes so far. Each call whose number stands in `failing` fails. Calls are counted up to 2^64 - 1.
+    /// A sink with no bytes so far. Each call whose number is in `failing` fails. Calls are counted up to 2^64 - 1.
     /// Takes no memory.
     pub fn new(alloc: Global, failing: Vec<usize>) -> MemSink
         ensures { result ≡ record { bytes = []; failing = failing.items; calls = 0; faults = 0 } }
@@ -55,7 +55,7 @@ impl Sink for MemSink {
 
     ghost taken = { λ s. Some s.bytes };
 
-    /// Takes the whole piece, or fails.
+    /// Takes the complete piece, or fails.
     fn write(&mut self, piece: &[u8]) -> Result<usize, Failed>
         ensures fails { Contains self.old.failing self.old.calls → IsErr result }
         ensures count { IfOk result (λ n. n ≡ length piece.now) }

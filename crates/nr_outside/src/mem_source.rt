@@ -37,9 +37,9 @@ impl Model for MemSource {
 }
 
 impl MemSource {
-    /// A source of these bytes. Call number k hands out at most `sizes[k]` bytes; a size of 0 means 1. Where there is no
-    /// such size, only the buffer limits the call. Each call whose number stands in `failing` fails. Calls are counted up
-    /// to 2^64 - 1. Takes no memory.
+    /// A source of these bytes. Call number k hands out at most `sizes[k]` bytes; a size of 0 means 1. If there is no
+    /// such size, only the buffer limits the call. Each call whose number is in `failing` fails. Calls are counted up to
+    /// 2^64 - 1. Takes no memory.
     pub fn new(bytes: Vec<u8>, sizes: Vec<usize>, failing: Vec<usize>) -> MemSource
         ensures { result ≡ record {
           bytes = bytes.items;
@@ -68,7 +68,7 @@ impl Source for MemSource {
 
     ghost given = { λ s. Some (take s.place s.bytes) };
 
-    /// Hands out the next piece, as much of it as there is room for, or fails where the call is listed.
+    /// Hands out the next piece, at most what the buffer has room for, or fails if the call is listed.
     fn read(&mut self, buf: &mut [u8]) -> Result<usize, Failed>
         ensures fails { IsErr result ↔ Contains self.old.failing self.old.calls }
         ensures count { IfOk result (λ n. n ≡ length (next_piece self.old (length buf.old))) }
@@ -91,7 +91,7 @@ impl Source for MemSource {
     }
 }
 
-/// The first bytes, as many as the size allows, if there is one. At least one.
+/// The first bytes, at most the size, if there is one. At least one.
 fn first_of<'a>(bytes: &'a [u8], size: Option<&usize>) -> &'a [u8]
     ensures { result.now ≡ within_size (option_copied size.entry) bytes.now }
 {

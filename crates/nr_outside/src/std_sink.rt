@@ -45,7 +45,7 @@ impl<W: Write> Sink for StdSink<W> {
 
     ghost taken = { λ _. None };
 
-    /// One write to the writer. The count rises by one at `Failed`, unless it stands at its last value.
+    /// One write to the writer. The count rises by one at `Failed`, unless it is at its maximum.
     fn write(&mut self, piece: &[u8]) -> Result<usize, Failed>
         ensures bound { IfOk result (λ n. n ≤ length piece.now) }
         ensures progress { IfOk result (λ n. 0 < length piece.now → 0 < n) }

@@ -46,7 +46,7 @@ impl<R: Read> Source for StdSource<R> {
 
     ghost given = { λ _. None };
 
-    /// One read of the reader. The count rises by one at `Failed`, unless it stands at its last value.
+    /// One read of the reader. The count rises by one at `Failed`, unless it is at its maximum.
     fn read(&mut self, buf: &mut [u8]) -> Result<usize, Failed>
         ensures bound { IfOk result (λ n. n ≤ length buf.old) }
         ensures bytes { ReadConsumes (R.remaining self.old.inner) (R.remaining self.new.inner) result buf.new }

@@ -67,7 +67,7 @@ done_is x y e = cc
 not_failed : {D F : Type 0} (s : Status) (f : F) (d : D) (P : Type 0) → failure_of {D = D} {F = F} s f ≡ Done d → P
 not_failed s f d P e = absurd cc
 
--- what holds of the part on success, where no rule refuses, holds of a success
+-- what holds of the part on success, if no rule refuses, holds of a success
 of_success : {D F : Type 0} (o : Option Status) (f : F) (d e : D) (P : D → Type 0) → answer o (λ (s : Status). failure_of {D = D} {F = F} s f) (Done d) ≡ Done e → (o ≡ None → P d) → P e
 of_success {D} {F} None f d e P is holds = subst P (done_is {D = D} {F = F} d e is) (holds refl)
 of_success (Some s) f d e P is holds = not_failed s f e (P e) is
@@ -126,7 +126,7 @@ module _ (s : Parameters) (st : State) (sane : IsSane st.tree) (m : Moment) (pay
 -- ===== offers that hold
 
 module _ (reply : List ℕ) (down : ℕ) (room : send_max ≤ down) where
-  -- one chunk with one segment of so many bytes
+  -- one chunk with one segment of this length
   total_one : (g : RdmaSegment) → chunk_total (g ∷ []) ≡ g.length
   unfolding chunk_total
   total_one g = omega arith

@@ -28,7 +28,7 @@ pub encodings_append : (xs ys : List Item) → encodings (xs ++ ys) ≡ encoding
 encodings_append [] ys = refl
 encodings_append (x ∷ xs) ys = ap (λ (l : List ℕ). encoding x ++ l) (encodings_append xs ys) ∙ sym (append_assoc (encoding x) (encodings xs) (encodings ys))
 
--- a value is read where these items were encoded, and the cursor stands behind them
+-- a value is read if these items were encoded, and the cursor is after them
 pub record Readable {A : Type 0} (c : Codec A) (xs : List Item) : Type 0 where
   pub at : (place : ℕ) (rest : List ℕ) → (v : A) × (c.read (standing place (encodings xs ++ rest)) ≡ Ok (v, standing (place + items_size xs) rest))
 

@@ -69,7 +69,7 @@ wcc_size w =
       some_attributes w.after,
     )
 
--- so many bytes with their pad are no more than more bytes with theirs
+-- n bytes with their pad are no more than m bytes with theirs, if n is at most m
 pub padded_rises : (n m : ℕ) → n ≤ m → n + pad_len n ≤ m + pad_len m
 unfolding pad_len
 padded_rises n m le = omega (arith, le)
@@ -198,7 +198,7 @@ pub failed_size : {D F : Type 0} (done : Codec D) (failed : Codec F) (s : Status
 unfolding status_union_codec enumeration word_codec
 failed_size done failed s f = length_encodings ((nfs_result done failed).items (Failed s f))
 
--- where no rule refuses, the part on success is to fit
+-- if no rule refuses, the part on success is to fit
 pub answer_fits : {D F : Type 0} (done : Codec D) (failed : Codec F) (o : Option Status) (f : F) (d : D) (n : ℕ) → 4 + items_size (failed.items f) ≤ n
     → (o ≡ None → 4 + items_size (done.items d) ≤ n) → length (encodings ((nfs_result done failed).items (answer o (λ s. Failed s f) (Done d)))) ≤ n
 answer_fits done failed None f d n of_failed of_done = omega (arith, done_size done failed d, of_done refl)

@@ -66,7 +66,7 @@ module _ (t : Tree) (c : Caller) (space : Space) (now other : Time) where
 
 -- ===== answers without entries
 
--- where the first adds nothing, the second is the same
+-- if the first adds nothing, the second is the same
 abbrev Same : Answer → Answer → Type 0
 Same x y = x.entries ≡ [] → x ≡ y
 

@@ -1,4 +1,4 @@
--- Arguments that are read whole: also at another place, and so is the count behind the fields before it.
+-- Arguments that are read completely: also at another offset, and so is the count after the fields before it.
 use Rattle.std.proofs.Common.{◌≡◌, ℕ, ◌+◌, List, [], length, Some, Result, Ok, refl, sym, ap, ◌∙◌}
 use Rattle.std.proofs.lemmas.List.{append-nil}
 use Rattle.nr_xdr.specs.Item.{IsBytes}
@@ -16,7 +16,7 @@ use Rattle.nr_nfs_args.specs.declared.readdir.ReaddirArgs.{ReaddirArgs}
 use Rattle.nr_nfs_args.specs.declared.readdir.ReaddirplusArgs.{ReaddirplusArgs}
 use Rattle.nr_reduce.specs.Largest.{count_of, count_behind, read_count, readdir_count, readdirplus_count}
 
--- what is read of all the bytes is read of them at any place
+-- what is read of all the bytes is read of them at any offset
 read_there : {A : Type 0} (c : Codec A) → Lawful c → (place : ℕ) (bytes : List ℕ) (v : A) → IsBytes bytes → read_all c bytes ≡ Ok v
     → c.read (standing place bytes) ≡ Ok (v, standing (place + length bytes) [])
 read_there c lawful place bytes v fits e =
@@ -24,7 +24,7 @@ read_there c lawful place bytes v fits e =
     lawful.encoded_is_read (standing place bytes) v (standing (place + length bytes) []) reads.0
     (each_takes (c.items v) bytes [] (standing place bytes) reads.1 (sym (append-nil bytes)))
 
--- the number behind a front
+-- the number after a front
 number_there : {A : Type 0} (front : Codec A) (at : Cursor) (x : (A × ℕ) × Cursor) → (front ⊗ word).read at ≡ Ok x → count_behind front at ≡ Some x.0.1
 unfolding word
 number_there {A} front at x e =

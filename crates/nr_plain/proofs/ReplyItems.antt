@@ -41,7 +41,7 @@ use Rattle.nr_plain.proofs.FrontReads.{Readable, encodings_append, read_front_re
 use Rattle.nr_plain.proofs.Lengths.{some_attributes, failed_size}
 use Rattle.nr_plain.proofs.ReplyLimits.{refusal_size, results_size, head_size}
 
--- ===== an item behind a front
+-- ===== an item after a front
 
 module _ (bytes : List ℕ) where
   abbrev pad : List ℕ

@@ -87,7 +87,7 @@ path_short t a sane none =
     subst (λ (o : Option Node). length (option_map_or (λ node. bytes_of node.content) o []) ≤ link_target_max) (sym v.1)
     (path_by v.0.content (clear (not (is_link v.0.content)) Inval of_node.0) (sane.contents (number_of_handle a.symlink) v.0 (got t a.symlink v.0 v.1)))
 
--- ===== READ: so many bytes at most
+-- ===== READ: at most n bytes
 
 pub piece_short : (bytes : List ℕ) (offset count : ℕ) → length (piece_read bytes offset count) ≤ min count transfer_max
 piece_short bytes offset count =

@@ -16,8 +16,8 @@ use Rattle.nr_plain.specs.Replies.{SUCCESS, entries_if, cred_refusal}
 
 -- ===== a reply of status 0
 
--- Where words stand in a reply with an empty verifier. The xid, the message type, the reply status, the verifier's flavor and the length of its
--- body stand before the accept status (RFC 5531 section 9), and the results begin behind it, with their status (RFC 1813 section 3.3).
+-- Offsets of words in a reply with an empty verifier. The xid, the message type, the reply status, the verifier's flavor and the length of its
+-- body come before the accept status (RFC 5531 section 9), and the results begin after it, with their status (RFC 1813 section 3.3).
 abbrev pub reply_stat_at : ℕ
 reply_stat_at = 8
 
@@ -65,6 +65,6 @@ abbrev pub entries_by_call : Moment → List ℕ → List ℕ → Result CallHea
 entries_by_call m payload reply (Ok head) = entries_by_head m payload reply head
 entries_by_call m payload reply (Err at) = []
 
--- the entry of a call to which this is the reply: one where it is a change that succeeded, else none
+-- the entry of a call to which this is the reply: one if it is a change that succeeded, else none
 abbrev pub entries_of_call : Moment → List ℕ → List ℕ → List Entry
 entries_of_call m payload reply = entries_by_call m payload reply (call_of payload)

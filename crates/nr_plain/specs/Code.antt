@@ -64,7 +64,7 @@ tree_of t call p = tree_from t call.caller.now call.space call.time p (read_all 
 abbrev pub IsChange : Tree → Call → NfsProcedure → Change → Type 0
 IsChange t call p r = (r.reply ≡ reply_of t call p) × (r.is_entry ≡ changes_of t call p)
 
--- the entry that the journal gets where the call is one
+-- the entry of the journal for this request, if it is a change
 abbrev pub entry_of : Request → Entry
 entry_of r = record { moment = r.moment; cred = r.cred.now; proc = r.proc; args = r.arguments.now }
 

@@ -21,12 +21,12 @@ RepliesStay =
     (s : Setup) (J K : List Entry) (place : ℕ) (m : Moment) (payload : List ℕ) → place ≤ length J
     → plain_reply s (J ++ K) place m payload ≡ plain_reply s J place m payload
 
--- what an answer adds to the journal is told by the call and the reply
+-- what an answer adds to the journal is a function of the call and the reply
 abbrev pub RepliesTellEntries : Type 0
 RepliesTellEntries =
     (prm : Parameters) (st : State) (m : Moment) (payload : List ℕ) (a : Answer) → plain_answer prm st m payload ≡ Some a → a.entries ≡ entries_of_call m payload a.reply
 
--- the reply at a place is that of an answer over the entries before it, which adds what the call and the reply tell
+-- the reply at a place is that of an answer over the entries before it, which adds what the call and the reply determine
 abbrev pub RepliesAreThoseOfAnswers : Type 0
 RepliesAreThoseOfAnswers =
     (s : Setup) (J : List Entry) (place : ℕ) (m : Moment) (payload reply : List ℕ) → plain_reply s J place m payload ≡ Some reply
@@ -44,8 +44,8 @@ abbrev pub ProceduresKeepTreesSane : Type 0
 ProceduresKeepTreesSane =
     (t : Tree) (c : Caller) (space : Space) (now : Time) (p : NfsProcedure) (a : NfsArguments p) → IsSane t → IsSane (nfs_tree t c space now p a)
 
--- So the tree at each place of a journal is sane where the first one is. The journal may be any: an entry whose call is refused at its
--- place, or whose arguments can't be read, leaves the tree. At a place past the end the tree is that after all entries.
+-- So the tree at each place of a journal is sane if the first one is. The journal may be any: an entry whose call is refused at its place, or
+-- whose arguments can't be read, leaves the tree. At a place past the end the tree is that after all entries.
 abbrev pub TreesStaySane : Type 0
 TreesStaySane = (s : Setup) (J : List Entry) (k : ℕ) → IsSane s.tree → IsSane (tree_at s J k)
 

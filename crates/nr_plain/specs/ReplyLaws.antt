@@ -30,12 +30,12 @@ abbrev pub PlacedRepliesBeginWithTheXid : Type 0
 PlacedRepliesBeginWithTheXid = (s : Setup) (J : List Entry) (place : ℕ) (m : Moment) (payload reply : List ℕ) → IsBytes payload →
     plain_reply s J place m payload ≡ Some reply → xid_of_reply (reply_of reply) ≡ xid_of_call (call_of payload)
 
--- There is a reply, at any place, to just the payloads that begin with a call head.
+-- There is a reply, at any place, if and only if the payload begins with a call head.
 abbrev pub CallsAloneHaveReplies : Type 0
 CallsAloneHaveReplies = (s : Setup) (J : List Entry) (place : ℕ) (m : Moment) (payload : List ℕ) →
     is_some (plain_reply s J place m payload) ≡ is_ok (call_of payload)
 
--- A reply at a place of a journal is no longer than its call's program, version and procedure let it be, where the first tree is sane.
+-- A reply at a place of a journal is no longer than its call's program, version and procedure let it be, if the first tree is sane.
 abbrev pub RepliesAreWithinTheirLimit : Type 0
 RepliesAreWithinTheirLimit = (s : Setup) (J : List Entry) (place : ℕ) (m : Moment) (payload reply : List ℕ) → IsSane s.tree → IsBytes payload →
     plain_reply s J place m payload ≡ Some reply → length reply ≤ largest_reply payload
@@ -45,19 +45,19 @@ abbrev pub ChangesAreShort : Type 0
 ChangesAreShort = (s : Parameters) (st : State) (m : Moment) (payload : List ℕ) (a : Answer) → plain_answer s st m payload ≡ Some a →
     a.entries ≢ [] → length a.reply ≤ most_reply
 
--- So every offer within the limits of a header holds it, where a Send back may have send_max bytes or more.
+-- So every offer within the limits of a header holds it, if a Send back may have send_max bytes or more.
 abbrev pub ChangesFitEveryOffer : Type 0
 ChangesFitEveryOffer = (s : Parameters) (st : State) (m : Moment) (payload : List ℕ) (a : Answer) (offer : ChunkLists) (down : ℕ) →
     plain_answer s st m payload ≡ Some a → a.entries ≢ [] → ListsWithin offer → send_max ≤ down →
     answer_of_target offer down a.reply (target_of (call_of payload)) ≢ None
 
--- So does it at any place of a journal, where the call and the reply tell that there is an entry.
+-- So does it at any place of a journal, if the call and the reply say that there is an entry.
 abbrev pub PlacedChangesFitEveryOffer : Type 0
 PlacedChangesFitEveryOffer = (s : Setup) (J : List Entry) (place : ℕ) (m : Moment) (payload reply : List ℕ) (offer : ChunkLists) (down : ℕ) →
     plain_reply s J place m payload ≡ Some reply → entries_of_call m payload reply ≢ [] → ListsWithin offer → send_max ≤ down →
     answer_of_target offer down reply (target_of (call_of payload)) ≢ None
 
--- What a call offers in the form Auto holds its reply at each place of a journal, where the first tree is sane.
+-- What a call offers in the form Auto holds its reply at each place of a journal, if the first tree is sane.
 abbrev pub AutoOffersHoldTheirReplies : Type 0
 AutoOffersHoldTheirReplies = (s : Setup) (J : List Entry) (place : ℕ) (m : Moment) (payload reply : List ℕ) (up down stag : ℕ) (p : Plan) → IsSane s.tree →
     IsBytes payload → plain_reply s J place m payload ≡ Some reply → send_max ≤ down → plan_of payload forms.Auto up down ≡ Ok p →
@@ -67,6 +67,6 @@ AutoOffersHoldTheirReplies = (s : Setup) (J : List Entry) (place : ℕ) (m : Mom
 abbrev pub plain_server : Setup → PlainServer
 plain_server s = record { Replies = λ J m payload reply. plain_reply s J (length J) m payload ≡ Some reply; adds = entries_of_call }
 
--- It keeps what a run asks of a plain server, where the first tree is sane.
+-- It keeps what a run asks of a plain server, if the first tree is sane.
 abbrev pub ServerIsPlain : Type 0
 ServerIsPlain = (s : Setup) → IsSane s.tree → KeepsReplyLimits (plain_server s)

@@ -10,16 +10,17 @@ use Rattle.nr_nfs_res.specs.declared.create.CreateOk.{CreateOk}
 abbrev pub head_size : ℕ
 head_size = 24
 
--- The most bytes of the results of a procedure that changes files, which are those of CREATE on success (RFC 1813 section
--- 3.3.8): the status, a handle of 64 bytes, the attributes of the object, and those of the directory before and after.
+-- The maximum length of the results of a procedure that changes files, which are those of CREATE on success (RFC 1813
+-- section 3.3.8): the status, a handle of 64 bytes, the attributes of the object, and those of the directory before and
+-- after.
 abbrev pub most_results : ℕ
 most_results = 280
 
--- the most bytes of a reply with such results
+-- the maximum length of a reply with such results, in bytes
 abbrev pub most_reply : ℕ
 most_reply = head_size + most_results
 
--- the most bytes of a handle (RFC 1813 section 2.4, NFS3_FHSIZE)
+-- the maximum length of a handle in bytes (RFC 1813 section 2.4, NFS3_FHSIZE)
 abbrev pub longest_handle : ℕ
 longest_handle = 64
 

@@ -1,5 +1,5 @@
-//! The procedures of NFS that change the tree. The room of the reply is taken before the change, so that want of memory leaves the
-//! tree as before.
+//! The procedures of NFS that change the tree. The room of the reply is taken before the change, so that running out of memory
+//! leaves the tree as before.
 
 ghost use Rattle.std.specs.Prelude.{◌≡◌, [], false, Ok, IfOk, OnOk, OnErr};
 ghost use Rattle.nr_xdr.specs.Room.{HasRoom};
@@ -57,7 +57,7 @@ fn is_done<D, F>(results: &StatusUnion<D, F>) -> bool
     matches!(results, StatusUnion::Done(_))
 }
 
-/// The reply with these results, which is an entry where their status is 0. Takes no memory.
+/// The reply with these results, which is an entry if their status is 0. Takes no memory.
 fn reply<D: Xdr, F: Xdr>(room: RoomWriter, xid: u32, results: StatusUnion<D, F>) -> Change
     requires empty { room.bytes ≡ [] }
     requires room { HasRoom room (results_reply xid (nfs_result D.codec F.codec) results) }

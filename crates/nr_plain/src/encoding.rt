@@ -1,4 +1,4 @@
-//! Arguments read, and results written behind the head of a reply.
+//! Arguments read, and results written after the head of a reply.
 
 ghost use Rattle.std.specs.Prelude.{◌≡◌, ◌<◌, [], ◌++◌, length, IfOk, IfErr, OnOk};
 ghost use Rattle.nr_nfs_base.specs.Codec.{read_all, read_or_none};
@@ -13,7 +13,7 @@ use nr_rpc::{ReplyHead, write_reply, write_reply_head};
 use nr_xdr::{Memory, Octets, RoomWriter};
 use std::alloc::Global;
 
-/// The arguments that all of the bytes are read as; none where they are no encoding of the type.
+/// The arguments that all of the bytes are read as; none if they are no encoding of the type.
 pub(crate) fn read_arguments<A: Xdr>(alloc: Global, arguments: &[u8]) -> Result<Option<A>, Memory>
     ensures { IfOk result (λ o. o ≡ read_or_none (read_all A.codec arguments.now)) }
 {

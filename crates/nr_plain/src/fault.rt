@@ -8,7 +8,7 @@ use nr_xdr::Memory;
 /// Why a call gets no reply. The server is as before.
 #[derive(Clone, Copy, Debug, PartialEq, Eq)]
 pub enum Fault {
-    /// The payload begins with no call head. `at` is the place of the first item that fails, in bytes from the front.
+    /// The payload begins with no call head. `at` is the offset of the first item that fails, in bytes from the front.
     NotCall { at: usize },
     /// Memory ran out.
     Memory,

@@ -1,4 +1,4 @@
-//! Laws of the journal: what a reply depends on, what it tells, and which trees there are.
+//! Laws of the journal: what a reply depends on, which entry it means, and which trees there are.
 
 ghost use Rattle.nr_plain.specs.JournalLaws.{RepliesStay, RepliesTellEntries, RepliesAreThoseOfAnswers, UnchangingRepliesDoNotDependOnTheMoment, ProceduresKeepTreesSane, TreesStaySane, FailuresLeaveTheTree};
 
@@ -7,7 +7,7 @@ pub fn replies_stay()
     ensures { RepliesStay }
 {}
 
-/// A call adds an entry to the journal exactly where it is one of the ten procedures that change the tree and its reply has status 0.
+/// A call adds an entry to the journal if and only if it is one of the ten procedures that change the tree and its reply has status 0.
 pub fn replies_tell_entries()
     ensures { RepliesTellEntries }
 {}
@@ -24,7 +24,7 @@ pub fn unchanging_replies_do_not_depend_on_the_moment()
     ensures { UnchangingRepliesDoNotDependOnTheMoment }
 {}
 
-/// Each procedure leaves a sane tree sane, so the tree at each place of a journal is sane where a server was opened with a sane one.
+/// Each procedure leaves a sane tree sane, so the tree at each place of a journal is sane if a server was opened with a sane one.
 pub fn trees_stay_sane()
     ensures step { ProceduresKeepTreesSane }
     ensures tree { TreesStaySane }

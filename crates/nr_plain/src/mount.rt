@@ -48,7 +48,6 @@ fn mount(alloc: Global, export: &[u8], arguments: MntArgs) -> Result<MntRes, Mem
     }
 }
 
-/// MNT.
 fn mnt(alloc: Global, xid: u32, export: &[u8], arguments: &[u8]) -> Result<Octets, Memory>
     ensures { IfOk result (λ o. o ≡ mount_reply xid export.now procedures.Mnt arguments.now) }
 {

@@ -45,7 +45,7 @@ pub(crate) trait Changing: Xdr {
     /// The results on success.
     type Done: Xdr;
 
-    /// What stands behind the status of a failure.
+    /// What follows the status of a failure.
     type Failed: Xdr;
 
     /// The results over a tree.

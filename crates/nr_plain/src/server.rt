@@ -337,7 +337,7 @@ fn entry_cost(arguments: &[u8]) -> u64
     ENTRY_COST + arguments.len() as u64
 }
 
-/// The bytes from a place on.
+/// The bytes from an offset on.
 fn rest(payload: &[u8], at: usize) -> &[u8]
     requires { at ≤ length payload.now }
     ensures { result.now ≡ drop at payload.now }

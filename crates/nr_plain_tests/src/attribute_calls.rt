@@ -49,7 +49,7 @@ static ROWS: [Row; 65] = [
         "0 SETATTR 8 0 2 0*3 1 0 3 0 0 1 10d 5",
         "NFS3_OK 1 0 5 0 0 10d 5 1 1 fac 1 0*3 3 0 3 0*3 1 0 2 0 0 10f 5 10f 5",
     ),
-    // zeros behind, mtime of the client, atime of the server
+    // zeros after the end, mtime of the client, atime of the server
     (
         "0 SETATTR 8 0 2 0*3 1 0 7 1 2 1 2 0",
         "NFS3_OK 1 0 3 10f 5 10f 5 1 1 fac 1 0*3 7 0 7 0*3 1 0 2 110 5 1 2 110 5",
@@ -98,7 +98,7 @@ static ROWS: [Row; 65] = [
         "0 SETATTR 8 0 8 0*3 1 0 1000000 0*3",
         "NFS3_OK 1 0*6 1 1 1b6 1 0*3 1000000 0 1000000 0*3 1 0 8 0 0 119 5 119 5",
     ),
-    // behind it
+    // past it
     (
         "0 WRITE 8 0 8 0 1000000 1 2 1 61000000",
         "NFS3ERR_FBIG 1 0 1000000 119 5 119 5 1 1 1b6 1 0*3 1000000 0 1000000 0*3 1 0 8 0 0 119 5 119 5",

@@ -132,7 +132,7 @@ pub fn answered(
     Ok((reply.place, reply.payload.into_vec()))
 }
 
-/// What stands before the first space, and behind it.
+/// What stands before the first space, and after it.
 fn parted(text: &str) -> (&str, &str) {
     match text.split_once(' ') {
         Some(parts) => parts,
@@ -165,7 +165,7 @@ pub fn replied(rt: &impl Abort, alloc: Global, xid: u32, results: &str) -> Vec<u
     bytes
 }
 
-/// Ends the test where the reply to this call of a table is another one, or has another place than the journal's length.
+/// Ends the test if the reply to this call of a table is another one, or has another place than the journal's length.
 pub fn gives(
     rt: &impl Abort,
     alloc: Global,

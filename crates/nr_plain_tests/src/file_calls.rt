@@ -75,7 +75,7 @@ static ROWS: [Row; 52] = [
         "0 READ 8 0 2 0 c 0",
         "NFS3_OK 1 1 1b6 1 0*3 c 0 c 0*3 1 0 2 0 0 10b 5 10b 5 0 1 0",
     ),
-    // far behind the end
+    // far past the end
     (
         "0 READ 8 0 2 ffffffff*3",
         "NFS3_OK 1 1 1b6 1 0*3 c 0 c 0*3 1 0 2 0 0 10b 5 10b 5 0 1 0",
@@ -85,7 +85,7 @@ static ROWS: [Row; 52] = [
         "0 WRITE 8 0 2 0 64 0 2 0",
         "NFS3_OK 1 0 c 10b 5 10b 5 1 1 1b6 1 0*3 c 0 c 0*3 1 0 2 0 0 10b 5 10b 5 0 2 0 1",
     ),
-    // no bytes behind the limit
+    // no bytes past the limit
     (
         "0 WRITE 8 0 2 0 1000001 0 2 0",
         "NFS3ERR_FBIG 1 0 c 10b 5 10b 5 1 1 1b6 1 0*3 c 0 c 0*3 1 0 2 0 0 10b 5 10b 5",

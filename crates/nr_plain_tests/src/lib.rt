@@ -1,4 +1,5 @@
-//! Tests of the plain server (`nr_plain`): calls with their whole replies, worked out by hand from RFC 1813 and RFC 5531.
+//! Tests of the plain server (`nr_plain`): calls with their complete replies, worked out by hand from RFC 1813 and
+//! RFC 5531.
 //!
 //! They stand in a crate of their own, above the crate that they test, since a crate with tests is proved twice.
 #![tactic(auto)]

@@ -9,7 +9,7 @@ use std::process::Abort;
 /// A capacity for all these calls.
 const AMPLE: u64 = 1_000_000_000;
 
-/// What stands before and behind the name of a call that is made again and again.
+/// What stands before and after the name of a call that is made again and again.
 type Around = (&'static str, &'static str);
 
 /// LINK of `hello` in `many`.
@@ -63,7 +63,7 @@ fn call_named(rt: &impl Abort, alloc: Global, server: &mut Server, around: Aroun
     drop(answered(alloc, server, 0, payload.as_slice()));
 }
 
-/// Makes a call with so many names, each of which is an entry of the journal.
+/// Makes a call with `count` names, each of which is an entry of the journal.
 fn call_often(rt: &impl Abort, alloc: Global, server: &mut Server, around: Around, count: u32) {
     for number in 0..count {
         call_named(rt, alloc, server, around, number);

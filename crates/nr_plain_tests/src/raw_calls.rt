@@ -8,7 +8,7 @@ use std::process::Abort;
 
 /// The words of a call's payload, and those of its reply.
 static ROWS: [(&str, &str); 51] = [
-    // RPC version 3: denied; nothing behind it is read
+    // RPC version 3: denied; nothing after it is read
     ("0 0 3", "0 1 1 0 2 2"),
     // RPC version 0
     ("1 0 0 186a3 3 0 1 14 0*7", "1*3 0 2 2"),
@@ -147,7 +147,7 @@ static ROWS: [(&str, &str); 51] = [
     ),
 ];
 
-/// Words, how many zero bytes stand behind them, and the place at which they are no call.
+/// Words, how many zero bytes follow them, and the offset at which they are no call.
 static NO_CALLS: [(&str, usize, usize); 13] = [
     // no bytes
     ("", 0, 0),
@@ -202,7 +202,7 @@ fn raw_calls(rt: HostRuntime) {
     }
 }
 
-/// Where the words and this many zero bytes behind them are no call.
+/// The offset at which the words, with this many zero bytes after them, are no call.
 fn refused_at(
     rt: &impl Abort,
     alloc: Global,

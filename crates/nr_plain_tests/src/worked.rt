@@ -82,7 +82,7 @@ static LISTED: [Worked; 7] = [
         "NFS3_OK 1 2 1ff 2 0*9 1 0 4 0*8 1 0 5 3 66303000 0 1",
         "1 0 68 3 66393900 0 64 0 1",
     ),
-    // behind the end
+    // past the end
     (
         "0 READ 8 0 2 0 5 5",
         0,

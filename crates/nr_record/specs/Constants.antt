@@ -1,7 +1,7 @@
 -- The numbers of this crate, each written once more.
 use Rattle.std.specs.Prelude.{ℕ}
 
--- the most bytes in a record
+-- the maximum length of a record in bytes
 abbrev pub RECORD_MAX : ℕ
 RECORD_MAX = 1056768
 

@@ -34,7 +34,7 @@ IsOutOfMemory k = k.fault ≡ Some Memory
 abbrev pub KeepsWaiting : Kept → Kept → Type 0
 KeepsWaiting k l = (more : List WaitingRecord) × (l.waiting ≡ k.waiting ++ more)
 
--- x is at this place of the list
+-- x is at this index of the list
 abbrev pub IsAt : List (List ℕ) → ℕ → List ℕ → Type 0
 IsAt xs k x = get_elem? xs k ≡ some x
 

@@ -59,7 +59,7 @@ pub record RecordsEncode (bytes : List ℕ) (records : List (List ℕ)) (rest : 
   pub bytes_are : bytes ≡ encodings cuts ++ rest
   pub begun : IsBegun rest
 
--- at this offset of the stream stands the header of a fragment whose length takes its record above the limit
+-- the header of a fragment whose length takes its record above the limit begins at this offset of the stream
 pub record IsAboveAt (stream : List ℕ) (at : ℕ) : Type 0 where
   pub cuts : List Cut
   pub fit : AllByRecursion Fits cuts

@@ -1,6 +1,6 @@
 //! The numbers of record marking.
 
-/// The most bytes in a record.
+/// The maximum length of a record in bytes.
 pub const RECORD_MAX: usize = 1056768;
 /// Bytes of a fragment's header (RFC 5531 section 11).
 pub const HEADER_LEN: usize = 4;

@@ -14,10 +14,10 @@ impl Records {
     ghost use Rattle.nr_record.specs.Records.{IsAboveAt};
     ghost use Rattle.nr_record.specs.private.Step.{ended, with_header, with_byte, with_payload, with_fault};
 
-    /// Takes in the next bytes of the stream. `Bad` exactly if the length of a fragment takes the sum of its record above 1056768;
-    /// `at` is the offset of the header of the first such fragment. A fault is kept, and each later call answers it again. The
-    /// records that end before it are kept too. No answer loses a record that waits, or takes back what was read. At most 2^62 bytes
-    /// may be fed in all.
+    /// Takes in the next bytes of the stream. `Bad` if and only if the length of a fragment takes the sum of its record above
+    /// 1056768; `at` is the offset of the header of the first such fragment. A fault is kept, and each later call answers it again.
+    /// The records that end before it are kept too. No answer loses a record that waits, or takes back what was read. At most 2^62
+    /// bytes may be fed in all.
     pub fn feed(&mut self, piece: &[u8]) -> Result<(), RecordFault>
         requires { (kept self.old).count + length piece.now ≤ 2 ^ 62 }
         ensures stands { (stream : List ℕ) (taken : ℕ) → StandsFor (kept self.old) stream taken → StandsFor (kept self.new) (stream ++ piece.now) taken }

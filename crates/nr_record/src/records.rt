@@ -12,7 +12,9 @@ use std::collections::VecDeque;
 /// A record that is complete and not taken. `at` is the offset of its first byte in the stream.
 #[derive(Drop)]
 pub struct WaitingRecord {
+    /// The offset of the record's first byte in the stream, in bytes.
     pub at: u64,
+    /// The bytes of the record, without its marks.
     pub bytes: Octets,
 }
 
@@ -71,7 +73,7 @@ impl Records {
     ghost use Rattle.nr_record.specs.Records.{contents, encodings};
     ghost use Rattle.nr_record.specs.Kept.{kept, StandsFor, IsAt};
 
-    /// The next record of the stream, in their order. `None` exactly if no complete record waits. Takes no memory.
+    /// The next record of the stream, in their order. `None` if and only if no complete record waits. Takes no memory.
     pub fn next_record(&mut self) -> Option<Octets>
         ensures next { (stream : List ℕ) (taken : ℕ) (s : StandsFor (kept self.old) stream taken) →
             MatchOption result (taken ≡ length s.cuts) (λ bytes. IsAt (contents s.cuts) taken bytes × StandsFor (kept self.new) stream (taken + 1)) }

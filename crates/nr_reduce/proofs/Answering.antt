@@ -137,7 +137,7 @@ answered read ws rs w r down prog vers proc reply a fits e =
 
 -- ---- What its Writes leave
 
--- the first bytes of a region that was bytes_after_write from its front
+-- the first bytes of a region that was written from its front
 front_written : (old bytes : List ℕ) → take (length bytes) (bytes_after_write old 0 bytes) ≡ bytes
 front_written old bytes = take_at bytes (drop (0 + length bytes) old) (length bytes) refl
 

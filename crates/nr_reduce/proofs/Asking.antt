@@ -79,7 +79,7 @@ stream_in payload Short = payload
 stream_in payload (Chunked i) = stream_of payload i
 stream_in payload Long = []
 
--- where an item stands in a payload that fits
+-- the position of an item in a payload that fits
 pub record Placed (payload : List ℕ) (i : Item) : Type 0 where
   pub least : 4 ≤ i.pos
   pub size : i.pos + i.len ≤ length payload
@@ -307,7 +307,7 @@ brings_way payload memory stag Long w r is holds =
     ∙ ap (λ (xs : List ℕ). take (length payload) xs) holds
     ∙ take_all (length payload) payload (omega arith)
 
--- The same by its own memory: where the STag of its read chunk holds its region.
+-- The same by its own memory: if the STag of its read chunk holds its region.
 pub asks_from : (payload : List ℕ) (form : Form) (up down stag : ℕ) (p : Plan) (memory : Bytes) → IsBytes payload → IsNotGiven form → plan_of payload form up down ≡ Ok p → memory (read_stag stag p) ≡ p.region
     → ChunkHolds (read_bytes memory (lists_of stag p).read) p
 asks_from payload form up down stag p memory fits own e holds =

@@ -21,7 +21,7 @@ parts_by_total of ((s ∷ chunk) ∷ chunks) reply = by (reducible_item of reply
     by None = refl
     by (Some i) = refl
 
--- what a message has so far passes its room, and so does the whole message
+-- what a message has so far passes its room, and so does the complete message
 pub passes : (chunks : List (List RdmaSegment)) (i len need down : ℕ) → need ≡ 28 + len + sum_by (λ (chunk : List RdmaSegment). 8 + 16 * length chunk) (take i chunks) → down < need
     → false ≡ leb (answer_size chunks + len) down
 passes chunks i len need down e lt = sym (lt-leb _ _ (omega (arith, e, sum_by-take-le (λ (chunk : List RdmaSegment). 8 + 16 * length chunk) chunks i)))

@@ -62,7 +62,7 @@ one_of_xid (x ∷ cs) below c d h (inl i) (inr j) e = absurd (let lt = above x.x
 one_of_xid (x ∷ cs) below c d h (inr i) (inl j) e = absurd (let lt = above x.xid cs c h.1.0 i in let same = ap (λ (y : KeptCall). y.xid) j in omega (arith, lt, same, e))
 one_of_xid (x ∷ cs) below c d h (inr i) (inr j) e = one_of_xid cs below c d h.1.1 i j e
 
--- ---- The region under an STag, where some are closed
+-- ---- The region under an STag, if some are closed
 
 abbrev pub closed_option : (Region → Bool) → ℕ → Option Region → Option Region
 closed_option test place None = None

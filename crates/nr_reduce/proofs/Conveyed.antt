@@ -203,7 +203,7 @@ known_later opened es event k h = record {
   ready = each_with (WasConveyed opened es) (WasConveyed opened (es ++ event ∷ [])) (ready_later opened es event) k.ready h.ready;
 }
 
--- the call of the message that a frame makes whole
+-- the call of the message that a frame completes
 made_now : (opened : LinkParameters) (es : List RunEvent) (f : Frame) (segment : Segment) (message : List ℕ) → is_hello f ≡ false → frame_segment f ≡ Ok segment → message_completed (server_by opened es).received segment ≡ Some message
     → (v : Verdict) → Made (OfHeader (server_by opened es) message (header_of message)) v → Made (IsReceivedCall opened (es ++ FrameReceived f ∷ [])) v
 made_now opened es f segment message behind is whole (EndsLink reason) m = tt

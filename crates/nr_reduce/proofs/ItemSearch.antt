@@ -1,4 +1,4 @@
--- An item is found by what stands before it: the stream that is cut off at the item's place has the same item.
+-- An item is found by what precedes it: the stream that is cut off at the item's position has the same item.
 use Rattle.std.proofs.Common.{◌≡◌, ℕ, ◌+◌, ◌≤◌, Bool, cond, ◌&&◌, eqb, List, [], ◌∷◌, ◌++◌, length, take, drop, Option, Some, None, Result, Ok, Err, refl, sym, ap, subst, ◌∙◌, arith, append_assoc, append-nil, length-append, inl, inr}
 use Rattle.std.proofs.lemmas.List.{take-append-drop, take_at, drop_at}
 use Rattle.nr_xdr.specs.Item.{Item as XdrItem, IsBytes}
@@ -76,7 +76,7 @@ of_codec {A} c lawful at after fits e =
           (lawful.encoded_is_read (standing at.place (r.bytes ++ more)) b.0.0 (standing b.0.1.place more) taken.0 (r.again more));
     })
 
--- an item that was found, by so many bytes
+-- an item that was found after these bytes
 pub record Found (read : Cursor → Result Cursor ℕ) (c : Cursor) (i : Item) : Type 0 where
   pub bytes : List ℕ
   pub behind : List ℕ
@@ -89,7 +89,7 @@ by_ok : (r : Result (ℕ × Cursor) ℕ) (i : Item) → item_by r ≡ Some i →
 by_ok (Ok x) i e = (x, refl, (let s : record { pos = x.1.place; len = x.0 } ≡ i = cc in ap (λ (j : Item). j.pos) (sym s)), (let s : record { pos = x.1.place; len = x.0 } ≡ i = cc in sym s))
 by_ok (Err at) i e = absurd cc
 
--- a number was read behind a front: the item
+-- a number was read after a front: the item
 found : (read : Cursor → Result Cursor ℕ) → Local read → (c : Cursor) (i : Item) → IsBytes c.rest → item_at (read c) ≡ Some i → Found read c i
 found read local c i fits e =
     let r = by_ok (read c >>= number_at) i e in
@@ -113,7 +113,7 @@ found read local c i fits e =
           ∙ ap Some (sym r.3);
     }
 
--- what is cut off at the item's place
+-- what is cut off at the item's position
 pub record Cut (payload front bytes : List ℕ) (start pos : ℕ) : Type 0 where
   pub stream : take pos payload ≡ front ++ bytes
   pub arguments : drop start (take pos payload) ≡ bytes
@@ -130,7 +130,7 @@ cut_at payload front behind bytes more start pos parts at rest place =
       enough = omega (arith, len, ap length whole, length-append (front ++ bytes) more);
     }
 
--- The item stands behind its length word, within the payload, and its stream has it.
+-- The item comes after its length word, within the payload, and its stream has it.
 pub record Stands (of : Of) (payload : List ℕ) (i : Item) : Type 0 where
   pub least : 4 ≤ i.pos
   pub enough : i.pos ≤ length payload
@@ -158,7 +158,7 @@ local_read : Local before_read
 unfolding before_read
 local_read = of_codec read_res_front (success_lawful ⊠ read_ok_front_lawful)
 
--- behind a head
+-- after a head
 after_head : (read : Cursor → Result Cursor ℕ) → Local read → (payload front behind : List ℕ) (start : ℕ) (i : Item) → IsBytes payload → payload ≡ front ++ behind → start ≡ length front → item_at (read (from_place start payload)) ≡ Some i
     → (4 ≤ i.pos) × (i.pos ≤ length payload) × ((bytes : List ℕ) × (take i.pos payload ≡ front ++ bytes)) × (item_at (read (from_place start (take i.pos payload))) ≡ Some i)
 after_head read local payload front behind start i fits parts at e =

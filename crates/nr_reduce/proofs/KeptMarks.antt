@@ -50,7 +50,7 @@ one_output opened e event none = ap (λ (xs : List ℕ). xs ++ []) none
 none_more : (n : ℕ) (xs : List ℕ) → xs ≡ [] → n + length xs ≡ n
 none_more n xs none = ap (λ (ys : List ℕ). n + length ys) none ∙ omega arith
 
--- the input stays where nothing is fed
+-- the input stays if nothing is fed
 same_input : (link : ℕ) (run : List Mark) (input : InputState) (fed : List ℕ) → fed ≡ [] → input ≡ input_of Responder (bytes_received link Initiator run) → input ≡ input_after input fed
 same_input link run input fed none is =
     let stream = bytes_received link Initiator run in
@@ -95,7 +95,7 @@ revoke_stands_lem opened link kept input queue run xid bytes s =
     (kept_revokes opened kept e count xid s.keeps)
     (sym (append-nil queue) ∙ ap (λ (xs : List ℕ). queue ++ xs) (sym (one_output opened e event (revoke_output opened e count xid))))
 
--- a mark of revoke at which nothing is due, as the run tells
+-- a mark of revoke at which nothing is due, as the run says
 revoke_at : (link : ℕ) (run : List Mark) (xid : ℕ) (bytes : List ℕ) → events_at link Initiator run (marks.Revoke link xid bytes) ≡ MemoryRevoked (length (bytes_received link Initiator run)) xid ∷ []
 revoke_at link run xid bytes = own_events link (MemoryRevoked (length (bytes_received link Initiator run)) xid ∷ [])
 

@@ -1,5 +1,5 @@
--- Memory that holds the open regions of an end holds them from event to event: at a later place, after an access, where regions are
--- closed, and where one more is after_register.
+-- Memory that holds the open regions of an end holds them from event to event: at a later offset, after an access, when regions are
+-- closed, and when one more is registered.
 use Rattle.std.proofs.Common.{◌≡◌, ◌≢◌, ℕ, ◌<◌, ◌≤◌, Bool, true, false, cond, ◌&&◌, eqb, leb, ltb, List, [], ◌∷◌, ◌++◌, length, map, Option, None, Some, refl, sym, ap, subst, ◌∙◌, arith, inl, inr}
 use Rattle.std.specs.Prelude.{IfSome}
 use Rattle.std.proofs.lemmas.Bool.{eqb-true, eq-eqb, ne_eqb, cases_eq, le-leb, le-ltb}
@@ -59,7 +59,7 @@ pub denied_alike : (regions : List Region) (accesses_received : List TaggedSegme
 denied_alike regions accesses_received place end m access fits holds lt =
     judged regions accesses_received place end m access fits holds lt (λ r e. region_length place place access.stag regions accesses_received r fits e)
 
--- ---- A later place
+-- ---- A later offset
 
 self_alike : (place now later : ℕ) (regions : List Region) → place ≤ now → place ≤ later → AreAlike place now later regions regions
 self_alike place now later [] low high = tt
@@ -227,7 +227,7 @@ at_append (y ∷ regions) r stag o e = by (eqb y.stag stag) refl e (λ h. at_app
         ap (λ (b : Bool). cond b (Some y) (region_at (regions ++ r ∷ []) stag)) is ∙ ap (λ (q : Option Region). or_region q (cond (eqb r.stag stag) (Some r) None)) e
     by false is e later = ap (λ (b : Bool). cond b (Some y) (region_at (regions ++ r ∷ []) stag)) is ∙ later e
 
--- a region that begins at a place is granted to no frame that ends there or before
+-- a region that begins at an offset is granted to no frame that ends there or before
 append_offers : (now place stag end : ℕ) (regions : List Region) (r : Region) → r.from ≡ place → end ≤ place → grant_offer (found stag end (grants_from now regions)) ≡ grant_offer (found stag end (grants_from now (regions ++ r ∷ [])))
 append_offers now place stag end [] r from le =
     (let none : ltb r.from end ≡ false = le-ltb r.from end (omega (arith, from, le)) in
@@ -247,7 +247,7 @@ none_offered : (place now end stag : ℕ) (regions : List Region) (r : Region) �
 none_offered place now end stag regions r none from le =
     sym (append_offers now place stag end regions r from le) ∙ ap grant_offer (none_found_lem now end stag regions none)
 
--- without an region_offer nothing is placed
+-- without an offer nothing is placed
 after_empty : (stag : ℕ) (bytes : List ℕ) (r : TaggedSegment) → after_segment [] stag bytes r ≡ bytes
 unfolding grant_denial grant_at
 after_empty stag bytes r = by (eqb r.stag stag)
@@ -310,7 +310,7 @@ holds_registered regions accesses_received place m r received fresh is_next from
           ∙ ap (λ (o : Option Region). registered_region hs accesses_received o) (sym (at_append regions r stag None is))
     ]
 
--- ---- Regions and accesses along a after_events
+-- ---- Regions and accesses along a stream
 
 pub received_later : (place later : ℕ) (accesses_received : List TaggedSegment) → place ≤ later → AreReceived place accesses_received → AreReceived later accesses_received
 received_later place later [] le h = tt

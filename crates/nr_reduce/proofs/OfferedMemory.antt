@@ -1,4 +1,4 @@
--- The after_register memory of an end holds its open regions from event to event, and denies what the grants deny.
+-- The registered memory of an end holds its open regions from event to event, and denies what the grants deny.
 use Rattle.std.proofs.Common.{◌≡◌, ℕ, ◌<◌, ◌≤◌, Bool, true, false, cond, ◌&&◌, eqb, leb, ltb, List, [], ◌∷◌, length, map, Option, None, Some, refl, sym, ap, subst, ◌∙◌, arith, inl, inr}
 use Rattle.std.specs.Prelude.{IfSome, is_none}
 use Rattle.std.specs.List.{find}
@@ -12,7 +12,7 @@ use Rattle.nr_regions.proofs.Contents.{same_denial, after_other}
 use Rattle.nr_reduce.specs.OfferedRegions.{Region, until_or, region_grant, region_grants}
 use Rattle.nr_reduce.specs.OfferedMemory.{region_at, AreOffered, AreReceived, held_if_open, registered_region, HoldsRegions}
 
--- ---- What is granted where a frame ends
+-- ---- What is granted at the end of a frame
 
 abbrev pub grants_from : ℕ → List Region → List Grant
 grants_from place regions = map (region_grant place) regions
@@ -93,7 +93,7 @@ contents_same place gs hs stag bytes (r ∷ accesses_received) same h =
     ap (λ (b : List ℕ). contents gs stag b accesses_received) (after_same gs hs stag bytes r (same r.end h.0))
     ∙ contents_same place gs hs stag (after_segment hs stag bytes r) accesses_received same h.1
 
--- regions that are alike for frames up to a place: only their ends may differ, and those not before it
+-- regions that are alike for frames up to an offset: only their ends may differ, and those not before it
 pub record IsAlike (place one two : ℕ) (r s : Region) : Type 0 where
   pub stag : r.stag ≡ s.stag
   pub right : r.right ≡ s.right
@@ -125,7 +125,7 @@ alike_offers place one two stag end (r ∷ rs) (s ∷ ss) h le =
 
 -- ---- Access by access
 
--- to a frame that ends later an end offers what its grants region_offer, and so it denies what they deny
+-- to a frame that ends later an end offers what its grants offer, and so it denies what they deny
 pub judged : (regions : List Region) (accesses_received : List TaggedSegment) (place end : ℕ) (m : RegisteredMemory) (access : Access) → AreOffered place regions → HoldsRegions regions accesses_received place m → place < end →
     ((r : Region) → region_at regions access.stag ≡ Some r → length (contents (region_grants place regions) r.stag r.bytes accesses_received) ≡ length r.bytes) →
     denial m access ≡ grant_denial (region_grants end regions) access end

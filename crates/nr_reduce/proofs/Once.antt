@@ -98,7 +98,7 @@ fewer_filter p (x ∷ xs) n = fewer_one p x xs n (p x) (fewer_filter p xs n)
 
 -- ---- A frame
 
--- what a step leaves: reads and calls that are ready, with so many more of a number
+-- what a step leaves of each number, ready or still read for: at most what was read for it before, and `more` of it
 abbrev Adds : ServerState → FrameEffect → (ℕ → ℕ) → Type 0
 Adds k s more = (n : ℕ) → times_ready n s.ready + one_if (read_for n s.reads) ≤ one_if (read_for n k.reads) + more n
 
@@ -116,7 +116,7 @@ not-true : (b : Bool) → not b ≡ true → b ≡ false
 not-true true e = absurd cc
 not-true false e = refl
 
--- a call becomes ready once, where nothing of it is left to be read
+-- a call becomes ready once, when nothing of it is left to be read
 pub ready_times_ready : (n number : ℕ) (o : CallVerdict) (s : FrameEffect) → s.ready ≡ [] → ((r : ReadyCall) → o ≡ IsReady r → r.number ≡ number) → times_ready n (with_verdict o s).ready ≤ one_if (eqb number n)
 ready_times_ready n number (Refuses reason) s e h = (let a = ap (λ (xs : List ReadyCall). times_ready n xs) e in omega (arith, a))
 ready_times_ready n number (IsReady r) s e h = (let a = ap (λ (m : ℕ). one_if (eqb m n)) (h r refl) in omega (arith, a))
@@ -137,7 +137,7 @@ pub payload_number : (c : PendingCall) (p : Option (List ℕ)) (r : ReadyCall) �
 payload_number c None r e = absurd cc
 payload_number c (Some payload) r e = head_number c payload (call_of payload) r e
 
--- whole or not: the number of the call stands there once at most, and of the others what is left to be read
+-- complete or not: the number of the call stands there at most once, and of the others what is left to be read
 whole_adds : (k : ServerState) (place : ℕ) (c : PendingCall) (s : FrameEffect) (n : ℕ) → s.ready ≡ [] →
     times_ready n (ready_if_whole k place c s).ready + one_if (read_for n (ready_if_whole k place c s).reads) ≤ cond (eqb c.number n) 1 (one_if (read_for n s.reads))
 whole_adds k place c s n e = by (eqb c.number n) refl (is_read s.reads c.number) refl
@@ -332,7 +332,7 @@ goes_fresh k f s one h = record {
     at_most true = omega arith
     at_most false = omega arith
 
--- what a segment adds to the Sends that are whole
+-- what a segment adds to the Sends that are complete
 pub rises_with : (h : ReceiveState) (segment : Segment) → h.sends ≤ (received_after h segment).sends
 rises_with h (Tagged last opcode stag to payload) = omega arith
 rises_with h (Untagged last opcode w queue msn offset payload) = by (is_send opcode) (eqb opcode OPCODE_READ_REQUEST)
@@ -443,7 +443,7 @@ settled_later opened link n run (mark ∷ more) s =
     subst (λ (r : EndState ServerState). Settled n r.state) (sym (server_one opened link run mark)) (kept opened (Settled n) (settled_goes n) (server opened link run) (events_at link Responder run mark) s) in
     subst (λ (r : List Mark). Settled n (server opened link r).state) (append_assoc run (mark ∷ []) more) (settled_later opened link n (run ++ mark ∷ []) more next)
 
--- the first that is ready is told, and executed it is settled
+-- the first that is ready is executed, and is settled then
 pub first_times_ready : (ready : List ReadyCall) (ended : Option Stop) (r : ReadyCall) → first_ready ready ended ≡ Some r → (ended ≡ None) × (1 ≤ times_ready r.number ready) × (times_ready r.number (drop 1 ready) + 1 ≤ times_ready r.number ready)
 first_times_ready ready (Some end) r e = absurd cc
 first_times_ready [] None r e = absurd cc

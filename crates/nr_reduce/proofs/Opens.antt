@@ -40,7 +40,7 @@ IsCall (Nomsg lists) = Unit {0}
 IsCall (ErrVers version low high) = ⊥
 IsCall (ErrChunk version) = ⊥
 
--- what a header that was read tells of the first words
+-- what a header that was read says of the first words
 record Words (bytes : List ℕ) (h : Header) : Type 0 where
   xid : word_at 0 bytes ≡ h.xid
   version : eqb (word_at 4 bytes) 1 ≡ true
@@ -101,7 +101,7 @@ words bytes h e is = by (ltb (length bytes) 16) e
         let b = body_read (word_at 4 bytes) (word_at 12 bytes) bytes (error_by (word_at 12 bytes) bytes) h.body is (λ c f. no_error (word_at 12 bytes) bytes c f) a.1 in
         record { xid = a.0; version = b.0; done = b.1; error = b.2 }
 
--- What a server makes of a message whose header reads as a call's, where its xid isn't open.
+-- What a server makes of a message whose header reads as a call's, if its xid isn't open.
 pub judged_call : (k : ServerState) (message : List ℕ) (h : Header) → header_of message ≡ Ok h → IsCall h.body → is_pending k h.xid ≡ false → verdict k message ≡ by_body k h.xid message h.body
 unfolding verdict
 judged_call k message h e is free =

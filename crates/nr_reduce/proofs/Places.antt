@@ -1,4 +1,4 @@
--- A reader at a place, and where the heads of calls and replies end.
+-- A reader at an offset, and the offsets at which the heads of calls and replies end.
 use Rattle.std.proofs.Common.{◌≡◌, ℕ, ◌+◌, ◌*◌, ◌/◌, ◌≤◌, eqb, List, [], ◌∷◌, ◌++◌, length, take, drop, Option, Some, None, Result, Ok, Err, refl, sym, ap, subst, ◌∙◌, arith, length-append, zero-add, inl, inr}
 use Rattle.std.proofs.lemmas.Bool.{le-ltb}
 use Rattle.nr_xdr.specs.declared.fault.ItemFault.{ItemFault}
@@ -33,7 +33,7 @@ use Rattle.nr_reduce.specs.Largest.{count_of, read_count, readdir_count, readdir
 use Rattle.nr_reduce.specs.Plans.{target_offer, write_offer}
 use Rattle.nr_reduce.proofs.ItemSearch.{item_stands}
 
--- ---- A reader at a place
+-- ---- A reader at an offset
 
 fixed_there : (n : ℕ) (payload : List ℕ) → n ≤ length payload → pad_len n ≡ 0 → fixed_at n (record { place = 0; rest = payload }) ≡ Ok (take n payload, from_place n payload)
 unfolding fixed_at cursor_past
@@ -58,7 +58,7 @@ pub reader_there : {X : Type 0} (view : X → List ℕ) (r : Result X ItemFault)
 reader_there view r n payload new le padless g =
     by_gives view r (record { place = 0; rest = payload }) new (fixed_at n (record { place = 0; rest = payload })) (take n payload) (from_place n payload) (fixed_there n payload le padless) g
 
--- ---- Items have whole words
+-- ---- Items are multiples of a word
 
 record Words (n : ℕ) : Type 0 where
   count : ℕ
@@ -95,7 +95,7 @@ padless : (n : ℕ) → Words n → pad_len n ≡ 0
 unfolding pad_len
 padless n w = omega (arith, w.is)
 
--- a place behind a head
+-- an offset after a head
 pub record Behind (payload : List ℕ) (at : ℕ) : Type 0 where
   pub inside : at ≤ length payload
   pub words : pad_len at ≡ 0
@@ -114,7 +114,7 @@ by_call payload (Ok (calls.Version2 xid prog vers proc cred args_at)) t fits is 
 by_call payload (Ok (calls.Other xid rpcvers)) t fits is e = absurd cc
 by_call payload (Err at) t fits is e = absurd cc
 
--- Arguments begin behind whole words.
+-- Arguments begin at a multiple of a word.
 pub arguments_behind : (payload : List ℕ) (t : CallTarget) → IsBytes payload → target_of (call_of payload) ≡ Some t → Behind payload t.args_at
 arguments_behind payload t fits e = by_call payload (call_of payload) t fits refl e
 
@@ -139,7 +139,7 @@ results_behind payload at fits e = by_reply payload (reply_of payload) at fits r
 
 -- ---- Items
 
--- an item is read where what stands before it can be read
+-- an item is read if what precedes it can be read
 item_after : {A : Type 0} (r : Result (A × Cursor) ℕ) → item_at (r >>= λ x. Ok x.1) ≡ and_then (cursor_after r) (λ (c : Cursor). item_at (Ok c))
 item_after (Ok x) = refl
 item_after (Err at) = refl
@@ -164,7 +164,7 @@ pub ruleset items_of_calls = (item_in_write, item_in_symlink)
 
 pub ruleset items_of_replies = (item_in_readlink, item_in_read)
 
--- a count is read where what stands before it can be read
+-- a count is read if what precedes it can be read
 counted : (at : Cursor) → count_of (number_at at) ≡ value_of (unsigned_at at)
 counted at = by (unsigned_at at)
   where

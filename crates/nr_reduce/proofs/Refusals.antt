@@ -259,7 +259,7 @@ next_state_lem opened P k None event e p = by (server_end opened k event) e
     by None e = p
     by (Some end) e = absurd cc
 
--- where the server hasn't ended by then, nothing of the Send is ready
+-- if the server hasn't ended by then, nothing of the Send is ready
 none_ready : (opened : LinkParameters) (r : EndState ServerState) (f : Frame) (later : List RunEvent) (segment : Segment) (n : ℕ) → is_hello f ≡ false → frame_segment f ≡ Ok segment → Sound r.state → RefusesSend r.state f segment n
     → (end_state_after (server_rules opened) r (FrameReceived f ∷ later)).ended ≡ None → times_ready n (end_state_after (server_rules opened) r (FrameReceived f ∷ later)).state.ready ≡ 0
 none_ready opened r f later segment n behind is s refused stays = by refused

@@ -280,7 +280,7 @@ server_begins_lem opened link = record {
   output = refl;
 }
 
--- ---- What is written from a queue is due, and all of it where nothing is left
+-- ---- What is written from a queue is due, and all of it if nothing is left
 
 due_queue : (sent taken left due : List ℕ) → sent ++ (taken ++ left) ≡ due → IsPrefixOf (sent ++ taken) due × (left ≡ [] → IsAll (sent ++ taken) due)
 due_queue sent taken left due is = (

@@ -43,7 +43,8 @@ pub events_one : (link : ℕ) (side : Side) (run : List Mark) (mark : Mark) →
 unfolding events
 events_one link side run mark = events_from_one link side [] run mark
 
--- after one more mark a client is where its events of that mark bring it, and it has to write what they call for
+-- after one more mark a client is in the state to which its events of that mark bring it, and it has to write what they
+-- call for
 pub client_one : (opened : LinkParameters) (link : ℕ) (run : List Mark) (mark : Mark) →
     client opened link (run ++ mark ∷ []) ≡ end_state_after (client_rules opened) (client opened link run) (events_at link Initiator run mark)
 unfolding client

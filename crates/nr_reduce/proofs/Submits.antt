@@ -28,7 +28,7 @@ use Rattle.nr_reduce.proofs.Registering.{Registers, register_all, buffers_number
 
 -- ---- The Sends that have left
 
--- as many have left in both states
+-- the same number has left in both states
 record SendsStay (k k2 : ClientState) : Type 0 where
   first : k2.first_xid ≡ k.first_xid
   left : ends_left k2.written k2.send_ends ≡ ends_left k.written k.send_ends

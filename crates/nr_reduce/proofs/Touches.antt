@@ -28,7 +28,7 @@ use Rattle.nr_regions.proofs.Contents.{allowed_iff}
 use Rattle.nr_reduce.specs.EndRules.{end_state_after}
 use Rattle.nr_reduce.proofs.OwnStags.{own_stags, client_numbers, server_numbers}
 
--- where none stands, none of them does
+-- if none stands, none of them does
 abbrev pub AreNone : {X : Type 0} → List (Option X) → Type 0
 AreNone [] = Unit {0}
 AreNone (x ∷ xs) = (x ≡ None) × AreNone xs

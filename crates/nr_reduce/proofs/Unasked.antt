@@ -30,7 +30,7 @@ use Rattle.nr_reduce.specs.StandingLaws.{IsUnasked, NoCallBeforeHello, NothingDu
 use Rattle.nr_reduce.proofs.Steps.{server_one, output_due_down_one}
 use Rattle.nr_reduce.proofs.Standing.{received_one}
 
--- ---- A stream of which a hello is awaited has no whole frame
+-- ---- A stream of which a hello is awaited has no complete frame
 
 no_frames : (a : Awaited) (frames : List (List ℕ)) (peer : Side) → awaited_after a frames ≡ HelloFrom peer → (a ≡ HelloFrom peer) × (frames ≡ [])
 no_frames a [] peer e = (e, refl)

@@ -16,14 +16,14 @@ both true true e = (refl, refl)
 both true false e = absurd cc
 both false b e = absurd cc
 
--- zeros are told by their number
+-- zeros are determined by their number
 zeros : (xs : List ℕ) → list_all (λ b. eqb b 0) xs ≡ true → xs ≡ replicate (length xs) 0
 zeros [] e = refl
 zeros (x ∷ xs) e =
     let h = both (eqb x 0) (list_all (λ b. eqb b 0) xs) e in
     (λ i. eqb-true x 0 h.0 i ∷ zeros xs h.1 i)
 
--- what a reducible item tells
+-- what a reducible item says
 pub record Reducible (of : Of) (payload : List ℕ) (i : Item) : Type 0 where
   pub item : item_of of payload ≡ Some i
   pub size : length payload ≡ i.pos + i.len + pad_len i.len

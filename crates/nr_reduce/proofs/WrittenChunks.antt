@@ -1,4 +1,4 @@
--- What RDMA Writes leave in memory: the bytes of an answer, in the segments of a chunk that lie one behind another.
+-- What RDMA Writes leave in memory: the bytes of an answer, in the segments of a chunk that are adjacent.
 use Rattle.std.proofs.Common.{◌≡◌, ◌≢◌, ℕ, zero, suc, ◌+◌, ◌-◌, ◌*◌, ◌/◌, ◌<◌, ◌≤◌, min, max, Bool, true, false, cond, eqb, List, [], ◌∷◌, ◌++◌, length, take, drop, map, sum_by, refl, sym, ap, ◌∙◌, arith, append-nil, append_assoc, length-append, inl, inr, ◌⊎◌}
 use Rattle.std.proofs.lemmas.Bool.{eq-eqb, ne_eqb, cases_lt, eqb-true}
 use Rattle.std.proofs.lemmas.List.{take_all, drop_all, take_at, drop_at, length-take-le, length-take, length-drop, drop-drop, take-append-drop}
@@ -100,7 +100,7 @@ laid_others stag other to bytes old (i ∷ is) ne =
     ap (λ (b : Bool). bytes_after_segments stag (cond b (bytes_after_write old (to + segment_max * i) (segment_payload bytes i)) old) (map (one_write other to bytes) is)) (ne_eqb other stag (λ e. ne (sym e)))
     ∙ laid_others stag other to bytes old is ne
 
--- ---- A chunk whose segments lie one behind another
+-- ---- A chunk whose segments are adjacent
 
 abbrev pub added_up : List ℕ → ℕ
 added_up [] = 0
@@ -117,7 +117,7 @@ chunk_added stag at (n ∷ ns) =
     sum_by-cons (λ (s : RdmaSegment). s.length) (record { handle = stag; length = n; offset = at }) (segments_from stag (at + n) ns)
     ∙ ap (λ (k : ℕ). n + k) (chunk_added stag (at + n) ns)
 
--- so many bytes are read out of it again
+-- n bytes are read out of it again
 pub joined_filled : (memory : Bytes) (stag at : ℕ) (ns : List ℕ) (n : ℕ) → n ≤ added_up ns → joined_bytes memory (filled_chunk (segments_from stag at ns) n) ≡ take n (drop at (memory stag))
 unfolding joined_bytes
 joined_filled memory stag at [] n h = ap (λ (k : ℕ). take k (drop at (memory stag))) (let s : 0 ≡ n = omega (arith, h) in s)
@@ -162,7 +162,7 @@ laid_one stag at n ns bytes old true e fits =
     nothing (inr z) = ap (λ (xs : List ℕ). take n xs) z ∙ take_nil n
 laid_one stag at n ns bytes old false e fits = laid_write stag at (take n bytes) old (let l = length-take n bytes in omega (arith, l, fits))
 
--- what is behind the first n
+-- what is after the first n
 rest_at : (n at : ℕ) (bytes old : List ℕ) → at + length bytes ≤ length old → bytes_after_write (bytes_after_write old at (take n bytes)) (at + n) (drop n bytes) ≡ bytes_after_write old at bytes
 rest_at n at bytes old fits = elim (cases_lt n (length bytes)) [
   | inl lt ↦

@@ -1,4 +1,4 @@
--- A Wrote makes nothing due: the hello and the items stay, and so many bytes more are sent.
+-- A Wrote makes nothing due: the hello and the items stay, and more bytes are sent.
 use Rattle.std.proofs.Common.{◌≡◌, ℕ, Bool, true, false, cond, ◌&&◌, eqb, List, [], ◌∷◌, ◌++◌, length, Option, None, Some, refl, ap, ◌∙◌, sym, append_assoc, append-nil}
 use Rattle.nr_wire.specs.declared.hello.Side.{Side}
 use Rattle.nr_wire.specs.declared.hello.Side.TheVariants.{Initiator, Responder}

@@ -1,4 +1,4 @@
--- Chunks as a payload's way (RFC 8166 section 3.4): how bytes fall into segments, what is joined out of memory, and which
+-- How chunks carry a payload (RFC 8166 section 3.4): how bytes fill segments, what is joined out of memory, and which
 -- payload a header, its inline bytes and memory convey.
 use Rattle.std.specs.Prelude.{◌≡◌, ℕ, ◌+◌, ◌-◌, min, Bool, true, false, nat_le, ◌&&◌, ◌||◌, ◌==◌, not, if◌then◌else◌, List, [], ◌∷◌, length, take, drop, sum_by, Option, None, Some}
 use Rattle.std.specs.List.{flat_map, filter, find, list_all}
@@ -25,14 +25,14 @@ joined_bytes memory chunk = flat_map (segment_bytes memory) chunk
 unfoldable pub chunk_total : List RdmaSegment → ℕ
 chunk_total chunk = sum_by (λ s. s.length) chunk
 
--- so many bytes fall into segments in the order of the list: each with the length that it gets
+-- a number of bytes fills segments in the order of the list: each with the length that it gets
 abbrev pub filled_chunk : List RdmaSegment → ℕ → List RdmaSegment
 filled_chunk [] n = []
 filled_chunk (s ∷ chunk) n = record { handle = s.handle; length = min s.length n; offset = s.offset } ∷ filled_chunk chunk (n - min s.length n)
 
 -- ---- Read lists
 
--- the other position of a read list than 0, where it has one (RFC 8166 section 3.4.5)
+-- the position of a read list other than 0, if it has one (RFC 8166 section 3.4.5)
 abbrev pub position_of : Option ReadSegment → Option ℕ
 position_of None = None
 position_of (Some r) = Some r.position
@@ -51,7 +51,7 @@ abbrev pub positions : List ReadSegment → List ℕ
 positions [] = []
 positions (r ∷ read) = r.position ∷ filter (λ p. not (p == r.position)) (positions read)
 
--- A read chunk belongs to a stream: it has the place of the stream's item, and its length or that rounded up.
+-- A read chunk belongs to a stream: it has the position of the stream's item, and its length or that rounded up.
 abbrev pub is_item : Option Item → ℕ → ℕ → Bool
 is_item None position n = false
 is_item (Some i) position n = i.pos == position && (n == i.len || n == i.len + pad_len i.len)
@@ -95,7 +95,7 @@ call_moved (Some position) chunk = Some (chunk position)
 unfoldable pub call_conveyed : Option (List ℕ) → List ReadSegment → (ℕ → List ℕ) → Option (List ℕ)
 call_conveyed inline read chunk = whole Call (call_stream inline chunk) (call_moved (item_position read) chunk)
 
--- The header of a call with its lists, the stream behind it, where that is there, and memory convey a payload: the entries of a
+-- The header of a call with its lists, the stream after it, if that is there, and memory convey a payload: the entries of a
 -- position are joined in the order of the list.
 abbrev pub entry_bytes : Bytes → ReadSegment → List ℕ
 entry_bytes memory r = take r.length (drop r.offset (memory r.handle))
@@ -106,7 +106,7 @@ read_bytes memory read position = flat_map (entry_bytes memory) (at_position pos
 abbrev pub ConveysCall : ChunkLists → Option (List ℕ) → Bytes → List ℕ → Type 0
 ConveysCall lists inline memory payload = call_conveyed inline lists.read (read_bytes memory lists.read) ≡ Some payload
 
--- What moved in the first write chunk of a reply, where that has any bytes.
+-- What moved in the first write chunk of a reply, if that has any bytes.
 abbrev pub some_bytes : List ℕ → Option (List ℕ)
 some_bytes [] = None
 some_bytes (b ∷ bytes) = Some (b ∷ bytes)
@@ -147,7 +147,7 @@ returns_each [] (b ∷ back) = false
 returns_each (o ∷ offered) [] = false
 returns_each (o ∷ offered) (b ∷ back) = returns o b && returns_each offered back
 
--- the chunks behind the first are empty
+-- the chunks after the first are empty
 abbrev pub fills_first : List (List RdmaSegment) → Bool
 fills_first [] = true
 fills_first (chunk ∷ chunks) = list_all are_empty chunks

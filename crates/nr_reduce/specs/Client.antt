@@ -73,7 +73,7 @@ abbrev pub calls_output : LinkParameters → ℕ → List OutstandingCall → Li
 calls_output opened msn [] = []
 calls_output opened msn (o ∷ others) = call_output opened msn o ++ calls_output opened (msn + 1) others
 
--- the Read Response to a Read Request, with the bytes as they stand (RFC 5040 section 5.2)
+-- the Read Response to a Read Request, with the present bytes (RFC 5040 section 5.2)
 abbrev pub response_output : ClientState → ℕ → Option ReadRequest → List ℕ
 response_output k place None = []
 response_output k place (Some r) = read_response r.sink r.sink_to (take r.size (drop r.to (client_memory_at k place r.stag)))

@@ -16,13 +16,13 @@ parts_view p = record { stream = p.stream.now; moved = p.moved.now }
 abbrev pub answer_view : BorrowedAnswer → Answer
 answer_view a = record { long = a.long; stream = a.stream.now; moved = a.moved.now }
 
--- the length of the first chunk, where it has a segment
+-- the length of the first chunk, if it has a segment
 abbrev pub first_total : List (List RdmaSegment) → Option ℕ
 first_total [] = None
 first_total ([] ∷ chunks) = None
 first_total ((s ∷ chunk) ∷ chunks) = Some (chunk_total (s ∷ chunk))
 
--- the parts of a reply where so many bytes may move
+-- the parts of a reply if this number of bytes may move
 abbrev pub parts_for : ℕ → List ℕ → Option Item → Option Parts
 parts_for room reply None = Some (record { stream = reply; moved = [] })
 parts_for room reply (Some i) =

@@ -1,4 +1,4 @@
--- What the marks of a run tell of one link: the bytes that a side sent and received, and the calls that were accepted, executed
+-- What the marks of a run say of one link: the bytes that a side sent and received, and the calls that were accepted, executed
 -- and completed, in order.
 use Rattle.std.specs.Prelude.{ℕ, Bool, true, false, ◌==◌, ◌&&◌, if◌then◌else◌, List, [], ◌∷◌}
 use Rattle.std.specs.List.{flat_map, list_any}
@@ -93,8 +93,8 @@ is_drop_of link mark = false
 abbrev pub is_dropped : ℕ → List Mark → Bool
 is_dropped link run = list_any (is_drop_of link) run
 
--- Whether a call was given up before its outcome was handed over: its caller forgot it, revoked its memory, or was told that the
--- link ended.
+-- Whether a call was given up before its outcome was handed over: its caller forgot it, revoked its memory, or got a report that
+-- the link ended.
 abbrev pub abandons : ℕ → ℕ → Mark → Bool
 abandons link xid (marks.Forget l x) = l == link && x == xid
 abandons link xid (marks.Revoke l x bytes) = l == link && x == xid

@@ -19,7 +19,7 @@ pub record Answer : Type 0 where
   pub stream : List ℕ
   pub moved : List ℕ
 
--- the stream and what moves, where the first write chunk has a segment and the reply an item; that item must not be longer
+-- the stream and what moves, if the first write chunk has a segment and the reply an item; that item must not be longer
 -- than the chunk
 pub record Parts : Type 0 where
   pub stream : List ℕ
@@ -50,7 +50,7 @@ answer_with offer down (Some p) =
     else (if fits_reply offer.reply (length p.stream) then Some (record { long = true; stream = p.stream; moved = p.moved })
     else None)
 
--- The answer that an offer holds, where a Send back has at most `down` bytes.
+-- The answer that an offer holds, if a Send back has at most `down` bytes.
 unfoldable pub answer_for : ChunkLists → (down prog vers proc : ℕ) → List ℕ → Option Answer
 answer_for offer down prog vers proc reply = answer_with offer down (parts_in (Reply prog vers proc) offer.write reply)
 

@@ -1,4 +1,4 @@
--- The one journal of all links: where each call was executed, and what stands there.
+-- The one journal of all links: the place at which each call was executed, and what stands there.
 use Rattle.std.specs.Prelude.{◌≡◌, ℕ, ◌≤◌, List, [], length, take, drop}
 use Rattle.nr_outside.specs.declared.moment.Moment.{Moment}
 use Rattle.nr_reduce.specs.declared.mark.Mark.{Mark}
@@ -7,7 +7,7 @@ use Rattle.nr_reduce.specs.declared.mark.Entry.{Entry}
 use Rattle.nr_reduce.specs.PlainJournal.{PlainServer, journal}
 use Rattle.nr_reduce.specs.AtEachMark.{AtEachMark}
 
--- A call is answered as the plain server answers over the first `place` entries of a journal, and what it adds stands behind them.
+-- A call is answered as the plain server answers over the first `place` entries of a journal, and what it adds follows them.
 pub record AtPlace (plain : PlainServer) (J : List Entry) (moment : Moment) (payload : List ℕ) (place : ℕ) (reply : List ℕ) : Type 0 where
   pub within : place ≤ length J
   pub replied : plain.Replies (take place J) moment payload reply

@@ -16,14 +16,14 @@ use Rattle.nr_reduce.specs.Plans.{plan_of, lists_of}
 use Rattle.nr_reduce.specs.Server.{answer_of_target}
 use Rattle.nr_reduce.specs.PlainJournal.{PlainServer}
 
--- the transaction's number of the reply head that was read, if one was
+-- the xid of the reply head that was read, if one was
 abbrev pub xid_of_reply : Result ReplyHead ℕ → Option ℕ
 xid_of_reply (Ok head) = Some (reply_xid head)
 xid_of_reply (Err at) = None
 
 -- A payload without a call head has no reply. A reply begins with a reply head of the call's xid (RFC 5531 section 9), and is no longer than
--- the call lets it be. What the call offers in the form Auto holds it, where a Send back may have send_max bytes; and one that adds an entry
--- to the journal fits every offer within the limits of a header, so that no change is made whose reply can't be sent.
+-- the call lets it be. What the call offers in the form Auto holds it, if a Send back may have send_max bytes; and one that adds an entry to
+-- the journal fits every offer within the limits of a header, so that no change is made whose reply can't be sent.
 pub record KeepsReplyLimits (plain : PlainServer) : Type 0 where
   pub call : (J : List Entry) (m : Moment) (payload reply : List ℕ) → plain.Replies J m payload reply → IsOk (call_of payload)
   pub xid : (J : List Entry) (m : Moment) (payload reply : List ℕ) → IsBytes payload → plain.Replies J m payload reply →

@@ -17,8 +17,8 @@ use Rattle.nr_reduce.specs.ClientState.{OutstandingCall, ClientState, is_sent}
 use Rattle.nr_reduce.specs.ClientMessages.{ReplyVerdict, reply_by_payload}
 use Rattle.nr_reduce.specs.ClientMessages.ReplyVerdict.{EndsLink, GivesOutcome}
 
--- A call that is outstanding: whether its Send has wholly left; the call, until its memory is revoked; the lists that its reply has to
--- repeat; the STags of its regions, in the order in which they were offered, and none once they are released.
+-- A call that is outstanding: whether its Send has completely left; the call, until its memory is revoked; the lists that its reply
+-- has to repeat; the STags of its regions, in the order in which they were offered, and none once they are released.
 pub record KeptCall : Type 0 where
   pub xid : ℕ
   pub is_sent : Bool

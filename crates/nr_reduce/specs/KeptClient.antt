@@ -26,8 +26,8 @@ use Rattle.nr_xdr.specs.Fields.{word_at}
 use Rattle.nr_reduce.specs.KeptCalls.{KeptCall, AreKept}
 
 -- Why the client ended, once it has; the xid that it gives next; the credits that are granted; how many calls are outstanding; the calls
--- among them that weren't handed back, in the order of their Submits; its registered memory; the bytes that a Send has at most, towards
--- the server and from it.
+-- among them that weren't handed back, in the order of their Submits; its registered memory; the maximum length of a Send in bytes,
+-- towards the server and from it.
 pub record KeptClient : Type 0 where
   pub ended : Option End
   pub next_xid : ℕ
@@ -81,7 +81,7 @@ pub record CallsKeep (calls : List KeptCall) (next : ℕ) (k : ClientState) : Ty
   pub owned : (stag : ℕ) (r : Region) → region_at k.regions stag ≡ Some r → r.until ≡ None → IsOwned calls r.call stag
   pub opens : AllByRecursion (OpensFor k.regions) calls
 
--- the memory holds just the open regions, after `count` bytes were received; each has an STag that was given
+-- the memory holds exactly the open regions, after `count` bytes were received; each has an STag that was given
 pub record MemoryKeeps (m : RegisteredMemory) (k : ClientState) (count : ℕ) : Type 0 where
   pub next : m.next ≡ k.stag
   pub offered : AreOffered count k.regions
@@ -191,7 +191,7 @@ kept_by_accesses kept (access ∷ accesses) = kept_by_accesses (kept_placed kept
 abbrev pub kept_received : KeptClient → ReceiveState → Frame → Segment → KeptClient
 kept_received kept received f segment = kept_by_accesses (kept_by_message kept (message_completed received segment)) (tagged_access f segment)
 
--- the first Sends, this many, have wholly left
+-- the first `sent` Sends have completely left
 abbrev pub sent_kept : (first sent : ℕ) → KeptCall → KeptCall
 sent_kept first sent c = record c { is_sent = nat_lt (c.xid - first) sent }
 

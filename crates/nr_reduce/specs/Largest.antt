@@ -28,7 +28,7 @@ MOUNT_VERSION = mount_version
 abbrev pub MNT : ℕ
 MNT = 1
 
--- the number behind the fields before it
+-- the number after the fields before it
 abbrev pub count_of : Result (ℕ × Cursor) ℕ → Option ℕ
 count_of (Ok n) = Some n.0
 count_of (Err at) = None
@@ -36,7 +36,7 @@ count_of (Err at) = None
 abbrev pub count_behind : {A : Type 0} → Codec A → Cursor → Option ℕ
 count_behind front c = count_of (front.read c >>= λ x. number_at x.1)
 
--- the count of bytes that a READ, a READDIR or a READDIRPLUS asks for, where its arguments can be read up to there
+-- the count of bytes that a READ, a READDIR or a READDIRPLUS asks for, if its arguments can be read up to there
 unfoldable pub read_count : Cursor → Option ℕ
 read_count c = count_behind read_args_front c
 

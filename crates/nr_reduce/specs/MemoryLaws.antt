@@ -12,23 +12,23 @@ abbrev pub MemoryDeniesAlike : Type 0
 MemoryDeniesAlike = (regions : List Region) (accesses_received : List TaggedSegment) (place end : ℕ) (m : RegisteredMemory) (access : Access) →
     AreOffered place regions → HoldsRegions regions accesses_received place m → place < end → denial m access ≡ grant_denial (region_grants end regions) access end
 
--- It stands as it is while more bytes are received.
+-- It doesn't change while more bytes are received.
 abbrev pub MemoryStands : Type 0
 MemoryStands = (regions : List Region) (accesses_received : List TaggedSegment) (place later : ℕ) (m : RegisteredMemory) → place ≤ later → AreReceived place accesses_received →
     HoldsRegions regions accesses_received place m → HoldsRegions regions accesses_received later m
 
--- A tagged segment is placed where it lacks nothing.
+-- A tagged segment that lacks nothing is placed.
 abbrev pub MemoryTakesAccess : Type 0
 MemoryTakesAccess = (regions : List Region) (accesses_received : List TaggedSegment) (place : ℕ) (m : RegisteredMemory) (received_access : TaggedSegment) → AreOffered place regions → AreReceived place accesses_received →
     ((stag : ℕ) (r : Region) → region_at regions stag ≡ Some r → stag < m.next) → place < received_access.end → HoldsRegions regions accesses_received place m →
     HoldsRegions regions (accesses_received ++ received_access ∷ []) received_access.end (after_event m (Arrive received_access))
 
--- Regions are closed where they are released.
+-- Regions that are released are closed.
 abbrev pub MemoryClosesRegions : Type 0
 MemoryClosesRegions = (test : Region → Bool) (regions : List Region) (accesses_received : List TaggedSegment) (place later : ℕ) (m after : RegisteredMemory) → place ≤ later → AreReceived place accesses_received →
     ReleasesClosed test regions m after → HoldsRegions regions accesses_received place m → HoldsRegions (regions_closed test later regions) accesses_received later after
 
--- A region is offered where it is registered, from the bytes on that were received.
+-- A region that is registered is offered, from the bytes on that were received.
 abbrev pub MemoryRegisters : Type 0
 MemoryRegisters = (regions : List Region) (accesses_received : List TaggedSegment) (place : ℕ) (m : RegisteredMemory) (r : Region) → AreReceived place accesses_received → region_at regions m.next ≡ None →
     r.stag ≡ m.next → r.from ≡ place → r.until ≡ None → HoldsRegions regions accesses_received place m → HoldsRegions (regions ++ r ∷ []) accesses_received place (after_register m r.right r.bytes)

@@ -9,13 +9,13 @@ use Rattle.nr_reduce.specs.OfferedRegions.{Region, region_grants}
 abbrev pub region_at : List Region → ℕ → Option Region
 region_at regions stag = find (λ r. r.stag == stag) regions
 
--- Regions as they come along a run, where so many bytes were received: none begins or ended behind that place, and none has the STag
--- of another.
+-- Regions as they come along a run, once this many bytes were received: none begins or ended after that offset, and none has the
+-- STag of another.
 abbrev pub AreOffered : ℕ → List Region → Type 0
 AreOffered place [] = Unit {0}
 AreOffered place (r ∷ regions) = (r.from ≤ place) × (IfSome r.until (λ until. until ≤ place) × ((region_at regions r.stag ≡ None) × AreOffered place regions))
 
--- the peer's tagged segments, where so many bytes were received
+-- the peer's tagged segments, once this many bytes were received
 abbrev pub AreReceived : ℕ → List TaggedSegment → Type 0
 AreReceived place [] = Unit {0}
 AreReceived place (received_access ∷ accesses_received) = (received_access.end ≤ place) × AreReceived place accesses_received
@@ -29,7 +29,7 @@ abbrev pub registered_region : List Grant → List TaggedSegment → Option Regi
 registered_region grants accesses_received None = None
 registered_region grants accesses_received (Some r) = held_if_open r.until (record { right = r.right; buf = contents grants r.stag r.bytes accesses_received })
 
--- The memory of an end holds just its open regions, where so many bytes were received.
+-- The memory of an end holds exactly its open regions, once this many bytes were received.
 abbrev pub HoldsRegions : List Region → List TaggedSegment → ℕ → RegisteredMemory → Type 0
 HoldsRegions regions accesses_received place m = (stag : ℕ) → live_region m stag ≡ registered_region (region_grants place regions) accesses_received (region_at regions stag)
 
@@ -38,6 +38,6 @@ abbrev pub is_closed_by : (Region → Bool) → Option Region → Bool
 is_closed_by test None = false
 is_closed_by test (Some r) = test r
 
--- the memory in which just the regions that pass a test were released
+-- the memory in which exactly the regions that pass a test were released
 abbrev pub ReleasesClosed : (Region → Bool) → List Region → (before after : RegisteredMemory) → Type 0
 ReleasesClosed test regions before after = (stag : ℕ) → live_region after stag ≡ (if is_closed_by test (region_at regions stag) then None else live_region before stag)

@@ -1,4 +1,4 @@
--- Both ways of a payload undo each other: what is cut is rebuilt, what is planned is conveyed, what is answered is conveyed.
+-- Encoding and decoding a payload are inverse: what is cut is rebuilt, what is planned is conveyed, what is answered is conveyed.
 use Rattle.std.specs.Prelude.{◌≡◌, ◌≢◌, ℕ, ◌+◌, ◌*◌, ◌^◌, ◌<◌, ◌≤◌, true, false, ◌==◌, List, [], ◌∷◌, length, take, sum, Option, None, Some, Ok, Err, if◌then◌else◌}
 use Rattle.std.specs.List.{flat_map}
 use Rattle.nr_xdr.specs.Item.{IsBytes}
@@ -60,7 +60,7 @@ abbrev pub PlanHasItsSize : Type 0
 PlanHasItsSize = (payload : List ℕ) (form : Form) (up down xid credit stag : ℕ) (p : Plan) → plan_of payload form up down ≡ Ok p →
     (length (call_message xid credit stag p) ≡ plan_size p) × (length (call_message xid credit stag p) ≤ up)
 
--- The message of any plan reads back as its lists and its stream, where its header's numbers fit and its lists are within the limits.
+-- The message of any plan reads back as its lists and its stream, if its header's numbers fit and its lists are within the limits.
 abbrev pub MessageReadsBack : Type 0
 MessageReadsBack = (xid credit stag : ℕ) (p : Plan) → HeaderFits (call_header xid credit stag p) → CanRead (call_header xid credit stag p).body p.inline →
     ReadsAsPlan p xid credit stag (call_message xid credit stag p)
@@ -88,7 +88,7 @@ OfferConveys = (payload : List ℕ) (offer : Offer) (up down stag : ℕ) (p : Pl
     memory (read_stag stag p) ≡ p.region →
     call_conveyed (inline_stream p) (lists_of stag p).read (read_bytes memory (lists_of stag p).read) ≡ given_conveyed payload offer.read_at offer.read
 
--- So does what is read of its message, where its lists are within the limits of a header.
+-- So does what is read of its message, if its lists are within the limits of a header.
 abbrev pub OfferMessageConveys : Type 0
 OfferMessageConveys = (payload : List ℕ) (offer : Offer) (up down xid credit stag : ℕ) (p : Plan) (memory : Bytes) → plan_of payload (forms.Given offer) up down ≡ Ok p →
     HeaderFits (call_header xid credit stag p) → CanRead (call_header xid credit stag p).body p.inline → memory (read_stag stag p) ≡ p.region →
@@ -111,8 +111,8 @@ AnswerSuitsOffer = (read : List ReadSegment) (ws rs : ℕ) (w r : Option (List �
     IsBytes reply → answer_for (offered_lists read ws rs w r) down prog vers proc reply ≡ Some a →
     answers_offer a.long (offered_lists read ws rs w r) (answer_lists (offered_lists read ws rs w r) a) ≡ true
 
--- Its message has the size that was tested, which is at most that of a Send; where the stream goes in the reply chunk, the size of
--- its header alone.
+-- Its message has the size that was tested, which is at most that of a Send; if the stream goes in the reply chunk, the size of its
+-- header alone.
 abbrev pub AnswerHasItsSize : Type 0
 AnswerHasItsSize = (offer : ChunkLists) (down prog vers proc xid credit : ℕ) (reply : List ℕ) (a : Answer) → answer_for offer down prog vers proc reply ≡ Some a →
     (a.long ≡ false →

@@ -24,7 +24,7 @@ use Rattle.nr_reduce.specs.Plans.{TooLarge, segments_for, chunk_for, write_size,
 abbrev pub facts_of : List ℕ → PayloadFacts
 facts_of payload = record { len = length payload; largest = largest_reply payload; offer = write_offer payload; item = reducible_item Call payload }
 
--- the plan of a payload that is sent by this kind of message, with chunks of so many bytes
+-- the plan of a payload that is sent by this kind of message, with chunks of these lengths
 abbrev pub plan_by : List ℕ → MessageKind → Option ℕ → Option ℕ → Plan
 plan_by payload Short w r =
     record { inline = payload; read_at = None; read = []; region = []; write = chunk_for w; reply = chunk_for r }

@@ -54,12 +54,12 @@ target_offer payload (Some t) = argument_offer t.prog t.vers t.proc (from_place 
 unfoldable pub write_offer : List ℕ → Option ℕ
 write_offer payload = target_offer payload (target_of (call_of payload))
 
--- the chunk for so many bytes
+-- the chunk for n bytes
 abbrev pub chunk_for : Option ℕ → Option (List ℕ)
 chunk_for None = None
 chunk_for (Some n) = Some (segments_for n)
 
--- the sizes of lists in a header (RFC 8166 section 4.3), and that of the whole Send
+-- the sizes of lists in a header (RFC 8166 section 4.3), and that of the complete Send
 abbrev pub write_size : Option (List ℕ) → ℕ
 write_size None = 0
 write_size (Some chunk) = 8 + 16 * length chunk
@@ -74,7 +74,7 @@ header_size p = 28 + 24 * length p.read + write_size p.write + reply_size p.repl
 unfoldable pub plan_size : Plan → ℕ
 plan_size p = header_size p + length p.inline
 
--- the call's item in a read chunk, where it has one; else the plan as it is
+-- the call's item in a read chunk, if it has one; else the plan unchanged
 abbrev pub reduced_plan_by : List ℕ → Plan → Option Item → Plan
 reduced_plan_by payload p None = p
 reduced_plan_by payload p (Some i) =
@@ -83,7 +83,7 @@ reduced_plan_by payload p (Some i) =
 unfoldable pub reduced_plan : List ℕ → Plan → Plan
 reduced_plan payload p = reduced_plan_by payload p (reducible_item Call payload)
 
--- the whole payload in a chunk at position 0
+-- the complete payload in a chunk at position 0
 abbrev pub long_plan : List ℕ → Plan → Plan
 long_plan payload p =
     record { inline = []; read_at = Some 0; read = segments_for (length payload); region = payload; write = p.write; reply = p.reply }
@@ -95,7 +95,7 @@ first_within up inline reduced_plan long =
     else (if not (length reduced_plan.read == 0) && nat_le (plan_size reduced_plan) up then reduced_plan
     else long)
 
--- what a call offers for its reply, where its form is left open
+-- what a call offers for its reply, if its form is left open
 abbrev pub offering : List ℕ → Option ℕ → Plan → Plan
 offering payload None p = record p { reply = Some (segments_for (largest_reply payload)) }
 offering payload (Some n) p = record p { write = Some (segments_for n) }
@@ -146,7 +146,7 @@ given_within forms.Chunk answer = answer
 given_within forms.Long answer = answer
 given_within (forms.Given offer) answer = within (given_total offer) given_max answer
 
--- The plan of a payload in a form, where a Send has at most `up` bytes towards the server and `down` from it; or the first
+-- The plan of a payload in a form, if a Send has at most `up` bytes towards the server and `down` from it; or the first
 -- limit that it exceeds: that of a payload, that of an offer that is given, that of its Send.
 unfoldable pub plan_of : List ℕ → Form → (up down : ℕ) → Result Plan TooLarge
 plan_of payload form up down =
@@ -230,7 +230,7 @@ abbrev pub body_by : Option ℕ → ChunkLists → Body
 body_by None lists = Msg lists 0
 body_by (Some position) lists = if position == 0 then Nomsg lists else Msg lists 0
 
--- the stream of a plan, where it is in the message
+-- the stream of a plan, if it is in the message
 abbrev pub inline_at : Option ℕ → List ℕ → Option (List ℕ)
 inline_at None stream = Some stream
 inline_at (Some position) stream = if position == 0 then None else Some stream

@@ -24,7 +24,7 @@ client opened link run = end_state_after (client_rules opened) (initial_client o
 unfoldable pub server : LinkParameters → ℕ → List Mark → EndState ServerState
 server opened link run = end_state_after (server_rules opened) (initial_server opened) (events link Responder run)
 
--- why a side takes no more input, where it has ended
+-- why a side takes no more input, if it has ended
 unfoldable pub end_of_side : LinkParameters → ℕ → Side → List Mark → Option End
 end_of_side opened link Initiator run = (client opened link run).ended
 end_of_side opened link Responder run = (server opened link run).ended

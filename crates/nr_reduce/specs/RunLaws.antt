@@ -64,14 +64,14 @@ use Rattle.nr_reduce.specs.PayloadLaws.{IsPlanned}
 use Rattle.nr_reduce.specs.ChunkBytes.{lists_by}
 use Rattle.nr_xdr.specs.Fields.{word_at}
 
--- A frame doesn't end the server; just this message is due for it, and no call becomes pending or ready.
+-- A frame doesn't end the server; exactly this message is due for it, and no call becomes pending or ready.
 pub record IsOnlyAnswered (opened : LinkParameters) (k : ServerState) (f : Frame) (answer : List ℕ) : Type 0 where
   pub output : output_for (server_rules opened) (live k) (FrameReceived f) ≡ send (k.messages_queued + 1) answer
   pub stays : (next_end_state (server_rules opened) (live k) (FrameReceived f)).ended ≡ None
   pub calls : (next_end_state (server_rules opened) (live k) (FrameReceived f)).state.calls ≡ k.calls
   pub ready : (next_end_state (server_rules opened) (live k) (FrameReceived f)).state.ready ≡ k.ready
 
--- the stream of a message, where it is there before anything is read
+-- the stream of a message, if it is there before anything is read
 abbrev pub known_stream : List ℕ → Body → Option (List ℕ)
 known_stream message (Msg lists stream_at) = Some (drop stream_at message)
 known_stream message (Nomsg lists) = no_stream lists.read
@@ -101,7 +101,7 @@ pub record IsConveyed (k : ServerState) (f : Frame) (segment : Segment) (r : Rea
   pub number : r.number ≡ call.number
   pub xid : r.xid ≡ call.xid
 
--- The read of which a segment is the last one: the oldest, where it is the last segment of a Read Response.
+-- The read of which a segment is the last one: the oldest, if it is the last segment of a Read Response.
 abbrev pub ends_response : Segment → Bool
 ends_response (Tagged last opcode stag to payload) = opcode == OPCODE_READ_RESPONSE && last
 ends_response (Untagged last opcode w queue msn offset payload) = false
@@ -157,7 +157,7 @@ ServerOutputAfterMark = (opened : LinkParameters) (link : ℕ) (run : List Mark)
     output_due opened link Responder (run ++ mark ∷ [])
     ≡ output_due opened link Responder run ++ output_for_all (server_rules opened) (server opened link run) (events_at link Responder run mark)
 
--- An end that has ended stays as it is, and no output is due.
+-- An end that has ended doesn't change, and no output is due.
 abbrev pub EndedClientStays : Type 0
 EndedClientStays = (opened : LinkParameters) (k : ClientState) (end : End) (events : List RunEvent) →
     (end_state_after (client_rules opened) (record { state = k; ended = Some end }) events ≡ record { state = k; ended = Some end })
@@ -177,7 +177,7 @@ FullHoldsSoFar = (opened : LinkParameters) (link : ℕ) (run more : List Mark) �
 abbrev pub SoFarHoldsBefore : Type 0
 SoFarHoldsBefore = (opened : LinkParameters) (link : ℕ) (run more : List Mark) → SoFar opened link (run ++ more) → SoFar opened link run
 
--- The law of a side holds of one mark more where that mark keeps it.
+-- The law of a side holds of one mark more if that mark keeps it.
 abbrev pub AskedWithMark : Type 0
 AskedWithMark = (opened : LinkParameters) (link : ℕ) (run : List Mark) (mark : Mark) → AskedSoFar opened link run → AskedMark IsPrefixOf opened link run mark →
     AskedSoFar opened link (run ++ mark ∷ [])
@@ -192,8 +192,8 @@ ServedWithMark = (opened : LinkParameters) (link : ℕ) (run : List Mark) (mark 
 abbrev pub GrantsHaveOwnStags : Type 0
 GrantsHaveOwnStags = (opened : LinkParameters) (link : ℕ) (side : Side) (run : List Mark) → HaveOwnStags (grants_of opened link side run)
 
--- The access of a frame that doesn't end a side is allowed by what the side offers as the frame is received: after any events, where
--- the frame is the next one. So each access before a side's end is allowed, and the first that isn't ends it.
+-- The access of a frame that doesn't end a side is allowed by what the side offers as the frame is received: after any events, if the
+-- frame is the next one. So each access before a side's end is allowed, and the first that isn't ends it.
 abbrev pub ClientAllows : Type 0
 ClientAllows = (opened : LinkParameters) (events : List RunEvent) (f : Frame) (segment : Segment) (access : Access) → is_hello f ≡ false → frame_segment f ≡ Ok segment → access_of segment ≡ Some access →
     client_end (end_state_after (client_rules opened) (initial_client opened) events).state (FrameReceived f) ≡ None →
@@ -231,7 +231,7 @@ abbrev pub ReadChunkStays : Type 0
 ReadChunkStays = (opened : LinkParameters) (link : ℕ) (run more : List Mark) (call : Call) (form : Form) (xid : ℕ) → (h : IsAccepted opened link run call form xid) → has_segment (Some h.plan.read) ≡ true →
     placed_bytes opened link Initiator (run ++ marks.Submit link call form (submissions.Accepted xid) ∷ more) (read_stag (client opened link run).state.stag h.plan) ≡ h.plan.region
 
--- For the server's hello, where it doesn't end the client, the Sends of all calls that are outstanding are due, in the order of their
+-- For the server's hello, if it doesn't end the client, the Sends of all calls that are outstanding are due, in the order of their
 -- Submits, numbered from 1 on. From then on the client has the hello.
 abbrev pub HelloSendsCalls : Type 0
 HelloSendsCalls = (opened : LinkParameters) (k : ClientState) (f : Frame) → is_hello f ≡ true → client_end k (FrameReceived f) ≡ None →
@@ -249,7 +249,7 @@ abbrev pub as_submitted : OutstandingCall → OutstandingCall
 as_submitted o = record o { is_revoked = false }
 
 -- Until the server's hello is received, the calls that are outstanding are all that were accepted, in the order of their Submits, and
--- no Send of them is written. So for the hello, where it doesn't end the client, a Send of each accepted call is due, in this order.
+-- no Send of them is written. So for the hello, if it doesn't end the client, a Send of each accepted call is due, in this order.
 abbrev pub AcceptedCallsWait : Type 0
 AcceptedCallsWait = (opened : LinkParameters) (link : ℕ) (run : List Mark) → AskedSoFar opened link run → (client opened link run).state.has_hello ≡ false →
     (map as_submitted (client opened link run).state.outstanding ≡ outstanding_from (initial_client opened).state opened.first_stag (accepted_calls link run))
@@ -271,8 +271,8 @@ ReadyIsConveyed = (k : ServerState) (f : Frame) (segment : Segment) (r : ReadyCa
 abbrev pub server_by : LinkParameters → List RunEvent → ServerState
 server_by opened es = (end_state_after (server_rules opened) (initial_server opened) es).state
 
--- A message that was received is that of this call: a frame among these events makes it whole. The call has the number of its Send,
--- its xid and lists, and its stream where that is in the message.
+-- A message that was received is that of this call: a frame among these events completes it. The call has the number of its Send, its
+-- xid and lists, and its stream if that is in the message.
 pub record IsReceivedCall (opened : LinkParameters) (es : List RunEvent) (c : PendingCall) : Type 0 where
   pub earlier : List RunEvent
   pub later : List RunEvent
@@ -290,8 +290,8 @@ pub record IsReceivedCall (opened : LinkParameters) (es : List RunEvent) (c : Pe
   pub lists : c.lists ≡ lists_by header.body
   pub stream : c.inline ≡ known_stream message header.body
 
--- The payload of a ready call is conveyed by the lists and the stream of a message that was received, and by the bytes that the
--- call's sink regions held as a frame of these events was received: the one by which the call became whole.
+-- The payload of a ready call is conveyed by the lists and the stream of a message that was received, and by the bytes that the call's
+-- sink regions held as a frame of these events was received: the one that completed the call.
 pub record WasConveyed (opened : LinkParameters) (es : List RunEvent) (r : ReadyCall) : Type 0 where
   pub earlier : List RunEvent
   pub later : List RunEvent
@@ -311,7 +311,7 @@ abbrev pub PayloadIsConveyed : Type 0
 PayloadIsConveyed = (opened : LinkParameters) (link : ℕ) (before : List Mark) (xid : ℕ) (payload : List ℕ) → (h : IsExecuted opened link before xid payload) →
     WasConveyed opened (events link Responder before) (record { number = h.call.number; xid = xid; payload = payload })
 
--- It is answered by RDMA Writes and then one Send where the offer of the pending call of its xid holds the reply, else by ERR_CHUNK.
+-- It is answered by RDMA Writes and then one Send if the offer of the pending call of its xid holds the reply, else by ERR_CHUNK.
 abbrev pub ExecuteIsAnswered : Type 0
 ExecuteIsAnswered = (opened : LinkParameters) (link : ℕ) (run : List Mark) (xid : ℕ) (moment : Moment) (payload : List ℕ) (place : ℕ) (reply : List ℕ) → IsExecuted opened link run xid payload →
     ((a : Answer) → answer_of_target (offer_of (server opened link run).state xid) (server opened link run).state.down_max reply (target_of (call_of payload)) ≡ Some a →
@@ -324,7 +324,7 @@ ExecuteIsAnswered = (opened : LinkParameters) (link : ℕ) (run : List Mark) (xi
     ≡ output_due opened link Responder run
     ++ send ((server opened link run).state.messages_queued + 1) (chunk_error xid (server opened link run).state.credit))
 
--- A Send that is refused is answered by one error message, where its frame doesn't end the server, and makes no call pending or ready.
+-- A Send that is refused is answered by one error message, if its frame doesn't end the server, and makes no call pending or ready.
 abbrev pub RefusedSendIsAnswered : Type 0
 RefusedSendIsAnswered = (opened : LinkParameters) (k : ServerState) (f : Frame) (segment : Segment) (message : List ℕ) → is_hello f ≡ false → frame_segment f ≡ Ok segment →
     message_completed k.received segment ≡ Some message → server_end opened k (FrameReceived f) ≡ None →
@@ -332,7 +332,7 @@ RefusedSendIsAnswered = (opened : LinkParameters) (k : ServerState) (f : Frame) 
     × (verdict k message ≡ OtherVersion → IsOnlyAnswered opened k f (version_error (word_at 0 message) (word_at 4 message) k.credit))
 
 -- Of a message with the fixed words, version 1 and another kind than RDMA_DONE and RDMA_ERROR, whose xid isn't pending, ERR_CHUNK is
--- due exactly where its header is bad, or its stream is there and its read chunk isn't that of its item.
+-- due if and only if its header is bad, or its stream is there and its read chunk isn't that of its item.
 abbrev pub BadMessageIsRefused : Type 0
 BadMessageIsRefused = (k : ServerState) (message : List ℕ) → 16 ≤ length message → word_at 4 message ≡ 1 → word_at 12 message ≢ 3 → word_at 12 message ≢ 4 → is_pending k (word_at 0 message) ≡ false →
     verdict k message ≡ BadChunks ↔ (HeaderBad message ⊎ HasOtherChunk message (header_of message))
@@ -342,7 +342,7 @@ abbrev pub RefusedCallIsAnswered : Type 0
 RefusedCallIsAnswered = (opened : LinkParameters) (k : ServerState) (f : Frame) (segment : Segment) (c : PendingCall) → is_hello f ≡ false → frame_segment f ≡ Ok segment →
     IsStreamRefused k f segment c → server_end opened k (FrameReceived f) ≡ None → IsRefusedCall opened k f c
 
--- A frame refuses the Send of this number: the message that it makes whole, or the call whose stream it ends.
+-- A frame refuses the Send of this number: the message that it completes, or the call whose stream it ends.
 abbrev pub RefusesSend : ServerState → Frame → Segment → ℕ → Type 0
 RefusesSend k f segment number =
     ((message : List ℕ) × ((message_completed k.received segment ≡ Some message)
@@ -357,13 +357,13 @@ RefusedIsNotExecuted = (opened : LinkParameters) (link : ℕ) (before : List Mar
     RefusesSend (end_state_after (server_rules opened) (initial_server opened) earlier).state f segment number →
     (xid : ℕ) (payload : List ℕ) (h : IsExecuted opened link before xid payload) → h.call.number ≢ number
 
--- At most open_reads_max Read Requests are open, and a read waits only while so many are.
+-- At most open_reads_max Read Requests are open, and a read waits only while that number is open.
 abbrev pub OpenReadsAreFew : Type 0
 OpenReadsAreFew = (opened : LinkParameters) (k : ServerState) (f : Frame) (segment : Segment) → is_hello f ≡ false → frame_segment f ≡ Ok segment →
     server_end opened k (FrameReceived f) ≡ None → OpensReads opened k f segment
 
--- The message of a plan whose form isn't given, of a payload that isn't empty, is judged by the STags that its reads need, where its
--- xid isn't pending: its call is pending, with the plan's lists and stream, or the link ends because too few STags are left.
+-- The message of a plan whose form isn't given, of a payload that isn't empty, is judged by the STags that its reads need, if its xid
+-- isn't pending: its call is pending, with the plan's lists and stream, or the link ends because too few STags are left.
 abbrev pub PlanIsAccepted : Type 0
 PlanIsAccepted = (k : ServerState) (payload : List ℕ) (form : Form) (up down xid credit stag : ℕ) (p : Plan) → IsPlanned payload form up down xid credit stag p →
     0 < length payload → is_pending k xid ≡ false →

@@ -12,7 +12,7 @@ use Rattle.nr_reduce.specs.Matched.{IsPrefixOf}
 use Rattle.nr_reduce.specs.Asked.{IsAll}
 use Rattle.nr_reduce.specs.AtEachMark.{AtEachMark}
 
--- the first call that became whole and isn't executed; a server that ended executes nothing
+-- the first call that became complete and isn't executed; a server that ended executes nothing
 abbrev pub first_ready : List ReadyCall → Option End → Option ReadyCall
 first_ready ready (Some end) = None
 first_ready ready None = slice_get ready 0
@@ -27,7 +27,7 @@ pub record IsExecuted (opened : LinkParameters) (link : ℕ) (before : List Mark
   pub own : xid ≡ call.xid
   pub conveyed : payload ≡ call.payload
 
--- The law of each mark: calls are executed in the order in which they became whole, none twice and none passed over.
+-- The law of each mark: calls are executed in the order in which they became complete, none twice and none passed over.
 abbrev pub ServedMark : (List ℕ → List ℕ → Type 0) → LinkParameters → ℕ → List Mark → Mark → Type 0
 ServedMark Relates opened link before (marks.Submit l call form answer) = Unit {0}
 ServedMark Relates opened link before (marks.Wrote l Initiator bytes) = Unit {0}

@@ -43,7 +43,7 @@ abbrev pub with_verdict : CallVerdict → FrameEffect → FrameEffect
 with_verdict (Refuses reason) s = record s { refusal = Some reason }
 with_verdict (IsReady r) s = record s { ready = r ∷ [] }
 
--- a call is whole once nothing is left to be read for it
+-- a call is complete once nothing is left to be read for it
 abbrev pub ready_if_whole : ServerState → ℕ → PendingCall → FrameEffect → FrameEffect
 ready_if_whole k place c s = if is_read s.reads c.number then with_verdict (by_payload c (payload_of k place c)) s else s
 

@@ -14,7 +14,7 @@ use Rattle.nr_reduce.specs.ServerState.{PendingCall, PendingRead, ServerState, n
 abbrev pub open_reads : ServerState → List PendingRead
 open_reads k = take open_reads_max k.reads
 
--- where the next Read Response goes on
+-- the offset at which the next Read Response continues
 abbrev pub expected_read_response : ℕ → List PendingRead → Option ExpectedResponse
 expected_read_response response_bytes [] = None
 expected_read_response response_bytes (r ∷ reads) = Some (record { sink = r.sink; at = r.at + response_bytes; left = r.size - response_bytes })
@@ -40,7 +40,7 @@ stag_by (Some r) = r.stag
 abbrev pub sink_of : List Region → ℕ → ℕ → ℕ
 sink_of regions number position = stag_by (find (λ r. r.call == number && r.position == position) regions)
 
--- The reads of a read list: one for each entry that has bytes, behind the earlier entries of its position in the sink.
+-- The reads of a read list: one for each entry that has bytes, after the earlier entries of its position in the sink.
 abbrev pub read_of : List Region → ℕ → ℕ → ReadSegment → PendingRead
 read_of regions number at r = record {
   number = number;
@@ -67,7 +67,7 @@ is_read reads number = not (list_any (λ r. r.number == number) reads)
 abbrev pub is_read_at : List PendingRead → ℕ → ℕ → Bool
 is_read_at reads number position = not (list_any (λ r. r.number == number && r.position == position) reads)
 
--- whether a region is closed: its call is whole or answered, and no read into it is open
+-- whether a region is closed: its call is complete or answered, and no read into it is open
 abbrev pub is_over : List PendingCall → List PendingRead → Region → Bool
 is_over calls reads g =
     if list_any (λ c. c.number == g.call) calls then is_read reads g.call else is_read_at reads g.call g.position

@@ -215,7 +215,7 @@ abbrev pub KeptEnds : Type 0
 KeptEnds = (opened : LinkParameters) (kept : KeptClient) (k : ClientState) (end : End) (count : ℕ) (event : RunEvent) → ClientKeeps opened kept (live k) count → client_end k event ≡ Some end →
     ClientKeeps opened (record kept { ended = Some end }) (next_end_state (client_rules opened) (live k) event) count
 
--- after a write, with the number of Sends that have wholly left,
+-- after a write, with the number of Sends that have completely left,
 abbrev pub KeptWrites : Type 0
 KeptWrites = (opened : LinkParameters) (kept : KeptClient) (k : ClientState) (count taken : ℕ) → ClientKeeps opened kept (live k) count →
     ClientKeeps opened (kept_sent k.first_xid (ends_left (k.written + taken) k.send_ends) kept) (next_end_state (client_rules opened) (live k) (QueueWritten taken)) count
@@ -248,7 +248,7 @@ abbrev pub RevokeStands : Type 0
 RevokeStands = (opened : LinkParameters) (link : ℕ) (kept : KeptClient) (input : InputState) (queue : List ℕ) (run : List Mark) (xid : ℕ) (bytes : List ℕ) → ClientRepresents opened link kept input queue run →
     ClientRepresents opened link (kept_revoked kept xid) input queue (run ++ marks.Revoke link xid bytes ∷ [])
 
--- a write of a part of its queue, with the number of Sends that have wholly left by then,
+-- a write of a part of its queue, with the number of Sends that have completely left by then,
 abbrev pub WroteStands : Type 0
 WroteStands = (opened : LinkParameters) (link : ℕ) (kept : KeptClient) (input : InputState) (taken left : List ℕ) (run : List Mark) (sent : ℕ) → ClientRepresents opened link kept input (taken ++ left) run →
     ((client opened link run).ended ≡ None → sent ≡ ends_left ((client opened link run).state.written + length taken) (client opened link run).state.send_ends) →

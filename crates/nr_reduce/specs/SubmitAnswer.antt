@@ -38,7 +38,7 @@ answer_by opened k call form None = by_plan opened k (plan_for k (next_xid opene
 unfoldable pub submit_answer : LinkParameters → EndState ClientState → Call → Form → Submission
 submit_answer opened r call form = answer_by opened r.state call form r.ended
 
--- on a dropped link a call is refused as one on a link that has ended, and there is no End to tell
+-- on a dropped link a call is refused as one on a link that has ended, and there is no End to report
 abbrev pub unless_dropped : Bool → Submission → Submission
 unless_dropped true answer = submissions.Dropped
 unless_dropped false answer = answer

@@ -18,7 +18,7 @@ pub(crate) fn are_zeros(bytes: &[u8]) -> bool
     bytes.iter().all(|b| *b == 0)
 }
 
-/// Whether the item's bytes and a pad of zeros are all that stands behind its length word.
+/// Whether the item's bytes and a pad of zeros are all that follows its length word.
 fn ends_with_item(payload: &[u8], item: &Item) -> bool
     requires { item.now.pos ≤ length payload.now }
     ensures { result ≡ ends_with_item payload.now item.now }
@@ -32,7 +32,7 @@ fn ends_with_item(payload: &[u8], item: &Item) -> bool
     are_zeros(pad)
 }
 
-/// The item of a payload that can be cut: behind the item's length word stand its bytes and a pad of zeros, and nothing
+/// The item of a payload that can be cut: the item's length word is followed by its bytes and a pad of zeros, and nothing
 /// else. Takes no memory.
 #[tactic(auto, unfolding(crate::specs::Items::reducible_item))]
 pub fn reducible_item(of: &Of, payload: &[u8]) -> Option<Item>
@@ -62,8 +62,7 @@ fn cut_at(alloc: Global, payload: &[u8], item: Item) -> Result<Cut, Memory>
     })
 }
 
-/// Cuts a payload at its item: `None` exactly where it has none, or where other bytes stand behind it. Only `Memory` can
-/// be wanting.
+/// Cuts a payload at its item: `None` if and only if it has none, or other bytes follow it. The only error is out of memory.
 #[tactic(auto, unfolding(crate::specs::Cuts::cut_of))]
 pub fn cut(alloc: Global, payload: &[u8], of: &Of) -> Result<Option<Cut>, PayloadFault>
     ensures cut { IfOk result (λ c. c ≡ cut_of of.now payload.now) }
@@ -75,7 +74,7 @@ pub fn cut(alloc: Global, payload: &[u8], of: &Of) -> Result<Option<Cut>, Payloa
     }
 }
 
-/// Whether so many bytes are an item's: in a call with or without its pad.
+/// Whether this number of bytes is an item's: in a call with or without its pad.
 fn has_moved_length(of: &Of, item: &Item, moved: &[u8]) -> bool
     ensures { result ≡ has_moved_length of.now item.now moved.now }
 {
@@ -86,7 +85,6 @@ fn has_moved_length(of: &Of, item: &Item, moved: &[u8]) -> bool
     }
 }
 
-/// So many zeros.
 fn zeros(count: usize) -> &'static [u8]
     requires { count < 4 }
     ensures { result.now ≡ replicate count 0 }
@@ -122,9 +120,9 @@ fn restored(alloc: Global, stream: &[u8], item: &Item, moved: &[u8]) -> Result<O
     Ok(payload)
 }
 
-/// The payload of a stream and of a chunk of its own that belongs at `pos`, whose bytes are `moved`. In a call these may
-/// have the item's pad at their end, which is ignored. Bytes of the stream behind the item's place are carried along.
-/// `BadChunks` where the stream has no item, where that has another position, or another length, the first that holds.
+/// The payload of a stream and of a chunk of its own that belongs at `pos`, whose bytes are `moved`. In a call these may have
+/// the item's pad at their end, which is ignored. Bytes of the stream after the item's position are kept. `BadChunks` if the
+/// stream has no item, or one that has another position, or another length, the first that holds.
 pub fn rebuild(
     alloc: Global,
     of: &Of,

@@ -23,7 +23,7 @@ pub enum Mismatch {
 /// Why a payload was not planned, cut or put together.
 #[derive(Clone, Copy, Debug, PartialEq, Eq, Error)]
 pub enum PayloadFault {
-    /// It needs this many bytes where there is room for fewer.
+    /// It needs this many bytes, more than the limit `room`.
     #[error("{need} bytes where there is room for {room}")]
     TooLarge { need: u128, room: u32 },
     /// The stream and the chunk don't belong together.

@@ -17,12 +17,15 @@ struct Parts<'a> {
     moved: &'a [u8],
 }
 
-/// How a reply is sent back: its stream, which goes in the reply chunk where `long`, else behind the header; and what moves
+/// How a reply is sent back: its stream, which goes in the reply chunk if `long`, else after the header; and what moves
 /// into the first write chunk.
 #[derive(Clone, Copy)]
 pub struct Answer<'a> {
+    /// The stream goes in the reply chunk: RDMA_NOMSG.
     pub long: bool,
+    /// The payload without what moves.
     pub stream: &'a [u8],
+    /// The bytes that are written into the first write chunk; empty if the reply has no item to move.
     pub moved: &'a [u8],
 }
 
@@ -38,7 +41,7 @@ pub(crate) fn chunk_total(chunk: &[RdmaSegment]) -> u128
     total
 }
 
-/// How many bytes the first chunk has, where it has a segment.
+/// How many bytes the first chunk has, if it has a segment.
 fn first_total(chunks: &[Chunk]) -> Option<u128>
     ensures { result ≡ first_total chunks.now }
 {
@@ -67,7 +70,7 @@ fn fits_message(chunks: &[Chunk], len: usize, down: u32) -> bool
     need <= u128::from(down)
 }
 
-/// Whether a reply chunk is there and has so many bytes.
+/// Whether a reply chunk is there and has room for `len` bytes.
 fn fits_reply(chunk: &Option<Chunk>, len: usize) -> bool
     ensures { result ≡ fits_reply chunk.now len }
 {
@@ -87,7 +90,7 @@ fn reduced<'a>(item: Item, reply: &'a [u8]) -> Parts<'a>
     Parts { stream, moved }
 }
 
-/// The parts of a reply, where so many bytes may move.
+/// The parts of a reply, if this number of bytes may move.
 #[tactic(auto, unfolding(crate::specs::CodeViews::parts_of))]
 fn parted<'a>(of: &Of, room: Option<u128>, reply: &'a [u8]) -> Option<Parts<'a>>
     ensures { option_map parts_view result ≡ parts_of of.now room reply.now }
@@ -109,10 +112,10 @@ fn parted<'a>(of: &Of, room: Option<u128>, reply: &'a [u8]) -> Option<Parts<'a>>
     }
 }
 
-/// How a reply to a call of this program, version and procedure is sent back, where `offer` is what the call offered and a
-/// message has at most `down` bytes. Where the first write chunk has a segment and the reply an item, that moves, and must
-/// not be longer than the chunk. The rest goes behind a header that repeats the write list, where both are within `down`;
-/// else in the reply chunk, where that is long enough. `None` where neither is so. Takes no memory.
+/// How a reply to a call of this program, version and procedure is sent back, if `offer` is what the call offered and a
+/// message has at most `down` bytes. If the first write chunk has a segment and the reply an item, that moves, and must not
+/// be longer than the chunk. The rest goes after a header that repeats the write list, if both are within `down`; else in
+/// the reply chunk, if that is long enough. `None` if neither is so. Takes no memory.
 #[tactic(auto, using(crate::proofs::ChunkSums::parts_by_total), unfolding(crate::specs::Holds::answer_for))]
 pub fn answer_for<'a>(
     offer: &ChunkLists,
@@ -139,7 +142,7 @@ pub fn answer_for<'a>(
     })
 }
 
-/// Whether an offer holds a reply: [`answer_for`] tells how it is sent back. Takes no memory.
+/// Whether an offer holds a reply: [`answer_for`] says how it is sent back. Takes no memory.
 pub fn holds(offer: &ChunkLists, prog: u32, vers: u32, proc: u32, reply: &[u8], down: u32) -> bool
     ensures { IsTrue result ↔ Holds offer.now down prog vers proc reply.now }
 {

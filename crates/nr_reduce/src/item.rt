@@ -15,11 +15,13 @@ use nr_nfs_base::{
 use nr_rpc::{ReplyHead, read_reply};
 use nr_xdr::{Octets, Reader};
 
-/// An item (RFC 8166 section 3.4.2): `pos` is the place of its first byte in the payload, `len` the number of its bytes,
+/// An item (RFC 8166 section 3.4.2): `pos` is the offset of its first byte in the payload, `len` the number of its bytes,
 /// which its length word says.
 #[derive(Clone, Copy, Debug, PartialEq, Eq)]
 pub struct Item {
+    /// The offset in the payload, in bytes.
     pub pos: usize,
+    /// The length in bytes, without the pad.
     pub len: u32,
 }
 
@@ -34,11 +36,13 @@ pub enum Of {
 #[derive(Drop)]
 pub struct Cut {
     pub item: Item,
+    /// The payload without the item's bytes and pad.
     pub stream: Octets,
+    /// The item's bytes.
     pub moved: Octets,
 }
 
-/// A reader at a place of a payload. A head ends at a multiple of four.
+/// A reader at an offset of a payload. A head ends at a multiple of four.
 pub(crate) fn reader_at(payload: &[u8], place: usize) -> Reader<'_>
     requires inside { place ≤ length payload.now }
     requires words { pad_len place ≡ 0 }
@@ -62,7 +66,7 @@ fn item_here(mut reader: Reader<'_>) -> Option<Item>
     }
 }
 
-/// The item whose length word is next, where what stands before it could be read.
+/// The item whose length word is next, if what precedes it could be read.
 fn item_after(front: Option<Reader<'_>>) -> Option<Item>
     ensures { result ≡ and_then front.entry (λ c. item_at (Ok c)) }
 {
@@ -108,8 +112,8 @@ fn result_item(prog: u32, vers: u32, proc: u32, results: Reader<'_>) -> Option<I
     }
 }
 
-/// The item of a call (RFC 8267 section 3): the data of WRITE or the path of SYMLINK, where the call's head and its
-/// arguments can be read up to the length word. What follows that word isn't looked at. Takes no memory.
+/// The item of a call (RFC 8267 section 3): the data of WRITE or the path of SYMLINK, if the call's head and its arguments
+/// can be read up to the length word. What follows that word isn't looked at. Takes no memory.
 pub fn call_item(payload: &[u8]) -> Option<Item>
     ensures exact { result ≡ call_item payload.now }
     ensures inside { IfSome result (λ i. i.pos ≤ length payload.now) }
@@ -120,7 +124,7 @@ pub fn call_item(payload: &[u8]) -> Option<Item>
     }
 }
 
-/// Where the results of an accepted reply of status 0 begin.
+/// The offset at which the results of an accepted reply of status 0 begin.
 fn results_at(head: ReplyHead) -> Option<usize>
     ensures { result ≡ results_of (Ok head) }
 {
@@ -144,7 +148,7 @@ fn results_of(payload: &[u8]) -> Option<usize>
 }
 
 /// The item of a reply to a call of this program, version and procedure (RFC 8267 section 3): the data of READ or the path
-/// of READLINK, where the call was accepted with status 0 and the results can be read up to the length word. What follows
+/// of READLINK, if the call was accepted with status 0 and the results can be read up to the length word. What follows
 /// that word isn't looked at. Takes no memory.
 pub fn reply_item(prog: u32, vers: u32, proc: u32, payload: &[u8]) -> Option<Item>
     ensures exact { result ≡ reply_item prog vers proc payload.now }

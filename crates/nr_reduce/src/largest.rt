@@ -19,7 +19,7 @@ use nr_xdr::{Reader, pad_len};
 /// The reply to any other call, and to one that isn't encoded up to its count.
 pub(crate) const REPLY_LIMIT_MIN: u32 = 32;
 
-/// The number behind the fields before it, where these could be read.
+/// The number after the fields before it, if these could be read.
 #[tactic(auto, unfolding(crate::specs::private::AfterFront::number_after))]
 pub(crate) fn number_after(front: Option<Reader<'_>>) -> Option<u32>
     ensures { result ≡ number_after front.entry }
@@ -33,7 +33,7 @@ pub(crate) fn number_after(front: Option<Reader<'_>>) -> Option<u32>
     }
 }
 
-/// So many bytes and their pad.
+/// The length of `len` bytes and their pad.
 fn rounded(len: u32) -> u32
     requires { len ≤ 4294967292 }
     ensures is { result ≡ padded_length len }
@@ -42,7 +42,7 @@ fn rounded(len: u32) -> u32
     len + pad_len(len as usize) as u32
 }
 
-/// The reply to a READ of so many bytes (RFC 1813 section 3.3.6).
+/// The maximum length of the reply to a READ of this count (RFC 1813 section 3.3.6).
 fn read_reply_max(count: Option<u32>) -> u32
     ensures { result ≡ by_count read_reply_max count }
 {
@@ -52,7 +52,7 @@ fn read_reply_max(count: Option<u32>) -> u32
     }
 }
 
-/// The reply to a READDIR or READDIRPLUS of so many bytes (RFC 1813 sections 3.3.16 and 3.3.17).
+/// The maximum length of the reply to a READDIR or READDIRPLUS of this count (RFC 1813 sections 3.3.16 and 3.3.17).
 fn readdir_reply_max(count: Option<u32>) -> u32
     ensures { result ≡ by_count readdir_reply_max count }
 {
@@ -109,8 +109,8 @@ pub(crate) fn program_reply_max(prog: u32, vers: u32, proc: u32, arguments: Read
     }
 }
 
-/// The most bytes that the reply to this call has, by the call's program, version and procedure, and by the count of a
-/// READ, READDIR or READDIRPLUS. At least 32, which is also the answer for what is no call. Takes no memory.
+/// The maximum length of the reply to this call in bytes, by the call's program, version and procedure, and by the
+/// count of a READ, READDIR or READDIRPLUS. At least 32, which is also the answer for what is no call. Takes no memory.
 pub fn largest_reply(payload: &[u8]) -> u32
     ensures { result ≡ largest_reply payload.now }
 {

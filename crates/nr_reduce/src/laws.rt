@@ -11,7 +11,7 @@ pub fn rebuild_undoes_cut()
 {}
 
 /// The message of a plan of any form has the size that was tested. For Auto, Inline, Chunk and Long it reads back as its
-/// header and stream, and conveys the payload over the plan's region. For Given, where its lists are within the limits of a
+/// header and stream, and conveys the payload over the plan's region. For Given, if its lists are within the limits of a
 /// header, it reads back so and conveys what its offer conveys, if anything.
 pub fn plans_convey_payloads()
     ensures message { PlanReadsBack }

@@ -3,14 +3,14 @@
 //! It stands on `nr_rpc` and `nr_nfs_base`, for the heads and values in payloads, on `nr_header`, and on `nr_link`, for what
 //! a link asks of a segment. Both ends of a link, and the drill, stand on it.
 //!
-//! The functions take a payload apart and put it together: its item ([`call_item`], [`reply_item`]), the stream that is
-//! left without it ([`cut`], [`rebuild`]), how a call is sent in each form ([`plan`]), and whether an offer holds a reply
-//! ([`holds`]). The laws say that each way back undoes its way out ([`rebuild_undoes_cut`], [`plans_convey_payloads`],
+//! The functions take a payload apart and put it together: its item ([`call_item`], [`reply_item`]), the stream that is left
+//! without it ([`cut`], [`rebuild`]), how a call is sent in each form ([`plan`]), and whether an offer holds a reply
+//! ([`holds`]). The laws say that decoding is the inverse of encoding ([`rebuild_undoes_cut`], [`plans_convey_payloads`],
 //! [`answers_convey_replies`]).
 //!
 //! The rest is definitions, in `specs/`, over plain data: [`Mark`]s, what an end of a link makes of them, and the laws that
-//! a run keeps. `docs/RUNS.md` explains them. What both ends cite of them stands in contracts of functions:
-//! [`one_mark_more`], [`ends_stand_for_marks`], [`memory_follows_regions`], [`laws_so_far`] and those beside them.
+//! a run keeps. `docs/RUNS.md` explains them. What both ends cite of them is in contracts of functions: [`one_mark_more`],
+//! [`ends_stand_for_marks`], [`memory_follows_regions`], [`laws_so_far`] and those beside them.
 #![tactic(auto)]
 
 mod call;

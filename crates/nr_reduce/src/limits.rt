@@ -2,7 +2,7 @@
 
 use nr_nfs_base::{MountProcedure, NfsProcedure};
 
-/// The most bytes that an offer has in all, where it is given.
+/// The maximum of an offer that is given, all its chunks together, in bytes.
 pub const GIVEN_MAX: u32 = 65536;
 
 /// The procedure of MOUNT that gives a handle (RFC 1813 section 5.2.1).

@@ -20,11 +20,17 @@ use std::alloc::Global;
 /// its segments and the bytes of its region; the lengths of the segments of a write chunk and of a reply chunk.
 #[derive(Drop)]
 pub struct Plan {
+    /// The stream that goes inline, after the header.
     pub inline: Octets,
+    /// The position of the read chunk, if there is one.
     pub read_at: Option<u32>,
+    /// The lengths of the segments of the read chunk in bytes.
     pub read: Lengths,
+    /// The bytes of the read chunk's region.
     pub region: Octets,
+    /// The lengths of the segments of the write chunk in bytes, if one is offered.
     pub write: Option<Lengths>,
+    /// The lengths of the segments of the reply chunk in bytes, if one is offered.
     pub reply: Option<Lengths>,
 }
 
@@ -82,7 +88,7 @@ pub(crate) struct PlanSizes {
     pub(crate) reply: Option<u32>,
 }
 
-/// How many segments a chunk of so many bytes has.
+/// How many segments a chunk of `len` bytes has.
 fn segment_count(len: u32) -> usize
     ensures { result ≡ length (segments_for len) }
 {

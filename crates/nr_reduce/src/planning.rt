@@ -295,7 +295,7 @@ fn filled(alloc: Global, payload: &[u8], outline: Outline<'_>) -> Result<Plan, M
     }
 }
 
-/// How a call is sent in a form (RFC 8166 section 3.5), where a Send has at most `up` bytes and one that comes back at most
+/// How a call is sent in a form (RFC 8166 section 3.5), if a Send has at most `up` bytes and one that comes back at most
 /// `down`. `TooLarge` with the first limit that it exceeds: that of a payload, that of an offer that is given, `up`. The
 /// payload is copied at most once.
 pub fn plan(

@@ -63,7 +63,7 @@ pub fn is_read_chunk_of(item: Option<Item>, read: &[ReadSegment]) -> bool
 }
 
 /// Whether the chunk of a read list at a position other than 0, if there is one, is that of the item of a call with this
-/// stream: at the item's place, and of its length, with or without its pad. Takes no memory.
+/// stream: at the item's position, and of its length, with or without its pad. Takes no memory.
 pub fn is_read_chunk_of_item(stream: &[u8], read: &[ReadSegment]) -> bool
     ensures { result ≡ is_read_chunk_of_item stream.now read.now }
 {

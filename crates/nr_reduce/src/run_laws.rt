@@ -11,7 +11,7 @@ pub fn one_mark_more()
     ensures server_output { ServerOutputAfterMark }
 {}
 
-/// An end that has ended stays as it is, and writes nothing more.
+/// An end that has ended doesn't change, and writes nothing more.
 pub fn ended_ends_stay()
     ensures client { EndedClientStays }
     ensures server { EndedServerStays }
@@ -44,7 +44,7 @@ pub fn accepted_calls_keep_the_law()
 
 /// An accepted call is sent by its plan: at its Submit, once the server's hello was received, else with that hello. Until
 /// that hello is received, a client that kept its law so far has outstanding all calls that it accepted, in order, and no
-/// Send of them is written; for the hello, where it doesn't end the client, a Send of each is due. From its Submit on the
+/// Send of them is written; for the hello, if it doesn't end the client, a Send of each is due. From its Submit on the
 /// region of a call's read chunk holds what the plan put there.
 pub fn submits_are_sent()
     ensures submit { SubmitIsSent }
@@ -56,12 +56,11 @@ pub fn submits_are_sent()
 /// An executed call's payload begins with a call head of its xid. A call becomes ready with the payload that its lists, its
 /// stream and the server's memory convey at that frame. So the payload of an executed call is what a message that was
 /// received before conveys: by its lists, its stream, and the bytes that the call's sink regions held at that frame. An
-/// executed call is answered by RDMA Writes into what it offered and then one Send, or by ERR_CHUNK where its offer doesn't
+/// executed call is answered by RDMA Writes into what it offered and then one Send, or by ERR_CHUNK if its offer doesn't
 /// hold the reply. A Send that is refused is answered by one error message, and makes no call pending or ready: by
-/// ERR_CHUNK exactly where its header is bad, or where its stream is there and its read chunk isn't its item's. A call
-/// whose stream is read and whose read chunk isn't its item's is answered by ERR_CHUNK, and is pending no longer. A Send
-/// that is refused in either way is never executed. At most eight Read Requests are open, and a read waits only while eight
-/// are.
+/// ERR_CHUNK if and only if its header is bad, or its stream is there and its read chunk isn't its item's. A call whose
+/// stream is read and whose read chunk isn't its item's is answered by ERR_CHUNK, and is pending no longer. A Send that is
+/// refused in either way is never executed. At most eight Read Requests are open, and a read waits only while eight are.
 pub fn sends_are_answered()
     ensures head { PayloadHasItsXid }
     ensures ready { ReadyIsConveyed }
@@ -75,7 +74,7 @@ pub fn sends_are_answered()
 {}
 
 /// The message of a plan whose form isn't given, of a payload that isn't empty, makes its call pending at a server to which
-/// its xid isn't pending, with the lists of the plan; or it ends the link, with reason 30, where too few STags are left for
+/// its xid isn't pending, with the lists of the plan; or it ends the link, with reason 30, if too few STags are left for
 /// its reads.
 pub fn plans_are_accepted()
     ensures { PlanIsAccepted }

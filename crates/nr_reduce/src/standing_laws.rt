@@ -23,8 +23,9 @@ pub fn ends_stand_for_marks()
 {}
 
 /// What a client keeps is enough: by it a message is judged, a Read Request is answered and a call is answered as the client of a
-/// run does, and it tells the calls that are outstanding and the credits that are granted. It stays enough while bytes
-/// are received, after a revoke, after a call is handed back once it has ended, after a message, an access, a frame, also one that ends it, a write, the server's hello and a call that it accepts.
+/// run does, and it gives the calls that are outstanding and the credits that are granted. It stays enough while bytes are
+/// received, after a revoke, after a call is handed back once it has ended, after a message, an access, a frame, also one that
+/// ends it, a write, the server's hello and a call that it accepts.
 pub fn clients_keep_enough()
     ensures message { KeptJudges }
     ensures response { KeptResponds }
@@ -42,7 +43,8 @@ pub fn clients_keep_enough()
     ensures submitted { KeptSubmits }
 {}
 
-/// What a client keeps stands on after a revoke, also when it ran out of memory, after a write of a part of its queue, and after a mark that is no event of it.
+/// What a client keeps stands for one mark more: after a revoke, also if it ran out of memory, after a write of a part of its
+/// queue, and after a mark that is no event of it.
 pub fn kept_clients_stand_on()
     ensures revoke { RevokeStands }
     ensures revoke_out { RevokeStaysOut }

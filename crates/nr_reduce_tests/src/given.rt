@@ -5,7 +5,8 @@ use nr_reduce::{Form, Lengths, Offer};
 use std::alloc::Global;
 use std::process::Abort;
 
-/// A payload: so many bytes of data or of a path in a call of NFS or MOUNT, or so many zeros, which are no call.
+/// A payload: a number of bytes of data or of a path in a call of NFS or MOUNT, or a number of zeros, which are no
+/// call.
 #[derive(Clone, Copy)]
 pub enum Payload {
     Getattr,
@@ -38,21 +39,21 @@ pub fn call_of(rt: &impl Abort, alloc: Global, prog: u32, proc: u32, arguments: 
     out
 }
 
-/// So many bytes of one value.
+/// Puts `count` bytes of one value at the end.
 fn put_bytes(rt: &impl Abort, out: &mut Vec<u8>, byte: u8, count: u32) {
     for _ in 0..count {
         out.push(byte).expect(rt, "memory");
     }
 }
 
-/// Opaque data of so many bytes `a` (RFC 4506 section 4.10).
+/// Puts opaque data of `len` bytes `a` at the end (RFC 4506 section 4.10).
 pub fn put_text(rt: &impl Abort, out: &mut Vec<u8>, len: u32) {
     put_words(rt, out, &[len]);
     put_bytes(rt, out, b'a', len);
     put_bytes(rt, out, 0, (4 - len % 4) % 4);
 }
 
-/// The same, and such data behind the words.
+/// The same, and such data after the words.
 fn text_call(
     rt: &impl Abort,
     alloc: Global,
@@ -89,7 +90,8 @@ fn symlink_call(rt: &impl Abort, alloc: Global, len: u32) -> Vec<u8> {
     text_call(rt, alloc, NFS, 10, &link, len)
 }
 
-/// The lengths of the segments of an offer: the place of its read chunk, the read chunk, a write chunk, a reply chunk.
+/// The lengths of the segments of an offer: the position of its read chunk, the read chunk, a write chunk, a reply
+/// chunk.
 #[derive(Clone, Copy)]
 pub struct Given(
     pub u32,

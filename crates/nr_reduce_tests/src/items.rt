@@ -65,7 +65,7 @@ fn items_of_calls(rt: HostRuntime) {
     }
 }
 
-/// A program, a version and a procedure, the accept status, the status and the words behind the attributes of a reply, and
+/// A program, a version and a procedure, the accept status, the status and the words after the attributes of a reply, and
 /// its item: 24 bytes of head, a status, attributes of 88 bytes, those words, a length word.
 static REPLIES: [([u32; 3], u32, u32, &[u32], Option<Item>); 8] = [
     (

@@ -12,8 +12,8 @@ use nr_rpc::{CallTarget, Cred, write_call_head};
 use std::alloc::Global;
 use std::process::Abort;
 
-/// What a plan has: the length of its inline stream, the place and the segments of its read chunk and the length of its
-/// region, the segments of a write chunk and of a reply chunk.
+/// What a plan has: the length of its inline stream, the position and the segments of its read chunk and the length of
+/// its region, the segments of a write chunk and of a reply chunk.
 #[derive(Clone, Copy, Debug, PartialEq)]
 struct Shape<'a>(
     usize,
@@ -374,7 +374,7 @@ fn seen(plan: &Result<Plan, PayloadFault>) -> Want<'_> {
     }
 }
 
-/// Ends the test where what is planned is not what the row wants.
+/// Ends the test if what is planned is not what the row wants.
 fn row_plans(rt: &impl Abort, alloc: Global, number: usize, row: &Row) {
     let Row(payload, way, up, down, want) = row;
     let got = planned(rt, alloc, *payload, *way, [*up, *down]);
@@ -390,7 +390,7 @@ fn each_row_is_planned(rt: HostRuntime) {
     }
 }
 
-/// The bytes of a read chunk's region: those of a WRITE's payload from its place on, and zeros behind them.
+/// The bytes of a read chunk's region: those of a WRITE's payload from its position on, and zeros after them.
 static REGIONS: [(Way, &[u8]); 4] = [
     (Chunk, b"aaaaa"),
     (Offer(Given(72, Some(&[2, 4]), None, None)), b"aaaaa\0"),
@@ -406,7 +406,7 @@ fn region_of(got: &Result<Plan, PayloadFault>) -> Option<&[u8]> {
     }
 }
 
-/// Ends the test where the region of a WRITE of five bytes doesn't have these bytes.
+/// Ends the test if the region of a WRITE of five bytes doesn't have these bytes.
 fn region_is(rt: &impl Abort, alloc: Global, row: usize, way: Way, want: &[u8]) {
     let got = planned(rt, alloc, Write(5), way, [1024, 1024]);
     same(rt, row, region_of(&got), Some(want));

@@ -13,8 +13,8 @@ use nr_xdr::Octets;
 use std::alloc::Global;
 use std::process::Abort;
 
-/// A reply to READ with so many bytes of data and no attributes: 24 bytes of head, status, flag, count, end, length: 44
-/// bytes before the data.
+/// A reply to READ with `len` bytes of data and no attributes: 24 bytes of head, status, flag, count, end, length: 44 bytes
+/// before the data.
 fn read_reply(rt: &impl Abort, alloc: Global, len: u32) -> Vec<u8> {
     let mut out = Vec::new(alloc);
     put_words(rt, &mut out, &[9, 1, 0, 0, 0, 0, 0, 0, len, 1]);
@@ -65,7 +65,7 @@ fn answer_of(
     }
 }
 
-/// Ends the test where the reply to a READ is not sent back so to a call of a procedure, or its offer doesn't say so.
+/// Ends the test if the reply to a READ is not sent back so to a call of a procedure, or its offer doesn't say so.
 fn row_answers(rt: &impl Abort, alloc: Global, number: usize, proc: u32, row: &Row, down: u32) {
     let bytes = read_reply(rt, alloc, row.0);
     let offer = lists_of(rt, alloc, row.1, row.2);

@@ -12,7 +12,7 @@ use Rattle.nr_regions.specs.Events.{MemoryEvent, after_arrival, after_event, aft
 use Rattle.nr_regions.specs.Events.MemoryEvent.{Register, Release, Arrive}
 use Rattle.nr_regions.proofs.Holding.{register_other, release_here, release_other, arrive_other, arrive_here, next_arrive, buf_after, length_buf_after}
 
--- memory denies what the grants do, where both offer the same
+-- memory denies what the grants do, if both offer the same
 pub same_denial : (grants : List Grant) (m : RegisteredMemory) (access : Access) (end : ℕ) → region_offer (live_region m access.stag) ≡ grant_offer (grant_at grants access.stag end) → denial m access ≡ grant_denial grants access end
 unfolding denial grant_denial
 same_denial grants m access end e = ap (λ (o : Option (Right × ℕ)). denial_in o access) e
@@ -97,7 +97,7 @@ same_right_self Sink = refl
 abbrev some : Denied → Option Denied
 some denied = Some denied
 
--- an offer denies nothing where the range is within it and the right is the one needed
+-- an offer denies nothing if the range is within it and the right is the one needed
 record Suffices (right : Right) (len : ℕ) (access : Access) : Type 0 where
   within : access.to + access.len ≤ len
   right_is : right ≡ access.right
@@ -186,7 +186,7 @@ allowed_by grants access end (Some g) e none =
     let s = suffices g.right g.len access none in
     record { grant = g; there = f.there; stag = c.stag_is; begun = c.begun; not_ended = c.not_ended; within = s.within; right = s.right_is }
 
--- an access is allowed exactly where nothing denies it
+-- an access is allowed if and only if nothing denies it
 pub allowed_iff : (grants : List Grant) (access : Access) (end : ℕ) → HaveOwnStags grants → Allowed grants access end ↔ (grant_denial grants access end ≡ None)
 unfolding grant_denial grant_at
 allowed_iff grants access end own = (

@@ -139,7 +139,7 @@ pub held_after_register : (m : RegisteredMemory) (right : Right) (buf : List ℕ
 unfolding after_register
 held_after_register m right buf = record { region = record { right = right; buf = buf }; there = register_here m right buf; len = refl; given = omega arith }
 
--- a claim on what is held in m is one on what is held in n, where n has the region's length and gave its STag
+-- a claim on what is held in m is one on what is held in n, if n has the region's length and gave its STag
 still : (m n : RegisteredMemory) (claim : Claim) (h : IsHeld m claim) (region : Region) → held_region n claim.stag ≡ Some region → length region.buf ≡ claim.len → m.next ≤ n.next → IsHeld n claim
 still m n claim h region there len le = record { region = region; there = there; len = len; given = omega (arith, h.given) }
 

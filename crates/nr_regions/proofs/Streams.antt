@@ -1,4 +1,4 @@
--- What a region holds by the tagged segments of the whole stream.
+-- What a region holds by the tagged segments of the complete stream.
 use Rattle.std.proofs.Common.{◌≡◌, ℕ, ◌<◌, ◌≤◌, Bool, true, false, cond, eqb, ltb, leb, List, [], ◌∷◌, ◌++◌, length, All, Option, None, Some, refl, sym, ap, subst, ◌∙◌, inl, inr, arith}
 use Rattle.std.specs.Prelude.{find, is_none, ◌&&◌}
 use Rattle.std.proofs.lemmas.Bool.{cases_eq, le-leb}
@@ -103,7 +103,7 @@ none_earlier grants stag from (s ∷ segments) begins before =
     let here = All-head P s segments before in
     (λ e. none_begun grants stag s.end from begins (here e), none_earlier grants stag from segments begins (All-tail P s segments before))
 
--- ---- The whole stream
+-- ---- The complete stream
 
 -- what comes after the release changes nothing of the contents
 pub contents_to_release : (grants : List Grant) (stag until : ℕ) (right : Right) (len : ℕ) (buf : List ℕ) (before after : List MemoryEvent) → IsReleasedAt grants stag right len until before after

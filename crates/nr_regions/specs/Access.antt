@@ -31,7 +31,7 @@ grant_offer (Some g) = Some (g.right, g.len)
 unfoldable pub grant_denial : List Grant → Access → ℕ → Option Denied
 grant_denial grants access end = denial_in (grant_offer (grant_at grants access.stag end)) access
 
--- The access is allowed: its whole range lies within a grant that applies, whose right is the one that it needs.
+-- The access is allowed: all of its range lies within a grant that applies, whose right is the one that it needs.
 pub record Allowed (grants : List Grant) (access : Access) (end : ℕ) : Type 0 where
   pub grant : Grant
   pub there : Contains grants grant
@@ -58,7 +58,7 @@ with_end stag until g = if g.stag == stag then record g { until = until } else g
 abbrev pub with_ends : ℕ → ℕ → List Grant → List Grant
 with_ends stag until grants = map (with_end stag until) grants
 
--- a tagged segment: its kind, where its payload goes, and the end of its frame in the stream
+-- a tagged segment: its kind, the address of its payload, and the end of its frame in the stream
 pub record TaggedSegment : Type 0 where
   pub kind : Kind
   pub stag : ℕ

@@ -1,4 +1,4 @@
--- The codes of regions and memory, by which a proof tells their values apart.
+-- The codes of regions and memory, by which a proof distinguishes their values.
 use Rattle.std.specs.Prelude.{◌≡◌, ℕ, ◌==◌, if◌then◌else◌, List, refl}
 use Rattle.std.specs.Ordering.{nat_cmp}
 use Rattle.std.specs.Coded.{Coded, code_by, coded×, coded_ℕ, coded_list}

@@ -20,7 +20,7 @@ pub record Outside : Type 0 where
   pub front : List ℕ
   pub rest : List ℕ
 
--- The STag that the next registration gets, 2 ^ 32 where none is left, and the regions that are held: those that were
+-- The STag that the next registration gets, 2 ^ 32 if none is left, and the regions that are held: those that were
 -- registered and not yet released.
 pub record RegisteredMemory : Type 0 where
   pub next : ℕ
@@ -98,7 +98,7 @@ region_offer (Some region) = Some (region.right, length region.buf)
 unfoldable pub denial : RegisteredMemory → Access → Option Denied
 denial m access = denial_in (region_offer (live_region m access.stag)) access
 
--- bytes with others written over those from a place on
+-- bytes with others written over those from an offset on
 abbrev pub bytes_after_write : List ℕ → ℕ → List ℕ → List ℕ
 bytes_after_write bytes at payload = take at bytes ++ (payload ++ drop (at + length payload) bytes)
 

@@ -8,7 +8,7 @@ pub enum Denied {
     /// No live region has the STag.
     #[error("no live region has this STag")]
     NoStag,
-    /// The range passes the end of the region. The sum of place and length doesn't wrap.
+    /// The range passes the end of the region. The sum of offset and length doesn't wrap.
     #[error("the range passes the end of the region")]
     Bounds,
     /// The region has another right than the access needs.

@@ -13,15 +13,15 @@ pub fn held_until_release()
     ensures begins { (m : RegisteredMemory) (right : Right) (buf : List ℕ) → IsHeld (after_register m right buf) (claim_of m buf) }
     ensures lasts { (m : RegisteredMemory) (claim : Claim) (event : MemoryEvent) → IsHeld m claim → IsNoReleaseOf claim.stag event →
         IsHeld (after_event m event) claim }
-    // From its release on the STag is dead.
+    // From its release on the STag is invalid.
     ensures dead { (m : RegisteredMemory) (stag : ℕ) → live_region (after_release m stag) stag ≡ None }
-    // An STag that was given and is dead stays dead.
+    // An STag that was given and is invalid stays invalid.
     ensures stays_dead { (m : RegisteredMemory) (stag : ℕ) (events : List MemoryEvent) → stag < m.next → live_region m stag ≡ None →
         live_region (after_events m events) stag ≡ None }
     ensures rises { (m : RegisteredMemory) (events : List MemoryEvent) → m.next ≤ (after_events m events).next }
 {}
 
-/// The grants allow an access exactly where they don't deny it, and memory that offers the same as the grants denies the
+/// The grants allow an access if and only if they don't deny it, and memory that offers the same as the grants denies the
 /// same.
 pub fn allowed_accesses()
     ensures allowed { (grants : List Grant) (access : Access) (end : ℕ) → HaveOwnStags grants →
@@ -44,8 +44,8 @@ pub fn contents_while_open()
         contents (with_ends stag until grants) stag buf segments ≡ contents (with_ends stag later grants) stag buf segments }
 {}
 
-/// What a buffer holds that is given back where its grant ends: what was registered, with the payload of each allowed
-/// tagged segment of the whole stream over it, the later over the earlier.
+/// What a buffer holds that is given back when its grant ends: what was registered, with the payload of each allowed tagged
+/// segment of the complete stream over it, the later over the earlier.
 pub fn contents_at_release()
     // The region as it is before the release, by the tagged segments from the registration on, those after the release
     // among them.
@@ -53,7 +53,8 @@ pub fn contents_at_release()
         stag < m.next → live_region m stag ≡ Some (record { right = right; buf = buf }) →
         IsReleasedAt grants stag right (length buf) until before after →
         live_region (after_events m before) stag ≡ Some (record { right = right; buf = contents grants stag buf (tagged_segments (before ++ Release stag ∷ after)) }) }
-    // What `Regions::release` answers, by the tagged segments of the whole stream, those before the registration among them.
+    // What `Regions::release` answers, by the tagged segments of the complete stream, those before the registration among
+    // them.
     ensures whole_stream { (grants : List Grant) (start : RegisteredMemory) (from until : ℕ) (right : Right) (buf : List ℕ) (before between after : List MemoryEvent) →
         let stag = (after_events start before).next in
         IsRegisteredAt grants stag from before → IsReleasedAt grants stag right (length buf) until between after →

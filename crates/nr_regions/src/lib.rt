@@ -7,12 +7,12 @@
 //!
 //! The owner of a region holds its [`Registration`]: the region is held from `register` to `release`, and each call says
 //! which registrations it leaves held ([`held_until_release`]). That a region is live, so that the peer reaches it, is a
-//! separate fact. Where memory runs out, nothing changes; [`Regions`] says how several buffers are registered, all or none.
+//! separate fact. If memory runs out, nothing changes; [`Regions`] says how several buffers are registered, all or none.
 //!
-//! The laws speak of a list of grants and of the segments of a stream. An access is allowed where a grant covers it
+//! The laws speak of a list of grants and of the segments of a stream. An access is allowed if a grant covers it
 //! ([`allowed_accesses`]). A region that stays open holds what was registered with each allowed payload over it, the later
-//! over the earlier ([`contents_while_open`]). A buffer that is released at the end of its grant holds just that for the
-//! whole stream, with what came before the registration and what comes after the release ([`contents_at_release`]).
+//! over the earlier ones ([`contents_while_open`]). A buffer that is released at the end of its grant holds just that for
+//! the complete stream, with what came before the registration and what comes after the release ([`contents_at_release`]).
 #![tactic(auto)]
 
 mod denied;

@@ -23,7 +23,7 @@ use std::marker::Model;
 /// needs several regions registers all of them or none so:
 ///
 /// 1. [`make_room`](Regions::make_room) for that many, before anything else. An `Err` leaves the memory as it was.
-/// 2. Refuse the call where [`stags_left`](Regions::stags_left) is below that number.
+/// 2. Refuse the call if [`stags_left`](Regions::stags_left) is below that number.
 /// 3. Register each buffer: within the room and the STags left, [`register`](Regions::register) answers `Ok`.
 #[derive(Drop)]
 pub struct Regions {
@@ -125,8 +125,8 @@ impl Regions {
         }
     }
 
-    /// Takes the memory that `more` further registrations need. Always `Ok` where the room suffices already. Either way the
-    /// regions are unchanged and the room doesn't shrink.
+    /// Takes the memory that `more` further registrations need. Always `Ok` if the room suffices already. Either way the regions are
+    /// unchanged and the room doesn't shrink.
     pub fn make_room(&mut self, more: usize) -> Result<(), Memory>
         ensures ok { OnOk result (more ≤ self.new.room) }
         ensures succeeds { more ≤ self.old.room → IsOk result }
@@ -137,9 +137,8 @@ impl Regions {
         make_room(&mut self.held, more)
     }
 
-    /// Registers a buffer under the next STag. `Spent` exactly where STag 2^32 - 1 was given. Within the room memory never
-    /// runs out, and an `Ok` uses at most one of it. The buffer comes back with an error, which changes no region and no
-    /// STag.
+    /// Registers a buffer under the next STag. `Spent` if and only if STag 2^32 - 1 was given. Within the room memory never runs out,
+    /// and an `Ok` uses at most one of it. The buffer comes back with an error, which changes no region and no STag.
     #[tactic(auto, using(crate::proofs::Parts::registered_all, crate::proofs::Parts::outside_of_all))]
     pub fn register(&mut self, buf: Octets, right: Right) -> Result<Registration, (Octets, Why)>
         ensures ok { IfOk result (λ claim. (claim ≡ claim_of self.old.memory buf) × (self.new.memory ≡ after_register self.old.memory right buf)) }
@@ -314,7 +313,7 @@ impl Regions {
         write_allowed(&mut self.held, right_for(kind), stag, to, bytes)
     }
 
-    /// Why a tagged segment of `len` payload bytes may not write into its region, the first reason that applies; `None` where it may.
+    /// Why a tagged segment of `len` payload bytes may not write into its region, the first reason that applies; `None` if it may.
     #[tactic(auto, unfolding(crate::specs::RegisteredMemory::denial, crate::specs::RegisteredMemory::live_region, crate::specs::RegisteredMemory::held_region))]
     pub fn denial(&self, kind: Kind, stag: u32, to: u64, len: u64) -> Option<Denied>
         ensures { result ≡ denial self.now.memory (record { right = right_for kind; stag = stag; to = to; len = len }) }

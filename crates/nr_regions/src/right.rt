@@ -14,6 +14,8 @@ pub enum Right {
 /// The two kinds of tagged segments: a Write needs a Fill region, a Response a Sink region.
 #[derive(Clone, Copy, Debug, PartialEq, Eq)]
 pub enum Kind {
+    /// An RDMA Write (RFC 5040 section 4.3).
     Write,
+    /// An RDMA Read Response (RFC 5040 section 4.5).
     Response,
 }

@@ -1,4 +1,4 @@
--- A call head is read exactly where it stands at the front.
+-- A call head is read if and only if the bytes begin with it.
 use Rattle.std.proofs.Common.{◌≡◌, ◌≢◌, ℕ, ◌+◌, ◌≤◌, eqb, List, [], ◌∷◌, ◌++◌, length, Option, Some, Result, Ok, Err, refl, sym, ap, subst, ◌∙◌, arith, inl, inr}
 use Rattle.std.specs.Prelude.{IfOk, IfSome}
 use Rattle.std.proofs.lemmas.Bool.{eqb-true, eqb-false, ne_eqb}
@@ -32,7 +32,7 @@ TakesCall (calls.Version2 xid prog vers proc cred args_at) c after =
     (auth : Auth) × (verifier : Auth) × TakesVersion2 xid prog vers proc auth verifier c after × ReadsCred cred auth × (args_at ≡ after.place)
 TakesCall (calls.Other xid rpcvers) c after = (rpcvers ≢ RPC_VERSION) × TakesAll c after (other_items xid rpcvers)
 
--- the items of a flavor and a body, and those behind them
+-- the items of a flavor and a body, and those after them
 auth_each : (auth : Auth) (more : List Item) (c middle after : Cursor) → TakesAuth auth c middle → TakesAll middle after more → TakesAll c after (auth_items auth more)
 auth_each auth more c middle after t others = (t.behind_flavor, t.flavor, (middle, t.body, others))
 
@@ -116,7 +116,7 @@ version2_again xid prog vers proc auth verifier c after (d, at_prog, (f, at_vers
     rw (procedure_again prog vers proc c d f g at_prog at_vers at_proc, auth_again auth g i a, auth_again verifier i k v)
     (ap (λ (m : Cursor). Ok (calls.Version2 xid prog vers proc (cred_of auth) m.place, m)) last)
 
--- a head of version 2 is read where its items are taken
+-- a head of version 2 is read if its items are taken
 pub version2_found : (xid prog vers proc : ℕ) (auth verifier : Auth) (c after : Cursor) → TakesAll c after (version2_items xid prog vers proc auth verifier)
     → length auth.body ≤ AUTH_BODY_MAX → length verifier.body ≤ AUTH_BODY_MAX
     → call_at c ≡ Ok (calls.Version2 xid prog vers proc (cred_of auth) after.place, after)
@@ -136,7 +136,7 @@ call_found (calls.Other xid rpcvers) c after (apart, (d, at_xid, (f, at_kind, (g
     rw (number_again c xid d at_xid, expect_again CALL d f at_kind, number_again f rpcvers g at_version, ne_eqb rpcvers RPC_VERSION apart)
     (ap (λ (m : Cursor). Ok (calls.Other xid rpcvers, m)) last)
 
--- what was read, and the cursor behind it
+-- what was read, and the cursor after it
 pub head_ok : {A : Type 0} (r : Result (A × Cursor) ℕ) (x : A) → head_of r ≡ Ok x → (after : Cursor) × (r ≡ Ok (x, after))
 head_ok (Ok y) x e = (y.1, ap (λ (z : _). Ok (z, y.1)) (ok_is y.0 x e))
 head_ok (Err at) x e = absurd cc
@@ -199,7 +199,7 @@ unfolding call_of
 begins_call bytes head fits (front, behind, reads, parts) =
     ap head_of (call_found head (standing 0 bytes) (standing (0 + length front) behind) (reads_call head bytes front behind fits reads parts))
 
--- two heads at one place are one
+-- two heads at one offset are one
 pub one_call : (a b : CallHead) (x y more others : List ℕ) → IsBytes (x ++ more) → ReadsCall a x → ReadsCall b y → x ++ more ≡ y ++ others → (a ≡ b) × (more ≡ others)
 one_call a b x y more others fits reads_a reads_b e =
     let c = standing 0 (x ++ more) in

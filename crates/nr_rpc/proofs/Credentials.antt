@@ -1,4 +1,4 @@
--- A credential is read exactly where it is encoded.
+-- A credential is read if and only if it is encoded.
 use Rattle.std.proofs.Common.{◌≡◌, ◌≢◌, ℕ, ◌+◌, ◌*◌, ◌^◌, ◌<◌, ◌≤◌, false, cond, eqb, ltb, List, [], ◌∷◌, ◌++◌, length, map, replicate, Option, Some, None, Result, Ok, Err, refl, sym, ap, subst, ◌∙◌, arith, inl, inr, ◌⊎◌}
 use Rattle.std.specs.Prelude.{unwrap_or}
 use Rattle.std.proofs.lemmas.Bool.{ltb-false, le-ltb, eqb-true, eqb-false, ne_eqb}
@@ -112,7 +112,7 @@ sys_again stamp machine uid gid gids c after t =
     let group : TakesGids gids f after = record { behind_count = g; count = at_count; each = at_gids; within = t.gids_within } in
     rw (number_again c stamp a at_stamp, opaque_placed MACHINE_MAX a machine b t.machine_within at_machine, user_again uid gid gids b d f after at_uid at_gid group) refl
 
--- a body reads as AUTH_SYS exactly where it is taken so to its end
+-- a body reads as AUTH_SYS if and only if it is taken so to its end
 taken_reads : (stamp : ℕ) (machine : List ℕ) (uid gid : ℕ) (gids body : List ℕ) (after : Cursor) → TakesSys stamp machine uid gid gids (standing 0 body) after → after.rest ≡ []
     → ReadsSys stamp machine uid gid gids body
 taken_reads stamp machine uid gid gids body after t none =
@@ -135,7 +135,7 @@ some x = Some x
 some_is : {A : Type 0} (x y : A) → some x ≡ some y → x ≡ y
 some_is x y e = cc
 
--- what was read with nothing behind it
+-- what was read with nothing after it
 whole_value_some : {A : Type 0} (r : Result (A × Cursor) ℕ) (x : A) → whole_value r ≡ Some x → (after : Cursor) × (r ≡ Ok (x, after)) × (after.rest ≡ [])
 whole_value_some (Ok y) x e =
     elim (chosen (eqb (length y.1.rest) 0) (Some y.0) None (some x) e) [
@@ -172,7 +172,7 @@ body_again : (stamp : ℕ) (machine : List ℕ) (uid gid : ℕ) (gids body : Lis
 body_again stamp machine uid gid gids body r =
     ap whole_value (sys_again stamp machine uid gid gids (standing 0 body) (standing (0 + length body) []) (reads_taken stamp machine uid gid gids body r))
 
--- a value, or a default in its place
+-- a value, or a default instead of it
 unwrapped : {A : Type 0} (o : Option A) (d x : A) → unwrap_or o d ≡ x → (o ≡ Some x) ⊎ ((o ≡ None) × (d ≡ x))
 unwrapped (Some y) d x e = inl (ap Some e)
 unwrapped None d x e = inr (refl, e)

@@ -1,4 +1,4 @@
--- A reply head is read exactly where it stands at the front.
+-- A reply head is read if and only if the bytes begin with it.
 use Rattle.std.proofs.Common.{◌≡◌, ℕ, ◌+◌, ◌≤◌, cond, eqb, List, ◌++◌, length, Result, Ok, Err, refl, sym, ap, subst, ◌∙◌, arith, inl, inr}
 use Rattle.std.specs.Prelude.{IfOk}
 use Rattle.std.proofs.lemmas.Bool.{eqb-true, eqb-false, ne_eqb}
@@ -182,7 +182,7 @@ unfolding reply_of
 begins_reply bytes head (front, behind, reads, parts) =
     ap head_of (reply_found head (standing 0 bytes) (standing (0 + length front) behind) (reads_reply head bytes front behind reads parts))
 
--- two heads at one place are one
+-- two heads at one offset are one
 pub one_reply : (a b : ReplyHead) (x y more others : List ℕ) → ReadsReply a x → ReadsReply b y → x ++ more ≡ y ++ others → (a ≡ b) × (more ≡ others)
 one_reply a b x y more others reads_a reads_b e =
     let c = standing 0 (x ++ more) in

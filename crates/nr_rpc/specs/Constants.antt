@@ -1,15 +1,15 @@
 -- The limits and the numbers of RPC heads (RFC 5531).
 use Rattle.std.specs.Prelude.{ℕ}
 
--- the most bytes in the body of a credential or a verifier (RFC 5531 section 8.2)
+-- the maximum length of the body of a credential or a verifier in bytes (RFC 5531 section 8.2)
 abbrev pub AUTH_BODY_MAX : ℕ
 AUTH_BODY_MAX = 400
 
--- the most bytes in the machine name of AUTH_SYS (RFC 5531 appendix A)
+-- the maximum length of the machine name of AUTH_SYS in bytes (RFC 5531 appendix A)
 abbrev pub MACHINE_MAX : ℕ
 MACHINE_MAX = 255
 
--- the most further groups of AUTH_SYS (RFC 5531 appendix A)
+-- the maximum number of further groups of AUTH_SYS (RFC 5531 appendix A)
 abbrev pub GIDS_MAX : ℕ
 GIDS_MAX = 16
 

@@ -7,7 +7,7 @@ use Rattle.nr_rpc.specs.Constants.{MACHINE_MAX, GIDS_MAX, AUTH_NONE, AUTH_SYS}
 use Rattle.nr_rpc.specs.declared.cred.Cred.{Cred}
 use Rattle.nr_rpc.specs.declared.cred.Cred.TheVariants as creds
 
--- a credential or a verifier as it stands in a head
+-- a credential or a verifier, as a head has it
 pub record Auth : Type 0 where
   pub flavor : ℕ
   pub body : List ℕ

@@ -1,4 +1,4 @@
--- What is read at a cursor, or the place of the first item that fails (RFC 5531 section 9).
+-- What is read at a cursor, or the offset of the first item that fails (RFC 5531 section 9).
 use Rattle.std.specs.Prelude.{◌≡◌, ℕ, zero, suc, List, [], ◌∷◌, length, Option, Some, None, unwrap_or, Result, Ok, Err, nat_lt, ◌==◌, if◌then◌else◌}
 use Rattle.nr_xdr.specs.Reading.{Cursor, opaque_at}
 use Rattle.nr_xdr.specs.Sequencing.{◌>>=◌, or_place, number_at}
@@ -18,7 +18,7 @@ use Rattle.nr_rpc.specs.declared.call.CallStart.TheVariants as starts
 use Rattle.nr_rpc.specs.declared.head.CallTarget.{CallTarget}
 use Rattle.nr_rpc.specs.Credential.{Auth}
 
--- this number and no other: a word of another value fails at its own place
+-- this number and no other: a word of another value fails at its own offset
 unfoldable pub expect_at : ℕ → Cursor → Result Cursor ℕ
 expect_at wanted c = do
   n ← number_at c
@@ -31,7 +31,7 @@ auth_at c = do
   body ← or_place (opaque_at AUTH_BODY_MAX flavor.1)
   Ok (record { flavor = flavor.0; body = body.0 }, body.1)
 
--- two numbers, one behind the other
+-- two numbers, one after the other
 unfoldable pub pair_at : Cursor → Result ((ℕ × ℕ) × Cursor) ℕ
 pair_at c = do
   first ← number_at c
@@ -115,7 +115,7 @@ accepted_at xid c = do
   if stat.0 == PROG_MISMATCH then versions_at (replies.ProgMismatch xid) stat.1
       else Ok (replies.Accepted xid stat.0 stat.1.place, stat.1)
 
--- the reply to a call that was denied, from its status on: a status of another value fails at its own place
+-- the reply to a call that was denied, from its status on: a status of another value fails at its own offset
 unfoldable pub denied_at : ℕ → Cursor → Result (ReplyHead × Cursor) ℕ
 denied_at xid c = do
   stat ← number_at c
@@ -135,11 +135,11 @@ abbrev pub head_of : {A : Type 0} → Result (A × Cursor) ℕ → Result A ℕ
 head_of (Ok x) = Ok x.0
 head_of (Err at) = Err at
 
--- the call head with which the bytes begin, or the place of the first item that fails
+-- the call head with which the bytes begin, or the offset of the first item that fails
 unfoldable pub call_of : List ℕ → Result CallHead ℕ
 call_of bytes = head_of (call_at (record { place = 0; rest = bytes }))
 
--- the reply head with which the bytes begin, or the place of the first item that fails
+-- the reply head with which the bytes begin, or the offset of the first item that fails
 unfoldable pub reply_of : List ℕ → Result ReplyHead ℕ
 reply_of bytes = head_of (reply_at (record { place = 0; rest = bytes }))
 
@@ -150,7 +150,7 @@ GivesCall (Err (faults.NotCall at)) read = read ≡ Err at
 GivesCall (Err (faults.NotReply at)) read = ⊥
 GivesCall (Err faults.Memory) read = Unit {0}
 
--- the answer is what reading gives, and never want of memory
+-- the answer is what reading gives, and never out of memory
 abbrev pub GivesReply : Result ReplyHead HeadFault → Result ReplyHead ℕ → Type 0
 GivesReply (Ok head) read = read ≡ Ok head
 GivesReply (Err (faults.NotCall at)) read = ⊥
@@ -168,13 +168,13 @@ abbrev pub head_of_start : CallStart → CallHead
 head_of_start (starts.Version2 xid prog vers proc cred args_at) = calls.Version2 xid prog vers proc (cred_of (auth_of_raw cred)) args_at
 head_of_start (starts.Other xid rpcvers) = calls.Other xid rpcvers
 
--- the program, the version and the procedure of a call, and where its arguments begin
+-- the program, the version and the procedure of a call, and the offset of its arguments
 abbrev pub target_of : Result CallHead ℕ → Option CallTarget
 target_of (Ok (calls.Version2 xid prog vers proc cred args_at)) = Some (record { xid = xid; prog = prog; vers = vers; proc = proc; args_at = args_at })
 target_of (Ok (calls.Other xid rpcvers)) = None
 target_of (Err at) = None
 
--- the transaction's number of a call head, and of the call head that was read, if one was
+-- the transaction ID (XID) of a call head, and of the call head that was read, if one was
 abbrev pub head_xid : CallHead → ℕ
 head_xid (calls.Version2 xid prog vers proc cred args_at) = xid
 head_xid (calls.Other xid rpcvers) = xid

@@ -114,18 +114,18 @@ fn read_call_inner(alloc: Global, bytes: &[u8]) -> Result<CallHead, HeadFault>
 /// `NotCall`: the first item that fails is one that runs past the end (at that item), a message type other than 0 (at that
 /// word), or the body of a credential or verifier above 400 bytes (at its length).
 pub fn read_call(alloc: Global, bytes: &[u8]) -> Result<CallHead, HeadFault>
-    // What is read stands at the front.
+    // The bytes begin with what is read.
     ensures found { IfOk result (λ head. BeginsCall head bytes.now) }
-    // What stands at the front is read, unless memory runs out.
+    // What the bytes begin with is read, unless memory runs out.
     ensures only { (head : CallHead) → BeginsCall head bytes.now → GivesCall result (Ok head) }
-    // Which fault it is, and where.
+    // Which fault it is, and at which offset.
     ensures exact { GivesCall result (call_of bytes.now) }
 {
     read_call_inner(alloc, bytes)
 }
 
-/// What a call of RPC version 2 asks for, and where its arguments begin. `None` exactly where the bytes begin no call head
-/// of that version. Takes no memory.
+/// What a call of RPC version 2 asks for, and the offset of its arguments. `None` if and only if the bytes begin no call
+/// head of that version. Takes no memory.
 pub fn call_target(bytes: &[u8]) -> Option<CallTarget>
     ensures { result ≡ target_of (call_of bytes.now) }
 {
@@ -150,7 +150,7 @@ pub fn call_target(bytes: &[u8]) -> Option<CallTarget>
     }
 }
 
-/// The transaction ID (XID) of a call of any RPC version. `None` exactly where the bytes begin no call head. Takes no
+/// The transaction ID (XID) of a call of any RPC version. `None` if and only if the bytes begin no call head. Takes no
 /// memory.
 pub fn call_xid(bytes: &[u8]) -> Option<u32>
     // It is the number of a call head at the front.
@@ -194,7 +194,6 @@ fn put_version2(
     put_no_verifier(writer)
 }
 
-/// Puts a head at the end.
 fn put_call(alloc: Global, writer: &mut Writer, head: &CallHead) -> Result<(), Memory>
     requires { CanWriteCall head.now }
     ensures { OnOk result (writer.new ≡ writer.old ++ call_head head.now) }

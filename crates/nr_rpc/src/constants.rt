@@ -1,12 +1,12 @@
 //! The limits and the numbers of RPC heads (RFC 5531).
 
-/// The most bytes in the body of a credential or a verifier (RFC 5531 section 8.2).
+/// The maximum length of the body of a credential or a verifier in bytes (RFC 5531 section 8.2).
 pub const AUTH_BODY_MAX: u32 = 400;
 
-/// The most bytes in the machine name of AUTH_SYS (RFC 5531 appendix A).
+/// The maximum length of the machine name of AUTH_SYS in bytes (RFC 5531 appendix A).
 pub const MACHINE_MAX: u32 = 255;
 
-/// The most further groups of AUTH_SYS (RFC 5531 appendix A).
+/// The maximum number of further groups of AUTH_SYS (RFC 5531 appendix A).
 pub const GIDS_MAX: usize = 16;
 
 /// The version of RPC (RFC 5531 section 9).

@@ -34,6 +34,7 @@ impl Gids {
         }
     }
 
+    /// The group IDs in order.
     pub fn as_slice(&self) -> &[u32]
         ensures is { result.now ≡ self.now }
         ensures within { length self.now ≤ GIDS_MAX }
@@ -49,6 +50,7 @@ impl Gids {
         self.gids.len()
     }
 
+    /// Whether there are no group IDs.
     pub fn is_empty(&self) -> bool
         ensures { IsTrue result ↔ (self.now ≡ []) }
     {

@@ -5,7 +5,7 @@ ghost use Rattle.nr_rpc.specs.declared.fault.HeadFault.TheVariants as faults;
 
 use nr_xdr::Memory;
 
-/// Why a head could not be read or written. `at` is the place of the first item that fails, in bytes from the front.
+/// Why a head could not be read or written. `at` is the offset of the first item that fails, in bytes from the front.
 #[derive(Clone, Copy, Debug, PartialEq, Eq)]
 pub enum HeadFault {
     /// The bytes begin no call head.

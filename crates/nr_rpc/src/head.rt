@@ -5,8 +5,8 @@ use crate::cred::Cred;
 /// The head of a call (RFC 5531 section 9). `args_at` is ignored when a head is written.
 #[derive(Drop)]
 pub enum CallHead {
-    /// A call of RPC version 2, without its verifier. `args_at` is the place of the first byte of the arguments, in bytes
-    /// from the front.
+    /// A call of RPC version 2, without its verifier. `args_at` is the offset of the first byte of the arguments, in
+    /// bytes from the front.
     Version2 {
         xid: u32,
         prog: u32,
@@ -26,16 +26,20 @@ pub enum CallHead {
 #[derive(Clone, Copy, Debug, PartialEq, Eq)]
 pub struct CallTarget {
     pub xid: u32,
+    /// The program number.
     pub prog: u32,
+    /// The version number of the program.
     pub vers: u32,
+    /// The procedure number.
     pub proc: u32,
+    /// The offset of the first byte of the arguments, in bytes from the front.
     pub args_at: usize,
 }
 
 /// The head of a reply (RFC 5531 section 9), without its verifier. `results_at` is ignored when a head is written.
 #[derive(Clone, Copy, Debug, PartialEq, Eq)]
 pub enum ReplyHead {
-    /// The call was accepted with this status, other than 2. `results_at` is the place of the first byte of the results,
+    /// The call was accepted with this status, other than 2. `results_at` is the offset of the first byte of the results,
     /// in bytes from the front.
     Accepted {
         xid: u32,

@@ -1,4 +1,4 @@
-//! The items of heads: each is read, or refused with its place.
+//! The items of heads: each is read, or refused with its offset.
 
 ghost use Rattle.std.specs.Prelude.{◌≡◌, ◌^◌, ◌<◌, length};
 ghost use Rattle.nr_xdr.specs.Matching.{MatchesRead, MatchesStep};
@@ -14,7 +14,7 @@ pub(crate) struct RawAuth<'a> {
     pub(crate) body: &'a [u8],
 }
 
-/// Reads this number; another one fails at its own place.
+/// Reads this number; another one fails at its own offset.
 #[tactic(auto, unfolding(crate::specs::Reading::expect_at))]
 pub(crate) fn expect(reader: &mut Reader<'_>, wanted: u32) -> Result<(), DecodeError>
     ensures { MatchesStep result reader.new (expect_at wanted reader.old) }

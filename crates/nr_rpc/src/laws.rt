@@ -21,7 +21,7 @@ pub fn reply_round_trip()
 {}
 
 /// No call head is a proper prefix of another: if bytes begin with two call heads, the heads are equal and end at the same
-/// place.
+/// offset.
 pub fn one_call_head()
     ensures { (a b : CallHead) (x y more others : List ℕ) → IsBytes (x ++ more) → ReadsCall a x → ReadsCall b y →
         x ++ more ≡ y ++ others → (a ≡ b) × (more ≡ others) }

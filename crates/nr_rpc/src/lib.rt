@@ -1,9 +1,9 @@
 //! Call and reply heads of RPC version 2 (RFC 5531 section 9), read and written exactly.
 //!
 //! The crate stands on `nr_xdr`. A head precedes the arguments of a call or the results of a reply: it says who calls which
-//! procedure, or how the call went. [`read_call`] and [`read_reply`] read the head at the front of some bytes and say where
-//! the rest begins. [`call_target`] and [`call_xid`] answer single questions about a call without memory. [`write_call`],
-//! [`write_call_of`] and [`write_reply`] write a head followed by arguments or results.
+//! procedure, or how the call went. [`read_call`] and [`read_reply`] read the head at the front of some bytes and give the
+//! offset of the rest. [`call_target`] and [`call_xid`] answer single questions about a call without memory.
+//! [`write_call`], [`write_call_of`] and [`write_reply`] write a head followed by arguments or results.
 //!
 //! Verifiers, and the bodies of credentials other than AUTH_SYS, are dropped when read and written empty. The crates above
 //! give programs, procedures and results their meaning, and decide how a call is answered.

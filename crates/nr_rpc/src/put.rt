@@ -11,7 +11,6 @@ use crate::cred::{Cred, Gids};
 use nr_xdr::{Memory, Octets, RoomWriter, Writer};
 use std::alloc::Global;
 
-/// Puts numbers at the end.
 pub(crate) fn put_numbers(writer: &mut Writer, numbers: &[u32]) -> Result<(), Memory>
     ensures { OnOk result (writer.new ≡ writer.old ++ encodings (map Unsigned numbers.now)) }
 {
@@ -32,7 +31,6 @@ pub(crate) fn put_words(writer: &mut RoomWriter, numbers: &[u32]) -> Result<(), 
     Ok(())
 }
 
-/// Puts a flavor and a body at the end.
 fn put_auth(writer: &mut Writer, flavor: u32, body: &[u8]) -> Result<(), Memory>
     requires { length body.now ≤ AUTH_BODY_MAX }
     ensures { OnOk result (writer.new ≡ writer.old ++ encodings (auth_items (record { flavor = flavor; body = body.now }) [])) }

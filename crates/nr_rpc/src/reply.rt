@@ -86,11 +86,11 @@ fn read_reply_inner(bytes: &[u8]) -> Result<ReplyHead, HeadFault>
 /// `NotReply`: the first item that fails is one that runs past the end (at that item), a message type other than 1, a reply
 /// status or reject status other than 0 and 1 (at that word), or the body of a verifier above 400 bytes (at its length).
 pub fn read_reply(bytes: &[u8]) -> Result<ReplyHead, HeadFault>
-    // What is read stands at the front.
+    // The bytes begin with what is read.
     ensures found { IfOk result (λ head. BeginsReply head bytes.now) }
-    // What stands at the front is read.
+    // What the bytes begin with is read.
     ensures only { (head : ReplyHead) → BeginsReply head bytes.now → result ≡ Ok head }
-    // Which fault it is, and where.
+    // Which fault it is, and at which offset.
     ensures exact { GivesReply result (reply_of bytes.now) }
 {
     read_reply_inner(bytes)

@@ -21,7 +21,6 @@ pub(crate) struct SysBody<'a> {
     pub(crate) gids: Gids,
 }
 
-/// Reads this many numbers.
 fn numbers(reader: &mut Reader<'_>, count: u32) -> Result<Gids, DecodeError>
     requires { count ≤ GIDS_MAX }
     ensures { MatchesRead (λ g. g) result reader.new (numbers_at count reader.old) }

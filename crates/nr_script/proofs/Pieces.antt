@@ -33,7 +33,7 @@ module _ (p : ℕ → Bool) where
   cut_none [] le = refl
   cut_none (b ∷ text) le = none_by (p b) b text (cut_none text) le
 
-  -- the place at which a character was looked for
+  -- the index at which a character was looked for
   pub not_found : (text : List ℕ) → position p text ≡ None → slice_split p text ≡ text ∷ []
   not_found text e = cut_none text (let le : length text ≤ position_or_len p text = grind (arith) in le)
 
@@ -44,7 +44,7 @@ module _ (p : ℕ → Bool) where
       let next : suc (place text) ≡ at + 1 = omega (arith, is) in
       (omega (arith, is), cut_found text lt ∙ (λ i. take (is i) text ∷ slice_split p (drop (next i) text)))
 
-  -- a text split at the first place of a character
+  -- a text split at the first occurrence of a character
   pub cut_by : (text : List ℕ) (at : ℕ) (part rest behind : List ℕ) → position p text ≡ Some at → part ≡ take at text → rest ≡ drop at text → behind ≡ drop 1 rest →
       (slice_split p text ≡ part ∷ slice_split p behind) × (length behind < length text)
   cut_by text at part rest behind e front back next =

@@ -78,7 +78,7 @@ client_line line words = one_number words >>= λ c. Some (line c)
 abbrev pub number_line : (ℕ → ℕ → Line) → List (List ℕ) → Option Line
 number_line line words = two_numbers words >>= λ p. Some (line p.0 p.1)
 
--- what goes up is written in the client's place
+-- up is the stream that the client writes, down that of the server
 abbrev pub side_in : List ℕ → Option Side
 side_in word = if bytes_eq word (codes "up") then Some Initiator else (if bytes_eq word (codes "down") then Some Responder else None)
 

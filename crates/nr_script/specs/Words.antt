@@ -12,7 +12,7 @@ abbrev pub ◌>>=◌ : {A B : Type 0} → Option A → (A → Option B) → Opti
 (Some x) >>= f = f x
 None >>= f = None
 
--- the parts of a text between the places of a character
+-- the parts of a text between the occurrences of a character
 abbrev pub parts : ℕ → List ℕ → List (List ℕ)
 parts character text = slice_split (λ c. c == character) text
 

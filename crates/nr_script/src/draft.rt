@@ -53,7 +53,6 @@ fn seconds_in(line: &Line) -> u32
     }
 }
 
-/// Counts a call of this client.
 fn count_call(calls: &mut [u64], client: u32)
     requires all { length calls.old ≡ 16 }
     requires room { (i : ℕ) → slice_index calls.old i < 2 ^ 63 }

@@ -127,7 +127,6 @@ fn add_part(alloc: Global, offer: &mut Offer, text: &[u8]) -> Result<bool, Memor
     }
 }
 
-/// Adds the parts of a text to an offer.
 fn add_parts(alloc: Global, offer: &mut Offer, text: &[u8]) -> Result<bool, Memory>
     ensures { IfOk result (λ added. offer_by offer.old (parts semicolon text.now) ≡ (if added then Some offer.new else None)) }
 {

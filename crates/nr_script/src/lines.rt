@@ -19,13 +19,13 @@ use std::alloc::Global;
 /// The bytes that the journal may cost, if a script doesn't say.
 pub const DEFAULT_CAPACITY: u64 = 1_099_511_627_776;
 
-/// The most bytes that a script may let the journal cost.
+/// The maximum that a script may let the journal cost, in bytes.
 pub const MOST_CAPACITY: u64 = 9_223_372_036_854_775_807;
 
-/// The most clients of a script.
+/// The maximum number of clients of a script.
 pub const MOST_CLIENTS: u32 = 16;
 
-/// The most credits of a script.
+/// The maximum number of credits of a script.
 pub const MOST_CREDITS: u32 = 64;
 
 fn capacity_in(words: &[&[u8]]) -> Option<u64>
@@ -203,7 +203,7 @@ fn call_line(alloc: Global, words: &[&[u8]]) -> Result<Option<Line>, Memory>
     Ok(call_with(target, args, form))
 }
 
-/// What goes up is written in the client's place.
+/// `up` is the stream that the client writes, `down` that of the server.
 fn side_in(word: &[u8]) -> Option<Side>
     ensures { result ≡ side_in word.now }
 {

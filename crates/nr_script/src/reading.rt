@@ -15,7 +15,7 @@ use crate::words::{cut, words_of};
 use nr_xdr::Memory;
 use std::alloc::Global;
 
-/// The most bytes that the text of a script may have.
+/// The maximum length of the text of a script in bytes.
 pub const SCRIPT_MAX: usize = 16_777_216;
 
 fn is_ascii(line: &[u8]) -> bool

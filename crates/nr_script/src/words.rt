@@ -11,7 +11,7 @@ use hex::FromHexError;
 use nr_xdr::{Memory, Octets};
 use std::alloc::Global;
 
-/// The most that a number of a script may be, if it isn't said otherwise.
+/// The maximum of a number of a script, if it isn't said otherwise.
 pub const MOST_NUMBER: u32 = 4_294_967_295;
 
 /// Whether a word is this name.
@@ -21,7 +21,7 @@ pub(crate) fn is(word: &[u8], name: &[u8]) -> bool
     word == name
 }
 
-/// The place of a character in a text.
+/// The index of the first such character in a text.
 fn place_of(character: u8, text: &[u8]) -> Option<usize>
     ensures { result ≡ position (λ c. c == character) text.now }
 {
@@ -53,7 +53,6 @@ pub(crate) fn two_parts(character: u8, text: &[u8]) -> Option<(&[u8], &[u8])>
     }
 }
 
-/// The words of a line.
 pub(crate) fn words_of(alloc: Global, line: &[u8]) -> Result<Vec<&[u8]>, Memory>
     ensures { IfOk result (λ words. texts words.items ≡ parts 32 line.now) }
 {

@@ -3,7 +3,7 @@
 use std::fmt::Debug;
 use std::process::Abort;
 
-/// Ends the test where the two values differ, and prints both with the number of the row.
+/// Ends the test if the two values differ, and prints both with the number of the row.
 pub fn same<T: PartialEq + Debug + Drop>(rt: &impl Abort, row: usize, got: T, want: T) {
     if got != want {
         differ(rt, row, &got, &want);

@@ -145,7 +145,7 @@ given_by true t h given p =
     omega (arith, ltb-true 0 (number_of_handle h) parts.0, ltb-true (number_of_handle h) t.next parts.1)
 given_by false t h given p = absurd cc
 
--- where a handle names a node, the numbers 0 and 1 were given
+-- if a handle names a node, the numbers 0 and 1 were given
 pub below_handled : (limit : ℕ) (t : Tree) (h : List ℕ) → handle_rule t h ≡ None → IsBelow limit t → 2 < limit
 below_handled limit t h p below = let some : 1 < t.next = given_by (was_given t h) t h refl p in omega (arith, some, below.next)
 

@@ -34,7 +34,7 @@ pub CookiesAscend_list_without : (from : ℕ) (name : List ℕ) (es : List Entry
 CookiesAscend_list_without from name [] next r = r
 CookiesAscend_list_without from name (e ∷ es) next r = rise_step (is_name name e) from e es (list_without name es) next r.0 r.1 (CookiesAscend_list_without (e.cookie + 1) name es next r.1)
 
--- a name that isn't found isn't the first one's, and isn't found behind it
+-- a name that isn't found isn't the first one's, and isn't found after it
 pub found_none : (b : Bool) (x : Entry) (o : Option Entry) → cond b (Some x) o ≡ None → (b ≡ false) × (o ≡ None)
 found_none true x o e = absurd cc
 found_none false x o e = (refl, e)

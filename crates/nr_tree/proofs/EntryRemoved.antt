@@ -29,7 +29,7 @@ module _ (s : DirectoryGraph) (d : ℕ) (name : List ℕ) (e : Entry) (sound : I
   step_up n p c (inr ne) (inl way) = inl (p ∷ way.0, (c.0, c.1, detached_count_other e.number n (λ z. ne (sym z)), c.2, way.1))
   step_up n p c (inr ne) (inr way) = inr (way.0, way.1, way.2, (p ∷ way.3.0, (c.0, c.1, detached_count_other e.number n (λ z. ne (sym z)), c.2, way.3.1)))
 
-  -- a path is cut where it passes the detached node
+  -- a path is cut when it passes the detached node
   cut : (n : ℕ) (path : List ℕ) → IsPathUp s None n path 1 → IsConnected left (Some e.number) n
   cut n [] c = inl ([], c)
   cut n (p ∷ path) c = step_up n p (c.0, c.1, c.3) (cases_eq n e.number) (cut p path c.4)

@@ -1,4 +1,4 @@
--- An entry that takes the place of the one under its name, and then goes last.
+-- An entry that replaces the one under its name, and then goes last.
 use Rattle.std.proofs.Common.{◌≡◌, ℕ, suc, ◌+◌, ◌-◌, ◌<◌, Bool, true, false, cond, not, eqb, List, [], ◌∷◌, ◌++◌, length, remove, Option, None, Some, refl, ap, sym, ◌∙◌, subst, arith, nat_eq}
 use Rattle.std.proofs.lemmas.Bool.{and_parts, eqb-true}
 use Rattle.std.specs.Prelude.{slice_get, is_some}
@@ -29,7 +29,7 @@ same_list (x ∷ xs) (y ∷ ys) t =
     let p : (eqb x y ≡ true) × (pointwise nat_eq xs ys ≡ true) = and_parts (eqb x y) (pointwise nat_eq xs ys) t in
     (λ i. eqb-true x y p.0 i ∷ same_list xs ys p.1 i)
 
--- where the entry of the key stands in these slots, and what is left without it
+-- the index of the entry of the key in these slots, and what is left without it
 record IsPlaced (xs : List (Key × Slot)) (i : ℕ) (es : List Entry) (k : Key) (v : Slot) (len : ℕ) : Type 0 where
   key : Key
   at : slice_get xs i ≡ Some (key, v)

@@ -112,7 +112,7 @@ not_counted : (n : ℕ) (e : Entry) (rest : ℕ) (b : Bool) → eqb e.number n �
 not_counted n e rest true t z same = omega (arith, z)
 not_counted n e rest false t z same = eqb-false e.number n t same
 
--- where no entry is counted, none passes
+-- if no entry is counted, none passes
 pub count_none : (n : ℕ) (es : List Entry) → name_count_in es n ≡ 0 → Each (λ e. e.number ≡ n → ⊥) es
 count_none n [] z = tt
 count_none n (e ∷ es) z = (not_counted n e (name_count_in es n) (eqb e.number n) refl z, count_none n es (omega (arith, z)))
@@ -124,7 +124,7 @@ counted : (P : Entry → Type 0) (n : ℕ) (e : Entry) (rest : ℕ) (b : Bool) �
 counted P n e rest true t lt p k = (e, eqb-true e.number n t, p)
 counted P n e rest false t lt p k = k (omega (arith, lt))
 
--- where an entry is counted, one passes
+-- if an entry is counted, one passes
 pub count_some : (P : Entry → Type 0) (n : ℕ) (es : List Entry) → 0 < name_count_in es n → Each P es → (e : Entry) × (e.number ≡ n) × P e
 count_some P n [] lt h = absurd (omega arith)
 count_some P n (e ∷ es) lt h = counted P n e (name_count_in es n) (eqb e.number n) refl lt h.0 (λ more. count_some P n es more h.1)

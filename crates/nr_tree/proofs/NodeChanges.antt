@@ -51,7 +51,7 @@ same_change m k f g (Some v) e same =
     ∙ ap (insert m k) (same v refl)
     ∙ sym (ap (λ (o : Option Node). option_map_or (λ node. insert m k (g node)) o m) e)
 
--- changes of two nodes, or of one where they agree, may come in either order
+-- changes of two nodes, or of one if they agree, may come in either order
 pub swap_changes : (m : Nodes) (a b : ℕ) (f g : Node → Node) → ((a ≡ b) → (v : Node) → get m a ≡ Some v → g (f v) ≡ f (g v)) → nodes_with_change (nodes_with_change m a f) b g ≡ nodes_with_change (nodes_with_change m b g) a f
 swap_changes m a b f g agree = by (cases_eq a b) where
   here : (c : ℕ) → a ≡ c → ((v : Node) → get m a ≡ Some v → g (f v) ≡ f (g v)) → nodes_with_change (nodes_with_change m a f) a g ≡ nodes_with_change (nodes_with_change m a g) a f

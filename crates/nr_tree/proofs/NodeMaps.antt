@@ -87,7 +87,7 @@ known es k P v had h = subst (λ o. IfSome o P) (get_node es k ∙ had) h
 pub other_key : (q k : ℕ) → (q ≡ k → ⊥) → eq_by_cmp nat_cmp q k ≡ false
 other_key q k ne = grind (arith, nat_tests)
 
--- what is known of one node stays known where another is put in
+-- what is known of one node stays known when another is put in
 pub stays : (m n : FinMap nat_cmp Node) (k d : ℕ) (v : Node) (P : Node → Type 0) → n ≡ insert m k v → (d ≡ k → ⊥) → IfSome (get m d) P → IfSome (get n d) P
 stays m n k d v P e ne h =
     subst (λ o. IfSome o P) (sym (ap (λ x. get x d) e ∙ get-insert nat_cmp_total m k v d ∙ ap (λ b. cond b (Some v) (get m d)) (other_key d k ne))) h

@@ -55,7 +55,7 @@ named_in : (s : DirectoryGraph) (a : Option ℕ) (n q : ℕ) → IsConsistent s 
 named_in s a n q sound z (inl is) = count_none n (s.entries q) (sum_below_zero s.next q (λ d. name_count_in (s.entries d) n) z (dir_below s a q sound is))
 named_in s a n q sound z (inr isnt) = subst (λ (es : List Entry). Each (λ e. e.number ≡ n → ⊥) es) (sym (sound.dirs_alone q isnt)) tt
 
--- where nothing counts as naming a number, no entry names it
+-- if nothing counts as naming a number, no entry names it
 pub unnamed : (s : DirectoryGraph) (a : Option ℕ) (n q : ℕ) → IsConsistent s a → name_count s n ≡ 0 → Each (λ e. e.number ≡ n → ⊥) (s.entries q)
 unnamed s a n q sound z = named_in s a n q sound z (cases_Bool (s.dir q))
 

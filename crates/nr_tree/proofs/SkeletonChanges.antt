@@ -44,7 +44,7 @@ value_at_remove f z nodes k = λ i q.
 pub value_at_at : {A : Type 0} (f : Node → A) (z : A) (nodes : Nodes) (k : ℕ) (v : Node) → get nodes k ≡ Some v → value_at f z nodes k ≡ f v
 value_at_at f z nodes k v e = ap (λ o. option_map_or f o z) e
 
--- a node put where this one is, that looks the same
+-- a node that replaces this one, and looks the same
 pub value_at_metadata : {A : Type 0} (f : Node → A) (z : A) (nodes : Nodes) (k : ℕ) (v w : Node) → get nodes k ≡ Some v → f w ≡ f v → value_at f z (insert nodes k w) ≡ value_at f z nodes
 value_at_metadata f z nodes k v w e same = value_at_insert f z nodes k w ∙ set_same k (f w) (value_at f z nodes) (value_at_at f z nodes k v e ∙ sym same)
 

@@ -27,7 +27,7 @@ none_of f g x None e h = refl
 none_of f g None (Some y) e h = absurd cc
 none_of f g (Some x) (Some y) e h = absurd cc
 
--- where no entry has the name, no slot is under it
+-- if no entry has the name, no slot is under it
 pub free_slot : (ps : List (Vec ℕ Global × Slot)) (name : List ℕ) → entry_of_name name (slot_entries ps) ≡ None → lookup (λ k. pointwise nat_eq name k.items) ps ≡ None
 free_slot ps name h = none_of (λ (e : Entry). e.number) (λ (s : Slot). s.number) (entry_of_name name (slot_entries ps)) _ (number_lookup ps name) h
 
@@ -36,7 +36,7 @@ pub slot_entries_append : (ps : List (Vec ℕ Global × Slot)) (name : Vec ℕ G
 slot_entries_append [] name slot = refl
 slot_entries_append (p ∷ ps) name slot = ap (λ (t : List Entry). entry_of p ∷ t) (slot_entries_append ps name slot)
 
--- the entry at a place is the slot at that place, with its name
+-- the entry at an index is the slot at that index, with its name
 pub entry_of_slot : (ps : List (Vec ℕ Global × Slot)) (i : ℕ) (p : Vec ℕ Global × Slot) → slice_get ps i ≡ Some p
     → slice_get (slot_entries ps) i ≡ Some (record { cookie = p.1.cookie; name = p.0.items; number = p.1.number })
 entry_of_slot ps i p here = slice_get-map _ ps i ∙ ap (option_map _) here

@@ -1,4 +1,4 @@
--- The walk up finds a directory exactly where a path does: no path is longer than there are numbers.
+-- The walk up finds a directory if and only if a path does: no path is longer than there are numbers.
 use Rattle.std.proofs.Common.{◌≡◌, ℕ, zero, suc, ◌+◌, ◌<◌, ◌≤◌, Bool, true, false, cond, eqb, not, ◌&&◌, List, [], ◌∷◌, length, None, Some, refl, ap, sym, ◌∙◌, subst, arith, inl, inr, ◌⊎◌, ◌||◌}
 use Rattle.std.proofs.lemmas.Bool.{cases_Bool, both_ways, eq-eqb, ne_eqb, eqb-true, eqb-false, or_cases, and_parts, or_left, or_right, and_from, not-true, not_from_false}
 use Rattle.nr_tree.specs.Entries.{Entry}
@@ -58,7 +58,7 @@ all_step : (b : Bool) (v x : ℕ) (xs rest : List ℕ) → eqb x v ≡ b → (x 
 all_step true v x xs rest e ne k = absurd (ne (eqb-true x v e))
 all_step false v x xs rest e ne k = omega (arith, k)
 
--- nothing is left out where the number isn't there
+-- nothing is left out if the number isn't there
 but_absent : (v : ℕ) (xs : List ℕ) → (On v xs → ⊥) → length (but v xs) ≡ length xs
 but_absent v [] h = refl
 but_absent v (x ∷ xs) h = all_step (eqb x v) v x xs (but v xs) refl (λ e. h (inl (sym e))) (but_absent v xs (λ o. h (inr o)))
@@ -67,7 +67,7 @@ one_step : (b : Bool) (v x : ℕ) (xs rest : List ℕ) → (b ≡ true → lengt
 one_step true v x xs rest same k = omega (arith, same refl)
 one_step false v x xs rest same k = omega (arith, k)
 
--- one at most is left out where all differ
+-- at most one is left out if all differ
 but_one : (v : ℕ) (xs : List ℕ) → Differ xs → length xs ≤ length (but v xs) + 1
 but_one v [] d = omega arith
 but_one v (x ∷ xs) d = one_step (eqb x v) v x xs (but v xs) (λ e. but_absent v xs (λ o. d.0 (subst (λ (k : ℕ). On k xs) (sym (eqb-true x v e)) o))) (but_one v xs d.1)

@@ -47,7 +47,8 @@ node_without_entry now name is_subdirectory dir = record dir {
   metadata = record dir.metadata { links = dir.metadata.links - one_if is_subdirectory; mtime = now; ctime = now };
 }
 
--- a file with one link more, from this directory, or one less (a file's parent is where its last entry was made, and means nothing)
+-- a file with one link more, from this directory, or one less (a file's parent is the directory that got its last entry, and means
+-- nothing)
 abbrev pub node_with_link : Time → ℕ → Node → Node
 node_with_link now parent node = record node { parent = parent; metadata = record node.metadata { links = node.metadata.links + 1; ctime = now } }
 

@@ -1,4 +1,4 @@
--- How a tree is told apart from another by proofs.
+-- The code of a tree, by which proofs distinguish it from another.
 use Rattle.std.specs.Prelude.{ℕ, refl}
 use Rattle.std.specs.Coded.{Coded, code_by, coded×, coded_ℕ}
 use Rattle.std.specs.Ordering.{nat_cmp}

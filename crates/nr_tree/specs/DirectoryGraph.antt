@@ -47,7 +47,7 @@ IsConnected s unlinked n = LiesBelow s unlinked n 1 ⊎ ((h : ℕ) × (unlinked 
 abbrev pub expected_links : DirectoryGraph → Option ℕ → ℕ → ℕ
 expected_links s unlinked n = if s.dir n then 2 + subdirectory_count s n else name_count s n + detached_count unlinked n
 
--- the most links of a node
+-- the maximum number of links of a node
 abbrev pub links_max : ℕ
 links_max = 65535
 

@@ -45,7 +45,7 @@ file_name i = 102 ∷ (48 + i / 10) ∷ (48 + i % 10) ∷ []
 abbrev pub root_entries : List Entry
 root_entries = record { cookie = 1; name = hello; number = 2 } ∷ record { cookie = 2; name = link; number = 3 } ∷ record { cookie = 3; name = many; number = 4 } ∷ []
 
--- the first so many entries of `many`: cookies from 1 on, numbers from 5 on
+-- the first n entries of `many`: cookies from 1 on, numbers from 5 on
 abbrev pub many_entries : ℕ → List Entry
 many_entries zero = []
 many_entries (suc i) = many_entries i ++ record { cookie = i + 1; name = file_name i; number = i + 5 } ∷ []
@@ -72,7 +72,7 @@ with_link = tree_with_node with_hello time_zero 1 link link_node
 abbrev pub with_many : Tree
 with_many = tree_with_node with_link time_zero 1 many (many_node 0)
 
--- the tree with so many files in `many`
+-- the tree with n files in `many`
 pub record IsDrillWith (count : ℕ) (t : Tree) : Type 0 where
   pub next : t.next ≡ count + 5
   pub root : get t.nodes 1 ≡ Some (drill_node mode_777 3 1 (Directory (record { next_cookie = 4; list = root_entries })))

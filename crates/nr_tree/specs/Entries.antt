@@ -3,7 +3,7 @@ use Rattle.std.specs.Prelude.{ℕ, ◌+◌, ◌<◌, ◌≤◌, ◌++◌, ◌≡
 use Rattle.std.specs.Cmp.Lexicographic.{pointwise}
 use Rattle.std.specs.Coded.{Coded, code_by, coded×, coded_ℕ, coded_list}
 
--- what a directory has under a name: the place to go on from, and the number of the node
+-- what a directory has under a name: the cookie to go on from, and the number of the node
 pub record Entry : Type 0 where
   pub cookie : ℕ
   pub name : List ℕ
@@ -62,7 +62,7 @@ abbrev pub CookiesAscend : ℕ → List Entry → ℕ → Type 0
 CookiesAscend from [] next = from ≤ next
 CookiesAscend from (e ∷ es) next = (from ≤ e.cookie) × CookiesAscend (e.cookie + 1) es next
 
--- the most bytes of a name
+-- the maximum length of a name in bytes
 abbrev pub name_length_max : ℕ
 name_length_max = 255
 

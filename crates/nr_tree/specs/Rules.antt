@@ -28,7 +28,7 @@ abbrev pub first : List (Option Status) → Option Status
 first [] = None
 first (rule ∷ rules) = or_else rule (first rules)
 
--- refused with this status where the test holds
+-- refused with this status if the test holds
 infix 5 ◌⇒◌
 abbrev pub ◌⇒◌ : Bool → Status → Option Status
 test ⇒ status = if test then Some status else None
@@ -152,7 +152,7 @@ is_invalid_time (ClientTime time) = nat_le nanoseconds_of_a_second time.nanoseco
 abbrev pub time_rule : SetAttributes → Option Status
 time_rule a = (is_invalid_time a.atime || is_invalid_time a.mtime) ⇒ Inval
 
--- a size above the most bytes of a file
+-- a size above the maximum of a file
 abbrev pub is_too_large : Option ℕ → Bool
 is_too_large None = false
 is_too_large (Some size) = nat_lt file_size_max size

@@ -10,7 +10,7 @@ use Rattle.nr_tree.specs.declared.node.Content.{Content}
 use Rattle.nr_tree.specs.declared.node.Content.TheVariants.{Regular, Directory, Block, Character, Link, Socket, Fifo}
 use Rattle.nr_nfs_base.specs.Limits.{link_target_max}
 
--- a file's most bytes, and a path's
+-- the maximum size of a file, and of a path, in bytes
 abbrev pub file_size_max : ℕ
 file_size_max = 16777216
 

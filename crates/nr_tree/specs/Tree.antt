@@ -87,7 +87,7 @@ is_regular node = is_regular_content node.content
 abbrev pub entries_in : Node → List Entry
 entries_in node = entries_of node.content
 
--- what a caller is told of a node
+-- what a caller sees of a node (RFC 1813 section 2.5, fattr3)
 abbrev pub attributes_of : ℕ → Node → Attributes
 attributes_of number node = record {
   file_type = type_of node.content;

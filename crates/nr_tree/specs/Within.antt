@@ -1,4 +1,4 @@
--- Whether a directory is another one or lies below it, as a test: a walk from each to its parent, as many steps as there are numbers.
+-- Whether a directory is another one or lies below it, as a test: a walk from each to its parent, of at most n steps for n numbers.
 use Rattle.std.specs.Prelude.{ℕ, zero, suc, ◌==◌, Bool, ◌||◌, ◌&&◌, not}
 use Rattle.nr_tree.specs.DirectoryGraph.{DirectoryGraph}
 

@@ -8,7 +8,7 @@ use nr_xdr::Memory;
 use std::alloc::{AllocError, Global};
 use std::marker::Model;
 
-/// Where an entry leads, and the place to go on from.
+/// The node of an entry, and the cookie to go on from.
 #[derive(Clone, Copy)]
 pub struct Slot {
     pub cookie: u64,
@@ -92,7 +92,7 @@ impl Directory {
         take_out(&mut self.slots, name);
     }
 
-    /// The entry at a place: its name, and where it leads.
+    /// The entry at an index: its name, its node and its cookie.
     #[tactic(auto, using(crate::proofs::Slots::entry_of_slot))]
     pub fn entry_at(&self, index: usize) -> (&[u8], Slot)
         requires { index < length self.now.list }
@@ -104,8 +104,8 @@ impl Directory {
         }
     }
 
-    /// The place of the first entry with a cookie above the given one, or how many entries there are. The entries from there on
-    /// are those that a listing goes on with (RFC 1813 section 3.3.16). The place is found by halving.
+    /// The index of the first entry with a cookie above the given one, or how many entries there are. The entries from there on
+    /// are those that a listing goes on with (RFC 1813 section 3.3.16). The index is found by halving.
     pub fn place_after(&self, cookie: u64) -> usize
         ensures within { result ≤ length self.now.list }
         ensures entries { drop result self.now.list ≡ entries_after cookie self.now.list }
@@ -156,7 +156,7 @@ ghost use Rattle.nr_tree.specs.Entries.{CookiesAscend};
 ghost use Rattle.nr_tree.specs.Listing.{entries_after};
 ghost use Rattle.std.specs.Prelude.{drop, ◌≤◌};
 
-/// The cookie of the entry at a place.
+/// The cookie of the entry at an index.
 #[tactic(auto, using(crate::proofs::ListingLemmas::cookie_of_slot))]
 fn cookie_at(slots: &IndexMap<Vec<u8>, Slot>, index: usize) -> u64
     requires { index < length slots.now.entries }
@@ -168,7 +168,7 @@ fn cookie_at(slots: &IndexMap<Vec<u8>, Slot>, index: usize) -> u64
     }
 }
 
-/// The place of the first entry with a cookie above the given one.
+/// The index of the first entry with a cookie above the given one.
 fn place_above(slots: &IndexMap<Vec<u8>, Slot>, next_cookie: u64, cookie: u64) -> usize
     requires { CookiesAscend 1 (slot_entries slots.now.entries) next_cookie }
     ensures within { result ≤ length slots.now.entries }

@@ -114,7 +114,6 @@ fn add_many(tree: &mut Tree, alloc: Global) -> Result<(), Memory>
     Ok(())
 }
 
-/// The entries of the root.
 fn add_root_entries(tree: &mut Tree, alloc: Global) -> Result<(), Memory>
     requires before { tree.old ≡ with_root }
     requires sane { IsSane tree.old }

@@ -52,7 +52,7 @@ impl File {
         part_of(self.bytes.as_slice(), offset, count)
     }
 
-    /// Writes over the bytes from a place on; a gap before it becomes zeros. After an `Err` the file is as before.
+    /// Writes over the bytes from an offset on; a gap before it becomes zeros. After an `Err` the file is as before.
     pub fn write(&mut self, offset: u64, bytes: &[u8]) -> Result<(), Memory>
         requires { offset + length bytes.now < 2 ^ 62 }
         ensures ok { OnOk result (self.new ≡ with_bytes_at self.old offset bytes.now) }
@@ -73,7 +73,7 @@ impl File {
     }
 }
 
-/// The bytes from a place on, as many as are asked for and are there.
+/// The bytes from an offset on, as many as are asked for and are there.
 fn part_of(bytes: &[u8], offset: u64, count: u32) -> &[u8]
     ensures { result.now ≡ take count (drop offset bytes.now) }
 {

@@ -10,11 +10,15 @@ use nr_xdr::{Memory, Octets};
 pub struct Metadata {
     /// The permission bits.
     pub mode: u32,
+    /// The number of hard links.
     pub links: u32,
     pub uid: u32,
     pub gid: u32,
+    /// The time of the last access to the data.
     pub atime: Time,
+    /// The time of the last modification of the data.
     pub mtime: Time,
+    /// The time of the last change of the attributes.
     pub ctime: Time,
 }
 
@@ -50,12 +54,14 @@ ghost use Rattle.nr_tree.specs.private.Room.{HasRoomFor, HasEntryFor};
 ghost use Rattle.nr_tree.specs.Replies.{size_of};
 
 impl Node {
+    /// Whether the node is a directory.
     pub fn is_dir(&self) -> bool
         ensures { result ≡ is_directory_node self.now }
     {
         matches!(self.content, Content::Directory(_))
     }
 
+    /// Whether the node is a regular file.
     pub fn is_regular(&self) -> bool
         ensures { result ≡ is_regular_node self.now }
     {
@@ -155,7 +161,7 @@ impl Node {
         self.metadata = metadata;
     }
 
-    /// Writes over the bytes of a regular file from a place on. After an `Err` the node is as before.
+    /// Writes over the bytes of a regular file from an offset on. After an `Err` the node is as before.
     pub(crate) fn write(&mut self, offset: u64, bytes: &[u8], now: Time) -> Result<(), Memory>
         requires regular { IsTrue (is_regular_node self.old) }
         requires room { offset + length bytes.now < 2 ^ 62 }
@@ -204,7 +210,7 @@ impl Node {
         self.content.size()
     }
 
-    /// What a caller is told of the node under this number (RFC 1813 section 2.5, `fattr3`). Takes no memory.
+    /// The attributes of the node under this number (RFC 1813 section 2.5, `fattr3`). Takes no memory.
     pub fn attributes(&self, number: u64) -> Attributes
         ensures { result ≡ attributes_of number self.now }
     {

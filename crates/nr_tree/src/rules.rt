@@ -31,19 +31,19 @@ impl Right {
     }
 }
 
-/// The most bytes of a name.
+/// The maximum length of a name in bytes.
 pub const NAME_LENGTH_MAX: u32 = 255;
 
-/// The most links of a node.
+/// The maximum number of links of a node.
 pub const LINKS_MAX: u32 = 65_535;
 
 /// How many modes there are: a mode has twelve bits (RFC 1813 section 2.5, the mode of `fattr3`).
 pub const MODE_COUNT: u32 = 0o10000;
 
-/// The most bytes of a regular file.
+/// The maximum size of a regular file in bytes.
 pub const FILE_SIZE_MAX: u64 = 16_777_216;
 
-/// What an entry of the journal costs, beside the bytes of its arguments.
+/// The cost of an entry of the journal in bytes, beside its arguments.
 pub const ENTRY_COST: u64 = 64;
 
 fn is_among(gids: &[u32], gid: u32) -> bool

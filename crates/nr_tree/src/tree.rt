@@ -105,7 +105,8 @@ impl Tree {
         drop_name_of(&mut self.nodes, number, now);
     }
 
-    /// Writes over the bytes of a regular file from a place on; no bytes change nothing. After an `Err` the tree is as before.
+    /// Writes over the bytes of a regular file from an offset on; no bytes change nothing. After an `Err` the tree is as
+    /// before.
     pub(crate) fn write_inner(
         &mut self,
         number: u64,

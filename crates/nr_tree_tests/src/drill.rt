@@ -45,7 +45,7 @@ static NAMES: [(u64, &[u8], Option<u64>); 10] = [
     (105, b"f00", None),
 ];
 
-/// What a listing of a directory goes on with after a cookie: place, cookie and number.
+/// What a listing of a directory goes on with after a cookie: index, cookie and number.
 static LISTINGS: [(u64, u64, Option<(usize, u64, u64)>); 10] = [
     (1, 0, Some((0, 1, 2))),
     (1, 2, Some((2, 3, 4))),

@@ -63,7 +63,7 @@ fn remove(tree: &mut Tree)
     tree.remove_entry(1, b"hello", 2, NOW);
 }
 
-/// Two bytes are written behind `hello`, after a gap.
+/// Two bytes are written after `hello`, after a gap.
 fn write(rt: &impl Abort, tree: &mut Tree)
     requires drill { IsDrill tree.old }
     requires sane { IsSane tree.old }

@@ -9,7 +9,7 @@ use Rattle.nr_wire.specs.Feeding.{Feeding, feeding_in, feeding_after_frames, fee
 use Rattle.nr_wire.proofs.Frames.{whole_from, partial_from, shorter_than_frame, partial_nil, needed_less, needed_just, partial_not_whole}
 use Rattle.nr_wire.proofs.Splits.{split_whole, split_append, split_Splits, awaited_after_Fpdu}
 
--- what is dropped behind a front
+-- what is dropped after a front
 drop_past : (front back : List ℕ) (n : ℕ) → length front ≤ n → drop n (front ++ back) ≡ drop (n - length front) back
 drop_past [] back n le = ap (λ (k : ℕ). drop k back) (omega arith)
 drop_past (x ∷ front) back zero le = absurd (omega arith)
@@ -42,7 +42,7 @@ module _ {S : Type 0} (ended : S → Bool) (advanced : S → Awaited → List �
       let s = split f.awaited (f.rest ++ bytes) in
       frames-ended s.frames s.rest f.awaited f.state e
 
-  -- some more bytes behind frames
+  -- some more bytes after frames
   frames-fed : (frames : List (List ℕ)) (rest more : List ℕ) (a : Awaited) (state : S) (w : Bool) → ended state ≡ w → feeding_after ended advanced (feeding_after_frames ended advanced frames rest a state) more
       ≡ feeding_after_frames ended advanced (frames ++ (split (awaited_after a frames) (rest ++ more)).frames) (split (awaited_after a frames) (rest ++ more)).rest a state
   unfolding feeding_after
@@ -91,7 +91,7 @@ module _ {S : Type 0} (ended : S → Bool) (advanced : S → Awaited → List �
       let s = split f.awaited (f.rest ++ bytes) in
       frames-partial s.frames s.rest f.awaited f.state (ended f.state) refl (split_Splits f.awaited (f.rest ++ bytes)).partial
 
-  -- one step: the state has ended, or else the awaited frame is whole, or it isn't
+  -- one step: the state has ended, or else the awaited frame is complete, or it isn't
   pub feeding_after_step-ended : (f : Feeding S) (piece : List ℕ) → ended f.state ≡ true → feeding_after_step ended advanced f piece ≡ kept f.awaited f.state
   unfolding feeding_after_step
   feeding_after_step-ended f piece e =
@@ -219,7 +219,7 @@ bytes_taken_staged a rest x y p = bytes_taken_staged_by a rest x y (is_whole a (
 pub bytes_taken_less : (a : Awaited) (rest piece : List ℕ) → length piece < bytes_needed a rest → bytes_taken a rest piece ≡ length piece
 bytes_taken_less a rest piece lt = bytes_taken_partial a rest piece (partial_not_whole a (rest ++ piece) (needed_less a rest piece lt))
 
--- where the fields are there and as many bytes come as are needed, those are taken, and the frame is whole
+-- if the fields are there and as many bytes come as are needed, those are taken, and the frame is complete
 pub bytes_taken_just : (a : Awaited) (rest front back : List ℕ) → IsPartial a rest → fields_len a ≤ length rest → length front ≡ bytes_needed a rest
     → (bytes_taken a rest (front ++ back) ≡ length front) × (is_whole a (rest ++ (front ++ back)) ≡ true)
 bytes_taken_just a rest front back p fields e =

@@ -63,7 +63,7 @@ pub is_whole_from : (a : Awaited) (bytes : List ℕ) → Whole a bytes → is_wh
 unfolding is_whole
 is_whole_from a bytes w = and_from _ _ (le-leb _ _ w.fields) (le-leb _ _ w.frame)
 
--- a whole frame by itself has its own length
+-- a complete frame by itself has its own length
 pub frame_len_take : (a : Awaited) (bytes : List ℕ) → Whole a bytes → frame_len a (take (frame_len a bytes) bytes) ≡ frame_len a bytes
 frame_len_take a bytes w =
     let n = frame_len a bytes in
@@ -76,7 +76,7 @@ IsFrame_take a bytes w =
     let len : length (take (frame_len a bytes) bytes) ≡ frame_len a bytes = length-take-le (frame_len a bytes) bytes w.frame in
     record { fields = omega (arith, fields_within a bytes); len = frame_len_take a bytes w ∙ sym len }
 
--- a frame is whole, whatever comes behind it
+-- a frame is complete, whatever comes after it
 pub whole_append : (a : Awaited) (xs ys : List ℕ) → Whole a xs → Whole a (xs ++ ys)
 whole_append a xs ys w =
     let len = frame_len_append a xs ys w.fields in
@@ -126,7 +126,7 @@ partial_from a bytes e =
           begun a bytes [] (rw same le) (rw same (omega (arith, not_whole a bytes e le))) lt
     ]
 
--- what a whole FPDU has room for
+-- what a complete FPDU has room for
 pub fpdu_holds : (frame : List ℕ) → IsFrame Fpdu frame → (4 ≤ length frame) × (LENGTH_LEN + ulpdu_len frame ≤ length frame)
 unfolding fpdu_len
 fpdu_holds frame f = let least = fpdu_size_least (ulpdu_len frame) in (omega (arith, f.len), omega (arith, f.len))
@@ -176,7 +176,7 @@ needed_frame : (a : Awaited) (rest : List ℕ) → fields_len a ≤ length rest 
 unfolding bytes_needed
 needed_frame a rest le = rw (le-ltb (length rest) (fields_len a) le) refl
 
--- some bytes are needed exactly where the frame isn't whole
+-- some bytes are needed if and only if the frame isn't complete
 pub needed_some : (a : Awaited) (rest : List ℕ) → IsPartial a rest ↔ (0 < bytes_needed a rest)
 needed_some a rest =
     elim (cases_lt (length rest) (fields_len a)) [
@@ -187,7 +187,7 @@ needed_some a rest =
       )
     ]
 
--- fewer bytes than are needed don't make it whole
+-- fewer bytes than are needed don't complete it
 pub needed_less : (a : Awaited) (rest more : List ℕ) → length more < bytes_needed a rest → IsPartial a (rest ++ more)
 needed_less a rest more lt =
     elim (cases_lt (length rest) (fields_len a)) [
@@ -195,7 +195,7 @@ needed_less a rest more lt =
       | inr le ↦ long_partial a (rest ++ more) (omega (arith, length-append rest more, needed_frame a rest le, frame_len_append a rest more le))
     ]
 
--- as many as are needed make its fields whole, or else the frame
+-- as many as are needed complete its fields, or else the frame
 pub needed_just : (a : Awaited) (rest more : List ℕ) → IsPartial a rest → length more ≡ bytes_needed a rest
     → (length rest < fields_len a → length (rest ++ more) ≡ fields_len a) × (fields_len a ≤ length rest → IsFrame a (rest ++ more))
 needed_just a rest more p e = (

@@ -1,4 +1,4 @@
--- A hello is read exactly where it is encoded.
+-- A hello is read if and only if it is encoded.
 use Rattle.std.proofs.Common.{◌≡◌, ℕ, ◌+◌, ◌^◌, ◌<◌, ◌≤◌, Bool, true, false, not, cond, eqb, ltb, List, ◌∷◌, ◌++◌, length, get_or, take, drop, Option, None, Some, refl, sym, ap, ◌∙◌, subst, ◌↔◌, arith}
 use Rattle.std.specs.List.{starts_with}
 use Rattle.std.specs.Prelude.{nat_eq}
@@ -69,7 +69,7 @@ hello_in_answer : (side : Side) (bytes : List ℕ) → hello_in side bytes ≡ a
 unfolding hello_in hello_of
 hello_in_answer side bytes = refl
 
--- a whole hello that isn't refused
+-- a complete hello that isn't refused
 record Encoded (hello : Hello) (frame : List ℕ) : Type 0 where
   flaw : hello_flaw hello.side (take HELLO_LEN frame) ≡ None
   flags : flags_of frame ≡ hello.flags

@@ -4,7 +4,7 @@ use Rattle.nr_wire.specs.Hello.{value_unless}
 use Rattle.nr_wire.specs.Next.{Next, IfWhole, frame_answer}
 use Rattle.nr_wire.specs.Next.Next.{Whole, More, Bad}
 
--- the answer where a frame is whole, its flaw, its value and its length
+-- the answer if a frame is complete, its flaw, its value and its length
 abbrev pub answer : {V : Type 0} → Bool → Option ℕ → V → ℕ → Next V
 answer whole flaw value len = cond whole (frame_answer (value_unless flaw value) len) More
 
@@ -30,7 +30,7 @@ bad_iff {V} true None value len reason = (λ e. absurd (let wrong : fine value l
 bad_iff {V} true (Some r) value len reason = (λ e. (refl, let same : bad {V = V} r ≡ bad reason = e in cc), λ e. let same : some r ≡ some reason = e.1 in cc)
 bad_iff {V} false flaw value len reason = (λ e. absurd (let wrong : none ≡ bad {V = V} reason = e in cc), λ e. absurd (let wrong : false ≡ true = e.0 in cc))
 
--- a whole frame without a flaw
+-- a complete frame without a flaw
 pub record Fine {V : Type 0} (whole : Bool) (flaw : Option ℕ) (value found : V) (len n : ℕ) : Type 0 where
   pub whole_is : whole ≡ true
   pub flaw_is : flaw ≡ None
@@ -48,7 +48,7 @@ fine_from {V} false flaw value found len n e = absurd (let wrong : none {V = V} 
 pub whole_by : {V : Type 0} (whole : Bool) (flaw : Option ℕ) (value found : V) (len n : ℕ) → Fine whole flaw value found len n → answer whole flaw value len ≡ Whole found n
 whole_by whole flaw value found len n f = λ i. answer (f.whole_is i) (f.flaw_is i) (f.value_is i) (f.len_is i)
 
--- a fact of what is whole follows from the equation with it
+-- a fact of what is complete follows from the equation with it
 pub if_whole : {V : Type 0} (r : Next V) (P : V → ℕ → Type 0) → ((value : V) (len : ℕ) → r ≡ Whole value len → P value len) → IfWhole r P
 if_whole (Whole value len) P law = law value len refl
 if_whole More P law = tt

@@ -1,4 +1,4 @@
--- A segment is read exactly where an FPDU encodes it, whatever its reserved bits, pad and CRC hold.
+-- A segment is read if and only if an FPDU encodes it, whatever its reserved bits, pad and CRC hold.
 use Rattle.std.proofs.Common.{◌≡◌, ℕ, ◌+◌, ◌-◌, ◌/◌, ◌%◌, ◌^◌, ◌<◌, ◌≤◌, Bool, true, false, not, cond, eqb, ltb, List, ◌∷◌, ◌++◌, length, replicate, take, drop, Option, None, Some, Result, Ok, Err, refl, sym, ap, ◌∙◌, subst, ◌↔◌, arith}
 use Rattle.std.proofs.lemmas.Bool.{ltb-false, le-ltb, eqb-true, eq-eqb, not-false, or_left, or_right}
 use Rattle.std.proofs.lemmas.List.{take_at, take-append-drop, length-append, length-take-le, length-drop, drop_more, drop-drop, length-replicate}
@@ -52,7 +52,7 @@ untagged_passes : (size opcode queue : ℕ) → 18 ≤ size → is_untagged_opco
 untagged_passes size opcode queue le known q =
     λ i. judge (le-ltb size 18 le i) (or_right (is_tagged_opcode opcode) (is_untagged_opcode opcode) known i) (untagged_other opcode known i) (not (eq-eqb queue (queue_for opcode) q i))
 
--- a whole FPDU that says a segment
+-- a complete FPDU that holds a segment
 record Says (frame : List ℕ) (segment : Segment) : Type 0 where
   said : segment_of frame ≡ Ok segment
   frame_is : IsFrame Fpdu frame
@@ -138,7 +138,7 @@ segment_again segment frame more through r =
 pub segment_of_again : (segment : Segment) (frame : List ℕ) → IsSupported segment → Reads segment frame → segment_of frame ≡ Ok segment
 segment_of_again segment frame through r = (says segment frame through r).said
 
--- what numbers stand where
+-- the numbers at their offsets
 piece_word : (k : ℕ) (frame : List ℕ) → IsBytes frame → k + 4 ≤ length frame → drop k frame ≡ word (word_at k frame) ++ drop (k + 4) frame
 piece_word k frame fits le =
     let front = take 4 (drop k frame) in
@@ -153,7 +153,7 @@ piece_hyper k frame fits le =
     let encoded : front ≡ hyper (hyper_at k frame) = sym (hyper_hyper_of front len (IsBytes_take 8 (drop k frame) (IsBytes_drop k frame fits))) in
     sym (take-append-drop 8 (drop k frame)) ∙ (λ i. encoded i ++ drop-drop 8 k frame i)
 
--- the length field and the two bytes behind it
+-- the length field and the two bytes after it
 piece_opening : (frame : List ℕ) → IsBytes frame → 4 ≤ length frame → frame ≡ half_word (ulpdu_len frame) ++ (slice_index frame 2 ∷ slice_index frame 3 ∷ drop 4 frame)
 piece_opening frame fits le =
     let len : length (take 2 frame) ≡ 2 = length-take-le 2 frame (omega arith) in
@@ -199,7 +199,7 @@ passed_in frame tagged t e =
     passed (ltb (ulpdu_len frame) (header_len tagged)) (eqb (ddp_version frame) 1) (eqb (rdmap_version frame) 1) (is_supported (opcode_of frame)) (is_of_other_form tagged (opcode_of frame)) (is_of_other_queue tagged (opcode_of frame) (queue_of frame))
     (sym (ap (λ (b : Bool). flaw_by (ulpdu_len frame) b (ddp_version frame) (rdmap_version frame) (opcode_of frame) (queue_of frame)) t) ∙ e)
 
--- where the payload lies
+-- the position of the payload
 record Payload (n : ℕ) (frame : List ℕ) : Type 0 where
   len : n + length (payload_of n frame) ≡ ulpdu_len frame
   tail_len_is : length (drop (ulpdu_len frame - n) (drop (2 + n) frame)) ≡ tail_len (n + length (payload_of n frame))
@@ -365,7 +365,7 @@ says_which : (frame : List ℕ) (segment : Segment) (flaw : Option ℕ) → valu
 says_which frame segment None e = (refl, ok_is (segment_by_form (is_tagged frame) frame) segment e)
 says_which frame segment (Some reason) e = absurd (let wrong : failed reason ≡ done segment = e in cc)
 
--- what a whole FPDU says is what it reads as
+-- what a complete FPDU holds is what it reads as
 pub segment_of_iff : (frame : List ℕ) (segment : Segment) → IsBytes frame → IsFrame Fpdu frame → (segment_of frame ≡ Ok segment) ↔ (IsSupported segment × Reads segment frame)
 unfolding segment_of
 segment_of_iff frame segment fits f = (

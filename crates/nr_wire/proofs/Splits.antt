@@ -11,7 +11,7 @@ use Rattle.nr_wire.proofs.Frames.{fields_some, fields_within, frame_len_append, 
 abbrev nothing : List ℕ → Split
 nothing rest = record { frames = []; rest = rest }
 
--- fewer bytes than fields are no whole frame
+-- fewer bytes than fields are no complete frame
 short_not_whole : (a : Awaited) (bytes : List ℕ) → length bytes ≤ 0 → is_whole a bytes ≡ false
 short_not_whole a bytes le = false_from_ne_true _ (λ e. let w = whole_from a bytes e in omega (arith, fields_some a, w.fields))
 
@@ -22,7 +22,7 @@ at_most : (n : ℕ) (a : Awaited) (bytes : List ℕ) → is_whole a bytes ≡ fa
 at_most n a bytes e =
     ap (λ (w : Bool). cond w (frame_then (take (frame_len a bytes) bytes) (split_within n Fpdu (drop (frame_len a bytes) bytes))) (nothing bytes)) e
 
--- it is enough to allow as many frames as there are bytes
+-- it is enough to allow one frame for each byte
 enough : (n m : ℕ) (a : Awaited) (bytes : List ℕ) → length bytes ≤ n → length bytes ≤ m → split_within n a bytes ≡ split_within m a bytes
 enough zero zero a bytes p q = refl
 enough zero (suc m) a bytes p q = sym (at_most m a bytes (short_not_whole a bytes p))
@@ -67,7 +67,7 @@ no_frame : (a : Awaited) (stream : List ℕ) → is_whole a stream ≡ false →
 no_frame a stream e =
     subst (AsSplit a stream) (sym (split_partial a stream e)) (record { whole = refl; each = tt; partial = partial_from a stream e })
 
--- what is awaited behind FPDUs
+-- what is awaited after FPDUs
 pub awaited_after_Fpdu : (frames : List (List ℕ)) → awaited_after Fpdu frames ≡ Fpdu
 awaited_after_Fpdu [] = refl
 awaited_after_Fpdu (frame ∷ frames) = refl

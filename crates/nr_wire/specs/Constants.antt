@@ -1,7 +1,8 @@
 -- The numbers of the link's formats (RFC 5040, 5041, 5044), and the reasons for which its frames are refused.
 use Rattle.std.specs.Prelude.{ℕ}
 
--- how many bytes a hello has before its private data (RFC 5044 section 7.1), the revision that it names, and the most private data
+-- how many bytes a hello has before its private data (RFC 5044 section 7.1), the revision that it names, and the maximum length of
+-- private data
 abbrev pub HELLO_LEN : ℕ
 HELLO_LEN = 20
 
@@ -21,7 +22,8 @@ FLAG_CRC = 64
 abbrev pub FLAG_REJECT : ℕ
 FLAG_REJECT = 32
 
--- how many bytes the length field and the CRC of an FPDU have (RFC 5044 section 4), and the most that an ULPDU and an FPDU have
+-- how many bytes the length field and the CRC of an FPDU have (RFC 5044 section 4), and the maximum lengths of an ULPDU and of an
+-- FPDU
 abbrev pub LENGTH_LEN : ℕ
 LENGTH_LEN = 2
 

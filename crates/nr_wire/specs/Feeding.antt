@@ -1,4 +1,4 @@
--- Feeding: the bytes of a stream come piece by piece, and each whole frame advances a state of the layer above.
+-- Feeding: the bytes of a stream come piece by piece, and each complete frame advances a state of the layer above.
 use Rattle.std.specs.Prelude.{ℕ, ◌-◌, Bool, if◌then◌else◌, List, [], ◌∷◌, ◌++◌, length, take}
 use Rattle.nr_wire.specs.declared.stream.Awaited.{Awaited}
 use Rattle.nr_wire.specs.declared.stream.Awaited.TheVariants.{Fpdu}
@@ -29,7 +29,7 @@ module _ {S : Type 0} (ended : S → Bool) (advanced : S → Awaited → List �
       feeding_after_frames s.frames s.rest f.awaited f.state
 
   -- After one step on a piece: it goes up to the end of the awaited frame if the piece completes that, else over all of it.
-  -- An ended state stays as it is and keeps no bytes.
+  -- An ended state doesn't change and keeps no bytes.
   abbrev pub feeding_step : Feeding S → List ℕ → Feeding S
   feeding_step f bytes =
       if is_whole f.awaited bytes
@@ -40,6 +40,6 @@ module _ {S : Type 0} (ended : S → Bool) (advanced : S → Awaited → List �
   feeding_after_step f piece =
       if ended f.state then feeding_in f.awaited [] f.state else feeding_step f (f.rest ++ piece)
 
--- how many bytes of a piece that step takes, where the awaited frame is a and rest has come of it
+-- how many bytes of a piece that step takes, if the awaited frame is a, of which rest has come
 unfoldable pub bytes_taken : Awaited → List ℕ → List ℕ → ℕ
 bytes_taken a rest piece = if is_whole a (rest ++ piece) then frame_len a (rest ++ piece) - length rest else length piece

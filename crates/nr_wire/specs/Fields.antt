@@ -10,7 +10,7 @@ half_word n = to_be_bytes w16 n
 unfoldable pub half_word_of : List ℕ → ℕ
 half_word_of bytes = from_be_bytes w16 bytes
 
--- the number of the two, and of the eight, bytes from this place on
+-- the number of the two, and of the eight, bytes from this offset on
 abbrev pub half_word_at : ℕ → List ℕ → ℕ
 half_word_at place bytes = half_word_of (take 2 (drop place bytes))
 

@@ -7,7 +7,7 @@ use Rattle.nr_wire.specs.declared.hello.Side.{Side}
 use Rattle.nr_wire.specs.declared.hello.Side.TheVariants.{Initiator, Responder}
 use Rattle.nr_wire.specs.Fields.{half_word, half_word_at, has_bit}
 
--- a hello without where it lies in memory
+-- a hello as a value, without its address
 pub record Hello : Type 0 where
   pub side : Side
   pub flags : ℕ
@@ -55,7 +55,7 @@ abbrev pub value_unless : {V : Type 0} → Option ℕ → V → Result V ℕ
 value_unless None value = Ok value
 value_unless (Some reason) value = Err reason
 
--- the hello that a whole frame of this side holds, or why it is refused
+-- the hello that a complete frame of this side holds, or why it is refused
 unfoldable pub hello_of : Side → List ℕ → Result Hello ℕ
 hello_of side frame =
     value_unless (hello_flaw side (take HELLO_LEN frame)) (record { side = side; flags = flags_of frame; private = drop HELLO_LEN frame })

@@ -6,19 +6,20 @@ use Rattle.nr_wire.specs.Hello.{Hello, hello_of, hello_len}
 use Rattle.nr_wire.specs.Segment.{Segment, segment_of, fpdu_len}
 use Rattle.nr_wire.specs.Stream.{is_whole}
 
--- a whole frame, with its value and its length; less than a whole frame; or a whole frame that is refused for a reason
+-- a complete frame, with its value and its length; less than a complete frame; or a complete frame that is refused for
+-- a reason
 pub data Next (V : Type 0) : Type 0 where
   Whole : (value : V) → (len : ℕ) → Next V
   More : Next V
   Bad : (reason : ℕ) → Next V
 
--- a fact about the value and the length of a whole frame
+-- a fact about the value and the length of a complete frame
 abbrev pub IfWhole : {V : Type 0} → Next V → (V → ℕ → Type 0) → Type 0
 IfWhole (Whole value len) P = P value len
 IfWhole More P = Unit {0}
 IfWhole (Bad reason) P = Unit {0}
 
--- the answer for a whole frame of this length, from its value or the reason against it
+-- the answer for a complete frame of this length, from its value or the reason against it
 abbrev pub frame_answer : {V : Type 0} → Result V ℕ → ℕ → Next V
 frame_answer (Ok value) len = Whole value len
 frame_answer (Err reason) len = Bad reason

@@ -6,7 +6,7 @@ use Rattle.nr_xdr.specs.Fields.{word_at}
 use Rattle.nr_wire.specs.Fields.{half_word, half_word_at, hyper_at, has_bit}
 use Rattle.nr_wire.specs.Hello.{value_unless}
 
--- a segment without where it lies in memory
+-- a segment as a value, without its address
 pub data Segment : Type 0 where
   Tagged : (last : Bool) → (opcode stag to : ℕ) → (payload : List ℕ) → Segment
   Untagged : (last : Bool) → (opcode word queue msn offset : ℕ) → (payload : List ℕ) → Segment
@@ -111,7 +111,7 @@ pub record Reads (segment : Segment) (frame : List ℕ) : Type 0 where
   pub tail_is : length tail ≡ tail_len (ulpdu_size segment)
   pub frame_is : frame ≡ fpdu_with reserved spare tail segment
 
--- the fields of a whole FPDU
+-- the fields of a complete FPDU
 abbrev pub is_tagged : List ℕ → Bool
 is_tagged frame = has_bit BIT_TAGGED (slice_index frame 2)
 
@@ -170,6 +170,6 @@ unfoldable pub frame_reason : List ℕ → Option ℕ
 frame_reason frame =
     flaw_by (ulpdu_len frame) (is_tagged frame) (ddp_version frame) (rdmap_version frame) (opcode_of frame) (queue_of frame)
 
--- the segment that a whole FPDU holds, or why it is refused
+-- the segment that a complete FPDU holds, or why it is refused
 unfoldable pub segment_of : List ℕ → Result Segment ℕ
 segment_of frame = value_unless (frame_reason frame) (segment_by_form (is_tagged frame) frame)

@@ -1,5 +1,6 @@
--- A stream (RFC 5044 sections 4 and 7): a hello, FPDUs, and a rest that is less than a frame. The length field of an FPDU says
--- where it ends, whatever else it holds. A hello ends after its private data, or after its first 20 bytes if these are refused.
+-- A stream (RFC 5044 sections 4 and 7): a hello, FPDUs, and a rest that is less than a frame. An FPDU ends at the length that
+-- its length field gives, whatever else it holds. A hello ends after its private data, or after its first 20 bytes if these are
+-- refused.
 use Rattle.std.specs.Prelude.{◌≡◌, ℕ, ◌-◌, ◌≤◌, zero, suc, Bool, ◌&&◌, nat_lt, nat_le, if◌then◌else◌, List, [], ◌∷◌, ◌++◌, length, take, drop, ◌<◌}
 use Rattle.std.specs.List.{concat}
 use Rattle.nr_wire.specs.Constants.{HELLO_LEN, LENGTH_LEN}
@@ -18,7 +19,7 @@ abbrev pub frame_len : Awaited → List ℕ → ℕ
 frame_len (Hello side) bytes = hello_len side bytes
 frame_len Fpdu bytes = fpdu_len bytes
 
--- the bytes begin with the whole awaited frame
+-- the bytes begin with the complete awaited frame
 unfoldable pub is_whole : Awaited → List ℕ → Bool
 is_whole a bytes = nat_le (fields_len a) (length bytes) && nat_le (frame_len a bytes) (length bytes)
 
@@ -33,7 +34,7 @@ pub record IsPartial (a : Awaited) (bytes : List ℕ) : Type 0 where
   pub some : 0 < length more
   pub frame : IsFrame a (bytes ++ more)
 
--- how many more bytes the awaited frame needs: first those that give its length, then those of the whole frame
+-- how many more bytes the awaited frame needs: first those that give its length, then those of the complete frame
 unfoldable pub bytes_needed : Awaited → List ℕ → ℕ
 bytes_needed a rest = if nat_lt (length rest) (fields_len a) then fields_len a - length rest else frame_len a rest - length rest
 
@@ -47,7 +48,7 @@ abbrev pub AreFrames : Awaited → List (List ℕ) → Type 0
 AreFrames a [] = Unit {0}
 AreFrames a (frame ∷ frames) = IsFrame a frame × AreFrames Fpdu frames
 
--- the stream is these frames, and then less than a whole one
+-- the stream is these frames, and then less than a complete one
 pub record Splits (a : Awaited) (stream : List ℕ) (frames : List (List ℕ)) (rest : List ℕ) : Type 0 where
   pub whole : stream ≡ concat frames ++ rest
   pub each : AreFrames a frames

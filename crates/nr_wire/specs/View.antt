@@ -1,4 +1,4 @@
--- The values of the code, without where they lie in memory.
+-- The values of the code, without their addresses.
 use Rattle.std.specs.Prelude.{ℕ, Result, Ok, Err}
 use Rattle.nr_wire.specs.declared.hello.Hello.{Hello as HelloFrame}
 use Rattle.nr_wire.specs.declared.hello.NextHello.{NextHello}

@@ -1,10 +1,10 @@
 //! The numbers of the link's formats (RFC 5040, 5041, 5044), and the reasons for which its frames are refused.
 
-/// Bytes of a hello before its private data (RFC 5044 section 7.1).
+/// The length of a hello before its private data, in bytes (RFC 5044 section 7.1).
 pub const HELLO_LEN: usize = 20;
 /// The revision of MPA that a hello names.
 pub const HELLO_REVISION: u8 = 1;
-/// The most bytes of private data in a hello.
+/// The maximum length of private data in a hello, in bytes.
 pub const PRIVATE_MAX: u16 = 512;
 /// The flag by which a hello asks for markers.
 pub const FLAG_MARKERS: u8 = 0x80;
@@ -13,17 +13,17 @@ pub const FLAG_CRC: u8 = 0x40;
 /// The flag by which a reply refuses the connection.
 pub const FLAG_REJECT: u8 = 0x20;
 
-/// Bytes of the length field that opens an FPDU (RFC 5044 section 4).
+/// The length of the length field that opens an FPDU, in bytes (RFC 5044 section 4).
 pub const LENGTH_LEN: usize = 2;
-/// Bytes of the CRC field that ends an FPDU.
+/// The length of the CRC field that ends an FPDU, in bytes.
 pub const CRC_LEN: usize = 4;
-/// The most bytes in an ULPDU: its length field has 16 bits.
+/// The maximum length of an ULPDU in bytes: its length field has 16 bits.
 pub const ULPDU_MAX: usize = 65535;
-/// Bytes of the longest FPDU.
+/// The maximum length of an FPDU in bytes.
 pub const FPDU_MAX: usize = LENGTH_LEN + ULPDU_MAX + 3 + CRC_LEN;
-/// Bytes of the header of a tagged segment (RFC 5041 section 4.2).
+/// The length of the header of a tagged segment in bytes (RFC 5041 section 4.2).
 pub const TAGGED_LEN: usize = 14;
-/// Bytes of the header of an untagged segment (RFC 5041 section 4.3).
+/// The length of the header of an untagged segment in bytes (RFC 5041 section 4.3).
 pub const UNTAGGED_LEN: usize = 18;
 /// The most bytes of an FPDU before its segment's payload.
 pub const HEADER_MAX: usize = LENGTH_LEN + UNTAGGED_LEN;
@@ -75,5 +75,5 @@ pub const REASON_RDMAP_VERSION: u32 = 7;
 pub const REASON_OPCODE: u32 = 8;
 /// The T bit isn't the one that the opcode requires.
 pub const REASON_TAGGED: u32 = 9;
-/// An untagged segment stands in a queue that isn't its opcode's.
+/// An untagged segment is in a queue that isn't its opcode's.
 pub const REASON_QUEUE: u32 = 10;

@@ -18,7 +18,9 @@ use crate::words::{half_word_at, has_bit};
 /// An end of a connection: the initiator opened it, the responder accepted it.
 #[derive(Clone, Copy, Debug, PartialEq, Eq)]
 pub enum Side {
+    /// It opened the connection, and sends the MPA Request.
     Initiator,
+    /// It accepted the connection, and sends the MPA Reply.
     Responder,
 }
 
@@ -31,12 +33,12 @@ pub struct Hello<'a> {
     pub private: &'a [u8],
 }
 
-/// What the bytes begin with, where a hello is awaited.
+/// What the bytes begin with, if a hello is awaited.
 #[derive(Clone, Copy)]
 pub enum NextHello<'a> {
     /// A hello, in the first `len` bytes.
     Whole { hello: Hello<'a>, len: usize },
-    /// Less than a whole hello.
+    /// Less than a complete hello.
     More,
     /// A hello that is refused: the first of the reasons 1 to 4 that applies.
     Bad { reason: u32 },
@@ -99,7 +101,7 @@ pub fn hello_len(side: Side, bytes: &[u8]) -> usize
     }
 }
 
-/// The hello that a whole frame holds, or the reason for which it is refused.
+/// The hello that a complete frame holds, or the reason for which it is refused.
 #[tactic(auto, unfolding(crate::specs::Hello::hello_of))]
 fn hello_of(side: Side, frame: &[u8]) -> Result<Hello<'_>, u32>
     requires { HELLO_LEN ≤ length frame.now }
@@ -117,8 +119,8 @@ fn hello_of(side: Side, frame: &[u8]) -> Result<Hello<'_>, u32>
 }
 
 /// Reads the hello of `side` at the front of some bytes (RFC 5044 section 7.1). `Bad`: 20 bytes or more are there, and the
-/// first 20 give one of the reasons 1 to 4; the first that applies. `More`: exactly where fewer than 20 bytes are there, or the
-/// first 20 give no reason and fewer bytes follow than the private length says.
+/// first 20 give one of the reasons 1 to 4; the first that applies. `More`: if and only if fewer than 20 bytes are there, or
+/// the first 20 give no reason and fewer bytes follow than the private length says.
 pub fn read_hello(side: Side, bytes: &[u8]) -> NextHello<'_>
     // What is read is encoded so.
     ensures found { IfWhole (next_hello result) (λ hello len. (hello.side ≡ side) × IsAccepted hello

@@ -35,7 +35,7 @@ pub fn judged_alone()
         segment_in (frame ++ more) ≡ frame_answer (segment_of frame) (length frame) }
 {}
 
-/// A whole FPDU is read as a segment exactly where it encodes that segment and the opcode is supported.
+/// A complete FPDU is read as a segment if and only if it encodes that segment and the opcode is supported.
 pub fn one_segment()
     ensures { (frame : List ℕ) (segment : Segment) → IsBytes frame → IsFrame Awaited.Fpdu frame →
         (segment_of frame ≡ Ok segment) ↔ (IsSupported segment × Reads segment frame) }
@@ -50,8 +50,8 @@ pub fn one_split()
         frames_then (split a x).frames (split (awaited_after a (split a x).frames) ((split a x).rest ++ y)) }
 {}
 
-/// Feeding is the same however a stream is cut: into pieces, or step by step. What is kept is less than a frame, and an end
-/// stays.
+/// Feeding is the same however a stream is split: into pieces, or step by step. What is kept is less than a frame, and an
+/// end stays.
 pub fn however_cut<S>()
     ensures pieces { (ended : S → Bool) (advanced : S → Awaited → List ℕ → S) (f : Feeding S) (x y : List ℕ) →
         feeding_after ended advanced (feeding_after ended advanced f x) y ≡ feeding_after ended advanced f (x ++ y) }

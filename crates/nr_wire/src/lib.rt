@@ -1,13 +1,13 @@
 //! The frames of a link: the hello of MPA (RFC 5044), and DDP segments (RFC 5041, RFC 5040) in their FPDUs.
 //!
 //! The crate stands on `nr_xdr`, whose words it reads and writes. The endpoint above decides what a segment does. Bytes come
-//! from the front of a stream: [`read_hello`] and [`next_segment`] find a whole frame there, less than one, or one that is
-//! refused. Each frame is judged by its own bytes alone. What depends on earlier frames (message numbers, offsets, memory)
-//! is judged above. [`whole_frame`] and [`bytes_needed`] cut a stream into frames: an FPDU by its length field, whatever
-//! else it holds; a hello by its private length, or after its first 20 bytes if these are refused.
+//! from the front of a stream: [`read_hello`] and [`next_segment`] find a complete frame there, less than one, or one that
+//! is refused. Each frame is judged by its own bytes alone. What depends on earlier frames (message numbers, offsets,
+//! memory) is judged above. [`whole_frame`] and [`bytes_needed`] split a stream into frames: an FPDU by its length field,
+//! whatever else it holds; a hello by its private length, or after its first 20 bytes if these are refused.
 //!
-//! A stream is a hello, FPDUs, and a rest that is less than a frame. It splits in one way ([`one_split`]). A layer that goes
-//! over its frames reaches the same state however the stream is cut ([`however_cut`]).
+//! A stream is a hello, FPDUs, and a rest that is less than a frame. It splits in one way ([`one_split`]). A layer that
+//! processes its frames reaches the same state however the stream is split ([`however_cut`]).
 //!
 //! Markers and CRCs aren't supported: the CRC field is sent as zeros and ignored, as are the pad and the reserved bits.
 #![tactic(auto)]

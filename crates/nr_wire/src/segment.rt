@@ -43,12 +43,12 @@ pub enum Segment<'a> {
     },
 }
 
-/// What the bytes begin with, where an FPDU is awaited.
+/// What the bytes begin with, if an FPDU is awaited.
 #[derive(Clone, Copy)]
 pub enum NextSegment<'a> {
     /// A segment, in the first `len` bytes.
     Whole { segment: Segment<'a>, len: usize },
-    /// Less than a whole FPDU.
+    /// Less than a complete FPDU.
     More,
     /// An FPDU that is refused: the first of the reasons 5 to 10 that applies.
     Bad { reason: u32 },
@@ -124,7 +124,7 @@ fn header_len(tagged: bool) -> usize
     if tagged { TAGGED_LEN } else { UNTAGGED_LEN }
 }
 
-/// Why a whole FPDU is refused.
+/// Why a complete FPDU is refused.
 #[tactic(auto, unfolding(crate::specs::Segment::frame_reason))]
 fn flaw(frame: &[u8]) -> Option<u32>
     requires control { 4 ≤ length frame.now }
@@ -188,7 +188,7 @@ fn segment_by_form(tagged: bool, frame: &[u8]) -> Segment<'_>
     }
 }
 
-/// The segment that a whole FPDU holds, or the reason for which it is refused.
+/// The segment that a complete FPDU holds, or the reason for which it is refused.
 #[tactic(auto, unfolding(crate::specs::Segment::segment_of))]
 fn segment_of(frame: &[u8]) -> Result<Segment<'_>, u32>
     requires control { 4 ≤ length frame.now }
@@ -201,8 +201,8 @@ fn segment_of(frame: &[u8]) -> Result<Segment<'_>, u32>
     }
 }
 
-/// Reads the FPDU at the front of some bytes (RFC 5044 section 4). `More`: exactly where fewer than two bytes are there,
-/// or fewer than the FPDU that the length field announces, pad and CRC included. `Bad`: a whole FPDU is there that is refused;
+/// Reads the FPDU at the front of some bytes (RFC 5044 section 4). `More`: if and only if fewer than two bytes are there, or
+/// fewer than the FPDU that the length field announces, pad and CRC included. `Bad`: a complete FPDU is there that is refused;
 /// the first of the reasons 5 to 10 that applies. The payload is a part of the bytes.
 pub fn next_segment(bytes: &[u8]) -> NextSegment<'_>
     // What is read is encoded so, up to its reserved bits, pad and CRC.

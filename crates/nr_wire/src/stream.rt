@@ -11,7 +11,9 @@ use crate::segment::fpdu_len;
 /// What comes next in a stream: the hello of a side, and after it FPDUs.
 #[derive(Clone, Copy)]
 pub enum Awaited {
+    /// The hello of this side.
     Hello(Side),
+    /// An FPDU (RFC 5044 section 4).
     Fpdu,
 }
 
@@ -35,7 +37,7 @@ fn frame_len(awaited: Awaited, bytes: &[u8]) -> usize
     }
 }
 
-/// The length of the awaited frame at the front of the bytes. `None` exactly where they are less than a whole frame.
+/// The length of the awaited frame at the front of the bytes. `None` if and only if they are less than a complete frame.
 pub fn whole_frame(awaited: Awaited, bytes: &[u8]) -> Option<usize>
     ensures frame { IfSome result (λ len. IsFrame awaited (take len bytes.now) × (len ≤ length bytes.now)) }
     ensures partial { IsNone result ↔ IsPartial awaited bytes.now }
@@ -61,13 +63,13 @@ fn whole_frame_inner(awaited: Awaited, bytes: &[u8]) -> Option<usize>
 }
 
 /// How many more bytes the awaited frame needs, of which these have come: first those that give its length, then those of
-/// the whole frame. 0 exactly where the frame is whole.
+/// the complete frame. 0 if and only if the frame is complete.
 pub fn bytes_needed(awaited: Awaited, rest: &[u8]) -> usize
-    // Bytes are needed exactly where the frame isn't whole.
+    // Bytes are needed if and only if the frame isn't complete.
     ensures some { IsPartial awaited rest.now ↔ (0 < result) }
-    // Fewer don't make it whole.
+    // Fewer don't complete it.
     ensures less { (more : List ℕ) → length more < result → IsPartial awaited (rest.now ++ more) }
-    // As many complete its fields, and once these are there, the frame.
+    // That many complete its fields, and once these are there, the frame.
     ensures fields { length rest.now < fields_len awaited → length rest.now + result ≡ fields_len awaited }
     ensures just { fields_len awaited ≤ length rest.now → IsPartial awaited rest.now →
         (more : List ℕ) → length more ≡ result → IsFrame awaited (rest.now ++ more) }

@@ -1,9 +1,9 @@
-//! The numbers of two and of eight bytes at a place, the highest byte first, and single bits.
+//! The numbers of two and of eight bytes at an offset, the highest byte first, and single bits.
 
 ghost use Rattle.std.specs.Prelude.{◌≡◌, ℕ, ◌+◌, ◌<◌, ◌≤◌, length};
 ghost use Rattle.nr_wire.specs.Fields.{half_word_at, hyper_at, has_bit};
 
-/// The two bytes at a place as a number.
+/// The two bytes at an offset as a number.
 #[tactic(auto, unfolding(crate::specs::Fields::half_word_of))]
 pub fn half_word_at(bytes: &[u8], place: usize) -> u16
     requires { place + 2 ≤ length bytes.now }
@@ -13,7 +13,7 @@ pub fn half_word_at(bytes: &[u8], place: usize) -> u16
     u16::from_be_bytes([rest[0], rest[1]])
 }
 
-/// The eight bytes at a place as a number.
+/// The eight bytes at an offset as a number.
 #[tactic(auto, unfolding(nr_xdr::specs::Item::hyper_of))]
 pub fn hyper_at(bytes: &[u8], place: usize) -> u64
     requires { place + 8 ≤ length bytes.now }

@@ -19,7 +19,6 @@ use arrayvec::ArrayVec;
 use nr_xdr::{Memory, Octets};
 use std::alloc::Global;
 
-/// Puts a hello at the end.
 #[tactic(auto, unfolding(crate::specs::Hello::hello_encoding, crate::specs::Fields::half_word))]
 fn push_hello(out: &mut Vec<u8>, hello: &Hello) -> Result<(), Memory>
     requires { length hello.now.private.now ≤ PRIVATE_MAX }

@@ -1,4 +1,4 @@
--- Items one behind another: cursors that take them in turn, and the bytes that read as them.
+-- Items one after another: cursors that take them in turn, and the bytes that read as them.
 use Rattle.std.proofs.Common.{◌≡◌, ℕ, ◌+◌, List, [], ◌∷◌, ◌++◌, length, replicate, refl, sym, ap, subst, ◌∙◌, append_assoc, arith}
 use Rattle.std.proofs.lemmas.List.{length-append, get_or-append-add, get_or_append_left, get_or_past, length-replicate}
 use Rattle.std.proofs.lemmas.Bool.{cases_lt}
@@ -9,7 +9,7 @@ use Rattle.nr_xdr.specs.Items.{AllFit, encodings, ReadsAll, TakesAll}
 use Rattle.nr_xdr.specs.Reading.{Cursor, Takes}
 use Rattle.nr_xdr.proofs.Cursors.{cursor_is}
 
--- some bytes from a place on
+-- some bytes from an offset on
 abbrev pub standing : ℕ → List ℕ → Cursor
 standing place rest = record { place = place; rest = rest }
 
@@ -70,7 +70,7 @@ IsBytes_left x y fits i =
       | inr le ↦ rw (get_or_past x i 0 le) (omega arith)
     ]
 
--- what is left behind an item are bytes
+-- what is left after an item are bytes
 pub IsBytes_behind : (old new : Cursor) (item : Item) → Takes old new item → IsBytes old.rest → IsBytes new.rest
 IsBytes_behind old new item taken fits = IsBytes_right taken.bytes new.rest (subst IsBytes taken.rest fits)
 

@@ -1,4 +1,4 @@
--- A cursor goes on by the bytes of an item exactly where it takes the item.
+-- A cursor goes on by the bytes of an item if and only if it takes the item.
 use Rattle.std.proofs.Common.{◌≡◌, ℕ, ◌+◌, ◌≤◌, Bool, true, false, cond, List, ◌++◌, length, take, drop, Result, Ok, Err, IfOk, IsOkAnd, refl, sym, ap, ◌∙◌, arith}
 use Rattle.std.proofs.lemmas.List.{take_at, drop_at, take-append-drop, length-append, length-take-le}
 use Rattle.nr_xdr.specs.declared.fault.ItemFault.{ItemFault}
@@ -36,7 +36,7 @@ past_takes c k item le reads = record {
   place = ap (λ (n : ℕ). c.place + n) (sym (length-take-le k c.rest le));
 }
 
--- what a cursor took stands at its front, and it stands behind it
+-- what a cursor took was at its front, and it is after it
 pub record Took (c after : Cursor) (bytes : List ℕ) (k : ℕ) : Type 0 where
   pub enough : k ≤ length c.rest
   pub front : take k c.rest ≡ bytes

@@ -1,4 +1,4 @@
--- No reading begins another of its type: both would be read at one place.
+-- No reading begins another of its type: both would be read at one offset.
 use Rattle.std.proofs.Common.{◌≡◌, ℕ, ◌+◌, List, ◌++◌, length, Result, Ok, refl, sym, ap, ◌∙◌, arith}
 use Rattle.nr_xdr.specs.declared.fault.ItemFault.{ItemFault}
 use Rattle.nr_xdr.specs.Item.{Item, Reads, AreOfOneType}

@@ -28,7 +28,7 @@ pub chosen : {A : Type 0} (b : Bool) (x y z : A) → cond b x y ≡ z → ((b �
 chosen true x y z e = inl (refl, e)
 chosen false x y z e = inr (refl, e)
 
--- Each step: what was read, that the cursor behind it took the item, that bytes are left, and what follows.
+-- Each step: what was read, that the cursor after it took the item, that bytes are left, and what follows.
 pub number_step : {B : Type 0} (c : Cursor) (f : ℕ × Cursor → Result B ℕ) (y : B) → IsBytes c.rest → (number_at c >>= f) ≡ Ok y
     → (x : ℕ × Cursor) × Takes c x.1 (Unsigned x.0) × IsBytes x.1.rest × (f x ≡ Ok y)
 number_step c f y fits e =

@@ -1,10 +1,10 @@
--- Whether the answer of a reader of several items is what a definition reads (Sequencing): a value and the cursor behind it,
--- or the place of the first item that fails.
+-- Whether the answer of a reader of several items is what a definition reads (Sequencing): a value and the cursor after it,
+-- or the offset of the first item that fails.
 use Rattle.std.specs.Prelude.{◌≡◌, ℕ, Result, Ok, Err}
 use Rattle.nr_xdr.specs.declared.decode.DecodeError.{DecodeError}
 use Rattle.nr_xdr.specs.Reading.{Cursor}
 
--- the value, seen by view, with the reader standing at new
+-- the value, seen by view, with the reader at new
 abbrev pub MatchesRead : {X Y : Type 0} → (X → Y) → Result X DecodeError → Cursor → Result (Y × Cursor) ℕ → Type 0
 MatchesRead view (Ok x) new read = read ≡ Ok (view x, new)
 MatchesRead view (Err error) new read = read ≡ Err error.at

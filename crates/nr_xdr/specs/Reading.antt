@@ -1,10 +1,10 @@
--- The place of a reader, and what it takes there.
+-- The offset of a reader, and what it takes there.
 use Rattle.std.specs.Prelude.{◌≡◌, ℕ, ◌+◌, Bool, true, false, List, ◌++◌, length, take, drop, Result, Ok, Err, nat_lt, ◌==◌, if◌then◌else◌}
 use Rattle.nr_xdr.specs.declared.fault.ItemFault.{ItemFault}
 use Rattle.nr_xdr.specs.declared.fault.ItemFault.TheVariants.{Short, Long, BadBool}
 use Rattle.nr_xdr.specs.Item.{Item, Reads, word_of, hyper_of, pad_len}
 
--- the place of the next item, and the bytes from there on
+-- the offset of the next item, and the bytes from there on
 pub record Cursor : Type 0 where
   pub place : ℕ
   pub rest : List ℕ
@@ -47,13 +47,12 @@ opaque_by max n c =
 unfoldable pub opaque_at : ℕ → Cursor → Result (List ℕ × Cursor) ItemFault
 opaque_at max c = if nat_lt (length c.rest) 4 then Err (Short c.place) else opaque_by max (word_of (take 4 c.rest)) c
 
--- The result of a reader that stood at old and stands at new is what read says. After a fault the reader stands where it
--- stood.
+-- The result of a reader that was at old and is at new is what read says. A fault leaves the reader at old.
 abbrev pub Gives : {X Y : Type 0} → (X → Y) → Result X ItemFault → Cursor → Cursor → Result (Y × Cursor) ItemFault → Type 0
 Gives view (Ok x) old new read = read ≡ Ok (view x, new)
 Gives view (Err e) old new read = (read ≡ Err e) × (new ≡ old)
 
--- the place of a fault: that of the item that fails
+-- the offset of a fault: that of the item that fails
 abbrev pub place_of : ItemFault → ℕ
 place_of (Short at) = at
 place_of (Long at len max) = at

@@ -1,4 +1,4 @@
-//! Readings of several items: where the first item that fails begins, and nothing else about it.
+//! Readings of several items: the offset of the first item that fails, and nothing else about it.
 
 ghost use Rattle.std.specs.Prelude.{◌≡◌, ◌+◌, ◌≤◌, length, OnErr};
 ghost use Rattle.nr_xdr.specs.Fields.{word_at};
@@ -10,7 +10,7 @@ use crate::fault::ItemFault;
 use crate::reader::Reader;
 use crate::words::first_word;
 
-/// The place of the first item that fails, in bytes from where the reader began.
+/// The offset of the first item that fails, in bytes from where the reader began.
 #[derive(Clone, Copy)]
 pub struct DecodeError {
     pub at: usize,
@@ -35,7 +35,7 @@ pub fn number(reader: &mut Reader<'_>) -> Result<u32, DecodeError>
     Ok(reader.u32()?)
 }
 
-/// The four bytes at a place as a number, the highest first (RFC 4506 section 4.2).
+/// The four bytes at an offset as a number, the highest first (RFC 4506 section 4.2).
 pub fn word_at(bytes: &[u8], place: usize) -> u32
     requires { place + 4 ≤ length bytes.now }
     ensures { result ≡ word_at place bytes.now }

@@ -22,8 +22,8 @@ impl<T: Drop> From<AllocFailed<T>> for Memory {
     }
 }
 
-/// Why the bytes at a reader's place begin no item of the type asked for. `at` is that place: the number of bytes before
-/// it.
+/// Why the bytes at a reader's offset begin no item of the type asked for. `at` is that offset: the number of bytes
+/// before it.
 #[derive(Clone, Copy, Debug, PartialEq, Eq)]
 pub enum ItemFault {
     /// Fewer bytes are left than the item takes.
@@ -38,7 +38,7 @@ impl ItemFault {
     ghost use Rattle.std.specs.Prelude.{◌≡◌};
     ghost use Rattle.nr_xdr.specs.Reading.{place_of};
 
-    /// The place of the item that fails: the number of bytes before it.
+    /// The offset of the item that fails: the number of bytes before it.
     pub fn at(self) -> usize
         ensures { result ≡ place_of self }
     {

@@ -1,6 +1,6 @@
 //! XDR items (RFC 4506): unsigned integers, hyper integers, booleans and opaque data, read and written exactly.
 //!
-//! This is the lowest layer. A [`Reader`] takes items from the front of some bytes and knows its place; a [`Writer`]
+//! This is the lowest layer. A [`Reader`] takes items from the front of some bytes and knows its offset; a [`Writer`]
 //! appends items. [`Octets`] is the byte string of the crates above. Pad bytes are written as zeros, and their values are
 //! ignored when they are read. The crates above say what items mean together: heads, headers and values.
 #![tactic(auto)]

@@ -53,6 +53,7 @@ impl Octets {
         self.bytes
     }
 
+    /// The bytes in order.
     pub fn as_slice(&self) -> &[u8]
         ensures { result.now ≡ self.now }
     {
@@ -66,6 +67,7 @@ impl Octets {
         self.bytes.len()
     }
 
+    /// Whether there are no bytes.
     pub fn is_empty(&self) -> bool
         ensures { IsTrue result ↔ (self.now ≡ []) }
     {

@@ -9,8 +9,8 @@ use crate::fault::ItemFault;
 use crate::words::{first_hyper, first_word, pad_len};
 use std::marker::Model;
 
-/// Takes items from the front of some bytes. Contracts see the place of the next item, which is the number of bytes taken
-/// so far, and the bytes from there on. A call that answers an `Err` takes nothing.
+/// Takes items from the front of some bytes. Contracts see the offset of the next item, which is the number of bytes taken so
+/// far, and the bytes from there on. A call that answers an `Err` takes nothing.
 #[derive(Drop)]
 pub struct Reader<'a> {
     place: usize,
@@ -30,7 +30,7 @@ impl<'a> Model for Reader<'a> {
 }
 
 impl<'a> Reader<'a> {
-    /// A reader at the first of these bytes, which is place 0.
+    /// A reader at the first of these bytes, which is offset 0.
     pub fn new(bytes: &'a [u8]) -> Reader<'a>
         ensures { result ≡ record { place = 0; rest = bytes.now } }
     {
@@ -48,7 +48,7 @@ impl<'a> Reader<'a> {
         Reader { place, rest: bytes }
     }
 
-    /// The place of the next item.
+    /// The offset of the next item, in bytes.
     pub fn at(&self) -> usize
         ensures { result ≡ self.now.place }
     {
@@ -158,7 +158,7 @@ impl<'a> Reader<'a> {
         Ok(bytes)
     }
 
-    /// An unsigned integer (RFC 4506 section 4.2): `Short` where fewer than four bytes are left.
+    /// An unsigned integer (RFC 4506 section 4.2): `Short` if fewer than four bytes are left.
     pub fn u32(&mut self) -> Result<u32, ItemFault>
         // What is read has this encoding.
         ensures found { IfOk result (λ n. Takes self.old self.new (Unsigned n)) }
@@ -171,7 +171,7 @@ impl<'a> Reader<'a> {
         self.u32_inner()
     }
 
-    /// An unsigned hyper integer (RFC 4506 section 4.5): `Short` where fewer than eight bytes are left.
+    /// An unsigned hyper integer (RFC 4506 section 4.5): `Short` if fewer than eight bytes are left.
     pub fn u64(&mut self) -> Result<u64, ItemFault>
         ensures found { IfOk result (λ n. Takes self.old self.new (Hyper n)) }
         ensures only { (n : ℕ) (after : Cursor) → Takes self.old after (Hyper n) →
@@ -181,8 +181,7 @@ impl<'a> Reader<'a> {
         self.u64_inner()
     }
 
-    /// A boolean (RFC 4506 section 4.4): `Short` where fewer than four bytes are left, `BadBool` where the number is
-    /// neither 0 nor 1.
+    /// A boolean (RFC 4506 section 4.4): `Short` if fewer than four bytes are left, `BadBool` if the number is neither 0 nor 1.
     pub fn boolean(&mut self) -> Result<bool, ItemFault>
         ensures found { IfOk result (λ b. Takes self.old self.new (Boolean b)) }
         ensures only { (b : Bool) (after : Cursor) → Takes self.old after (Boolean b) →
@@ -192,8 +191,8 @@ impl<'a> Reader<'a> {
         self.boolean_inner()
     }
 
-    /// Opaque data of variable length (RFC 4506 section 4.10), of at most `max` bytes. `Long` where the count is above
-    /// `max`; that is checked before the data. `Short` where the count, the data or its pad runs past the end.
+    /// Opaque data of variable length (RFC 4506 section 4.10), of at most `max` bytes. `Long` if the count is above `max`; that
+    /// is checked before the data. `Short` if the count, the data or its pad runs past the end.
     pub fn opaque(&mut self, max: u32) -> Result<&'a [u8], ItemFault>
         ensures found { IfOk result (λ s. Takes self.old self.new (Opaque s.now) × (length s.now ≤ max)) }
         ensures only { (bytes : List ℕ) (after : Cursor) → length bytes ≤ max → Takes self.old after (Opaque bytes) →
@@ -203,7 +202,7 @@ impl<'a> Reader<'a> {
         self.opaque_inner(max)
     }
 
-    /// Opaque data of fixed length (RFC 4506 section 4.9), of `len` bytes: `Short` where the data or its pad runs past the end.
+    /// Opaque data of fixed length (RFC 4506 section 4.9), of `len` bytes: `Short` if the data or its pad runs past the end.
     pub fn fixed(&mut self, len: usize) -> Result<&'a [u8], ItemFault>
         ensures found { IfOk result (λ s. Takes self.old self.new (Fixed s.now) × (length s.now ≡ len)) }
         ensures only { (bytes : List ℕ) (after : Cursor) → length bytes ≡ len → Takes self.old after (Fixed bytes) →

@@ -25,7 +25,7 @@ impl Model for Writer {
     ghost view = { λ w. w.bytes.items };
 }
 
-/// Appends data and its pad of zeros. After an `Err` some of it may stand there.
+/// Appends data and its pad of zeros. After an `Err` some of it may be there.
 fn push_padded(out: &mut Vec<u8>, bytes: &[u8]) -> Result<(), Memory>
     ensures ok { OnOk result (out.new.items ≡ out.old.items ++ encoding (Fixed bytes.now)) }
     ensures kept { take (length out.old.items) out.new.items ≡ out.old.items }
@@ -36,7 +36,7 @@ fn push_padded(out: &mut Vec<u8>, bytes: &[u8]) -> Result<(), Memory>
     Ok(())
 }
 
-/// Appends the length of data, the data and its pad. After an `Err` some of it may stand there.
+/// Appends the length of data, the data and its pad. After an `Err` some of it may be there.
 fn push_opaque(out: &mut Vec<u8>, bytes: &[u8]) -> Result<(), Memory>
     requires { length bytes.now < 2 ^ 32 }
     ensures ok { OnOk result (out.new.items ≡ out.old.items ++ encoding (Opaque bytes.now)) }

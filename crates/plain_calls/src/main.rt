@@ -36,7 +36,7 @@ const BAD_LINE: u8 = 10;
 /// The status after an input of more than `INPUT_MAX` bytes.
 const OVER_BUDGET: u8 = 11;
 
-/// The most bytes of an input, as of a script.
+/// The maximum length of an input in bytes, as of a script.
 const INPUT_MAX: usize = 16_777_216;
 
 /// The capacities are below this one, so that no number of the server passes 64 bits.
@@ -111,7 +111,7 @@ fn payload(alloc: Global, text: &str) -> Result<Vec<u8>, Stop> {
     }
 }
 
-/// The capacity that the first line tells.
+/// The capacity that the first line gives.
 fn capacity(line: &str) -> Result<u64, Stop>
     ensures { IfOk result (λ capacity. capacity < 2 ^ 63) }
 {

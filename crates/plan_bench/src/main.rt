@@ -9,7 +9,7 @@ use std::alloc::{AllocError, Global};
 use std::env;
 use std::process::ExitCode;
 
-/// The most bytes that a message may have in either direction.
+/// The maximum length of a message in either direction, in bytes.
 const SEND_MAX: u32 = 1024;
 
 /// The words of a WRITE of file 2 (RFC 5531 section 9, RFC 1813 section 3.3.7) before its stable word and the length of its data.
@@ -18,7 +18,7 @@ const WRITE: [u32; 16] = [1, 0, 2, 100_003, 3, 7, 0, 0, 0, 0, 8, 0, 2, 0, 0, 0];
 /// The words of the reply to a READ (RFC 1813 section 3.3.6) before its eof word and the length of its data.
 const READ: [u32; 9] = [1, 1, 0, 0, 0, 0, 0, 0, 0];
 
-/// A payload of these words, of one more, and of `len` bytes behind their length.
+/// A payload of these words, of one more, and of `len` bytes after their length.
 fn payload_of(alloc: Global, words: &[u32], last: u32, len: u32) -> Result<Vec<u8>, AllocError> {
     let mut payload = Vec::new(alloc);
     for word in words {
@@ -65,7 +65,7 @@ fn outlined(alloc: Global, payload: &[u8]) -> Result<u64, PayloadFault> {
     Ok(region.len() as u64)
 }
 
-/// The place of the payload's item.
+/// The position of the payload's item.
 fn item_place(payload: &[u8]) -> u64 {
     match call_item(payload) {
         Some(item) => item.pos as u64,

@@ -40,6 +40,7 @@ impl OpeningHistory<u64> for Nothing {
 }
 
 impl Count {
+    /// A count of 0, which stands for the empty history.
     pub fn new() -> Count
         ensures { IsCounted result [] }
     {

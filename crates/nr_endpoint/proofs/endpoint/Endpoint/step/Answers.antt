@@ -10,11 +10,11 @@ use Rattle.nr_endpoint.proofs.OneStep.{living, stepped_whole, stepped_partial, o
 use Rattle.nr_endpoint.proofs.HelloFirst.{greeted_judged, greeted_out}
 use Rattle.nr_endpoint.proofs.endpoint.Endpoint.step.Goals as goal
 
--- the rest is none where nothing is staged
+-- the rest is none if nothing is staged
 none-staged : (old piece : List ℕ) (s : ℕ) → s ≡ 0 → take s old ++ piece ≡ piece
 none-staged old piece s zero = ap (λ (n : ℕ). take n old ++ piece) zero
 
--- ---- A frame that lies whole in the piece
+-- ---- A frame that lies completely in the piece
 
 pub invariant_of-self : goal.invariant_of-self
 invariant_of-self c =
