@@ -1,0 +1,7 @@
+use Rattle.data_bench.proofs.Kept.{answered}
+use Rattle.data_bench.proofs.peer.Peer.answer.Goals as goal
+
+pub returns-in-Ok : goal.returns-in-Ok
+returns-in-Ok c =
+    answered c.args.self.now.endpoint.link c.answer.new.self.link c.args.self.now.fed c.args.self.now.claim c.args.writes.now c.args.message.now
+    c.in-Ok.ensures.state c.requires.sound

@@ -1,0 +1,217 @@
+//! A benchmark, run by hand: WRITEs or READs of 32 KiB in form Auto, each from the arguments of the call to the payload of its reply,
+//! through its plan, both sides of a link, registered memory and the plain server. It prints how many bytes the replies confirm. The
+//! arguments are `write` or `read`, or `copy` for copies of 32 KiB alone, and their number.
+#![tactic(auto)]
+
+ghost use Rattle.std.specs.Prelude.{IfSome};
+ghost use Rattle.data_bench.specs.Sound.{AreSound};
+
+mod client;
+mod link;
+mod peer;
+mod server;
+
+use client::{ask, take_reply};
+use link::Link;
+use nr_nfs_base::Verifier;
+use nr_plain::Server;
+use nr_tree::Tree;
+use nr_xdr::{Memory, Octets};
+use server::serve;
+use std::alloc::Global;
+use std::env;
+use std::process::ExitCode;
+
+/// How many bytes are written or read.
+const SIZE: usize = 32_768;
+
+/// The numbers of READ and WRITE (RFC 1813 sections 3.3.6, 3.3.7).
+const READ: u32 = 6;
+
+const WRITE: u32 = 7;
+
+/// The arguments of a READ of file 2, and of a WRITE, up to the length of its data.
+const READ_WORDS: [u32; 6] = [8, 0, 2, 0, 0, 32_768];
+
+const WRITE_WORDS: [u32; 8] = [8, 0, 2, 0, 0, 32_768, 2, 32_768];
+
+/// What is called: a procedure, its arguments, and where its reply has the count of bytes.
+#[derive(Drop)]
+struct Work {
+    proc: u32,
+    args: Octets,
+    count_at: usize,
+}
+
+/// These words, and some data.
+fn args(alloc: Global, words: &[u32], data: &[u8]) -> Option<Octets> {
+    let mut args = Octets::new(alloc);
+    for word in words {
+        args.extend_from_slice(&word.to_be_bytes()).ok()?;
+    }
+    args.extend_from_slice(data).ok()?;
+    Some(args)
+}
+
+/// WRITE's count stands after the attributes of before and after, READ's after those alone.
+fn write_work(alloc: Global, data: &[u8]) -> Option<Work> {
+    Some(Work {
+        proc: WRITE,
+        args: args(alloc, &WRITE_WORDS, data)?,
+        count_at: 144,
+    })
+}
+
+fn read_work(alloc: Global) -> Option<Work> {
+    Some(Work {
+        proc: READ,
+        args: args(alloc, &READ_WORDS, &[])?,
+        count_at: 116,
+    })
+}
+
+/// A server of the drill's tree.
+fn plain(alloc: Global) -> Result<Server, Memory> {
+    let tree = Tree::drill(alloc)?;
+    let export = Octets::from_slice(alloc, b"/")?;
+    Ok(Server::open(tree, 1 << 62, Verifier { number: 1 }, export))
+}
+
+/// Calls, and gives the payload of the reply.
+fn call(alloc: Global, link: &mut Link, plain: &mut Server, xid: u32, work: &Work) -> Option<Octets>
+    requires { AreSound link.old }
+    ensures { IfSome result (λ _. AreSound link.new) }
+{
+    ask(
+        &mut link.client,
+        alloc,
+        xid,
+        work.proc,
+        work.args.as_slice(),
+    )?;
+    link.up()?;
+    serve(alloc, link, plain)?;
+    link.down()?;
+    take_reply(&mut link.client, alloc, work.proc)
+}
+
+fn word(bytes: &[u8], at: usize) -> Option<u32> {
+    match bytes.get(at..)? {
+        [a, b, c, d, ..] => Some(u32::from_be_bytes([*a, *b, *c, *d])),
+        _ => None,
+    }
+}
+
+/// How many bytes a reply confirms.
+fn confirmed(reply: &[u8], at: usize) -> Option<u64> {
+    if word(reply, 24)? != 0 {
+        return None;
+    }
+    Some(u64::from(word(reply, at)?))
+}
+
+/// Calls so many times, and gives how many bytes are confirmed.
+fn call_all(
+    alloc: Global,
+    link: &mut Link,
+    plain: &mut Server,
+    work: &Work,
+    rounds: u32,
+) -> Option<u64>
+    requires { AreSound link.old }
+    ensures { IfSome result (λ _. AreSound link.new) }
+{
+    let mut total: u64 = 0;
+    for xid in 0..rounds {
+        let reply = call(alloc, link, plain, xid, work)?;
+        total = total.saturating_add(confirmed(reply.as_slice(), work.count_at)?);
+    }
+    Some(total)
+}
+
+/// Whether the reply to a READ ends with this data.
+fn is_data(reply: &[u8], data: &[u8]) -> bool {
+    match reply.get(128..) {
+        Some(found) => found == data,
+        None => false,
+    }
+}
+
+/// Whether a READ gives this data.
+fn reads(alloc: Global, link: &mut Link, plain: &mut Server, work: &Work, data: &[u8]) -> bool
+    requires { AreSound link.old }
+{
+    match call(alloc, link, plain, u32::MAX, work) {
+        Some(reply) => is_data(reply.as_slice(), data),
+        None => false,
+    }
+}
+
+/// Writes, then works so many times, and reads what was written.
+fn measured(alloc: Global, is_write: bool, rounds: u32, data: &[u8]) -> Option<u64> {
+    let write = write_work(alloc, data)?;
+    let read = read_work(alloc)?;
+    let mut link = Link::open(alloc)?;
+    let mut plain = plain(alloc).ok()?;
+    call(alloc, &mut link, &mut plain, u32::MAX, &write)?;
+    let work = if is_write { &write } else { &read };
+    let total = call_all(alloc, &mut link, &mut plain, work, rounds)?;
+    if reads(alloc, &mut link, &mut plain, &read, data) {
+        Some(total)
+    } else {
+        None
+    }
+}
+
+/// Some data.
+fn data(alloc: Global) -> Option<Vec<u8>> {
+    let mut data = Vec::with_capacity(alloc, SIZE).ok()?;
+    for i in 0..SIZE {
+        data.push((i % 251) as u8).ok()?;
+    }
+    Some(data)
+}
+
+/// Copies so often, each time others, and gives how many bytes.
+fn copied(alloc: Global, rounds: u32, mut source: Vec<u8>) -> Option<u64> {
+    let mut target = vec![in alloc; 0u8; SIZE].ok()?;
+    let mut total: u64 = 0;
+    for i in 0..rounds {
+        if let Some(first) = source.first_mut() {
+            *first = (i % 256) as u8;
+        }
+        target.clear();
+        target.extend_from_slice(source.as_slice()).ok()?;
+        total = total.saturating_add(target.len() as u64);
+    }
+    Some(total)
+}
+
+fn total(alloc: Global, what: &str, rounds: u32) -> Option<u64> {
+    let data = data(alloc)?;
+    match what {
+        "copy" => copied(alloc, rounds, data),
+        _ => measured(alloc, what == "write", rounds, data.as_slice()),
+    }
+}
+
+fn number(word: Option<String>) -> Option<u32> {
+    word?.as_str().parse::<u32>().ok()
+}
+
+fn main(rt: HostRuntime) -> ExitCode {
+    let Ok(mut words) = env::args(&rt) else {
+        return ExitCode::FAILURE;
+    };
+    let _ = words.next();
+    let (Some(what), Some(rounds)) = (words.next(), number(words.next())) else {
+        return ExitCode::FAILURE;
+    };
+    let Some(total) = total(rt.alloc(), what.as_str(), rounds) else {
+        return ExitCode::FAILURE;
+    };
+    match println!(rt; "{total}") {
+        Ok(()) => ExitCode::SUCCESS,
+        Err(_) => ExitCode::FAILURE,
+    }
+}
