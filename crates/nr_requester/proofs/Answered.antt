@@ -2,6 +2,8 @@
 use Rattle.std.proofs.Common.{◌≡◌, ◌≢◌, ℕ, ◌^◌, ◌≤◌, Bool, cond, List, [], ◌∷◌, ◌++◌, None, Some, Result, Ok, Err, inl, inr, refl, sym, ap, subst, ◌∙◌, arith}
 use Rattle.std.proofs.lemmas.Bool.{cases_lt, lt-ltb, le-ltb}
 use Rattle.nr_xdr.specs.Item.{word}
+use Rattle.nr_rpc.specs.declared.head.CallTarget.{CallTarget}
+use Rattle.nr_rpc.specs.Call.{call_encoding, call_of_target}
 use Rattle.nr_link.specs.declared.end.End.{End}
 use Rattle.nr_reduce.specs.declared.call.Call.{Call}
 use Rattle.nr_reduce.specs.declared.call.Form.{Form}
@@ -11,14 +13,17 @@ use Rattle.nr_reduce.specs.declared.call.Submission.TheVariants as submissions
 use Rattle.nr_reduce.specs.declared.mark.LinkParameters.{LinkParameters}
 use Rattle.nr_reduce.specs.declared.mark.Mark.{Mark}
 use Rattle.nr_reduce.specs.declared.mark.Mark.TheVariants as marks
+use Rattle.nr_reduce.specs.declared.fault.TooLarge.{TooLarge as CodeTooLarge}
+use Rattle.nr_reduce.specs.declared.outline.Outline.{Outline}
 use Rattle.nr_reduce.specs.declared.outline.Plan.{Plan}
+use Rattle.nr_reduce.specs.CallOutlines.{OutlineAnswers}
 use Rattle.nr_reduce.specs.Plans.{TooLarge, plan_of, regions_needed}
 use Rattle.nr_reduce.specs.ClientState.{call_payload}
 use Rattle.nr_requester.specs.RequesterState.{RequesterState, RequesterSide}
 use Rattle.nr_requester.specs.Standing.{RequesterRepresents}
 use Rattle.nr_requester.specs.AfterCalls.{after_submit}
 use Rattle.nr_requester.specs.Answers.{plan_under, answer_by_plan, answer_if, answer_of, WasSent}
-use Rattle.nr_requester.specs.Sending.{xid_word, answer_for, IsPlan}
+use Rattle.nr_requester.specs.Sending.{xid_word, answer_for, IsPlan, target_under, head_under}
 use Rattle.nr_requester.proofs.Accepting.{submit_is_a_mark}
 
 -- the bytes of a call under the word of its xid
@@ -55,13 +60,15 @@ sent_stands before after call form xid w opened link run s =
     (subst (λ (n : ℕ). RequesterRepresents opened link (after_submit before call w.plan) (run ++ marks.Submit link call form (submissions.Accepted n) ∷ [])) (sym w.next)
     (submit_is_a_mark before call form w.plan w.live w.number w.is_plan opened link run s))
 
--- what the plan of a call's bytes is, under the next xid
-pub planned_by : (r : RequesterState) (call : Call) (form : Form) (n word : ℕ) (bytes : List ℕ) (plan : Result Plan TooLarge) → r.next_xid ≡ n → n ≤ 2 ^ 32 → word ≡ xid_word n → bytes ≡ call_payload word call →
-    plan_of bytes form 1024 1024 ≡ plan → plan_under r call form ≡ plan
-planned_by r call form n word bytes plan next le is-word is-bytes is_plan_lem =
-    ap (λ (m : ℕ). plan_of (call_payload m call) form 1024 1024) next
-    ∙ sym (ap (λ (xs : List ℕ). plan_of xs form 1024 1024) (is-bytes ∙ ap (λ (m : ℕ). call_payload m call) is-word ∙ payload_word n call le))
-    ∙ is_plan_lem
+-- what the outline of a call's parts is, under the next xid
+pub outlined_by : (r : RequesterState) (call : Call) (form : Form) (n : ℕ) (target : CallTarget) (head args payload : List ℕ) (result : Result Outline CodeTooLarge) → r.next_xid ≡ n → n ≤ 2 ^ 32 → target ≡ target_under n call → args ≡ call.args → head ≡ head_under r.next_xid call →
+    payload ≡ call_encoding (call_of_target target call.cred) args → OutlineAnswers payload result (plan_of payload form 1024 1024) → OutlineAnswers (head ++ call.args) result (plan_under r call form)
+unfolding call_payload
+outlined_by r call form n target head args payload result next le is-target is-args is-head is-payload answer =
+    let whole : payload ≡ call_encoding (call_of_target (target_under n call) call.cred) call.args = is-payload ∙ (λ i. call_encoding (call_of_target (is-target i) call.cred) (is-args i)) in
+    let same : head ++ call.args ≡ payload = ap (λ (h : List ℕ). h ++ call.args) (is-head ∙ ap (λ (m : ℕ). head_under m call) next) ∙ sym whole in
+    let under : payload ≡ call_payload r.next_xid call = whole ∙ payload_word n call le ∙ ap (λ (m : ℕ). call_payload m call) (sym next) in
+    subst (λ (p : List ℕ). OutlineAnswers p result (plan_under r call form)) (sym same) (subst (λ (p : List ℕ). OutlineAnswers payload result (plan_of p form 1024 1024)) under answer)
 
 pub too_large_answer : (r : RequesterState) (call : Call) (form : Form) (large : TooLarge) → plan_under r call form ≡ Err large → answer_by_plan r (plan_under r call form) ≡ submissions.Refused (refusals.TooLarge large.need large.room)
 too_large_answer r call form large is = ap (answer_by_plan r) is

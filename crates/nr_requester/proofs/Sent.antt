@@ -12,7 +12,9 @@ use Rattle.nr_endpoint.specs.Calls.{with_state, after_calls}
 use Rattle.nr_endpoint.proofs.WholeCalls.{offered_state}
 use Rattle.nr_endpoint.specs.Offering.{offer_calls, after_offer, with_buffer, with_offered, with_read, with_write_buffer, claim_if, claims_of, offered_count, one_of}
 use Rattle.nr_reduce.specs.declared.outline.Plan.{Plan}
-use Rattle.nr_reduce.specs.Plans.{Buffer, buffers, buffer_if, regions_needed, has_segment, one_if, total, call_message, read_stag, write_stag, reply_stag}
+use Rattle.nr_header.specs.declared.header.ChunkLists.{ChunkLists}
+use Rattle.nr_header.specs.Header.{header_encoding}
+use Rattle.nr_reduce.specs.Plans.{body_by, lists_of, Buffer, buffers, buffer_if, regions_needed, has_segment, one_if, total, call_message, read_stag, write_stag, reply_stag}
 use Rattle.nr_reduce.specs.KeptClient.{registered_all}
 use Rattle.nr_requester.specs.AfterCalls.{submitted}
 use Rattle.nr_requester.specs.Sending.{some_if, offered_of}
@@ -85,6 +87,12 @@ stags_are_lem m p =
     ++ one_stag (with_write_buffer m (offered_of p)) (has_segment p.reply) (reply_stag m.next p) Fill (replicate (total p.reply) 0) third i))
     ∙ ap (λ (ss : List ℕ). map (λ (x : Buffer). x.stag) r ++ ss) (sym (map_both w y))
     ∙ sym (map_both r (w ++ y))
+
+-- ---- Its message
+
+pub message_by : (xid credit stag : ℕ) (p : Plan) (lists : ChunkLists) (message : List ℕ) → message ≡ header_encoding (record { xid = xid; credit = credit; body = body_by p.read_at lists }) ++ p.inline → lists ≡ lists_of stag p → message ≡ call_message xid credit stag p
+unfolding call_message
+message_by xid credit stag p lists message is are = is ∙ ap (λ (l : ChunkLists). header_encoding (record { xid = xid; credit = credit; body = body_by p.read_at l }) ++ p.inline) are
 
 -- ---- The side of the link
 

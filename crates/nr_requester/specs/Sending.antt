@@ -1,15 +1,20 @@
 -- A call on its way out: its chunks, and the buffers that it offers.
-use Rattle.std.specs.Prelude.{◌≡◌, ℕ, ◌+◌, ◌-◌, ◌^◌, ◌<◌, ◌≤◌, nat_le, nat_lt, if◌then◌else◌, Ok, Bool, true, false, List, length, replicate, Option, None, Some, IfSome}
+use Rattle.std.specs.Prelude.{◌≡◌, ℕ, ◌+◌, ◌-◌, ◌^◌, ◌<◌, ◌≤◌, nat_le, nat_lt, if◌then◌else◌, Ok, Bool, true, false, List, ◌++◌, length, replicate, Option, None, Some, IfSome}
+use Rattle.nr_rpc.specs.declared.head.CallTarget.{CallTarget}
+use Rattle.nr_rpc.specs.Call.{call_head, call_of_target}
 use Rattle.nr_endpoint.specs.declared.offering.Offered.{Offered}
 use Rattle.nr_reduce.specs.declared.outline.Plan.{Plan}
 use Rattle.nr_reduce.specs.Plans.{has_segment, total, plan_of}
 use Rattle.nr_reduce.specs.Limits.{numbers_end, send_max}
 use Rattle.nr_reduce.specs.SubmitAnswer.{unless_spent}
+use Rattle.nr_reduce.specs.CallOutlines.{outline_plan}
+use Rattle.nr_reduce.specs.declared.call.Call.{Call}
 use Rattle.nr_reduce.specs.declared.call.Form.{Form}
 use Rattle.nr_reduce.specs.declared.call.Refused.TheVariants as refusals
 use Rattle.nr_reduce.specs.declared.call.Submission.{Submission}
 use Rattle.nr_reduce.specs.declared.call.Submission.TheVariants as submissions
 use Rattle.nr_requester.specs.RequesterState.{RequesterState}
+use Rattle.nr_requester.specs.declared.messages.PlannedCall.{PlannedCall}
 
 -- the chunks of a plan have few segments
 pub record AreFew (p : Plan) : Type 0 where
@@ -50,3 +55,14 @@ answer_for r needed =
 -- the word of an xid; if none is left, 0 has the same bytes
 abbrev pub xid_word : ℕ → ℕ
 xid_word n = if nat_lt n numbers_end then n else 0
+
+-- what a call asks for under the next xid, and the head that asks for it
+abbrev pub target_under : (next_xid : ℕ) → Call → CallTarget
+target_under next_xid call = record { xid = xid_word next_xid; prog = call.prog; vers = call.vers; proc = call.proc; args_at = 0 }
+
+abbrev pub head_under : (next_xid : ℕ) → Call → List ℕ
+head_under next_xid call = call_head (call_of_target (target_under next_xid call) call.cred)
+
+-- the plan of a call, whose payload is its head and its arguments
+abbrev pub call_plan : PlannedCall → Plan
+call_plan c = outline_plan (c.head.now ++ c.args.now) c.outline

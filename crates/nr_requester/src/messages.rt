@@ -1,35 +1,26 @@
 //! The message of a call, and what it offers.
 
 ghost use Rattle.std.specs.Prelude.{◌≡◌, ℕ, ◌+◌, ◌^◌, ◌<◌, ◌≤◌, [], ◌∷◌, ◌++◌, length, sum, replicate, Some, if◌then◌else◌, IfOk, IfSome};
-ghost use Rattle.nr_rpc.specs.Credential.{CanWriteCred};
-ghost use Rattle.nr_reduce.specs.ClientState.{call_payload};
+ghost use Rattle.nr_reduce.specs.CallOutlines.{chunk_lengths};
 ghost use Rattle.nr_reduce.specs.Plans.{segments_from, entries_from, has_segment, one_if, read_list, write_list, reply_chunk, lists_of, read_stag, write_stag, reply_stag, regions_needed, call_message, total, body_by};
 ghost use Rattle.nr_header.specs.declared.header.ChunkLists.{ChunkLists};
 ghost use Rattle.nr_header.specs.Header.{header_encoding, lists_body, ChunksFit};
-ghost use Rattle.nr_requester.specs.Sending.{AreFew, some_if};
+ghost use Rattle.nr_requester.specs.Sending.{AreFew, some_if, offered_of, call_plan};
 
+use nr_endpoint::Offered;
 use nr_header::{
     Chunk, ChunkLists, RdmaSegment, ReadList, ReadSegment, WriteList, write_with_lists,
 };
-use nr_reduce::{Call, Lengths, Plan};
-use nr_rpc::{CallTarget, write_call_of};
+use nr_reduce::{ChunkLengths, Outline};
 use nr_xdr::{Memory, Octets};
 use std::alloc::Global;
 
-/// The payload of a call under an xid.
-#[tactic(auto, unfolding(nr_reduce::specs::ClientState::call_payload))]
-pub fn call_bytes(alloc: Global, xid: u32, call: &Call) -> Result<Octets, Memory>
-    requires { CanWriteCred call.now.cred }
-    ensures { IfOk result (λ o. o ≡ call_payload xid call.now) }
-{
-    let target = CallTarget {
-        xid,
-        prog: call.prog,
-        vers: call.vers,
-        proc: call.proc,
-        args_at: 0,
-    };
-    write_call_of(alloc, target, &call.cred, call.args.as_slice())
+/// A call that has a plan: its head and its arguments, and how they are sent.
+#[derive(Clone, Copy)]
+pub struct PlannedCall<'a> {
+    pub head: &'a [u8],
+    pub args: &'a [u8],
+    pub outline: Outline<'a>,
 }
 
 fn push_segments(
@@ -105,8 +96,8 @@ fn region_count(lengths: &[u32]) -> u64
     if lengths.is_empty() { 0 } else { 1 }
 }
 
-fn region_count_of(lengths: &Option<Lengths>) -> u64
-    ensures { result ≡ one_if (has_segment lengths.now) }
+fn region_count_of(lengths: Option<ChunkLengths<'_>>) -> u64
+    ensures { result ≡ one_if (has_segment (chunk_lengths lengths.entry)) }
 {
     match lengths {
         Some(lengths) => region_count(lengths.as_slice()),
@@ -114,12 +105,23 @@ fn region_count_of(lengths: &Option<Lengths>) -> u64
     }
 }
 
+fn read_region_count(plan: PlannedCall<'_>) -> u64
+    ensures { result ≡ one_if (has_segment (Some (call_plan plan.entry).read)) }
+{
+    match plan.outline.read {
+        Some(chunk) => region_count(chunk.lengths.as_slice()),
+        None => 0,
+    }
+}
+
 /// How many regions a plan registers.
 #[tactic(auto, unfolding(nr_reduce::specs::Plans::regions_needed))]
-pub fn regions_needed(plan: &Plan) -> u64
-    ensures { result ≡ regions_needed plan.now }
+pub fn regions_needed(plan: PlannedCall<'_>) -> u64
+    ensures { result ≡ regions_needed (call_plan plan.entry) }
 {
-    region_count(plan.read.as_slice()) + region_count_of(&plan.write) + region_count_of(&plan.reply)
+    read_region_count(plan)
+        + region_count_of(plan.outline.write)
+        + region_count_of(plan.outline.reply)
 }
 
 /// A chunk of the region under an STag, if it has a segment.
@@ -145,21 +147,25 @@ fn entries_at(alloc: Global, position: u32, stag: u64, lengths: &[u32]) -> Resul
     read_list_of(alloc, position, stag as u32, lengths)
 }
 
-fn read_chunk_of(alloc: Global, stag: u64, plan: &Plan) -> Result<ReadList, Memory>
-    requires few { length plan.now.read < 2 ^ 31 }
-    requires stags { stag + one_if (has_segment (Some plan.now.read)) ≤ 2 ^ 32 }
-    ensures { IfOk result (λ l. l ≡ read_list stag plan.now plan.now.read_at) }
+fn read_chunk_of(alloc: Global, stag: u64, plan: PlannedCall<'_>) -> Result<ReadList, Memory>
+    requires few { length (call_plan plan).read < 2 ^ 31 }
+    requires stags { stag + one_if (has_segment (Some (call_plan plan).read)) ≤ 2 ^ 32 }
+    ensures { IfOk result (λ l. l ≡ read_list stag (call_plan plan.entry) (call_plan plan.entry).read_at) }
 {
-    match plan.read_at {
-        Some(position) => entries_at(alloc, position, stag, plan.read.as_slice()),
+    match plan.outline.read {
+        Some(chunk) => entries_at(alloc, chunk.position, stag, chunk.lengths.as_slice()),
         None => Ok(ReadList::from_vec(Vec::new(alloc))),
     }
 }
 
-fn write_list_of(alloc: Global, stag: u64, write: &Option<Lengths>) -> Result<WriteList, Memory>
-    requires few { IfSome write.now (λ lengths. length lengths < 2 ^ 31) }
-    requires stags { stag + one_if (has_segment write.now) ≤ 2 ^ 32 }
-    ensures { IfOk result (λ l. l ≡ write_list stag write.now) }
+fn write_list_of(
+    alloc: Global,
+    stag: u64,
+    write: Option<ChunkLengths<'_>>,
+) -> Result<WriteList, Memory>
+    requires few { IfSome (chunk_lengths write) (λ lengths. length lengths < 2 ^ 31) }
+    requires stags { stag + one_if (has_segment (chunk_lengths write)) ≤ 2 ^ 32 }
+    ensures { IfOk result (λ l. l ≡ write_list stag (chunk_lengths write.entry)) }
 {
     match write {
         Some(lengths) => {
@@ -173,11 +179,11 @@ fn write_list_of(alloc: Global, stag: u64, write: &Option<Lengths>) -> Result<Wr
 fn reply_chunk_of(
     alloc: Global,
     stag: u64,
-    reply: &Option<Lengths>,
+    reply: Option<ChunkLengths<'_>>,
 ) -> Result<Option<Chunk>, Memory>
-    requires few { IfSome reply.now (λ lengths. length lengths < 2 ^ 31) }
-    requires stags { stag + one_if (has_segment reply.now) ≤ 2 ^ 32 }
-    ensures { IfOk result (λ l. l ≡ reply_chunk stag reply.now) }
+    requires few { IfSome (chunk_lengths reply) (λ lengths. length lengths < 2 ^ 31) }
+    requires stags { stag + one_if (has_segment (chunk_lengths reply)) ≤ 2 ^ 32 }
+    ensures { IfOk result (λ l. l ≡ reply_chunk stag (chunk_lengths reply.entry)) }
 {
     match reply {
         Some(lengths) => Ok(Some(chunk_at(alloc, stag, lengths.as_slice())?)),
@@ -187,28 +193,28 @@ fn reply_chunk_of(
 
 /// The lists of a plan, whose regions get STags from this one on.
 #[tactic(auto, unfolding(nr_reduce::specs::Plans::regions_needed, nr_reduce::specs::Plans::lists_of))]
-pub fn lists_of(alloc: Global, stag: u64, plan: &Plan) -> Result<ChunkLists, Memory>
-    requires few { AreFew plan.now }
-    requires stags { stag + regions_needed plan.now ≤ 2 ^ 32 }
-    ensures { IfOk result (λ l. l ≡ lists_of stag plan.now) }
+pub fn lists_of(alloc: Global, stag: u64, plan: PlannedCall<'_>) -> Result<ChunkLists, Memory>
+    requires few { AreFew (call_plan plan) }
+    requires stags { stag + regions_needed (call_plan plan) ≤ 2 ^ 32 }
+    ensures { IfOk result (λ l. l ≡ lists_of stag (call_plan plan.entry)) }
 {
     let read = read_chunk_of(alloc, stag, plan)?;
-    let write_at = stag + region_count(plan.read.as_slice());
-    let write = write_list_of(alloc, write_at, &plan.write)?;
-    let reply_at = write_at + region_count_of(&plan.write);
-    let reply = reply_chunk_of(alloc, reply_at, &plan.reply)?;
+    let write_at = stag + read_region_count(plan);
+    let write = write_list_of(alloc, write_at, plan.outline.write)?;
+    let reply_at = write_at + region_count_of(plan.outline.write);
+    let reply = reply_chunk_of(alloc, reply_at, plan.outline.reply)?;
     Ok(ChunkLists { read, write, reply })
 }
 
 // ---- The message
 
 /// Whether all of a payload goes in the chunk at position 0.
-fn is_long(read_at: Option<u32>) -> bool
-    ensures { (lists : ChunkLists) → body_by read_at lists ≡ lists_body result lists }
+fn is_long(plan: PlannedCall<'_>) -> bool
+    ensures { (lists : ChunkLists) → body_by (call_plan plan.entry).read_at lists ≡ lists_body result lists }
 {
-    match read_at {
-        Some(0) => true,
-        _ => false,
+    match plan.outline.read {
+        Some(chunk) => chunk.position == 0,
+        None => false,
     }
 }
 
@@ -217,14 +223,16 @@ pub fn message_of(
     alloc: Global,
     xid: u32,
     credit: u32,
-    plan: &Plan,
+    plan: PlannedCall<'_>,
     lists: &ChunkLists,
 ) -> Result<Octets, Memory>
     requires { ChunksFit lists.now }
-    ensures { IfOk result (λ m. m ≡ header_encoding (record { xid = xid; credit = credit; body = body_by plan.now.read_at lists.now }) ++ plan.now.inline) }
+    ensures { IfOk result (λ m. m ≡ header_encoding (record { xid = xid; credit = credit; body = body_by (call_plan plan.entry).read_at lists.now }) ++ (call_plan plan.entry).inline) }
 {
-    let mut message = write_with_lists(alloc, xid, credit, is_long(plan.read_at), lists)?;
-    message.extend_from_slice(plan.inline.as_slice())?;
+    let mut message = write_with_lists(alloc, xid, credit, is_long(plan), lists)?;
+    let (head, args) = plan.outline.inline(plan.head, plan.args);
+    message.extend_from_slice(head)?;
+    message.extend_from_slice(args)?;
     Ok(message)
 }
 
@@ -242,14 +250,20 @@ fn sum_of(lengths: &[u32]) -> u64
 }
 
 /// A buffer of zeros for a chunk, if it has a segment.
-pub fn zeros(alloc: Global, lengths: &Option<Lengths>) -> Result<Option<Octets>, Memory>
-    requires few { IfSome lengths.now (λ lengths. length lengths < 2 ^ 31) }
-    ensures { IfOk result (λ o. o ≡ some_if (has_segment lengths.now) (replicate (total lengths.now) 0)) }
+fn zeros(alloc: Global, lengths: Option<ChunkLengths<'_>>) -> Result<Option<Octets>, Memory>
+    requires few { IfSome (chunk_lengths lengths) (λ lengths. length lengths < 2 ^ 31) }
+    ensures { IfOk result (λ o. o ≡ some_if (has_segment (chunk_lengths lengths.entry)) (replicate (total (chunk_lengths lengths.entry)) 0)) }
 {
-    let lengths = match lengths {
-        Some(lengths) => lengths.as_slice(),
-        None => return Ok(None),
-    };
+    match lengths {
+        Some(lengths) => zeros_for(alloc, lengths.as_slice()),
+        None => Ok(None),
+    }
+}
+
+fn zeros_for(alloc: Global, lengths: &[u32]) -> Result<Option<Octets>, Memory>
+    requires few { length lengths.now < 2 ^ 31 }
+    ensures { IfOk result (λ o. o ≡ some_if (has_segment (Some lengths.now)) (replicate (sum lengths.now) 0)) }
+{
     if lengths.is_empty() {
         return Ok(None);
     }
@@ -257,12 +271,27 @@ pub fn zeros(alloc: Global, lengths: &Option<Lengths>) -> Result<Option<Octets>,
     Ok(Some(Octets::from_vec(vec![in alloc; 0u8; len]?)))
 }
 
-/// The bytes of the read chunk's region, if it has a segment.
-pub fn some_region(plan: Plan) -> Option<Octets>
-    ensures { result ≡ some_if (has_segment (Some plan.read)) plan.region }
+/// The bytes of the read chunk's region, if it has a segment: the arguments are copied into it.
+fn region_of(alloc: Global, plan: PlannedCall<'_>) -> Result<Option<Octets>, Memory>
+    ensures { IfOk result (λ r. r ≡ some_if (has_segment (Some (call_plan plan.entry).read)) (call_plan plan.entry).region) }
 {
-    if plan.read.is_empty() {
-        return None;
+    let chunk = match plan.outline.read {
+        Some(chunk) => chunk,
+        None => return Ok(None),
+    };
+    if chunk.lengths.as_slice().is_empty() {
+        return Ok(None);
     }
-    Some(plan.region)
+    Ok(Some(plan.outline.region(alloc, plan.head, plan.args)?))
+}
+
+/// The buffers that a plan offers.
+pub fn offered_of(alloc: Global, plan: PlannedCall<'_>) -> Result<Offered, Memory>
+    requires few { AreFew (call_plan plan) }
+    ensures { IfOk result (λ o. o ≡ offered_of (call_plan plan.entry)) }
+{
+    let read = region_of(alloc, plan)?;
+    let write = zeros(alloc, plan.outline.write)?;
+    let reply = zeros(alloc, plan.outline.reply)?;
+    Ok(Offered { read, write, reply })
 }

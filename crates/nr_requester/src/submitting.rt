@@ -1,27 +1,29 @@
 //! A call is submitted.
 
-ghost use Rattle.std.specs.Prelude.{◌≡◌, ◌≢◌, ℕ, ◌+◌, ◌^◌, ◌<◌, ◌≤◌, map, length, replicate, None, Ok, IfOk, IfErr, OnOk, OnErr, MatchOption};
+ghost use Rattle.std.specs.Prelude.{◌≡◌, ◌≢◌, ℕ, ◌+◌, ◌^◌, ◌<◌, ◌≤◌, map, length, ◌++◌, None, Ok, IfOk, IfErr, OnOk, OnErr, MatchOption};
 ghost use Rattle.nr_rpc.specs.Credential.{CanWriteCred};
 ghost use Rattle.nr_endpoint.specs.Calls.{with_state};
 ghost use Rattle.nr_endpoint.specs.Offering.{claims_of};
 ghost use Rattle.nr_endpoint.specs.LinkState.{LinkSide};
-ghost use Rattle.nr_reduce.specs.Plans.{buffers, has_segment, total, regions_needed, call_message, lists_of};
+ghost use Rattle.nr_reduce.specs.Plans.{buffers, regions_needed, call_message, lists_of};
+ghost use Rattle.nr_reduce.specs.CallOutlines.{outline_plan, OutlineAnswers};
 ghost use Rattle.nr_reduce.specs.declared.call.Refused.TheVariants as refusals;
 ghost use Rattle.nr_reduce.specs.declared.call.Submission.TheVariants as submissions;
 ghost use Rattle.nr_reduce.specs.declared.mark.Mark.TheVariants as marks;
 ghost use Rattle.nr_requester.specs.AfterCalls.{submitted, after_submit};
-ghost use Rattle.nr_requester.specs.Answers.{answer_of, answer_by_plan, plan_under, WasSent};
-ghost use Rattle.nr_requester.specs.Sending.{AreFew, IsPlan, HasNumbers, answer_for, offered_of, some_if, xid_word};
+ghost use Rattle.nr_requester.specs.Answers.{answer_of, plan_under, WasSent};
+ghost use Rattle.nr_requester.specs.Sending.{IsPlan, HasNumbers, answer_for, offered_of, xid_word, target_under, head_under, call_plan};
 ghost use Rattle.nr_requester.specs.HeldClaims.{SentHeld, IsOfferOf};
 ghost use Rattle.nr_requester.specs.Standing.{StandsOn};
 
-use crate::messages::{call_bytes, lists_of, message_of, regions_needed, some_region, zeros};
+use crate::messages::{PlannedCall, lists_of, message_of, offered_of, regions_needed};
 use crate::outstanding::OutstandingCall;
 use crate::requester::Requester;
 use crate::ticket::Ticket;
-use nr_endpoint::{Claims, Endpoint, Offered};
+use nr_endpoint::{Claims, Endpoint};
 use nr_header::ChunkLists;
-use nr_reduce::{Call, Form, PayloadFault, Plan, Refused, plan};
+use nr_reduce::{Call, Form, Outline, Refused, TooLarge, outline_of, written_parts};
+use nr_rpc::{CallTarget, write_call_head};
 use nr_xdr::{Memory, Octets};
 use std::alloc::Global;
 
@@ -31,15 +33,6 @@ const SEND_MAX: u32 = 1024;
 /// How many numbers there are.
 const NUMBERS_END: u64 = 4294967296;
 
-/// What goes out with a call, but for the bytes of its read chunk.
-#[derive(Drop)]
-pub struct Prepared {
-    pub message: Octets,
-    pub lists: ChunkLists,
-    pub write: Option<Octets>,
-    pub reply: Option<Octets>,
-}
-
 /// What is kept of a call that went out: its lists and its regions.
 #[derive(Drop)]
 pub struct Sent {
@@ -47,21 +40,30 @@ pub struct Sent {
     pub claims: Claims,
 }
 
-fn prepare(alloc: Global, xid: u32, credit: u32, stag: u64, plan: &Plan) -> Result<Prepared, Memory>
-    requires few { AreFew plan.now }
-    requires stags { stag + regions_needed plan.now ≤ 2 ^ 32 }
-    ensures { IfOk result (λ p. p ≡ record { message = call_message xid credit stag plan.now; lists = lists_of stag plan.now; write = some_if (has_segment plan.now.write) (replicate (total plan.now.write) 0); reply = some_if (has_segment plan.now.reply) (replicate (total plan.now.reply) 0) }) }
+/// Queues the message of a plan with these lists and registers its regions; or nothing, if memory runs out.
+fn offer_plan(
+    alloc: Global,
+    endpoint: &mut Endpoint,
+    xid: u32,
+    credit: u32,
+    plan: PlannedCall<'_>,
+    lists: &ChunkLists,
+) -> Result<Claims, Memory>
+    requires live { endpoint.old.link.state.ended ≡ None }
+    requires planned { IsPlan (call_plan plan) }
+    requires stags { endpoint.old.link.state.memory.next + regions_needed (call_plan plan) ≤ 2 ^ 32 }
+    requires lists { lists.now ≡ lists_of endpoint.old.link.state.memory.next (call_plan plan) }
+    ensures link { OnOk result (endpoint.new.link ≡ with_state (submitted endpoint.old.link.state (call_message xid credit endpoint.old.link.state.memory.next (call_plan plan.entry)) (buffers endpoint.old.link.state.memory.next (call_plan plan.entry))) endpoint.old.link) }
+    ensures claims { IfOk result (λ claims. claims ≡ claims_of endpoint.old.link.state.memory (offered_of (call_plan plan.entry))) }
+    ensures held { IfOk result (λ claims. SentHeld endpoint.old.link.state.memory endpoint.new.link.state.memory claims) }
+    ensures err { OnErr result (endpoint.new.link ≡ endpoint.old.link) }
 {
-    let write = zeros(alloc, &plan.write)?;
-    let reply = zeros(alloc, &plan.reply)?;
-    let lists = lists_of(alloc, stag, plan)?;
-    let message = message_of(alloc, xid, credit, plan, &lists)?;
-    Ok(Prepared {
-        message,
-        lists,
-        write,
-        reply,
-    })
+    let message = message_of(alloc, xid, credit, plan, lists)?;
+    let offered = offered_of(alloc, plan)?;
+    match endpoint.offer(message.as_slice(), offered) {
+        Ok(claims) => Ok(claims),
+        Err(_) => Err(Memory),
+    }
 }
 
 /// Queues the Send of a plan and registers its regions; or nothing, if memory runs out.
@@ -70,34 +72,22 @@ fn send_plan(
     endpoint: &mut Endpoint,
     xid: u32,
     credit: u32,
-    plan: Plan,
+    plan: PlannedCall<'_>,
 ) -> Result<Sent, Memory>
     requires live { endpoint.old.link.state.ended ≡ None }
-    requires planned { IsPlan plan }
-    requires stags { endpoint.old.link.state.memory.next + regions_needed plan ≤ 2 ^ 32 }
-    ensures link { OnOk result (endpoint.new.link ≡ with_state (submitted endpoint.old.link.state (call_message xid credit endpoint.old.link.state.memory.next plan) (buffers endpoint.old.link.state.memory.next plan)) endpoint.old.link) }
-    ensures lists { IfOk result (λ s. s.lists ≡ lists_of endpoint.old.link.state.memory.next plan) }
-    ensures claims { IfOk result (λ s. s.claims ≡ claims_of endpoint.old.link.state.memory (offered_of plan)) }
+    requires planned { IsPlan (call_plan plan) }
+    requires stags { endpoint.old.link.state.memory.next + regions_needed (call_plan plan) ≤ 2 ^ 32 }
+    ensures link { OnOk result (endpoint.new.link ≡ with_state (submitted endpoint.old.link.state (call_message xid credit endpoint.old.link.state.memory.next (call_plan plan.entry)) (buffers endpoint.old.link.state.memory.next (call_plan plan.entry))) endpoint.old.link) }
+    ensures lists { IfOk result (λ s. s.lists ≡ lists_of endpoint.old.link.state.memory.next (call_plan plan.entry)) }
+    ensures claims { IfOk result (λ s. s.claims ≡ claims_of endpoint.old.link.state.memory (offered_of (call_plan plan.entry))) }
     ensures held { IfOk result (λ s. SentHeld endpoint.old.link.state.memory endpoint.new.link.state.memory s.claims) }
     ensures offer { IfOk result (λ s. IsOfferOf s.claims s.lists) }
     ensures err { OnErr result (endpoint.new.link ≡ endpoint.old.link) }
 {
     let stag = NUMBERS_END - endpoint.regions().stags_left();
-    let Prepared {
-        message,
-        lists,
-        write,
-        reply,
-    } = prepare(alloc, xid, credit, stag, &plan)?;
-    let offered = Offered {
-        read: some_region(plan),
-        write,
-        reply,
-    };
-    match endpoint.offer(message.as_slice(), offered) {
-        Ok(claims) => Ok(Sent { lists, claims }),
-        Err(_) => Err(Memory),
-    }
+    let lists = lists_of(alloc, stag, plan)?;
+    let claims = offer_plan(alloc, endpoint, xid, credit, plan, &lists)?;
+    Ok(Sent { lists, claims })
 }
 
 impl Requester {
@@ -126,12 +116,12 @@ impl Requester {
 
     /// Sends a call by its plan: its regions are registered and its Send is queued, or nothing, if memory runs out. Then the call comes
     /// back.
-    fn send_call(&mut self, call: Call, plan: Plan) -> Result<u32, Call>
+    fn send_call(&mut self, call: Call, head: &[u8], outline: Outline<'_>) -> Result<u32, Call>
         requires live { self.old.state.side.ended ≡ None }
-        requires planned { IsPlan plan }
-        requires numbers { HasNumbers self.old.state (regions_needed plan) }
+        requires planned { IsPlan (outline_plan (head.now ++ call.args) outline) }
+        requires numbers { HasNumbers self.old.state (regions_needed (outline_plan (head.now ++ call.args) outline)) }
         ensures xid { IfOk result (λ xid. xid ≡ self.old.state.next_xid) }
-        ensures state { OnOk result (self.new ≡ after_submit self.old call plan) }
+        ensures state { OnOk result (self.new ≡ after_submit self.old call (outline_plan (head.now ++ call.args) outline.entry)) }
         ensures returned { IfErr result (λ c. c ≡ call) }
         ensures err { OnErr result (self.new ≡ self.old) }
     {
@@ -144,7 +134,11 @@ impl Requester {
             &mut self.endpoint,
             xid,
             self.wished,
-            plan,
+            PlannedCall {
+                head,
+                args: call.args.as_slice(),
+                outline,
+            },
         ) {
             Ok(sent) => sent,
             Err(_) => return Err(call),
@@ -170,40 +164,91 @@ fn free_xid(next_xid: u64) -> u32
     }
 }
 
+/// What a call asks for under the next xid.
+fn target_under(next_xid: u64, call: &Call) -> CallTarget
+    ensures { result ≡ target_under next_xid call.now }
+{
+    CallTarget {
+        xid: free_xid(next_xid),
+        prog: call.prog,
+        vers: call.vers,
+        proc: call.proc,
+        args_at: 0,
+    }
+}
+
 impl Requester {
     /// Accepts a call that has this plan, if a credit and numbers are left.
-    fn accept(&mut self, call: Call, plan: Plan) -> Result<u32, (Call, Refused)>
+    fn accept(
+        &mut self,
+        call: Call,
+        head: &[u8],
+        outline: Outline<'_>,
+    ) -> Result<u32, (Call, Refused)>
         requires live { self.old.state.side.ended ≡ None }
-        requires planned { IsPlan plan }
-        ensures accepted { IfOk result (λ xid. (answer_for self.old.state (regions_needed plan) ≡ submissions.Accepted xid) × (xid ≡ self.old.state.next_xid)) }
-        ensures state { OnOk result ((self.new ≡ after_submit self.old call plan) × (self.old.state.next_xid < 2 ^ 32)) }
-        ensures refused { IfErr result (λ e. e.1 ≢ refusals.Memory → answer_for self.old.state (regions_needed plan) ≡ submissions.Refused e.1) }
+        requires planned { IsPlan (outline_plan (head.now ++ call.args) outline) }
+        ensures accepted { IfOk result (λ xid. (answer_for self.old.state (regions_needed (outline_plan (head.now ++ call.args) outline.entry)) ≡ submissions.Accepted xid) × (xid ≡ self.old.state.next_xid)) }
+        ensures state { OnOk result ((self.new ≡ after_submit self.old call (outline_plan (head.now ++ call.args) outline.entry)) × (self.old.state.next_xid < 2 ^ 32)) }
+        ensures refused { IfErr result (λ e. e.1 ≢ refusals.Memory → answer_for self.old.state (regions_needed (outline_plan (head.now ++ call.args) outline.entry)) ≡ submissions.Refused e.1) }
         ensures returned { IfErr result (λ e. e.0 ≡ call) }
         ensures err { OnErr result (self.new ≡ self.old) }
     {
-        if let Some(refused) = self.refusal(regions_needed(&plan)) {
+        let needed = regions_needed(PlannedCall {
+            head,
+            args: call.args.as_slice(),
+            outline,
+        });
+        if let Some(refused) = self.refusal(needed) {
             return Err((call, refused));
         }
-        match self.send_call(call, plan) {
+        match self.send_call(call, head, outline) {
             Ok(xid) => Ok(xid),
             Err(call) => Err((call, Refused::Memory)),
         }
     }
 
-    /// The plan of a call under the next xid, or why there is none.
-    fn planned(&self, call: &Call, form: &Form) -> Result<Plan, Refused>
+    /// The head of a call under the next xid.
+    fn head(&self, call: &Call) -> Result<Octets, Memory>
         requires { CanWriteCred call.now.cred }
-        ensures plan { IfOk result (λ p. plan_under self.now.state call.now form.now ≡ Ok p) }
-        ensures refused { IfErr result (λ e. e ≢ refusals.Memory → answer_by_plan self.now.state (plan_under self.now.state call.now form.now) ≡ submissions.Refused e) }
+        ensures { IfOk result (λ h. h ≡ head_under self.now.state.next_xid call.now) }
     {
-        let payload = match call_bytes(self.alloc, free_xid(self.next_xid), call) {
-            Ok(payload) => payload,
-            Err(_) => return Err(Refused::Memory),
-        };
-        match plan(self.alloc, payload.as_slice(), form, SEND_MAX, SEND_MAX) {
-            Ok(plan) => Ok(plan),
-            Err(PayloadFault::TooLarge { need, room }) => Err(Refused::TooLarge { need, room }),
-            Err(_) => Err(Refused::Memory),
+        write_call_head(self.alloc, target_under(self.next_xid, call), &call.cred)
+    }
+
+    /// How a call with this head is sent, or the limit that it exceeds. The head is not read.
+    fn planned<'a>(&self, call: &Call, head: &[u8], form: &'a Form) -> Result<Outline<'a>, TooLarge>
+        requires cred { CanWriteCred call.now.cred }
+        requires head { head.now ≡ head_under self.now.state.next_xid call.now }
+        ensures { OutlineAnswers (head.now ++ call.now.args) result (plan_under self.now.state call.now form.now) }
+    {
+        let parts = written_parts(
+            target_under(self.next_xid, call),
+            &call.cred,
+            head,
+            call.args.as_slice(),
+        );
+        outline_of(parts, form, SEND_MAX, SEND_MAX)
+    }
+
+    /// Submits a call whose head is written, on a link that has not ended.
+    fn submit_written(
+        &mut self,
+        call: Call,
+        head: &[u8],
+        form: &Form,
+    ) -> Result<u32, (Call, Refused)>
+        requires live { self.old.state.side.ended ≡ None }
+        requires cred { CanWriteCred call.cred }
+        requires head { head.now ≡ head_under self.old.state.next_xid call }
+        ensures accepted { IfOk result (λ xid. answer_of self.old.state call form.now ≡ submissions.Accepted xid) }
+        ensures sent { IfOk result (λ xid. WasSent self.old self.new call form.now xid) }
+        ensures refused { IfErr result (λ e. e.1 ≢ refusals.Memory → answer_of self.old.state call form.now ≡ submissions.Refused e.1) }
+        ensures returned { IfErr result (λ e. e.0 ≡ call) }
+        ensures err { OnErr result (self.new ≡ self.old) }
+    {
+        match self.planned(&call, head, form) {
+            Ok(outline) => self.accept(call, head, outline),
+            Err(TooLarge { need, room }) => Err((call, Refused::TooLarge { need, room })),
         }
     }
 
@@ -218,9 +263,9 @@ impl Requester {
         if let Some(end) = self.end() {
             return Err((call, Refused::Ended(end)));
         }
-        match self.planned(&call, form) {
-            Ok(plan) => self.accept(call, plan),
-            Err(refused) => Err((call, refused)),
+        match self.head(&call) {
+            Ok(head) => self.submit_written(call, head.as_slice(), form),
+            Err(_) => Err((call, Refused::Memory)),
         }
     }
 

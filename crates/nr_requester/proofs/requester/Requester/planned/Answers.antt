@@ -1,21 +1,20 @@
-use Rattle.std.proofs.Common.{Ok, Err, ap, subst, ◌∙◌, arith}
-use Rattle.nr_reduce.specs.declared.fault.PayloadFault.{PayloadFault}
-use Rattle.nr_reduce.specs.PlanSizes.{PlanAnswers}
-use Rattle.nr_reduce.specs.Plans.{plan_of}
+use Rattle.std.proofs.Common.{ap, sym, ◌∙◌}
+use Rattle.nr_rpc.specs.declared.head.CallTarget.{CallTarget}
+use Rattle.nr_rpc.specs.Call.{call_head, call_of_target}
+use Rattle.nr_reduce.specs.CallOutlines.{payload_of}
 use Rattle.nr_requester.specs.RequesterState.{RequesterSide}
-use Rattle.nr_requester.proofs.Answered.{planned_by, too_large_answer}
+use Rattle.nr_requester.specs.Sending.{head_under}
+use Rattle.nr_requester.proofs.Answered.{outlined_by}
 use Rattle.nr_requester.proofs.requester.Requester.planned.Goals as goal
 
-pub returns-in-Ok-plan-clause-plan : goal.returns-in-Ok-plan-clause-plan
-returns-in-Ok-plan-clause-plan c =
-    let next = ap (λ (h : RequesterSide). h.state.next_xid) c.self.view_is in
-    planned_by c.args.self.now.state c.args.call.now c.args.form.now c.self.inside.next_xid c.free_xid.result c.as_slice.result.now (Ok c.in-Ok-plan.plan)
-    (omega (arith, next)) c.self.invariant.xid c.free_xid.ensures (c.as_slice.ensures ∙ c.in-Ok.ensures) c.in-Ok-plan.ensures
+pub written_parts-parts-requires-clause-head : goal.written_parts-parts-requires-clause-head
+written_parts-parts-requires-clause-head c =
+    c.requires.head
+    ∙ ap (λ (h : RequesterSide). head_under h.state.next_xid c.args.call.now) (sym c.self.view_is)
+    ∙ ap (λ (t : CallTarget). call_head (call_of_target t c.args.call.now.cred)) (sym c.target_under.ensures)
 
-pub returns-in-Err-TooLarge-clause-refused : goal.returns-in-Err-TooLarge-clause-refused
-returns-in-Err-TooLarge-clause-refused c =
+pub returns : goal.returns
+returns c =
     let next = ap (λ (h : RequesterSide). h.state.next_xid) c.self.view_is in
-    λ other. too_large_answer c.args.self.now.state c.args.call.now c.args.form.now (record { need = c.in-Err-TooLarge.need; room = c.in-Err-TooLarge.room })
-    (planned_by c.args.self.now.state c.args.call.now c.args.form.now c.self.inside.next_xid c.free_xid.result c.as_slice.result.now (Err (record { need = c.in-Err-TooLarge.need; room = c.in-Err-TooLarge.room }))
-    (omega (arith, next)) c.self.invariant.xid c.free_xid.ensures (c.as_slice.ensures ∙ c.in-Ok.ensures)
-    (subst (λ (f : PayloadFault). PlanAnswers (Err f) (plan_of c.as_slice.result.now c.args.form.now 1024 1024)) c.in-Err-TooLarge.field-0-is c.in-Err-TooLarge.ensures))
+    outlined_by c.args.self.now.state c.args.call.now c.args.form.now c.self.inside.next_xid c.target_under.result c.args.head.now c.as_slice.result.now (payload_of c.written_parts-parts.result) c.outline_of.result (sym next) c.self.invariant.xid
+    c.target_under.ensures c.as_slice.ensures c.requires.head c.written_parts-parts.ensures.payload c.outline_of.ensures

@@ -1,6 +1,8 @@
-use Rattle.std.proofs.Common.{◌≡◌, List, [], ◌∷◌, ◌++◌, length, Some, ap, ◌∙◌, arith}
+use Rattle.std.proofs.Common.{◌≡◌, ℕ, List, [], ◌∷◌, ◌++◌, length, Some, ap, ◌∙◌, arith}
 use Rattle.std.proofs.lemmas.List.{length-map}
 use Rattle.nr_endpoint.specs.LinkState.{LinkSide}
+use Rattle.nr_reduce.specs.Plans.{regions_needed}
+use Rattle.nr_reduce.specs.CallOutlines.{outline_plan}
 use Rattle.nr_requester.specs.declared.outstanding.OutstandingCall.{OutstandingCall}
 use Rattle.nr_requester.specs.RequesterState.{RequesterSide}
 use Rattle.nr_requester.specs.Views.{stored_view}
@@ -11,7 +13,8 @@ pub send_plan-requires-clause-stags : goal.send_plan-requires-clause-stags
 send_plan-requires-clause-stags c =
     let next = ap (λ (h : RequesterSide). h.state.side.memory.next) c.self.view_is in
     let fits = c.requires.numbers.stags in
-    omega (arith, next, fits)
+    let same = ap (λ (args : List ℕ). regions_needed (outline_plan (c.args.head.now ++ args) c.args.outline)) c.as_slice.ensures in
+    omega (arith, next, fits, same)
 
 pub invariant_of-self-2 : goal.invariant_of-self-2
 invariant_of-self-2 c =

@@ -1,0 +1,24 @@
+use Rattle.std.proofs.Common.{ℕ, ◌++◌, ◌∙◌}
+use Rattle.nr_reduce.specs.declared.call.Call.{Call}
+use Rattle.nr_reduce.specs.declared.call.Refused.{Refused}
+use Rattle.nr_reduce.specs.CallOutlines.{outline_plan}
+use Rattle.nr_requester.proofs.Views.{if_ok, if_err}
+use Rattle.nr_requester.proofs.Answered.{live_answer, accepted_answer, refused_answer, too_large_answer}
+use Rattle.nr_requester.proofs.requester.Requester.submit_written.Goals as goal
+
+pub returns-in-Ok-clause-accepted : goal.returns-in-Ok-clause-accepted
+returns-in-Ok-clause-accepted c =
+    if_ok c.accept.result
+    (λ (xid : ℕ) w. accepted_answer c.args.self.now.state c.args.call c.args.form.now (outline_plan (c.args.head.now ++ c.args.call.args) c.in-Ok.outline) xid c.requires.live c.in-Ok.ensures w.0)
+    c.accept.ensures.accepted
+
+pub returns-in-Ok-clause-refused : goal.returns-in-Ok-clause-refused
+returns-in-Ok-clause-refused c =
+    if_err c.accept.result
+    (λ (e : Call × Refused) w. refused_answer c.args.self.now.state c.args.call c.args.form.now (outline_plan (c.args.head.now ++ c.args.call.args) c.in-Ok.outline) c.requires.live c.in-Ok.ensures e.1 w)
+    c.accept.ensures.refused
+
+pub returns-in-Err-clause-refused : goal.returns-in-Err-clause-refused
+returns-in-Err-clause-refused c =
+    λ other. live_answer c.args.self.now.state c.args.call c.args.form.now c.requires.live
+    ∙ too_large_answer c.args.self.now.state c.args.call c.args.form.now (record { need = c.in-Err.field-0.need; room = c.in-Err.field-0.room }) c.in-Err.ensures
