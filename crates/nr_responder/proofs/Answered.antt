@@ -12,6 +12,7 @@ use Rattle.nr_link.specs.Input.{InputState}
 use Rattle.nr_link.specs.Limits.{send_max}
 use Rattle.nr_link.specs.Output.{send}
 use Rattle.nr_endpoint.specs.declared.framing.RemoteWrite.{RemoteWrite}
+use Rattle.nr_endpoint.specs.FedBytes.{fed_bytes}
 use Rattle.nr_endpoint.specs.LinkState.{LinkSide}
 use Rattle.nr_endpoint.specs.Calls.{after_calls}
 use Rattle.nr_endpoint.specs.Offering.{answer_calls, writes_output, after_answer}
@@ -94,6 +95,9 @@ pub answer_link : (l : LinkSide) (writes : List RemoteWrite) (message : List ℕ
 answer_link l writes message live =
     sym (answered_state l (after_answer writes message l.state) writes message refl)
     ∙ ap (λ (o : Option End). record { awaited = l.awaited; rest = l.rest; state = cond (is_some o) l.state (with_answer l.state (writes_output writes) message) }) live
+
+pub answered_fed : (l m : LinkSide) (writes : List RemoteWrite) (message : List ℕ) → l.state.ended ≡ None → m ≡ after_calls l (answer_calls writes message) → fed_bytes m ≡ fed_bytes l
+answered_fed l m writes message live is = ap fed_bytes (is ∙ answer_link l writes message live)
 
 begins_answered : (l : LinkSide) (writes message : List ℕ) → 0 < l.state.place → Begins l → Begins (record { awaited = l.awaited; rest = l.rest; state = with_answer l.state writes message })
 begins_answered l writes message some (BeforeHello place awaited hello none) = absurd (omega (arith, place, some))

@@ -1,7 +1,8 @@
 -- What a responder counts is what the server of a run does.
-use Rattle.std.proofs.Common.{◌≡◌, ℕ, ◌+◌, List, [], ◌∷◌, ◌++◌, length, None, Ok, Err, ap, ◌∙◌, arith}
-use Rattle.std.specs.Prelude.{Result, IfOk, OnOk}
+use Rattle.std.proofs.Common.{◌≡◌, ℕ, ◌+◌, List, [], ◌∷◌, ◌++◌, length, Some, None, Ok, Err, ap, ◌∙◌, arith, inl, inr}
+use Rattle.std.specs.Prelude.{◌≢◌, Result, IfOk, OnOk}
 use Rattle.nr_link.specs.SegmentFaults.{is_begun}
+use Rattle.nr_link.specs.declared.end.End.TheVariants as ends
 use Rattle.nr_outside.specs.declared.moment.Moment.{Moment}
 use Rattle.nr_reduce.specs.declared.mark.LinkParameters.{LinkParameters}
 use Rattle.nr_reduce.specs.declared.mark.Mark.{Mark}
@@ -14,7 +15,7 @@ use Rattle.nr_reduce.specs.Served.{IsExecuted}
 use Rattle.nr_responder.specs.declared.call.Sent.{Sent}
 use Rattle.nr_responder.specs.Answering.{Answers}
 use Rattle.nr_responder.specs.ResponderState.{ResponderSide, end_of, unsent}
-use Rattle.nr_responder.specs.Keeping.{Keeps}
+use Rattle.nr_responder.specs.Keeping.{Keeps, KeepsEnd}
 use Rattle.nr_responder.specs.Standing.{RepresentsServer, Stands}
 use Rattle.nr_responder.proofs.Answered.{answered_stands}
 use Rattle.nr_responder.proofs.Fed.{not_ended_lem}
@@ -22,11 +23,14 @@ use Rattle.nr_responder.proofs.FrameEnds.{in_use, waiting_is}
 use Rattle.nr_responder.proofs.Marks.{represents}
 use Rattle.nr_responder.proofs.SendFrames.{begun_fine}
 
-pub calls_of_run : (opened : LinkParameters) (link : ℕ) (run : List Mark) (v : ResponderSide) → end_of v ≡ None → Stands opened link run v → length v.calls ≡ length (server opened link run).state.calls
-calls_of_run opened link run v live stands =
-    let h : RepresentsServer opened link run v = represents opened link run v live stands in
-    let keeps : Keeps opened h.end.state h.input v = (not_ended_lem opened h.end h.input v live h.keeps).1 in
-    ap (λ (cs : List PendingCall). length cs) keeps.calls ∙ ap (λ (e : EndState ServerState). length e.state.calls) h.stands.keeps
+pub calls_of_run : (opened : LinkParameters) (link : ℕ) (run : List Mark) (v : ResponderSide) → end_of v ≢ Some ends.Memory → Stands opened link run v → length v.calls ≡ length (server opened link run).state.calls
+calls_of_run opened link run v other (inr out) = absurd (other out.0)
+calls_of_run opened link run v other (inl h) =
+    ap (λ (cs : List PendingCall). length cs) (kept h.keeps) ∙ ap (λ (e : EndState ServerState). length e.state.calls) h.stands.keeps
+  where
+    kept : KeepsEnd opened h.end h.input v → v.calls ≡ h.end.state.calls
+    kept (inl live) = live.1.calls
+    kept (inr ended) = ended.calls
 
 pub in_use_of_run : (opened : LinkParameters) (link : ℕ) (run : List Mark) (v : ResponderSide) → end_of v ≡ None → Stands opened link run v →
     length v.calls + (unsent v.link.state + one_if (is_begun v.link.state.receive_queue.received.begun)) ≡ receives_in_use (server opened link run).state

@@ -93,7 +93,8 @@ keeps_drained opened end so_far v n within (inl (is, h)) =
     } in
     subst (λ (e : EndState ServerState). KeepsEnd opened e so_far (after_drain v n)) (sym (live_next_lem opened end.state n end.ended is)) (inl (refl, keeps))
 keeps_drained opened end so_far v n within (inr ended) =
-    subst (λ (e : EndState ServerState). KeepsEnd opened e so_far (after_drain v n)) (sym (ended_next opened end.state n end.ended ended.0)) (inr ended)
+    subst (λ (e : EndState ServerState). KeepsEnd opened e so_far (after_drain v n)) (sym (ended_next opened end.state n end.ended ended.over))
+    (inr (record { over = ended.over; why = ended.why; calls = ended.calls; ready = ended.ready; credits = ended.credits }))
 
 pub drained_stands : (opened : LinkParameters) (link : ℕ) (run : List Mark) (v : ResponderSide) (n : ℕ) → n ≤ length (may_write v) → Stands opened link run v →
     Stands opened link (run ++ marks.Wrote link Responder (take n (may_write v)) ∷ []) (after_drain v n)

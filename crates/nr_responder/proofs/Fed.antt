@@ -94,7 +94,7 @@ one_frame_lem opened end so_far v after x frame one is place takes =
 -- a responder that has ended doesn't stand for a server that hasn't
 pub not_ended_lem : (opened : LinkParameters) (end : EndState ServerState) (so_far : InputState) (v : ResponderSide) → end_of v ≡ None → KeepsEnd opened end so_far v → (end.ended ≡ None) × Keeps opened end.state so_far v
 not_ended_lem opened end so_far v live (inl h) = h
-not_ended_lem opened end so_far v live (inr ended) = absurd (never end.ended (sym ended.1 ∙ live) ended.0)
+not_ended_lem opened end so_far v live (inr ended) = absurd (never end.ended (sym ended.why ∙ live) ended.over)
   where
     never : (o : Option End) → o ≡ None → is_some o ≡ true → ⊥
     never None e t = absurd cc
@@ -171,7 +171,7 @@ pub ended_fed_lem : (v : ResponderSide) (piece : List ℕ) → is_some (end_of v
 ended_fed_lem v piece over opened end so_far (inl (is, h)) =
     absurd (let none : is_some (end_of v) ≡ false = ap (λ (o : Option End). is_some o) h.link.live in let two : true ≡ false = sym over ∙ none in cc)
 ended_fed_lem v piece over opened end so_far (inr ended) =
-    let all = ended_events opened end (received_events so_far piece) end.ended refl ended.0 in
+    let all = ended_events opened end (received_events so_far piece) end.ended refl ended.over in
     record {
       keeps = subst (λ (e : EndState ServerState). KeepsEnd opened e (input_after so_far piece) v) (sym all.0) (inr ended);
       output = sym (append-nil (queue v)) ∙ ap (λ (bytes : List ℕ). queue v ++ bytes) (sym all.1);
@@ -219,4 +219,4 @@ empty_fed v p opened end so_far (inl (is, h)) =
         let none : IsNoFrame i [] = subst (λ (xs : List ℕ). IsNoFrame i xs) (take-nil (bytes_taken v.link.awaited v.link.rest [])) (partial_piece i [] w) in
         let still : input_after i [] ≡ i = none.after ∙ ap (λ (xs : List ℕ). record { awaited = v.link.awaited; rest = xs; place = v.link.state.place }) (append-nil v.link.rest) in
         no_frame_lem opened end i v v [] none (subst (λ (j : InputState). KeepsEnd opened end j v) (sym still) (inl (is, own))) refl
-empty_fed v p opened end so_far (inr ended) = ended_fed_lem v [] (ap (λ (o : Option End). is_some o) ended.1 ∙ ended.0) opened end so_far (inr ended)
+empty_fed v p opened end so_far (inr ended) = ended_fed_lem v [] (ap (λ (o : Option End). is_some o) ended.why ∙ ended.over) opened end so_far (inr ended)

@@ -1,6 +1,6 @@
 -- A frame that ends a responder for the rules of the link, and the client's hello.
 use Rattle.std.proofs.Common.{◌≡◌, ◌≢◌, ℕ, ◌+◌, ◌<◌, ◌≤◌, Bool, true, false, eqb, cond, List, [], ◌++◌, length, Option, Some, None, Result, Ok, Err, sym, ap, subst, ◌∙◌, arith, inl, inr, is_some}
-use Rattle.std.specs.Prelude.{IfSome}
+use Rattle.std.specs.Prelude.{IfSome, map}
 use Rattle.std.proofs.lemmas.Bool.{ne_eqb, eq-eqb}
 use Rattle.nr_wire.specs.declared.hello.Side.{Side}
 use Rattle.nr_wire.specs.declared.hello.Side.TheVariants.{Initiator, Responder}
@@ -24,7 +24,7 @@ use Rattle.nr_reduce.specs.declared.mark.LinkParameters.{LinkParameters}
 use Rattle.nr_reduce.specs.OfferedRegions.{region_grants}
 use Rattle.nr_reduce.specs.Events.RunEvent.{FrameReceived}
 use Rattle.nr_reduce.specs.EndRules.{EndState, live, next_end_state, next_end_state_by, output_for, output_for_by}
-use Rattle.nr_reduce.specs.ServerState.{ServerState}
+use Rattle.nr_reduce.specs.ServerState.{ReadyCall, ServerState}
 use Rattle.nr_reduce.specs.Server.{server_rules, server_end, with_own_hello, or_refusal, readiness}
 use Rattle.nr_reduce.proofs.MemorySteps.{holds_later, received_later, offered_later}
 use Rattle.nr_responder.specs.ResponderState.{ResponderSide, queue, queued_bytes}
@@ -130,10 +130,13 @@ ended_takes opened k input later v frame end h some ended =
     let last : queued_bytes (with_end s.side end s.send_queue) ≡ queued_bytes s.send_queue ++ last_output Responder end =
     ap (λ (side : Side). queued_bytes (with_end side end s.send_queue)) h.link.side ∙ last_queue end s.send_queue (flags_first v.link frame end h.link.live h.begins ended) in
     record {
-      keeps = inr (
-        ap (λ (e : EndState ServerState). is_some e.ended) next,
-        ended ∙ sym (ap (λ (e : EndState ServerState). e.ended) next),
-      );
+      keeps = inr (record {
+        over = ap (λ (e : EndState ServerState). is_some e.ended) next;
+        why = ended ∙ sym (ap (λ (e : EndState ServerState). e.ended) next);
+        calls = h.calls ∙ sym (ap (λ (e : EndState ServerState). e.state.calls) next);
+        ready = h.ready ∙ sym (ap (λ (e : EndState ServerState). map (λ (r : ReadyCall). r.xid) e.state.ready) next);
+        credits = h.credits ∙ sym (ap (λ (e : EndState ServerState). e.state.credit) next);
+      });
       output = ap (λ (t : LinkState). queued_bytes t.send_queue) state ∙ last ∙ ap (λ (bytes : List ℕ). queued_bytes s.send_queue ++ bytes) (sym due);
     }
 

@@ -22,6 +22,7 @@ pub mod SendFrames
 pub mod ServerSteps
 pub mod Sounds
 pub mod Stepped
+pub mod Staging
 pub mod Steps
 pub mod Supported
 pub mod Whole

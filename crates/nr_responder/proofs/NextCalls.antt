@@ -31,7 +31,7 @@ next_ended opened link run v end h is = next_is_lem opened link run v h ∙ by h
     by : KeepsEnd opened h.end h.input v → next_of h.end ≡ None
     by (inl live) =
         absurd (let two : None ≡ Some end = sym live.1.link.live ∙ is in cc)
-    by (inr ended) = some h.end.ended h.end.state.ready ended.0
+    by (inr ended) = some h.end.ended h.end.state.ready ended.over
 
 abbrev xid_of : ReadyCall → ℕ
 xid_of r = r.xid
@@ -56,7 +56,7 @@ next_live opened link run v h is = subst (λ (o : Option ReadyCall). IsFirst o (
     by (inl live) =
         subst (λ (o : Option ReadyCall). IsFirst o (slice_get v.ready 0)) (ap (λ (e : Option End). first_ready h.end.state.ready e) (sym live.0))
         (subst (λ (xs : List ℕ). IsFirst (slice_get h.end.state.ready 0) (slice_get xs 0)) (sym live.1.ready) (first_of_lem h.end.state.ready))
-    by (inr ended) = absurd (none h.end.ended (sym ended.1 ∙ is) ended.0)
+    by (inr ended) = absurd (none h.end.ended (sym ended.why ∙ is) ended.over)
 
 -- one that has ended, other than for memory, has no next call
 pub next_over : (opened : LinkParameters) (link : ℕ) (run : List Mark) (v : ResponderSide) → Stands opened link run v → end_of v ≢ Some ends.Memory → is_some (end_of v) ≡ true → next_call opened link run ≡ None

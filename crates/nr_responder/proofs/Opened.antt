@@ -1,5 +1,5 @@
 -- A responder that is opened stands for no marks.
-use Rattle.std.proofs.Common.{◌≡◌, ℕ, ◌+◌, List, [], refl, sym, ap, subst, arith, inl}
+use Rattle.std.proofs.Common.{◌≡◌, ℕ, ◌+◌, List, [], None, refl, sym, ap, subst, arith, inl}
 use Rattle.std.specs.FinMap.{get-empty}
 use Rattle.std.specs.Ordering.{nat_cmp}
 use Rattle.nr_wire.specs.declared.hello.Side.TheVariants.{Initiator, Responder}
@@ -91,6 +91,10 @@ opened_stands_lem opened link credits l same is =
     } in
     subst (λ (x : LinkSide). Stands opened link [] (opened_state credits x)) (sym is)
     (subst (λ (n : ℕ). Stands opened link [] (opened_state n (initial_link Responder n 1))) same (inl first))
+
+pub opened_lives : (l : LinkSide) (credits : ℕ) → l ≡ initial_link Responder credits 1 → l.state.ended ≡ None
+unfolding initial_link
+opened_lives l credits is = ap (λ (x : LinkSide). x.state.ended) is
 
 pub opened_queues : (l : LinkSide) (credits : ℕ) → l ≡ initial_link Responder credits 1 → (l.state.receive_queue.lent ≡ 0) × ((l.state.receive_queue.receives ≡ credits) × (l.state.send_queue.send_ends ≡ []))
 unfolding initial_link

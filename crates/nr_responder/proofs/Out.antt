@@ -184,6 +184,7 @@ out_by_message v after piece m number invalidated message rest live_now p step l
       fed = empty_fed v p;
       live = live_now;
       ended = ap end_of ran.is_out ∙ ended.0;
+      same = record { calls = ap (λ (x : ResponderSide). x.calls) ran.is_out; ready = ap (λ (x : ResponderSide). x.ready) ran.is_out; credits = ap (λ (x : ResponderSide). x.credits) ran.is_out };
       needs = λ opened end so_far keeps. needs opened end so_far keeps (ap (λ (x : ResponderSide). queued_bytes x.link.state.send_queue) ran.is_out ∙ ap queued_bytes ended.1) step;
     }
   where
@@ -236,6 +237,7 @@ out_by_link v after piece live_now p is whole queues =
       fed = empty_fed v p;
       live = live_now;
       ended = ap end_of is ∙ ended.0;
+      same = record { calls = ap (λ (x : ResponderSide). x.calls) is; ready = ap (λ (x : ResponderSide). x.ready) is; credits = ap (λ (x : ResponderSide). x.credits) is };
       needs = λ opened end so_far keeps.
           (whole, (ap (λ (x : ResponderSide). queued_bytes x.link.state.send_queue) is ∙ ap queued_bytes ended.1, inl (needs opened end so_far keeps (step_of v.link (after_call v.link (FeedOne piece)) piece p live_now refl))));
     })

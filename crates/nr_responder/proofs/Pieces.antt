@@ -148,6 +148,7 @@ fed_join a b c x y (WentOn first) live (RanOut n out) =
       fed = subst (λ (bytes : List ℕ). FedOn a bytes out.stopped) (sym (take_past n x y)) (fed_parts a b out.stopped x (take n y) first out.fed);
       live = out.live;
       ended = out.ended;
+      same = out.same;
       needs = subst (λ (bytes : List ℕ). (opened : LinkParameters) (end : EndState ServerState) (input : InputState) → KeepsEnd opened end input out.stopped →
           (is_whole out.stopped.link.awaited (out.stopped.link.rest ++ bytes) ≡ true) × ((queue c ≡ queue out.stopped) × TakesMemory opened end.state (frame_by out.stopped.link bytes))) (sym (drop_past n x y)) out.needs;
     })

@@ -1,6 +1,7 @@
 -- A whole frame with a segment of a Send at a responder: a part of a message, and a message whose call is ready at once, is refused by an
 -- error message, or ends the link.
 use Rattle.std.proofs.Common.{◌≡◌, ℕ, ◌+◌, ◌-◌, ◌<◌, ◌≤◌, Bool, true, false, not, cond, List, [], ◌∷◌, ◌++◌, length, Option, Some, None, Ok, refl, sym, ap, subst, ◌∙◌, arith, inl, inr, is_some, length-append}
+use Rattle.std.specs.Prelude.{map}
 use Rattle.std.specs.List.{AllByRecursion}
 use Rattle.std.proofs.lemmas.List.{append-nil, map-append}
 use Rattle.nr_wire.specs.declared.stream.Awaited.TheVariants.{Fpdu}
@@ -363,9 +364,12 @@ stopped_takes opened k input later_input v frame w queue_number msn offset paylo
     (λ i. queued_bytes (with_end (side i) end (ap (λ (t : LinkState). t.send_queue) link i)))
     ∙ last_queue end s.send_queue (λ (n : ℕ) (e : end ≡ ends.Bad n REASON_FLAGS). absurd (let r : reason ≡ REASON_FLAGS = cc in omega (arith, r, other))) in
     record {
-      keeps = inr (
-        ap (λ (e : EndState ServerState). is_some e.ended) at.next,
-        sym (ap (λ (e : EndState ServerState). e.ended) at.next),
-      );
+      keeps = inr (record {
+        over = ap (λ (e : EndState ServerState). is_some e.ended) at.next;
+        why = sym (ap (λ (e : EndState ServerState). e.ended) at.next);
+        calls = h.calls ∙ sym (ap (λ (e : EndState ServerState). e.state.calls) at.next);
+        ready = h.ready ∙ sym (ap (λ (e : EndState ServerState). map (λ (r : ReadyCall). r.xid) e.state.ready) at.next);
+        credits = h.credits ∙ sym (ap (λ (e : EndState ServerState). e.state.credit) at.next);
+      });
       output = last ∙ ap (λ (bytes : List ℕ). queued_bytes s.send_queue ++ bytes) (sym at.due);
     }

@@ -18,7 +18,7 @@ use Rattle.nr_reduce.specs.OfferedMemory.{AreOffered, AreReceived, HoldsRegions}
 use Rattle.nr_reduce.specs.EndRules.{EndState}
 use Rattle.nr_reduce.specs.ServerState.{PendingCall, PendingRead, ReadyCall, ServerState, next_stag}
 use Rattle.nr_reduce.specs.ServerReads.{open_reads, is_read, is_over}
-use Rattle.nr_reduce.proofs.OwnStags.{AreNumbered}
+use Rattle.nr_reduce.specs.StandingLaws.{StagsFrom}
 use Rattle.nr_responder.specs.ResponderState.{ResponderSide, unsent, end_of}
 
 -- no two pending calls have one xid, nor have two calls that are ready
@@ -42,7 +42,7 @@ pub record IsReadyOf (calls : List PendingCall) (reads : List PendingRead) (r : 
 pub record IsServer (k : ServerState) (place : ℕ) : Type 0 where
   pub offered : AreOffered place k.regions
   pub accesses : AreReceived place k.accesses_received
-  pub numbered : AreNumbered 1 k.regions
+  pub numbered : StagsFrom 1 k.regions
   pub sinks : AllByRecursion (λ r. r.right ≡ Sink) k.regions
   pub calls_before : AllByRecursion (λ c. c.number ≤ k.received.sends) k.calls
   pub reads_before : AllByRecursion (λ r. r.number ≤ k.received.sends) k.reads
@@ -119,6 +119,13 @@ pub record Keeps (opened : LinkParameters) (k : ServerState) (input_now : InputS
   pub credits : v.credits ≡ k.credit
   pub quiet : v.link.state.place ≡ 0 → (v.ready ≡ []) × (k.message_ends ≡ [])
 
--- An end that has ended keeps why.
+-- One that has ended keeps why, and the calls and the credits of the server as it ended.
+pub record KeepsEnded (end : EndState ServerState) (v : ResponderSide) : Type 0 where
+  pub over : is_some end.ended ≡ true
+  pub why : end_of v ≡ end.ended
+  pub calls : v.calls ≡ end.state.calls
+  pub ready : v.ready ≡ map (λ r. r.xid) end.state.ready
+  pub credits : v.credits ≡ end.state.credit
+
 abbrev pub KeepsEnd : LinkParameters → EndState ServerState → InputState → ResponderSide → Type 0
-KeepsEnd opened end input v = ((end.ended ≡ None) × Keeps opened end.state input v) ⊎ ((is_some end.ended ≡ true) × (end_of v ≡ end.ended))
+KeepsEnd opened end input v = ((end.ended ≡ None) × Keeps opened end.state input v) ⊎ KeepsEnded end v

@@ -1,10 +1,12 @@
 -- What contracts see of a responder: its side of the link; the calls that it has not answered, in the order of their Sends; the xids of
 -- those that wait to be executed, in the order in which they became ready; its credits; and the whole staging buffer, which begins with
 -- the bytes of the frame that isn't complete.
-use Rattle.std.specs.Prelude.{ℕ, ◌+◌, ◌-◌, List, ◌++◌, length, Option}
+use Rattle.std.specs.Prelude.{◌≡◌, ℕ, ◌+◌, ◌-◌, max, List, [], ◌++◌, length, drop, Option}
+use Rattle.nr_wire.specs.declared.hello.Side.TheVariants.{Responder}
 use Rattle.nr_link.specs.declared.end.End.{End}
 use Rattle.nr_endpoint.specs.SendQueue.{SendQueue, writable, written}
-use Rattle.nr_endpoint.specs.LinkState.{LinkState, LinkSide}
+use Rattle.nr_endpoint.specs.LinkState.{LinkState, LinkSide, initial_link}
+use Rattle.nr_endpoint.specs.EndpointState.{cut_frame_len}
 use Rattle.nr_reduce.specs.ServerState.{PendingCall}
 
 pub record ResponderSide : Type 0 where
@@ -16,6 +18,17 @@ pub record ResponderSide : Type 0 where
 pub record ResponderState : Type 0 where
   pub side : ResponderSide
   pub staging : List ℕ
+
+-- the side as it is opened with so many credits: its first region gets the STag 1
+abbrev pub opened_side : ℕ → ResponderSide
+opened_side credits = record { link = initial_link Responder credits 1; calls = []; ready = []; credits = credits }
+
+-- A feed changes the staging buffer only in two prefixes: that of the bytes which are staged after it, and that of the frame which the
+-- bytes staged before it begin, as far as it was fed.
+pub record KeepsStaging (before after : ResponderState) (piece : List ℕ) : Type 0 where
+  pub others : drop (max (length after.side.link.rest) (cut_frame_len before.side.link.awaited before.side.link.rest piece)) after.staging
+      ≡ drop (max (length after.side.link.rest) (cut_frame_len before.side.link.awaited before.side.link.rest piece)) before.staging
+  pub len : length after.staging ≡ length before.staging
 
 -- all bytes that it has to write
 abbrev pub queued_bytes : SendQueue → List ℕ

@@ -7,11 +7,14 @@ use Rattle.nr_endpoint.specs.LinkState.{LinkState, LinkSide}
 use Rattle.nr_link.specs.Limits.{send_max}
 use Rattle.nr_responder.specs.declared.call.Pending.{Pending}
 use Rattle.nr_responder.specs.declared.server_end.ServerEnd.{ServerEnd}
-use Rattle.nr_responder.specs.ResponderState.{ResponderSide, unsent}
+use Rattle.nr_responder.specs.ResponderState.{ResponderSide, ResponderState, unsent}
 use Rattle.nr_responder.specs.Views.{call_view}
 
 abbrev pub state_of : ServerEnd → ResponderSide
 state_of r = record { link = r.endpoint.link; calls = map call_view r.calls.items; ready = r.ready.items; credits = r.credits }
+
+abbrev pub with_staging : ServerEnd → ResponderState
+with_staging r = record { side = state_of r; staging = r.endpoint.staging }
 
 -- A pending call's message lies in its receive buffer, and its lists are within the limits.
 pub record InBuffer (c : Pending) : Type 0 where

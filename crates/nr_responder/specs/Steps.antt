@@ -54,13 +54,20 @@ TakesMemory opened k f = (output_for (server_rules opened) (live k) (FrameReceiv
 abbrev pub frame_by : LinkSide → List ℕ → Frame
 frame_by l bytes = next_frame l.state (take (frame_len l.awaited (l.rest ++ bytes)) (l.rest ++ bytes))
 
+-- the calls of a side, those that are ready, and its credits are as they were
+pub record SameCalls (before after : ResponderSide) : Type 0 where
+  pub calls : after.calls ≡ before.calls
+  pub ready : after.ready ≡ before.ready
+  pub credits : after.credits ≡ before.credits
+
 -- It ran out of memory within a piece: at a frame that takes memory, which the bytes after the first n complete. Until then it went
--- on, and its queue is as it was before that frame.
+-- on, and its calls and its queue are as they were before that frame.
 pub record RanOutAt (before : ResponderSide) (piece : List ℕ) (n : ℕ) (after : ResponderSide) : Type 0 where
   pub stopped : ResponderSide
   pub fed : FedOn before (take n piece) stopped
   pub live : end_of stopped ≡ None
   pub ended : end_of after ≡ Some ends.Memory
+  pub same : SameCalls stopped after
   pub needs : (opened : LinkParameters) (end : EndState ServerState) (input : InputState) → KeepsEnd opened end input stopped →
       (is_whole stopped.link.awaited (stopped.link.rest ++ drop n piece) ≡ true) × ((queue after ≡ queue stopped) × TakesMemory opened end.state (frame_by stopped.link (drop n piece)))
 

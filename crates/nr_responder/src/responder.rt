@@ -20,7 +20,7 @@ ghost use Rattle.nr_link.specs.SegmentFaults.{is_begun};
 ghost use Rattle.nr_reduce.specs.Plans.{one_if};
 ghost use Rattle.nr_reduce.specs.Run.{server};
 ghost use Rattle.nr_reduce.specs.ServerState.{receives_in_use};
-ghost use Rattle.nr_responder.specs.ResponderState.{end_of, may_write, unsent};
+ghost use Rattle.nr_responder.specs.ResponderState.{end_of, may_write, opened_side, unsent, KeepsStaging};
 ghost use Rattle.nr_responder.specs.Sound.{IsNext};
 ghost use Rattle.nr_responder.specs.Standing.{Stands};
 ghost use Rattle.nr_responder.specs.Steps.{Fed, taken_of};
@@ -56,9 +56,12 @@ impl Model for Responder {
 }
 
 impl Responder {
-    /// The server end of a link that grants this many credits. Takes all memory that a connection needs: the hello, the staging buffer, a
-    /// receive for each credit, and room for a call of each. `Err`: memory ran out, and nothing was made.
+    /// The server end of a link that grants this many credits. Takes the staging buffer, a receive for each credit, and room for a call of
+    /// each; not its hello, whose room is taken when the client's is accepted. `Err`: memory ran out, and nothing was made.
     pub fn open(alloc: Global, credits: u32) -> Result<Responder, Memory>
+        ensures state { IfOk result (λ r. r.side ≡ opened_side credits) }
+        ensures live { IfOk result (λ r. end_of r.side ≡ None) }
+        ensures fed { IfOk result (λ r. fed_bytes r.side.link ≡ 0) }
         ensures stands { IfOk result (λ r. (opened : LinkParameters) (link : ℕ) → opened.granted ≡ credits → Stands opened link [] r.side) }
     {
         Ok(Responder {
@@ -67,9 +70,9 @@ impl Responder {
     }
 
     /// Takes a piece of the client's stream. `Err` if and only if the side has ended, with why; a side that has ended takes no more.
-    /// `End::Memory`: memory ran out at a frame, which the piece completed, for output of the server's own; the side ended as it was
-    /// before that frame, and what was queued until then is still written. Calls with a read list are not supported yet: the Send of one
-    /// ends the side so.
+    /// `End::Memory`: memory ran out at a frame, which the piece completed, for output of the server's own (its hello, an error message, what
+    /// it writes last); its calls and its queue are as before that frame, and what was queued until then is still written. Calls with a read
+    /// list are not supported yet: the Send of one ends the side so.
     pub fn feed(&mut self, piece: &[u8]) -> Result<(), End>
         requires { fed_bytes self.old.side.link + length piece.now ≤ 2 ^ 62 }
         ensures ended { result_err result ≡ end_of self.new.side }
@@ -92,6 +95,7 @@ impl Responder {
             Stands opened link (run ++ marks.Fed link ResponderSide (taken_of result piece.now) ∷ []) self.new.side }
         ensures kept { is_some (end_of self.old.side) ≡ true → self.new ≡ self.old }
         ensures within { fed_bytes self.new.side.link ≤ fed_bytes self.old.side.link + length piece.now }
+        ensures staging { (opened : LinkParameters) (link : ℕ) (run : List Mark) → Stands opened link run self.old.side → KeepsStaging self.old self.new piece.now }
     {
         self.end.feed_one(piece)
     }
@@ -136,6 +140,8 @@ impl Responder {
         ensures stands { OnOk result ((opened : LinkParameters) (link : ℕ) (run : List Mark) (moment : Moment) (payload : List ℕ) (place : ℕ) → Stands opened link run self.old.side →
             IsExecuted opened link run call.xid payload → Stands opened link (run ++ marks.Execute link call.xid moment payload place reply.now ∷ []) self.new.side) }
         ensures err { OnErr result (self.new ≡ self.old) }
+        ensures fed { fed_bytes self.new.side.link ≡ fed_bytes self.old.side.link }
+        ensures staging { self.new.staging ≡ self.old.staging }
         ensures returned { IfErr result (λ e. e.0 ≡ call) }
     {
         match self.end.answer(call.xid, reply) {
@@ -151,15 +157,17 @@ impl Responder {
         ensures counted { MatchResult result
             (λ _. K.faults sink.new ≡ K.faults sink.old) (λ e. (e ≡ drains.LinkWrite) × Rises (K.faults sink.old) (K.faults sink.new)) }
         ensures never_falls { K.faults sink.old ≤ K.faults sink.new }
+        ensures fed { fed_bytes self.new.side.link ≡ fed_bytes self.old.side.link }
         ensures staging { self.new.staging ≡ self.old.staging }
     {
         self.end.drain_into(sink)
     }
 
-    /// How many calls are pending: their Send is complete, and they aren't answered. Takes no memory.
+    /// How many calls are pending: their Send is complete, and they aren't answered. Once the side has ended, how many were so as it ended.
+    /// Takes no memory.
     pub fn unanswered(&self) -> usize
         ensures exact { result ≡ length self.now.side.calls }
-        ensures of_run { end_of self.now.side ≡ None → (opened : LinkParameters) (link : ℕ) (run : List Mark) → Stands opened link run self.now.side → result ≡ length (server opened link run).state.calls }
+        ensures of_run { end_of self.now.side ≢ Some ends.Memory → (opened : LinkParameters) (link : ℕ) (run : List Mark) → Stands opened link run self.now.side → result ≡ length (server opened link run).state.calls }
     {
         self.end.unanswered()
     }

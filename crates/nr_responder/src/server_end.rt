@@ -27,8 +27,8 @@ ghost use Rattle.nr_reduce.specs.Served.{next_call, IsExecuted};
 ghost use Rattle.nr_responder.specs.Answering.{Answers};
 ghost use Rattle.nr_responder.specs.Draining.{Drains};
 ghost use Rattle.nr_responder.specs.Handling.{Begins, IsTaken, Makes};
-ghost use Rattle.nr_responder.specs.ResponderState.{end_of, posted_times, unsent, may_write};
-ghost use Rattle.nr_responder.specs.Sound.{state_of, AreSound, InBuffer, IsNext, IsSound, IsSoundWith, SameInput};
+ghost use Rattle.nr_responder.specs.ResponderState.{end_of, opened_side, posted_times, unsent, may_write, KeepsStaging};
+ghost use Rattle.nr_responder.specs.Sound.{state_of, with_staging, AreSound, InBuffer, IsNext, IsSound, IsSoundWith, SameInput};
 ghost use Rattle.nr_responder.specs.Standing.{Stands};
 ghost use Rattle.nr_responder.specs.Steps.{Fed, taken_of};
 
@@ -72,6 +72,7 @@ fn stop(endpoint: &mut Endpoint, reason: u32)
     requires frame { 0 < endpoint.old.link.state.place }
     requires reason { IsStopReason reason }
     ensures link { (endpoint.new.link ≡ after_call endpoint.old.link (Stop reason)) ⊎ (endpoint.new.link ≡ after_call endpoint.old.link OutOfMemory) }
+    ensures staging { endpoint.new.staging ≡ endpoint.old.staging }
 {
     match endpoint.stop(reason) {
         End::Memory => (),
@@ -84,6 +85,7 @@ fn send_error(endpoint: &mut Endpoint, made: Result<Octets, Memory>) -> bool
     requires live { endpoint.old.link.state.ended ≡ None }
     ensures sent { result ≡ true → IfOk made (λ m. endpoint.new.link ≡ after_call endpoint.old.link (Send m)) × IsOk made }
     ensures out { result ≡ false → endpoint.new.link ≡ after_call endpoint.old.link OutOfMemory }
+    ensures staging { endpoint.new.staging ≡ endpoint.old.staging }
 {
     if let Ok(message) = made {
         if message.len() <= SENDABLE && endpoint.send(message.as_slice()).is_ok() {
@@ -134,6 +136,9 @@ impl ServerEnd {
     /// The server end of a link that grants so many credits.
     pub fn open(alloc: Global, credits: u32) -> Result<ServerEnd, Memory>
         ensures sound { IfOk result IsSound }
+        ensures state { IfOk result (λ r. state_of r ≡ opened_side credits) }
+        ensures live { IfOk result (λ r. end_of (state_of r) ≡ None) }
+        ensures fed { IfOk result (λ r. fed_bytes r.endpoint.link ≡ 0) }
         ensures stands { IfOk result (λ r. (opened : LinkParameters) (link : ℕ) → opened.granted ≡ credits → Stands opened link [] (state_of r)) }
     {
         let endpoint = Endpoint::open(alloc, Side::Responder, credits, 1)?;
@@ -187,6 +192,7 @@ impl ServerEnd {
             Stands opened link (run ++ marks.Fed link ResponderSide (taken_of result piece.now) ∷ []) (state_of self.new) }
         ensures kept { is_some (end_of (state_of self.old)) ≡ true → (state_of self.new ≡ state_of self.old) × (self.new.endpoint.staging ≡ self.old.endpoint.staging) }
         ensures within { fed_bytes self.new.endpoint.link ≤ fed_bytes self.old.endpoint.link + length piece.now }
+        ensures staging { (opened : LinkParameters) (link : ℕ) (run : List Mark) → Stands opened link run (state_of self.old) → KeepsStaging (with_staging self.old) (with_staging self.new) piece.now }
         ensures sound { IsSound self.new }
     {
         if let Some(end) = self.endpoint.end() {
@@ -241,6 +247,7 @@ impl ServerEnd {
         ensures most { result ≤ length piece.now }
         ensures some { 0 < length piece.now → 0 < result }
         ensures goes { Fed (state_of self.old) (take result piece.now) (state_of self.new) }
+        ensures staging { self.old.endpoint.link.state.receive_queue.notices ≡ [] → KeepsStaging (with_staging self.old) (with_staging self.new) piece.now }
         ensures sound { IsSound self.new }
         ensures within { fed_bytes self.new.endpoint.link ≤ fed_bytes self.old.endpoint.link + result }
     {
@@ -265,6 +272,8 @@ impl ServerEnd {
         ensures taken { IsTaken (state_of self.old) (state_of self.new) }
         ensures sound { IsSound self.new }
         ensures fed { fed_bytes self.new.endpoint.link ≤ fed_bytes self.old.endpoint.link }
+        ensures rest { (self.new.endpoint.link.rest ≡ self.old.endpoint.link.rest) ⊎ (self.new.endpoint.link.rest ≡ []) }
+        ensures staging { self.new.endpoint.staging ≡ self.old.endpoint.staging }
     {
         match self.endpoint.next_event() {
             None => (),
@@ -290,6 +299,7 @@ impl ServerEnd {
         ensures made { Makes (state_of self.old) number (take len buf) (state_of self.new) }
         ensures sound { IsSound self.new }
         ensures input { SameInput self.old.endpoint.link self.new.endpoint.link }
+        ensures staging { self.new.endpoint.staging ≡ self.old.endpoint.staging }
     {
         let message = stream_of(&buf, len, 0);
         let xid = word_at(message, 0);
@@ -319,6 +329,7 @@ impl ServerEnd {
         requires buf { IsReceive send_max buf }
         ensures link { (IfOk made (λ m. self.new.endpoint.link ≡ after_call self.old.endpoint.link (Send m)) × IsOk made) ⊎ (self.new.endpoint.link ≡ after_call self.old.endpoint.link OutOfMemory) }
         ensures same { (self.new.calls ≡ self.old.calls) × (self.new.ready ≡ self.old.ready) × (self.new.credits ≡ self.old.credits) }
+        ensures staging { self.new.endpoint.staging ≡ self.old.endpoint.staging }
         ensures sound { IsSound self.new }
     {
         self.endpoint.facts();
@@ -338,6 +349,7 @@ impl ServerEnd {
         ensures begun { Begins (state_of self.old) (state_of self.new) number (take len buf) lists stream_at }
         ensures sound { IsSound self.new }
         ensures input { SameInput self.old.endpoint.link self.new.endpoint.link }
+        ensures staging { self.new.endpoint.staging ≡ self.old.endpoint.staging }
     {
         let xid = word_at(stream_of(&buf, len, 0), 0);
         match call_xid(stream_of(&buf, len, stream_at)) {
@@ -382,6 +394,7 @@ impl ServerEnd {
         requires next { 0 < length self.old.ready.items }
         ensures answers { IfOk result (λ sent. Answers (state_of self.old) (state_of self.new) xid reply.now sent) }
         ensures err { OnErr result (state_of self.new ≡ state_of self.old) }
+        ensures fed { fed_bytes self.new.endpoint.link ≡ fed_bytes self.old.endpoint.link }
         ensures staging { self.new.endpoint.staging ≡ self.old.endpoint.staging }
         ensures sound { IsSound self.new }
     {
@@ -408,6 +421,7 @@ impl ServerEnd {
         ensures stands { OnOk result ((opened : LinkParameters) (link : ℕ) (run : List Mark) (moment : Moment) (payload : List ℕ) (place : ℕ) → Stands opened link run (state_of self.old) →
             IsExecuted opened link run xid payload → Stands opened link (run ++ marks.Execute link xid moment payload place reply.now ∷ []) (state_of self.new)) }
         ensures err { OnErr result (state_of self.new ≡ state_of self.old) }
+        ensures fed { fed_bytes self.new.endpoint.link ≡ fed_bytes self.old.endpoint.link }
         ensures staging { self.new.endpoint.staging ≡ self.old.endpoint.staging }
         ensures sound { IsSound self.new }
     {
@@ -421,7 +435,7 @@ impl ServerEnd {
     /// How many calls are pending.
     pub fn unanswered(&self) -> usize
         ensures exact { result ≡ length self.now.calls.items }
-        ensures of_run { end_of (state_of self.now) ≡ None → (opened : LinkParameters) (link : ℕ) (run : List Mark) → Stands opened link run (state_of self.now) → result ≡ length (server opened link run).state.calls }
+        ensures of_run { end_of (state_of self.now) ≢ Some ends.Memory → (opened : LinkParameters) (link : ℕ) (run : List Mark) → Stands opened link run (state_of self.now) → result ≡ length (server opened link run).state.calls }
     {
         self.calls.len()
     }
@@ -451,6 +465,7 @@ impl ServerEnd {
         ensures counted { MatchResult result
             (λ _. K.faults sink.new ≡ K.faults sink.old) (λ e. (e ≡ drains.LinkWrite) × Rises (K.faults sink.old) (K.faults sink.new)) }
         ensures never_falls { K.faults sink.old ≤ K.faults sink.new }
+        ensures fed { fed_bytes self.new.endpoint.link ≡ fed_bytes self.old.endpoint.link }
         ensures sound { IsSound self.new }
         ensures staging { self.new.endpoint.staging ≡ self.old.endpoint.staging }
     {

@@ -7,7 +7,7 @@ use Rattle.nr_responder.specs.declared.call.Pending.{Pending}
 use Rattle.nr_responder.specs.Answering.{answer_to, message_for}
 use Rattle.nr_responder.specs.Views.{call_view}
 use Rattle.nr_responder.specs.Sound.{InBuffer}
-use Rattle.nr_responder.proofs.Answered.{answer_link, get_view}
+use Rattle.nr_responder.proofs.Answered.{answer_link, answered_fed, get_view}
 use Rattle.nr_responder.proofs.Removed.{map_removed}
 use Rattle.nr_responder.proofs.Sounds.{sound_answered}
 use Rattle.nr_responder.proofs.server_end.ServerEnd.answer_at.Goals as goal
@@ -40,3 +40,8 @@ returns-clause-sound c =
     let one : InBuffer c.remove-call.result = subst InBuffer (sym c.remove-call.ensures.value) (c.requires.sound.bufs c.args.at c.remove-call.result c.requires.at) in
     sound_answered c.args.self.now.endpoint.link.state c.queue_answer.new.endpoint.link.state (writes_output q.writes) _ c.args.at c.remove-call.result c.args.self.now.calls.items c.remove-call.new.self.items c.args.self.now.ready.items c.pop_front.new.self.items
     c.args.self.now.used.items c.push_back_reserved.new.self.items _ _ _ (ap (λ (l : LinkSide). l.state) (q.link ∙ answer_link c.args.self.now.endpoint.link q.writes _ c.requires.live)) c.requires.at one c.remove-call.ensures.items (search rules) c.requires.next (search rules) (search rules)
+
+pub returns-clause-fed : goal.returns-clause-fed
+returns-clause-fed c =
+    let q = c.in_ok-sent.ensures.queued in
+    answered_fed c.args.self.now.endpoint.link c.queue_answer.new.endpoint.link q.writes _ c.requires.live q.link

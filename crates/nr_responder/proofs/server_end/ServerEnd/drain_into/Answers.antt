@@ -1,5 +1,7 @@
 use Rattle.std.proofs.Common.{◌≡◌, ℕ, ◌-◌, [], ◌∷◌, ◌++◌, length, take, sym, ap, subst, ◌∙◌, arith}
 use Rattle.nr_endpoint.specs.LinkState.{LinkSide}
+use Rattle.nr_endpoint.specs.FedBytes.{fed_bytes}
+use Rattle.nr_endpoint.proofs.FedBytes.{drain_fed}
 use Rattle.nr_endpoint.specs.ReceiveQueue.{ReceiveQueue}
 use Rattle.nr_endpoint.specs.SendQueue.{SendQueue}
 use Rattle.nr_responder.specs.ResponderState.{ResponderSide, drained_posted, left_by, after_drain, may_write}
@@ -58,3 +60,8 @@ returns-clause-sound g c =
     ∙ ap (λ (k : ℕ). record { awaited = c.args.self.now.endpoint.link.awaited; rest = c.args.self.now.endpoint.link.rest; state = drained_posted c.args.self.now.endpoint.link.state t.0 k }) posts in
     sound_drained c.args.self.now.endpoint.link.state c.post_until.new.endpoint.link.state t.0 c.args.self.now.calls.items c.args.self.now.ready.items c.args.self.now.used.items _ _ _ _ _ (ap (λ (x : LinkSide). x.state) link)
     (c.post_until.ensures.left ∙ c.sends_waiting-left.ensures ∙ ap (λ (x : SendQueue). length x.send_ends) q.1) c.post_until.ensures.bufs c.post_until.ensures.room c.requires.sound
+
+pub returns-clause-fed : goal.returns-clause-fed
+returns-clause-fed g c =
+    let t = c.drain_into-result.ensures.taken in
+    ap (λ (x : LinkSide). fed_bytes x) c.post_until.ensures.posted ∙ ap (λ (x : LinkSide). fed_bytes x) t.3 ∙ drain_fed c.args.self.now.endpoint.link t.0

@@ -2,11 +2,12 @@ use Rattle.std.proofs.Common.{ℕ, cond, List, length, take, Option, sym, ap, su
 use Rattle.std.proofs.lemmas.List.{take_all}
 use Rattle.nr_link.specs.declared.end.End.{End}
 use Rattle.nr_wire.specs.Feeding.{bytes_taken}
-use Rattle.nr_responder.specs.Sound.{state_of}
+use Rattle.nr_responder.specs.Sound.{state_of, with_staging}
 use Rattle.nr_responder.specs.Steps.{Fed}
 use Rattle.nr_responder.specs.Steps.Fed.{WentOn}
 use Rattle.nr_responder.proofs.Fed.{ended_fed_lem}
 use Rattle.nr_responder.proofs.Marks.{ended_stands, fed_stands_lem, not_live}
+use Rattle.nr_responder.proofs.Staging.{unchanged, nothing_told}
 use Rattle.nr_responder.proofs.server_end.ServerEnd.feed_one.Goals as goal
 
 pub returns-in-Some-clause-goes : goal.returns-in-Some-clause-goes
@@ -41,3 +42,12 @@ returns-clause-within c = omega (arith, c.step-taken.ensures.within, c.step-take
 
 pub returns-clause-taken : goal.returns-clause-taken
 returns-clause-taken c = (c.step-taken.ensures.taken ∙ ap (λ (o : Option End). cond (is_some o) (length c.args.piece.now) (bytes_taken c.args.self.now.endpoint.link.awaited c.args.self.now.endpoint.link.rest c.args.piece.now)) (sym c.end-2.ensures ∙ c.in_default-end.is))
+
+pub returns-in-Some-clause-staging : goal.returns-in-Some-clause-staging
+returns-in-Some-clause-staging c = λ opened link run h. unchanged (with_staging c.args.self.now) c.args.piece.now
+
+pub returns-in-Some-end-clause-staging : goal.returns-in-Some-end-clause-staging
+returns-in-Some-end-clause-staging c = λ opened link run h. c.step-taken.ensures.staging (nothing_told opened link run (state_of c.args.self.now) (sym c.end.ensures ∙ c.in_default.is) h)
+
+pub returns-clause-staging : goal.returns-clause-staging
+returns-clause-staging c = λ opened link run h. c.step-taken.ensures.staging (nothing_told opened link run (state_of c.args.self.now) (sym c.end.ensures ∙ c.in_default.is) h)

@@ -4,7 +4,9 @@ use Rattle.nr_responder.specs.ResponderState.{ResponderSide}
 use Rattle.nr_responder.specs.Standing.{Stands}
 use Rattle.nr_responder.specs.declared.call.Pending.{Pending}
 use Rattle.nr_responder.specs.Views.{call_view}
-use Rattle.nr_responder.proofs.Opened.{opened_stands_lem, opened_queues}
+use Rattle.nr_endpoint.proofs.FedBytes.{open_fed}
+use Rattle.nr_wire.specs.declared.hello.Side.TheVariants.{Responder}
+use Rattle.nr_responder.proofs.Opened.{opened_stands_lem, opened_lives, opened_queues}
 use Rattle.nr_responder.proofs.server_end.ServerEnd.open.Goals as goal
 
 pub returns-clause-sound : goal.returns-clause-sound
@@ -34,3 +36,17 @@ returns-clause-stands c = λ opened link same.
       credits = c.args.credits;
     })
     (opened_stands_lem opened link c.args.credits c.in_ok-endpoint.endpoint.link same c.in_ok-endpoint.ensures.state)
+
+pub returns-clause-state : goal.returns-clause-state
+returns-clause-state c = λ i. record {
+  link = c.in_ok-endpoint.ensures.state i;
+  calls = map call_view (c.in_ok-calls.ensures.items i);
+  ready = c.in_ok-ready.ensures.items i;
+  credits = c.args.credits;
+}
+
+pub returns-clause-live : goal.returns-clause-live
+returns-clause-live c = opened_lives c.in_ok-endpoint.endpoint.link c.args.credits c.in_ok-endpoint.ensures.state
+
+pub returns-clause-fed : goal.returns-clause-fed
+returns-clause-fed c = open_fed c.in_ok-endpoint.endpoint.link Responder c.args.credits 1 c.in_ok-endpoint.ensures.state

@@ -6,12 +6,13 @@ use Rattle.nr_wire.specs.Stream.{is_whole}
 use Rattle.nr_wire.specs.Feeding.{bytes_taken}
 use Rattle.nr_wire.proofs.Feedings.{bytes_taken_within}
 use Rattle.nr_endpoint.proofs.Pieces.{some_taken}
-use Rattle.nr_responder.specs.Sound.{state_of}
+use Rattle.nr_responder.specs.Sound.{state_of, with_staging}
 use Rattle.nr_responder.specs.Steps.{Fed}
 use Rattle.nr_responder.specs.Handling.{on_link}
 use Rattle.nr_responder.proofs.Fed.{step_of}
 use Rattle.nr_responder.proofs.Handled.{step_counts, step_within}
 use Rattle.nr_responder.proofs.Sounds.{sound_step}
+use Rattle.nr_responder.proofs.Staging.{staging_step}
 use Rattle.nr_responder.proofs.Stepped.{taken_at, at_most, at_least, step_done, step_failed, failed_sound, failed_within}
 use Rattle.nr_responder.proofs.server_end.ServerEnd.step.Goals as goal
 
@@ -64,3 +65,11 @@ pub returns-in-Err-clause-within : goal.returns-in-Err-clause-within
 returns-in-Err-clause-within c =
     let within = failed_within c.args.self.now.endpoint.link c.feed_one.new.self.link c.args.piece.now c.in-Err.end (λ other. c.in-Err.ensures.state (λ e. other (let h : c.in-Err.end ≡ ends.Memory = cc in h))) (λ is. c.in-Err.ensures.memory (ap (λ (e : End). Err e) is)) in
     omega (arith, within)
+
+pub returns-in-Ok-clause-staging : goal.returns-in-Ok-clause-staging
+returns-in-Ok-clause-staging c = λ told.
+    let step = step_of c.args.self.now.endpoint.link c.feed_one.new.self.link c.args.piece.now c.facts.ensures.partial c.requires.live (c.in-Ok.ensures.state (λ e. absurd cc)) in
+    staging_step (with_staging c.args.self.now) (with_staging c.take_event.new.self) c.args.piece.now c.args.self.now.endpoint c.feed_one.new.self refl refl step told c.take_event.ensures.taken c.take_event.ensures.rest c.take_event.ensures.staging c.in-Ok.ensures.staging
+
+pub returns-in-Err-clause-staging : goal.returns-in-Err-clause-staging
+returns-in-Err-clause-staging c = λ told. record { others = c.in-Err.ensures.staging.others; len = c.in-Err.ensures.staging.len }

@@ -1,4 +1,4 @@
-use Rattle.std.proofs.Common.{ℕ, List, [], ◌∷◌, length, take, sym, ap, subst, ◌∙◌, arith}
+use Rattle.std.proofs.Common.{ℕ, List, [], ◌∷◌, length, take, sym, ap, subst, ◌∙◌, arith, inl}
 use Rattle.nr_endpoint.specs.declared.event.Event.{Event}
 use Rattle.nr_endpoint.specs.LinkState.{LinkSide}
 use Rattle.nr_endpoint.specs.Calls.{after_call}
@@ -10,6 +10,7 @@ use Rattle.nr_responder.specs.Handling.{Makes, on_link}
 use Rattle.nr_responder.proofs.Handled.{same_fed}
 use Rattle.nr_responder.proofs.Posted.{told_link_lem}
 use Rattle.nr_responder.proofs.Sounds.{sound_told, sound_read}
+use Rattle.nr_responder.proofs.Staging.{rest_or_none}
 use Rattle.nr_responder.proofs.Stepped.{same_message}
 use Rattle.nr_responder.proofs.server_end.ServerEnd.take_event.Goals as goal
 
@@ -49,3 +50,13 @@ pub returns-in-Some-ReadDone-clause-fed : goal.returns-in-Some-ReadDone-clause-f
 returns-in-Some-ReadDone-clause-fed c =
     let t = told_link_lem c.args.self.now.endpoint.link c.next_event.new.self.link c.in-Some-ReadDone.ensures.state in
     omega (arith, t.place, ap (λ (xs : List ℕ). length xs) t.rest)
+
+pub returns-in-Some-Message-clause-rest : goal.returns-in-Some-Message-clause-rest
+returns-in-Some-Message-clause-rest c =
+    let t = told_link_lem c.args.self.now.endpoint.link c.next_event.new.self.link c.in-Some-Message.ensures.state in
+    rest_or_none c.args.self.now.endpoint.link.rest c.next_event.new.self.link.rest c.message.new.self.endpoint.link.rest t.rest c.message.ensures.input.rest
+
+pub returns-in-Some-ReadDone-clause-rest : goal.returns-in-Some-ReadDone-clause-rest
+returns-in-Some-ReadDone-clause-rest c =
+    let t = told_link_lem c.args.self.now.endpoint.link c.next_event.new.self.link c.in-Some-ReadDone.ensures.state in
+    inl t.rest
