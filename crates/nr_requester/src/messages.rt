@@ -198,12 +198,18 @@ pub fn lists_of(alloc: Global, stag: u64, plan: PlannedCall<'_>) -> Result<Chunk
     requires stags { stag + regions_needed (call_plan plan) ≤ 2 ^ 32 }
     ensures { IfOk result (λ l. l ≡ lists_of stag (call_plan plan.entry)) }
 {
-    let read = read_chunk_of(alloc, stag, plan)?;
     let write_at = stag + read_region_count(plan);
-    let write = write_list_of(alloc, write_at, plan.outline.write)?;
     let reply_at = write_at + region_count_of(plan.outline.write);
+    let read = read_chunk_of(alloc, stag, plan)?;
     let reply = reply_chunk_of(alloc, reply_at, plan.outline.reply)?;
-    Ok(ChunkLists { read, write, reply })
+    match write_list_of(alloc, write_at, plan.outline.write) {
+        Ok(write) => Ok(ChunkLists { read, write, reply }),
+        Err(memory) => {
+            drop(read);
+            drop(reply);
+            Err(memory)
+        }
+    }
 }
 
 // ---- The message
@@ -218,6 +224,15 @@ fn is_long(plan: PlannedCall<'_>) -> bool
     }
 }
 
+/// Appends what goes inline.
+fn push_inline(message: &mut Octets, plan: PlannedCall<'_>) -> Result<(), Memory>
+    ensures { IfOk result (λ _. message.new ≡ message.old ++ (call_plan plan.entry).inline) }
+{
+    let (head, args) = plan.outline.inline(plan.head, plan.args);
+    message.extend_from_slice(head)?;
+    message.extend_from_slice(args)
+}
+
 /// The message of a plan with these lists.
 pub fn message_of(
     alloc: Global,
@@ -230,9 +245,7 @@ pub fn message_of(
     ensures { IfOk result (λ m. m ≡ header_encoding (record { xid = xid; credit = credit; body = body_by (call_plan plan.entry).read_at lists.now }) ++ (call_plan plan.entry).inline) }
 {
     let mut message = write_with_lists(alloc, xid, credit, is_long(plan), lists)?;
-    let (head, args) = plan.outline.inline(plan.head, plan.args);
-    message.extend_from_slice(head)?;
-    message.extend_from_slice(args)?;
+    push_inline(&mut message, plan)?;
     Ok(message)
 }
 
@@ -292,6 +305,12 @@ pub fn offered_of(alloc: Global, plan: PlannedCall<'_>) -> Result<Offered, Memor
 {
     let read = region_of(alloc, plan)?;
     let write = zeros(alloc, plan.outline.write)?;
-    let reply = zeros(alloc, plan.outline.reply)?;
-    Ok(Offered { read, write, reply })
+    match zeros(alloc, plan.outline.reply) {
+        Ok(reply) => Ok(Offered { read, write, reply }),
+        Err(memory) => {
+            drop(read);
+            drop(write);
+            Err(memory)
+        }
+    }
 }

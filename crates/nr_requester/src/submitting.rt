@@ -62,7 +62,10 @@ fn offer_plan(
     let offered = offered_of(alloc, plan)?;
     match endpoint.offer(message.as_slice(), offered) {
         Ok(claims) => Ok(claims),
-        Err(_) => Err(Memory),
+        Err(offered) => {
+            drop(offered);
+            Err(Memory)
+        }
     }
 }
 
@@ -86,8 +89,13 @@ fn send_plan(
 {
     let stag = NUMBERS_END - endpoint.regions().stags_left();
     let lists = lists_of(alloc, stag, plan)?;
-    let claims = offer_plan(alloc, endpoint, xid, credit, plan, &lists)?;
-    Ok(Sent { lists, claims })
+    match offer_plan(alloc, endpoint, xid, credit, plan, &lists) {
+        Ok(claims) => Ok(Sent { lists, claims }),
+        Err(memory) => {
+            drop(lists);
+            Err(memory)
+        }
+    }
 }
 
 impl Requester {

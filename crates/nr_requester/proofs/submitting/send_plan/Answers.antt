@@ -16,10 +16,10 @@ offer_plan-requires-clause-lists c =
     let stag : 4294967296 - c.stags_left-stag.result ≡ c.args.endpoint.now.link.state.memory.next = omega (arith, left, next) in
     c.in_ok-lists.ensures ∙ ap (λ (n : ℕ). lists_of n (call_plan c.args.plan)) stag
 
-pub returns-clause-offer : goal.returns-clause-offer
-returns-clause-offer c =
+pub returns-in-Ok-clause-offer : goal.returns-in-Ok-clause-offer
+returns-in-Ok-clause-offer c =
     let left = c.stags_left-stag.ensures.sum in
     let next = ap (λ (m : RegisteredMemory). m.next) c.regions.ensures in
     let stag : 4294967296 - c.stags_left-stag.result ≡ c.args.endpoint.now.link.state.memory.next = omega (arith, left, next) in
-    own_offer c.args.endpoint.now.link.state.memory (call_plan c.args.plan) (offered_of (call_plan c.args.plan)) c.in_ok-claims.claims c.in_ok-lists.lists c.in_ok-claims.ensures.claims refl
+    own_offer c.args.endpoint.now.link.state.memory (call_plan c.args.plan) (offered_of (call_plan c.args.plan)) c.in-Ok.claims c.in_ok-lists.lists c.in-Ok.ensures.claims refl
     (c.in_ok-lists.ensures ∙ ap (λ (n : ℕ). lists_of n (call_plan c.args.plan)) stag)
