@@ -1,8 +1,13 @@
 -- What a step on a piece keeps of the staging buffer.
-use Rattle.std.proofs.Common.{◌≡◌, ℕ, Option, None, List, [], length, drop, refl, sym, ap, subst, ◌∙◌, inl, inr}
+use Rattle.std.proofs.Common.{◌≡◌, ℕ, ◌+◌, ◌<◌, Option, Some, None, List, [], length, drop, refl, sym, ap, subst, ◌∙◌, arith, inl, inr}
+use Rattle.std.specs.FinMap.{empty}
 use Rattle.std.specs.Prelude.{◌⊎◌, max}
 use Rattle.nr_endpoint.specs.EndpointState.{EndpointState, KeepsStaging as KeepsEndpoint, cut_frame_len}
 use Rattle.nr_endpoint.specs.LinkState.{LinkSide}
+use Rattle.nr_endpoint.proofs.Pieces.{keeps_on}
+use Rattle.nr_link.specs.declared.end.End.{End}
+use Rattle.nr_wire.specs.Feeding.{bytes_taken}
+use Rattle.nr_wire.proofs.Feedings.{bytes_taken_partial}
 use Rattle.nr_reduce.specs.declared.mark.LinkParameters.{LinkParameters}
 use Rattle.nr_reduce.specs.declared.mark.Mark.{Mark}
 use Rattle.nr_responder.specs.ResponderState.{ResponderSide, ResponderState, end_of, KeepsStaging}
@@ -11,6 +16,7 @@ use Rattle.nr_responder.specs.Standing.{RepresentsServer, Stands}
 use Rattle.nr_responder.proofs.Fed.{StepOf, not_ended_lem}
 use Rattle.nr_responder.proofs.Fed.StepOf.{Part, WholeFrame}
 use Rattle.nr_responder.proofs.Marks.{represents}
+use Rattle.nr_responder.proofs.Stepped.{taken_at}
 
 pub unchanged : (v : ResponderState) (piece : List ℕ) → KeepsStaging v v piece
 unchanged v piece = record { others = refl; len = refl }
@@ -47,3 +53,43 @@ staging_step v after piece before now link_is staging_is step told taken rest sa
     rest_is : StepOf v.side.link piece now.link → after.side.link.rest ≡ now.link.rest
     rest_is (Part w link) = ap (λ (x : ResponderSide). x.link.rest) (taken.none (ap (λ (l : LinkSide). l.state.receive_queue.notices) link ∙ told))
     rest_is (WholeFrame frame w frame_is long link) = by_rest (ap (λ (l : LinkSide). l.rest) link) rest
+
+-- ---- A piece of several frames
+
+same_either : (o : Option End) (n : ℕ) → taken_at o n n ≡ n
+same_either None n = refl
+same_either (Some end) n = refl
+
+-- after a step nothing is staged, or all of the piece was taken
+pub step_rest : (l m after : LinkSide) (piece : List ℕ) (n : ℕ) (o : Option End) → StepOf l piece m → (after.rest ≡ m.rest) ⊎ (after.rest ≡ []) → n ≡ taken_at o (length piece) (bytes_taken l.awaited l.rest piece) →
+    (after.rest ≡ []) ⊎ (n ≡ length piece)
+step_rest l m after piece n o (Part w link) rest is =
+    inr (is ∙ ap (λ (k : ℕ). taken_at o (length piece) k) (bytes_taken_partial l.awaited l.rest piece w) ∙ same_either o (length piece))
+step_rest l m after piece n o (WholeFrame frame w frame_is long link) (inl same) is = inl (same ∙ ap (λ (x : LinkSide). x.rest) link)
+step_rest l m after piece n o (WholeFrame frame w frame_is long link) (inr none) is = inl none
+
+pub next_first : (rest : List ℕ) (at n len total : ℕ) → at + len ≡ total → (rest ≡ []) ⊎ (n ≡ len) → (rest ≡ []) ⊎ (at + n ≡ total)
+next_first rest at n len total sum (inl none) = inl none
+next_first rest at n len total sum (inr all) = inr (omega (arith, all, sum))
+
+-- how far a piece is taken before a step on the rest of it
+abbrev pub IsFirst : (before now : ResponderState) (at : ℕ) → List ℕ → Type 0
+IsFirst before now at piece = ((now ≡ before) × (at ≡ 0)) ⊎ ((now.side.link.rest ≡ []) ⊎ (at ≡ length piece))
+
+from_first : (before now : ResponderState) (at : ℕ) (piece : List ℕ) → at < length piece → IsFirst before now at piece → ((now ≡ before) × (drop at piece ≡ piece)) ⊎ (now.side.link.rest ≡ [])
+from_first before now at piece lt (inl same) = inl (same.0, ap (λ (n : ℕ). drop n piece) same.1)
+from_first before now at piece lt (inr (inl none)) = inr none
+from_first before now at piece lt (inr (inr all)) = absurd (omega (arith, lt, all))
+
+abbrev as_endpoint : ResponderState → EndpointState
+as_endpoint v = record { link = v.side.link; staging = v.staging; room = 0; outside = empty }
+
+pub staging_on : (before now after : ResponderState) (at : ℕ) (piece : List ℕ) → at < length piece → IsFirst before now at piece → KeepsStaging before now piece → KeepsStaging now after (drop at piece) → KeepsStaging before after piece
+staging_on before now after at piece lt first so_far step =
+    let k : KeepsEndpoint (as_endpoint before) (as_endpoint after) piece =
+    keeps_on (as_endpoint before) (as_endpoint now) (as_endpoint after) piece (drop at piece) (record { others = so_far.others; len = so_far.len }) (seen (from_first before now at piece lt first)) (record { others = step.others; len = step.len }) in
+    record { others = k.others; len = k.len }
+  where
+    seen : ((now ≡ before) × (drop at piece ≡ piece)) ⊎ (now.side.link.rest ≡ []) → ((as_endpoint now ≡ as_endpoint before) × (drop at piece ≡ piece)) ⊎ ((as_endpoint now).link.rest ≡ [])
+    seen (inl same) = inl (ap as_endpoint same.0, same.1)
+    seen (inr none) = inr none

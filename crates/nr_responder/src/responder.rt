@@ -81,6 +81,7 @@ impl Responder {
             Stands opened link (run ++ marks.Fed link ResponderSide piece.now ∷ []) self.new.side }
         ensures kept { is_some (end_of self.old.side) ≡ true → self.new ≡ self.old }
         ensures within { fed_bytes self.new.side.link ≤ fed_bytes self.old.side.link + length piece.now }
+        ensures staging { (opened : LinkParameters) (link : ℕ) (run : List Mark) → Stands opened link run self.old.side → KeepsStaging self.old self.new piece.now }
     {
         self.end.feed(piece)
     }

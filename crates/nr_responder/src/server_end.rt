@@ -165,6 +165,7 @@ impl ServerEnd {
             Stands opened link (run ++ marks.Fed link ResponderSide piece.now ∷ []) (state_of self.new) }
         ensures kept { is_some (end_of (state_of self.old)) ≡ true → (state_of self.new ≡ state_of self.old) × (self.new.endpoint.staging ≡ self.old.endpoint.staging) }
         ensures within { fed_bytes self.new.endpoint.link ≤ fed_bytes self.old.endpoint.link + length piece.now }
+        ensures staging { (opened : LinkParameters) (link : ℕ) (run : List Mark) → Stands opened link run (state_of self.old) → KeepsStaging (with_staging self.old) (with_staging self.new) piece.now }
         ensures sound { IsSound self.new }
     {
         if let Some(end) = self.endpoint.end() {
@@ -248,6 +249,7 @@ impl ServerEnd {
         ensures some { 0 < length piece.now → 0 < result }
         ensures goes { Fed (state_of self.old) (take result piece.now) (state_of self.new) }
         ensures staging { self.old.endpoint.link.state.receive_queue.notices ≡ [] → KeepsStaging (with_staging self.old) (with_staging self.new) piece.now }
+        ensures rest { (self.new.endpoint.link.rest ≡ []) ⊎ (result ≡ length piece.now) }
         ensures sound { IsSound self.new }
         ensures within { fed_bytes self.new.endpoint.link ≤ fed_bytes self.old.endpoint.link + result }
     {

@@ -1,14 +1,18 @@
-use Rattle.std.proofs.Common.{◌≡◌, ℕ, ◌-◌, Bool, true, cond, List, length, take, drop, Option, Some, None, refl, sym, ap, subst, ◌∙◌, arith, is_some}
+use Rattle.std.proofs.Common.{◌≡◌, ℕ, ◌-◌, Bool, true, cond, List, [], ◌∷◌, ◌++◌, length, take, drop, Option, Some, None, refl, sym, ap, subst, ◌∙◌, arith, is_some, inl, inr}
 use Rattle.std.proofs.lemmas.List.{take_all, length-drop}
 use Rattle.std.proofs.Math.Seq.{take-add}
 use Rattle.nr_link.specs.declared.end.End.{End}
 use Rattle.nr_wire.specs.Feeding.{bytes_taken}
-use Rattle.nr_responder.specs.Sound.{state_of}
+use Rattle.nr_wire.specs.declared.hello.Side.TheVariants.{Responder}
+use Rattle.nr_reduce.specs.declared.mark.Mark.TheVariants as marks
+use Rattle.nr_responder.specs.ResponderState.{KeepsStaging}
+use Rattle.nr_responder.specs.Sound.{state_of, with_staging}
 use Rattle.nr_responder.specs.Steps.{Fed}
 use Rattle.nr_responder.specs.Steps.Fed.{WentOn}
 use Rattle.nr_responder.proofs.Fed.{ended_fed_lem, empty_fed}
 use Rattle.nr_responder.proofs.Marks.{ended_stands, fed_stands_lem, not_live}
 use Rattle.nr_responder.proofs.Pieces.{fed_join}
+use Rattle.nr_responder.proofs.Staging.{unchanged, nothing_told, next_first, staging_on}
 use Rattle.nr_responder.proofs.server_end.ServerEnd.feed.Goals as goal
 
 none_if : (o : Option End) → (is_some o ≡ true → ⊥) → o ≡ None
@@ -22,6 +26,8 @@ pieces-init c = record {
   goes = WentOn (empty_fed (state_of c.args.self.now) c.facts.ensures.partial);
   sound = c.requires.sound;
   within = omega arith;
+  staging = λ opened link run h. unchanged (with_staging c.args.self.now) c.args.piece.now;
+  first = inl (refl, refl);
 }
 
 pub step-at-requires-clause-live : goal.step-at-requires-clause-live
@@ -45,6 +51,15 @@ pieces-preserved c =
           (subst (λ (bytes : List ℕ). Fed (state_of c.pieces.self) (take c.step-at.result bytes) (state_of c.step-at.new.self)) left c.step-at.ensures.goes));
       sound = c.step-at.ensures.sound;
       within = omega (arith, c.step-at.ensures.within, c.pieces.invariant.within);
+      staging = λ opened link run h.
+          staging_on (with_staging c.args.self.now) (with_staging c.pieces.self) (with_staging c.step-at.new.self) c.pieces.at c.args.piece.now c.pieces-test.true c.pieces.invariant.first (c.pieces.invariant.staging opened link run h)
+          (subst (λ (bytes : List ℕ). KeepsStaging (with_staging c.pieces.self) (with_staging c.step-at.new.self) bytes) left
+          (c.step-at.ensures.staging
+          (nothing_told opened link (run ++ marks.Fed link Responder (take c.pieces.at c.args.piece.now) ∷ []) (state_of c.pieces.self) live
+          (fed_stands_lem opened link run (state_of c.args.self.now) (state_of c.pieces.self) (take c.pieces.at c.args.piece.now) c.pieces.invariant.goes (sym c.end.ensures ∙ c.in_default.is) h))));
+      first =
+          inr (next_first c.step-at.new.self.endpoint.link.rest c.pieces.at c.step-at.result (length (take (length c.args.piece.now - c.pieces.at) (drop c.pieces.at c.args.piece.now))) (length c.args.piece.now)
+          (omega (arith, len, c.pieces.invariant.at)) c.step-at.ensures.rest);
     }
 
 pub returns-in-Some-clause-goes : goal.returns-in-Some-clause-goes
@@ -70,3 +85,12 @@ returns-clause-stands c = λ opened link run h. fed_stands_lem opened link run (
 
 pub returns-clause-kept : goal.returns-clause-kept
 returns-clause-kept c = λ over. absurd (not_live c.args.self.now.endpoint.link.state.ended (sym c.end.ensures ∙ c.in_default.is) over)
+
+pub returns-in-Some-clause-staging : goal.returns-in-Some-clause-staging
+returns-in-Some-clause-staging c = λ opened link run h. unchanged (with_staging c.args.self.now) c.args.piece.now
+
+pub returns-in-Some-end-clause-staging : goal.returns-in-Some-end-clause-staging
+returns-in-Some-end-clause-staging c = c.pieces.invariant.staging
+
+pub returns-clause-staging : goal.returns-clause-staging
+returns-clause-staging c = c.pieces.invariant.staging

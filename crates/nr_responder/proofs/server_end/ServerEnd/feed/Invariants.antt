@@ -1,8 +1,13 @@
-use Rattle.std.proofs.Common.{◌≡◌, ◌+◌, ◌-◌, ◌≤◌, length, take, true}
+use Rattle.std.proofs.Common.{◌≡◌, ℕ, ◌+◌, ◌-◌, ◌≤◌, List, length, take, true}
 use Rattle.std.specs.Prelude.{is_some}
 use Rattle.nr_endpoint.specs.FedBytes.{fed_bytes}
+use Rattle.nr_reduce.specs.declared.mark.LinkParameters.{LinkParameters}
+use Rattle.nr_reduce.specs.declared.mark.Mark.{Mark}
+use Rattle.nr_responder.specs.ResponderState.{KeepsStaging}
+use Rattle.nr_responder.specs.Standing.{Stands}
 use Rattle.nr_responder.specs.Steps.{Fed}
-use Rattle.nr_responder.specs.Sound.{state_of, IsSound}
+use Rattle.nr_responder.specs.Sound.{state_of, with_staging, IsSound}
+use Rattle.nr_responder.proofs.Staging.{IsFirst}
 use Rattle.nr_responder.proofs.server_end.ServerEnd.feed.Given as goal
 
 abbrev pub invariant-pieces : goal.invariant-pieces
@@ -12,6 +17,8 @@ invariant-pieces l = record {
   goes : Fed (state_of l.fn.self) (take l.at l.fn.piece) (state_of l.self);
   sound : IsSound l.self;
   within : fed_bytes l.self.endpoint.link ≤ fed_bytes l.fn.self.endpoint.link + l.at;
+  staging : (opened : LinkParameters) (link : ℕ) (run : List Mark) → Stands opened link run (state_of l.fn.self) → KeepsStaging (with_staging l.fn.self) (with_staging l.self) l.fn.piece;
+  first : IsFirst (with_staging l.fn.self) (with_staging l.self) l.at l.fn.piece;
 }
 
 abbrev pub decreases-pieces : goal.decreases-pieces

@@ -1,4 +1,4 @@
-use Rattle.std.proofs.Common.{◌≡◌, ℕ, cond, List, ◌++◌, length, take, Option, Err, refl, sym, ap, subst, ◌∙◌, arith, is_some}
+use Rattle.std.proofs.Common.{◌≡◌, ℕ, cond, List, ◌++◌, length, take, Option, Err, refl, sym, ap, subst, ◌∙◌, arith, is_some, inr}
 use Rattle.std.proofs.lemmas.List.{take_all}
 use Rattle.nr_link.specs.declared.end.End.{End}
 use Rattle.nr_link.specs.declared.end.End.TheVariants as ends
@@ -12,7 +12,7 @@ use Rattle.nr_responder.specs.Handling.{on_link}
 use Rattle.nr_responder.proofs.Fed.{step_of}
 use Rattle.nr_responder.proofs.Handled.{step_counts, step_within}
 use Rattle.nr_responder.proofs.Sounds.{sound_step}
-use Rattle.nr_responder.proofs.Staging.{staging_step}
+use Rattle.nr_responder.proofs.Staging.{staging_step, step_rest}
 use Rattle.nr_responder.proofs.Stepped.{taken_at, at_most, at_least, step_done, step_failed, failed_sound, failed_within}
 use Rattle.nr_responder.proofs.server_end.ServerEnd.step.Goals as goal
 
@@ -73,3 +73,12 @@ returns-in-Ok-clause-staging c = λ told.
 
 pub returns-in-Err-clause-staging : goal.returns-in-Err-clause-staging
 returns-in-Err-clause-staging c = λ told. record { others = c.in-Err.ensures.staging.others; len = c.in-Err.ensures.staging.len }
+
+pub returns-in-Ok-clause-rest : goal.returns-in-Ok-clause-rest
+returns-in-Ok-clause-rest c =
+    let step = step_of c.args.self.now.endpoint.link c.feed_one.new.self.link c.args.piece.now c.facts.ensures.partial c.requires.live (c.in-Ok.ensures.state (λ e. absurd cc)) in
+    step_rest c.args.self.now.endpoint.link c.feed_one.new.self.link c.take_event.new.self.endpoint.link c.args.piece.now c.taken_at.result c.take_event.new.self.endpoint.link.state.ended step c.take_event.ensures.rest
+    (c.taken_at.ensures ∙ (λ i. taken_at (c.end.ensures i) (length c.args.piece.now) (c.in-Ok.ensures.taken i)))
+
+pub returns-in-Err-clause-rest : goal.returns-in-Err-clause-rest
+returns-in-Err-clause-rest c = inr refl
