@@ -5,6 +5,7 @@ ghost use Rattle.std.specs.List.{list_any};
 
 use nr_header::ChunkLists;
 use nr_xdr::Octets;
+use std::marker::Model;
 
 /// A call whose Send is complete, and which isn't answered. Its Send has this number, from 1 on. Its message is the first `len` bytes of
 /// its receive buffer, and its stream stands from `stream_at` on.
@@ -18,11 +19,37 @@ pub struct Pending {
     pub stream_at: usize,
 }
 
-/// A call that waits to be executed. It goes back to the responder that delivered it.
+/// A call that waits to be executed. It goes back to the responder that delivered it, and can't be copied. Contracts see it as its
+/// transaction ID (XID).
 #[derive(Drop)]
 pub struct CallId {
+    xid: u32,
+}
+
+impl Model for CallId {
+    ghost use Rattle.std.specs.Prelude.{ℕ};
+    ghost use Rattle.std.specs.Coded.{coded_ℕ};
+
+    ghost Value = { ℕ };
+
+    ghost coded = { coded_ℕ };
+
+    ghost view = { λ c. c.xid };
+}
+
+impl CallId {
+    pub(crate) fn new(xid: u32) -> CallId
+        ensures { result ≡ xid }
+    {
+        CallId { xid }
+    }
+
     /// The transaction ID (XID) of the call.
-    pub xid: u32,
+    pub fn xid(&self) -> u32
+        ensures { result ≡ self.now }
+    {
+        self.xid
+    }
 }
 
 /// How a call was answered.

@@ -110,15 +110,15 @@ impl Responder {
 
     /// The first call that is ready and isn't executed; `None` if and only if none is, or the side has ended. Takes no memory.
     pub fn next_ready(&self) -> Option<CallId>
-        ensures next { IfSome result (λ id. IsNext self.now.side id.xid) }
+        ensures next { IfSome result (λ xid. IsNext self.now.side xid) }
         ensures live { is_some result ≡ true → end_of self.now.side ≡ None }
         ensures none { result ≡ None → (is_some (end_of self.now.side) ≡ true) ⊎ (self.now.side.ready ≡ []) }
         // It is the next call of the server of a run, unless memory ran out: then nothing more is executed.
         ensures exact { end_of self.now.side ≢ Some ends.Memory → (opened : LinkParameters) (link : ℕ) (run : List Mark) → Stands opened link run self.now.side →
-            MatchOption result (next_call opened link run ≡ None) (λ id. IfSome (next_call opened link run) (λ r. id.xid ≡ r.xid) × (is_some (next_call opened link run) ≡ true)) }
+            MatchOption result (next_call opened link run ≡ None) (λ xid. IfSome (next_call opened link run) (λ r. xid ≡ r.xid) × (is_some (next_call opened link run) ≡ true)) }
     {
         match self.end.next_ready() {
-            Some(xid) => Some(CallId { xid }),
+            Some(xid) => Some(CallId::new(xid)),
             None => None,
         }
     }
@@ -126,26 +126,26 @@ impl Responder {
     /// The payload of the next call, as its Send conveyed it. Takes no memory.
     pub fn payload(&self, call: &CallId) -> &[u8]
         requires live { end_of self.now.side ≡ None }
-        requires next { IsNext self.now.side call.now.xid }
-        ensures exact { (opened : LinkParameters) (link : ℕ) (run : List Mark) → Stands opened link run self.now.side → IsExecuted opened link run call.now.xid result.now }
+        requires next { IsNext self.now.side call.now }
+        ensures exact { (opened : LinkParameters) (link : ℕ) (run : List Mark) → Stands opened link run self.now.side → IsExecuted opened link run call.now result.now }
     {
-        self.end.payload(call.xid)
+        self.end.payload(call.xid())
     }
 
     /// Queues the answer to the next call: RDMA Writes into what it offered and one Send, or ERR_CHUNK if its offer doesn't hold the reply
     /// (RFC 8166 sections 3.4.6, 3.5). An `Err` changes nothing and gives the call back.
     pub fn answer(&mut self, call: CallId, reply: &[u8]) -> Result<Sent, (CallId, Memory)>
         requires live { end_of self.old.side ≡ None }
-        requires next { IsNext self.old.side call.xid }
-        ensures answers { IfOk result (λ sent. Answers self.old.side self.new.side call.xid reply.now sent) }
+        requires next { IsNext self.old.side call }
+        ensures answers { IfOk result (λ sent. Answers self.old.side self.new.side call reply.now sent) }
         ensures stands { OnOk result ((opened : LinkParameters) (link : ℕ) (run : List Mark) (moment : Moment) (payload : List ℕ) (place : ℕ) → Stands opened link run self.old.side →
-            IsExecuted opened link run call.xid payload → Stands opened link (run ++ marks.Execute link call.xid moment payload place reply.now ∷ []) self.new.side) }
+            IsExecuted opened link run call payload → Stands opened link (run ++ marks.Execute link call moment payload place reply.now ∷ []) self.new.side) }
         ensures err { OnErr result (self.new ≡ self.old) }
         ensures fed { fed_bytes self.new.side.link ≡ fed_bytes self.old.side.link }
         ensures staging { self.new.staging ≡ self.old.staging }
         ensures returned { IfErr result (λ e. e.0 ≡ call) }
     {
-        match self.end.answer(call.xid, reply) {
+        match self.end.answer(call.xid(), reply) {
             Ok(sent) => Ok(sent),
             Err(memory) => Err((call, memory)),
         }
