@@ -2,6 +2,7 @@
 
 ghost use Rattle.std.specs.Prelude.{◌≡◌, ◌^◌, ◌<◌, length, All, IfSome};
 ghost use Rattle.nr_header.specs.Header.{ChunksFit};
+ghost use Rattle.nr_rpc.specs.Credential.{CanWriteCred};
 ghost use Rattle.data_bench.specs.Sound.{IsSound};
 
 use crate::peer::{Peer, SEND_MAX};
@@ -116,6 +117,17 @@ fn write_region(alloc: Global, outline: &Outline<'_>) -> Option<Option<Octets>> 
     }
 }
 
+/// The buffers of both chunks.
+fn offered(alloc: Global, outline: &Outline<'_>, head: &[u8], args: &[u8]) -> Option<Offered> {
+    let read = read_region(alloc, outline, head, args)?;
+    let write = write_region(alloc, outline)?;
+    Some(Offered {
+        read,
+        write,
+        reply: None,
+    })
+}
+
 /// Sends a call by its outline.
 fn send(
     client: &mut Peer,
@@ -129,12 +141,28 @@ fn send(
     ensures { IfSome result (λ _. IsSound client.new) }
 {
     let message = message(alloc, xid, client.next_stag()?, outline, head, args)?;
-    let offered = Offered {
-        read: read_region(alloc, outline, head, args)?,
-        write: write_region(alloc, outline)?,
-        reply: None,
+    client.offer(message.as_slice(), offered(alloc, outline, head, args)?)
+}
+
+/// Sends a call with this credential and these arguments, in a form.
+fn ask_as(
+    client: &mut Peer,
+    alloc: Global,
+    target: CallTarget,
+    cred: &Cred,
+    form: &Form,
+    args: &[u8],
+) -> Option<()>
+    requires client { IsSound client.old }
+    requires cred { CanWriteCred cred.now }
+    ensures { IfSome result (λ _. IsSound client.new) }
+{
+    let Ok(head) = write_call_head(alloc, target, cred) else {
+        return None;
     };
-    client.offer(message.as_slice(), offered)
+    let parts = written_parts(target, cred, head.as_slice(), args);
+    let outline = outline_of(parts, form, SEND_MAX, SEND_MAX).ok()?;
+    send(client, alloc, target.xid, &outline, head.as_slice(), args)
 }
 
 /// Sends a call of a procedure of NFS with these arguments, in form Auto.
@@ -150,25 +178,32 @@ pub fn ask(client: &mut Peer, alloc: Global, xid: u32, proc: u32, args: &[u8]) -
         args_at: 0,
     };
     let cred = Cred::None;
-    let Ok(head) = write_call_head(alloc, target, &cred) else {
-        return None;
-    };
-    let parts = written_parts(target, &cred, head.as_slice(), args);
     let form = Form::Auto;
-    let outline = outline_of(parts, &form, SEND_MAX, SEND_MAX).ok()?;
-    send(client, alloc, xid, &outline, head.as_slice(), args)
+    let asked = ask_as(client, alloc, target, &cred, &form, args);
+    drop(cred);
+    drop(form);
+    asked
 }
 
-/// The stream of a message.
-fn stream(message: &[u8]) -> Option<&[u8]> {
-    match read_header(message).ok()?.body {
-        Body::Msg { stream_at, .. } => message.get(stream_at..),
+/// The stream of a message with this body.
+fn stream_of<'a>(body: &Body, message: &'a [u8]) -> Option<&'a [u8]> {
+    match body {
+        Body::Msg { stream_at, .. } => message.get(*stream_at..),
         _ => None,
     }
 }
 
+/// The stream of a message.
+fn stream(message: &[u8]) -> Option<&[u8]> {
+    let header = read_header(message).ok()?;
+    let stream = stream_of(&header.body, message);
+    drop(header);
+    stream
+}
+
 /// The payload of a reply, whose item stands in the region if it has one.
-fn payload(alloc: Global, proc: u32, stream: &[u8], region: &[u8]) -> Option<Octets> {
+fn payload(alloc: Global, proc: u32, message: &[u8], region: &[u8]) -> Option<Octets> {
+    let stream = stream(message)?;
     let of = Of::Reply {
         prog: NFS_PROGRAM,
         vers: NFS_VERSION,
@@ -189,5 +224,5 @@ pub fn take_reply(client: &mut Peer, alloc: Global, proc: u32) -> Option<Octets>
 {
     let message = client.next(alloc)?;
     let region = client.take_back()?;
-    payload(alloc, proc, stream(message.as_slice())?, region.as_slice())
+    payload(alloc, proc, message.as_slice(), region.as_slice())
 }

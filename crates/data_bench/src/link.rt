@@ -31,21 +31,21 @@ fn carry(from: &mut Peer, to: &mut Peer, wire: &mut Vec<u8>) -> Option<()>
 }
 
 impl Link {
-    /// A link whose sides have each other's hello.
+    /// A link whose sides have sent nothing.
     pub fn open(alloc: Global) -> Option<Link>
         ensures { IfSome result AreSound }
     {
-        let client = Peer::open(alloc, Side::Initiator)?;
-        let server = Peer::open(alloc, Side::Responder)?;
         let wire = Vec::with_capacity(alloc, WIRE_ROOM).ok()?;
-        let mut link = Link {
+        let client = Peer::open(alloc, Side::Initiator)?;
+        let Some(server) = Peer::open(alloc, Side::Responder) else {
+            drop(client);
+            return None;
+        };
+        Some(Link {
             client,
             server,
             wire,
-        };
-        link.up()?;
-        link.down()?;
-        Some(link)
+        })
     }
 
     /// Carries the client's output to the server.

@@ -36,10 +36,10 @@ const READ_WORDS: [u32; 6] = [8, 0, 2, 0, 0, 32_768];
 const WRITE_WORDS: [u32; 8] = [8, 0, 2, 0, 0, 32_768, 2, 32_768];
 
 /// What is called: a procedure, its arguments, and where its reply has the count of bytes.
-#[derive(Drop)]
-struct Work {
+#[derive(Clone, Copy)]
+struct Work<'a> {
     proc: u32,
-    args: Octets,
+    args: &'a [u8],
     count_at: usize,
 }
 
@@ -53,21 +53,22 @@ fn args(alloc: Global, words: &[u32], data: &[u8]) -> Option<Octets> {
     Some(args)
 }
 
-/// WRITE's count stands after the attributes of before and after, READ's after those alone.
-fn write_work(alloc: Global, data: &[u8]) -> Option<Work> {
-    Some(Work {
+/// WRITE's count stands after the attributes of before and after.
+fn write_work(args: &[u8]) -> Work<'_> {
+    Work {
         proc: WRITE,
-        args: args(alloc, &WRITE_WORDS, data)?,
+        args,
         count_at: 144,
-    })
+    }
 }
 
-fn read_work(alloc: Global) -> Option<Work> {
-    Some(Work {
+/// READ's count stands after the attributes.
+fn read_work(args: &[u8]) -> Work<'_> {
+    Work {
         proc: READ,
-        args: args(alloc, &READ_WORDS, &[])?,
+        args,
         count_at: 116,
-    })
+    }
 }
 
 /// A server of the drill's tree.
@@ -78,17 +79,17 @@ fn plain(alloc: Global) -> Result<Server, Memory> {
 }
 
 /// Calls, and gives the payload of the reply.
-fn call(alloc: Global, link: &mut Link, plain: &mut Server, xid: u32, work: &Work) -> Option<Octets>
+fn call(
+    alloc: Global,
+    link: &mut Link,
+    plain: &mut Server,
+    xid: u32,
+    work: Work<'_>,
+) -> Option<Octets>
     requires { AreSound link.old }
     ensures { IfSome result (λ _. AreSound link.new) }
 {
-    ask(
-        &mut link.client,
-        alloc,
-        xid,
-        work.proc,
-        work.args.as_slice(),
-    )?;
+    ask(&mut link.client, alloc, xid, work.proc, work.args)?;
     link.up()?;
     serve(alloc, link, plain)?;
     link.down()?;
@@ -115,7 +116,7 @@ fn call_all(
     alloc: Global,
     link: &mut Link,
     plain: &mut Server,
-    work: &Work,
+    work: Work<'_>,
     rounds: u32,
 ) -> Option<u64>
     requires { AreSound link.old }
@@ -138,7 +139,7 @@ fn is_data(reply: &[u8], data: &[u8]) -> bool {
 }
 
 /// Whether a READ gives this data.
-fn reads(alloc: Global, link: &mut Link, plain: &mut Server, work: &Work, data: &[u8]) -> bool
+fn reads(alloc: Global, link: &mut Link, plain: &mut Server, work: Work<'_>, data: &[u8]) -> bool
     requires { AreSound link.old }
 {
     match call(alloc, link, plain, u32::MAX, work) {
@@ -147,20 +148,69 @@ fn reads(alloc: Global, link: &mut Link, plain: &mut Server, work: &Work, data: 
     }
 }
 
+/// What is measured: WRITEs or READs, how many, and the data.
+#[derive(Clone, Copy)]
+struct Task<'a> {
+    is_write: bool,
+    rounds: u32,
+    data: &'a [u8],
+}
+
 /// Writes, then works so many times, and reads what was written.
-fn measured(alloc: Global, is_write: bool, rounds: u32, data: &[u8]) -> Option<u64> {
-    let write = write_work(alloc, data)?;
-    let read = read_work(alloc)?;
-    let mut link = Link::open(alloc)?;
-    let mut plain = plain(alloc).ok()?;
-    call(alloc, &mut link, &mut plain, u32::MAX, &write)?;
-    let work = if is_write { &write } else { &read };
-    let total = call_all(alloc, &mut link, &mut plain, work, rounds)?;
-    if reads(alloc, &mut link, &mut plain, &read, data) {
+fn worked(
+    alloc: Global,
+    link: &mut Link,
+    plain: &mut Server,
+    task: Task<'_>,
+    write: Work<'_>,
+    read: Work<'_>,
+) -> Option<u64>
+    requires { AreSound link.old }
+{
+    let _ = call(alloc, link, plain, u32::MAX, write)?;
+    let work = if task.is_write { write } else { read };
+    let total = call_all(alloc, link, plain, work, task.rounds)?;
+    if reads(alloc, link, plain, read, task.data) {
         Some(total)
     } else {
         None
     }
+}
+
+/// Lets the sides greet each other, and works.
+fn served(alloc: Global, link: &mut Link, plain: &mut Server, task: Task<'_>) -> Option<u64>
+    requires { AreSound link.old }
+{
+    link.up()?;
+    link.down()?;
+    let write = args(alloc, &WRITE_WORDS, task.data)?;
+    let read = args(alloc, &READ_WORDS, &[])?;
+    worked(
+        alloc,
+        link,
+        plain,
+        task,
+        write_work(write.as_slice()),
+        read_work(read.as_slice()),
+    )
+}
+
+/// Works with a server.
+fn linked(alloc: Global, link: &mut Link, task: Task<'_>) -> Option<u64>
+    requires { AreSound link.old }
+{
+    let mut plain = plain(alloc).ok()?;
+    let total = served(alloc, link, &mut plain, task);
+    drop(plain);
+    total
+}
+
+/// Works over a link.
+fn measured(alloc: Global, task: Task<'_>) -> Option<u64> {
+    let mut link = Link::open(alloc)?;
+    let total = linked(alloc, &mut link, task);
+    drop(link);
+    total
 }
 
 /// Some data.
@@ -173,8 +223,7 @@ fn data(alloc: Global) -> Option<Vec<u8>> {
 }
 
 /// Copies so often, each time others, and gives how many bytes.
-fn copied(alloc: Global, rounds: u32, mut source: Vec<u8>) -> Option<u64> {
-    let mut target = vec![in alloc; 0u8; SIZE].ok()?;
+fn copied(rounds: u32, source: &mut Vec<u8>, target: &mut Vec<u8>) -> Option<u64> {
     let mut total: u64 = 0;
     for i in 0..rounds {
         if let Some(first) = source.first_mut() {
@@ -188,11 +237,17 @@ fn copied(alloc: Global, rounds: u32, mut source: Vec<u8>) -> Option<u64> {
 }
 
 fn total(alloc: Global, what: &str, rounds: u32) -> Option<u64> {
-    let data = data(alloc)?;
-    match what {
-        "copy" => copied(alloc, rounds, data),
-        _ => measured(alloc, what == "write", rounds, data.as_slice()),
+    let mut data = data(alloc)?;
+    if what == "copy" {
+        let mut target = vec![in alloc; 0u8; SIZE].ok()?;
+        return copied(rounds, &mut data, &mut target);
     }
+    let task = Task {
+        is_write: what == "write",
+        rounds,
+        data: data.as_slice(),
+    };
+    measured(alloc, task)
 }
 
 fn number(word: Option<String>) -> Option<u32> {

@@ -1,7 +1,7 @@
 //! What a server does for a call.
 
 ghost use Rattle.std.specs.Prelude.{◌≤◌, length, IfSome};
-ghost use Rattle.nr_header.specs.WithinLimits.{ListsWithin};
+ghost use Rattle.nr_header.specs.WithinLimits.{ListsWithin, CanRead, stream_after};
 ghost use Rattle.nr_endpoint.specs.Offering.{FitsRegion};
 ghost use Rattle.data_bench.specs.Sound.{IsSound, AreSound};
 
@@ -21,50 +21,22 @@ const NOW: Moment = Moment {
     nanos: 0,
 };
 
-/// A call whose message came, and what its head asks for.
-#[derive(Drop)]
-struct Pending {
-    message: Octets,
-    stream_at: usize,
-    lists: ChunkLists,
-    target: CallTarget,
-    item: Option<Item>,
-}
-
-/// What the head of a stream asks for, and the item.
-fn looked_up(stream: &[u8]) -> Option<(CallTarget, Option<Item>)> {
-    let parts = call_parts(stream)?;
-    Some((parts.target, call_item_of(parts)))
-}
-
-fn received(message: Octets) -> Option<Pending>
-    ensures { IfSome result (λ call. ListsWithin call.lists) }
+/// Fills a buffer with the stream and room for the bytes of its item.
+fn fill(room: &mut Vec<u8>, stream: &[u8], pos: usize, len: u32) -> Option<()>
+    requires { pos ≤ length stream.now }
 {
-    let Ok(header) = read_header(message.as_slice()) else {
-        return None;
-    };
-    let Body::Msg { lists, stream_at } = header.body else {
-        return None;
-    };
-    let (target, item) = looked_up(message.as_slice().get(stream_at..)?)?;
-    Some(Pending {
-        message,
-        stream_at,
-        lists,
-        target,
-        item,
-    })
+    let (front, rest) = stream.split_at(pos);
+    room.extend_from_slice(front).ok()?;
+    room.resize(pos + len as usize, 0).ok()?;
+    room.extend_from_slice(rest).ok()
 }
 
 /// The stream with room for the bytes of its item.
 fn room(alloc: Global, stream: &[u8], pos: usize, len: u32) -> Option<Octets>
     requires { pos ≤ length stream.now }
 {
-    let (front, rest) = stream.split_at(pos);
     let mut room = Vec::with_capacity(alloc, stream.len() + len as usize).ok()?;
-    room.extend_from_slice(front).ok()?;
-    room.resize(pos + len as usize, 0).ok()?;
-    room.extend_from_slice(rest).ok()?;
+    fill(&mut room, stream, pos, len)?;
     Some(Octets::from_vec(room))
 }
 
@@ -91,13 +63,17 @@ fn fetched(
 }
 
 /// The payload of a call.
-fn payload(alloc: Global, link: &mut Link, call: &Pending) -> Option<Octets>
+fn payload(
+    alloc: Global,
+    link: &mut Link,
+    stream: &[u8],
+    item: Option<Item>,
+    read: &[ReadSegment],
+) -> Option<Octets>
     requires { AreSound link.old }
     ensures { IfSome result (λ _. AreSound link.new) }
 {
-    let stream = call.message.as_slice().get(call.stream_at..)?;
-    let read = call.lists.read.as_slice();
-    if !is_read_chunk_of(call.item, read) {
+    if !is_read_chunk_of(item, read) {
         return None;
     }
     match read {
@@ -122,9 +98,15 @@ fn write_of<'a>(lists: &ChunkLists, moved: &'a [u8]) -> Option<RemoteWrite<'a>>
 }
 
 /// Answers a call with a reply.
-fn answer(server: &mut Peer, alloc: Global, call: &Pending, reply: &[u8]) -> Option<()>
+fn answer(
+    server: &mut Peer,
+    alloc: Global,
+    target: CallTarget,
+    lists: &ChunkLists,
+    reply: &[u8],
+) -> Option<()>
     requires sound { IsSound server.old }
-    requires lists { ListsWithin call.now.lists }
+    requires lists { ListsWithin lists.now }
     ensures { IfSome result (λ _. IsSound server.new) }
 {
     let CallTarget {
@@ -133,13 +115,81 @@ fn answer(server: &mut Peer, alloc: Global, call: &Pending, reply: &[u8]) -> Opt
         vers,
         proc,
         ..
-    } = call.target;
-    let answer = answer_for(&call.lists, prog, vers, proc, reply, SEND_MAX)?;
-    let message = answer_message(alloc, xid, 1, &call.lists, answer).ok()?;
-    match write_of(&call.lists, answer.moved) {
+    } = target;
+    let answer = answer_for(lists, prog, vers, proc, reply, SEND_MAX)?;
+    let message = answer_message(alloc, xid, 1, lists, answer).ok()?;
+    match write_of(lists, answer.moved) {
         Some(write) => server.answer(&[write], message.as_slice()),
         None => server.answer(&[], message.as_slice()),
     }
+}
+
+/// Executes a call, and gives the payload of its reply.
+fn executed(alloc: Global, plain: &mut Server, payload: &[u8]) -> Option<Octets> {
+    Some(plain.execute(alloc, NOW, payload).ok()?.payload)
+}
+
+/// Executes a call with these lists and this stream, and answers it.
+fn serve_call(
+    alloc: Global,
+    link: &mut Link,
+    plain: &mut Server,
+    lists: &ChunkLists,
+    stream: &[u8],
+) -> Option<()>
+    requires link { AreSound link.old }
+    requires lists { ListsWithin lists.now }
+    ensures { IfSome result (λ _. AreSound link.new) }
+{
+    let parts = call_parts(stream)?;
+    let payload = payload(
+        alloc,
+        link,
+        stream,
+        call_item_of(parts),
+        lists.read.as_slice(),
+    )?;
+    let reply = executed(alloc, plain, payload.as_slice())?;
+    answer(
+        &mut link.server,
+        alloc,
+        parts.target,
+        lists,
+        reply.as_slice(),
+    )
+}
+
+/// Executes the call of a message with this body, and answers it.
+fn serve_body(
+    alloc: Global,
+    link: &mut Link,
+    plain: &mut Server,
+    body: &Body,
+    message: &[u8],
+) -> Option<()>
+    requires link { AreSound link.old }
+    requires lists { CanRead body.now (stream_after body.now message.now) }
+    ensures { IfSome result (λ _. AreSound link.new) }
+{
+    match body {
+        Body::Msg { lists, stream_at } => {
+            serve_call(alloc, link, plain, lists, message.get(*stream_at..)?)
+        }
+        _ => None,
+    }
+}
+
+/// Executes the call of a message, and answers it.
+fn serve_message(alloc: Global, link: &mut Link, plain: &mut Server, message: &[u8]) -> Option<()>
+    requires { AreSound link.old }
+    ensures { IfSome result (λ _. AreSound link.new) }
+{
+    let Ok(header) = read_header(message) else {
+        return None;
+    };
+    let served = serve_body(alloc, link, plain, &header.body, message);
+    drop(header);
+    served
 }
 
 /// Takes the call that came, executes it and answers it.
@@ -147,8 +197,6 @@ pub fn serve(alloc: Global, link: &mut Link, plain: &mut Server) -> Option<()>
     requires { AreSound link.old }
     ensures { IfSome result (λ _. AreSound link.new) }
 {
-    let call = received(link.server.next(alloc)?)?;
-    let payload = payload(alloc, link, &call)?;
-    let reply = plain.execute(alloc, NOW, payload.as_slice()).ok()?;
-    answer(&mut link.server, alloc, &call, reply.payload.as_slice())
+    let message = link.server.next(alloc)?;
+    serve_message(alloc, link, plain, message.as_slice())
 }
