@@ -24,7 +24,7 @@ use Rattle.nr_responder.proofs.Marks.{represents}
 use Rattle.nr_responder.proofs.SendFrames.{begun_fine}
 
 pub calls_of_run : (opened : LinkParameters) (link : ℕ) (run : List Mark) (v : ResponderSide) → end_of v ≢ Some ends.Memory → Stands opened link run v → length v.calls ≡ length (server opened link run).state.calls
-calls_of_run opened link run v other (inr out) = absurd (other out.0)
+calls_of_run opened link run v other (inr out) = absurd (other out.output.0)
 calls_of_run opened link run v other (inl h) =
     ap (λ (cs : List PendingCall). length cs) (kept h.keeps) ∙ ap (λ (e : EndState ServerState). length e.state.calls) h.stands.keeps
   where

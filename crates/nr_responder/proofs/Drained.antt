@@ -15,13 +15,12 @@ use Rattle.nr_reduce.specs.Events.RunEvent.{QueueWritten}
 use Rattle.nr_reduce.specs.EndRules.{EndState, live, next_end_state_in, output_for_in, end_state_after}
 use Rattle.nr_reduce.specs.ServerState.{ServerState}
 use Rattle.nr_reduce.specs.Server.{server_rules, server_end, server_output, server_state_after}
-use Rattle.nr_reduce.proofs.Standing.{server_stays_out_lem}
 use Rattle.nr_responder.specs.ResponderState.{ResponderSide, queue, queued_bytes, may_write, posted_times, drained_posted, left_by, after_drain}
 use Rattle.nr_responder.specs.Keeping.{Begins, Keeps, KeepsEnd}
 use Rattle.nr_responder.specs.Keeping.Begins.{BeforeHello, AfterHello}
 use Rattle.nr_responder.specs.Standing.{Stands}
 use Rattle.nr_responder.proofs.Executed.{drained, drained_keeps, drained_server}
-use Rattle.nr_responder.proofs.Marks.{wrote_represents, own_bytes}
+use Rattle.nr_responder.proofs.Marks.{wrote_represents, own_bytes, stays_out}
 
 pub drained_link : (l m : LinkSide) (n posts : ℕ) → m ≡ after_call l (Drain n) → posted_times posts m ≡ record { awaited = l.awaited; rest = l.rest; state = drained_posted l.state n posts }
 unfolding after_call
@@ -105,5 +104,5 @@ drained_stands opened link run v n within (inl h) =
     (subst (λ (m : ℕ). KeepsEnd opened (end_state_after (server_rules opened) h.end (QueueWritten m ∷ [])) h.input (after_drain v n)) count (keeps_drained opened h.end h.input v n most h.keeps))
     (live_silent opened h.end.state (length (take n (may_write v))) h.end.ended))
 drained_stands opened link run v n within (inr out) =
-    inr (server_stays_out_lem opened link v.link.state.ended (queue v) (queue (after_drain v n)) run (marks.Wrote link Responder (take n (may_write v))) out
+    inr (stays_out opened link run v (after_drain v n) (marks.Wrote link Responder (take n (may_write v))) out refl (record { calls = refl; ready = refl; credits = refl })
     (ap (λ (bytes : List ℕ). bytes ++ queue (after_drain v n)) (own_bytes link (take n (may_write v))) ∙ split_queue v.link.state.has_hello n v.link.state.send_queue within))

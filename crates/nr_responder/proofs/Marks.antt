@@ -1,5 +1,6 @@
 -- A responder stands for one mark more, where it goes on by the events of that mark.
 use Rattle.std.proofs.Common.{◌≡◌, ℕ, Bool, true, ◌&&◌, eqb, cond, List, [], ◌∷◌, ◌++◌, length, take, drop, Option, Some, None, refl, sym, ap, subst, ◌∙◌, inl, inr, is_some, append_assoc}
+use Rattle.std.specs.Prelude.{map}
 use Rattle.std.proofs.lemmas.List.{append-nil, take-append-drop}
 use Rattle.nr_wire.specs.declared.hello.Side.TheVariants.{Initiator, Responder}
 use Rattle.nr_link.specs.Input.{InputState, input_of, input_after}
@@ -8,24 +9,24 @@ use Rattle.nr_reduce.specs.declared.mark.Mark.{Mark}
 use Rattle.nr_reduce.specs.declared.mark.Mark.TheVariants as marks
 use Rattle.nr_outside.specs.declared.moment.Moment.{Moment}
 use Rattle.nr_reduce.specs.declared.mark.LinkParameters.{LinkParameters}
-use Rattle.nr_reduce.specs.History.{ExecutedCall, bytes_received, written_at, fed_at}
+use Rattle.nr_reduce.specs.History.{ExecutedCall, bytes_received, bytes_sent, written_at, fed_at}
 use Rattle.nr_reduce.specs.Events.{RunEvent, if_own}
 use Rattle.nr_reduce.specs.Events.RunEvent.{CallExecuted, QueueWritten}
 use Rattle.nr_reduce.specs.EndRules.{EndState, end_state_after, output_for_all}
-use Rattle.nr_reduce.specs.ServerState.{ServerState}
+use Rattle.nr_reduce.specs.ServerState.{ReadyCall, ServerState}
 use Rattle.nr_reduce.specs.Server.{server_rules}
-use Rattle.nr_reduce.specs.Standing.{input_events, ServerRepresents}
-use Rattle.nr_reduce.proofs.Standing.{itself, live_before, server_stands, server_runs_out_lem, server_stays_out_lem}
+use Rattle.nr_reduce.specs.Standing.{input_events, ServerRepresents, ServerRunsOut}
+use Rattle.nr_reduce.proofs.Standing.{itself, live_before, received_one, sent_one, server_stands, server_runs_out_lem, server_stays_out_lem}
 use Rattle.nr_reduce.proofs.Steps.{output_for_all_append}
 use Rattle.nr_link.specs.declared.end.End.{End}
 use Rattle.nr_link.specs.declared.end.End.TheVariants as ends
 use Rattle.nr_responder.specs.ResponderState.{ResponderSide, queue, end_of}
-use Rattle.nr_responder.specs.Keeping.{KeepsEnd}
-use Rattle.nr_responder.specs.Standing.{RepresentsServer, Stands}
-use Rattle.nr_responder.specs.Steps.{received_events, GoesOn, FedOn, Fed}
+use Rattle.nr_responder.specs.Keeping.{Keeps, KeepsEnd}
+use Rattle.nr_responder.specs.Standing.{RepresentsServer, ResponderRunsOut, Stands}
+use Rattle.nr_responder.specs.Steps.{received_events, GoesOn, FedOn, SameCalls, RanOutAt, Fed}
 use Rattle.nr_responder.specs.Steps.Fed.{WentOn, RanOut}
 use Rattle.nr_responder.proofs.Pieces.{events_parts}
-use Rattle.nr_responder.proofs.Fed.{ended_fed_lem}
+use Rattle.nr_responder.proofs.Fed.{ended_fed_lem, not_ended_lem}
 
 -- one mark more, whose events are these
 one_mark_lem : (opened : LinkParameters) (link : ℕ) (run : List Mark) (mark : Mark) (v after : ResponderSide) (fed written : List ℕ) (events : InputState → List RunEvent) →
@@ -101,15 +102,67 @@ pub not_live : (o : Option End) → o ≡ None → is_some o ≡ true → ⊥
 not_live None e t = absurd cc
 not_live (Some end) e t = absurd cc
 
+-- one that ran out of memory stands for a mark more, where what leaves of its queue is written
+pub stays_out : (opened : LinkParameters) (link : ℕ) (run : List Mark) (v after : ResponderSide) (mark : Mark) → ResponderRunsOut opened link run v → end_of after ≡ end_of v → SameCalls v after → written_at link Responder mark ++ queue after ≡ queue v →
+    ResponderRunsOut opened link (run ++ mark ∷ []) after
+stays_out opened link run v after mark h end same left = record {
+  output = subst (λ (o : Option End). ServerRunsOut opened link o (queue after) (run ++ mark ∷ [])) (sym end) (server_stays_out_lem opened link (end_of v) (queue v) (queue after) run mark h.output left);
+  stopped = h.stopped;
+  received = (
+    h.received.0 ++ fed_at link Responder mark,
+    sym (append_assoc (bytes_received link Responder h.stopped) h.received.0 (fed_at link Responder mark))
+        ∙ ap (λ (bytes : List ℕ). bytes ++ fed_at link Responder mark) h.received.1
+        ∙ sym (received_one link Responder run mark),
+  );
+  live = h.live;
+  queued =
+      h.queued
+      ∙ ap (λ (bytes : List ℕ). bytes_sent link Responder run ++ bytes) (sym left)
+      ∙ sym (append_assoc (bytes_sent link Responder run) (written_at link Responder mark) (queue after))
+      ∙ ap (λ (bytes : List ℕ). bytes ++ queue after) (sym (sent_one link Responder run mark));
+  calls = same.calls ∙ h.calls;
+  ready = same.ready ∙ h.ready;
+  credits = same.credits ∙ h.credits;
+}
+
 -- what is fed to a side that has ended changes nothing
 pub ended_stands : (opened : LinkParameters) (link : ℕ) (run : List Mark) (v : ResponderSide) (piece : List ℕ) → is_some (end_of v) ≡ true → Stands opened link run v → Stands opened link (run ++ marks.Fed link Responder piece ∷ []) v
 ended_stands opened link run v piece over (inl h) = inl (fed_represents opened link run v v piece (ended_fed_lem v piece over) h)
-ended_stands opened link run v piece over (inr out) = inr (server_stays_out_lem opened link (end_of v) (queue v) (queue v) run (marks.Fed link Responder piece) out refl)
+ended_stands opened link run v piece over (inr out) = inr (stays_out opened link run v v (marks.Fed link Responder piece) out refl (record { calls = refl; ready = refl; credits = refl }) refl)
 
 -- one that hasn't ended didn't run out of memory
 pub represents : (opened : LinkParameters) (link : ℕ) (run : List Mark) (v : ResponderSide) → end_of v ≡ None → Stands opened link run v → RepresentsServer opened link run v
 represents opened link run v live (inl h) = h
-represents opened link run v live (inr out) = absurd (let two : None ≡ Some ends.Memory = sym live ∙ out.0 in cc)
+represents opened link run v live (inr out) = absurd (let two : None ≡ Some ends.Memory = sym live ∙ out.output.0 in cc)
+
+-- one that ran out of memory at a frame kept the server before that frame
+ran_out : (opened : LinkParameters) (link : ℕ) (run : List Mark) (v after : ResponderSide) (piece : List ℕ) (n : ℕ) → RanOutAt v piece n after → RepresentsServer opened link run v →
+    ServerRunsOut opened link (end_of after) (queue after) (run ++ marks.Fed link Responder piece ∷ []) → ResponderRunsOut opened link (run ++ marks.Fed link Responder piece ∷ []) after
+ran_out opened link run v after piece n out r output =
+    let part : Mark = marks.Fed link Responder (take n piece) in
+    let mark : Mark = marks.Fed link Responder piece in
+    let s : RepresentsServer opened link (run ++ part ∷ []) out.stopped = fed_represents opened link run v out.stopped (take n piece) out.fed r in
+    let both : (s.end.ended ≡ None) × Keeps opened s.end.state s.input out.stopped = not_ended_lem opened s.end s.input out.stopped out.live s.keeps in
+    let same : queue after ≡ queue out.stopped = (out.needs opened s.end s.input s.keeps).1.0 in
+    record {
+      output = output;
+      stopped = run ++ part ∷ [];
+      received = (
+        drop n piece,
+        ap (λ (bytes : List ℕ). bytes ++ drop n piece) (received_one link Responder run part ∙ ap (λ (bytes : List ℕ). bytes_received link Responder run ++ bytes) (own_bytes link (take n piece)))
+            ∙ append_assoc (bytes_received link Responder run) (take n piece) (drop n piece)
+            ∙ ap (λ (bytes : List ℕ). bytes_received link Responder run ++ bytes) (take-append-drop n piece ∙ sym (own_bytes link piece))
+            ∙ sym (received_one link Responder run mark),
+      );
+      live = sym (ap (λ (e : EndState ServerState). e.ended) s.stands.keeps) ∙ both.0;
+      queued =
+          sym s.stands.output
+          ∙ ap (λ (bytes : List ℕ). bytes ++ queue out.stopped) (sent_one link Responder run part ∙ sym (sent_one link Responder run mark))
+          ∙ ap (λ (bytes : List ℕ). bytes_sent link Responder (run ++ mark ∷ []) ++ bytes) (sym same);
+      calls = out.same.calls ∙ both.1.calls ∙ ap (λ (e : EndState ServerState). e.state.calls) s.stands.keeps;
+      ready = out.same.ready ∙ both.1.ready ∙ ap (λ (e : EndState ServerState). map (λ (q : ReadyCall). q.xid) e.state.ready) s.stands.keeps;
+      credits = out.same.credits ∙ both.1.credits ∙ ap (λ (e : EndState ServerState). e.state.credit) s.stands.keeps;
+    }
 
 pub fed_stands_lem : (opened : LinkParameters) (link : ℕ) (run : List Mark) (v after : ResponderSide) (piece : List ℕ) → Fed v piece after → end_of v ≡ None → Stands opened link run v → Stands opened link (run ++ marks.Fed link Responder piece ∷ []) after
 fed_stands_lem opened link run v after piece (WentOn fed) live h = inl (fed_represents opened link run v after piece fed (represents opened link run v live h))
@@ -126,4 +179,4 @@ fed_stands_lem opened link run v after piece (RanOut n out) live h =
     ∙ append_assoc (queue v) (output_for_all (server_rules opened) r.end es) rest
     ∙ ap (λ (bytes : List ℕ). queue v ++ bytes) (sym (output_for_all_append (server_rules opened) r.end es more) ∙ ap (output_for_all (server_rules opened) r.end) (sym events)) in
     let runs = server_runs_out_lem opened link r.end r.input (queue v) (queue after) run (marks.Fed link Responder piece) r.stands (rest, first) in
-    inr (out.ended, runs.1)
+    inr (ran_out opened link run v after piece n out r (out.ended, runs.1))

@@ -60,7 +60,7 @@ next_live opened link run v h is = subst (λ (o : Option ReadyCall). IsFirst o (
 
 -- one that has ended, other than for memory, has no next call
 pub next_over : (opened : LinkParameters) (link : ℕ) (run : List Mark) (v : ResponderSide) → Stands opened link run v → end_of v ≢ Some ends.Memory → is_some (end_of v) ≡ true → next_call opened link run ≡ None
-next_over opened link run v (inr out) other is = absurd (other out.0)
+next_over opened link run v (inr out) other is = absurd (other out.output.0)
 next_over opened link run v (inl h) other is = by (end_of v) refl is
   where
     by : (o : Option End) → end_of v ≡ o → is_some o ≡ true → next_call opened link run ≡ None

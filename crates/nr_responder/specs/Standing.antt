@@ -1,8 +1,12 @@
 -- The marks that a responder stands for.
-use Rattle.std.specs.Prelude.{ℕ, List, ◌⊎◌}
+use Rattle.std.specs.Prelude.{◌≡◌, ℕ, List, ◌++◌, map, None, ◌⊎◌}
+use Rattle.nr_wire.specs.declared.hello.Side.TheVariants.{Responder}
 use Rattle.nr_link.specs.Input.{InputState}
 use Rattle.nr_reduce.specs.declared.mark.Mark.{Mark}
 use Rattle.nr_reduce.specs.declared.mark.LinkParameters.{LinkParameters}
+use Rattle.nr_reduce.specs.History.{bytes_sent, bytes_received}
+use Rattle.nr_reduce.specs.Matched.{IsPrefixOf}
+use Rattle.nr_reduce.specs.Run.{server, output_due}
 use Rattle.nr_reduce.specs.EndRules.{EndState}
 use Rattle.nr_reduce.specs.ServerState.{ServerState}
 use Rattle.nr_reduce.specs.Standing.{ServerRepresents, ServerRunsOut}
@@ -16,6 +20,18 @@ pub record RepresentsServer (opened : LinkParameters) (link : ℕ) (run : List M
   pub stands : ServerRepresents opened link end input (queue v) run
   pub keeps : KeepsEnd opened end input v
 
--- Or it ran out of memory: what it wrote and its queue are the first bytes of what is due by them.
+-- Or it ran out of memory while it was fed: what it wrote and its queue are the first bytes of what is due by these marks. When it
+-- stopped, after the marks `stopped`, of which a prefix of what it received was fed to it, the server hadn't ended. All that these marks
+-- make due is written or in its queue, and its calls, those that are ready and its credits are those of that server.
+pub record ResponderRunsOut (opened : LinkParameters) (link : ℕ) (run : List Mark) (v : ResponderSide) : Type 0 where
+  pub output : ServerRunsOut opened link (end_of v) (queue v) run
+  pub stopped : List Mark
+  pub received : IsPrefixOf (bytes_received link Responder stopped) (bytes_received link Responder run)
+  pub live : (server opened link stopped).ended ≡ None
+  pub queued : output_due opened link Responder stopped ≡ bytes_sent link Responder run ++ queue v
+  pub calls : v.calls ≡ (server opened link stopped).state.calls
+  pub ready : v.ready ≡ map (λ r. r.xid) (server opened link stopped).state.ready
+  pub credits : v.credits ≡ (server opened link stopped).state.credit
+
 abbrev pub Stands : (opened : LinkParameters) (link : ℕ) (run : List Mark) (v : ResponderSide) → Type 0
-Stands opened link run v = RepresentsServer opened link run v ⊎ ServerRunsOut opened link (end_of v) (queue v) run
+Stands opened link run v = RepresentsServer opened link run v ⊎ ResponderRunsOut opened link run v
