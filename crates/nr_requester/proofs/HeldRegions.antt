@@ -91,6 +91,7 @@ sent_sound link link2 xid grant items items2 o s h queue own fits credit more =
     record {
       xid = omega (arith, fits);
       few = (let g = s.granted in omega (arith, len, credit, g));
+      some = s.some;
       granted = s.granted;
       none_waits = ap (λ (q : ReceiveQueue). q.notices) queue ∙ s.none_waits;
       none_lent = ap (λ (q : ReceiveQueue). q.lent) queue ∙ s.none_lent;
@@ -113,6 +114,7 @@ drain_sound link link2 n xid grant items s is =
     record {
       xid = s.xid;
       few = s.few;
+      some = s.some;
       granted = s.granted;
       none_waits = ap (λ (q : ReceiveQueue). q.notices) queue ∙ s.none_waits;
       none_lent = ap (λ (q : ReceiveQueue). q.lent) queue ∙ s.none_lent;
@@ -122,7 +124,7 @@ drain_sound link link2 n xid grant items s is =
 
 first_sound : (first_stag xid : ℕ) → xid ≤ 2 ^ 32 → IsSound (initial_link Initiator 1 first_stag) xid 1 []
 unfolding initial_link
-first_sound first_stag xid fits = record { xid = fits; few = omega arith; granted = omega arith; none_waits = refl; none_lent = refl; held = omega arith; offers = tt }
+first_sound first_stag xid fits = record { xid = fits; few = omega arith; some = omega arith; granted = omega arith; none_waits = refl; none_lent = refl; held = omega arith; offers = tt }
 
 pub opened_sound : (link : LinkSide) (first_xid first_stag n : ℕ) (items : List OutstandingCall) → link ≡ initial_link Initiator 1 first_stag → n ≡ first_xid → first_xid < 2 ^ 32 → items ≡ [] → IsSound link n 1 items
 opened_sound link first_xid first_stag n items is xid fits none =

@@ -9,11 +9,12 @@ use Rattle.nr_requester.specs.HeldClaims.{AreHeldFrom, all_claims, OffersOwn}
 abbrev pub stored_view : OutstandingCall → StoredCall
 stored_view c = record { xid = c.xid; call = c.call; offered = c.offered; claims = c.claims }
 
--- What holds of each requester: its numbers are in range, and no more calls are outstanding than credits can be granted; no event waits
+-- What holds of each requester: its numbers are in range, a credit is granted, and no more calls are outstanding than can be; no event waits
 -- and no receive is lent; the regions of its calls are held, and are those that the calls offer.
 pub record IsSound (link : LinkSide) (next_xid grant : ℕ) (outstanding : List OutstandingCall) : Type 0 where
   pub xid : next_xid ≤ 2 ^ 32
   pub few : length outstanding ≤ 64
+  pub some : 1 ≤ grant
   pub granted : grant ≤ 64
   pub none_waits : link.state.receive_queue.notices ≡ []
   pub none_lent : link.state.receive_queue.lent ≡ 0

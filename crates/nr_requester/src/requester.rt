@@ -1,9 +1,10 @@
 //! The client end of a link: a value, how it is opened and drained.
 
-ghost use Rattle.std.specs.Prelude.{◌≡◌, ℕ, ◌<◌, ◌≤◌, [], length, take, List, None, IfOk, OnOk, MatchResult};
+ghost use Rattle.std.specs.Prelude.{◌≡◌, ℕ, ◌^◌, ◌<◌, ◌≤◌, true, is_some, [], length, take, List, None, IfOk, OnOk, MatchResult};
 ghost use Rattle.std.specs.Io.KnownBytes.{Appends};
 ghost use Rattle.nr_outside.specs.Faults.{Rises};
 ghost use Rattle.nr_wire.specs.declared.hello.Side.TheVariants.{Initiator};
+ghost use Rattle.nr_wire.specs.Stream.{IsPartial};
 ghost use Rattle.nr_endpoint.specs.declared.fault.DrainFault.TheVariants as drains;
 ghost use Rattle.nr_reduce.specs.declared.mark.LinkParameters.{LinkParameters};
 ghost use Rattle.nr_reduce.specs.declared.mark.Mark.TheVariants as marks;
@@ -125,9 +126,24 @@ impl Requester {
 
     /// How many bytes of the server's frame that isn't complete are staged. 0 once it has ended.
     pub fn staged(&self) -> usize
-        ensures { result ≡ length self.now.rest }
+        ensures rest { result ≡ length self.now.rest }
+        ensures ended { is_some self.now.state.side.ended ≡ true → result ≡ 0 }
     {
         self.endpoint.staged()
+    }
+
+    /// What holds of each requester, for the proofs of its owner. It does nothing.
+    pub fn facts(&self)
+        // At most 64 calls are outstanding, and 1 to 64 credits are granted. A next xid of 2 ^ 32 is none.
+        ensures outstanding { length self.now.state.outstanding ≤ 64 }
+        ensures granted { (1 ≤ self.now.state.grant) × (self.now.state.grant ≤ 64) }
+        ensures xid { self.now.state.next_xid ≤ 2 ^ 32 }
+        // What is kept of the stream is less than a frame, and nothing once the side has ended.
+        ensures partial { IsPartial self.now.awaited self.now.rest }
+        ensures ended { is_some self.now.state.side.ended ≡ true → self.now.rest ≡ [] }
+    {
+        let _ = &self.grant;
+        self.endpoint.facts();
     }
 
     /// Hands the output to a sink, in order: for `Ok` all that may be written, else the first bytes of it, and the rest stays. Takes no
