@@ -4,6 +4,7 @@ ghost use Rattle.std.specs.Prelude.{◌≡◌, ◌≢◌, ℕ, ◌+◌, ◌<◌,
 ghost use Rattle.std.specs.Result.{result_err};
 ghost use Rattle.nr_outside.specs.Faults.{Rises};
 ghost use Rattle.nr_wire.specs.declared.hello.Side.TheVariants.{Responder as ResponderSide};
+ghost use Rattle.nr_wire.specs.Constants.{FPDU_MAX};
 ghost use Rattle.nr_wire.specs.Feeding.{bytes_taken};
 ghost use Rattle.nr_wire.specs.Stream.{bytes_needed};
 ghost use Rattle.nr_endpoint.specs.declared.fault.DrainFault.TheVariants as drains;
@@ -62,6 +63,7 @@ impl Responder {
         ensures state { IfOk result (λ r. r.side ≡ opened_side credits) }
         ensures live { IfOk result (λ r. end_of r.side ≡ None) }
         ensures fed { IfOk result (λ r. fed_bytes r.side.link ≡ 0) }
+        ensures staging { IfOk result (λ r. length r.staging ≡ FPDU_MAX) }
         ensures stands { IfOk result (λ r. (opened : LinkParameters) (link : ℕ) → opened.granted ≡ credits → Stands opened link [] r.side) }
     {
         Ok(Responder {

@@ -4,6 +4,7 @@ ghost use Rattle.std.specs.Prelude.{◌≡◌, ◌≢◌, ℕ, ◌+◌, ◌-◌,
 ghost use Rattle.std.specs.VecDeque.{deque_capacity};
 ghost use Rattle.nr_outside.specs.Faults.{Rises};
 ghost use Rattle.nr_endpoint.specs.declared.fault.DrainFault.TheVariants as drains;
+ghost use Rattle.nr_wire.specs.Constants.{FPDU_MAX};
 ghost use Rattle.nr_wire.specs.Feeding.{bytes_taken};
 ghost use Rattle.nr_link.specs.Limits.{send_max};
 ghost use Rattle.nr_link.specs.SegmentFaults.{is_begun};
@@ -139,6 +140,7 @@ impl ServerEnd {
         ensures state { IfOk result (λ r. state_of r ≡ opened_side credits) }
         ensures live { IfOk result (λ r. end_of (state_of r) ≡ None) }
         ensures fed { IfOk result (λ r. fed_bytes r.endpoint.link ≡ 0) }
+        ensures staging { IfOk result (λ r. length r.endpoint.staging ≡ FPDU_MAX) }
         ensures stands { IfOk result (λ r. (opened : LinkParameters) (link : ℕ) → opened.granted ≡ credits → Stands opened link [] (state_of r)) }
     {
         let endpoint = Endpoint::open(alloc, Side::Responder, credits, 1)?;
