@@ -20,7 +20,7 @@ use Rattle.nr_reduce.proofs.Standing.{itself, live_before, received_one, sent_on
 use Rattle.nr_reduce.proofs.Steps.{output_for_all_append}
 use Rattle.nr_link.specs.declared.end.End.{End}
 use Rattle.nr_link.specs.declared.end.End.TheVariants as ends
-use Rattle.nr_responder.specs.ResponderState.{ResponderSide, queue, end_of}
+use Rattle.nr_responder.specs.ResponderState.{ResponderSide, queue, queued_bytes, end_of}
 use Rattle.nr_responder.specs.Keeping.{Keeps, KeepsEnd}
 use Rattle.nr_responder.specs.Standing.{RepresentsServer, ResponderRunsOut, Stands}
 use Rattle.nr_responder.specs.Steps.{received_events, GoesOn, FedOn, SameCalls, RanOutAt, Fed}
@@ -143,7 +143,7 @@ ran_out opened link run v after piece n out r output =
     let mark : Mark = marks.Fed link Responder piece in
     let s : RepresentsServer opened link (run ++ part ∷ []) out.stopped = fed_represents opened link run v out.stopped (take n piece) out.fed r in
     let both : (s.end.ended ≡ None) × Keeps opened s.end.state s.input out.stopped = not_ended_lem opened s.end s.input out.stopped out.live s.keeps in
-    let same : queue after ≡ queue out.stopped = (out.needs opened s.end s.input s.keeps).1.0 in
+    let same : queue after ≡ queue out.stopped = ap queued_bytes (out.needs opened s.end s.input s.keeps).1.0 in
     record {
       output = output;
       stopped = run ++ part ∷ [];
@@ -175,7 +175,7 @@ fed_stands_lem opened link run v after piece (RanOut n out) live h =
     let events : input_events link Responder r.input (marks.Fed link Responder piece) ≡ es ++ more = own link true (received_events r.input piece) ∙ all in
     let rest : List ℕ = output_for_all (server_rules opened) (end_state_after (server_rules opened) r.end es) more in
     let first : queue after ++ rest ≡ queue v ++ output_for_all (server_rules opened) r.end (input_events link Responder r.input (marks.Fed link Responder piece)) =
-    ap (λ (bytes : List ℕ). bytes ++ rest) ((out.needs opened (end_state_after (server_rules opened) r.end es) (input_after r.input (take n piece)) goes.keeps).1.0 ∙ goes.output)
+    ap (λ (bytes : List ℕ). bytes ++ rest) (ap queued_bytes (out.needs opened (end_state_after (server_rules opened) r.end es) (input_after r.input (take n piece)) goes.keeps).1.0 ∙ goes.output)
     ∙ append_assoc (queue v) (output_for_all (server_rules opened) r.end es) rest
     ∙ ap (λ (bytes : List ℕ). queue v ++ bytes) (sym (output_for_all_append (server_rules opened) r.end es more) ∙ ap (output_for_all (server_rules opened) r.end) (sym events)) in
     let runs = server_runs_out_lem opened link r.end r.input (queue v) (queue after) run (marks.Fed link Responder piece) r.stands (rest, first) in

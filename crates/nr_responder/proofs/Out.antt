@@ -185,11 +185,11 @@ out_by_message v after piece m number invalidated message rest live_now p step l
       live = live_now;
       ended = ap end_of ran.is_out ∙ ended.0;
       same = record { calls = ap (λ (x : ResponderSide). x.calls) ran.is_out; ready = ap (λ (x : ResponderSide). x.ready) ran.is_out; credits = ap (λ (x : ResponderSide). x.credits) ran.is_out };
-      needs = λ opened end so_far keeps. needs opened end so_far keeps (ap (λ (x : ResponderSide). queued_bytes x.link.state.send_queue) ran.is_out ∙ ap queued_bytes ended.1) step;
+      needs = λ opened end so_far keeps. needs opened end so_far keeps (ap (λ (x : ResponderSide). x.link.state.send_queue) ran.is_out ∙ ended.1) step;
     }
   where
-    needs : (opened : LinkParameters) (end : EndState ServerState) (so_far : InputState) → KeepsEnd opened end so_far v → queue after ≡ queued_bytes (after_call m NextEvent).state.send_queue → StepOf v.link piece m →
-        (is_whole v.link.awaited (v.link.rest ++ piece) ≡ true) × ((queue after ≡ queue v) × TakesMemory opened end.state (frame_by v.link piece))
+    needs : (opened : LinkParameters) (end : EndState ServerState) (so_far : InputState) → KeepsEnd opened end so_far v → after.link.state.send_queue ≡ (after_call m NextEvent).state.send_queue → StepOf v.link piece m →
+        (is_whole v.link.awaited (v.link.rest ++ piece) ≡ true) × ((after.link.state.send_queue ≡ v.link.state.send_queue) × TakesMemory opened end.state (frame_by v.link piece))
     needs opened end so_far keeps same (Part w link) =
         let h = (not_ended_lem opened end so_far v live_now keeps).1 in
         let none : m.state.receive_queue.notices ≡ [] = ap (λ (l : LinkSide). l.state.receive_queue.notices) link ∙ h.link.told in
@@ -203,7 +203,7 @@ out_by_message v after piece m number invalidated message rest live_now p step l
         let found = frame_message opened end.state so_far v frame number invalidated message rest h long lives_on told_on (ran.takes end.state server) in (
           w,
           (
-            same ∙ ap queued_bytes (told_same m ∙ ap (λ (l : LinkSide). l.state.send_queue) link ∙ found.0),
+            same ∙ told_same m ∙ ap (λ (l : LinkSide). l.state.send_queue) link ∙ found.0,
             subst (λ (bytes : List ℕ). TakesMemory opened end.state (next_frame v.link.state bytes)) frame_is found.1,
           ),
         )
@@ -239,7 +239,7 @@ out_by_link v after piece live_now p is whole queues =
       ended = ap end_of is ∙ ended.0;
       same = record { calls = ap (λ (x : ResponderSide). x.calls) is; ready = ap (λ (x : ResponderSide). x.ready) is; credits = ap (λ (x : ResponderSide). x.credits) is };
       needs = λ opened end so_far keeps.
-          (whole, (ap (λ (x : ResponderSide). queued_bytes x.link.state.send_queue) is ∙ ap queued_bytes ended.1, inl (needs opened end so_far keeps (step_of v.link (after_call v.link (FeedOne piece)) piece p live_now refl))));
+          (whole, (ap (λ (x : ResponderSide). x.link.state.send_queue) is ∙ ended.1, inl (needs opened end so_far keeps (step_of v.link (after_call v.link (FeedOne piece)) piece p live_now refl))));
     })
   where
     needs : (opened : LinkParameters) (end : EndState ServerState) (so_far : InputState) → KeepsEnd opened end so_far v → StepOf v.link piece (after_call v.link (FeedOne piece)) →

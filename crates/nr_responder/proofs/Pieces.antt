@@ -150,6 +150,6 @@ fed_join a b c x y (WentOn first) live (RanOut n out) =
       ended = out.ended;
       same = out.same;
       needs = subst (λ (bytes : List ℕ). (opened : LinkParameters) (end : EndState ServerState) (input : InputState) → KeepsEnd opened end input out.stopped →
-          (is_whole out.stopped.link.awaited (out.stopped.link.rest ++ bytes) ≡ true) × ((queue c ≡ queue out.stopped) × TakesMemory opened end.state (frame_by out.stopped.link bytes))) (sym (drop_past n x y)) out.needs;
+          (is_whole out.stopped.link.awaited (out.stopped.link.rest ++ bytes) ≡ true) × ((c.link.state.send_queue ≡ out.stopped.link.state.send_queue) × TakesMemory opened end.state (frame_by out.stopped.link bytes))) (sym (drop_past n x y)) out.needs;
     })
 fed_join a b c x y (RanOut n out) live second = absurd (let two : Some ends.Memory ≡ None = sym out.ended ∙ live in cc)

@@ -69,7 +69,7 @@ pub record RanOutAt (before : ResponderSide) (piece : List ℕ) (n : ℕ) (after
   pub ended : end_of after ≡ Some ends.Memory
   pub same : SameCalls stopped after
   pub needs : (opened : LinkParameters) (end : EndState ServerState) (input : InputState) → KeepsEnd opened end input stopped →
-      (is_whole stopped.link.awaited (stopped.link.rest ++ drop n piece) ≡ true) × ((queue after ≡ queue stopped) × TakesMemory opened end.state (frame_by stopped.link (drop n piece)))
+      (is_whole stopped.link.awaited (stopped.link.rest ++ drop n piece) ≡ true) × ((after.link.state.send_queue ≡ stopped.link.state.send_queue) × TakesMemory opened end.state (frame_by stopped.link (drop n piece)))
 
 pub data Fed (before : ResponderSide) (piece : List ℕ) (after : ResponderSide) : Type 0 where
   WentOn : FedOn before piece after → Fed before piece after
