@@ -74,7 +74,9 @@ fn lists_of(alloc: Global, stag: u32, outline: &Outline<'_>) -> Option<ChunkList
 /// The header of a call whose region gets this STag.
 fn header(alloc: Global, xid: u32, stag: u32, outline: &Outline<'_>) -> Option<Octets> {
     let lists = lists_of(alloc, stag, outline)?;
-    write_with_lists(alloc, xid, 1, false, &lists).ok()
+    let header = write_with_lists(alloc, xid, 1, false, &lists).ok();
+    drop(lists);
+    header
 }
 
 /// The message of a call whose region gets this STag.
@@ -177,12 +179,7 @@ pub fn ask(client: &mut Peer, alloc: Global, xid: u32, proc: u32, args: &[u8]) -
         proc,
         args_at: 0,
     };
-    let cred = Cred::None;
-    let form = Form::Auto;
-    let asked = ask_as(client, alloc, target, &cred, &form, args);
-    drop(cred);
-    drop(form);
-    asked
+    ask_as(client, alloc, target, &Cred::None, &Form::Auto, args)
 }
 
 /// The stream of a message with this body.

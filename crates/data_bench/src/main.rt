@@ -30,10 +30,16 @@ const READ: u32 = 6;
 
 const WRITE: u32 = 7;
 
-/// The arguments of a READ of file 2, and of a WRITE, up to the length of its data.
-const READ_WORDS: [u32; 6] = [8, 0, 2, 0, 0, 32_768];
+/// The arguments of a READ of file 2: its handle, the offset and the count.
+static READ_ARGS: [u8; 24] = [
+    0, 0, 0, 8, 0, 0, 0, 0, 0, 0, 0, 2, 0, 0, 0, 0, 0, 0, 0, 0, 0, 0, 128, 0,
+];
 
-const WRITE_WORDS: [u32; 8] = [8, 0, 2, 0, 0, 32_768, 2, 32_768];
+/// Those of a WRITE up to its data: after the count FILE_SYNC, and the length of the data.
+static WRITE_HEAD: [u8; 32] = [
+    0, 0, 0, 8, 0, 0, 0, 0, 0, 0, 0, 2, 0, 0, 0, 0, 0, 0, 0, 0, 0, 0, 128, 0, 0, 0, 0, 2, 0, 0,
+    128, 0,
+];
 
 /// What is called: a procedure, its arguments, and where its reply has the count of bytes.
 #[derive(Clone, Copy)]
@@ -43,32 +49,11 @@ struct Work<'a> {
     count_at: usize,
 }
 
-/// These words, and some data.
-fn args(alloc: Global, words: &[u32], data: &[u8]) -> Option<Octets> {
-    let mut args = Octets::new(alloc);
-    for word in words {
-        args.extend_from_slice(&word.to_be_bytes()).ok()?;
-    }
+/// The arguments of a WRITE of this data.
+fn write_args(alloc: Global, data: &[u8]) -> Option<Octets> {
+    let mut args = Octets::from_slice(alloc, &WRITE_HEAD).ok()?;
     args.extend_from_slice(data).ok()?;
     Some(args)
-}
-
-/// WRITE's count stands after the attributes of before and after.
-fn write_work(args: &[u8]) -> Work<'_> {
-    Work {
-        proc: WRITE,
-        args,
-        count_at: 144,
-    }
-}
-
-/// READ's count stands after the attributes.
-fn read_work(args: &[u8]) -> Work<'_> {
-    Work {
-        proc: READ,
-        args,
-        count_at: 116,
-    }
 }
 
 /// A server of the drill's tree.
@@ -162,11 +147,21 @@ fn worked(
     link: &mut Link,
     plain: &mut Server,
     task: Task<'_>,
-    write: Work<'_>,
-    read: Work<'_>,
+    args: &[u8],
 ) -> Option<u64>
     requires { AreSound link.old }
 {
+    // WRITE's count stands after the attributes of before and after, READ's after those alone.
+    let write = Work {
+        proc: WRITE,
+        args,
+        count_at: 144,
+    };
+    let read = Work {
+        proc: READ,
+        args: &READ_ARGS,
+        count_at: 116,
+    };
     let _ = call(alloc, link, plain, u32::MAX, write)?;
     let work = if task.is_write { write } else { read };
     let total = call_all(alloc, link, plain, work, task.rounds)?;
@@ -183,16 +178,8 @@ fn served(alloc: Global, link: &mut Link, plain: &mut Server, task: Task<'_>) ->
 {
     link.up()?;
     link.down()?;
-    let write = args(alloc, &WRITE_WORDS, task.data)?;
-    let read = args(alloc, &READ_WORDS, &[])?;
-    worked(
-        alloc,
-        link,
-        plain,
-        task,
-        write_work(write.as_slice()),
-        read_work(read.as_slice()),
-    )
+    let args = write_args(alloc, task.data)?;
+    worked(alloc, link, plain, task, args.as_slice())
 }
 
 /// Works with a server.

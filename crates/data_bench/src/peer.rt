@@ -110,13 +110,19 @@ impl Peer {
         ensures { IfSome result (λ _. IsSound self.new) }
     {
         if message.len() > SEND_MAX as usize || self.endpoint.regions().stags_left() < 3 {
+            drop(offered);
             return None;
         }
-        let Ok(claims) = self.endpoint.offer(message, offered) else {
-            return None;
-        };
-        self.claim = one_of(claims);
-        Some(())
+        match self.endpoint.offer(message, offered) {
+            Ok(claims) => {
+                self.claim = one_of(claims);
+                Some(())
+            }
+            Err(offered) => {
+                drop(offered);
+                None
+            }
+        }
     }
 
     /// Registers a part of a buffer, and asks for the bytes of a segment to be placed there.

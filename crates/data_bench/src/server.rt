@@ -97,6 +97,17 @@ fn write_of<'a>(lists: &ChunkLists, moved: &'a [u8]) -> Option<RemoteWrite<'a>>
     })
 }
 
+/// Sends what moves, if a write chunk is offered, and a message.
+fn send(server: &mut Peer, lists: &ChunkLists, moved: &[u8], message: &[u8]) -> Option<()>
+    requires { IsSound server.old }
+    ensures { IfSome result (λ _. IsSound server.new) }
+{
+    match write_of(lists, moved) {
+        Some(write) => server.answer(&[write], message),
+        None => server.answer(&[], message),
+    }
+}
+
 /// Answers a call with a reply.
 fn answer(
     server: &mut Peer,
@@ -118,10 +129,7 @@ fn answer(
     } = target;
     let answer = answer_for(lists, prog, vers, proc, reply, SEND_MAX)?;
     let message = answer_message(alloc, xid, 1, lists, answer).ok()?;
-    match write_of(lists, answer.moved) {
-        Some(write) => server.answer(&[write], message.as_slice()),
-        None => server.answer(&[], message.as_slice()),
-    }
+    send(server, lists, answer.moved, message.as_slice())
 }
 
 /// Executes a call, and gives the payload of its reply.
