@@ -16,6 +16,7 @@ pub mod Greeting
 pub mod Feeding
 pub mod Fed
 pub mod OwnLaw
+pub mod RunOut
 pub mod HeldRegions
 pub mod OwnOffers
 pub mod Stepping

@@ -1,9 +1,12 @@
 -- A requester stands for the marks of its link: each call of its owner is one mark more.
-use Rattle.std.specs.Prelude.{◌≡◌, ℕ, ◌^◌, ◌<◌, ◌≤◌, List, [], ◌∷◌, ◌++◌, length, take, None, Ok}
-use Rattle.nr_wire.specs.declared.hello.Side.TheVariants.{Initiator}
+use Rattle.std.specs.Prelude.{◌≡◌, ◌≢◌, ℕ, ◌^◌, ◌<◌, ◌≤◌, List, [], ◌∷◌, ◌++◌, length, take, None, Ok}
+use Rattle.std.specs.List.{AllByRecursion}
+use Rattle.nr_wire.specs.declared.hello.Side.TheVariants.{Initiator, Responder}
+use Rattle.nr_link.specs.declared.end.End.TheVariants as ends
 use Rattle.nr_reduce.specs.declared.call.Call.{Call}
 use Rattle.nr_reduce.specs.declared.call.Form.{Form}
 use Rattle.nr_reduce.specs.declared.call.Refused.{Refused}
+use Rattle.nr_reduce.specs.declared.call.Refused.TheVariants as refusals
 use Rattle.nr_reduce.specs.declared.call.Submission.TheVariants as submissions
 use Rattle.nr_reduce.specs.declared.mark.LinkParameters.{LinkParameters}
 use Rattle.nr_reduce.specs.declared.mark.Mark.{Mark}
@@ -12,12 +15,13 @@ use Rattle.nr_reduce.specs.declared.outline.Plan.{Plan}
 use Rattle.nr_reduce.specs.Events.{events_at}
 use Rattle.nr_rpc.specs.Credential.{CanWriteCred}
 use Rattle.nr_reduce.specs.History.{bytes_sent, written_at, fed_at}
-use Rattle.nr_reduce.specs.Run.{client, output_due}
+use Rattle.nr_reduce.specs.Run.{client, output_due, placed_bytes}
 use Rattle.nr_reduce.specs.Opening.{IsOpened}
 use Rattle.nr_reduce.specs.Asked.{AskedSoFar, IsAll}
 use Rattle.nr_reduce.specs.SubmitAnswer.{submit_answer}
 use Rattle.nr_reduce.specs.Credits.{calls_outstanding, credits_granted, KeepsGrant}
-use Rattle.nr_requester.specs.RequesterState.{RequesterSide, queue_of}
+use Rattle.nr_reduce.specs.KeptClient.{bytes_under}
+use Rattle.nr_requester.specs.RequesterState.{RequesterSide, stags_of, queue_of}
 use Rattle.nr_requester.specs.Standing.{RequesterRepresents, RequesterRunsOut, StandsOn, StaysOut}
 use Rattle.nr_requester.specs.AfterCalls.{opened_as, after_submit, after_drain, after_revoke}
 use Rattle.nr_requester.specs.AfterPiece.{after_piece, out_of_memory}
@@ -69,7 +73,67 @@ abbrev pub OthersLeaveIt : Type 0
 OthersLeaveIt = (opened : LinkParameters) (link : ℕ) (h : RequesterSide) (run : List Mark) (mark : Mark) → RequesterRepresents opened link h run →
     events_at link Initiator run mark ≡ [] → written_at link Initiator mark ≡ [] → fed_at link Initiator mark ≡ [] → RequesterRepresents opened link h (run ++ mark ∷ [])
 
+-- ---- What its memory holds
+
+-- under each STag of an outstanding call, what the client's region holds after these marks
+abbrev pub HoldsPlaced : LinkParameters → ℕ → RequesterSide → List Mark → Type 0
+HoldsPlaced opened link h run =
+    AllByRecursion (λ c. AllByRecursion (λ stag. bytes_under h.state.side.memory stag ≡ placed_bytes opened link Initiator run stag) (stags_of c.claims)) h.state.outstanding
+
+abbrev pub MemoryAsClient : Type 0
+MemoryAsClient = (opened : LinkParameters) (link : ℕ) (h : RequesterSide) (run : List Mark) → RequesterRepresents opened link h run → HoldsPlaced opened link h run
+
+-- ---- Of one that ran out of memory
+
+-- Its memory, its calls and its grant are those of the client when it stopped.
+abbrev pub MemoryOut : Type 0
+MemoryOut = (opened : LinkParameters) (link : ℕ) (h : RequesterSide) (stopped run : List Mark) → RequesterRunsOut opened link h stopped run → HoldsPlaced opened link h stopped
+
+abbrev pub CountsOut : Type 0
+CountsOut = (opened : LinkParameters) (link : ℕ) (h : RequesterSide) (stopped run : List Mark) → RequesterRunsOut opened link h stopped run →
+    (length h.state.outstanding ≡ calls_outstanding opened link stopped) × (h.state.grant ≡ credits_granted opened link stopped)
+
+-- It refuses each call as ended, and is left by it,
+abbrev pub RefusesOut : Type 0
+RefusesOut = (opened : LinkParameters) (link : ℕ) (h : RequesterSide) (stopped run : List Mark) (call : Call) (form : Form) → RequesterRunsOut opened link h stopped run →
+    (answer_of h.state call form ≡ submissions.Refused (refusals.Ended ends.Memory))
+    × RequesterRunsOut opened link h stopped (run ++ marks.Submit link call form (submissions.Refused (refusals.Ended ends.Memory)) ∷ [])
+
+-- by a later piece, which changes nothing of it,
+abbrev pub PieceStaysOut : Type 0
+PieceStaysOut = (opened : LinkParameters) (link : ℕ) (h : RequesterSide) (stopped run : List Mark) (piece : List ℕ) → RequesterRunsOut opened link h stopped run →
+    (h.rest ≡ [] → after_piece h piece ≡ h) × RequesterRunsOut opened link (after_piece h piece) stopped (run ++ marks.Fed link Initiator piece ∷ [])
+
+-- and by each mark at which its side writes nothing.
+abbrev pub OthersStayOut : Type 0
+OthersStayOut = (opened : LinkParameters) (link : ℕ) (h : RequesterSide) (stopped run : List Mark) (mark : Mark) → RequesterRunsOut opened link h stopped run →
+    written_at link Initiator mark ≡ [] → RequesterRunsOut opened link h stopped (run ++ mark ∷ [])
+
 -- ---- The law of its side, so far
+
+-- No marks keep it,
+abbrev pub LawBegins : Type 0
+LawBegins = (opened : LinkParameters) (link : ℕ) → AskedSoFar opened link [] × KeepsGrant opened link []
+
+-- A mark of which the law of a link's client asks nothing: of another link, of the server's side, a refused call, a piece, or a drop.
+abbrev pub AsksNothing : ℕ → Mark → Type 0
+AsksNothing link (marks.Submit l call form (submissions.Accepted xid)) = l ≢ link
+AsksNothing link (marks.Submit l call form (submissions.Refused why)) = Unit {0}
+AsksNothing link (marks.Submit l call form submissions.Dropped) = Unit {0}
+AsksNothing link (marks.Wrote l Initiator bytes) = l ≢ link
+AsksNothing link (marks.Wrote l Responder bytes) = Unit {0}
+AsksNothing link (marks.Fed l side bytes) = Unit {0}
+AsksNothing link (marks.Execute l xid moment payload place reply) = Unit {0}
+AsksNothing link (marks.Done l xid outcome) = l ≢ link
+AsksNothing link (marks.Lost l xid) = l ≢ link
+AsksNothing link (marks.Forget l xid) = l ≢ link
+AsksNothing link (marks.Revoke l xid bytes) = l ≢ link
+AsksNothing link (marks.Drop l) = Unit {0}
+
+-- and such a mark keeps it, and the last grant.
+abbrev pub OthersKeepLaw : Type 0
+OthersKeepLaw = (opened : LinkParameters) (link : ℕ) (run : List Mark) (mark : Mark) → AsksNothing link mark → AskedSoFar opened link run → KeepsGrant opened link run →
+    AskedSoFar opened link (run ++ mark ∷ []) × KeepsGrant opened link (run ++ mark ∷ [])
 
 -- An accepted call keeps it, and the last grant,
 abbrev pub SubmitKeepsLaw : Type 0

@@ -1,10 +1,11 @@
 //! Laws of a requester.
 
-ghost use Rattle.nr_requester.specs.Laws.{Begins, AnswersAsClient, CountsAsClient, SubmitIsAMark, PieceIsAMark, PieceRunsOut, DrainIsAMark, RevokeIsAMark, RevokeStaysOut, OthersLeaveIt, SubmitKeepsLaw, DrainKeepsLaw, DrainOutKeepsLaw, QueueIsAllDue, RefusedKeepsLaw, PieceKeepsLaw, DrainKeepsGrant};
+ghost use Rattle.nr_requester.specs.Laws.{Begins, AnswersAsClient, CountsAsClient, SubmitIsAMark, PieceIsAMark, PieceRunsOut, DrainIsAMark, RevokeIsAMark, RevokeStaysOut, OthersLeaveIt, MemoryAsClient, MemoryOut, CountsOut, RefusesOut, PieceStaysOut, OthersStayOut, LawBegins, OthersKeepLaw, SubmitKeepsLaw, DrainKeepsLaw, DrainOutKeepsLaw, QueueIsAllDue, RefusedKeepsLaw, PieceKeepsLaw, DrainKeepsGrant};
 
 /// A requester stands for the marks of its link, from its opening on: what it keeps is what the client of the run asks for, and what it may
 /// write is what is due and not yet written. It answers a call as that client does, and knows how many calls are outstanding
-/// and granted.
+/// and granted; the regions of its calls hold what that client's hold. After it ran out of memory nothing but a revoke and a drain
+/// changes it.
 pub fn requesters_stand_for_marks()
     ensures begins { Begins }
     ensures answer { AnswersAsClient }
@@ -16,11 +17,19 @@ pub fn requesters_stand_for_marks()
     ensures revoke { RevokeIsAMark }
     ensures revoke_out { RevokeStaysOut }
     ensures others { OthersLeaveIt }
+    ensures memory { MemoryAsClient }
+    ensures memory_out { MemoryOut }
+    ensures counts_out { CountsOut }
+    ensures refused_out { RefusesOut }
+    ensures piece_stays_out { PieceStaysOut }
+    ensures others_out { OthersStayOut }
 {}
 
-/// A requester keeps the law of its side, so far, and the last grant: by a call that it accepts or refuses, a piece that it is fed, and a
-/// drain, also if it ran out of memory. All that it may write is all that is due.
+/// A requester keeps the law of its side, so far, and the last grant, from no marks on: by a call that it accepts or refuses, a piece that
+/// it is fed, a drain, also if it ran out of memory, and each mark of others. All that it may write is all that is due.
 pub fn requesters_keep_their_law()
+    ensures begins { LawBegins }
+    ensures others { OthersKeepLaw }
     ensures submit { SubmitKeepsLaw }
     ensures drain { DrainKeepsLaw }
     ensures drain_out { DrainOutKeepsLaw }

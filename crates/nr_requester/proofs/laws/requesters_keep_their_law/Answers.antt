@@ -1,4 +1,4 @@
-use Rattle.nr_requester.proofs.OwnLaw.{submit_keeps_law, drain_keeps_law, drain_out_keeps_law, queue_is_all_due, refused_keeps_law, piece_keeps_law, drain_keeps_grant}
+use Rattle.nr_requester.proofs.OwnLaw.{law_begins, others_keep_law, submit_keeps_law, drain_keeps_law, drain_out_keeps_law, queue_is_all_due, refused_keeps_law, piece_keeps_law, drain_keeps_grant}
 use Rattle.nr_requester.proofs.laws.requesters_keep_their_law.Goals as goal
 
 pub returns-clause-submit : goal.returns-clause-submit
@@ -21,3 +21,9 @@ returns-clause-piece c = piece_keeps_law
 
 pub returns-clause-drain_grant : goal.returns-clause-drain_grant
 returns-clause-drain_grant c = drain_keeps_grant
+
+pub returns-clause-begins : goal.returns-clause-begins
+returns-clause-begins c = law_begins
+
+pub returns-clause-others : goal.returns-clause-others
+returns-clause-others c = others_keep_law

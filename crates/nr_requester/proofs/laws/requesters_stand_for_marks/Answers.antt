@@ -1,6 +1,7 @@
 use Rattle.nr_requester.proofs.Marks.{begins, drain_is_a_mark, revoke_is_a_mark, revoke_stays_out_lem, others_leave_it}
 use Rattle.nr_requester.proofs.Accepting.{answers_as_client, counts_as_client, submit_is_a_mark}
 use Rattle.nr_requester.proofs.Fed.{piece_is_a_mark, piece_runs_out}
+use Rattle.nr_requester.proofs.RunOut.{memory_as_client, memory_out_lem, counts_out_lem, refuses_out, piece_stays_out_lem, others_stay_out}
 use Rattle.nr_requester.proofs.laws.requesters_stand_for_marks.Goals as goal
 
 pub returns-clause-begins : goal.returns-clause-begins
@@ -32,3 +33,21 @@ returns-clause-revoke_out c = revoke_stays_out_lem
 
 pub returns-clause-others : goal.returns-clause-others
 returns-clause-others c = others_leave_it
+
+pub returns-clause-memory : goal.returns-clause-memory
+returns-clause-memory c = memory_as_client
+
+pub returns-clause-memory_out : goal.returns-clause-memory_out
+returns-clause-memory_out c = memory_out_lem
+
+pub returns-clause-counts_out : goal.returns-clause-counts_out
+returns-clause-counts_out c = counts_out_lem
+
+pub returns-clause-refused_out : goal.returns-clause-refused_out
+returns-clause-refused_out c = refuses_out
+
+pub returns-clause-piece_stays_out : goal.returns-clause-piece_stays_out
+returns-clause-piece_stays_out c = piece_stays_out_lem
+
+pub returns-clause-others_out : goal.returns-clause-others_out
+returns-clause-others_out c = others_stay_out

@@ -1,0 +1,84 @@
+-- What the memory of a requester holds; and one that ran out of memory, through later marks.
+use Rattle.std.proofs.Common.{◌≡◌, ℕ, Bool, true, cond, List, [], ◌∷◌, ◌++◌, length, map, Option, refl, sym, ap, subst, ◌∙◌}
+use Rattle.std.specs.Prelude.{is_some}
+use Rattle.std.specs.List.{AllByRecursion}
+use Rattle.nr_wire.specs.declared.hello.Side.TheVariants.{Initiator}
+use Rattle.nr_wire.specs.declared.stream.Awaited.TheVariants.{Fpdu}
+use Rattle.nr_wire.specs.Feeding.{feeding_in, feeding_after_frames, feeding_after}
+use Rattle.nr_wire.specs.Stream.{Split, split}
+use Rattle.nr_regions.specs.RegisteredMemory.{RegisteredMemory}
+use Rattle.nr_link.specs.declared.end.End.{End}
+use Rattle.nr_link.specs.declared.end.End.TheVariants as ends
+use Rattle.nr_reduce.specs.declared.call.Refused.TheVariants as refusals
+use Rattle.nr_reduce.specs.declared.call.Submission.TheVariants as submissions
+use Rattle.nr_reduce.specs.declared.mark.LinkParameters.{LinkParameters}
+use Rattle.nr_reduce.specs.declared.mark.Mark.{Mark}
+use Rattle.nr_reduce.specs.declared.mark.Mark.TheVariants as marks
+use Rattle.nr_reduce.specs.ClientState.{client_memory_at}
+use Rattle.nr_reduce.specs.History.{bytes_received}
+use Rattle.nr_reduce.specs.Run.{client, placed_bytes, grants_of}
+use Rattle.nr_reduce.specs.Credits.{calls_outstanding, credits_granted}
+use Rattle.nr_reduce.specs.KeptClient.{bytes_under, HoldsFor}
+use Rattle.nr_reduce.proofs.Standing.{client_stays_out_lem}
+use Rattle.nr_requester.specs.RequesterState.{StoredCall, RequesterSide, stags_of, kept_call, kept_client, queue_of}
+use Rattle.nr_requester.specs.Standing.{RequesterRunsOut}
+use Rattle.nr_requester.specs.AfterPiece.{requester_ended, after_frame, after_piece}
+use Rattle.nr_requester.specs.Laws.{MemoryAsClient, MemoryOut, CountsOut, RefusesOut, PieceStaysOut, OthersStayOut}
+use Rattle.nr_requester.proofs.Answered.{ended_answer}
+
+-- ---- What its memory holds
+
+-- what is held for the calls as they are kept is held for them as they are stored
+stored_hold : (opened : LinkParameters) (link : ℕ) (run : List Mark) (m : RegisteredMemory) (count first sent : ℕ) (cs : List StoredCall) → count ≡ length (bytes_received link Initiator run) →
+    AllByRecursion (HoldsFor m (client opened link run).state count) (map (kept_call first sent) cs) →
+    AllByRecursion (λ c. AllByRecursion (λ stag. bytes_under m stag ≡ placed_bytes opened link Initiator run stag) (stags_of c.claims)) cs
+unfolding placed_bytes grants_of
+stored_hold opened link run m count first sent [] is h = tt
+stored_hold opened link run m count first sent (c ∷ cs) is h = (
+  subst (λ (n : ℕ). AllByRecursion (λ stag. bytes_under m stag ≡ client_memory_at (client opened link run).state n stag) (stags_of c.claims)) is h.0,
+  stored_hold opened link run m count first sent cs is h.1,
+)
+
+pub memory_as_client : MemoryAsClient
+memory_as_client opened link h run s = stored_hold opened link run h.state.side.memory _ h.state.first_xid h.state.sent h.state.outstanding refl s.kept.keeps.holds
+
+pub memory_out_lem : MemoryOut
+memory_out_lem opened link h stopped run out = stored_hold opened link stopped h.state.side.memory _ h.state.first_xid h.state.sent h.state.outstanding refl out.keeps.holds
+
+-- ---- Of one that ran out of memory
+
+pub counts_out_lem : CountsOut
+unfolding calls_outstanding credits_granted
+counts_out_lem opened link h stopped run out = (out.keeps.outstanding, out.keeps.grant)
+
+pub others_stay_out : OthersStayOut
+others_stay_out opened link h stopped run mark out no_write =
+    client_stays_out_lem opened link (kept_client h.state) (queue_of h.state) (queue_of h.state) stopped run mark out (ap (λ (xs : List ℕ). xs ++ queue_of h.state) no_write)
+
+pub refuses_out : RefusesOut
+refuses_out opened link h stopped run call form out = (
+  ended_answer h.state call form ends.Memory (sym out.ended),
+  others_stay_out opened link h stopped run (marks.Submit link call form (submissions.Refused (refusals.Ended ends.Memory))) out refl,
+)
+
+-- a side that has ended takes nothing of a piece
+fed_out : (h : RequesterSide) (piece : List ℕ) → requester_ended h.state ≡ true → after_piece h piece ≡ record { awaited = h.awaited; rest = []; state = h.state }
+unfolding after_piece feeding_after
+fed_out h piece e = by (split h.awaited (h.rest ++ piece)).frames
+  where
+    s : Split
+    s = split h.awaited (h.rest ++ piece)
+
+    by : (frames : List (List ℕ)) → feeding_after_frames requester_ended after_frame frames s.rest h.awaited h.state ≡ record { awaited = h.awaited; rest = []; state = h.state }
+    by [] = ap (λ (b : Bool). record { awaited = h.awaited; rest = cond b [] s.rest; state = h.state }) e
+    by (f ∷ frames) =
+        ap (λ (b : Bool). cond b (feeding_in requester_ended after_frame h.awaited [] h.state) (feeding_after_frames requester_ended after_frame frames s.rest Fpdu (after_frame h.state h.awaited f))) e
+        ∙ ap (λ (b : Bool). record { awaited = h.awaited; rest = cond b [] []; state = h.state }) e
+
+pub piece_stays_out_lem : PieceStaysOut
+piece_stays_out_lem opened link h stopped run piece out =
+    let fed : after_piece h piece ≡ record { awaited = h.awaited; rest = []; state = h.state } = fed_out h piece (ap (λ (x : Option End). is_some x) out.ended) in
+    let mark : Mark = marks.Fed link Initiator piece in (
+      λ none. fed ∙ (λ i. record { awaited = h.awaited; rest = sym none i; state = h.state }),
+      subst (λ (x : RequesterSide). RequesterRunsOut opened link x stopped (run ++ mark ∷ [])) (sym fed) (others_stay_out opened link h stopped run mark out refl),
+    )
