@@ -17,6 +17,8 @@ pub mod Feeding
 pub mod Fed
 pub mod OwnLaw
 pub mod RunOut
+pub mod CallRegions
+pub mod Revoking
 pub mod HeldRegions
 pub mod OwnOffers
 pub mod Stepping

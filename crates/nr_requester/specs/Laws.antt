@@ -1,6 +1,6 @@
 -- A requester stands for the marks of its link: each call of its owner is one mark more.
-use Rattle.std.specs.Prelude.{◌≡◌, ◌≢◌, ℕ, ◌^◌, ◌<◌, ◌≤◌, List, [], ◌∷◌, ◌++◌, length, take, None, Ok}
-use Rattle.std.specs.List.{AllByRecursion}
+use Rattle.std.specs.Prelude.{◌≡◌, ◌≢◌, ℕ, ◌^◌, ◌<◌, ◌≤◌, List, [], ◌∷◌, ◌++◌, true, length, take, None, Some, Ok, is_some, ◌==◌}
+use Rattle.std.specs.List.{AllByRecursion, find, flat_map}
 use Rattle.nr_wire.specs.declared.hello.Side.TheVariants.{Initiator, Responder}
 use Rattle.nr_link.specs.declared.end.End.TheVariants as ends
 use Rattle.nr_reduce.specs.declared.call.Call.{Call}
@@ -17,11 +17,11 @@ use Rattle.nr_rpc.specs.Credential.{CanWriteCred}
 use Rattle.nr_reduce.specs.History.{bytes_sent, written_at, fed_at}
 use Rattle.nr_reduce.specs.Run.{client, output_due, placed_bytes}
 use Rattle.nr_reduce.specs.Opening.{IsOpened}
-use Rattle.nr_reduce.specs.Asked.{AskedSoFar, IsAll}
+use Rattle.nr_reduce.specs.Asked.{AskedSoFar, IsAll, IsAwaited, revoked_bytes}
 use Rattle.nr_reduce.specs.SubmitAnswer.{submit_answer}
 use Rattle.nr_reduce.specs.Credits.{calls_outstanding, credits_granted, KeepsGrant}
 use Rattle.nr_reduce.specs.KeptClient.{bytes_under}
-use Rattle.nr_requester.specs.RequesterState.{RequesterSide, stags_of, queue_of}
+use Rattle.nr_requester.specs.RequesterState.{StoredCall, RequesterSide, stags_of, queue_of}
 use Rattle.nr_requester.specs.Standing.{RequesterRepresents, RequesterRunsOut, StandsOn, StaysOut}
 use Rattle.nr_requester.specs.AfterCalls.{opened_as, after_submit, after_drain, after_revoke}
 use Rattle.nr_requester.specs.AfterPiece.{after_piece, out_of_memory}
@@ -165,3 +165,19 @@ PieceKeepsLaw = (opened : LinkParameters) (link : ℕ) (run : List Mark) (piece 
 
 abbrev pub DrainKeepsGrant : Type 0
 DrainKeepsGrant = (opened : LinkParameters) (link : ℕ) (run : List Mark) (bytes : List ℕ) → KeepsGrant opened link run → KeepsGrant opened link (run ++ marks.Wrote link Initiator bytes ∷ [])
+
+-- what the regions of a call hold, in their order
+abbrev pub bytes_of_call : RequesterSide → StoredCall → List ℕ
+bytes_of_call h c = flat_map (λ stag. bytes_under h.state.side.memory stag) (stags_of c.claims)
+
+-- A revoke of an outstanding call that wasn't revoked keeps the law if it hands back what the call's regions hold, while the call's outcome
+-- is awaited and the link hasn't ended.
+abbrev pub RevokeKeepsLaw : Type 0
+RevokeKeepsLaw = (opened : LinkParameters) (link : ℕ) (h : RequesterSide) (run : List Mark) (xid : ℕ) (c : StoredCall) → RequesterRepresents opened link h run → h.state.side.ended ≡ None →
+    find (λ d. d.xid == xid) h.state.outstanding ≡ Some c → is_some c.call ≡ true → IsAwaited link run xid → AskedSoFar opened link run → KeepsGrant opened link run →
+    AskedSoFar opened link (run ++ marks.Revoke link xid (bytes_of_call h c) ∷ []) × KeepsGrant opened link (run ++ marks.Revoke link xid (bytes_of_call h c) ∷ [])
+
+-- Of one that ran out of memory these are the bytes that the client would have handed back when it stopped.
+abbrev pub RevokedOut : Type 0
+RevokedOut = (opened : LinkParameters) (link : ℕ) (h : RequesterSide) (stopped run : List Mark) (xid : ℕ) (c : StoredCall) → RequesterRunsOut opened link h stopped run →
+    find (λ d. d.xid == xid) h.state.outstanding ≡ Some c → is_some c.call ≡ true → AskedSoFar opened link stopped → bytes_of_call h c ≡ revoked_bytes opened link stopped xid

@@ -1,6 +1,6 @@
 //! Laws of a requester.
 
-ghost use Rattle.nr_requester.specs.Laws.{Begins, AnswersAsClient, CountsAsClient, SubmitIsAMark, PieceIsAMark, PieceRunsOut, DrainIsAMark, RevokeIsAMark, RevokeStaysOut, OthersLeaveIt, MemoryAsClient, MemoryOut, CountsOut, RefusesOut, PieceStaysOut, OthersStayOut, LawBegins, OthersKeepLaw, SubmitKeepsLaw, DrainKeepsLaw, DrainOutKeepsLaw, QueueIsAllDue, RefusedKeepsLaw, PieceKeepsLaw, DrainKeepsGrant};
+ghost use Rattle.nr_requester.specs.Laws.{Begins, AnswersAsClient, CountsAsClient, SubmitIsAMark, PieceIsAMark, PieceRunsOut, DrainIsAMark, RevokeIsAMark, RevokeStaysOut, OthersLeaveIt, MemoryAsClient, MemoryOut, CountsOut, RefusesOut, PieceStaysOut, OthersStayOut, LawBegins, OthersKeepLaw, RevokeKeepsLaw, RevokedOut, SubmitKeepsLaw, DrainKeepsLaw, DrainOutKeepsLaw, QueueIsAllDue, RefusedKeepsLaw, PieceKeepsLaw, DrainKeepsGrant};
 
 /// A requester stands for the marks of its link, from its opening on: what it keeps is what the client of the run asks for, and what it may
 /// write is what is due and not yet written. It answers a call as that client does, and knows how many calls are outstanding
@@ -26,7 +26,7 @@ pub fn requesters_stand_for_marks()
 {}
 
 /// A requester keeps the law of its side, so far, and the last grant, from no marks on: by a call that it accepts or refuses, a piece that
-/// it is fed, a drain, also if it ran out of memory, and each mark of others. All that it may write is all that is due.
+/// it is fed, a drain, also if it ran out of memory, a revoke of an outstanding call, and each mark of others. All that it may write is all that is due.
 pub fn requesters_keep_their_law()
     ensures begins { LawBegins }
     ensures others { OthersKeepLaw }
@@ -37,4 +37,6 @@ pub fn requesters_keep_their_law()
     ensures refused { RefusedKeepsLaw }
     ensures piece { PieceKeepsLaw }
     ensures drain_grant { DrainKeepsGrant }
+    ensures revoke { RevokeKeepsLaw }
+    ensures revoked_out { RevokedOut }
 {}

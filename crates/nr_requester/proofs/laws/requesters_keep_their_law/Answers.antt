@@ -1,4 +1,5 @@
 use Rattle.nr_requester.proofs.OwnLaw.{law_begins, others_keep_law, submit_keeps_law, drain_keeps_law, drain_out_keeps_law, queue_is_all_due, refused_keeps_law, piece_keeps_law, drain_keeps_grant}
+use Rattle.nr_requester.proofs.Revoking.{revoke_keeps_law, revoked_out_lem}
 use Rattle.nr_requester.proofs.laws.requesters_keep_their_law.Goals as goal
 
 pub returns-clause-submit : goal.returns-clause-submit
@@ -27,3 +28,9 @@ returns-clause-begins c = law_begins
 
 pub returns-clause-others : goal.returns-clause-others
 returns-clause-others c = others_keep_law
+
+pub returns-clause-revoke : goal.returns-clause-revoke
+returns-clause-revoke c = revoke_keeps_law
+
+pub returns-clause-revoked_out : goal.returns-clause-revoked_out
+returns-clause-revoked_out c = revoked_out_lem

@@ -1,0 +1,313 @@
+-- The regions of a call in the state of its client: those that its plan offers, in the order in which they are offered.
+use Rattle.std.proofs.Common.{◌≡◌, ℕ, ◌+◌, ◌<◌, ◌≤◌, Bool, true, false, not, cond, ◌&&◌, eqb, List, [], ◌∷◌, ◌++◌, length, map, Option, None, Some, Result, Ok, Err, refl, sym, ap, subst, ◌∙◌, arith, append_assoc, append-nil}
+use Rattle.std.specs.List.{AllByRecursion, filter}
+use Rattle.std.proofs.lemmas.Bool.{eqb-true}
+use Rattle.nr_xdr.specs.Fields.{word_at}
+use Rattle.nr_wire.specs.declared.hello.Side.TheVariants.{Initiator, Responder}
+use Rattle.nr_wire.specs.Segment.{Segment}
+use Rattle.nr_link.specs.declared.end.End.{End}
+use Rattle.nr_link.specs.Frames.{Frame, is_hello, frames_completed}
+use Rattle.nr_link.specs.Ending.{frame_segment}
+use Rattle.nr_link.specs.ReceiveState.{ReadRequest, message_completed, read_request_of}
+use Rattle.nr_reduce.specs.declared.call.Submission.TheVariants as submissions
+use Rattle.nr_reduce.specs.declared.mark.Mark.{Mark}
+use Rattle.nr_reduce.specs.declared.mark.Mark.TheVariants as marks
+use Rattle.nr_reduce.specs.declared.mark.LinkParameters.{LinkParameters}
+use Rattle.nr_reduce.specs.Plans.{Buffer, buffers}
+use Rattle.nr_reduce.specs.OfferedRegions.{Region, closed_if, regions_closed}
+use Rattle.nr_reduce.specs.History.{AcceptedCall, bytes_received}
+use Rattle.nr_reduce.specs.AtEachMark.{AtEachMark}
+use Rattle.nr_reduce.specs.Matched.{IsPrefixOf}
+use Rattle.nr_reduce.specs.Events.{RunEvent, if_own, events_at, events}
+use Rattle.nr_reduce.specs.Events.RunEvent.{FrameReceived, CallSubmitted, MemoryRevoked, CallExecuted, QueueWritten}
+use Rattle.nr_reduce.specs.EndRules.{EndState, next_end_state, next_end_state_by, next_end_state_in, end_state_after}
+use Rattle.nr_reduce.specs.ClientState.{ClientState, OutstandingCall}
+use Rattle.nr_reduce.specs.Client.{client_rules, client_end, client_state_after, outstanding_of, region_of, revoked_call, with_message, with_request, with_segment, with_hello, due_with_response}
+use Rattle.nr_reduce.specs.Run.{client}
+use Rattle.nr_reduce.specs.SubmitAnswer.{next_xid}
+use Rattle.nr_reduce.specs.Asked.{AskedSoFar, AskedMark}
+use Rattle.nr_reduce.proofs.Placing.{segment_accepted}
+use Rattle.nr_reduce.proofs.Standing.{itself}
+use Rattle.nr_reduce.proofs.Steps.{client_one}
+
+-- the STags of the regions of a call
+abbrev pub call_stags : ℕ → List Region → List ℕ
+call_stags xid regions = map (λ r. r.stag) (filter (λ r. eqb r.call xid) regions)
+
+pick : (b : Bool) (x y : Region) (xs ys : List Region) → x.stag ≡ y.stag → map (λ (r : Region). r.stag) xs ≡ map (λ (r : Region). r.stag) ys →
+    map (λ (r : Region). r.stag) (cond b (x ∷ xs) xs) ≡ map (λ (r : Region). r.stag) (cond b (y ∷ ys) ys)
+pick true x y xs ys e h = λ i. e i ∷ h i
+pick false x y xs ys e h = h
+
+-- ---- Regions that are closed
+
+stags_closed : (test : Region → Bool) (place xid : ℕ) (rs : List Region) → call_stags xid (regions_closed test place rs) ≡ call_stags xid rs
+unfolding regions_closed
+stags_closed test place xid [] = refl
+stags_closed test place xid (r ∷ rs) = by (test r) (stags_closed test place xid rs)
+  where
+    by : (b : Bool) → call_stags xid (map (λ r. closed_if (test r) place r) rs) ≡ call_stags xid rs → call_stags xid (closed_if b place r ∷ map (λ r. closed_if (test r) place r) rs) ≡ call_stags xid (r ∷ rs)
+    by true rest = pick (eqb r.call xid) (closed_if true place r) r (filter (λ r. eqb r.call xid) (map (λ r. closed_if (test r) place r) rs)) (filter (λ r. eqb r.call xid) rs) refl rest
+    by false rest = pick (eqb r.call xid) r r (filter (λ r. eqb r.call xid) (map (λ r. closed_if (test r) place r) rs)) (filter (λ r. eqb r.call xid) rs) refl rest
+
+abbrev pub AreOfBefore : ℕ → List Region → Type 0
+AreOfBefore next rs = AllByRecursion (λ (r : Region). r.call < next) rs
+
+before_closed : (test : Region → Bool) (place next : ℕ) (rs : List Region) → AreOfBefore next rs → AreOfBefore next (regions_closed test place rs)
+unfolding regions_closed
+before_closed test place next [] h = tt
+before_closed test place next (r ∷ rs) h = (by (test r), before_closed test place next rs h.1)
+  where
+    by : (b : Bool) → (closed_if b place r).call < next
+    by true = h.0
+    by false = h.0
+
+-- ---- Regions more
+
+differ : (a b : ℕ) → a < b → eqb a b ≡ false
+differ a b lt = by (eqb a b) refl
+  where
+    by : (x : Bool) → eqb a b ≡ x → eqb a b ≡ false
+    by false is = is
+    by true is = absurd (let same : a ≡ b = eqb-true a b is in omega (arith, same, lt))
+
+differ_above : (a b : ℕ) → b < a → eqb a b ≡ false
+differ_above a b lt = by (eqb a b) refl
+  where
+    by : (x : Bool) → eqb a b ≡ x → eqb a b ≡ false
+    by false is = is
+    by true is = absurd (let same : a ≡ b = eqb-true a b is in omega (arith, same, lt))
+
+none_before : (next xid : ℕ) (rs : List Region) → next ≤ xid → AreOfBefore next rs → call_stags xid rs ≡ []
+none_before next xid [] le h = refl
+none_before next xid (r ∷ rs) le h =
+    ap (λ (b : Bool). map (λ (x : Region). x.stag) (cond b (r ∷ filter (λ x. eqb x.call xid) rs) (filter (λ x. eqb x.call xid) rs))) (differ r.call xid (let lt = h.0 in omega (arith, lt, le)))
+    ∙ none_before next xid rs le h.1
+
+stags_append : (xid : ℕ) (xs ys : List Region) → call_stags xid (xs ++ ys) ≡ call_stags xid xs ++ call_stags xid ys
+stags_append xid [] ys = refl
+stags_append xid (x ∷ xs) ys = by (eqb x.call xid) (stags_append xid xs ys)
+  where
+    by : (b : Bool) → call_stags xid (xs ++ ys) ≡ call_stags xid xs ++ call_stags xid ys →
+        map (λ (r : Region). r.stag) (cond b (x ∷ filter (λ r. eqb r.call xid) (xs ++ ys)) (filter (λ r. eqb r.call xid) (xs ++ ys)))
+        ≡ map (λ (r : Region). r.stag) (cond b (x ∷ filter (λ r. eqb r.call xid) xs) (filter (λ r. eqb r.call xid) xs)) ++ call_stags xid ys
+    by true rest = ap (λ (ss : List ℕ). x.stag ∷ ss) rest
+    by false rest = rest
+
+stags_own : (xid place : ℕ) (bs : List Buffer) → call_stags xid (map (region_of xid place) bs) ≡ map (λ (b : Buffer). b.stag) bs
+stags_own xid place [] = refl
+stags_own xid place (b ∷ bs) =
+    ap (λ (x : Bool). map (λ (r : Region). r.stag) (cond x (region_of xid place b ∷ filter (λ r. eqb r.call xid) (map (region_of xid place) bs)) (filter (λ r. eqb r.call xid) (map (region_of xid place) bs)))) (itself xid)
+    ∙ ap (λ (ss : List ℕ). b.stag ∷ ss) (stags_own xid place bs)
+
+stags_other : (own xid place : ℕ) (bs : List Buffer) → eqb own xid ≡ false → call_stags xid (map (region_of own place) bs) ≡ []
+stags_other own xid place [] e = refl
+stags_other own xid place (b ∷ bs) e =
+    ap (λ (x : Bool). map (λ (r : Region). r.stag) (cond x (region_of own place b ∷ filter (λ r. eqb r.call xid) (map (region_of own place) bs)) (filter (λ r. eqb r.call xid) (map (region_of own place) bs)))) e
+    ∙ stags_other own xid place bs e
+
+before_more : (next : ℕ) (xs ys : List Region) → AreOfBefore next xs → AreOfBefore (next + 1) ys → AreOfBefore (next + 1) (xs ++ ys)
+before_more next [] ys h more = more
+before_more next (x ∷ xs) ys h more = ((let lt = h.0 in omega (arith, lt)), before_more next xs ys h.1 more)
+
+before_own : (next place : ℕ) (bs : List Buffer) → AreOfBefore (next + 1) (map (region_of next place) bs)
+before_own next place [] = tt
+before_own next place (b ∷ bs) = (omega arith, before_own next place bs)
+
+-- ---- What holds of a client
+
+-- the regions of a call are those of its plan
+abbrev pub OffersPlan : ℕ → List Region → OutstandingCall → Type 0
+OffersPlan next regions o = (o.xid < next) × (call_stags o.xid regions ≡ map (λ (b : Buffer). b.stag) (buffers o.stag o.plan))
+
+pub record CallsOffer (next : ℕ) (k : ClientState) : Type 0 where
+  pub before : AreOfBefore next k.regions
+  pub calls : AllByRecursion (OffersPlan next k.regions) k.outstanding
+
+calls_closed : (test : Region → Bool) (place next : ℕ) (rs : List Region) (os : List OutstandingCall) → AllByRecursion (OffersPlan next rs) os → AllByRecursion (OffersPlan next (regions_closed test place rs)) os
+calls_closed test place next rs [] h = tt
+calls_closed test place next rs (o ∷ os) h = ((h.0.0, stags_closed test place o.xid rs ∙ h.0.1), calls_closed test place next rs os h.1)
+
+calls_without : (xid next : ℕ) (rs : List Region) (os : List OutstandingCall) → AllByRecursion (OffersPlan next rs) os → AllByRecursion (OffersPlan next rs) (filter (λ o. not (eqb o.xid xid)) os)
+calls_without xid next rs [] h = tt
+calls_without xid next rs (o ∷ os) h = by (not (eqb o.xid xid)) (calls_without xid next rs os h.1)
+  where
+    by : (b : Bool) → AllByRecursion (OffersPlan next rs) (filter (λ o. not (eqb o.xid xid)) os) → AllByRecursion (OffersPlan next rs) (cond b (o ∷ filter (λ o. not (eqb o.xid xid)) os) (filter (λ o. not (eqb o.xid xid)) os))
+    by true rest = (h.0, rest)
+    by false rest = rest
+
+calls_revoked : (xid next : ℕ) (rs : List Region) (os : List OutstandingCall) → AllByRecursion (OffersPlan next rs) os → AllByRecursion (OffersPlan next rs) (map (revoked_call xid) os)
+calls_revoked xid next rs [] h = tt
+calls_revoked xid next rs (o ∷ os) h = (by (eqb o.xid xid), calls_revoked xid next rs os h.1)
+  where
+    by : (b : Bool) → OffersPlan next rs (cond b (record o { is_revoked = true }) o)
+    by true = h.0
+    by false = h.0
+
+calls_more : (next place : ℕ) (rs : List Region) (bs : List Buffer) (os : List OutstandingCall) (o : OutstandingCall) → AreOfBefore next rs → o.xid ≡ next → bs ≡ buffers o.stag o.plan → AllByRecursion (OffersPlan next rs) os →
+    AllByRecursion (OffersPlan (next + 1) (rs ++ map (region_of next place) bs)) (os ++ o ∷ [])
+calls_more next place rs bs [] o before own is h = (
+  (
+    omega (arith, own),
+    ap (λ (x : ℕ). call_stags x (rs ++ map (region_of next place) bs)) own
+        ∙ stags_append next rs (map (region_of next place) bs)
+        ∙ ap (λ (ss : List ℕ). ss ++ call_stags next (map (region_of next place) bs)) (none_before next next rs (omega arith) before)
+        ∙ stags_own next place bs
+        ∙ ap (λ (xs : List Buffer). map (λ (b : Buffer). b.stag) xs) is,
+  ),
+  tt,
+)
+calls_more next place rs bs (x ∷ xs) o before own is h =
+    let lt : x.xid < next = h.0.0 in (
+      (
+        omega (arith, lt),
+        stags_append x.xid rs (map (region_of next place) bs)
+            ∙ ap (λ (ss : List ℕ). call_stags x.xid rs ++ ss) (stags_other next x.xid place bs (differ_above next x.xid lt))
+            ∙ append-nil (call_stags x.xid rs)
+            ∙ h.0.1,
+      ),
+      calls_more next place rs bs xs o before own is h.1,
+    )
+
+-- ---- Its events
+
+message_offers : (next : ℕ) (k : ClientState) (place : ℕ) (message : Option (List ℕ)) → CallsOffer next k → CallsOffer next (with_message k place message)
+message_offers next k place None h = h
+message_offers next k place (Some message) h = record {
+  before = before_closed (λ r. eqb r.call (word_at 0 message)) place next k.regions h.before;
+  calls = calls_closed (λ r. eqb r.call (word_at 0 message)) place next k.regions (filter (λ o. not (eqb o.xid (word_at 0 message))) k.outstanding) (calls_without (word_at 0 message) next k.regions k.outstanding h.calls);
+}
+
+request_offers : (next : ℕ) (k : ClientState) (due : ℕ) (r : Option ReadRequest) → CallsOffer next k → CallsOffer next (with_request k due r)
+request_offers next k due None h = h
+request_offers next k due (Some r) h = record { before = h.before; calls = h.calls }
+
+segment_offers : (next : ℕ) (k : ClientState) (f : Frame) (r : Result Segment ℕ) → CallsOffer next k → CallsOffer next (with_segment k f r)
+segment_offers next k f (Err reason) h = h
+segment_offers next k f (Ok segment) h =
+    let m = request_offers next (with_message k f.end (message_completed k.received segment)) (due_with_response k f segment) (read_request_of segment)
+    (message_offers next k f.end (message_completed k.received segment) h) in record { before = m.before; calls = m.calls }
+
+frame_offers : (opened : LinkParameters) (next : ℕ) (k : ClientState) (f : Frame) (b : Bool) → CallsOffer next k → CallsOffer next (cond b (with_hello opened k) (with_segment k f (frame_segment f)))
+frame_offers opened next k f true h = record { before = h.before; calls = h.calls }
+frame_offers opened next k f false h = segment_offers next k f (frame_segment f) h
+
+-- no Submit is among some events
+abbrev pub SubmitsNothing : RunEvent → Type 0
+SubmitsNothing (FrameReceived f) = Unit {0}
+SubmitsNothing (CallSubmitted place a) = ⊥
+SubmitsNothing (MemoryRevoked place xid) = Unit {0}
+SubmitsNothing (CallExecuted call) = Unit {0}
+SubmitsNothing (QueueWritten taken) = Unit {0}
+
+abbrev pub SubmitNothing : List RunEvent → Type 0
+SubmitNothing [] = Unit {0}
+SubmitNothing (event ∷ es) = SubmitsNothing event × SubmitNothing es
+
+-- what holds after some events
+abbrev pub Offers : LinkParameters → ClientState → Type 0
+Offers opened k = CallsOffer (next_xid opened k) k
+
+frame_accepted : (opened : LinkParameters) (k : ClientState) (f : Frame) (b : Bool) → (cond b (with_hello opened k) (with_segment k f (frame_segment f))).calls_accepted ≡ k.calls_accepted
+frame_accepted opened k f true = refl
+frame_accepted opened k f false = segment_accepted k f (frame_segment f)
+
+event_offers : (opened : LinkParameters) (k : ClientState) (event : RunEvent) → SubmitsNothing event → Offers opened k → Offers opened (client_state_after opened k event)
+unfolding client_state_after
+event_offers opened k (FrameReceived f) none h =
+    let after : ClientState = cond (is_hello f) (with_hello opened k) (with_segment k f (frame_segment f)) in
+    subst (λ (n : ℕ). CallsOffer (opened.first_xid + n) after) (sym (frame_accepted opened k f (is_hello f))) (frame_offers opened (next_xid opened k) k f (is_hello f) h)
+event_offers opened k (CallSubmitted place a) none h = absurd none
+event_offers opened k (MemoryRevoked place xid) none h = record {
+  before = before_closed (λ r. eqb r.call xid) place (next_xid opened k) k.regions h.before;
+  calls = calls_closed (λ r. eqb r.call xid) place (next_xid opened k) k.regions (map (revoked_call xid) k.outstanding) (calls_revoked xid (next_xid opened k) k.regions k.outstanding h.calls);
+}
+event_offers opened k (CallExecuted call) none h = h
+event_offers opened k (QueueWritten taken) none h = record { before = h.before; calls = h.calls }
+
+next_offers : (opened : LinkParameters) (r : EndState ClientState) (event : RunEvent) → SubmitsNothing event → Offers opened r.state → Offers opened (next_end_state (client_rules opened) r event).state
+next_offers opened r event none h = by_end r.state r.ended h
+  where
+    by_why : (k : ClientState) (why : Option End) → Offers opened k → Offers opened (next_end_state_by (client_rules opened) k event why).state
+    by_why k None g = event_offers opened k event none g
+    by_why k (Some end) g = g
+
+    by_end : (k : ClientState) (ended : Option End) → Offers opened k → Offers opened (next_end_state_in (client_rules opened) k event ended).state
+    by_end k None g = by_why k (client_end k event) g
+    by_end k (Some end) g = g
+
+all_offer : (opened : LinkParameters) (r : EndState ClientState) (es : List RunEvent) → SubmitNothing es → Offers opened r.state → Offers opened (end_state_after (client_rules opened) r es).state
+all_offer opened r [] none h = h
+all_offer opened r (event ∷ es) none h = all_offer opened (next_end_state (client_rules opened) r event) es none.1 (next_offers opened r event none.0 h)
+
+none_if : (b : Bool) (es : List RunEvent) → SubmitNothing es → SubmitNothing (if_own b es)
+none_if true es h = h
+none_if false es h = tt
+
+none_in_frames : (fs : List Frame) → SubmitNothing (map FrameReceived fs)
+none_in_frames [] = tt
+none_in_frames (f ∷ fs) = (tt, none_in_frames fs)
+
+submit_offers : (opened : LinkParameters) (k : ClientState) (ended : Option End) (place : ℕ) (a : AcceptedCall) → a.xid ≡ next_xid opened k → Offers opened k → Offers opened (next_end_state_in (client_rules opened) k (CallSubmitted place a) ended).state
+unfolding client_state_after client_end
+submit_offers opened k None place a own h =
+    let n : ℕ = next_xid opened k in
+    let bs : List Buffer = buffers k.stag (outstanding_of k a).plan in
+    let more : CallsOffer (n + 1) (record k { regions = k.regions ++ map (region_of n place) bs; outstanding = k.outstanding ++ outstanding_of k a ∷ [] }) = record {
+      before = before_more n k.regions (map (region_of n place) bs) h.before (before_own n place bs);
+      calls = calls_more n place k.regions bs k.outstanding (outstanding_of k a) h.before own refl h.calls;
+    } in
+    let next : n + 1 ≡ opened.first_xid + (k.calls_accepted + 1) = omega arith in
+    record {
+      before = subst (λ (x : ℕ). AreOfBefore x (k.regions ++ map (region_of a.xid place) bs)) next (subst (λ (x : ℕ). AreOfBefore (n + 1) (k.regions ++ map (region_of x place) bs)) (sym own) more.before);
+      calls = subst (λ (x : ℕ). AllByRecursion (OffersPlan x (k.regions ++ map (region_of a.xid place) bs)) (k.outstanding ++ outstanding_of k a ∷ [])) next
+          (subst (λ (x : ℕ). AllByRecursion (OffersPlan (n + 1) (k.regions ++ map (region_of x place) bs)) (k.outstanding ++ outstanding_of k a ∷ [])) (sym own) more.calls);
+    }
+submit_offers opened k (Some end) place a own h = h
+
+-- ---- Its marks
+
+abbrev pub OffersAfter : LinkParameters → ℕ → List Mark → Mark → Type 0
+OffersAfter opened link before mark = Offers opened (end_state_after (client_rules opened) (client opened link before) (events_at link Initiator before mark)).state
+
+none_offers : (opened : LinkParameters) (link : ℕ) (before : List Mark) (mark : Mark) → Offers opened (client opened link before).state → SubmitNothing (events_at link Initiator before mark) → OffersAfter opened link before mark
+none_offers opened link before mark h none = all_offer opened (client opened link before) (events_at link Initiator before mark) none h
+
+mark_offers : (opened : LinkParameters) (link : ℕ) (before : List Mark) (mark : Mark) → Offers opened (client opened link before).state → AskedMark IsPrefixOf opened link before mark → OffersAfter opened link before mark
+mark_offers opened link before (marks.Submit l call form (submissions.Accepted xid)) h asked = by (eqb l link) refl
+  where
+    a : AcceptedCall
+    a = record { xid = xid; call = call; form = form }
+
+    place : ℕ
+    place = length (bytes_received link Initiator before)
+
+    by : (b : Bool) → eqb l link ≡ b → Offers opened (end_state_after (client_rules opened) (client opened link before) (if_own (b && true) (CallSubmitted place a ∷ []))).state
+    by false is = h
+    by true is = submit_offers opened (client opened link before).state (client opened link before).ended place a (asked (eqb-true l link is)).next h
+mark_offers opened link before (marks.Submit l call form (submissions.Refused why)) h asked = h
+mark_offers opened link before (marks.Submit l call form submissions.Dropped) h asked = h
+mark_offers opened link before (marks.Wrote l s bytes) h asked = none_offers opened link before (marks.Wrote l s bytes) h (none_if _ (QueueWritten (length bytes) ∷ []) (tt, tt))
+mark_offers opened link before (marks.Fed l s bytes) h asked =
+    none_offers opened link before (marks.Fed l s bytes) h (none_if _ (map FrameReceived (frames_completed Responder (bytes_received link Initiator before) bytes)) (none_in_frames _))
+mark_offers opened link before (marks.Execute l xid moment payload place reply) h asked =
+    none_offers opened link before (marks.Execute l xid moment payload place reply) h
+    (none_if _ (CallExecuted (record { xid = xid; moment = moment; payload = payload; place = place; reply = reply }) ∷ []) (tt, tt))
+mark_offers opened link before (marks.Done l xid outcome) h asked = h
+mark_offers opened link before (marks.Lost l xid) h asked = h
+mark_offers opened link before (marks.Forget l xid) h asked = h
+mark_offers opened link before (marks.Revoke l xid bytes) h asked =
+    none_offers opened link before (marks.Revoke l xid bytes) h (none_if _ (MemoryRevoked (length (bytes_received link Initiator before)) xid ∷ []) (tt, tt))
+mark_offers opened link before (marks.Drop l) h asked = h
+
+offers_from : (opened : LinkParameters) (link : ℕ) (before run : List Mark) → Offers opened (client opened link before).state → AtEachMark (AskedMark IsPrefixOf opened link) before run → Offers opened (client opened link (before ++ run)).state
+offers_from opened link before [] h asked = subst (λ (r : List Mark). Offers opened (client opened link r).state) (sym (append-nil before)) h
+offers_from opened link before (mark ∷ run) h asked =
+    subst (λ (r : List Mark). Offers opened (client opened link r).state) (append_assoc before (mark ∷ []) run)
+    (offers_from opened link (before ++ mark ∷ []) run
+    (subst (λ (e : EndState ClientState). Offers opened e.state) (sym (client_one opened link before mark)) (mark_offers opened link before mark h asked.0)) asked.1)
+
+-- after marks that keep the law of the client
+pub client_offers : (opened : LinkParameters) (link : ℕ) (run : List Mark) → AskedSoFar opened link run → Offers opened (client opened link run).state
+unfolding client events
+client_offers opened link run asked = offers_from opened link [] run (record { before = tt; calls = tt }) asked
