@@ -1,3 +1,4 @@
+use Rattle.nr_link.specs.Limits.{send_max}
 use Rattle.std.proofs.Common.{ℕ, List, length, sym, ap, subst, ◌∙◌, arith}
 use Rattle.nr_header.specs.Header.{ChunksFit}
 use Rattle.nr_reduce.proofs.Sizes.{message_size}
@@ -18,7 +19,7 @@ offered_of-requires c = record { few = few (call_plan c.args.plan) (plan_fits (c
 pub offer-requires-clause-size : goal.offer-requires-clause-size
 offer-requires-clause-size c =
     let p = c.requires.planned in
-    let size = (message_size p.payload p.form 1024 1024 c.args.xid c.args.credit c.args.endpoint.now.link.state.memory.next (call_plan c.args.plan) p.is).1 in
+    let size = (message_size p.payload p.form send_max send_max c.args.xid c.args.credit c.args.endpoint.now.link.state.memory.next (call_plan c.args.plan) p.is).1 in
     let len = ap (λ (xs : List ℕ). length xs) (c.as_slice.ensures ∙ message_by c.args.xid c.args.credit c.args.endpoint.now.link.state.memory.next (call_plan c.args.plan) c.args.lists.now c.in_ok-message.message c.in_ok-message.ensures c.requires.lists) in
     omega (arith, size, len)
 
