@@ -1,5 +1,8 @@
-//! The numbers of the reasons for which a link ends, beyond those of a frame alone (`nr_wire`), and the words of a Terminate. All are
-//! this implementation's own.
+//! The maximum length of a Send, the numbers of the reasons for which a link ends, beyond those of a frame alone (`nr_wire`), and the
+//! words of a Terminate. All are this implementation's own.
+
+/// The maximum length of a Send in bytes, in each direction.
+pub const SEND_MAX: u32 = 1024;
 
 /// A message number isn't the next of its queue (RFC 5041 section 4.3).
 pub const REASON_MSN: u32 = 11;
