@@ -5,7 +5,7 @@ ghost use Rattle.std.specs.Prelude.{false, ◌≡◌, ◌≢◌, ℕ, ◌+◌, �
 ghost use Rattle.std.specs.Io.KnownBytes.{Appends};
 ghost use Rattle.nr_outside.specs.Faults.{Rises};
 ghost use Rattle.std.specs.FinMap.{get, insert, remove};
-ghost use Rattle.nr_regions.specs.RegisteredMemory.{Claim, IsHeld, buffer_around, bytes_in, bytes_held, claim_of, held_region, nothing_outside, outside_window, window_bytes};
+ghost use Rattle.nr_regions.specs.RegisteredMemory.{Claim, IsHeld, buffer_around, bytes_in, bytes_held, claim_of, held_region, nothing_outside, outside_held, outside_window, window_bytes};
 ghost use Rattle.nr_link.specs.declared.end.End.{End};
 ghost use Rattle.nr_link.specs.declared.end.End.TheVariants as ends;
 ghost use Rattle.nr_link.specs.Limits.{send_max, open_reads_max};
@@ -283,6 +283,8 @@ impl Endpoint {
     pub fn release_buffer(&mut self, registration: Registration) -> Octets
         requires { IsHeld self.old.link.state.memory registration }
         ensures bytes { result ≡ buffer_around (get self.old.outside registration.stag) (bytes_in (held_region self.old.link.state.memory registration.stag)) }
+        // The bytes outside of each region that is held are there, perhaps none.
+        ensures around { is_some (get self.old.outside registration.stag) ≡ true }
         ensures len { length (bytes_in (held_region self.old.link.state.memory registration.stag)) ≡ registration.len }
         ensures state { self.new.link ≡ after_call self.old.link (Release registration.stag) }
         ensures stands { StandsOn self.old.link (Release registration.stag) self.new.link }
@@ -342,12 +344,12 @@ impl Endpoint {
         self.link.end()
     }
 
-    /// How many bytes all byte buffers have that are kept: the staging buffer, the receives that are not lent, the regions, and the output.
-    /// The bytes of a buffer outside its region aren't counted.
+    /// How many bytes all byte buffers have that are kept: the staging buffer, the receives that are not lent, the complete buffers of the
+    /// regions, and the output.
     pub fn held(&self) -> u128
         ensures is { result ≡ bytes_kept self.now }
         ensures bound { result ≤ FPDU_MAX + send_max * self.now.link.state.receive_queue.receives + bytes_held self.now.link.state.memory
-            + length self.now.link.state.send_queue.hello + length self.now.link.state.send_queue.fpdus }
+            + outside_held self.now.outside + length self.now.link.state.send_queue.hello + length self.now.link.state.send_queue.fpdus }
     {
         self.staging.len() as u128 + self.link.held()
     }

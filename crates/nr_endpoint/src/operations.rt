@@ -5,7 +5,7 @@ ghost use Rattle.std.specs.Prelude.{false, true, Some, ◌≡◌, ◌≢◌, ◌
 ghost use Rattle.std.specs.Io.KnownBytes.{Appends};
 ghost use Rattle.nr_outside.specs.Faults.{Rises};
 ghost use Rattle.std.specs.FinMap.{get, insert, remove};
-ghost use Rattle.nr_regions.specs.RegisteredMemory.{IsHeld, after_register, after_release, buffer_around, bytes_held, bytes_in, claim_of, held_region, nothing_outside, outside_window, window_bytes};
+ghost use Rattle.nr_regions.specs.RegisteredMemory.{IsHeld, after_register, after_release, buffer_around, bytes_held, bytes_in, claim_of, held_region, nothing_outside, outside_held, outside_window, window_bytes};
 ghost use Rattle.nr_link.specs.Limits.{send_max, open_reads_max};
 ghost use Rattle.nr_link.specs.declared.end.End.TheVariants as ends;
 ghost use Rattle.nr_endpoint.specs.declared.fault.ReadRefused.TheVariants as refusals;
@@ -94,6 +94,8 @@ impl LinkSide {
         self.send_queue.send(message)
     }
 
+    /// Queues the Send of a message in two parts (RFC 5040 section 4). If the side has ended, it queues nothing. An `Err` changes
+    /// nothing.
     pub fn send_parts(&mut self, front: &[u8], stream: &[u8]) -> Result<(), Memory>
         requires { length front.now + length stream.now < 2 ^ 32 }
         ensures ok { OnOk result (self.new.state ≡ unless_ended self.old.state (record self.old.state { send_queue = with_send (front.now ++ stream.now) self.old.state.send_queue })) }
@@ -251,6 +253,7 @@ impl LinkSide {
     pub fn release_buffer(&mut self, registration: Registration) -> Octets
         requires { IsHeld self.old.state.memory registration }
         ensures bytes { result ≡ buffer_around (get self.old.outside registration.stag) (bytes_in (held_region self.old.state.memory registration.stag)) }
+        ensures around { is_some (get self.old.outside registration.stag) ≡ true }
         ensures len { length (bytes_in (held_region self.old.state.memory registration.stag)) ≡ registration.len }
         ensures state { self.new.state ≡ record self.old.state { memory = after_release self.old.state.memory registration.stag } }
         ensures room { self.old.room ≤ self.new.room }
@@ -269,13 +272,14 @@ impl LinkSide {
         receive_length * self.receive_queue.buffers() as u128
     }
 
-    /// How many bytes the vectors of a side have.
+    /// How many bytes the receives that are not lent, the buffers of the regions and the output have.
     pub fn held(&self) -> u128
-        ensures is { result ≡ bytes_of self.now.state }
-        ensures bound { result ≤ send_max * self.now.state.receive_queue.receives + bytes_held self.now.state.memory
+        ensures is { result ≡ bytes_of self.now.state + outside_held self.now.outside }
+        ensures bound { result ≤ send_max * self.now.state.receive_queue.receives + bytes_held self.now.state.memory + outside_held self.now.outside
             + length self.now.state.send_queue.hello + length self.now.state.send_queue.fpdus }
         ensures most { result ≤ 2 ^ 127 }
     {
-        self.receives_held() + self.regions.bytes_held() + self.send_queue.len() as u128
+        let outside = self.regions.outside_held();
+        self.receives_held() + self.regions.bytes_held() + self.send_queue.len() as u128 + outside
     }
 }

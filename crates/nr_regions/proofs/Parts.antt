@@ -1,11 +1,11 @@
 -- A buffer in three parts: before a region, the region, and after it.
-use Rattle.std.proofs.Common.{◌≡◌, ℕ, ◌+◌, ◌-◌, ◌≤◌, List, [], ◌++◌, length, take, drop, Option, Some, Result, Ok, Err, IfOk, refl, sym, ap, subst, ◌∙◌, arith}
-use Rattle.std.proofs.lemmas.List.{length-append, length-take-le, length-drop, take-append-drop, take-append-le, drop-append-le, drop-drop, take_at, drop_at, take_all, drop_all, append_assoc}
+use Rattle.std.proofs.Common.{◌≡◌, ℕ, ◌+◌, ◌-◌, ◌≤◌, List, [], ◌++◌, length, take, drop, Some, Result, IfOk, sym, ap, subst, ◌∙◌, arith}
+use Rattle.std.proofs.lemmas.List.{length-take-le, length-drop, take-append-drop, take-append-le, drop-append-le, drop-drop, take_at, drop_at, take_all, drop_all, append_assoc}
 use Rattle.std.specs.List.{copy_within}
 use Rattle.std.proofs.Math.Seq.{paste, take-append-add, drop-append-add}
 use Rattle.std.proofs.lemmas.List.Edits.{take-paste}
-use Rattle.nr_regions.specs.RegisteredMemory.{RegisteredMemory, Claim, Outside, after_register, claim_of, buffer_around, bytes_after_write, nothing_outside, outside_window, window_bytes}
-use Rattle.nr_regions.specs.Windows.{BufferParts, window_in}
+use Rattle.nr_regions.specs.RegisteredMemory.{RegisteredMemory, Claim, after_register, claim_of, buffer_around, bytes_after_write, nothing_outside, outside_len, outside_window, window_bytes}
+use Rattle.nr_regions.specs.Windows.{window_in}
 use Rattle.nr_regions.specs.declared.right.Right.{Right}
 use Rattle.nr_regions.proofs.Holding.{length_bytes_after_write}
 
@@ -18,6 +18,9 @@ buffer_again start len buf =
 
 pub length_window : (start len : ℕ) (buf : List ℕ) → start + len ≤ length buf → length (window_bytes start len buf) ≡ len
 length_window start len buf le = length-take-le len (drop start buf) (omega (arith, length-drop start buf))
+
+pub length_outside : (start len : ℕ) (buf : List ℕ) → start + len ≤ length buf → outside_len (outside_window start len buf) ≡ length buf - len
+length_outside start len buf le = omega (arith, length-take-le start buf (omega arith), length-drop (start + len) buf)
 
 -- the region's bytes, moved to the front
 pub window_moved : (start len : ℕ) (buf : List ℕ) → start + len ≤ length buf → take len (copy_within buf start (start + len) 0) ≡ window_bytes start len buf

@@ -10,141 +10,136 @@ use Rattle.std.specs.Ordering.{nat_cmp, is_eq}
 use Rattle.std.specs.Cmp.{nat_cmp_total}
 use Rattle.std.specs.FinMap.{FinMap, empty, entries, find, put, get, insert, remove, same_map, nat_cmp-IsAntisymmetric, entries-insert, get-entries, get-empty, len-empty, len-entries}
 use Rattle.std.specs.FinMap.Entries.{by_order}
-use Rattle.nr_regions.specs.RegisteredMemory.{Region, Outside, RegionTable, RegisteredMemory, Claim, IsHeld, after_place, after_place_in, bytes_after_write, bytes_held, held_region, live_region}
+use Rattle.nr_regions.specs.RegisteredMemory.{Region, Outside, RegionTable, RegisteredMemory, Claim, IsHeld, after_place, after_place_in, bytes_after_write, held_region, live_region}
 use Rattle.nr_regions.specs.declared.denied.Denied.{Denied}
-use Rattle.nr_regions.specs.Table.{IsSound}
+use Rattle.nr_regions.specs.Table.{IsSound, region_len}
 use Rattle.nr_regions.proofs.Holding.{get_insert_here, get_insert_other, get_remove_here, get_remove_other, length_bytes_after_write}
 
-abbrev size : Region → ℕ
-size region = length region.buf
+module _ {X : Type 0} (size : X → ℕ) where
+  abbrev sum_of : List (ℕ × X) → ℕ
+  sum_of es = sum_by size (map (λ e. e.1) es)
 
-abbrev sum_of : List (ℕ × Region) → ℕ
-sum_of es = sum_by size (map (λ e. e.1) es)
+  abbrev total : FinMap nat_cmp X → ℕ
+  total m = sum_of (entries m)
 
-abbrev total : FinMap nat_cmp Region → ℕ
-total m = sum_of (entries m)
+  sum_cons : (e : ℕ × X) (es : List (ℕ × X)) → sum_of (e ∷ es) ≡ size e.1 + sum_of es
+  sum_cons e es = sum_by-cons size e.1 (map (λ e. e.1) es)
 
-sum_cons : (e : ℕ × Region) (es : List (ℕ × Region)) → sum_of (e ∷ es) ≡ size e.1 + sum_of es
-sum_cons e es = sum_by-cons size e.1 (map (λ e. e.1) es)
+  abbrev some : X → Option X
+  some x = Some x
 
-abbrev some : Region → Option Region
-some region = Some region
+  -- a new key adds its size
+  put_by : (k : ℕ) (v : X) (e : ℕ × X) (es : List (ℕ × X)) (o : Ordering) → cond (is_eq o) (Some e.1) (find nat_cmp k es) ≡ None
+      → (find nat_cmp k es ≡ None → sum_of (put nat_cmp k v es) ≡ size v + sum_of es)
+      → sum_of (by_order o ((k, v) ∷ e ∷ es) ((e.0, v) ∷ es) (e ∷ put nat_cmp k v es)) ≡ size v + sum_of (e ∷ es)
+  put_by k v e es Less none more = sum_cons (k, v) (e ∷ es)
+  put_by k v e es Equal none more = absurd (let wrong : some e.1 ≡ None = none in cc)
+  put_by k v e es Greater none more = omega (arith, sum_cons e (put nat_cmp k v es), sum_cons e es, more none)
 
--- a new key adds its region's length
-put_by : (k : ℕ) (v : Region) (e : ℕ × Region) (es : List (ℕ × Region)) (o : Ordering) → cond (is_eq o) (Some e.1) (find nat_cmp k es) ≡ None
-    → (find nat_cmp k es ≡ None → sum_of (put nat_cmp k v es) ≡ size v + sum_of es)
-    → sum_of (by_order o ((k, v) ∷ e ∷ es) ((e.0, v) ∷ es) (e ∷ put nat_cmp k v es)) ≡ size v + sum_of (e ∷ es)
-put_by k v e es Less none more = sum_cons (k, v) (e ∷ es)
-put_by k v e es Equal none more = absurd (let wrong : some e.1 ≡ None = none in cc)
-put_by k v e es Greater none more = omega (arith, sum_cons e (put nat_cmp k v es), sum_cons e es, more none)
+  sum_put : (k : ℕ) (v : X) (es : List (ℕ × X)) → find nat_cmp k es ≡ None → sum_of (put nat_cmp k v es) ≡ size v + sum_of es
+  sum_put k v [] none = sum_cons (k, v) []
+  sum_put k v (e ∷ es) none = put_by k v e es (nat_cmp k e.0) none (sum_put k v es)
 
-sum_put : (k : ℕ) (v : Region) (es : List (ℕ × Region)) → find nat_cmp k es ≡ None → sum_of (put nat_cmp k v es) ≡ size v + sum_of es
-sum_put k v [] none = sum_cons (k, v) []
-sum_put k v (e ∷ es) none = put_by k v e es (nat_cmp k e.0) none (sum_put k v es)
+  total_insert : (m : FinMap nat_cmp X) (k : ℕ) (v : X) → get m k ≡ None → total (insert m k v) ≡ size v + total m
+  total_insert m k v none = ap sum_of (entries-insert nat_cmp_total m k v) ∙ sum_put k v (entries m) (sym (get-entries m k) ∙ none)
 
-total_insert : (m : FinMap nat_cmp Region) (k : ℕ) (v : Region) → get m k ≡ None → total (insert m k v) ≡ size v + total m
-total_insert m k v none = ap sum_of (entries-insert nat_cmp_total m k v) ∙ sum_put k v (entries m) (sym (get-entries m k) ∙ none)
+  -- what is taken out, put back
+  again : (m : FinMap nat_cmp X) (k : ℕ) (w : X) (q : ℕ) → get (insert (remove m k) k w) q ≡ get (insert m k w) q
+  again m k w q =
+      elim (cases_eq q k) [
+        | inl e ↦ rw e (get_insert_here (remove m k) k w ∙ sym (get_insert_here m k w))
+        | inr ne ↦ get_insert_other (remove m k) k w q ne ∙ get_remove_other m k q ne ∙ sym (get_insert_other m k w q ne)
+      ]
 
--- the region that is taken out, put back
-again : (m : FinMap nat_cmp Region) (k : ℕ) (w : Region) (q : ℕ) → get (insert (remove m k) k w) q ≡ get (insert m k w) q
-again m k w q =
-    elim (cases_eq q k) [
-      | inl e ↦ rw e (get_insert_here (remove m k) k w ∙ sym (get_insert_here m k w))
-      | inr ne ↦ get_insert_other (remove m k) k w q ne ∙ get_remove_other m k q ne ∙ sym (get_insert_other m k w q ne)
-    ]
+  as_before : (m : FinMap nat_cmp X) (k : ℕ) (v : X) (q : ℕ) → get m k ≡ Some v → get (insert m k v) q ≡ get m q
+  as_before m k v q there =
+      elim (cases_eq q k) [
+        | inl e ↦ rw e (get_insert_here m k v ∙ sym there)
+        | inr ne ↦ get_insert_other m k v q ne
+      ]
 
-as_before : (m : FinMap nat_cmp Region) (k : ℕ) (v : Region) (q : ℕ) → get m k ≡ Some v → get (insert m k v) q ≡ get m q
-as_before m k v q there =
-    elim (cases_eq q k) [
-      | inl e ↦ rw e (get_insert_here m k v ∙ sym there)
-      | inr ne ↦ get_insert_other m k v q ne
-    ]
+  total_change : (m : FinMap nat_cmp X) (k : ℕ) (w : X) → total (insert m k w) ≡ size w + total (remove m k)
+  total_change m k w =
+      ap total (sym (same_map nat_cmp_total nat_cmp-IsAntisymmetric (insert (remove m k) k w) (insert m k w) (again m k w)))
+      ∙ total_insert (remove m k) k w (get_remove_here m k)
 
-total_change : (m : FinMap nat_cmp Region) (k : ℕ) (w : Region) → total (insert m k w) ≡ size w + total (remove m k)
-total_change m k w =
-    ap total (sym (same_map nat_cmp_total nat_cmp-IsAntisymmetric (insert (remove m k) k w) (insert m k w) (again m k w)))
-    ∙ total_insert (remove m k) k w (get_remove_here m k)
+  total_remove : (m : FinMap nat_cmp X) (k : ℕ) (v : X) → get m k ≡ Some v → total m ≡ size v + total (remove m k)
+  total_remove m k v there =
+      ap total (sym (same_map nat_cmp_total nat_cmp-IsAntisymmetric (insert m k v) m (λ q. as_before m k v q there)))
+      ∙ total_change m k v
 
-total_remove : (m : FinMap nat_cmp Region) (k : ℕ) (v : Region) → get m k ≡ Some v → total m ≡ size v + total (remove m k)
-total_remove m k v there =
-    ap total (sym (same_map nat_cmp_total nat_cmp-IsAntisymmetric (insert m k v) m (λ q. as_before m k v q there)))
-    ∙ total_change m k v
+  total_empty : total empty ≡ 0
+  total_empty =
+      let nothing : FinMap nat_cmp X = empty in
+      ap sum_of (nil_from_length (entries nothing) (sym (len-entries nothing) ∙ len-empty nat_cmp X))
 
-total_empty : total empty ≡ 0
-total_empty = ap sum_of (nil_from_length (entries empty) (sym (len-entries empty) ∙ len-empty nat_cmp Region))
+  -- ---- The fields
 
--- ---- The fields
+  not_there : (o : Option X) → is_some o ≡ false → o ≡ None
+  not_there None e = refl
+  not_there (Some x) e = absurd (let wrong : true ≡ false = e in cc)
 
-not_there : (o : Option Region) → is_some o ≡ false → o ≡ None
-not_there None e = refl
-not_there (Some region) e = absurd (let wrong : true ≡ false = e in cc)
+  there_is : (o : Option X) (x : X) → o ≡ Some x → is_some o ≡ false → ⊥
+  there_is o x e f = let wrong : true ≡ false = ap is_some (sym e) ∙ f in absurd cc
 
-there_is : (o : Option Region) (region : Region) → o ≡ Some region → is_some o ≡ false → ⊥
-there_is o region e f = let wrong : true ≡ false = ap is_some (sym e) ∙ f in absurd cc
+  pub sound_initial : (first : ℕ) → first ≤ 2 ^ 32 → IsSound size first 0 empty
+  sound_initial first fits = record {
+    next_fits = fits;
+    not_given = λ stag le. ap is_some (get-empty nat_cmp stag);
+    bytes_are = sym total_empty;
+    bytes_fit = omega arith;
+  }
 
-pub sound_initial : (first : ℕ) → first ≤ 2 ^ 32 → IsSound first 0 empty
-unfolding bytes_held
-sound_initial first fits = record {
-  next_fits = fits;
-  not_given = λ stag le. ap is_some (get-empty nat_cmp stag);
-  bytes_are = sym total_empty;
-  bytes_fit = omega arith;
-}
+  pub sound_register : (next bytes : ℕ) (held : FinMap nat_cmp X) (x : X) → IsSound size next bytes held → next < 2 ^ 32 → size x < 2 ^ 64
+      → IsSound size (next + 1) (bytes + size x) (insert held next x)
+  sound_register next bytes held x s lt small =
+      let none = not_there (get held next) (s.not_given next (omega arith)) in record {
+        next_fits = omega arith;
+        not_given = λ stag le. ap is_some (get_insert_other held next x stag (λ e. omega arith)) ∙ s.not_given stag (omega arith);
+        bytes_are = omega (arith, s.bytes_are, total_insert held next x none);
+        bytes_fit = omega (arith, s.bytes_fit);
+      }
 
-pub sound_register : (next bytes : ℕ) (held : FinMap nat_cmp Region) (region : Region) → IsSound next bytes held → next < 2 ^ 32 → length region.buf < 2 ^ 64
-    → IsSound (next + 1) (bytes + length region.buf) (insert held next region)
-unfolding bytes_held
-sound_register next bytes held region s lt small =
-    let none = not_there (get held next) (s.not_given next (omega arith)) in record {
-      next_fits = omega arith;
-      not_given = λ stag le. ap is_some (get_insert_other held next region stag (λ e. omega arith)) ∙ s.not_given stag (omega arith);
-      bytes_are = omega (arith, s.bytes_are, total_insert held next region none);
-      bytes_fit = omega (arith, s.bytes_fit);
-    }
+  -- its size is among the bytes
+  pub sound_counts : (next bytes : ℕ) (held : FinMap nat_cmp X) (stag : ℕ) (x : X) → IsSound size next bytes held → get held stag ≡ Some x → size x ≤ bytes
+  sound_counts next bytes held stag x s there = omega (arith, s.bytes_are, total_remove held stag x there)
 
--- the region's length is among the bytes
-pub sound_counts : (next bytes : ℕ) (held : FinMap nat_cmp Region) (stag : ℕ) (region : Region) → IsSound next bytes held → get held stag ≡ Some region → length region.buf ≤ bytes
-unfolding bytes_held
-sound_counts next bytes held stag region s there = omega (arith, s.bytes_are, total_remove held stag region there)
+  pub sound_release : (next bytes : ℕ) (held : FinMap nat_cmp X) (stag : ℕ) (x : X) → IsSound size next bytes held → get held stag ≡ Some x
+      → IsSound size next (bytes - size x) (remove held stag)
+  sound_release next bytes held stag x s there = record {
+    next_fits = s.next_fits;
+    not_given = λ q le. ap is_some (get_remove_other held stag q (λ e. there_is (get held stag) x there (s.not_given stag (omega arith)))) ∙ s.not_given q le;
+    bytes_are = omega (arith, s.bytes_are, total_remove held stag x there);
+    bytes_fit = omega (arith, s.bytes_fit);
+  }
 
-pub sound_release : (next bytes : ℕ) (held : FinMap nat_cmp Region) (stag : ℕ) (region : Region) → IsSound next bytes held → get held stag ≡ Some region
-    → IsSound next (bytes - length region.buf) (remove held stag)
-unfolding bytes_held
-sound_release next bytes held stag region s there = record {
-  next_fits = s.next_fits;
-  not_given = λ q le. ap is_some (get_remove_other held stag q (λ e. there_is (get held stag) region there (s.not_given stag (omega arith)))) ∙ s.not_given q le;
-  bytes_are = omega (arith, s.bytes_are, total_remove held stag region there);
-  bytes_fit = omega (arith, s.bytes_fit);
-}
-
-pub sound_place : (next bytes : ℕ) (held : FinMap nat_cmp Region) (stag : ℕ) (region after : Region) → IsSound next bytes held → get held stag ≡ Some region
-    → length after.buf ≡ length region.buf → IsSound next bytes (insert held stag after)
-unfolding bytes_held
-sound_place next bytes held stag region after s there len = record {
-  next_fits = s.next_fits;
-  not_given = λ q le. ap is_some (get_insert_other held stag after q (λ e. there_is (get held stag) region there (s.not_given stag (omega arith)))) ∙ s.not_given q le;
-  bytes_are = omega (arith, s.bytes_are, total_remove held stag region there, total_change held stag after);
-  bytes_fit = s.bytes_fit;
-}
+  pub sound_change : (next bytes : ℕ) (held : FinMap nat_cmp X) (stag : ℕ) (x after : X) → IsSound size next bytes held → get held stag ≡ Some x
+      → size after ≡ size x → IsSound size next bytes (insert held stag after)
+  sound_change next bytes held stag x after s there len = record {
+    next_fits = s.next_fits;
+    not_given = λ q le. ap is_some (get_insert_other held stag after q (λ e. there_is (get held stag) x there (s.not_given stag (omega arith)))) ∙ s.not_given q le;
+    bytes_are = omega (arith, s.bytes_are, total_remove held stag x there, total_change held stag after);
+    bytes_fit = s.bytes_fit;
+  }
 
 -- the map after an access, by what was found under its STag
 abbrev Placed : Result Unit Denied → (held after : FinMap nat_cmp Region) → (stag to : ℕ) → List ℕ → Type 0
 Placed r held after stag to payload =
     OnOk r (IfSome (get held stag) (λ region. after ≡ insert held stag (record { right = region.right; buf = bytes_after_write region.buf to payload })))
 
-pub sound_placed : (r : Result Unit Denied) (next bytes : ℕ) (held after : FinMap nat_cmp Region) (stag to : ℕ) (payload : List ℕ) → IsSound next bytes held
+pub sound_placed : (r : Result Unit Denied) (next bytes : ℕ) (held after : FinMap nat_cmp Region) (stag to : ℕ) (payload : List ℕ) → IsSound region_len next bytes held
     → OnOk r (is_some (get held stag) ≡ true) → OnOk r (IfSome (get held stag) (λ region. to + length payload ≤ length region.buf))
-    → Placed r held after stag to payload → OnErr r (after ≡ held) → IsSound next bytes after
-sound_placed (Err denied) next bytes held after stag to payload s found le is err = subst (λ (m : FinMap nat_cmp Region). IsSound next bytes m) (sym err) s
+    → Placed r held after stag to payload → OnErr r (after ≡ held) → IsSound region_len next bytes after
+sound_placed (Err denied) next bytes held after stag to payload s found le is err = subst (λ (m : FinMap nat_cmp Region). IsSound region_len next bytes m) (sym err) s
 sound_placed (Ok _) next bytes held after stag to payload s found le is err = by (get held stag) refl found le is
   where
     by : (o : Option Region) → get held stag ≡ o → is_some o ≡ true → IfSome o (λ region. to + length payload ≤ length region.buf)
-        → IfSome o (λ region. after ≡ insert held stag (record { right = region.right; buf = bytes_after_write region.buf to payload })) → IsSound next bytes after
+        → IfSome o (λ region. after ≡ insert held stag (record { right = region.right; buf = bytes_after_write region.buf to payload })) → IsSound region_len next bytes after
     by None e f l i = absurd cc
     by (Some region) e f l i =
         let w : Region = record { right = region.right; buf = bytes_after_write region.buf to payload } in
-        subst (λ (m : FinMap nat_cmp Region). IsSound next bytes m) (sym i)
-        (sound_place next bytes held stag region w s e (length_bytes_after_write region.buf to payload l))
+        subst (λ (m : FinMap nat_cmp Region). IsSound region_len next bytes m) (sym i)
+        (sound_change region_len next bytes held stag region w s e (length_bytes_after_write region.buf to payload l))
 
 pub placed_memory : (r : Result Unit Denied) (next : ℕ) (held after : FinMap nat_cmp Region) (stag to : ℕ) (payload : List ℕ)
     → OnOk r (is_some (get held stag) ≡ true) → Placed r held after stag to payload

@@ -152,3 +152,10 @@ buffer_around (Some outside) bytes = outside.front ++ (bytes ++ outside.rest)
 -- the bytes outside a registration's region, where it is held
 abbrev pub outside_at : RegionTable → ℕ → Option Outside
 outside_at t stag = get t.outside stag
+
+-- how many bytes are outside a region, and outside all regions that are held
+abbrev pub outside_len : Outside → ℕ
+outside_len outside = length outside.front + length outside.rest
+
+unfoldable pub outside_held : FinMap nat_cmp Outside → ℕ
+outside_held outside = sum_by outside_len (values outside)

@@ -1,14 +1,18 @@
 -- The hash map of the code as finite maps, and what the fields of `Regions` keep.
-use Rattle.std.specs.Prelude.{◌≡◌, ℕ, ◌*◌, ◌^◌, ◌≤◌, false, List, map}
+use Rattle.std.specs.Prelude.{◌≡◌, ℕ, ◌*◌, ◌^◌, ◌≤◌, false, List, map, length}
 use Rattle.std.specs.Ordering.{nat_cmp}
 use Rattle.std.specs.HashMap.{HashMap}
-use Rattle.std.specs.FinMap.{FinMap, from_entries, contains_key}
+use Rattle.std.specs.List.{sum_by}
+use Rattle.std.specs.FinMap.{FinMap, from_entries, contains_key, values}
 use Rattle.nr_regions.specs.declared.held.HeldBuffer.{HeldBuffer}
-use Rattle.nr_regions.specs.RegisteredMemory.{Region, Outside, bytes_held}
+use Rattle.nr_regions.specs.RegisteredMemory.{Region, Outside, outside_len}
 
 -- the region of a buffer that is held
 abbrev pub region_of : HeldBuffer → Region
 region_of held = record { right = held.right; buf = held.window.bytes }
+
+abbrev pub region_len : Region → ℕ
+region_len region = length region.buf
 
 -- the bytes of a buffer that is held, outside its region
 abbrev pub outside_of : HeldBuffer → Outside
@@ -28,9 +32,13 @@ table m = mapped region_of m
 abbrev pub outsides : {S : Type 0} → HashMap ℕ HeldBuffer S → FinMap nat_cmp Outside
 outsides m = mapped outside_of m
 
--- An STag that wasn't given has no region, and `bytes` is the sum of the lengths held.
-pub record IsSound (next bytes : ℕ) (held : FinMap nat_cmp Region) : Type 0 where
+-- An STag that wasn't given has nothing in the map, and `bytes` is the sum of the sizes there.
+pub record IsSound {X : Type 0} (size : X → ℕ) (next bytes : ℕ) (held : FinMap nat_cmp X) : Type 0 where
   pub next_fits : next ≤ 2 ^ 32
   pub not_given : (stag : ℕ) → next ≤ stag → contains_key held stag ≡ false
-  pub bytes_are : bytes ≡ bytes_held (record { next = next; held = held })
+  pub bytes_are : bytes ≡ sum_by size (values held)
   pub bytes_fit : bytes ≤ next * 2 ^ 64
+
+-- Both sums are right: that of the regions, and that of the bytes outside of them.
+abbrev pub AreSound : {S : Type 0} → (next bytes bytes_outside : ℕ) → HashMap ℕ HeldBuffer S → Type 0
+AreSound next bytes bytes_outside m = IsSound region_len next bytes (table m) × IsSound outside_len next bytes_outside (outsides m)

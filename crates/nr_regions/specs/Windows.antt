@@ -1,5 +1,5 @@
 -- A buffer and the part of it that is a region.
-use Rattle.std.specs.Prelude.{◌≡◌, ℕ, List, refl}
+use Rattle.std.specs.Prelude.{ℕ, List, refl}
 use Rattle.std.specs.Coded.{Coded, code_by, coded×, coded_ℕ, coded_list}
 use Rattle.nr_regions.specs.RegisteredMemory.{Outside, outside_window, window_bytes}
 

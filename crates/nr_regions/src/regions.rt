@@ -1,9 +1,9 @@
 //! All regions of a connection's end.
 
-ghost use Rattle.std.specs.Prelude.{◌≡◌, ◌+◌, ◌^◌, ◌<◌, ◌≤◌, ◌↔◌, length, IsOk, IfOk, IfErr, OnOk, OnErr, IsErrAnd, ◌≢◌};
+ghost use Rattle.std.specs.Prelude.{◌≡◌, ◌+◌, ◌^◌, ◌<◌, ◌≤◌, ◌↔◌, length, is_some, true, IsOk, IfOk, IfErr, OnOk, OnErr, IsErrAnd, ◌≢◌};
 ghost use Rattle.std.specs.FinMap.{empty, get, insert, remove};
 ghost use Rattle.std.specs.Result.{result_err};
-ghost use Rattle.nr_regions.specs.RegisteredMemory.{IsHeld, after_place, after_register, after_release, bytes_at, bytes_held, bytes_in, buffer_around, claim_of, denial, denial_in, held_region, initial_memory, nothing_outside, outside_at, outside_window, region_offer, right_for, stags_left, window_bytes, Claim};
+ghost use Rattle.nr_regions.specs.RegisteredMemory.{IsHeld, after_place, after_register, after_release, bytes_at, bytes_held, bytes_in, buffer_around, claim_of, denial, denial_in, held_region, initial_memory, nothing_outside, outside_at, outside_held, outside_window, region_offer, right_for, stags_left, window_bytes, Claim};
 ghost use Rattle.nr_regions.specs.Table.{table, outsides, region_of};
 
 use crate::denied::{Denied, Why};
@@ -29,6 +29,7 @@ use std::marker::Model;
 pub struct Regions {
     next: u64,
     bytes: u128,
+    bytes_outside: u128,
     held: HashMap<u32, HeldBuffer>,
 }
 
@@ -41,11 +42,11 @@ impl Model for Regions {
     ghost coded = { table_code };
 
     ghost use Rattle.std.specs.HashMap.{spare};
-    ghost use Rattle.nr_regions.specs.Table.{table, outsides, IsSound};
+    ghost use Rattle.nr_regions.specs.Table.{table, outsides, AreSound};
 
     ghost view = { λ r. record { memory = record { next = r.next; held = table r.held }; room = spare r.held; outside = outsides r.held } };
 
-    ghost invariant = { λ r. IsSound r.next r.bytes (table r.held) };
+    ghost invariant = { λ r. AreSound r.next r.bytes r.bytes_outside r.held };
 }
 
 /// The region that an access may reach, or why the access is denied.
@@ -90,6 +91,7 @@ impl Regions {
         Regions {
             next: u64::from(first_stag),
             bytes: 0,
+            bytes_outside: 0,
             held: no_regions(alloc),
         }
     }
@@ -110,6 +112,15 @@ impl Regions {
         ensures most { result ≤ 2 ^ 96 }
     {
         self.bytes
+    }
+
+    /// How many bytes the buffers of the regions that are held have outside their regions.
+    #[tactic(auto, unfolding(crate::specs::RegisteredMemory::outside_held))]
+    pub fn outside_held(&self) -> u128
+        ensures sum { result ≡ outside_held self.now.outside }
+        ensures most { result ≤ 2 ^ 96 }
+    {
+        self.bytes_outside
     }
 
     /// The present bytes of a region, whatever its right, for the owner of its registration. Takes no memory.
@@ -229,6 +240,7 @@ impl Regions {
         }
         let stag = self.next as u32;
         let len = window.len() as u64;
+        let outside = window.outside_len();
         match put(&mut self.held, stag, HeldBuffer { right, window }) {
             Err(e) => {
                 let (_, HeldBuffer { right: _, window }) = e.value;
@@ -237,6 +249,7 @@ impl Regions {
             Ok(()) => {
                 self.next += 1;
                 self.bytes += u128::from(len);
+                self.bytes_outside += outside as u128;
                 Ok(Registration::new(stag, len))
             }
         }
@@ -261,6 +274,8 @@ impl Regions {
     pub fn release_buffer(&mut self, registration: Registration) -> Octets
         requires { IsHeld self.old.memory registration }
         ensures bytes { result ≡ buffer_around (outside_at self.old registration.stag) (bytes_in (held_region self.old.memory registration.stag)) }
+        // Each region that is held has such bytes, perhaps none.
+        ensures around { is_some (outside_at self.old registration.stag) ≡ true }
         ensures len { length (bytes_in (held_region self.old.memory registration.stag)) ≡ registration.len }
         ensures dead { self.new.memory ≡ after_release self.old.memory registration.stag }
         ensures room { self.old.room ≤ self.new.room }
@@ -282,7 +297,10 @@ impl Regions {
     {
         self.bytes -= u128::from(registration.len());
         match take_out(&mut self.held, registration.stag()) {
-            Some(HeldBuffer { right: _, window }) => window,
+            Some(HeldBuffer { right: _, window }) => {
+                self.bytes_outside -= window.outside_len() as u128;
+                window
+            }
             None => unreachable!(),
         }
     }

@@ -1,7 +1,7 @@
 //! A buffer of which a part is offered.
 
 ghost use Rattle.std.specs.Prelude.{◌≡◌, ◌+◌, ◌≤◌, length, Some};
-ghost use Rattle.nr_regions.specs.RegisteredMemory.{buffer_around, bytes_after_write, window_bytes};
+ghost use Rattle.nr_regions.specs.RegisteredMemory.{buffer_around, bytes_after_write, outside_len, window_bytes};
 ghost use Rattle.nr_regions.specs.Windows.{window_in};
 
 use nr_xdr::Octets;
@@ -66,6 +66,14 @@ impl Window {
         ensures { result ≡ length self.now.bytes }
     {
         self.len
+    }
+
+    /// How many bytes of the buffer are not offered.
+    #[tactic(auto, using(crate::proofs::Parts::length_outside))]
+    pub fn outside_len(&self) -> usize
+        ensures { result ≡ outside_len self.now.outside }
+    {
+        self.buf.len() - self.len
     }
 
     /// Writes some bytes over those that are offered, from `at` on. Takes no memory.

@@ -1,4 +1,4 @@
-use Rattle.std.proofs.Common.{◌≡◌, ◌≤◌, ◌+◌, ◌∙◌, sym, ap, length, option_map, is_some, refl}
+use Rattle.std.proofs.Common.{◌≤◌, ◌+◌, ◌∙◌, sym, ap, length, option_map, is_some, refl}
 use Rattle.nr_regions.specs.declared.held.HeldBuffer.{HeldBuffer}
 use Rattle.nr_regions.specs.RegisteredMemory.{Access}
 use Rattle.nr_regions.specs.Table.{region_of, outside_of}
