@@ -145,10 +145,10 @@ room_for segment carrier last offset bytes i spare is lt room =
     let len = payload_len segment carrier last offset bytes i is in
     omega (arith, len, lt, room)
 
-pub room_after : (segment : Segment) (carrier : Operation) (last : Bool) (offset : ℕ) (bytes : List ℕ) (i spare after : ℕ) → segment ≡ operation_segment carrier last offset (segment_payload bytes i)
-    → length bytes + 27 * segment_count bytes ≤ spare + (27 * i + min (length bytes) (segment_max * i)) → spare ≤ after + (length (payload_in segment) + 27)
-    → length bytes + 27 * segment_count bytes ≤ after + (27 * (i + 1) + min (length bytes) (segment_max * (i + 1)))
-room_after segment carrier last offset bytes i spare after is room left =
+pub spare_after : (segment : Segment) (carrier : Operation) (last : Bool) (offset : ℕ) (bytes : List ℕ) (i before spare after : ℕ) → segment ≡ operation_segment carrier last offset (segment_payload bytes i)
+    → before ≤ spare + (27 * i + min (length bytes) (segment_max * i)) → spare ≤ after + (length (payload_in segment) + 27)
+    → before ≤ after + (27 * (i + 1) + min (length bytes) (segment_max * (i + 1)))
+spare_after segment carrier last offset bytes i before spare after is room left =
     let len = payload_len segment carrier last offset bytes i is in
     omega (arith, len, room, left)
 

@@ -311,3 +311,11 @@ responses_count all has_hello out items q is =
     ap (λ (xs : List ℕ). length xs) is.responses
     ∙ sym (left_counts is_response_item (length all) (length out) is.gone 0 items responses_some (ends_alike all has_hello out items q is))
     ∙ ap (λ (n : ℕ). items_left is_response_item n (length out) items) start
+
+pub waiting_count : (all : List ℕ) (has_hello : Bool) (out : List ℕ) (items : List OutputItem) (q : SendQueue) → QueueIs all has_hello out items q →
+    length q.send_ends ≡ items_left is_send_item (length all) (length out) items
+waiting_count all has_hello out items q is =
+    let start : length all + 0 ≡ length all = omega arith in
+    ap (λ (xs : List ℕ). length xs) is.sends
+    ∙ sym (left_counts is_send_item (length all) (length out) is.gone 0 items sends_some (ends_alike all has_hello out items q is))
+    ∙ ap (λ (n : ℕ). items_left is_send_item n (length out) items) start

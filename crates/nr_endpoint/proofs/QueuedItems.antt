@@ -29,9 +29,9 @@ use Rattle.nr_endpoint.specs.Judging.{segment_end, next_frame, with_frame, with_
 use Rattle.nr_endpoint.specs.Calls.{Call, IsStopReason, after_call, after_calls}
 use Rattle.nr_endpoint.specs.Calls.Call.{Feed, FeedOne, NextEvent, Post, Stop, OutOfMemory, Send, WriteRemote, ReadRemote, Drain, Register, Release}
 use Rattle.nr_endpoint.specs.Laws.{IsFrameReason, IsFrameEnd, frames_made_whole, bytes_drained, bytes_written}
-use Rattle.nr_endpoint.specs.OutputLaws.{response_items, segment_items, fpdu_items, hello_items, frame_items, items_of_frames, call_items, items_queued, rejection_by, hello_queued, own_output_hello, IsAllowedCall, AreAllowedCalls, OutputIsItems, SendsGoByItems, ResponsesGoByItems}
+use Rattle.nr_endpoint.specs.OutputLaws.{response_items, segment_items, fpdu_items, hello_items, frame_items, items_of_frames, call_items, items_queued, rejection_by, hello_queued, own_output_hello, IsAllowedCall, AreAllowedCalls, OutputIsItems, SendsGoByItems, SendsWaitByItems, ResponsesGoByItems}
 use Rattle.nr_endpoint.proofs.EndLaws.{segment_end_is, fpdu_reason}
-use Rattle.nr_endpoint.proofs.OutputItems.{QueueIs, HasItem, with_item, with_greeting, with_written, output_whole, sends_count, responses_count}
+use Rattle.nr_endpoint.proofs.OutputItems.{QueueIs, HasItem, with_item, with_greeting, with_written, output_whole, sends_count, responses_count, waiting_count}
 
 -- whether the peer's hello comes next
 abbrev pub awaits_hello : Awaited → Bool
@@ -407,5 +407,11 @@ sends_go_by_items side receives first_stag calls may =
 pub responses_go_by_items : ResponsesGoByItems
 responses_go_by_items side receives first_stag calls may =
     responses_count (own_output_hello (after_calls (initial_link side receives first_stag) calls).state) (after_calls (initial_link side receives first_stag) calls).state.has_hello
+    (bytes_written (initial_link side receives first_stag) calls) (items_queued (initial_link side receives first_stag) calls) (after_calls (initial_link side receives first_stag) calls).state.send_queue
+    (output_of side receives first_stag calls may).queue
+
+pub sends_wait_by_items : SendsWaitByItems
+sends_wait_by_items side receives first_stag calls may =
+    waiting_count (own_output_hello (after_calls (initial_link side receives first_stag) calls).state) (after_calls (initial_link side receives first_stag) calls).state.has_hello
     (bytes_written (initial_link side receives first_stag) calls) (items_queued (initial_link side receives first_stag) calls) (after_calls (initial_link side receives first_stag) calls).state.send_queue
     (output_of side receives first_stag calls may).queue

@@ -1,7 +1,7 @@
 -- Several calls at once: from the side's new state to the list of calls.
-use Rattle.std.proofs.Common.{◌≡◌, ℕ, ◌+◌, ◌<◌, ◌≤◌, Bool, true, false, cond, List, [], ◌∷◌, ◌++◌, length, drop, take, get_or, Option, None, Some, IfSome, Result, Ok, Err, refl, sym, ap, subst, ◌∙◌, arith, append_assoc, length-append}
+use Rattle.std.proofs.Common.{◌≡◌, ℕ, ◌+◌, ◌<◌, Bool, true, false, cond, List, [], ◌∷◌, ◌++◌, length, drop, get_or, Option, None, Some, IfSome, Result, Ok, Err, refl, sym, ap, subst, ◌∙◌, append_assoc}
 use Rattle.std.specs.Prelude.{IfOk, OnOk}
-use Rattle.std.proofs.lemmas.List.{append-nil, drop_more, take-append-le}
+use Rattle.std.proofs.lemmas.List.{append-nil, drop_more}
 use Rattle.nr_regions.specs.declared.right.Right.{Right}
 use Rattle.nr_regions.specs.declared.right.Right.TheVariants.{Fetch, Fill}
 use Rattle.nr_regions.specs.RegisteredMemory.{RegisteredMemory, Claim, IsHeld, after_register}
@@ -17,6 +17,7 @@ use Rattle.nr_endpoint.specs.LinkState.{LinkSide, LinkState, has_ended}
 use Rattle.std.specs.Ordering.{nat_cmp}
 use Rattle.std.specs.FinMap.{FinMap}
 use Rattle.nr_regions.specs.RegisteredMemory.{Outside}
+use Rattle.nr_endpoint.specs.Carriers.{cut_room, writes_room}
 use Rattle.nr_endpoint.specs.EndpointState.{EndpointState}
 use Rattle.nr_endpoint.specs.Calls.{Call, after_call, after_calls, with_state, unless_ended}
 use Rattle.nr_endpoint.specs.Calls.Call.{Send}
@@ -163,9 +164,7 @@ write_goes writes i d total now after lt so_far e =
     ∙ ap (λ (ws : List RemoteWrite). now ++ writes_output ws) (sym left)
     ∙ so_far
 
--- the bytes before stay in front
-pub front_stays : (first now after more : List ℕ) → take (length first) now ≡ first → length first ≤ length now → after ≡ now ++ more → take (length first) after ≡ first
-front_stays first now after more so_far long is = ap (take (length first)) is ∙ take-append-le (length first) now more long ∙ so_far
-
-pub longer_stays : (first now after more : List ℕ) → length first ≤ length now → after ≡ now ++ more → length first ≤ length after
-longer_stays first now after more long is = omega (arith, long, ap (λ (bytes : List ℕ). length bytes) is, length-append now more)
+-- the room of the next one, and of those after it
+pub writes_room_next : (framing : ℕ) (writes : List RemoteWrite) (i : ℕ) (d : RemoteWrite) → i < length writes →
+    writes_room framing (drop i writes) ≡ cut_room framing (get_or writes i d).bytes.now + writes_room framing (drop (i + 1) writes)
+writes_room_next framing writes i d lt = ap (writes_room framing) (drop_more writes i d lt)

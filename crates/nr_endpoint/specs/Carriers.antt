@@ -1,8 +1,10 @@
--- What carries bytes that are cut into segments.
-use Rattle.std.specs.Prelude.{ℕ, ◌+◌, ◌^◌, ◌<◌, ◌≤◌, Bool, List}
+-- What carries bytes that are cut into segments, and the room that they take.
+use Rattle.std.specs.Prelude.{ℕ, ◌+◌, ◌*◌, ◌^◌, ◌<◌, ◌≤◌, Bool, List, [], ◌∷◌, length}
 use Rattle.nr_wire.specs.Constants.{OPCODE_SEND, OPCODE_WRITE, OPCODE_READ_RESPONSE, QUEUE_SEND}
 use Rattle.nr_wire.specs.Segment.{Segment}
 use Rattle.nr_wire.specs.Segment.Segment.{Tagged, Untagged}
+use Rattle.nr_link.specs.Output.{segment_count}
+use Rattle.nr_endpoint.specs.declared.framing.RemoteWrite.{RemoteWrite}
 use Rattle.nr_endpoint.specs.declared.framing.Operation.{Operation}
 use Rattle.nr_endpoint.specs.declared.framing.Operation.TheVariants as carriers
 
@@ -22,3 +24,11 @@ abbrev pub FitsAt : Operation → ℕ → Type 0
 FitsAt (carriers.Send msn) offset = offset < 2 ^ 32
 FitsAt (carriers.Write stag to) offset = to + offset < 2 ^ 64
 FitsAt (carriers.Response stag to) offset = to + offset < 2 ^ 64
+
+-- the room that the FPDUs of some bytes take at most, if each has at most `framing` bytes beside its payload
+abbrev pub cut_room : (framing : ℕ) → List ℕ → ℕ
+cut_room framing bytes = length bytes + framing * segment_count bytes
+
+abbrev pub writes_room : (framing : ℕ) → List RemoteWrite → ℕ
+writes_room framing [] = 0
+writes_room framing (w ∷ writes) = cut_room framing w.bytes.now + writes_room framing writes

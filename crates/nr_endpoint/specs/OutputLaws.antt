@@ -124,14 +124,21 @@ OutputIsItems = (side : Side) (receives first_stag : ℕ) (calls : List Call) �
     let s = (after_calls start calls).state in
     bytes_written start calls ++ (s.send_queue.hello ++ s.send_queue.fpdus) ≡ own_output_hello s ++ items_encoding (items_queued start calls)
 
--- The Sends that have left are those of the items that were written completely, and the Read Responses owed are those that weren't, by the
--- number of bytes written. The count of Sends saturates at 2 ^ 64 - 1.
+-- The Sends that have left are those of the items that were written completely, and the Sends that wait and the Read Responses owed are
+-- those that weren't, by the number of bytes written. The count of Sends saturates at 2 ^ 64 - 1.
 abbrev pub SendsGoByItems : Type 0
 SendsGoByItems = (side : Side) (receives first_stag : ℕ) (calls : List Call) → AreAllowedCalls (initial_link side receives first_stag) calls →
     let start = initial_link side receives first_stag in
     let s = (after_calls start calls).state in
     s.send_queue.sends_left
     ≡ min (items_written is_send_item (length (own_output_hello s)) (length (bytes_written start calls)) (items_queued start calls)) (2 ^ 64 - 1)
+
+abbrev pub SendsWaitByItems : Type 0
+SendsWaitByItems = (side : Side) (receives first_stag : ℕ) (calls : List Call) → AreAllowedCalls (initial_link side receives first_stag) calls →
+    let start = initial_link side receives first_stag in
+    let s = (after_calls start calls).state in
+    length s.send_queue.send_ends
+    ≡ items_left is_send_item (length (own_output_hello s)) (length (bytes_written start calls)) (items_queued start calls)
 
 abbrev pub ResponsesGoByItems : Type 0
 ResponsesGoByItems = (side : Side) (receives first_stag : ℕ) (calls : List Call) → AreAllowedCalls (initial_link side receives first_stag) calls →

@@ -1,10 +1,10 @@
 //! FPDUs at the end of some bytes: segments, and messages and accesses cut into segments.
 
-ghost use Rattle.std.specs.Prelude.{◌≡◌, ℕ, ◌+◌, ◌*◌, ◌^◌, ◌<◌, ◌≤◌, ◌++◌, length, take, All, OnOk, OnErr};
+ghost use Rattle.std.specs.Prelude.{◌≡◌, ℕ, ◌+◌, ◌*◌, ◌^◌, ◌<◌, ◌≤◌, ◌++◌, length, All, IfOk, OnOk, OnErr};
 ghost use Rattle.nr_wire.specs.Segment.{IsWritable, encoding, payload_in};
 ghost use Rattle.nr_wire.specs.View.{segment as plain};
 ghost use Rattle.nr_link.specs.Output.{cut, segment_count, segment_payload, terminate_message};
-ghost use Rattle.nr_endpoint.specs.Carriers.{operation_segment, FitsAt, FitsCarrier};
+ghost use Rattle.nr_endpoint.specs.Carriers.{operation_segment, cut_room, writes_room, FitsAt, FitsCarrier};
 ghost use Rattle.nr_endpoint.specs.Offering.{FitsRegion, writes_output};
 
 use crate::constants::{FRAMING_MAX, SEGMENT_MAX};
@@ -122,8 +122,9 @@ fn segment_payload(bytes: &[u8], i: usize) -> &[u8]
 /// Puts the segments of some bytes at the end, for which there is room.
 fn append_segments(out: &mut BytesMut, carrier: Operation, bytes: &[u8])
     requires fits { FitsCarrier carrier (length bytes.now) }
-    requires room { length bytes.now + FRAMING_MAX * segment_count bytes.now ≤ out.old.spare }
-    ensures { out.new.items ≡ out.old.items ++ cut (operation_segment carrier) bytes.now }
+    requires room { cut_room FRAMING_MAX bytes.now ≤ out.old.spare }
+    ensures bytes { out.new.items ≡ out.old.items ++ cut (operation_segment carrier) bytes.now }
+    ensures spare { out.old.spare ≤ out.new.spare + cut_room FRAMING_MAX bytes.now }
 {
     let count = segment_count(bytes);
     for i in 0..count {
@@ -135,15 +136,36 @@ fn append_segments(out: &mut BytesMut, carrier: Operation, bytes: &[u8])
     }
 }
 
+/// The room that the segments of some bytes take.
+fn cut_room(bytes: &[u8]) -> usize
+    ensures { result ≡ cut_room FRAMING_MAX bytes.now }
+{
+    bytes.len() + FRAMING_MAX * segment_count(bytes)
+}
+
 /// Puts the segments of some bytes at the end. An `Err` leaves the bytes as they were.
 pub fn push_cut(out: &mut BytesMut, carrier: Operation, bytes: &[u8]) -> Result<(), Memory>
     requires { FitsCarrier carrier (length bytes.now) }
     ensures ok { OnOk result (out.new.items ≡ out.old.items ++ cut (operation_segment carrier) bytes.now) }
     ensures err { OnErr result (out.new.items ≡ out.old.items) }
 {
-    out.reserve(bytes.len() + FRAMING_MAX * segment_count(bytes))?;
+    out.reserve(cut_room(bytes))?;
     append_segments(out, carrier, bytes);
     Ok(())
+}
+
+/// Puts the Send of a message in two parts at the end, which is one segment, and for which there is room.
+fn append_send(out: &mut BytesMut, msn: u32, front: &[u8], stream: &[u8])
+    requires size { length front.now + length stream.now ≤ SEGMENT_MAX }
+    requires room { length front.now + length stream.now + FRAMING_MAX ≤ out.old.spare }
+    ensures { out.new.items ≡ out.old.items ++ cut (operation_segment (Operation.Send msn)) (front.now ++ stream.now) }
+{
+    let len = front.len() + stream.len();
+    let header = untagged_header(true, OPCODE_SEND, (0, QUEUE_SEND), (msn, 0), len);
+    append(out, header.as_slice());
+    append(out, front);
+    append(out, stream);
+    append(out, segment_tail((UNTAGGED_LEN + len) as u16));
 }
 
 /// Puts the Send of a message in two parts at the end, which is one segment. An `Err` leaves the bytes as they were.
@@ -152,48 +174,83 @@ pub fn push_send(out: &mut BytesMut, msn: u32, front: &[u8], stream: &[u8]) -> R
     ensures ok { OnOk result (out.new.items ≡ out.old.items ++ cut (operation_segment (Operation.Send msn)) (front.now ++ stream.now)) }
     ensures err { OnErr result (out.new.items ≡ out.old.items) }
 {
-    let len = front.len() + stream.len();
-    out.reserve(len + FRAMING_MAX)?;
-    let header = untagged_header(true, OPCODE_SEND, (0, QUEUE_SEND), (msn, 0), len);
-    append(out, header.as_slice());
-    append(out, front);
-    append(out, stream);
-    append(out, segment_tail((UNTAGGED_LEN + len) as u16));
+    out.reserve(front.len() + stream.len() + FRAMING_MAX)?;
+    append_send(out, msn, front, stream);
     Ok(())
 }
 
-/// Puts RDMA Writes at the end. After an `Err` some of them are there.
-#[tactic(auto, using(crate::proofs::Cuts::carried_write))]
-fn push_each_write(out: &mut BytesMut, writes: &[RemoteWrite<'_>]) -> Result<(), Memory>
-    requires { All FitsRegion writes.now }
-    ensures ok { OnOk result (out.new.items ≡ out.old.items ++ writes_output writes.now) }
-    ensures err { OnErr result (take (length out.old.items) out.new.items ≡ out.old.items) }
+/// The room that RDMA Writes take, and `more`. `Err` if no memory has so much.
+fn writes_room(writes: &[RemoteWrite<'_>], more: usize) -> Result<usize, Memory>
+    ensures { IfOk result (λ room. room ≡ more + writes_room FRAMING_MAX writes.now) }
+{
+    let mut room = more;
+    for write in writes {
+        let one = cut_room(write.bytes);
+        if one > usize::MAX - room {
+            return Err(Memory);
+        }
+        room += one;
+    }
+    Ok(room)
+}
+
+/// Puts RDMA Writes at the end, for which there is room.
+fn append_writes(out: &mut BytesMut, writes: &[RemoteWrite<'_>])
+    requires fits { All FitsRegion writes.now }
+    requires room { writes_room FRAMING_MAX writes.now ≤ out.old.spare }
+    ensures bytes { out.new.items ≡ out.old.items ++ writes_output writes.now }
+    ensures spare { out.old.spare ≤ out.new.spare + writes_room FRAMING_MAX writes.now }
 {
     for write in writes {
-        push_cut(
+        append_segments(
             out,
             Operation::Write {
                 stag: write.stag,
                 to: write.to,
             },
             write.bytes,
-        )?;
+        );
     }
+}
+
+/// Puts RDMA Writes and then the Send of a message in two parts at the end, which is one segment. An `Err` leaves the bytes as they
+/// were.
+pub fn push_answer(
+    out: &mut BytesMut,
+    writes: &[RemoteWrite<'_>],
+    msn: u32,
+    front: &[u8],
+    stream: &[u8],
+) -> Result<(), Memory>
+    requires fits { All FitsRegion writes.now }
+    requires size { length front.now + length stream.now ≤ SEGMENT_MAX }
+    ensures ok { OnOk result (out.new.items ≡ (out.old.items ++ writes_output writes.now) ++ cut (operation_segment (Operation.Send msn)) (front.now ++ stream.now)) }
+    ensures err { OnErr result (out.new.items ≡ out.old.items) }
+{
+    let room = writes_room(writes, front.len() + stream.len() + FRAMING_MAX)?;
+    out.reserve(room)?;
+    append_writes(out, writes);
+    append_send(out, msn, front, stream);
     Ok(())
 }
 
-/// Puts RDMA Writes at the end. An `Err` leaves the bytes as they were.
-pub fn push_writes(out: &mut BytesMut, writes: &[RemoteWrite<'_>]) -> Result<(), Memory>
-    requires { All FitsRegion writes.now }
-    ensures ok { OnOk result (out.new.items ≡ out.old.items ++ writes_output writes.now) }
+/// Puts RDMA Writes and then the Send of a message at the end. An `Err` leaves the bytes as they were.
+pub fn push_long_answer(
+    out: &mut BytesMut,
+    writes: &[RemoteWrite<'_>],
+    msn: u32,
+    message: &[u8],
+) -> Result<(), Memory>
+    requires fits { All FitsRegion writes.now }
+    requires size { length message.now < 2 ^ 32 }
+    ensures ok { OnOk result (out.new.items ≡ (out.old.items ++ writes_output writes.now) ++ cut (operation_segment (Operation.Send msn)) message.now) }
     ensures err { OnErr result (out.new.items ≡ out.old.items) }
 {
-    let len = out.len();
-    let pushed = push_each_write(out, writes);
-    if pushed.is_err() {
-        out.truncate(len);
-    }
-    pushed
+    let room = writes_room(writes, cut_room(message))?;
+    out.reserve(room)?;
+    append_writes(out, writes);
+    append_segments(out, Operation::Send { msn }, message);
+    Ok(())
 }
 
 /// Puts a Terminate with this word at the end (RFC 5040 section 4.8). An `Err` leaves the bytes as they were.

@@ -1,7 +1,7 @@
 //! Laws of an endpoint, over the calls that it stands for.
 
 ghost use Rattle.nr_endpoint.specs.ReceivedLaws.{EventsOfReceivedBytes, ReceivedBytes};
-ghost use Rattle.nr_endpoint.specs.OutputLaws.{AllowedCallsJoin, FpdusFollowHello, OutputIsItems, SendsGoByItems, ResponsesGoByItems, SidesStayBounded};
+ghost use Rattle.nr_endpoint.specs.OutputLaws.{AllowedCallsJoin, FpdusFollowHello, OutputIsItems, SendsGoByItems, SendsWaitByItems, ResponsesGoByItems, SidesStayBounded};
 ghost use Rattle.nr_endpoint.specs.Laws.{PiecesJoin, StepsReach, StepsFeed, EndStays, KeepsLessThanFrame, EndedKeepsNothing, StreamIsKept, PlaceIsFed, MemoryFollowsEvents, PlacesAreAllowed, PlacesAreInOrder, ArrivalsRise, EventsAreTold, EventsAreInOrder, EventsFollowAccesses, OneFrameTellsAtItsEnd, OneFrameTellsOnce, ReadsAreAllowed, NothingElseIsRead, OtherFramesQueueNothing, OpenRegionHolds, ReleasedBufferHolds, ReleasedStaysDead, ClaimsStay, NoFpduBeforeHello, FramesEndForThese, GrantsEndAlike, OffersDenyAlike, NoFrameStops, OthersComeFromStop, MemoryComesFromOutOfMemory, EndedQueuesNothing, EndIsKept, StopQueuesLast, OutOfMemoryQueuesNothing};
 
 /// The state of a side after some bytes does not depend on how they were split: to feed two pieces is to feed both joined, and one step on a
@@ -68,11 +68,12 @@ pub fn no_fpdu_before_hello()
 {}
 
 /// What a side writes is its hello and items, in order: Sends, RDMA Writes, Read Requests, Read Responses, and the output with which it
-/// ends. The Sends that have left the queue, and the Read Responses that are owed, are counts of these items by the bytes that were
-/// written.
+/// ends. The Sends that have left the queue, those that wait, and the Read Responses that are owed, are counts of these items by the
+/// bytes that were written.
 pub fn output_in_items()
     ensures items { OutputIsItems }
     ensures sends { SendsGoByItems }
+    ensures waiting { SendsWaitByItems }
     ensures responses { ResponsesGoByItems }
     ensures join { AllowedCallsJoin }
 {}

@@ -1,6 +1,6 @@
 //! Several calls of an owner at once, all or none.
 
-ghost use Rattle.std.specs.Prelude.{◌≡◌, ◌+◌, ◌^◌, ◌<◌, ◌≤◌, length, false, if◌then◌else◌, All, OnOk, OnErr, IfOk, IfErr};
+ghost use Rattle.std.specs.Prelude.{◌≡◌, ◌+◌, ◌^◌, ◌<◌, ◌≤◌, ◌++◌, length, false, if◌then◌else◌, All, OnOk, OnErr, IfOk, IfErr};
 ghost use Rattle.nr_endpoint.specs.LinkState.{has_ended};
 ghost use Rattle.nr_endpoint.specs.SendQueue.{with_send};
 ghost use Rattle.nr_endpoint.specs.Calls.{after_calls, StandsOnAll};
@@ -71,24 +71,35 @@ fn register_offered(regions: &mut Regions, offered: Offered) -> Claims
     Claims { read, write, reply }
 }
 
-/// Queues a Send unless the side has ended. An `Err` changes nothing.
-fn send_unless(ended: bool, queue: &mut SendQueue, message: &[u8]) -> Result<(), Memory>
-    requires { length message.now < 2 ^ 32 }
-    ensures ok { OnOk result (queue.new ≡ (if ended then queue.old else with_send message.now queue.old)) }
+/// Queues the Send of a message in two parts unless the side has ended. An `Err` changes nothing.
+fn send_unless(
+    ended: bool,
+    queue: &mut SendQueue,
+    front: &[u8],
+    stream: &[u8],
+) -> Result<(), Memory>
+    requires { length front.now + length stream.now < 2 ^ 32 }
+    ensures ok { OnOk result (queue.new ≡ (if ended then queue.old else with_send (front.now ++ stream.now) queue.old)) }
     ensures err { OnErr result (queue.new ≡ queue.old) }
 {
     if ended {
         return Ok(());
     }
-    queue.send(message)
+    queue.send_parts(front, stream)
 }
 
 impl LinkSide {
-    /// Queues a Send and registers the buffers that it offers. `Err` gives the buffers back, and changes nothing.
-    pub fn offer(&mut self, message: &[u8], offered: Offered) -> Result<Claims, Offered>
-        requires size { length message.now < 2 ^ 32 }
+    /// Queues the Send of a message in two parts, and registers the buffers that it offers. `Err` gives the buffers back, and
+    /// changes nothing.
+    pub fn offer(
+        &mut self,
+        front: &[u8],
+        stream: &[u8],
+        offered: Offered,
+    ) -> Result<Claims, Offered>
+        requires size { length front.now + length stream.now < 2 ^ 32 }
         requires stags { self.old.state.memory.next + offered_count offered ≤ 2 ^ 32 }
-        ensures ok { OnOk result (self.new.state ≡ after_offer message.now offered self.old.state) }
+        ensures ok { OnOk result (self.new.state ≡ after_offer (front.now ++ stream.now) offered self.old.state) }
         ensures claims { IfOk result (λ claims. claims ≡ claims_of self.old.state.memory offered) }
         ensures err { OnErr result (self.new.state ≡ self.old.state) }
         ensures returned { IfErr result (λ o. o ≡ offered) }
@@ -100,17 +111,22 @@ impl LinkSide {
         if self.regions.make_room(3).is_err() {
             return Err(offered);
         }
-        if send_unless(self.ended.is_some(), &mut self.send_queue, message).is_err() {
+        if send_unless(self.ended.is_some(), &mut self.send_queue, front, stream).is_err() {
             return Err(offered);
         }
         Ok(register_offered(&mut self.regions, offered))
     }
 
-    /// Queues RDMA Writes and then a Send. `Err` changes nothing.
-    pub fn answer(&mut self, writes: &[RemoteWrite<'_>], message: &[u8]) -> Result<(), Memory>
-        requires size { length message.now < 2 ^ 32 }
+    /// Queues RDMA Writes and then the Send of a message in two parts. `Err` changes nothing.
+    pub fn answer(
+        &mut self,
+        writes: &[RemoteWrite<'_>],
+        front: &[u8],
+        stream: &[u8],
+    ) -> Result<(), Memory>
+        requires size { length front.now + length stream.now < 2 ^ 32 }
         requires fits { All FitsRegion writes.now }
-        ensures ok { OnOk result (self.new.state ≡ after_answer writes.now message.now self.old.state) }
+        ensures ok { OnOk result (self.new.state ≡ after_answer writes.now (front.now ++ stream.now) self.old.state) }
         ensures err { OnErr result (self.new.state ≡ self.old.state) }
         ensures live { OnErr result (has_ended self.old.state ≡ false) }
         ensures room { self.new.room ≡ self.old.room }
@@ -119,7 +135,7 @@ impl LinkSide {
         if self.ended.is_some() {
             return Ok(());
         }
-        self.send_queue.answer(writes, message)
+        self.send_queue.answer(writes, front, stream)
     }
 }
 
@@ -142,7 +158,31 @@ impl Endpoint {
         ensures outside_err { OnErr result (self.new.outside ≡ self.old.outside) }
         ensures staging { self.new.staging ≡ self.old.staging }
     {
-        self.link.offer(message, offered)
+        self.offer_parts(message, &[], offered)
+    }
+
+    /// Queues the Send of a message in two parts and registers the buffers that it offers, as [`Endpoint::offer`] does with a message in one.
+    pub fn offer_parts(
+        &mut self,
+        front: &[u8],
+        stream: &[u8],
+        offered: Offered,
+    ) -> Result<Claims, Offered>
+        requires size { length front.now + length stream.now < 2 ^ 32 }
+        requires stags { self.old.link.state.memory.next + offered_count offered ≤ 2 ^ 32 }
+        ensures state { OnOk result (self.new.link ≡ after_calls self.old.link (offer_calls (front.now ++ stream.now) offered)) }
+        ensures stands { OnOk result (StandsOnAll self.old.link (offer_calls (front.now ++ stream.now) offered) self.new.link) }
+        ensures claims { IfOk result (λ claims. claims ≡ claims_of self.old.link.state.memory offered) }
+        ensures held { IfOk result (AreHeld self.new.link.state.memory) }
+        ensures err { OnErr result (self.new.link ≡ self.old.link) }
+        ensures returned { IfErr result (λ o. o ≡ offered) }
+        ensures room { self.old.room ≤ self.new.room + offered_count offered }
+        ensures room_kept { OnErr result (self.old.room ≤ self.new.room) }
+        ensures outside { OnOk result (self.new.outside ≡ outside_offered self.old.link.state.memory offered self.old.outside) }
+        ensures outside_err { OnErr result (self.new.outside ≡ self.old.outside) }
+        ensures staging { self.new.staging ≡ self.old.staging }
+    {
+        self.link.offer(front, stream, offered)
     }
 
     /// Queues RDMA Writes into the peer's regions, in their order, and then a Send: all of them or, if memory runs out, nothing. A side that
@@ -158,6 +198,27 @@ impl Endpoint {
         ensures outside { self.new.outside ≡ self.old.outside }
         ensures staging { self.new.staging ≡ self.old.staging }
     {
-        self.link.answer(writes, message)
+        self.answer_parts(writes, message, &[])
+    }
+
+    /// Queues RDMA Writes and then the Send of a message in two parts, as [`Endpoint::answer`] does with a message in one. The room for all
+    /// of them is taken once.
+    pub fn answer_parts(
+        &mut self,
+        writes: &[RemoteWrite<'_>],
+        front: &[u8],
+        stream: &[u8],
+    ) -> Result<(), Memory>
+        requires size { length front.now + length stream.now < 2 ^ 32 }
+        requires fits { All FitsRegion writes.now }
+        ensures state { OnOk result (self.new.link ≡ after_calls self.old.link (answer_calls writes.now (front.now ++ stream.now))) }
+        ensures stands { OnOk result (StandsOnAll self.old.link (answer_calls writes.now (front.now ++ stream.now)) self.new.link) }
+        ensures err { OnErr result (self.new.link ≡ self.old.link) }
+        ensures live { OnErr result (has_ended self.old.link.state ≡ false) }
+        ensures room { self.new.room ≡ self.old.room }
+        ensures outside { self.new.outside ≡ self.old.outside }
+        ensures staging { self.new.staging ≡ self.old.staging }
+    {
+        self.link.answer(writes, front, stream)
     }
 }

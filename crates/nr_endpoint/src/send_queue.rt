@@ -14,7 +14,8 @@ ghost use Rattle.nr_endpoint.specs.SendQueue.{initial_queue, output_len, with_he
 
 use crate::constants::SEGMENT_MAX;
 use crate::framing::{
-    Operation, RemoteWrite, push_cut, push_segment, push_send, push_terminate, push_writes,
+    Operation, RemoteWrite, push_answer, push_cut, push_long_answer, push_segment, push_send,
+    push_terminate,
 };
 use bytes::BytesMut;
 use nr_link::End;
@@ -311,20 +312,60 @@ impl SendQueue {
         push_cut(&mut self.fpdus, Operation::Write { stag, to }, bytes)
     }
 
+    /// RDMA Writes and then the Send of a message in two parts. An `Err` changes nothing.
+    pub fn answer(
+        &mut self,
+        writes: &[RemoteWrite<'_>],
+        front: &[u8],
+        stream: &[u8],
+    ) -> Result<(), Memory>
+        requires size { length front.now + length stream.now < 2 ^ 32 }
+        requires fits { All FitsRegion writes.now }
+        ensures ok { OnOk result (self.new ≡ with_send (front.now ++ stream.now) (with_fpdus (writes_output writes.now) self.old)) }
+        ensures err { OnErr result (self.new ≡ self.old) }
+    {
+        if front.len() + stream.len() <= SEGMENT_MAX {
+            return self.answer_short(writes, front, stream);
+        }
+        let message = joined(self.alloc, front, stream)?;
+        self.answer_long(writes, message.as_slice())
+    }
+
+    /// RDMA Writes and then the Send of a message in two parts, which is one segment. An `Err` changes nothing.
+    #[tactic(auto, using(crate::proofs::Cuts::carried_send))]
+    fn answer_short(
+        &mut self,
+        writes: &[RemoteWrite<'_>],
+        front: &[u8],
+        stream: &[u8],
+    ) -> Result<(), Memory>
+        requires size { length front.now + length stream.now ≤ SEGMENT_MAX }
+        requires fits { All FitsRegion writes.now }
+        ensures ok { OnOk result (self.new ≡ with_send (front.now ++ stream.now) (with_fpdus (writes_output writes.now) self.old)) }
+        ensures err { OnErr result (self.new ≡ self.old) }
+    {
+        let msn = self.last_send.wrapping_add(1);
+        self.send_ends.reserve(1)?;
+        push_answer(&mut self.fpdus, writes, msn, front, stream)?;
+        self.send_ends.push_back_reserved(self.fpdus.len());
+        self.last_send = msn;
+        Ok(())
+    }
+
     /// RDMA Writes and then a Send. An `Err` changes nothing.
-    pub fn answer(&mut self, writes: &[RemoteWrite<'_>], message: &[u8]) -> Result<(), Memory>
+    #[tactic(auto, using(crate::proofs::Cuts::carried_send))]
+    fn answer_long(&mut self, writes: &[RemoteWrite<'_>], message: &[u8]) -> Result<(), Memory>
         requires size { length message.now < 2 ^ 32 }
         requires fits { All FitsRegion writes.now }
         ensures ok { OnOk result (self.new ≡ with_send message.now (with_fpdus (writes_output writes.now) self.old)) }
         ensures err { OnErr result (self.new ≡ self.old) }
     {
-        let len = self.fpdus.len();
-        push_writes(&mut self.fpdus, writes)?;
-        let sent = self.send(message);
-        if sent.is_err() {
-            self.fpdus.truncate(len);
-        }
-        sent
+        let msn = self.last_send.wrapping_add(1);
+        self.send_ends.reserve(1)?;
+        push_long_answer(&mut self.fpdus, writes, msn, message)?;
+        self.send_ends.push_back_reserved(self.fpdus.len());
+        self.last_send = msn;
+        Ok(())
     }
 
     /// A Read Request. An `Err` changes nothing.

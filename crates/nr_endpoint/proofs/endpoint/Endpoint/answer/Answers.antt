@@ -1,12 +1,14 @@
-use Rattle.std.proofs.Common.{take}
+use Rattle.std.proofs.Common.{◌≡◌, ℕ, List, OnOk, subst}
+use Rattle.std.proofs.lemmas.List.{append-nil}
+use Rattle.nr_endpoint.specs.LinkState.{LinkSide}
+use Rattle.nr_endpoint.specs.Calls.{after_calls, StandsOnAll}
 use Rattle.nr_endpoint.specs.Offering.{answer_calls}
-use Rattle.nr_endpoint.proofs.Standing.{stands_on_all, on_ok}
-use Rattle.nr_endpoint.proofs.WholeCalls.{seen_all, answered_state}
 use Rattle.nr_endpoint.proofs.endpoint.Endpoint.answer.Goals as goal
 
 pub returns-clause-state : goal.returns-clause-state
-returns-clause-state c = on_ok c.answer.result (λ is. (seen_all (record { awaited = c.self.inside.awaited; rest = take c.self.inside.staged c.self.inside.staging.items; state = c.self.inside.link.state }) c.self.inside.staging.items c.args.self.now (record { awaited = c.self.inside.awaited; rest = take c.self.inside.staged c.self.inside.staging.items; state = c.answer.new.self.state }) (answer_calls c.args.writes.now c.args.message.now) c.self.view_is (answered_state (record { awaited = c.self.inside.awaited; rest = take c.self.inside.staged c.self.inside.staging.items; state = c.self.inside.link.state }) c.answer.new.self.state c.args.writes.now c.args.message.now is))) c.answer.ensures.ok
+returns-clause-state c =
+    subst (λ (message : List ℕ). OnOk c.answer_parts.result (◌≡◌ {A = LinkSide} c.answer_parts.new.self.link (after_calls c.args.self.now.link (answer_calls c.args.writes.now message)))) (append-nil c.args.message.now) c.answer_parts.ensures.state
 
 pub returns-clause-stands : goal.returns-clause-stands
 returns-clause-stands c =
-    on_ok c.answer.result (λ is. stands_on_all c.args.self.now.link (answer_calls c.args.writes.now c.args.message.now) (record { awaited = c.self.inside.awaited; rest = take c.self.inside.staged c.self.inside.staging.items; state = c.answer.new.self.state }) (seen_all (record { awaited = c.self.inside.awaited; rest = take c.self.inside.staged c.self.inside.staging.items; state = c.self.inside.link.state }) c.self.inside.staging.items c.args.self.now (record { awaited = c.self.inside.awaited; rest = take c.self.inside.staged c.self.inside.staging.items; state = c.answer.new.self.state }) (answer_calls c.args.writes.now c.args.message.now) c.self.view_is (answered_state (record { awaited = c.self.inside.awaited; rest = take c.self.inside.staged c.self.inside.staging.items; state = c.self.inside.link.state }) c.answer.new.self.state c.args.writes.now c.args.message.now is))) c.answer.ensures.ok
+    subst (λ (message : List ℕ). OnOk c.answer_parts.result (StandsOnAll c.args.self.now.link (answer_calls c.args.writes.now message) c.answer_parts.new.self.link)) (append-nil c.args.message.now) c.answer_parts.ensures.stands

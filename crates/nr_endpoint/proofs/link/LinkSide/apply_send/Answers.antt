@@ -1,4 +1,4 @@
-use Rattle.std.proofs.Common.{ℕ, ◌+◌, ◌≤◌, length, sym, subst, arith}
+use Rattle.std.proofs.Common.{◌+◌, ◌≤◌, length, sym, subst, arith}
 use Rattle.nr_link.specs.ReceiveState.{begun_bytes}
 use Rattle.nr_endpoint.specs.EndpointState.{LinkView}
 use Rattle.nr_endpoint.proofs.Taken.{counted_send, took_send}

@@ -1,15 +1,14 @@
 use Rattle.std.proofs.Common.{◌++◌, ◌∙◌}
 use Rattle.std.proofs.lemmas.List.{length-append}
 use Rattle.nr_endpoint.proofs.Cuts.{send_pushed}
-use Rattle.nr_endpoint.proofs.framing.push_send.Goals as goal
+use Rattle.nr_endpoint.proofs.framing.append_send.Goals as goal
 
-pub returns-clause-ok : goal.returns-clause-ok
-returns-clause-ok c =
-    send_pushed _ c.args.out.now.items c.as_slice.result.now c.args.front.now c.args.stream.now c.segment_tail.result.now c.args.msn c.requires
+pub returns : goal.returns
+returns c =
+    send_pushed _ c.args.out.now.items c.as_slice.result.now c.args.front.now c.args.stream.now c.segment_tail.result.now c.args.msn c.requires.size
     (c.as_slice.ensures.value ∙ c.untagged_header-header.ensures.bytes (c.args.front.now ++ c.args.stream.now) (length-append c.args.front.now c.args.stream.now))
     c.segment_tail.ensures.bytes
     (c.append-4.ensures.bytes
     ∙ (λ i. c.append-3.ensures.bytes i ++ c.segment_tail.result.now)
     ∙ (λ i. (c.append-2.ensures.bytes i ++ c.args.stream.now) ++ c.segment_tail.result.now)
-    ∙ (λ i. ((c.append.ensures.bytes i ++ c.args.front.now) ++ c.args.stream.now) ++ c.segment_tail.result.now)
-    ∙ (λ i. (((c.in_ok-reserve.ensures.items i ++ c.as_slice.result.now) ++ c.args.front.now) ++ c.args.stream.now) ++ c.segment_tail.result.now))
+    ∙ (λ i. ((c.append.ensures.bytes i ++ c.args.front.now) ++ c.args.stream.now) ++ c.segment_tail.result.now))
