@@ -1,0 +1,6 @@
+pub mod Asked
+pub mod Links
+pub mod MemClock
+pub mod MemLinks
+pub mod Moments
+pub mod NetState

@@ -1,0 +1,133 @@
+ghost use Rattle.std.specs.Prelude.{◌≡◌, ◌≤◌, true, false, None, IfOk, OnOk, OnErr, IsErr, MatchResult, is_some};
+ghost use Rattle.nr_outside.specs.Faults.{next_count};
+ghost use Rattle.nr_links.specs.Links.{CountsLost};
+
+use crate::links::Acceptor;
+use crate::tcp::{TcpSink, TcpSource, closed, halves};
+use nr_outside::Failed;
+use std::io;
+use std::io::ErrorKind;
+use std::marker::Model;
+use std::net::{Net, TcpListener, TcpStream};
+
+/// An acceptor of TCP. Each error is a fault. What the links carry is unknown, so it is trusted for the content.
+#[derive(Drop)]
+pub struct TcpAcceptor<N> {
+    net: N,
+    listener: Option<TcpListener>,
+    faults: u64,
+    lost: u64,
+}
+
+impl<N> Model for TcpAcceptor<N> {
+    ghost use Rattle.std.specs.Prelude.{is_some};
+    ghost use Rattle.nr_links.specs.NetState.{AcceptorState};
+
+    ghost Value = { AcceptorState };
+
+    ghost view = { λ a. record { faults = a.faults; lost = a.lost; listens = is_some a.listener } };
+}
+
+impl<N> TcpAcceptor<N> {
+    /// An acceptor over this network, with no faults so far, which doesn't listen yet.
+    pub fn new(net: N) -> TcpAcceptor<N>
+        ensures { result ≡ record { faults = 0; lost = 0; listens = false } }
+    {
+        TcpAcceptor {
+            net,
+            listener: None,
+            faults: 0,
+            lost: 0,
+        }
+    }
+
+    /// The port at which it listens, if the system says it. With port 0 in the address the system picks one.
+    pub fn port(&self) -> Option<u16> {
+        let Some(listener) = &self.listener else {
+            return None;
+        };
+        match listener.local_addr() {
+            Ok(addr) => Some(addr.port()),
+            Err(_) => None,
+        }
+    }
+
+    /// Counts a call that fails.
+    fn fail(&mut self) -> Failed
+        ensures fault { self.new ≡ record self.old { faults = next_count self.old.faults } }
+        ensures never_falls { self.old.faults ≤ self.new.faults }
+    {
+        self.faults = self.faults.saturating_add(1);
+        Failed
+    }
+}
+
+/// The next stream. A peer that went away before it was taken is passed over.
+fn take(listener: &TcpListener) -> io::Result<(TcpSource, TcpSink)>
+    ensures source { IfOk result (λ link. link.0.faults ≡ 0) }
+    ensures sink { IfOk result (λ link. link.1.faults ≡ 0) }
+{
+    for _ in 0..u64::MAX {
+        match listener.accept() {
+            Ok((stream, _)) => return halves(stream),
+            Err(error) if error.kind() == ErrorKind::ConnectionAborted => {}
+            Err(error) => return Err(error),
+        }
+    }
+    Err(io::Error::from(ErrorKind::ConnectionAborted))
+}
+
+impl<N: Net<Stream = TcpStream, Listener = TcpListener>> Acceptor for TcpAcceptor<N> {
+    type Source = TcpSource;
+
+    type Sink = TcpSink;
+
+    ghost faults = { λ s. s.faults };
+
+    ghost lost = { λ s. s.lost };
+
+    ghost asked = { λ _. None };
+
+    ghost ended = { λ _. None };
+
+    ghost listens = { λ s. s.listens };
+
+    fn listen(&mut self, addr: &str) -> Result<(), Failed>
+        ensures listens { OnOk result (self.new ≡ record self.old { listens = true }) }
+        ensures err { OnErr result (self.new ≡ record self.old { faults = next_count self.old.faults }) }
+        ensures never_falls { self.old.faults ≤ self.new.faults }
+    {
+        match TcpListener::bind(&self.net, addr) {
+            Ok(listener) => {
+                self.listener = Some(listener);
+                Ok(())
+            }
+            Err(_) => Err(self.fail()),
+        }
+    }
+
+    fn accept(&mut self) -> Result<(TcpSource, TcpSink), Failed>
+        ensures before { self.old.listens ≡ false → IsErr result }
+        ensures source { IfOk result (λ link. link.0.faults ≡ 0) }
+        ensures sink { IfOk result (λ link. link.1.faults ≡ 0) }
+        ensures ok { OnOk result (self.new ≡ self.old) }
+        ensures err { OnErr result (self.new ≡ record self.old { faults = next_count self.old.faults }) }
+        ensures never_falls { self.old.faults ≤ self.new.faults }
+    {
+        let Some(listener) = &self.listener else {
+            return Err(self.fail());
+        };
+        match take(listener) {
+            Ok(link) => Ok(link),
+            Err(_) => Err(self.fail()),
+        }
+    }
+
+    fn hang_up(&mut self, source: TcpSource, sink: TcpSink)
+        ensures listens { self.new.listens ≡ self.old.listens }
+        ensures lost { CountsLost source.faults sink.faults self.old.lost self.new.lost }
+        ensures faults { self.new.faults ≡ self.old.faults }
+    {
+        self.lost = closed(self.lost, source, sink);
+    }
+}

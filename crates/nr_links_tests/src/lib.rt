@@ -1,0 +1,17 @@
+//! Tests of links and clocks (`nr_links`), and of words and configurations (`nr_words`).
+//!
+//! They stand in a crate of their own, above the crates that they test, since a crate with tests is proved twice.
+#![tactic(auto)]
+
+#[cfg(test)]
+mod clocks;
+#[cfg(test)]
+mod compare;
+#[cfg(test)]
+mod configurations;
+#[cfg(test)]
+mod memory;
+#[cfg(test)]
+mod sockets;
+#[cfg(test)]
+mod words;

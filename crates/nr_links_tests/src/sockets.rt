@@ -1,0 +1,56 @@
+//! Links over TCP. One thread suffices: a connection waits in the backlog until it is accepted.
+
+use crate::compare::same;
+use nr_links::{Acceptor, Dialer, TcpAcceptor, TcpDialer, TcpSink, TcpSource};
+use nr_outside::{Sink, Source, write_whole};
+use std::process::Abort;
+
+/// Ends the test if the next read is not these bytes.
+fn reads(rt: &impl Abort, source: &mut TcpSource, want: &[u8]) {
+    let mut buf = [0u8; 8];
+    let Ok(n) = source.read(&mut buf) else {
+        panic!(rt; "no read")
+    };
+    same(rt, n, &buf[..n] == want, true);
+}
+
+fn sends(rt: &impl Abort, sink: &mut TcpSink, bytes: &[u8]) {
+    same(rt, 0, write_whole(sink, bytes).is_ok(), true);
+}
+
+/// Both directions carry bytes. The side that hangs up without reading leaves what it sent, and then the end.
+#[test]
+fn bytes_in_both_directions(rt: HostRuntime) {
+    let mut acceptor = TcpAcceptor::new(rt);
+    same(&rt, 0, acceptor.accept().is_err(), true);
+    same(&rt, 1, acceptor.listen("127.0.0.1:0").is_ok(), true);
+    let Some(port) = acceptor.port() else {
+        panic!(rt; "no port")
+    };
+    let addr = format!(in rt.alloc(); "127.0.0.1:{port}").expect(&rt, "memory");
+    let mut dialer = TcpDialer::new(rt);
+    let Ok((mut ours, mut to_them)) = dialer.dial(addr.as_str()) else {
+        panic!(rt; "no dial")
+    };
+    let Ok((mut theirs, mut to_us)) = acceptor.accept() else {
+        panic!(rt; "no link")
+    };
+    sends(&rt, &mut to_them, b"hello");
+    reads(&rt, &mut theirs, b"hello");
+    sends(&rt, &mut to_them, b"unread");
+    sends(&rt, &mut to_us, b"ok");
+    acceptor.hang_up(theirs, to_us);
+    reads(&rt, &mut ours, b"ok");
+    reads(&rt, &mut ours, b"");
+    dialer.hang_up(ours, to_them);
+}
+
+#[test]
+fn nobody_listens(rt: HostRuntime) {
+    let mut dialer = TcpDialer::new(rt);
+    same(&rt, 0, dialer.dial("127.0.0.1:1").is_err(), true);
+    same(&rt, 1, dialer.dial("no address").is_err(), true);
+    let mut acceptor = TcpAcceptor::new(rt);
+    same(&rt, 2, acceptor.listen("127.0.0.1:65536").is_err(), true);
+    same(&rt, 3, acceptor.port(), None);
+}

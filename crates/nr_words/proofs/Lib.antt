@@ -1,0 +1,7 @@
+pub mod Digits
+pub mod Walks
+pub mod Tables
+pub mod Programs
+pub mod Requests
+pub mod Faults
+pub mod Rows

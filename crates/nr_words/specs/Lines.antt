@@ -1,0 +1,179 @@
+-- The lines of the program: words in the one spelling that is never refused, and the command of each.
+use Rattle.std.specs.Prelude.{ℕ, ◌==◌, Bool, true, false, not, if◌then◌else◌, List, [], ◌∷◌, codes, Option, Some, None, is_some, option_map, option_and_then, unwrap_or}
+use Rattle.std.specs.Borrow.{Bor}
+use Rattle.std.specs.Str.{bytes_eq}
+use Rattle.nr_words.specs.Numbers.{numeral_within}
+use Rattle.nr_words.specs.declared.commands.Command.{Command}
+use Rattle.nr_words.specs.declared.commands.Command.TheVariants as commands
+use Rattle.nr_words.specs.declared.commands.Client.{Client}
+use Rattle.nr_words.specs.declared.commands.Action.{Action}
+use Rattle.nr_words.specs.declared.commands.Action.TheVariants as actions
+use Rattle.nr_words.specs.declared.lines.Subcommand.{Subcommand}
+use Rattle.nr_words.specs.declared.lines.Subcommand.TheVariants as subcommands
+use Rattle.nr_words.specs.declared.lines.OptionName.{OptionName}
+use Rattle.nr_words.specs.declared.lines.OptionName.TheVariants as option_names
+use Rattle.nr_words.specs.declared.lines.Options.{Options}
+use Rattle.nr_words.specs.declared.lines.Positionals.{Positionals}
+use Rattle.nr_words.specs.declared.lines.State.{State}
+
+abbrev pub Text : Type 0
+Text = List ℕ
+
+-- the first word after the program's name
+abbrev pub subcommand_named : Text → Option Subcommand
+subcommand_named word =
+    if bytes_eq word (codes "serve") then Some subcommands.Serve
+    else if bytes_eq word (codes "mount") then Some subcommands.Mount
+    else if bytes_eq word (codes "ls") then Some subcommands.List
+    else if bytes_eq word (codes "stat") then Some subcommands.Stat
+    else if bytes_eq word (codes "readlink") then Some subcommands.ReadLink
+    else if bytes_eq word (codes "mkdir") then Some subcommands.MakeDirectory
+    else if bytes_eq word (codes "rm") then Some subcommands.Remove
+    else if bytes_eq word (codes "put") then Some subcommands.Put
+    else if bytes_eq word (codes "get") then Some subcommands.Get
+    else if bytes_eq word (codes "ln") then Some subcommands.Link
+    else if bytes_eq word (codes "drill") then Some subcommands.Drill
+    else None
+
+abbrev pub option_named : Text → Option OptionName
+option_named word =
+    if bytes_eq word (codes "--uid") then Some option_names.Uid
+    else if bytes_eq word (codes "--gid") then Some option_names.Gid
+    else if bytes_eq word (codes "--seed") then Some option_names.Seed
+    else if bytes_eq word (codes "--clients") then Some option_names.Clients
+    else if bytes_eq word (codes "--calls") then Some option_names.Calls
+    else None
+
+-- the options of each client command, and of `drill`
+abbrev pub is_of_client : OptionName → Bool
+is_of_client option_names.Uid = true
+is_of_client option_names.Gid = true
+is_of_client _ = false
+
+abbrev pub is_of_drill : OptionName → Bool
+is_of_drill option_names.Seed = true
+is_of_drill option_names.Clients = true
+is_of_drill option_names.Calls = true
+is_of_drill _ = false
+
+abbrev pub takes : Subcommand → OptionName → Bool
+takes subcommands.Serve name = false
+takes subcommands.Drill name = is_of_drill name
+takes _ name = is_of_client name
+
+-- CONFIG; ADDR EXPORT; ADDR EXPORT PATH; ADDR EXPORT PATH TARGET
+abbrev pub arity : Subcommand → ℕ
+arity subcommands.Serve = 1
+arity subcommands.Mount = 2
+arity subcommands.Link = 4
+arity subcommands.Drill = 0
+arity _ = 3
+
+-- the options with one more, if it was not given before and its value is in its range
+abbrev pub once : Option ℕ → Option ℕ → (ℕ → Options) → Option Options
+once None (Some value) with = Some (with value)
+once _ _ with = None
+
+abbrev pub with_value : Options → OptionName → Text → Option Options
+with_value o option_names.Uid word = once o.uid (numeral_within 0 4294967295 word) (λ n. record o { uid = Some n })
+with_value o option_names.Gid word = once o.gid (numeral_within 0 4294967295 word) (λ n. record o { gid = Some n })
+with_value o option_names.Seed word = once o.seed (numeral_within 0 18446744073709551615 word) (λ n. record o { seed = Some n })
+with_value o option_names.Clients word = once o.clients (numeral_within 1 16 word) (λ n. record o { clients = Some n })
+with_value o option_names.Calls word = once o.calls (numeral_within 1 1000000 word) (λ n. record o { calls = Some n })
+
+-- a positional is not empty, and does not begin with '-'
+abbrev pub is_positional : Text → Bool
+is_positional [] = false
+is_positional (first ∷ rest) = not (first == 45)
+
+abbrev pub with_positional : Positionals Text → Text → Option (Positionals Text)
+with_positional p word =
+    if p.count == 0 then Some (record p { count = 1; first = word })
+    else if p.count == 1 then Some (record p { count = 2; second = word })
+    else if p.count == 2 then Some (record p { count = 3; third = word })
+    else if p.count == 3 then Some (record p { count = 4; fourth = word })
+    else None
+
+-- what is known after one more word
+abbrev pub after_free_word : Subcommand → State Text → Option OptionName → Text → Option (State Text)
+after_free_word subcommand s (Some name) word = if takes subcommand name then Some (record s { waiting = Some name }) else None
+after_free_word subcommand s None word = if is_positional word then option_map (λ p. record s { positionals = p }) (with_positional s.positionals word) else None
+
+abbrev pub after_word : Subcommand → State Text → Option OptionName → Text → Option (State Text)
+after_word subcommand s (Some name) word = option_map (λ o. record s { waiting = None; options = o }) (with_value s.options name word)
+after_word subcommand s None word = after_free_word subcommand s (option_named word) word
+
+abbrev pub step : Subcommand → State Text → Text → Option (State Text)
+step subcommand s word = after_word subcommand s s.waiting word
+
+unfoldable pub steps : Subcommand → State Text → List Text → Option (State Text)
+steps subcommand s [] = Some s
+steps subcommand s (word ∷ words) = option_and_then (λ s'. steps subcommand s' words) (step subcommand s word)
+
+-- the command of these options and positionals, if none is missing
+abbrev pub drill_of : Option ℕ → Option ℕ → Option ℕ → Option (Command Text)
+drill_of None None None = Some commands.Drill
+drill_of (Some seed) (Some clients) (Some calls) = Some (commands.GeneratedDrill seed clients calls)
+drill_of _ _ _ = None
+
+abbrev pub client : Options → Positionals Text → Action Text → Option (Command Text)
+client o p action = Some (commands.Client (record { addr = p.first; export = p.second; uid = unwrap_or o.uid 0; gid = unwrap_or o.gid 0; action = action }))
+
+abbrev pub complete : Subcommand → Options → Positionals Text → Option (Command Text)
+complete subcommands.Serve o p = Some (commands.Serve p.first)
+complete subcommands.Mount o p = client o p actions.Mount
+complete subcommands.List o p = client o p (actions.List p.third)
+complete subcommands.Stat o p = client o p (actions.Stat p.third)
+complete subcommands.ReadLink o p = client o p (actions.ReadLink p.third)
+complete subcommands.MakeDirectory o p = client o p (actions.MakeDirectory p.third)
+complete subcommands.Remove o p = client o p (actions.Remove p.third)
+complete subcommands.Put o p = client o p (actions.Put p.third)
+complete subcommands.Get o p = client o p (actions.Get p.third)
+complete subcommands.Link o p = client o p (actions.Link p.third p.fourth)
+complete subcommands.Drill o p = drill_of o.seed o.clients o.calls
+
+abbrev pub command_of : Subcommand → Options → Positionals Text → Option (Command Text)
+command_of subcommand o p = if p.count == arity subcommand then complete subcommand o p else None
+
+abbrev pub finished : Subcommand → State Text → Option (Command Text)
+finished subcommand s = if is_some s.waiting then None else command_of subcommand s.options s.positionals
+
+abbrev pub no_options : Options
+no_options = record { uid = None; gid = None; seed = None; clients = None; calls = None }
+
+abbrev pub start : State Text
+start = record { waiting = None; options = no_options; positionals = record { count = 0; first = []; second = []; third = []; fourth = [] } }
+
+-- a line is the program's name, a command, and its positionals in order and its options in any order
+abbrev pub line_of : List Text → Option (Command Text)
+line_of [] = None
+line_of (name ∷ []) = None
+line_of (name ∷ word ∷ words) = option_and_then (λ subcommand. option_and_then (finished subcommand) (steps subcommand start words)) (subcommand_named word)
+
+-- ---- values that borrow their texts, as those texts
+
+abbrev pub plain_positionals : Positionals (Bor Text) → Positionals Text
+plain_positionals p = record { count = p.count; first = p.first.now; second = p.second.now; third = p.third.now; fourth = p.fourth.now }
+
+abbrev pub plain_state : State (Bor Text) → State Text
+plain_state s = record { waiting = s.waiting; options = s.options; positionals = plain_positionals s.positionals }
+
+abbrev pub plain_action : Action (Bor Text) → Action Text
+plain_action actions.Mount = actions.Mount
+plain_action (actions.List path) = actions.List path.now
+plain_action (actions.Stat path) = actions.Stat path.now
+plain_action (actions.ReadLink path) = actions.ReadLink path.now
+plain_action (actions.MakeDirectory path) = actions.MakeDirectory path.now
+plain_action (actions.Remove path) = actions.Remove path.now
+plain_action (actions.Put path) = actions.Put path.now
+plain_action (actions.Get path) = actions.Get path.now
+plain_action (actions.Link path target) = actions.Link path.now target.now
+
+abbrev pub plain_client : Client (Bor Text) → Client Text
+plain_client c = record { addr = c.addr.now; export = c.export.now; uid = c.uid; gid = c.gid; action = plain_action c.action }
+
+abbrev pub plain_command : Command (Bor Text) → Command Text
+plain_command (commands.Serve config) = commands.Serve config.now
+plain_command (commands.Client client) = commands.Client (plain_client client)
+plain_command commands.Drill = commands.Drill
+plain_command (commands.GeneratedDrill seed clients calls) = commands.GeneratedDrill seed clients calls

@@ -1,0 +1,60 @@
+-- The program as clap knows it.
+use Rattle.std.specs.Prelude.{◌≡◌, pos, true, false, codes, Some}
+use Rattle.clap.specs.Words.{App, Rule, Text, app_of, new_app, new_rule, with_rule, with_subcommand}
+use Rattle.clap.specs.declared.builder.command.Command.TheViews.{out-Command}
+use Rattle.clap.specs.declared.builder.command.Command.{Command}
+use Rattle.clap.specs.declared.builder.value_parser.ValueParser.{ValueParser}
+use Rattle.clap.specs.declared.builder.value_parser.ValueParser.TheVariants as parsers
+
+abbrev pub positional_rule : Text → Rule
+positional_rule name = record (new_rule name) { required = true }
+
+abbrev pub number_rule : Text → ValueParser → Rule
+number_rule name parser = record (new_rule name) { long = Some name; parser = Some parser }
+
+abbrev pub client_app : Text → App
+client_app name =
+    with_rule (with_rule (with_rule (with_rule (new_app name) (positional_rule (codes "ADDR"))) (positional_rule (codes "EXPORT")))
+    (number_rule (codes "uid") (parsers.Signed (pos 0) (pos 4294967295)))) (number_rule (codes "gid") (parsers.Signed (pos 0) (pos 4294967295)))
+
+abbrev pub path_app : Text → App
+path_app name = with_rule (client_app name) (positional_rule (codes "PATH"))
+
+abbrev pub link_app : App
+link_app = with_rule (path_app (codes "ln")) (positional_rule (codes "TARGET"))
+
+abbrev pub serve_app : App
+serve_app = with_rule (new_app (codes "serve")) (positional_rule (codes "CONFIG"))
+
+abbrev pub drill_app : App
+drill_app =
+    with_rule (with_rule (with_rule (new_app (codes "drill")) (number_rule (codes "seed") (parsers.Unsigned 0 18446744073709551615)))
+    (number_rule (codes "clients") (parsers.Signed (pos 1) (pos 16)))) (number_rule (codes "calls") (parsers.Signed (pos 1) (pos 1000000)))
+
+abbrev pub plain_app : App
+plain_app = record (new_app (codes "nfsrdma")) {
+  top = record (new_app (codes "nfsrdma")).top { has_version = true; subcommand_required = true; disable_help_subcommand = true };
+}
+
+abbrev pub with_command : App → App → App
+with_command app command = with_subcommand app command.top
+
+unfoldable pub program_app : App
+program_app =
+    with_command (with_command (with_command (with_command (with_command (with_command (with_command (with_command (with_command (with_command (with_command plain_app
+    serve_app)
+    (client_app (codes "mount")))
+    (path_app (codes "ls")))
+    (path_app (codes "stat")))
+    (path_app (codes "readlink")))
+    (path_app (codes "mkdir")))
+    (path_app (codes "rm")))
+    (path_app (codes "put")))
+    (path_app (codes "get")))
+    link_app)
+    drill_app
+
+-- a command is this one, for itself alone
+pub record Builds (app : App) (command : Command) : Type 0 where
+  pub same : app_of command ≡ app
+  pub local : (out-Command command).has_globals ≡ false

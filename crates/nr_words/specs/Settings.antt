@@ -1,0 +1,73 @@
+-- The configuration of a server, a TOML document.
+use Rattle.std.specs.Prelude.{ℕ, ℤ, pos, negsuc, suc, ◌==◌, ◌&&◌, nat_le, if◌then◌else◌, List, length, codes, Option, Some, None, option_and_then, option_map, string_bytes}
+use Rattle.std.specs.Borrow.{Bor}
+use Rattle.std.specs.Result.{result_ok}
+use Rattle.std.specs.Str.{is_utf8}
+use Rattle.hex.specs.Hex.{decode_sized}
+use Rattle.toml.specs.Data.{Members, no_members, member, get_member, as_str, as_integer}
+use Rattle.toml.specs.Parse.{parse_document}
+use Rattle.nr_words.specs.declared.settings.Settings.{Settings}
+use Rattle.nr_words.specs.declared.settings.Config.{Config}
+use Rattle.nr_words.specs.Lines.{Text}
+
+-- the number of members
+abbrev pub count : Members → ℕ
+count no_members = 0
+count (member key value members) = suc (count members)
+
+-- the text at a key
+abbrev pub text_at : Text → Members → Option Text
+text_at key members = option_and_then as_str (get_member key members)
+
+-- the integer at a key
+abbrev pub integer_at : Text → Members → Option ℤ
+integer_at key members = option_and_then as_integer (get_member key members)
+
+-- the number at a key, if it is in the range
+abbrev pub in_range : ℕ → ℕ → ℤ → Option ℕ
+in_range low high (negsuc n) = None
+in_range low high (pos n) = if nat_le low n && nat_le n high then Some n else None
+
+abbrev pub number_at : ℕ → ℕ → Text → Members → Option ℕ
+number_at low high key members = option_and_then (in_range low high) (integer_at key members)
+
+-- the eight bytes that sixteen hexadecimal digits at a key write
+abbrev pub verifier_at : Text → Members → Option (List ℕ)
+verifier_at key members = option_and_then (λ text. result_ok (decode_sized text 8)) (text_at key members)
+
+-- a path of 1 to 1024 bytes
+abbrev pub path : Text → Option Text
+path text = if nat_le 1 (length text) && nat_le (length text) 1024 then Some text else None
+
+abbrev pub path_at : Text → Members → Option Text
+path_at key members = option_and_then path (text_at key members)
+
+-- exactly these keys, with values in range
+abbrev pub settings_of : Members → Option (Settings Text)
+settings_of members =
+    if count members == 6 then
+    option_and_then (λ listen.
+    option_and_then (λ export.
+    option_and_then (λ credits.
+    option_and_then (λ capacity.
+    option_and_then (λ connections.
+    option_map (λ verifier. record { listen = listen; export = export; credits = credits; capacity = capacity; connections = connections; write_verifier = verifier })
+    (verifier_at (codes "write_verifier") members))
+    (number_at 1 4294967295 (codes "connections") members))
+    (number_at 0 9223372036854775807 (codes "capacity") members))
+    (number_at 1 64 (codes "credits") members))
+    (path_at (codes "export") members))
+    (text_at (codes "listen") members)
+    else None
+
+-- the configuration that a text gives
+abbrev pub config_of : List ℕ → Option (Settings Text)
+config_of bytes = if is_utf8 bytes then option_and_then settings_of (parse_document bytes) else None
+
+-- ---- the same without references, and without strings
+
+abbrev pub plain_settings : Settings (Bor Text) → Settings Text
+plain_settings s = record { listen = s.listen.now; export = s.export.now; credits = s.credits; capacity = s.capacity; connections = s.connections; write_verifier = s.write_verifier }
+
+abbrev pub config_settings : Config → Settings Text
+config_settings c = record { listen = string_bytes c.listen; export = string_bytes c.export; credits = c.credits; capacity = c.capacity; connections = c.connections; write_verifier = c.write_verifier }

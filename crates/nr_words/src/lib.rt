@@ -1,0 +1,21 @@
+//! The words of a run, and the configuration of a server.
+//!
+//! A *line* is the program's name, a command, its positionals in order and, anywhere after the command, its options, each
+//! at most once, as `--name value`. [`read_words`] gives the command of each line, whatever memory there is. Other words go
+//! to clap: what it takes is done as the line of the same values, what it refuses is answered by its text, and `--help` and
+//! `--version` by theirs. [`read_config`] reads the TOML document of a server.
+//!
+//! The crate opens and prints nothing.
+#![tactic(auto)]
+
+mod commands;
+mod lines;
+mod numbers;
+mod program;
+mod settings;
+mod words;
+
+pub use commands::{Action, Client, Command};
+pub use lines::read_line;
+pub use settings::{Config, ConfigFault, Settings, read_config};
+pub use words::{WordsFault, read_words};

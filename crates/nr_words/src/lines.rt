@@ -1,0 +1,374 @@
+//! The lines of the program: words in the one spelling that is never refused.
+
+ghost use Rattle.std.specs.Prelude.{◌≡◌, map, option_map, string_bytes};
+ghost use Rattle.nr_words.specs.Lines.{option_named, takes, with_value, with_positional, is_positional, step, steps, start, arity, drill_of, subcommand_named, command_of, finished, line_of, plain_state, plain_positionals, plain_command, plain_client};
+
+use crate::commands::{Action, Client, Command};
+use crate::numbers::numeral_within;
+
+/// The first word after the program's name.
+#[derive(Clone, Copy, PartialEq, Eq)]
+pub(crate) enum Subcommand {
+    Serve,
+    Mount,
+    List,
+    Stat,
+    ReadLink,
+    MakeDirectory,
+    Remove,
+    Put,
+    Get,
+    Link,
+    Drill,
+}
+
+/// An option.
+#[derive(Clone, Copy, PartialEq, Eq)]
+pub(crate) enum OptionName {
+    Uid,
+    Gid,
+    Seed,
+    Clients,
+    Calls,
+}
+
+/// The values of the options that are given.
+#[derive(Clone, Copy)]
+pub(crate) struct Options {
+    pub(crate) uid: Option<u32>,
+    pub(crate) gid: Option<u32>,
+    pub(crate) seed: Option<u64>,
+    pub(crate) clients: Option<u32>,
+    pub(crate) calls: Option<u32>,
+}
+
+/// The positionals, of which `count` are given.
+#[derive(Clone, Copy)]
+pub(crate) struct Positionals<T> {
+    pub(crate) count: usize,
+    pub(crate) first: T,
+    pub(crate) second: T,
+    pub(crate) third: T,
+    pub(crate) fourth: T,
+}
+
+/// What the words so far give. After the name of an option its value is waited for.
+#[derive(Clone, Copy)]
+struct State<T> {
+    waiting: Option<OptionName>,
+    options: Options,
+    positionals: Positionals<T>,
+}
+
+/// The command that a word names.
+pub(crate) fn subcommand_named(word: &str) -> Option<Subcommand>
+    ensures { result ≡ subcommand_named word.now }
+{
+    if word == "serve" {
+        Some(Subcommand::Serve)
+    } else if word == "mount" {
+        Some(Subcommand::Mount)
+    } else if word == "ls" {
+        Some(Subcommand::List)
+    } else if word == "stat" {
+        Some(Subcommand::Stat)
+    } else if word == "readlink" {
+        Some(Subcommand::ReadLink)
+    } else if word == "mkdir" {
+        Some(Subcommand::MakeDirectory)
+    } else if word == "rm" {
+        Some(Subcommand::Remove)
+    } else if word == "put" {
+        Some(Subcommand::Put)
+    } else if word == "get" {
+        Some(Subcommand::Get)
+    } else if word == "ln" {
+        Some(Subcommand::Link)
+    } else if word == "drill" {
+        Some(Subcommand::Drill)
+    } else {
+        None
+    }
+}
+
+/// The option that a word names.
+fn option_named(word: &str) -> Option<OptionName>
+    ensures { result ≡ option_named word.now }
+{
+    if word == "--uid" {
+        Some(OptionName::Uid)
+    } else if word == "--gid" {
+        Some(OptionName::Gid)
+    } else if word == "--seed" {
+        Some(OptionName::Seed)
+    } else if word == "--clients" {
+        Some(OptionName::Clients)
+    } else if word == "--calls" {
+        Some(OptionName::Calls)
+    } else {
+        None
+    }
+}
+
+/// Whether a command takes an option.
+fn takes(subcommand: Subcommand, name: OptionName) -> bool
+    ensures { result ≡ takes subcommand name }
+{
+    match subcommand {
+        Subcommand::Serve => false,
+        Subcommand::Drill => matches!(
+            name,
+            OptionName::Seed | OptionName::Clients | OptionName::Calls
+        ),
+        _ => matches!(name, OptionName::Uid | OptionName::Gid),
+    }
+}
+
+/// The number of positionals that a command takes.
+pub(crate) fn arity(subcommand: Subcommand) -> usize
+    ensures { result ≡ arity subcommand }
+{
+    match subcommand {
+        Subcommand::Serve => 1,
+        Subcommand::Mount => 2,
+        Subcommand::Link => 4,
+        Subcommand::Drill => 0,
+        _ => 3,
+    }
+}
+
+/// The options with one more, if it was not given before and its value is in its range.
+fn with_value(options: Options, name: OptionName, word: &str) -> Option<Options>
+    ensures { result ≡ with_value options name word.now }
+{
+    match name {
+        OptionName::Uid => match (options.uid, numeral_within(0, 4294967295, word.as_bytes())) {
+            (None, Some(value)) => Some(Options {
+                uid: Some(value as u32),
+                ..options
+            }),
+            _ => None,
+        },
+        OptionName::Gid => match (options.gid, numeral_within(0, 4294967295, word.as_bytes())) {
+            (None, Some(value)) => Some(Options {
+                gid: Some(value as u32),
+                ..options
+            }),
+            _ => None,
+        },
+        OptionName::Seed => match (options.seed, numeral_within(0, u64::MAX, word.as_bytes())) {
+            (None, Some(value)) => Some(Options {
+                seed: Some(value),
+                ..options
+            }),
+            _ => None,
+        },
+        OptionName::Clients => match (options.clients, numeral_within(1, 16, word.as_bytes())) {
+            (None, Some(value)) => Some(Options {
+                clients: Some(value as u32),
+                ..options
+            }),
+            _ => None,
+        },
+        OptionName::Calls => match (options.calls, numeral_within(1, 1000000, word.as_bytes())) {
+            (None, Some(value)) => Some(Options {
+                calls: Some(value as u32),
+                ..options
+            }),
+            _ => None,
+        },
+    }
+}
+
+/// Whether a word can be a positional.
+pub(crate) fn is_positional(word: &str) -> bool
+    ensures { result ≡ is_positional word.now }
+{
+    match word.as_bytes() {
+        [] => false,
+        [first, ..] => *first != b'-',
+    }
+}
+
+/// The positionals with one more after the others.
+pub(crate) fn with_positional<'a>(
+    positionals: Positionals<&'a str>,
+    word: &'a str,
+) -> Option<Positionals<&'a str>>
+    ensures { option_map plain_positionals result ≡ with_positional (plain_positionals positionals.entry) word.entry.now }
+{
+    match positionals.count {
+        0 => Some(Positionals {
+            count: 1,
+            first: word,
+            ..positionals
+        }),
+        1 => Some(Positionals {
+            count: 2,
+            second: word,
+            ..positionals
+        }),
+        2 => Some(Positionals {
+            count: 3,
+            third: word,
+            ..positionals
+        }),
+        3 => Some(Positionals {
+            count: 4,
+            fourth: word,
+            ..positionals
+        }),
+        _ => None,
+    }
+}
+
+/// What is known after one more word.
+fn step<'a>(subcommand: Subcommand, state: State<&'a str>, word: &'a str) -> Option<State<&'a str>>
+    ensures { option_map plain_state result ≡ step subcommand (plain_state state.entry) word.entry.now }
+{
+    match state.waiting {
+        Some(name) => {
+            let options = with_value(state.options, name, word)?;
+            Some(State {
+                waiting: None,
+                options,
+                positionals: state.positionals,
+            })
+        }
+        None => match option_named(word) {
+            Some(name) => {
+                if takes(subcommand, name) {
+                    Some(State {
+                        waiting: Some(name),
+                        options: state.options,
+                        positionals: state.positionals,
+                    })
+                } else {
+                    None
+                }
+            }
+            None => {
+                if !is_positional(word) {
+                    return None;
+                }
+                let positionals = with_positional(state.positionals, word)?;
+                Some(State {
+                    waiting: None,
+                    options: state.options,
+                    positionals,
+                })
+            }
+        },
+    }
+}
+
+/// A drill of a script that is read, or of one that is generated.
+fn drill_of<'a>(
+    seed: Option<u64>,
+    clients: Option<u32>,
+    calls: Option<u32>,
+) -> Option<Command<&'a str>>
+    ensures { option_map plain_command result ≡ drill_of seed clients calls }
+{
+    match (seed, clients, calls) {
+        (None, None, None) => Some(Command::Drill),
+        (Some(seed), Some(clients), Some(calls)) => Some(Command::GeneratedDrill {
+            seed,
+            clients,
+            calls,
+        }),
+        _ => None,
+    }
+}
+
+/// The command of these options and positionals, if none is missing.
+pub(crate) fn command_of<'a>(
+    subcommand: Subcommand,
+    options: Options,
+    positionals: Positionals<&'a str>,
+) -> Option<Command<&'a str>>
+    ensures { option_map plain_command result ≡ command_of subcommand options (plain_positionals positionals.entry) }
+{
+    if positionals.count != arity(subcommand) {
+        return None;
+    }
+    let path = positionals.third;
+    let action = match subcommand {
+        Subcommand::Serve => {
+            return Some(Command::Serve {
+                config: positionals.first,
+            });
+        }
+        Subcommand::Drill => return drill_of(options.seed, options.clients, options.calls),
+        Subcommand::Mount => Action::Mount,
+        Subcommand::List => Action::List { path },
+        Subcommand::Stat => Action::Stat { path },
+        Subcommand::ReadLink => Action::ReadLink { path },
+        Subcommand::MakeDirectory => Action::MakeDirectory { path },
+        Subcommand::Remove => Action::Remove { path },
+        Subcommand::Put => Action::Put { path },
+        Subcommand::Get => Action::Get { path },
+        Subcommand::Link => Action::Link {
+            path,
+            target: positionals.fourth,
+        },
+    };
+    Some(Command::Client {
+        client: Client {
+            addr: positionals.first,
+            export: positionals.second,
+            uid: options.uid.unwrap_or(0),
+            gid: options.gid.unwrap_or(0),
+            action,
+        },
+    })
+}
+
+/// The command, if no value is waited for.
+fn finished<'a>(subcommand: Subcommand, state: State<&'a str>) -> Option<Command<&'a str>>
+    ensures { option_map plain_command result ≡ finished subcommand (plain_state state.entry) }
+{
+    match state.waiting {
+        Some(_) => None,
+        None => command_of(subcommand, state.options, state.positionals),
+    }
+}
+
+/// What is known after the words that follow the command.
+fn steps<'a>(subcommand: Subcommand, words: &'a [String]) -> Option<State<&'a str>>
+    ensures { option_map plain_state result ≡ steps subcommand start (map string_bytes words.entry.now) }
+{
+    let mut state = State {
+        waiting: None,
+        options: Options {
+            uid: None,
+            gid: None,
+            seed: None,
+            clients: None,
+            calls: None,
+        },
+        positionals: Positionals {
+            count: 0,
+            first: "",
+            second: "",
+            third: "",
+            fourth: "",
+        },
+    };
+    for word in words {
+        state = step(subcommand, state, word.as_str())?;
+    }
+    Some(state)
+}
+
+/// The command of the words, if they are a line. Takes no memory.
+pub fn read_line<'a>(words: &'a [String]) -> Option<Command<&'a str>>
+    ensures { option_map plain_command result ≡ line_of (map string_bytes words.entry.now) }
+{
+    if words.len() < 2 {
+        return None;
+    }
+    let subcommand = subcommand_named(words[1].as_str())?;
+    let state = steps(subcommand, &words[2..])?;
+    finished(subcommand, state)
+}

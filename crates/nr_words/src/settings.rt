@@ -1,0 +1,180 @@
+//! The configuration of a server, a TOML document.
+
+ghost use Rattle.std.specs.Prelude.{◌≡◌, ◌==◌, IfErr, IfOk, None, Some, option_map};
+ghost use Rattle.toml.specs.View.{table_view};
+ghost use Rattle.nr_words.specs.Settings.{config_of, count, in_range, integer_at, plain_settings, path_at, number_at, config_settings, settings_of, text_at, verifier_at};
+ghost use Rattle.nr_words.specs.declared.settings.ConfigFault.TheVariants.{Bad};
+
+use hex::FromHex;
+use std::alloc::{AllocError, Global};
+use toml::Table;
+
+/// What the configuration of a server says.
+#[derive(Clone, Copy)]
+pub struct Settings<T> {
+    pub listen: T,
+    pub export: T,
+    pub credits: u64,
+    pub capacity: u64,
+    pub connections: u64,
+    pub write_verifier: [u8; 8],
+}
+
+/// The configuration of a server.
+#[derive(Drop)]
+pub struct Config {
+    pub listen: String,
+    pub export: String,
+    pub credits: u64,
+    pub capacity: u64,
+    pub connections: u64,
+    pub write_verifier: [u8; 8],
+}
+
+/// Why a text gives no configuration.
+#[derive(Clone, Copy, PartialEq, Eq, Drop)]
+pub enum ConfigFault {
+    /// The text is no configuration.
+    Bad,
+    /// Memory ran out.
+    Memory,
+}
+
+impl From<AllocError> for ConfigFault {
+    ghost use Rattle.nr_words.specs.declared.settings.ConfigFault.TheVariants as faults;
+
+    ghost from_gives = { λ _ fault. fault ≡ faults.Memory };
+
+    fn from(_error: AllocError) -> ConfigFault {
+        ConfigFault::Memory
+    }
+}
+
+/// The text at a key.
+fn text_at<'a>(table: &'a Table, key: &str) -> Option<&'a str>
+    ensures { option_map (λ s. s.now) result ≡ text_at key.now (table_view table.now) }
+{
+    match table.get(key) {
+        Some(value) => value.as_str(),
+        None => None,
+    }
+}
+
+/// The integer at a key.
+fn integer_at(table: &Table, key: &str) -> Option<i64>
+    ensures { result ≡ integer_at key.now (table_view table.now) }
+{
+    match table.get(key) {
+        Some(value) => value.as_integer(),
+        None => None,
+    }
+}
+
+/// A number, if it is in the range.
+fn in_range(low: u64, high: u64, value: i64) -> Option<u64>
+    ensures { result ≡ in_range low high value }
+{
+    if value < 0 {
+        return None;
+    }
+    let value = value as u64;
+    if value < low {
+        return None;
+    }
+    if value > high {
+        return None;
+    }
+    Some(value)
+}
+
+/// The number at a key, if it is in the range.
+fn number_at(table: &Table, key: &str, low: u64, high: u64) -> Option<u64>
+    ensures { result ≡ number_at low high key.now (table_view table.now) }
+{
+    let value = integer_at(table, key)?;
+    in_range(low, high, value)
+}
+
+/// The path at a key, of 1 to 1024 bytes.
+fn path_at<'a>(table: &'a Table, key: &str) -> Option<&'a str>
+    ensures { option_map (λ s. s.now) result ≡ path_at key.now (table_view table.now) }
+{
+    let path = text_at(table, key)?;
+    if path.is_empty() {
+        return None;
+    }
+    if path.len() > 1024 {
+        return None;
+    }
+    Some(path)
+}
+
+/// Whether the table has six keys.
+fn has_six(table: &Table) -> bool
+    ensures { result ≡ (count (table_view table.now) == 6) }
+{
+    table.len() == 6
+}
+
+/// The eight bytes of the sixteen hexadecimal digits at a key.
+fn verifier_at(table: &Table, key: &str) -> Option<[u8; 8]>
+    ensures { result ≡ verifier_at key.now (table_view table.now) }
+{
+    let text = text_at(table, key)?;
+    <[u8; 8] as FromHex>::from_hex(text).ok()
+}
+
+/// What the table says: exactly these six keys, with values in range.
+fn settings_of(table: &Table) -> Option<Settings<&str>>
+    ensures { option_map plain_settings result ≡ settings_of (table_view table.now) }
+{
+    if !has_six(table) {
+        return None;
+    }
+    let listen = text_at(table, "listen")?;
+    let export = path_at(table, "export")?;
+    let credits = number_at(table, "credits", 1, 64)?;
+    let capacity = number_at(table, "capacity", 0, 9223372036854775807)?;
+    let connections = number_at(table, "connections", 1, 4294967295)?;
+    let write_verifier = verifier_at(table, "write_verifier")?;
+    Some(Settings {
+        listen,
+        export,
+        credits,
+        capacity,
+        connections,
+        write_verifier,
+    })
+}
+
+/// Reads a configuration: a TOML document with the six keys `listen` (text), `export` (text of 1 to 1024 bytes), `credits`
+/// (1 to 64), `capacity` (0 to 2^63 - 1), `connections` (1 to 2^32 - 1) and `write_verifier` (text of 16 hexadecimal
+/// digits), and no other.
+pub fn read_config(alloc: Global, bytes: &[u8]) -> Result<Config, ConfigFault>
+    ensures ok { IfOk result (λ config. config_of bytes.now ≡ Some (config_settings config)) }
+    ensures bad { IfErr result (λ fault. fault ≡ Bad → config_of bytes.now ≡ None) }
+{
+    let table = match toml::table_from_slice(alloc, bytes) {
+        Ok(table) => table,
+        Err(error) => {
+            if error.is_memory() {
+                return Err(ConfigFault::Memory);
+            }
+            return Err(ConfigFault::Bad);
+        }
+    };
+    let settings = match settings_of(&table) {
+        Some(settings) => settings,
+        None => return Err(ConfigFault::Bad),
+    };
+    let listen = String::from_str(alloc, settings.listen)?;
+    let export = String::from_str(alloc, settings.export)?;
+    Ok(Config {
+        listen,
+        export,
+        credits: settings.credits,
+        capacity: settings.capacity,
+        connections: settings.connections,
+        write_verifier: settings.write_verifier,
+    })
+}
