@@ -27,7 +27,7 @@ Finding = tuple[str, bool, tuple[str, ...], str, int]
 
 USES = [
     'use Rattle.nr_reduce.specs.ClientState.{call_payload, plan_for, client_memory_at, responses_owed}',
-    'use Rattle.nr_reduce.specs.Written.{ends_left, ends_waiting}',
+    'use Rattle.nr_reduce.specs.Written.{ends_written, ends_waiting}',
     'use Rattle.nr_reduce.specs.DueItems.{items_due, hello_due}',
     'use Rattle.nr_link.specs.OutputItem.{items_encoding, is_send_item, is_response_item, items_written, items_left}',
     'use Rattle.nr_reduce.specs.Plans.{lists_of, call_message, buffers}',
@@ -78,7 +78,7 @@ ROLES: dict[str, str] = {
     'items': 'λ opened link side run. items_due opened link side run',
     'hello_due': 'λ opened link side run. hello_due opened link side run',
     'items_bytes': 'λ items. items_encoding items',
-    'sends_counted': 'λ state. ends_left state.written state.send_ends',
+    'sends_counted': 'λ state. ends_written state.written state.send_ends',
     'responses_counted': 'λ state. responses_owed state',
     'messages_counted': 'λ state. ends_waiting state.written state.message_ends',
     'sends_by_items': 'λ at written items. items_written is_send_item at written items',

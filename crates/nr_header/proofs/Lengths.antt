@@ -1,10 +1,10 @@
 -- The length of an encoded header: of its lists, one after the other.
-use Rattle.std.proofs.Common.{◌≡◌, ℕ, ◌+◌, ◌*◌, Bool, true, false, List, [], ◌∷◌, ◌++◌, length, sum_by, Option, Some, None, arith, length-append}
+use Rattle.std.proofs.Common.{◌≡◌, ℕ, ◌+◌, ◌*◌, Bool, true, false, List, [], ◌∷◌, ◌++◌, length, sum_by, Option, Some, None, refl, arith, length-append}
 use Rattle.std.proofs.lemmas.List.Sums.{sum_by-cons}
 use Rattle.nr_xdr.specs.Item.{Item as XdrItem, word, hyper}
 use Rattle.nr_xdr.specs.Item.Item.{Unsigned}
 use Rattle.nr_xdr.specs.Items.{encodings}
-use Rattle.nr_header.specs.Constants.{ERROR, ERR_VERS, ERR_CHUNK}
+use Rattle.nr_header.specs.Constants.{ERROR, ERR_VERS, ERR_CHUNK, SEGMENT_LEN}
 use Rattle.nr_xdr.proofs.WordBytes.{length_word, length_hyper}
 use Rattle.nr_header.specs.declared.header.RdmaSegment.{RdmaSegment}
 use Rattle.nr_header.specs.declared.header.ReadSegment.{ReadSegment}
@@ -53,6 +53,15 @@ write_len (chunk ∷ chunks) more =
     let c = write_len chunks more in
     let d = sum_by-cons (λ (k : List RdmaSegment). write_chunk_len (length k)) chunk chunks in
     omega (arith, a, b, c, d)
+
+-- a write list by the number of its chunks, and of all their segments
+pub write_list_segments : (chunks : List (List RdmaSegment)) → write_list_len chunks ≡ 8 * length chunks + SEGMENT_LEN * sum_by (λ (chunk : List RdmaSegment). length chunk) chunks
+write_list_segments [] = refl
+write_list_segments (chunk ∷ chunks) =
+    let a = sum_by-cons (λ (k : List RdmaSegment). write_chunk_len (length k)) chunk chunks in
+    let b = sum_by-cons (λ (k : List RdmaSegment). length k) chunk chunks in
+    let c = write_list_segments chunks in
+    omega (arith, a, b, c)
 
 reply_length : (reply : Option (List RdmaSegment)) → length (encodings (reply_items reply [])) ≡ 4 + reply_len reply
 reply_length None = word_len 0 []

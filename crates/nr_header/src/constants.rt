@@ -12,6 +12,9 @@ pub const MSG: u32 = 0;
 /// RDMA_NOMSG: the Payload stream is in a chunk (RFC 8166 section 4.2.4).
 pub const NOMSG: u32 = 1;
 
+/// RDMA_DONE, which nobody sends (RFC 8166 section 4.2.4).
+pub const DONE: u32 = 3;
+
 /// RDMA_ERROR: the message reports an error (RFC 8166 section 4.2.4).
 pub const ERROR: u32 = 4;
 

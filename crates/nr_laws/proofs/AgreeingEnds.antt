@@ -253,14 +253,14 @@ server_took opened k s (q ∷ u) d all_up all_down w p rest n r place l first se
     let f = frame_of (frame_bytes Initiator (numbered_segment n r p)) place in
     let n_is : n ≡ s.received.sends = sends ∙ sym l.sends_up in
     let r_is : r ≡ s.received.requests = requests ∙ sym l.requests_up in
-    let begun : 0 < total_of hellos_in (q ∷ u) = hello-there q u (p ∷ (rest ++ w.queued_up)) stream in
+    let begun : 0 < total_of hellos_in (q ∷ u) = hello_there q u (p ∷ (rest ++ w.queued_up)) stream in
     took_piece opened k s (q ∷ u) d all_up all_down w p rest f l first proper (omega (arith, begun, l.hellos_down))
     (subst (λ (x : ℕ). Carries x s.received.requests f p) n_is (subst (λ (x : ℕ). Carries n x f p) r_is (is_piece Initiator n r place p (proper_one n r p proper) at)))
     bytes (λ i. frame_bytes Initiator (numbered_segment (n_is i) (r_is i) p)) stays
   where
-    hello-there : (q : FrameContent) (ps qs : List FrameContent) → IsOutput (q ∷ ps ++ qs) → 0 < total_of hellos_in (q ∷ ps)
-    hello-there HelloFrame ps qs h = omega arith
-    hello-there (PartFrame offset payload) ps qs h = absurd h
-    hello-there (SendFrame message) ps qs h = absurd h
-    hello-there (RequestFrame sink at size stag to) ps qs h = absurd h
-    hello-there (TaggedFrame last opcode stag to payload) ps qs h = absurd h
+    hello_there : (q : FrameContent) (ps qs : List FrameContent) → IsOutput (q ∷ ps ++ qs) → 0 < total_of hellos_in (q ∷ ps)
+    hello_there HelloFrame ps qs h = omega arith
+    hello_there (PartFrame offset payload) ps qs h = absurd h
+    hello_there (SendFrame message) ps qs h = absurd h
+    hello_there (RequestFrame sink at size stag to) ps qs h = absurd h
+    hello_there (TaggedFrame last opcode stag to payload) ps qs h = absurd h

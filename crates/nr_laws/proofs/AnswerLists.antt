@@ -5,7 +5,7 @@ use Rattle.std.proofs.lemmas.List.Elements.{All-nil, recursion_from_All, All-fro
 use Rattle.std.specs.List.{AllByRecursion}
 use Rattle.nr_xdr.specs.Item.{Item}
 use Rattle.nr_xdr.specs.Items.{AllFit}
-use Rattle.nr_header.specs.Constants.{PAYLOAD_MAX}
+use Rattle.nr_header.specs.Constants.{PAYLOAD_MAX, CHUNK_SEGMENTS_MAX, REPLY_SEGMENTS_MAX}
 use Rattle.nr_header.specs.declared.header.RdmaSegment.{RdmaSegment}
 use Rattle.nr_header.specs.declared.header.ChunkLists.{ChunkLists}
 use Rattle.nr_header.specs.declared.header.Body.TheVariants.{Msg, Nomsg, ErrVers, ErrChunk}
@@ -47,7 +47,7 @@ lists_fit_lem offer a h =
 -- ---- Within the limits
 
 abbrev IsSmall : List RdmaSegment → Type 0
-IsSmall chunk = length chunk ≤ 16
+IsSmall chunk = length chunk ≤ CHUNK_SEGMENTS_MAX
 
 abbrev segment_total : List (List RdmaSegment) → ℕ
 segment_total chunks = sum_by (λ (chunk : List RdmaSegment). length chunk) chunks
@@ -75,7 +75,7 @@ written_returned : (chunks : List (List RdmaSegment)) (n : ℕ) → Returned chu
 written_returned [] n = record { count = refl; segments = refl; small = λ h. h; ends = λ h. h }
 written_returned (chunk ∷ chunks) n = returned_cons chunk n chunks (empty_chunks chunks) (empty_returned chunks)
 
-returned_count_lem : (reply : Option (List RdmaSegment)) (b : Bool) (n : ℕ) → IfSome reply (λ chunk. length chunk ≤ 16) → IfSome (cond b (Some (filled_chunk (no_segments reply) n)) None) (λ chunk. length chunk ≤ 16)
+returned_count_lem : (reply : Option (List RdmaSegment)) (b : Bool) (n : ℕ) → IfSome reply (λ chunk. length chunk ≤ REPLY_SEGMENTS_MAX) → IfSome (cond b (Some (filled_chunk (no_segments reply) n)) None) (λ chunk. length chunk ≤ REPLY_SEGMENTS_MAX)
 returned_count_lem reply false n h = tt
 returned_count_lem None true n h = omega arith
 returned_count_lem (Some chunk) true n h = (let l = length_filled chunk n in omega (arith, l, h))

@@ -7,7 +7,7 @@ use Rattle.std.proofs.lemmas.List.{map-append}
 use Rattle.nr_xdr.specs.Fields.{word_at}
 use Rattle.nr_reduce.specs.Limits.{numbers_end}
 use Rattle.nr_reduce.specs.Plans.{one_if}
-use Rattle.nr_reduce.specs.Written.{ends_left}
+use Rattle.nr_reduce.specs.Written.{ends_written}
 use Rattle.nr_reduce.specs.ClientState.{ClientState, OutstandingCall, is_sent}
 use Rattle.nr_reduce.specs.ClientMessages.{answered_call}
 use Rattle.nr_reduce.specs.ServerState.{ServerState, PendingCall}
@@ -189,22 +189,22 @@ found_sent sent x (o ∷ os) own some = by (eqb o.xid x) refl (found_sent sent x
         let m = later (omega (arith, some, ap one_if is)) in
         (m.0, (λ i. cond (is i && sent o) (Some o) (find (λ (z : OutstandingCall). eqb z.xid x && sent z) os)) ∙ m.1)
 
-pub answers_one : (first : ℕ) (k : ClientState) (s : ServerState) (u d all_down : List FrameContent) (w : Transit) (message : SentMessage) (rest : List FrameContent) → all_down ≡ d ++ SendFrame message ∷ rest → s.received.sends ≤ k.calls_accepted → k.first_xid ≡ first → s.received.sends ≤ ends_left k.written k.send_ends
+pub answers_one : (first : ℕ) (k : ClientState) (s : ServerState) (u d all_down : List FrameContent) (w : Transit) (message : SentMessage) (rest : List FrameContent) → all_down ≡ d ++ SendFrame message ∷ rest → s.received.sends ≤ k.calls_accepted → k.first_xid ≡ first → s.received.sends ≤ ends_written k.written k.send_ends
     → Answered first k s u d all_down w → (o : OutstandingCall) × (answered_call k (word_at 0 message.bytes) ≡ Some o)
 answers_one first k s u d all_down w message rest parts sends own left h =
     let x = word_at 0 message.bytes in
     let there : times x (message_xids all_down) ≡ times x (message_xids d) + (1 + times x (message_xids rest)) =
     ap (λ (ps : List FrameContent). times x (message_xids ps)) parts ∙ said_more_lem x d (SendFrame message ∷ rest)
     ∙ ap (λ (b : Bool). times x (message_xids d) + (one_if b + times x (message_xids rest))) (eq-eqb x x refl) in
-    let below : x < first + s.received.sends = not-later x there (cases_lt x (first + s.received.sends)) in
-    let above : first ≤ x = not-earlier x there (cases_lt x first) in
+    let below : x < first + s.received.sends = not_later x there (cases_lt x (first + s.received.sends)) in
+    let above : first ≤ x = not_earlier x there (cases_lt x first) in
     let some : 1 ≤ times x (outstanding_xids k.outstanding) = omega (arith, there, h.once x, h.open_calls x above (omega (arith, below, sends))) in
-    found_sent (is_sent k) x k.outstanding (λ o same. lt-ltb (o.xid - k.first_xid) (ends_left k.written k.send_ends) (omega (arith, same, own, left, below, above))) some
+    found_sent (is_sent k) x k.outstanding (λ o same. lt-ltb (o.xid - k.first_xid) (ends_written k.written k.send_ends) (omega (arith, same, own, left, below, above))) some
   where
-    not-later : (x : ℕ) → times x (message_xids all_down) ≡ times x (message_xids d) + (1 + times x (message_xids rest)) → (x < first + s.received.sends) ⊎ (first + s.received.sends ≤ x) → x < first + s.received.sends
-    not-later x there (inl lt) = lt
-    not-later x there (inr le) = absurd (omega (arith, there, h.later x le))
+    not_later : (x : ℕ) → times x (message_xids all_down) ≡ times x (message_xids d) + (1 + times x (message_xids rest)) → (x < first + s.received.sends) ⊎ (first + s.received.sends ≤ x) → x < first + s.received.sends
+    not_later x there (inl lt) = lt
+    not_later x there (inr le) = absurd (omega (arith, there, h.later x le))
 
-    not-earlier : (x : ℕ) → times x (message_xids all_down) ≡ times x (message_xids d) + (1 + times x (message_xids rest)) → (x < first) ⊎ (first ≤ x) → first ≤ x
-    not-earlier x there (inl lt) = absurd (omega (arith, there, h.earlier x lt))
-    not-earlier x there (inr le) = le
+    not_earlier : (x : ℕ) → times x (message_xids all_down) ≡ times x (message_xids d) + (1 + times x (message_xids rest)) → (x < first) ⊎ (first ≤ x) → first ≤ x
+    not_earlier x there (inl lt) = absurd (omega (arith, there, h.earlier x lt))
+    not_earlier x there (inr le) = le

@@ -16,6 +16,7 @@ use Rattle.nr_wire.proofs.Frames.{whole_from, fields_some}
 use Rattle.nr_wire.proofs.Splits.{split_append, split_frames}
 use Rattle.nr_wire.proofs.Segments.{encoding_again}
 use Rattle.nr_wire.proofs.Hellos.{hello_again}
+use Rattle.nr_wire.specs.Constants.{ULPDU_MAX}
 use Rattle.nr_link.specs.Output.{own_hello}
 use Rattle.nr_link.specs.Frames.{Frame, frames_from, frames_completed, is_hello}
 use Rattle.nr_link.specs.Ending.{frame_segment}
@@ -37,7 +38,7 @@ use Rattle.nr_reduce.proofs.Standing.{received_one}
 pub record IsWord (segment : Segment) : Type 0 where
   pub supported : IsSupported segment
   pub fits : Fits segment
-  pub size : ulpdu_size segment ≤ 65535
+  pub size : ulpdu_size segment ≤ ULPDU_MAX
 
 record Judged {V : Type 0} (whole : Bool) (r : Result V ℕ) (value : V) (len n : ℕ) : Type 0 where
   is_whole : whole ≡ true
@@ -268,14 +269,14 @@ later_brought place (AHello bytes ∷ outs) some h = absurd h
 later_brought place (ASegment s ∷ outs) some h =
     ((ne_eqb place 0 (λ e. omega (arith, e, some)), (encoding_is s h.0).says), later_brought (place + length (encoding s)) outs (omega (arith, some)) h.1)
 
-pub all-brought : (side : Side) (outs : List Output) → AreFrom (HelloFrom side) outs → EachBrought (frames_from 0 (map bytes_of outs)) outs
-all-brought side [] h = tt
-all-brought side (AHello bytes ∷ outs) h =
+pub all_brought : (side : Side) (outs : List Output) → AreFrom (HelloFrom side) outs → EachBrought (frames_from 0 (map bytes_of outs)) outs
+all_brought side [] h = tt
+all_brought side (AHello bytes ∷ outs) h =
     let frame = (hello_is side).is_frame in
     let least = frame.fields in
     let long = ap (λ (b : List ℕ). length b) h.0 in
     ((refl, refl), later_brought (0 + length bytes) outs (omega (arith, least, fields_some (HelloFrom side), long)) h.1)
-all-brought side (ASegment s ∷ outs) h = absurd h
+all_brought side (ASegment s ∷ outs) h = absurd h
 
 -- what a side receives of what its peer writes
 pub record Receives (link : ℕ) (side : Side) (run : List Mark) (outs : List Output) : Type 0 where
@@ -295,5 +296,5 @@ receives link side run outs from p =
       left = f.left;
       parts = f.parts;
       from = came;
-      brings = brings_each (events link side run) f.came (subst (λ (fs : List Frame). EachBrought fs f.came) (sym frames) (all-brought (other side) f.came came));
+      brings = brings_each (events link side run) f.came (subst (λ (fs : List Frame). EachBrought fs f.came) (sym frames) (all_brought (other side) f.came came));
     }

@@ -87,12 +87,12 @@ after_one_lem grants stag bytes a fits = by (eqb a.stag stag) (grant_denial gran
         let own = eqb-true a.stag stag same in
         record {
           len = ap length is ∙ length_bytes_after_write bytes a.to a.payload (fits own none);
-          each = λ at byte e. of-byte own none at byte (written_byte a.to bytes a.payload at byte (fits own none) (ap (λ (xs : List ℕ). slice_get xs at) (sym is) ∙ e));
+          each = λ at byte e. of_byte own none at byte (written_byte a.to bytes a.payload at byte (fits own none) (ap (λ (xs : List ℕ). slice_get xs at) (sym is) ∙ e));
         }
       where
-        of-byte : a.stag ≡ stag → grant_denial grants (access_of_tagged a) a.end ≡ None → (at byte : ℕ) → (slice_get bytes at ≡ Some byte) ⊎ ((a.to ≤ at) × (slice_get a.payload (at - a.to) ≡ Some byte)) → (slice_get bytes at ≡ Some byte) ⊎ FromSegment grants stag (a ∷ []) at byte
-        of-byte own none at byte (inl old) = inl old
-        of-byte own none at byte (inr new) = inr (record { tagged = a; there = inl refl; own = own; allowed = none; begins = new.0; byte_is = new.1 })
+        of_byte : a.stag ≡ stag → grant_denial grants (access_of_tagged a) a.end ≡ None → (at byte : ℕ) → (slice_get bytes at ≡ Some byte) ⊎ ((a.to ≤ at) × (slice_get a.payload (at - a.to) ≡ Some byte)) → (slice_get bytes at ≡ Some byte) ⊎ FromSegment grants stag (a ∷ []) at byte
+        of_byte own none at byte (inl old) = inl old
+        of_byte own none at byte (inr new) = inr (record { tagged = a; there = inl refl; own = own; allowed = none; begins = new.0; byte_is = new.1 })
     by true (Some why) same none =
         let is : after_segment grants stag bytes a ≡ bytes = (λ i. cond (same i && is_none (none i)) (bytes_after_write bytes a.to a.payload) bytes) in
         record { len = ap length is; each = λ at byte e. inl (ap (λ (xs : List ℕ). slice_get xs at) (sym is) ∙ e) }

@@ -148,10 +148,10 @@ module _ (opened : LinkParameters) (link : ℕ) (run : List Mark) (typed : IsTyp
     (es : List RunEvent) (f : Frame) (more : List RunEvent) (segment : Segment) (all : events link Responder run ≡ es ++ FrameReceived f ∷ more) (behind : is_hello f ≡ false) (is : frame_segment f ≡ Ok segment)
     (live : (end_state_after (server_rules opened) (initial_server opened) es).ended ≡ None) where
   -- of a call that its message completes
-  pub conveyed-by-message : (message : List ℕ) (c : PendingCall) → message_completed (server_by opened es).received segment ≡ Some message → verdict (server_by opened es) message ≡ MakesPending c
+  pub conveyed_by_message : (message : List ℕ) (c : PendingCall) → message_completed (server_by opened es).received segment ≡ Some message → verdict (server_by opened es) message ≡ MakesPending c
       → is_read ((server_by opened es).reads ++ reads_of ((server_by opened es).regions ++ regions_of (server_by opened es) f.end c) c) c.number ≡ true → ConveyedAt opened link run c (payload_of (server_by opened es) f.end c)
   unfolding payload_of
-  conveyed-by-message message c whole v read =
+  conveyed_by_message message c whole v read =
       let k = server_by opened es in
       let w = frame_message opened link run typed asked matched es f more segment message all behind is whole live in
       let l = verdict_lists k message c v in
@@ -174,10 +174,10 @@ module _ (opened : LinkParameters) (link : ℕ) (run : List Mark) (typed : IsTyp
       }
 
   -- and of one that the last read for it completes, if the access of the frame is allowed
-  pub conveyed-by-read : missing_access (region_grants f.end (server_by opened es).regions) f segment ≡ None → (q : PendingRead) (rest : List PendingRead) (c : PendingCall) → ends_response segment ≡ true → (server_by opened es).reads ≡ q ∷ rest
+  pub conveyed_by_read : missing_access (region_grants f.end (server_by opened es).regions) f segment ≡ None → (q : PendingRead) (rest : List PendingRead) (c : PendingCall) → ends_response segment ≡ true → (server_by opened es).reads ≡ q ∷ rest
       → call_of_number (server_by opened es) q.number ≡ Some c → is_read rest c.number ≡ true → ConveyedAt opened link run c (payload_of (with_access (server_by opened es) f segment) f.end c)
   unfolding payload_of
-  conveyed-by-read allowed q rest c ends reads found read =
+  conveyed_by_read allowed q rest c ends reads found read =
       let k = server_by opened es in
       let known : Known opened es k = known_from opened [] es (record { calls = tt; ready = tt }) in
       let own = each_found (IsReceivedCall opened es) q.number k.calls c known.calls found in

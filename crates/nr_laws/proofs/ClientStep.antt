@@ -225,15 +225,15 @@ step_piece opened k s u d all_up all_down w place (TaggedFrame last opcode stag 
 
 stream_one : (ps : List FrameContent) → IsOutput ps → total_of hellos_in ps ≤ 1
 stream_one [] h = omega arith
-stream_one (HelloFrame ∷ ps) h = omega (arith, none-more ps h)
+stream_one (HelloFrame ∷ ps) h = omega (arith, none_more ps h)
   where
-    none-more : (ps : List FrameContent) → AreWritable ps → total_of hellos_in ps ≡ 0
-    none-more [] h = refl
-    none-more (HelloFrame ∷ ps) h = absurd h.0
-    none-more (PartFrame offset payload ∷ ps) h = omega (arith, none-more ps h.1)
-    none-more (SendFrame message ∷ ps) h = omega (arith, none-more ps h.1)
-    none-more (RequestFrame sink at size stag to ∷ ps) h = omega (arith, none-more ps h.1)
-    none-more (TaggedFrame last opcode stag to payload ∷ ps) h = omega (arith, none-more ps h.1)
+    none_more : (ps : List FrameContent) → AreWritable ps → total_of hellos_in ps ≡ 0
+    none_more [] h = refl
+    none_more (HelloFrame ∷ ps) h = absurd h.0
+    none_more (PartFrame offset payload ∷ ps) h = omega (arith, none_more ps h.1)
+    none_more (SendFrame message ∷ ps) h = omega (arith, none_more ps h.1)
+    none_more (RequestFrame sink at size stag to ∷ ps) h = omega (arith, none_more ps h.1)
+    none_more (TaggedFrame last opcode stag to payload ∷ ps) h = omega (arith, none_more ps h.1)
 stream_one (PartFrame offset payload ∷ ps) h = absurd h
 stream_one (SendFrame message ∷ ps) h = absurd h
 stream_one (RequestFrame sink at size stag to ∷ ps) h = absurd h

@@ -62,14 +62,14 @@ frame_event opened es f h stays = by (is_hello f) refl
     old : AllByRecursion P k.regions
     old = each_all (IsClosed opened es) P k.regions (closed_more opened es (FrameReceived f ∷ [])) h
 
-    each-pair : (xs : List Region) → AllByRecursion P xs → AllByRecursion (Contains k.regions) xs → AllByRecursion (λ (r : Region). P r × (r.until ≡ None → WasLive r)) xs
-    each-pair [] p q = tt
-    each-pair (x ∷ xs) p q = ((p.0, λ none. inl (subst (λ (u : Option ℕ). Contains k.regions (record x { until = u })) none q.0)), each-pair xs p.1 q.1)
+    each_pair : (xs : List Region) → AllByRecursion P xs → AllByRecursion (Contains k.regions) xs → AllByRecursion (λ (r : Region). P r × (r.until ≡ None → WasLive r)) xs
+    each_pair [] p q = tt
+    each_pair (x ∷ xs) p q = ((p.0, λ none. inl (subst (λ (u : Option ℕ). Contains k.regions (record x { until = u })) none q.0)), each_pair xs p.1 q.1)
 
     all : is_hello f ≡ false → AllByRecursion (λ (r : Region). P r × (r.until ≡ None → WasLive r)) (frame_effect k f).regions
     all behind =
         subst (AllByRecursion (λ (r : Region). P r × (r.until ≡ None → WasLive r))) (sym (frame_chunks k f))
-        (each_append (λ (r : Region). P r × (r.until ≡ None → WasLive r)) k.regions (chunks_in k f (frame_segment f)) (each-pair k.regions old (recursion_from_All (Contains k.regions) k.regions (All-contains_itself k.regions)))
+        (each_append (λ (r : Region). P r × (r.until ≡ None → WasLive r)) k.regions (chunks_in k f (frame_segment f)) (each_pair k.regions old (recursion_from_All (Contains k.regions) k.regions (All-contains_itself k.regions)))
         (new_each opened es f (λ (r : Region). P r × (r.until ≡ None → WasLive r)) stays behind
         (λ r own none. ((λ place is. absurd (let wrong : None ≡ Some place = sym none ∙ is in cc)), λ n. inr own)) (frame_segment f) refl))
 

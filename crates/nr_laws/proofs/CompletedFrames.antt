@@ -25,10 +25,10 @@ longer [] ys zs ws e le = record { new = zs; longer = refl; left = e }
 longer (x ∷ xs) ys [] ws e le = absurd (omega (arith, le))
 longer (x ∷ xs) ys (z ∷ zs) ws e le =
     let rest = longer xs ys zs ws (ap (λ (ps : List FrameContent). drop 1 ps) e) (omega (arith, le)) in
-    record { new = rest.new; longer = (λ i. head-same (sym e) i ∷ rest.longer i); left = rest.left }
+    record { new = rest.new; longer = (λ i. head_same (sym e) i ∷ rest.longer i); left = rest.left }
   where
-    head-same : {x z : FrameContent} {xs zs : List FrameContent} → z ∷ zs ≡ x ∷ xs → z ≡ x
-    head-same e = cc
+    head_same : {x z : FrameContent} {xs zs : List FrameContent} → z ∷ zs ≡ x ∷ xs → z ≡ x
+    head_same e = cc
 
 -- the frames that was received by then, those that more bytes bring, and those that are left
 pub record NewFrames (side : Side) (got bytes : List ℕ) (came way : List FrameContent) : Type 0 where

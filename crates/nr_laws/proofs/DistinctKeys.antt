@@ -105,11 +105,11 @@ of_append key m (x ∷ xs) ys h k = (h.0, of_append key m xs ys h.1 k)
 
 -- more of another number change nothing
 pub any_others : {X : Type 0} (key : X → ℕ) (n : ℕ) (xs ys : List X) → IsUnused key n ys → list_any (λ x. eqb (key x) n) (xs ++ ys) ≡ list_any (λ x. eqb (key x) n) xs
-any_others key n xs ys h = any_append (λ x. eqb (key x) n) xs ys ∙ ap (λ (b : Bool). list_any (λ x. eqb (key x) n) xs || b) (absent_none key n ys h) ∙ or-false (list_any (λ x. eqb (key x) n) xs)
+any_others key n xs ys h = any_append (λ x. eqb (key x) n) xs ys ∙ ap (λ (b : Bool). list_any (λ x. eqb (key x) n) xs || b) (absent_none key n ys h) ∙ or_false (list_any (λ x. eqb (key x) n) xs)
   where
-    or-false : (b : Bool) → (b || false) ≡ b
-    or-false true = refl
-    or-false false = refl
+    or_false : (b : Bool) → (b || false) ≡ b
+    or_false true = refl
+    or_false false = refl
 
 -- leaving out those of another number changes nothing
 pub any_kept : {X : Type 0} (key : X → ℕ) (m n : ℕ) (xs : List X) → m ≢ n → list_any (λ x. eqb (key x) n) (filter (λ x. not (eqb (key x) m)) xs) ≡ list_any (λ x. eqb (key x) n) xs

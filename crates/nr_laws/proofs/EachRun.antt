@@ -112,7 +112,7 @@ starts opened link = record {
     within = record { fit = tt; few = lit< tt; small = tt };
     sinks = omega arith;
     xids = tt;
-    no_hello-numbered = λ e. tt;
+    no_hello_numbered = λ e. tt;
     numbers = tt;
     answered = record { once = λ x. omega arith; later = λ x le. omega arith; earlier = λ x lt. omega arith; open_calls = λ x le lt. absurd (omega (arith, le, lt)); room = omega (arith, o.xid_fits) };
     reached = ([], refl);

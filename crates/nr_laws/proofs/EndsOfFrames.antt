@@ -70,7 +70,7 @@ server_response opened s w f last stag to payload rest c head p allowed =
     let grants = region_grants f.end s.regions in
     let is : frame_segment f ≡ Ok segment = segment_is s.received.sends s.received.requests f (TaggedFrame last OPCODE_READ_RESPONSE stag to payload) segment p refl in
     let answers = subst (λ (ps : List FrameContent). AreResponses s.response_bytes c.answered (ps ++ w.queued_up)) head c.answers in
-    let reads = all-reads s.reads c.answered c.asked c.parts in
+    let reads = all_reads s.reads c.answered c.asked c.parts in
     let expected = is_expected_lem s c.answered last OPCODE_READ_RESPONSE stag to payload (rest ++ w.queued_up) (c.asked ++ drop open_reads_max s.reads) reads answers in
     let flaw = response_flaw (readiness opened s (missing_access grants f segment)) last stag to payload expected in
     server_by_lem opened s f None p.behind
@@ -78,8 +78,8 @@ server_response opened s w f last stag to payload rest c head p allowed =
     ∙ ap (λ (x : Option (SegmentReason Denied)). end_of_fault f segment x) flaw
     ∙ lacks_none f segment (missing_access grants f segment) allowed)
   where
-    all-reads : (reads answered asked : List PendingRead) → take open_reads_max reads ≡ answered ++ asked → reads ≡ answered ++ (asked ++ drop open_reads_max reads)
-    all-reads reads answered asked e = sym (take-append-drop open_reads_max reads) ∙ ap (λ (xs : List PendingRead). xs ++ drop open_reads_max reads) e ∙ append_assoc answered asked (drop open_reads_max reads)
+    all_reads : (reads answered asked : List PendingRead) → take open_reads_max reads ≡ answered ++ asked → reads ≡ answered ++ (asked ++ drop open_reads_max reads)
+    all_reads reads answered asked e = sym (take-append-drop open_reads_max reads) ∙ ap (λ (xs : List PendingRead). xs ++ drop open_reads_max reads) e ∙ append_assoc answered asked (drop open_reads_max reads)
 
 -- ---- The client
 

@@ -10,7 +10,7 @@ use Rattle.nr_header.specs.declared.header.ChunkLists.{ChunkLists}
 use Rattle.nr_reduce.specs.declared.mark.LinkParameters.{LinkParameters}
 use Rattle.nr_reduce.specs.History.{ExecutedCall}
 use Rattle.nr_reduce.specs.Holds.{Answer, answer_message, answer_writes}
-use Rattle.nr_reduce.specs.Written.{ends_left, ends_waiting}
+use Rattle.nr_reduce.specs.Written.{ends_written, ends_waiting}
 use Rattle.nr_reduce.specs.ClientState.{ClientState, OutstandingCall}
 use Rattle.nr_reduce.specs.Client.{call_output, call_ends, response_output}
 use Rattle.nr_rpc.specs.Reading.{call_of, target_of}
@@ -38,7 +38,7 @@ all_waiting_lem n (e ∷ ends) h =
 pub one_waiting : (n end : ℕ) → n < end → ends_waiting n (end ∷ []) ≡ 1
 one_waiting n end lt = all_waiting_lem n (end ∷ []) (lt, tt)
 
-pub left_waiting : (n : ℕ) (ends : List ℕ) → ends_left n ends + ends_waiting n ends ≡ length ends
+pub left_waiting : (n : ℕ) (ends : List ℕ) → ends_written n ends + ends_waiting n ends ≡ length ends
 left_waiting n [] = refl
 left_waiting n (e ∷ ends) = by (cases_lt n e) (left_waiting n ends)
   where

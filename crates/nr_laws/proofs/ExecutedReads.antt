@@ -22,7 +22,7 @@ use Rattle.nr_reduce.proofs.Steps.{end_state_after_append}
 use Rattle.nr_laws.specs.Typed.{IsTyped}
 use Rattle.nr_laws.specs.Payloads.{form_conveyed}
 use Rattle.nr_laws.proofs.EventOutputs.{GoesOn, goes_behind}
-use Rattle.nr_laws.proofs.CallsAtFrames.{conveyed-by-message, conveyed-by-read}
+use Rattle.nr_laws.proofs.CallsAtFrames.{conveyed_by_message, conveyed_by_read}
 use Rattle.nr_laws.proofs.ClientRun.{WasSubmitted}
 use Rattle.nr_laws.proofs.ExecutedCalls.{live_server, live_part}
 use Rattle.nr_laws.proofs.ReceivedMessages.{live_first}
@@ -69,9 +69,9 @@ read_call_lem opened link before xid payload typed asked served matched h =
     by : (ra : ReadyAt opened (events link Responder before) h.call) (s : Segment) → frame_segment ra.frame ≡ Ok s → (end_state_after (server_rules opened) (initial_server opened) ra.earlier).ended ≡ None → server_end opened (server_by opened ra.earlier) (FrameReceived ra.frame) ≡ None
         → ReadyBy (server_by opened ra.earlier) ra.frame s h.call → ReadCall opened link before h.call.number payload
     by ra s is live stays (AtMessage message c whole v read conveyed) =
-        let x = conveyed-by-message opened link before typed asked served matched ra.earlier ra.frame ra.later s ra.is ra.behind is live message c whole v read in
+        let x = conveyed_by_message opened link before typed asked served matched ra.earlier ra.frame ra.later s ra.is ra.behind is live message c whole v read in
         record { index = x.index; message = x.message; submitted = x.submitted; number_is = conveyed.number ∙ x.number; conveyed = sym x.conveyed ∙ conveyed.payload ∙ ap (λ (y : List ℕ). Some y) (sym h.conveyed) }
     by ra s is live stays (AtRead q rest c ends reads found read conveyed) =
         let allowed = server_touched opened (server_by opened ra.earlier) ra.frame s ra.behind is stays in
-        let x = conveyed-by-read opened link before typed asked served matched ra.earlier ra.frame ra.later s ra.is ra.behind is live allowed q rest c ends reads found read in
+        let x = conveyed_by_read opened link before typed asked served matched ra.earlier ra.frame ra.later s ra.is ra.behind is live allowed q rest c ends reads found read in
         record { index = x.index; message = x.message; submitted = x.submitted; number_is = conveyed.number ∙ x.number; conveyed = sym x.conveyed ∙ conveyed.payload ∙ ap (λ (y : List ℕ). Some y) (sym h.conveyed) }

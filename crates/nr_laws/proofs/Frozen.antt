@@ -254,13 +254,13 @@ found_at_lem n zero (x ∷ regions) r numbers lt is =
     ap (λ (b : Bool). cond b (Some x) (find (λ x. eqb x.stag r.stag) regions)) (eq-eqb x.stag r.stag (ap (λ (q : Region). q.stag) is)) ∙ ap (λ (q : Region). Some q) is
 found_at_lem n (suc k) (x ∷ regions) r numbers lt is =
     let later = found_at_lem (n + 1) k regions r numbers.1 (omega (arith, lt)) is in
-    let above = above-found (n + 1) r.stag regions r numbers.1 later in
+    let above = above_found (n + 1) r.stag regions r numbers.1 later in
     let first = numbers.0 in
     ap (λ (b : Bool). cond b (Some x) (find (λ x. eqb x.stag r.stag) regions)) (ne_eqb x.stag r.stag (λ e. omega (arith, first, e, above))) ∙ later
   where
-    above-found : (n stag : ℕ) (regions : List Region) (r : Region) → AreNumbered n regions → find (λ x. eqb x.stag stag) regions ≡ Some r → n ≤ stag
-    above-found n stag [] r numbers e = absurd cc
-    above-found n stag (x ∷ regions) r numbers e = by (eqb x.stag stag) refl e (λ h. above-found (n + 1) stag regions r numbers.1 h)
+    above_found : (n stag : ℕ) (regions : List Region) (r : Region) → AreNumbered n regions → find (λ x. eqb x.stag stag) regions ≡ Some r → n ≤ stag
+    above_found n stag [] r numbers e = absurd cc
+    above_found n stag (x ∷ regions) r numbers e = by (eqb x.stag stag) refl e (λ h. above_found (n + 1) stag regions r numbers.1 h)
       where
         by : (b : Bool) → eqb x.stag stag ≡ b → cond b (Some x) (find (λ x. eqb x.stag stag) regions) ≡ Some r → (find (λ x. eqb x.stag stag) regions ≡ Some r → n + 1 ≤ stag) → n ≤ stag
         by true is e later = (let here = eqb-true x.stag stag is in let first = numbers.0 in omega (arith, here, first))

@@ -72,7 +72,7 @@ pub record Guards (opened : LinkParameters) (k : ClientState) (s : ServerState) 
   pub within : AreWithin s.reads s.regions
   pub sinks : length s.regions ≤ s.received.sends
   pub xids : XidsFrom opened.first_xid all_up
-  pub no_hello-numbered : k.has_hello ≡ false → NumberedCalls opened.first_xid k.outstanding
+  pub no_hello_numbered : k.has_hello ≡ false → NumberedCalls opened.first_xid k.outstanding
   pub numbers : AllByRecursion (IsNumbered opened.first_xid) s.calls
   pub answered : Answered opened.first_xid k s u d all_down w
   pub reached : (es : List RunEvent) × (end_state_after (client_rules opened) (initial_client opened) es ≡ live k)

@@ -123,7 +123,7 @@ guards_down opened k t s u d all_up all_down w place p rest said event g server 
   within = g.within;
   sinks = g.sinks;
   xids = xids_append opened.first_xid all_up said g.xids xids;
-  no_hello-numbered = λ e. absurd (let wrong : true ≡ false = sym hello ∙ e in cc);
+  no_hello_numbered = λ e. absurd (let wrong : true ≡ false = sym hello ∙ e in cc);
   numbers = g.numbers;
   answered = answered;
   reached = (
@@ -179,11 +179,11 @@ guards_hello_down opened k s u d all_up all_down w place rest f l g first is sta
     let says = says_hello opened k f is in
     let after = after_hello opened k f is in
     let none : hello_bit k.has_hello ≡ 0 = omega (arith, l.counts.hello, ap (total_of hellos_in) first) in
-    let no_hello-numbered : k.has_hello ≡ false = bit_of k.has_hello none in
-    let sends : total_of sends_in all_up ≡ 0 = calls_said opened k s u d all_up all_down w l ∙ ap (λ (b : Bool). cond b k.calls_accepted 0) no_hello-numbered in
+    let no_hello_numbered : k.has_hello ≡ false = bit_of k.has_hello none in
+    let sends : total_of sends_in all_up ≡ 0 = calls_said opened k s u d all_up all_down w l ∙ ap (λ (b : Bool). cond b k.calls_accepted 0) no_hello_numbered in
     let asked : XidsFrom (opened.first_xid + total_of sends_in all_up) said =
     subst (λ (n : ℕ). XidsFrom n said) (let same : opened.first_xid ≡ opened.first_xid + total_of sends_in all_up = omega (arith, sends) in same)
-    (xids_asked opened opened.first_xid k.outstanding (g.no_hello-numbered no_hello-numbered) (own_xids opened k.outstanding g.calls)) in
+    (xids_asked opened opened.first_xid k.outstanding (g.no_hello_numbered no_hello_numbered) (own_xids opened k.outstanding g.calls)) in
     let server : ServerAgrees opened t s (down_one w said rest) place = record {
       counts = subst (λ (ps : List FrameContent). TotalsAgree t s (down_one w ps rest)) says (totals_hello_down opened k s w f rest g.server.counts first is);
       reads = reads_says_up s w said rest g.server.reads (none_asks opened k.outstanding) (ap requests_of first);
@@ -208,7 +208,7 @@ guards_send_down opened k s u d all_up all_down w place message rest f o l g fir
     let whole : List ℕ = begun_bytes k.received.begun ++ message.payload in
     let same : whole ≡ message.bytes = (at_front k.received.begun w.down w.queued_down (SendFrame message) rest first l.counts.whole_down).1 in
     let reply : IsReply opened.granted message.bytes = front_down opened k s u d all_up all_down w place (SendFrame message) rest l g first in
-    let fewer : length (filter (λ (x : OutstandingCall). not (eqb x.xid (word_at 0 whole))) k.outstanding) ≤ length k.outstanding = filter-less (λ (x : OutstandingCall). not (eqb x.xid (word_at 0 whole))) k.outstanding in
+    let fewer : length (filter (λ (x : OutstandingCall). not (eqb x.xid (word_at 0 whole))) k.outstanding) ≤ length k.outstanding = filter_less (λ (x : OutstandingCall). not (eqb x.xid (word_at 0 whole))) k.outstanding in
     let grant : credits_of_word (word_at 8 whole) ≡ credits_of_word opened.granted = ap credits_of_word (ap (λ (xs : List ℕ). word_at 8 xs) same ∙ reply.credits) in
     let window : WithinWindow opened (with_segment k f (Ok segment)) = record {
       window = omega (arith, fewer, g.window.window);
@@ -227,9 +227,9 @@ guards_send_down opened k s u d all_up all_down w place message rest f o l g fir
     (answered_message_lem opened.first_xid k t s u d all_down w (down_one w [] rest) message
     (ap (λ (x : ClientState). x.outstanding) after ∙ ap (λ (xs : List ℕ). filter (λ (o : OutstandingCall). not (eqb o.xid (word_at 0 xs))) k.outstanding) same) (ap (λ (x : ClientState). x.calls_accepted) after) g.answered) stays refl)
   where
-    filter-less : (p : OutstandingCall → Bool) (os : List OutstandingCall) → length (filter p os) ≤ length os
-    filter-less p [] = omega arith
-    filter-less p (x ∷ os) = by (p x) (filter-less p os)
+    filter_less : (p : OutstandingCall → Bool) (os : List OutstandingCall) → length (filter p os) ≤ length os
+    filter_less p [] = omega arith
+    filter_less p (x ∷ os) = by (p x) (filter_less p os)
       where
         by : (b : Bool) → length (filter p os) ≤ length os → length (cond b (x ∷ filter p os) (filter p os)) ≤ length (x ∷ os)
         by true le = omega (arith, le)
@@ -274,7 +274,7 @@ guards_read_down opened k s u d all_up all_down w place sink at size stag to res
     let a = asked_of s w place sink at size stag to rest g.server.reads first g.server.sinks g.server.regions.stags g.within in
     let numbers = client_numbers opened g.reached.0 in
     let own : HaveOwnStags (region_grants f.end k.regions) =
-    own_stags f.end opened.first_stag k.regions (ap-regions opened k g.reached.0 g.reached.1 numbers.regions) in
+    own_stags f.end opened.first_stag k.regions (ap_regions opened k g.reached.0 g.reached.1 numbers.regions) in
     let there = is_there_lem k f (msn_word (k.received.requests + 1)) sink at size stag to own piece.behind reads stays a.some a.sink_word a.at_word a.size_word a.stag_word a.to_word in
     let server : ServerAgrees opened t s (down_one w said rest) place = record {
       counts = totals_read_down opened k s w f sink at size stag to rest g.server.counts first piece;
@@ -288,9 +288,9 @@ guards_read_down opened k s u d all_up all_down w place sink at size stag to res
     (tagged_up opened k f (Ok segment) piece.behind reads) (sized_frame opened k t f (Ok segment) after g.calls) (tagged_xids (opened.first_xid + total_of sends_in all_up) opened k f (Ok segment) piece.behind reads) (behind_hello_lem opened k t s u d all_up all_down w f (Ok segment) after hello)
     (answered_same opened.first_xid k t s u d all_down w (down_one w said rest) (RequestFrame sink at size stag to) (ap (λ (x : ClientState). x.outstanding) after) (ap (λ (x : ClientState). x.calls_accepted) after) refl g.answered) stays refl
   where
-    ap-regions : (opened : LinkParameters) (k : ClientState) (es : List RunEvent) → end_state_after (client_rules opened) (initial_client opened) es ≡ live k
+    ap_regions : (opened : LinkParameters) (k : ClientState) (es : List RunEvent) → end_state_after (client_rules opened) (initial_client opened) es ≡ live k
         → AreNumbered opened.first_stag (end_state_after (client_rules opened) (initial_client opened) es).state.regions → AreNumbered opened.first_stag k.regions
-    ap-regions opened k es is h = subst (λ (r : EndState ClientState). AreNumbered opened.first_stag r.state.regions) is h
+    ap_regions opened k es is h = subst (λ (r : EndState ClientState). AreNumbered opened.first_stag r.state.regions) is h
 
 -- a segment of a Send that isn't its last
 pub guards_part_down : (opened : LinkParameters) (k : ClientState) (s : ServerState) (u d all_up all_down : List FrameContent) (w : Transit) (place : ℕ) (offset : ℕ) (payload : List ℕ) (rest : List FrameContent) (f : Frame) → Guards opened k s u d all_up all_down w place

@@ -100,28 +100,28 @@ guards_submit opened k s u d all_up all_down w up place a plan l g is own lt lim
       calls = each_append (IsAsked opened) k.outstanding (outstanding_of k a ∷ []) g.calls (one, tt);
       within = g.within;
       sinks = g.sinks;
-      xids = xids_append opened.first_xid all_up said g.xids (new-xid k.has_hello refl);
-      no_hello-numbered = λ e. own_xids_push opened.first_xid k.outstanding (outstanding_of k a) (g.no_hello-numbered e) (omega (arith, own, all-waiting e));
+      xids = xids_append opened.first_xid all_up said g.xids (new_xid k.has_hello refl);
+      no_hello_numbered = λ e. own_xids_push opened.first_xid k.outstanding (outstanding_of k a) (g.no_hello_numbered e) (omega (arith, own, all_waiting e));
       numbers = g.numbers;
       answered = answered_submit opened.first_xid k t s u d all_down w (up_more w said) (outstanding_of k a) refl refl own lt g.answered;
       reached = reached_more opened k (CallSubmitted place a) refl g.reached;
     }
   where
     -- before the hello all accepted calls are outstanding
-    all-waiting : k.has_hello ≡ false → length k.outstanding ≡ k.calls_accepted
-    all-waiting e =
+    all_waiting : k.has_hello ≡ false → length k.outstanding ≡ k.calls_accepted
+    all_waiting e =
         let none : total_of sends_in all_up ≡ 0 = calls_said opened k s u d all_up all_down w l ∙ ap (λ (b : Bool). cond b k.calls_accepted 0) e in
         omega (arith, none, l.counts.calls_up, calls_said opened k s u d all_up all_down w l, l.counts.waiting, l.counts.messages_down, l.counts.out)
 
     message : List ℕ
     message = message_of_call opened (outstanding_of k a)
 
-    new-xid : (b : Bool) → k.has_hello ≡ b → XidsFrom (opened.first_xid + total_of sends_in all_up) (cond k.has_hello (send_frames message) [])
-    new-xid true e =
+    new_xid : (b : Bool) → k.has_hello ≡ b → XidsFrom (opened.first_xid + total_of sends_in all_up) (cond k.has_hello (send_frames message) [])
+    new_xid true e =
         let sends : total_of sends_in all_up ≡ k.calls_accepted = calls_said opened k s u d all_up all_down w l ∙ ap (λ (b : Bool). cond b k.calls_accepted 0) e in
         subst (λ (b : Bool). XidsFrom (opened.first_xid + total_of sends_in all_up) (cond b (send_frames message) [])) (sym e)
         (send_xids_from (opened.first_xid + total_of sends_in all_up) message ((sized_call opened k a plan is lt limits).1 ∙ omega (arith, own, sends)))
-    new-xid false e = subst (λ (b : Bool). XidsFrom (opened.first_xid + total_of sends_in all_up) (cond b (send_frames message) [])) (sym e) tt
+    new_xid false e = subst (λ (b : Bool). XidsFrom (opened.first_xid + total_of sends_in all_up) (cond b (send_frames message) [])) (sym e) tt
 
 -- ---- Memory is revoked, and a queue is written
 
@@ -146,7 +146,7 @@ guards_revoke opened k s u d all_up all_down w up place xid g = record {
   within = g.within;
   sinks = g.sinks;
   xids = g.xids;
-  no_hello-numbered = λ e. own_xids_map (revoked_call xid) opened.first_xid k.outstanding (xid_revoked xid) (g.no_hello-numbered e);
+  no_hello_numbered = λ e. own_xids_map (revoked_call xid) opened.first_xid k.outstanding (xid_revoked xid) (g.no_hello_numbered e);
   numbers = g.numbers;
   answered = answered_map opened.first_xid (revoked_call xid) k (client_state_after opened k (MemoryRevoked place xid)) s u d all_down w w refl (xid_revoked xid) refl g.answered;
   reached = reached_more opened k (MemoryRevoked place xid) refl g.reached;
@@ -165,7 +165,7 @@ guards_written_up opened k s u d all_up all_down w up taken all ends g = record 
   within = g.within;
   sinks = g.sinks;
   xids = g.xids;
-  no_hello-numbered = g.no_hello-numbered;
+  no_hello_numbered = g.no_hello_numbered;
   numbers = g.numbers;
   answered = record { once = g.answered.once; later = g.answered.later; earlier = g.answered.earlier; open_calls = g.answered.open_calls; room = g.answered.room };
   reached = reached_more opened k (QueueWritten taken) refl g.reached;
@@ -191,7 +191,7 @@ guards_execute opened k s u d all_up all_down w up e r rest o l g fits first own
       within = g.within;
       sinks = g.sinks;
       xids = g.xids;
-      no_hello-numbered = g.no_hello-numbered;
+      no_hello_numbered = g.no_hello_numbered;
       answered = answered_server opened.first_xid k s (server_state_after opened s (CallExecuted e)) u d all_down w (record { queued_up = w.queued_up; up = w.up; queued_down = w.queued_down ++ server_frames opened s (CallExecuted e); down = w.down }) (server_frames opened s (CallExecuted e)) refl
           (λ x. omega (arith, executed_less x e.xid s.calls there, ap (λ (xs : List ℕ). times x xs) (answer_xids s e.xid (offer_of s e.xid) (answer_of_target (offer_of s e.xid) s.down_max e.reply (target_of (call_of e.payload))) xid_word))) g.answered;
       numbers = each_kept (IsNumbered opened.first_xid) (λ c. not (eqb c.xid e.xid)) s.calls g.numbers;
@@ -211,7 +211,7 @@ guards_written_down opened k s u d all_up all_down w up taken all ends g = recor
   within = g.within;
   sinks = g.sinks;
   xids = g.xids;
-  no_hello-numbered = g.no_hello-numbered;
+  no_hello_numbered = g.no_hello_numbered;
   numbers = g.numbers;
   answered = subst (λ (ps : List FrameContent). Answered opened.first_xid k (server_state_after opened s (QueueWritten taken)) u d ps (record { queued_up = w.queued_up; up = w.up; queued_down = []; down = w.down ++ w.queued_down })) (append-nil all_down)
       (answered_server opened.first_xid k s (server_state_after opened s (QueueWritten taken)) u d all_down w (record { queued_up = w.queued_up; up = w.up; queued_down = []; down = w.down ++ w.queued_down }) [] refl (λ x. omega arith) g.answered);

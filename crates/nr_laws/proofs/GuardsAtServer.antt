@@ -74,7 +74,7 @@ guards_up opened k s t u d all_up all_down w place end p rest said g server down
   within = within;
   sinks = sinks;
   xids = g.xids;
-  no_hello-numbered = g.no_hello-numbered;
+  no_hello_numbered = g.no_hello_numbered;
   numbers = numbers;
   answered = answered;
   reached = g.reached;

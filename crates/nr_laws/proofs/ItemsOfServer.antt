@@ -14,7 +14,7 @@ use Rattle.nr_link.specs.OutputItem.{OutputItem, items_encoding, is_send_item, i
 use Rattle.nr_link.specs.OutputItem.OutputItem.{LastItem}
 use Rattle.nr_reduce.specs.declared.mark.LinkParameters.{LinkParameters}
 use Rattle.nr_reduce.specs.History.{bytes_sent}
-use Rattle.nr_reduce.specs.Written.{ends_left, ends_waiting}
+use Rattle.nr_reduce.specs.Written.{ends_written, ends_waiting}
 use Rattle.nr_reduce.specs.OfferedRegions.{region_grants}
 use Rattle.nr_reduce.specs.Events.{RunEvent, events}
 use Rattle.nr_reduce.specs.Events.RunEvent.{FrameReceived, CallSubmitted, MemoryRevoked, CallExecuted, QueueWritten}
@@ -269,12 +269,12 @@ server_counts_items opened link run typed served stays =
     ∙ waiting_items is_send_item (length (hellos_of opened (initial_server opened) es)) (length (bytes_sent link Responder run)) (items_of opened (initial_server opened) es)
 
 pub server_written_items : (opened : LinkParameters) (link : ℕ) (run : List Mark) → IsTyped run → ServedSoFar opened link run → (server opened link run).ended ≡ None
-    → ends_left (server opened link run).state.written (server opened link run).state.message_ends
+    → ends_written (server opened link run).state.written (server opened link run).state.message_ends
     ≡ items_written is_send_item (length (hello_due opened link Responder run)) (length (bytes_sent link Responder run)) (items_due opened link Responder run)
 unfolding server items_due hello_due
 server_written_items opened link run typed served stays =
     let es = events link Responder run in
     let kept = start_ends opened (initial_server opened).state es (server_goes opened link run typed served).goes refl refl refl stays in
     let written = server_bytes_written opened link run stays in
-    (λ i. ends_left (written i) (kept i))
+    (λ i. ends_written (written i) (kept i))
     ∙ left_items is_send_item (length (hellos_of opened (initial_server opened) es)) (length (bytes_sent link Responder run)) (items_of opened (initial_server opened) es)

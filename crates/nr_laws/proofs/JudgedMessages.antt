@@ -155,8 +155,8 @@ ends_for opened link run at reason typed far bad e = by a.event a.is a.ends
     k : ClientState
     k = (client_by opened a.earlier).state
 
-    by-frame : (f : Frame) → events link Initiator run ≡ a.earlier ++ FrameReceived f ∷ a.later → client_end k (FrameReceived f) ≡ Some (ends.Bad at reason) → EndsFor opened link run reason
-    by-frame f is why =
+    by_frame : (f : Frame) → events link Initiator run ≡ a.earlier ++ FrameReceived f ∷ a.later → client_end k (FrameReceived f) ≡ Some (ends.Bad at reason) → EndsFor opened link run reason
+    by_frame f is why =
         let r = client_receives_of opened link run typed far.asked far.served far.matched in
         let t = server_tells opened link run typed far.asked far.served far.matched in
         let b = brings_at a.earlier f a.later r.came (subst (λ (xs : List RunEvent). Brings xs r.came) is r.brings) in
@@ -188,7 +188,7 @@ ends_for opened link run at reason typed far bad e = by a.event a.is a.ends
         own (ASegment s) h hello segment = segment s h.0 h.1 refl
 
     by : (x : RunEvent) → events link Initiator run ≡ a.earlier ++ x ∷ a.later → client_end k x ≡ Some (ends.Bad at reason) → EndsFor opened link run reason
-    by (FrameReceived f) is why = by-frame f is why
+    by (FrameReceived f) is why = by_frame f is why
     by (CallSubmitted place call) is why = absurd (none_some_lem (ends.Bad at reason) (only_frames k (CallSubmitted place call) tt) why)
     by (MemoryRevoked place xid) is why = absurd (none_some_lem (ends.Bad at reason) (only_frames k (MemoryRevoked place xid) tt) why)
     by (CallExecuted call) is why = absurd (none_some_lem (ends.Bad at reason) (only_frames k (CallExecuted call) tt) why)

@@ -201,20 +201,20 @@ live_event opened s (QueueWritten taken) agree good h = each_all (IsLive s.state
 -- ---- A run
 
 module _ (opened : LinkParameters) (link : ℕ) (run : List Mark) (typed : IsTyped run) (served : ServedSoFar opened link run) where
-  live-along : (front es more : List RunEvent) → events link Responder run ≡ front ++ (es ++ more) → AllLive (server_by opened front) → AllLive (server_by opened (front ++ es))
-  live-along front [] more is h = subst (λ (xs : List RunEvent). AllLive (server_by opened xs)) (sym (append-nil front)) h
-  live-along front (e ∷ es) more is h =
+  live_along : (front es more : List RunEvent) → events link Responder run ≡ front ++ (es ++ more) → AllLive (server_by opened front) → AllLive (server_by opened (front ++ es))
+  live_along front [] more is h = subst (λ (xs : List RunEvent). AllLive (server_by opened xs)) (sym (append-nil front)) h
+  live_along front (e ∷ es) more is h =
       let s : EndState ServerState = end_state_after (server_rules opened) (initial_server opened) front in
       let kept : KeptAtServer s.state = kept_at_server opened link run typed served front (e ∷ (es ++ more)) is in
       let goes : GoesOn (server_rules opened) ServerPlain (places_after 0 front) s (e ∷ (es ++ more)) =
       goes_behind (server_rules opened) ServerPlain 0 (initial_server opened) front (e ∷ (es ++ more)) (subst (λ (xs : List RunEvent). GoesOn (server_rules opened) ServerPlain 0 (initial_server opened) xs) is (server_goes opened link run typed served).goes) in
       let one : AllLive (next_end_state (server_rules opened) s e).state = counts_or_not opened AllLive s e h (λ stays. live_event opened s e kept.agree goes.1 h) in
       let next : AllLive (server_by opened (front ++ e ∷ [])) = subst (λ (r : EndState ServerState). AllLive r.state) (sym (end_state_after_append (server_rules opened) (initial_server opened) front (e ∷ []))) one in
-      subst (λ (xs : List RunEvent). AllLive (server_by opened xs)) (append_assoc front (e ∷ []) es) (live-along (front ++ e ∷ []) es more (is ∙ sym (append_assoc front (e ∷ []) (es ++ more))) next)
+      subst (λ (xs : List RunEvent). AllLive (server_by opened xs)) (append_assoc front (e ∷ []) es) (live_along (front ++ e ∷ []) es more (is ∙ sym (append_assoc front (e ∷ []) (es ++ more))) next)
 
 live_nothing : (opened : LinkParameters) → AllLive (server_by opened [])
 live_nothing opened = tt
 
 pub live_server_regions_are_read : LiveServerRegionsAreRead
 live_server_regions_are_read opened link run earlier later r typed served is there none =
-    region_of_list (IsLive (server_by opened earlier)) _ r (live-along opened link run typed served [] earlier later is (live_nothing opened)) there none
+    region_of_list (IsLive (server_by opened earlier)) _ r (live_along opened link run typed served [] earlier later is (live_nothing opened)) there none

@@ -77,17 +77,17 @@ asked_before_lem reply_to adds opened link run more h = record {
 -- ---- From mark to mark
 
 module _ (reply_to : List Entry → Moment → List ℕ → Option (List ℕ)) (adds : Moment → List ℕ → List ℕ → List Entry) (plain : KeepsReplyLimits (server_with reply_to adds)) (opened : LinkParameters) (link : ℕ) (opens : IsOpened opened) where
-  client-stays : (run : List Mark) → AreAsked reply_to adds opened link run → end_of_side opened link Responder run ≡ None → (end : End) → end_of_side opened link Initiator run ≡ Some end → ⊥
-  client-stays run h down end up = by (client_ends_for_replies opened link run opens h.typed h.laws down end up)
+  client_stays_lem : (run : List Mark) → AreAsked reply_to adds opened link run → end_of_side opened link Responder run ≡ None → (end : End) → end_of_side opened link Initiator run ≡ Some end → ⊥
+  client_stays_lem run h down end up = by (client_ends_for_replies opened link run opens h.typed h.laws down end up)
     where
       by : IsReplyEnd end ⊎ IsDenied end → ⊥
       by (inl (at, reason, is, own)) = client_reads_replies reply_to adds opened link run opens h.typed (laws_so_far_lem opened link run h.laws.client h.laws.server h.laws.matched) h.plainly plain at reason own (up ∙ ap (λ (x : End). Some x) is)
       by (inr (stag, offset, why, is)) = client_not_denied opened link run opens h.typed h.laws h.kept down stag offset why (up ∙ ap (λ (x : End). Some x) is)
 
-  mark-stays : (before : List Mark) (mark : Mark) → AreAsked reply_to adds opened link (before ++ mark ∷ []) → (client opened link before).ended ≡ None → (server opened link before).ended ≡ None
+  mark_stays : (before : List Mark) (mark : Mark) → AreAsked reply_to adds opened link (before ++ mark ∷ []) → (client opened link before).ended ≡ None → (server opened link before).ended ≡ None
       → ((client opened link (before ++ mark ∷ [])).ended ≡ None) × ((server opened link (before ++ mark ∷ [])).ended ≡ None)
   unfolding end_of_side
-  mark-stays before mark h up down = by (client opened link (before ++ mark ∷ [])).ended refl (server opened link (before ++ mark ∷ [])).ended refl
+  mark_stays before mark h up down = by (client opened link (before ++ mark ∷ [])).ended refl (server opened link (before ++ mark ∷ [])).ended refl
     where
       run : List Mark
       run = before ++ mark ∷ []
@@ -99,18 +99,18 @@ module _ (reply_to : List Entry → Moment → List ℕ → Option (List ℕ)) (
       by : (o : Option End) → (client opened link run).ended ≡ o → (p : Option End) → (server opened link run).ended ≡ p → ((client opened link run).ended ≡ None) × ((server opened link run).ended ≡ None)
       by None is None own = (is, own)
       by None is (Some end) own = absurd (server_stays_lem opened link run opens h.typed h.laws h.conveyed is end own)
-      by (Some end) is None own = absurd (client-stays run h own end is)
+      by (Some end) is None own = absurd (client_stays_lem run h own end is)
       by (Some a) is (Some b) own = absurd (both a b is own (one_side link before mark))
 
-  run-stays : (run before : List Mark) → AreAsked reply_to adds opened link (before ++ run) → (client opened link before).ended ≡ None → (server opened link before).ended ≡ None
+  run_stays : (run before : List Mark) → AreAsked reply_to adds opened link (before ++ run) → (client opened link before).ended ≡ None → (server opened link before).ended ≡ None
       → ((client opened link (before ++ run)).ended ≡ None) × ((server opened link (before ++ run)).ended ≡ None)
-  run-stays [] before h up down =
+  run_stays [] before h up down =
       (ap (λ (r : List Mark). (client opened link r).ended) (append-nil before) ∙ up, ap (λ (r : List Mark). (server opened link r).ended) (append-nil before) ∙ down)
-  run-stays (m ∷ run) before h up down =
+  run_stays (m ∷ run) before h up down =
       let assoc : (before ++ m ∷ []) ++ run ≡ before ++ m ∷ run = append_assoc before (m ∷ []) run in
       let all = subst (AreAsked reply_to adds opened link) (sym assoc) h in
-      let one = mark-stays before m (asked_before_lem reply_to adds opened link (before ++ m ∷ []) run all) up down in
-      let rest = run-stays run (before ++ m ∷ []) all one.0 one.1 in
+      let one = mark_stays before m (asked_before_lem reply_to adds opened link (before ++ m ∷ []) run all) up down in
+      let rest = run_stays run (before ++ m ∷ []) all one.0 one.1 in
       (ap (λ (r : List Mark). (client opened link r).ended) (sym assoc) ∙ rest.0, ap (λ (r : List Mark). (server opened link r).ended) (sym assoc) ∙ rest.1)
 
 client_nothing : (opened : LinkParameters) (link : ℕ) → (client opened link []).ended ≡ None
@@ -124,7 +124,7 @@ server_nothing opened link = refl
 pub links_stay : MatchedLinksStayOpen
 unfolding end_of_side
 links_stay reply_to adds opened link run opens typed laws kept conveyed plain plainly =
-    run-stays reply_to adds plain opened link opens run [] (record { typed = typed; laws = laws; kept = kept; conveyed = conveyed; plainly = plainly }) (client_nothing opened link) (server_nothing opened link)
+    run_stays reply_to adds plain opened link opens run [] (record { typed = typed; laws = laws; kept = kept; conveyed = conveyed; plainly = plainly }) (client_nothing opened link) (server_nothing opened link)
 
 pub matched_calls_complete : MatchedCallsComplete
 matched_calls_complete reply_to adds opened link run opens typed full kept conveyed plain plainly nothing_waits =

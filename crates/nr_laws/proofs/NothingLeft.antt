@@ -18,10 +18,10 @@ none_open (r ∷ reads) e = absurd (omega (arith, e))
 none_waits : (reads : List PendingRead) (ready : List ReadyCall) (calls : List PendingCall) → reads ≡ [] → ready ≡ [] → AreReady reads ready calls → calls ≡ []
 none_waits reads ready [] free none h = refl
 none_waits reads ready (c ∷ calls) free none h =
-    absurd (no-contradiction (sym (ap (λ (rs : List ReadyCall). list_any (λ (r : ReadyCall). eqb r.number c.number) rs) none) ∙ h.0 (ap (λ (rs : List PendingRead). is_read rs c.number) free)))
+    absurd (no_contradiction (sym (ap (λ (rs : List ReadyCall). list_any (λ (r : ReadyCall). eqb r.number c.number) rs) none) ∙ h.0 (ap (λ (rs : List PendingRead). is_read rs c.number) free)))
   where
-    no-contradiction : false ≡ true → ⊥
-    no-contradiction e = absurd cc
+    no_contradiction : false ≡ true → ⊥
+    no_contradiction e = absurd cc
 
 greeted_is : (b : Bool) (n : ℕ) → hello_bit b ≡ 1 → cond b n 0 ≡ n
 greeted_is true n e = refl

@@ -45,10 +45,10 @@ agree : (key mark : PendingCall → ℕ) (n x : ℕ) (calls : List PendingCall) 
 agree key mark n x [] apart e = tt
 agree key mark n x (c ∷ calls) apart e = by (eqb (key c) n) (eqb (mark c) x) refl refl e (λ rest. agree key mark n x calls apart.1 rest)
   where
-    rest-any : Bool
-    rest-any = list_any (λ (d : PendingCall). eqb (key d) n && eqb (mark d) x) calls
+    rest_any : Bool
+    rest_any = list_any (λ (d : PendingCall). eqb (key d) n && eqb (mark d) x) calls
 
-    by : (a b : Bool) → eqb (key c) n ≡ a → eqb (mark c) x ≡ b → ((a && b) || rest-any) ≡ true → (rest-any ≡ true → Agree key mark n x calls) → (key c ≡ n → mark c ≡ x) × Agree key mark n x calls
+    by : (a b : Bool) → eqb (key c) n ≡ a → eqb (mark c) x ≡ b → ((a && b) || rest_any) ≡ true → (rest_any ≡ true → Agree key mark n x calls) → (key c ≡ n → mark c ≡ x) × Agree key mark n x calls
     by true true ka mb e later = ((λ k. eqb-true (mark c) x mb), agree_absent key mark n x calls (absent_to key (key c) n calls (eqb-true (key c) n ka) apart.0))
     by true false ka mb e later = absurd (not_there_lem key mark n x calls (absent_to key (key c) n calls (eqb-true (key c) n ka) apart.0) e)
     by false b ka mb e later = ((λ k. absurd (no_truth (sym ka ∙ eq-eqb (key c) n k))), later e)
@@ -90,13 +90,13 @@ survives {X} key q n (x ∷ xs) other e = by (eqb (key x) n) (q x) refl refl e (
 
 any_swap : (p q : PendingCall → Bool) (calls : List PendingCall) → list_any (λ c. p c && q c) calls ≡ list_any (λ c. q c && p c) calls
 any_swap p q [] = refl
-any_swap p q (c ∷ calls) = λ i. and-swap (p c) (q c) i || any_swap p q calls i
+any_swap p q (c ∷ calls) = λ i. and_swap (p c) (q c) i || any_swap p q calls i
   where
-    and-swap : (a b : Bool) → (a && b) ≡ (b && a)
-    and-swap true true = refl
-    and-swap true false = refl
-    and-swap false true = refl
-    and-swap false false = refl
+    and_swap : (a b : Bool) → (a && b) ≡ (b && a)
+    and_swap true true = refl
+    and_swap true false = refl
+    and_swap false true = refl
+    and_swap false false = refl
 
 agreed : (key mark : PendingCall → ℕ) (n x : ℕ) (calls : List PendingCall) → Agree key mark n x calls → (q : PendingCall → Bool) → ((c : PendingCall) → q c ≡ true → key c ≡ n) → list_any q calls ≡ true
     → (m : ℕ) → ((c : PendingCall) → q c ≡ true → mark c ≡ m) → m ≡ x
@@ -287,29 +287,29 @@ to_whole s t c_k place r others c st (IsReady x) true w first own there calls re
       calls_below = w.calls_below;
       reads_below = (subst (λ (rs : List PendingRead). AreAtMost (λ (x : PendingRead). x.number) s.received.sends rs) first w.reads_below).1;
       ready_apart = apart_push (λ (y : ReadyCall). y.number) s.ready x w.ready_apart
-          (subst (λ (m : ℕ). IsUnused (λ (y : ReadyCall). y.number) m s.ready) (own ∙ sym mine.0) (head-unready r others s.calls s.ready whole_calls));
+          (subst (λ (m : ℕ). IsUnused (λ (y : ReadyCall). y.number) m s.ready) (own ∙ sym mine.0) (head_unready r others s.calls s.ready whole_calls));
       ready_calls = ready_new r others s.ready (x ∷ []) c.number s.calls own (λ e. ap (λ (y : Bool). y || false) (eq-eqb x.number c.number mine.0)) ready_calls;
       whole_calls = whole_append others s.calls s.ready (x ∷ []) (whole_tail r others s.calls s.ready whole_calls)
           ((λ i. list_any (λ (d : PendingCall). eqb d.number (mine.0 i) && eqb d.xid (mine.1 i)) s.calls) ∙ there, ap (λ (m : ℕ). is_read others m) mine.0 ∙ read, tt);
     })
     (b.calls ∙ calls) (b.reads ∙ reads) b.ready (omega (arith, b.sends_are))
   where
-    head-unready : (r : PendingRead) (others : List PendingRead) (calls : List PendingCall) (ready : List ReadyCall) → AreWhole (r ∷ others) calls ready → IsUnused (λ (y : ReadyCall). y.number) r.number ready
-    head-unready r others calls [] h = tt
-    head-unready r others calls (y ∷ ready) h = ((λ same. unread_head r others y.number h.1 (sym same)), head-unready r others calls ready h.2)
+    head_unready : (r : PendingRead) (others : List PendingRead) (calls : List PendingCall) (ready : List ReadyCall) → AreWhole (r ∷ others) calls ready → IsUnused (λ (y : ReadyCall). y.number) r.number ready
+    head_unready r others calls [] h = tt
+    head_unready r others calls (y ∷ ready) h = ((λ same. unread_head r others y.number h.1 (sym same)), head_unready r others calls ready h.2)
 
 found_there : (n : ℕ) (calls : List PendingCall) (c : PendingCall) → find (λ (x : PendingCall). eqb x.number n) calls ≡ Some c → list_any (λ (x : PendingCall). eqb x.number c.number && eqb x.xid c.xid) calls ≡ true
 found_there n [] c e = absurd cc
 found_there n (d ∷ calls) c e = by (eqb d.number n) e (found_there n calls c)
   where
-    same-call : Some d ≡ Some c → d ≡ c
-    same-call e = cc
+    same_call : Some d ≡ Some c → d ≡ c
+    same_call e = cc
 
     by : (b : Bool) → cond b (Some d) (find (λ (x : PendingCall). eqb x.number n) calls) ≡ Some c
         → (find (λ (x : PendingCall). eqb x.number n) calls ≡ Some c → list_any (λ (x : PendingCall). eqb x.number c.number && eqb x.xid c.xid) calls ≡ true)
         → ((eqb d.number c.number && eqb d.xid c.xid) || list_any (λ (x : PendingCall). eqb x.number c.number && eqb x.xid c.xid) calls) ≡ true
     by true e later =
-        let same = same-call e in
+        let same = same_call e in
         λ i. (eq-eqb d.number c.number (ap (λ (x : PendingCall). x.number) same) i && eq-eqb d.xid c.xid (ap (λ (x : PendingCall). x.xid) same) i) || list_any (λ (x : PendingCall). eqb x.number c.number && eqb x.xid c.xid) calls
     by false e later = or_right_lem (eqb d.number c.number && eqb d.xid c.xid) (list_any (λ (x : PendingCall). eqb x.number c.number && eqb x.xid c.xid) calls) (later e)
 

@@ -136,27 +136,27 @@ pending_agree_opened k t c news new w is free of calls reads ready sends b whole
       xids = apart_push (λ (x : PendingCall). x.xid) k.calls c w.xids (none_absent (λ (x : PendingCall). x.xid) c.xid k.calls free);
       calls_below = below_append (λ (x : PendingCall). x.number) c.number k.calls (c ∷ []) below (omega arith, tt);
       reads_below = below_append (λ (x : PendingRead). x.number) c.number k.reads news (below_more (λ (x : PendingRead). x.number) n c.number k.reads (omega (arith, lt)) w.reads_below) (of_below (λ (x : PendingRead). x.number) c.number news of);
-      ready_apart = apart-by b whole ready_absent;
-      ready_calls = ready_append (k.reads ++ news) (k.ready ++ new) k.calls (c ∷ []) rest ((λ e. ready-by e), tt);
-      whole_calls = whole_append (k.reads ++ news) (k.calls ++ c ∷ []) k.ready new wholes (whole-by b whole);
+      ready_apart = apart_by b whole ready_absent;
+      ready_calls = ready_append (k.reads ++ news) (k.ready ++ new) k.calls (c ∷ []) rest ((λ e. ready_by e), tt);
+      whole_calls = whole_append (k.reads ++ news) (k.calls ++ c ∷ []) k.ready new wholes (whole_by b whole);
     })
     calls reads ready (omega (arith, sends))
   where
-    apart-by : (b : Bool) → is_read (k.reads ++ news) c.number ≡ b → IsUnused (λ (x : ReadyCall). x.number) c.number k.ready → AreDistinct (λ (x : ReadyCall). x.number) (k.ready ++ new)
-    apart-by true e absent =
+    apart_by : (b : Bool) → is_read (k.reads ++ news) c.number ≡ b → IsUnused (λ (x : ReadyCall). x.number) c.number k.ready → AreDistinct (λ (x : ReadyCall). x.number) (k.ready ++ new)
+    apart_by true e absent =
         let x = a.whole e in
         subst (λ (xs : List ReadyCall). AreDistinct (λ (y : ReadyCall). y.number) (k.ready ++ xs)) (sym x.1)
         (apart_push (λ (y : ReadyCall). y.number) k.ready x.0 w.ready_apart (subst (λ (m : ℕ). IsUnused (λ (y : ReadyCall). y.number) m k.ready) (sym x.2) absent))
-    apart-by false e absent = subst (λ (xs : List ReadyCall). AreDistinct (λ (y : ReadyCall). y.number) (k.ready ++ xs)) (sym (a.partial e)) (subst (λ (xs : List ReadyCall). AreDistinct (λ (y : ReadyCall). y.number) xs) (sym (append-nil k.ready)) w.ready_apart)
+    apart_by false e absent = subst (λ (xs : List ReadyCall). AreDistinct (λ (y : ReadyCall). y.number) (k.ready ++ xs)) (sym (a.partial e)) (subst (λ (xs : List ReadyCall). AreDistinct (λ (y : ReadyCall). y.number) xs) (sym (append-nil k.ready)) w.ready_apart)
 
-    ready-by : is_read (k.reads ++ news) c.number ≡ true → list_any (λ (r : ReadyCall). eqb r.number c.number) (k.ready ++ new) ≡ true
-    ready-by e =
+    ready_by : is_read (k.reads ++ news) c.number ≡ true → list_any (λ (r : ReadyCall). eqb r.number c.number) (k.ready ++ new) ≡ true
+    ready_by e =
         let x = a.whole e in
         any_right (λ (r : ReadyCall). eqb r.number c.number) k.ready new
         (ap (λ (xs : List ReadyCall). list_any (λ (r : ReadyCall). eqb r.number c.number) xs) x.1 ∙ ap (λ (b : Bool). b || false) (eq-eqb x.0.number c.number x.2))
 
-    whole-by : (b : Bool) → is_read (k.reads ++ news) c.number ≡ b → AreWhole (k.reads ++ news) (k.calls ++ c ∷ []) new
-    whole-by true e =
+    whole_by : (b : Bool) → is_read (k.reads ++ news) c.number ≡ b → AreWhole (k.reads ++ news) (k.calls ++ c ∷ []) new
+    whole_by true e =
         let x = a.whole e in
         subst (λ (xs : List ReadyCall). AreWhole (k.reads ++ news) (k.calls ++ c ∷ []) xs) (sym x.1) (
           any_right (λ (y : PendingCall). eqb y.number x.0.number && eqb y.xid x.0.xid) k.calls (c ∷ [])
@@ -164,7 +164,7 @@ pending_agree_opened k t c news new w is free of calls reads ready sends b whole
           ap (λ (m : ℕ). is_read (k.reads ++ news) m) x.2 ∙ e,
           tt,
         )
-    whole-by false e = subst (λ (xs : List ReadyCall). AreWhole (k.reads ++ news) (k.calls ++ c ∷ []) xs) (sym (a.partial e)) tt
+    whole_by false e = subst (λ (xs : List ReadyCall). AreWhole (k.reads ++ news) (k.calls ++ c ∷ []) xs) (sym (a.partial e)) tt
 
 -- the step of a message
 opens_adds : (k : ServerState) (place : ℕ) (c : PendingCall) (o : CallVerdict) (st : FrameEffect) (b : Bool) → is_read st.reads c.number ≡ b → st.ready ≡ [] → by_payload c (payload_of k place c) ≡ o

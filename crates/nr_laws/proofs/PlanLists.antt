@@ -78,7 +78,7 @@ given_fit payload offer stag small at sized stags = by offer.read offer.write of
     plan : Option (List ℕ) → Option (List ℕ) → Option (List ℕ) → Plan
     plan read w r = given_read payload offer.read_at read (record { inline = payload; read_at = None; read = []; region = []; write = w; reply = r })
 
-    by_lists : (p : Plan) (read : List ReadSegment) → (length (Rattle.nr_reduce.specs.ChunkBytes.lengths p.write) < 2 ^ 32) × (length (Rattle.nr_reduce.specs.ChunkBytes.lengths p.reply) < 2 ^ 32) → total p.write + total p.reply ≤ 65536
+    by_lists : (p : Plan) (read : List ReadSegment) → (length (Rattle.nr_reduce.specs.ChunkBytes.lengths p.write) < 2 ^ 32) × (length (Rattle.nr_reduce.specs.ChunkBytes.lengths p.reply) < 2 ^ 32) → total p.write + total p.reply ≤ given_max
         → stag + (one_if (has_segment (Some p.read)) + one_if (has_segment p.write) + one_if (has_segment p.reply)) ≤ 2 ^ 32 → ((more : List Item) → AllFit more → AllFit (read_items read more))
         → AllFit (lists_items (record { read = read; write = write_list (write_stag stag p) p.write; reply = reply_chunk (reply_stag stag p) p.reply }))
     by_lists p read count totals stags front =
@@ -86,7 +86,7 @@ given_fit payload offer stag small at sized stags = by offer.read offer.write of
         (write_fit_lem (write_stag stag p) p.write (reply_items (reply_chunk (reply_stag stag p) p.reply) []) (λ e. (let o = ap one_if e in omega (arith, o, stags))) (omega (arith, totals)) count.0
         (reply_fit_lem (reply_stag stag p) p.reply (λ e. (let o = ap one_if e in omega (arith, o, stags))) (omega (arith, totals)) count.1))
 
-    by : (read w r : Option (List ℕ)) → total read + total w + total r ≤ 65536 → (length (Rattle.nr_reduce.specs.ChunkBytes.lengths (plan read w r).write) < 2 ^ 32) × (length (Rattle.nr_reduce.specs.ChunkBytes.lengths (plan read w r).reply) < 2 ^ 32)
+    by : (read w r : Option (List ℕ)) → total read + total w + total r ≤ given_max → (length (Rattle.nr_reduce.specs.ChunkBytes.lengths (plan read w r).write) < 2 ^ 32) × (length (Rattle.nr_reduce.specs.ChunkBytes.lengths (plan read w r).reply) < 2 ^ 32)
         → stag + (one_if (has_segment (Some (plan read w r).read)) + one_if (has_segment (plan read w r).write) + one_if (has_segment (plan read w r).reply)) ≤ 2 ^ 32
         → AllFit (lists_items (record { read = read_list stag (plan read w r) (plan read w r).read_at; write = write_list (write_stag stag (plan read w r)) (plan read w r).write; reply = reply_chunk (reply_stag stag (plan read w r)) (plan read w r).reply }))
     by None w r small count stags = by_lists (plan None w r) [] count (omega (arith, small)) stags (λ more m. (tt, m))

@@ -42,7 +42,7 @@ use Rattle.nr_laws.proofs.FirstEnds.{first_server_end}
 use Rattle.nr_laws.proofs.JudgedCalls.{conveyed_ready, conveyed_head_there}
 use Rattle.nr_laws.proofs.LawsSoFar.{laws_so_far_lem}
 use Rattle.nr_laws.proofs.OnceByXid.{at_mark}
-use Rattle.nr_laws.proofs.CallsAtFrames.{ConveyedAt, submit_typed, submit_xid, conveyed-by-message, conveyed-by-read}
+use Rattle.nr_laws.proofs.CallsAtFrames.{ConveyedAt, submit_typed, submit_xid, conveyed_by_message, conveyed_by_read}
 use Rattle.nr_reduce.proofs.Touches.{AreNone, all_none, no_flaw, no_lack}
 
 -- ---- A frame that breaks no rule is allowed its access
@@ -78,10 +78,10 @@ not_refused_lem opened link run reason typed far refuses r = by r.cause
     by : RefusedBy k r.frame r.segment reason → ⊥
     by (AtMessage message c whole v read e) =
         refuses c (payload_of k r.frame.end c)
-        (conveyed-by-message opened link run typed far.asked far.served far.matched r.earlier r.frame r.later r.segment r.is r.behind r.is_segment r.live message c whole v read) e
+        (conveyed_by_message opened link run typed far.asked far.served far.matched r.earlier r.frame r.later r.segment r.is r.behind r.is_segment r.live message c whole v read) e
     by (AtRead q rest c ends reads found read e) =
         refuses c (payload_of (with_access k r.frame r.segment) r.frame.end c)
-        (conveyed-by-read opened link run typed far.asked far.served far.matched r.earlier r.frame r.later r.segment r.is r.behind r.is_segment r.live (response_allowed opened k r.frame r.segment r.is_segment ends r.fits) q rest c ends reads found read) e
+        (conveyed_by_read opened link run typed far.asked far.served far.matched r.earlier r.frame r.later r.segment r.is r.behind r.is_segment r.live (response_allowed opened k r.frame r.segment r.is_segment ends r.fits) q rest c ends reads found read) e
 
 abbrev reason_in : CallVerdict → ℕ
 reason_in (Refuses reason) = reason

@@ -46,7 +46,7 @@ given_small payload offer up down p e =
     let same : q ≡ p = (let s : Ok q ≡ Ok p = c.1 in cc) in
     subst (λ (r : Plan). length r.region < 2 ^ 32) same (by offer.read (let s = b.0 in omega (arith, s)))
   where
-    by : (o : Option (List ℕ)) → total o ≤ 65536 → length (given_read payload offer.read_at o (record { inline = payload; read_at = None; read = []; region = []; write = offer.write; reply = offer.reply })).region < 2 ^ 32
+    by : (o : Option (List ℕ)) → total o ≤ given_max → length (given_read payload offer.read_at o (record { inline = payload; read_at = None; read = []; region = []; write = offer.write; reply = offer.reply })).region < 2 ^ 32
     by None h = omega arith
     by (Some ns) h = (let l = region_length payload offer.read_at (sum ns) in omega (arith, l, h))
 

@@ -89,13 +89,13 @@ none_filled (p ∷ chunk) bytes =
     requests_append (cond (eqb (min p.length (length bytes)) 0) [] (tagged_frames OPCODE_WRITE p.handle p.offset (take p.length bytes))) (write_frames chunk (drop p.length bytes))
     ∙ (λ i. by (eqb (min p.length (length bytes)) 0) i ++ none_filled chunk (drop p.length bytes) i)
   where
-    none-cut : (f : ℕ → Bool) (g h : ℕ → ℕ) (b : ℕ → List ℕ) (is : List ℕ) → requests_of (map (λ i. TaggedFrame (f i) (g i) p.handle (h i) (b i)) is) ≡ []
-    none-cut f g h b [] = refl
-    none-cut f g h b (i ∷ is) = none-cut f g h b is
+    none_cut : (f : ℕ → Bool) (g h : ℕ → ℕ) (b : ℕ → List ℕ) (is : List ℕ) → requests_of (map (λ i. TaggedFrame (f i) (g i) p.handle (h i) (b i)) is) ≡ []
+    none_cut f g h b [] = refl
+    none_cut f g h b (i ∷ is) = none_cut f g h b is
 
     by : (b : Bool) → requests_of (cond b [] (tagged_frames OPCODE_WRITE p.handle p.offset (take p.length bytes))) ≡ []
     by true = refl
-    by false = none-cut (λ i. eqb (i + 1) (segment_count (take p.length bytes))) (λ i. OPCODE_WRITE) (λ i. p.offset + segment_max * i) (λ i. segment_payload (take p.length bytes) i) (range_with_len 0 (segment_count (take p.length bytes)))
+    by false = none_cut (λ i. eqb (i + 1) (segment_count (take p.length bytes))) (λ i. OPCODE_WRITE) (λ i. p.offset + segment_max * i) (λ i. segment_payload (take p.length bytes) i) (range_with_len 0 (segment_count (take p.length bytes)))
 
 none_long : (b : Bool) (chunk : List Part) (bytes : List ℕ) → requests_of (cond b (write_frames chunk bytes) []) ≡ []
 none_long true chunk bytes = none_filled chunk bytes

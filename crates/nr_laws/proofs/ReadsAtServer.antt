@@ -70,16 +70,16 @@ kept_read : (k : ServerState) (place : ℕ) (r : PendingRead) (o : Option Pendin
 kept_read k place r None st le all = le
 kept_read k place r (Some c) st le all = by (is_stream_read c r st.reads && not (is_read_chunk_of_item (chunk_bytes k place c 0) c.lists.read))
   where
-    whole-same : (b : Bool) (o : CallVerdict) → (cond b (with_verdict o st) st).kept ≤ length (take open_reads_max (cond b (with_verdict o st) st).reads)
-    whole-same true (Refuses reason) = le
-    whole-same true (IsReady ready) = le
-    whole-same false o = le
+    whole_same : (b : Bool) (o : CallVerdict) → (cond b (with_verdict o st) st).kept ≤ length (take open_reads_max (cond b (with_verdict o st) st).reads)
+    whole_same true (Refuses reason) = le
+    whole_same true (IsReady ready) = le
+    whole_same false o = le
 
     by : (b : Bool) → (cond b (with_refused_call k c st) (ready_if_whole k place c st)).kept ≤ length (take open_reads_max (cond b (with_refused_call k c st) (ready_if_whole k place c st)).reads)
     by true =
         let others = filter (λ (x : PendingRead). not (eqb x.number c.number)) (drop st.kept st.reads) in
         omega (arith, le, all, length-take open_reads_max st.reads, length-take st.kept st.reads, length-take open_reads_max (take st.kept st.reads ++ others), length-append (take st.kept st.reads) others)
-    by false = whole-same (is_read st.reads c.number) (by_payload c (payload_of k place c))
+    by false = whole_same (is_read st.reads c.number) (by_payload c (payload_of k place c))
 
 -- the reads that are open after a step: those that stay, and those that are opened by it
 open_parts_lem : (st : FrameEffect) (xs : List PendingRead) → st.kept ≤ length (take open_reads_max st.reads) → take st.kept st.reads ≡ xs → take open_reads_max st.reads ≡ xs ++ newly_open_reads st
@@ -176,11 +176,11 @@ record Headed (s : ServerState) (r : PendingRead) (rs asked : List PendingRead) 
 headed : (s : ServerState) (reads : List PendingRead) (r : PendingRead) (rs asked : List PendingRead) → s.reads ≡ reads → take open_reads_max reads ≡ r ∷ (rs ++ asked) → Headed s r rs asked
 headed s [] r rs asked is e = absurd cc
 headed s (x ∷ others) r rs asked is e =
-    let same : x ≡ r = head-same x r (take 7 others) (rs ++ asked) e in
+    let same : x ≡ r = head_same x r (take 7 others) (rs ++ asked) e in
     record { others = others; reads_are = is ∙ ap (λ (y : PendingRead). y ∷ others) same; taken_are = ap (λ (xs : List PendingRead). drop 1 xs) e }
   where
-    head-same : (x r : PendingRead) (xs ys : List PendingRead) → x ∷ xs ≡ r ∷ ys → x ≡ r
-    head-same x r xs ys e = cc
+    head_same : (x r : PendingRead) (xs ys : List PendingRead) → x ∷ xs ≡ r ∷ ys → x ≡ r
+    head_same x r xs ys e = cc
 
 abbrev tagged_after : ServerState → Frame → (last : Bool) → (stag to : ℕ) → List ℕ → FrameEffect
 tagged_after s f last stag to payload = effect_in s f (Ok (Tagged last OPCODE_READ_RESPONSE stag to payload))

@@ -223,14 +223,14 @@ must_be_bad opened k f segment message behind is whole stays long version kind r
     error : word_at 12 message ≢ 4
     error e = omega (arith, e, kind)
 
-    ends-link : is_pending k (word_at 0 message) ≡ true → verdict k message ≡ EndsLink REASON_CALL
-    ends-link e =
+    ends_link : is_pending k (word_at 0 message) ≡ true → verdict k message ≡ EndsLink REASON_CALL
+    ends_link e =
         ap (λ (b : Bool). cond (not b) OtherVersion (cond (eqb (word_at 12 message) 3 || eqb (word_at 12 message) 4) (EndsLink REASON_KIND) (cond (is_pending k (word_at 0 message)) (EndsLink REASON_CALL) (by_header k message (header_of message)))))
         (eq-eqb (word_at 4 message) 1 version)
         ∙ (λ i. cond (ne_eqb (word_at 12 message) 3 done i || ne_eqb (word_at 12 message) 4 error i) (EndsLink REASON_KIND) (cond (e i) (EndsLink REASON_CALL) (by_header k message (header_of message))))
 
     by : (b : Bool) → is_pending k (word_at 0 message) ≡ b → verdict k message ≡ BadChunks
-    by true e = absurd (stays_not opened k f segment message REASON_CALL behind is whole (ends-link e) stays)
+    by true e = absurd (stays_not opened k f segment message REASON_CALL behind is whole (ends_link e) stays)
     by false e = (bad_refused k message long version done error e).1 refused
 
 stays_at : (opened : LinkParameters) (es : List RunEvent) (event : RunEvent) → (end_state_after (server_rules opened) (initial_server opened) es).ended ≡ None

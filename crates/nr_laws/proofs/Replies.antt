@@ -3,7 +3,7 @@ use Rattle.std.specs.List.{find}
 use Rattle.nr_header.specs.Constants.{PAYLOAD_MAX}
 use Rattle.nr_laws.proofs.FrameContents.{SentMessage, CompletesMessage, last_segment}
 use Rattle.nr_laws.proofs.AnswerLists.{IsRead, read_answer, read_chunk_error, read_version_error}
-use Rattle.std.proofs.Common.{◌≡◌, ℕ, ◌+◌, ◌*◌, ◌≤◌, ◌<◌, ◌^◌, Bool, true, false, cond, eqb, List, [], ◌∷◌, ◌++◌, length, take, drop, Some, Ok, refl, sym, ap, ◌∙◌, arith, length-append, append_assoc, take_all}
+use Rattle.std.proofs.Common.{◌≡◌, ℕ, ◌+◌, ◌≤◌, ◌<◌, ◌^◌, Bool, true, false, cond, eqb, List, [], ◌∷◌, ◌++◌, length, take, drop, Some, Ok, refl, sym, ap, ◌∙◌, arith, length-append, append_assoc, take_all}
 use Rattle.std.proofs.Math.Seq.{drop-append_seam}
 use Rattle.std.proofs.lemmas.List.{take-append-le}
 use Rattle.nr_xdr.specs.Item.{word, word_of}
@@ -11,6 +11,7 @@ use Rattle.nr_xdr.specs.Items.{encodings}
 use Rattle.nr_xdr.specs.Fields.{word_at}
 use Rattle.nr_xdr.proofs.WordBytes.{length_word, word_of_word}
 use Rattle.nr_wire.specs.Segment.Segment.{Tagged}
+use Rattle.nr_header.specs.Length.{reply_chunk_len}
 use Rattle.nr_header.specs.declared.header.ChunkLists.{ChunkLists}
 use Rattle.nr_header.specs.declared.header.Body.TheVariants.{Msg, Nomsg}
 use Rattle.nr_header.specs.Header.{header_encoding, lists_items}
@@ -125,7 +126,7 @@ answer_reply offer down prog vers proc xid credit reply a small word lt fits e =
   where
     by : (b : Bool) → a.long ≡ b
         → (a.long ≡ false → (length (answer_message xid credit offer a) ≡ answer_size offer.write + length a.stream) × (length (answer_message xid credit offer a) ≤ down))
-        → (a.long ≡ true → length (answer_message xid credit offer a) ≡ answer_size offer.write + (4 + 16 * length (no_segments offer.reply)))
+        → (a.long ≡ true → length (answer_message xid credit offer a) ≡ answer_size offer.write + reply_chunk_len (length (no_segments offer.reply)))
         → word_at 8 (answer_message xid credit offer a) ≡ credit → IsRead (answer_message xid credit offer a) → IsReply credit (answer_message xid credit offer a)
     by true is short long words back = record { least = omega (arith, long is); most = omega (arith, long is, fits.size); credits = words; read = back }
     by false is short long words back = record { least = omega (arith, (short is).0); most = omega (arith, (short is).1, small); credits = words; read = back }

@@ -34,7 +34,7 @@ use Rattle.nr_reduce.specs.DueItems.{server_items_at, write_items, answer_items,
 use Rattle.nr_reduce.proofs.Calls.{execute_answered}
 use Rattle.nr_reduce.proofs.Steps.{events_one}
 use Rattle.nr_reduce.proofs.Standing.{itself}
-use Rattle.nr_reduce.proofs.WroteItems.{due-append}
+use Rattle.nr_reduce.proofs.WroteItems.{due_append}
 use Rattle.nr_laws.specs.Typed.{TypedMark}
 use Rattle.nr_laws.specs.AnswersConvey.{payloads_of, moved_returned, stream_returned, returned_segments, segment_writes, AnswersConvey}
 use Rattle.nr_laws.proofs.ConveyedForms.{no_bytes_lem}
@@ -89,8 +89,8 @@ module _ (offer : ChunkLists) (prog vers proc : ℕ) (reply : List ℕ) (a : Ans
   filled : List RdmaSegment
   filled = filled_chunk (no_segments offer.reply) (length a.stream)
 
-  payloads-are : payloads_of (answer_segments offer a) ≡ a.moved ++ cond a.long a.stream []
-  payloads-are =
+  payloads_are : payloads_of (answer_segments offer a) ≡ a.moved ++ cond a.long a.stream []
+  payloads_are =
       payloads_append (chunk_segments (first_chunk offer.write) a.moved) (cond a.long (chunk_segments (no_segments offer.reply) a.stream) [])
       ∙ (λ i. first i ++ tail a.long m.long i)
     where
@@ -101,41 +101,41 @@ module _ (offer : ChunkLists) (prog vers proc : ℕ) (reply : List ℕ) (a : Ans
       tail true room = chunk_payloads (no_segments offer.reply) a.stream ∙ take_all (chunk_total (no_segments offer.reply)) a.stream (room refl)
       tail false room = refl
 
-  stream-returned : a.long ≡ true → stream_returned offer a ≡ length a.stream
-  stream-returned long =
+  stream_returned_lem : a.long ≡ true → stream_returned offer a ≡ length a.stream
+  stream_returned_lem long =
       (λ i. chunk_total (no_segments (cond (long i) (Some (filled_chunk (no_segments offer.reply) (length a.stream))) None)))
       ∙ filled_total (no_segments offer.reply) (length a.stream) (m.long long)
 
-  pub all-brought : length (payloads_of (answer_segments offer a)) ≡ moved_returned offer a + cond a.long (stream_returned offer a) 0
-  all-brought = ap (λ (xs : List ℕ). length xs) payloads-are ∙ length-append a.moved (cond a.long a.stream []) ∙ by a.long refl
+  pub all_brought : length (payloads_of (answer_segments offer a)) ≡ moved_returned offer a + cond a.long (stream_returned offer a) 0
+  all_brought = ap (λ (xs : List ℕ). length xs) payloads_are ∙ length-append a.moved (cond a.long a.stream []) ∙ by a.long refl
     where
       moved : moved_returned offer a ≡ length a.moved
       moved = first_filled offer.write (length a.moved) m.of.room
 
       by : (b : Bool) → a.long ≡ b → length a.moved + length (cond b a.stream []) ≡ moved_returned offer a + cond b (stream_returned offer a) 0
-      by true long = (let s = stream-returned long in omega (arith, moved, s))
+      by true long = (let s = stream_returned_lem long in omega (arith, moved, s))
       by false long = omega (arith, moved)
 
-  pub answer-writes : write_items (first_chunk offer.write) a.moved ++ cond a.long (write_items (no_segments offer.reply) a.stream) [] ≡ segment_writes (returned_segments offer a) (payloads_of (answer_segments offer a))
-  answer-writes =
-      (λ i. filled_writes (first_chunk offer.write) a.moved i ++ long-writes a.long i)
-      ∙ sym (writes_append (filled_chunk (first_chunk offer.write) (length a.moved)) (long-segments a.long) a.moved (cond a.long a.stream []) (filled_total (first_chunk offer.write) (length a.moved) m.of.room))
-      ∙ (λ i. segment_writes (sym (first-is offer.write) i ++ sym (long-is a.long) i) (sym payloads-are i))
+  pub answer_writes : write_items (first_chunk offer.write) a.moved ++ cond a.long (write_items (no_segments offer.reply) a.stream) [] ≡ segment_writes (returned_segments offer a) (payloads_of (answer_segments offer a))
+  answer_writes =
+      (λ i. filled_writes (first_chunk offer.write) a.moved i ++ long_writes a.long i)
+      ∙ sym (writes_append (filled_chunk (first_chunk offer.write) (length a.moved)) (long_segments a.long) a.moved (cond a.long a.stream []) (filled_total (first_chunk offer.write) (length a.moved) m.of.room))
+      ∙ (λ i. segment_writes (sym (first_is offer.write) i ++ sym (long_is a.long) i) (sym payloads_are i))
     where
-      long-segments : Bool → List RdmaSegment
-      long-segments b = cond b (filled_chunk (no_segments offer.reply) (length a.stream)) []
+      long_segments : Bool → List RdmaSegment
+      long_segments b = cond b (filled_chunk (no_segments offer.reply) (length a.stream)) []
 
-      long-writes : (b : Bool) → cond b (write_items (no_segments offer.reply) a.stream) [] ≡ segment_writes (cond b (filled_chunk (no_segments offer.reply) (length a.stream)) []) (cond b a.stream [])
-      long-writes true = filled_writes (no_segments offer.reply) a.stream
-      long-writes false = refl
+      long_writes : (b : Bool) → cond b (write_items (no_segments offer.reply) a.stream) [] ≡ segment_writes (cond b (filled_chunk (no_segments offer.reply) (length a.stream)) []) (cond b a.stream [])
+      long_writes true = filled_writes (no_segments offer.reply) a.stream
+      long_writes false = refl
 
-      first-is : (chunks : List (List RdmaSegment)) → first_chunk (written_chunks chunks (length a.moved)) ≡ filled_chunk (first_chunk chunks) (length a.moved)
-      first-is [] = refl
-      first-is (chunk ∷ chunks) = refl
+      first_is : (chunks : List (List RdmaSegment)) → first_chunk (written_chunks chunks (length a.moved)) ≡ filled_chunk (first_chunk chunks) (length a.moved)
+      first_is [] = refl
+      first_is (chunk ∷ chunks) = refl
 
-      long-is : (b : Bool) → cond b (no_segments (cond b (Some (filled_chunk (no_segments offer.reply) (length a.stream))) None)) [] ≡ cond b (filled_chunk (no_segments offer.reply) (length a.stream)) []
-      long-is true = refl
-      long-is false = refl
+      long_is : (b : Bool) → cond b (no_segments (cond b (Some (filled_chunk (no_segments offer.reply) (length a.stream))) None)) [] ≡ cond b (filled_chunk (no_segments offer.reply) (length a.stream)) []
+      long_is true = refl
+      long_is false = refl
 
 -- ---- What an execution makes due
 
@@ -161,7 +161,7 @@ execute_items opened link run xid moment payload place reply h =
     let r : EndState ServerState = end_state_after rules (initial_server opened) es in
     let old : List OutputItem = due_for_all rules (server_items_at opened) (λ end. LastItem end ∷ []) (initial_server opened) es in
     ap (λ (all : List RunEvent). due_for_all rules (server_items_at opened) (λ end. LastItem end ∷ []) (initial_server opened) all) (events_one link Responder run mark)
-    ∙ due-append rules (server_items_at opened) (λ end. LastItem end ∷ []) (initial_server opened) es (events_at link Responder run mark)
+    ∙ due_append rules (server_items_at opened) (λ end. LastItem end ∷ []) (initial_server opened) es (events_at link Responder run mark)
     ∙ ap (λ (b : Bool). old ++ due_for_all rules (server_items_at opened) (λ end. LastItem end ∷ []) r (if_own (b && true) (CallExecuted e ∷ []))) (itself link)
     ∙ ap (λ (items : List OutputItem). old ++ items) (execute_one opened r.state r.ended e (not_ended_lem r.state.ready r.ended h.call h.is_next))
 
@@ -198,7 +198,7 @@ answers_convey opened link run before xid moment payload place reply answer type
       answered = record { answer = answer; is_held = held; due = (execute_answered opened link before xid moment payload place reply x).0 answer held };
       writes = execute_items opened link before xid moment payload place reply x
           ∙ ap (λ (o : Option Answer). old ++ answer_items k xid offer o) held
-          ∙ ap (λ (items : List OutputItem). old ++ (items ++ last)) (answer-writes offer m.prog m.vers m.proc reply answer m.made_for);
-      all = all-brought offer m.prog m.vers m.proc reply answer m.made_for;
+          ∙ ap (λ (items : List OutputItem). old ++ (items ++ last)) (answer_writes offer m.prog m.vers m.proc reply answer m.made_for);
+      all = all_brought offer m.prog m.vers m.proc reply answer m.made_for;
       conveys = conveys_by offer k.down_max reply (target_of (call_of payload)) answer bytes held;
     }

@@ -16,7 +16,7 @@ use Rattle.nr_link.specs.ReceiveState.{ReadRequest, message_completed, read_requ
 use Rattle.nr_reduce.specs.declared.mark.Mark.{Mark}
 use Rattle.nr_reduce.specs.declared.mark.LinkParameters.{LinkParameters}
 use Rattle.nr_reduce.specs.History.{AcceptedCall, bytes_sent}
-use Rattle.nr_reduce.specs.Written.{ends_left}
+use Rattle.nr_reduce.specs.Written.{ends_written}
 use Rattle.nr_reduce.specs.Events.{RunEvent, events}
 use Rattle.nr_reduce.specs.Events.RunEvent.{FrameReceived, CallSubmitted, MemoryRevoked, CallExecuted, QueueWritten}
 use Rattle.nr_reduce.specs.EndRules.{EndState, live, next_end_state_by, end_state_after}
@@ -304,10 +304,10 @@ record DueAfter (opened : LinkParameters) (k : ClientState) (sends : List Output
   place : ℕ
   due : SendsAreDue opened place k sends
 
-due-along : (opened : LinkParameters) (place : ℕ) (k : ClientState) (es : List RunEvent) (items : List OutputItem) → GoesOn (client_rules opened) (ClientGood opened) place (live k) es → (end_state_after (client_rules opened) (live k) es).ended ≡ None
+due_along : (opened : LinkParameters) (place : ℕ) (k : ClientState) (es : List RunEvent) (items : List OutputItem) → GoesOn (client_rules opened) (ClientGood opened) place (live k) es → (end_state_after (client_rules opened) (live k) es).ended ≡ None
     → SendsAreDue opened place k (send_items items) → DueAfter opened (end_state_after (client_rules opened) (live k) es).state (send_items (items ++ items_of opened (live k) es))
-due-along opened place k [] items g stays h = record { place = place; due = subst (λ (xs : List OutputItem). SendsAreDue opened place k (send_items xs)) (sym (append-nil items)) h }
-due-along opened place k (e ∷ es) items g stays h = by (λ next live_still. due-along opened (place_after place e) t es (items ++ new) next live_still one) (client_end k e) g.2 stays
+due_along opened place k [] items g stays h = record { place = place; due = subst (λ (xs : List OutputItem). SendsAreDue opened place k (send_items xs)) (sym (append-nil items)) h }
+due_along opened place k (e ∷ es) items g stays h = by (λ next live_still. due_along opened (place_after place e) t es (items ++ new) next live_still one) (client_end k e) g.2 stays
   where
     t : ClientState
     t = client_state_after opened k e
@@ -330,7 +330,7 @@ due_run : (opened : LinkParameters) (link : ℕ) (run : List Mark) → IsTyped r
     → DueAfter opened (client opened link run).state (send_items (items_due opened link Initiator run))
 unfolding client items_due
 due_run opened link run typed asked stays =
-    due-along opened 0 (initial_client opened).state (events link Initiator run) [] (client_goes opened link run typed asked).goes stays
+    due_along opened 0 (initial_client opened).state (events link Initiator run) [] (client_goes opened link run typed asked).goes stays
     (record { greeted = inl (refl, refl); silent = λ quiet. refl; waiting = λ quiet. (tt, refl); count = λ wrong. absurd (let e : false ≡ true = wrong in cc); own = λ wrong. absurd (let e : false ≡ true = wrong in cc) })
 
 -- ---- The law
@@ -363,13 +363,13 @@ sent_calls_are_written opened link run o typed asked stays there = (to, from)
     first : k.first_xid ≡ opened.first_xid
     first = first_of_lem opened link run
 
-    counted : ends_left k.written k.send_ends ≡ length (complete_sends opened link run)
+    counted : ends_written k.written k.send_ends ≡ length (complete_sends opened link run)
     counted = (client_counts_items opened link run stays).0 ∙ sym (complete_count is_send_item at n items)
 
     from : slice_get (complete_sends opened link run) position ≡ Some (sent_call_item opened (position + 1) o) → is_sent k o ≡ true
     from e =
         let within = slice_get_within (complete_sends opened link run) position (sent_call_item opened (position + 1) o) e in
-        lt-ltb (o.xid - k.first_xid) (ends_left k.written k.send_ends) (omega (arith, within, counted, first))
+        lt-ltb (o.xid - k.first_xid) (ends_written k.written k.send_ends) (omega (arith, within, counted, first))
 
     by : (b : Bool) → k.has_hello ≡ b → DueAfter opened k (send_items items) → position < length (complete_sends opened link run) → slice_get (complete_sends opened link run) position ≡ Some (sent_call_item opened (position + 1) o)
     by true greeted d low =
@@ -385,5 +385,5 @@ sent_calls_are_written opened link run o typed asked stays there = (to, from)
 
     to : is_sent k o ≡ true → slice_get (complete_sends opened link run) position ≡ Some (sent_call_item opened (position + 1) o)
     to e =
-        let low = ltb-true (o.xid - k.first_xid) (ends_left k.written k.send_ends) e in
+        let low = ltb-true (o.xid - k.first_xid) (ends_written k.written k.send_ends) e in
         by k.has_hello refl (due_run opened link run typed asked stays) (omega (arith, low, counted, first))

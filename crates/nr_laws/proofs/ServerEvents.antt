@@ -207,23 +207,23 @@ executed_step opened es place k outs e good t o is =
       cause = λ pre s post m same one. by o is pre s post m same one (ap (λ (q : ServerState). answer_of_call q e) (sym at)) at (sym (ap (λ (r : EndState ServerState). r.ended) t.state)) t.outs_are;
     }
   where
-    first-is : (m : List ℕ) (x : List ℕ) (a b : List (List ℕ)) → x ∷ [] ≡ a ++ m ∷ b → m ≡ x
-    first-is m x [] b e = (let s : x ≡ m = cc in sym s)
-    first-is m x (y ∷ a) b e = absurd (let l = ap (λ (zs : List (List ℕ)). length zs) e in let n = length-append a (m ∷ b) in omega (arith, l, n))
+    first_is : (m : List ℕ) (x : List ℕ) (a b : List (List ℕ)) → x ∷ [] ≡ a ++ m ∷ b → m ≡ x
+    first_is m x [] b e = (let s : x ≡ m = cc in sym s)
+    first_is m x (y ∷ a) b e = absurd (let l = ap (λ (zs : List (List ℕ)). length zs) e in let n = length-append a (m ∷ b) in omega (arith, l, n))
 
     -- no segment of a message writes
-    no-writes : (msn : ℕ) (message : List ℕ) (is : List ℕ) → parts_out (map ASegment (map (message_segment msn message) is)) ≡ []
-    no-writes msn message [] = refl
-    no-writes msn message (i ∷ is) = no-writes msn message is
+    no_writes : (msn : ℕ) (message : List ℕ) (is : List ℕ) → parts_out (map ASegment (map (message_segment msn message) is)) ≡ []
+    no_writes msn message [] = refl
+    no_writes msn message (i ∷ is) = no_writes msn message is
 
-    left-none : (xs ys : List Part) → xs ++ ys ≡ [] → xs ≡ []
-    left-none [] ys h = refl
-    left-none (x ∷ xs) ys h = absurd cc
+    left_none : (xs ys : List Part) → xs ++ ys ≡ [] → xs ≡ []
+    left_none [] ys h = refl
+    left_none (x ∷ xs) ys h = absurd cc
 
-    front-writes : (msn : ℕ) (message : List ℕ) (front : List Output) (s : Segment) (post : List Output) → message_outputs msn message ≡ front ++ ASegment s ∷ post → parts_out front ≡ []
-    front-writes msn message front s post h =
-        left-none (parts_out front) (parts_out (ASegment s ∷ post))
-        (sym (out_append front (ASegment s ∷ post)) ∙ ap parts_out (sym h) ∙ no-writes msn message (range_with_len 0 (segment_count message)))
+    front_writes : (msn : ℕ) (message : List ℕ) (front : List Output) (s : Segment) (post : List Output) → message_outputs msn message ≡ front ++ ASegment s ∷ post → parts_out front ≡ []
+    front_writes msn message front s post h =
+        left_none (parts_out front) (parts_out (ASegment s ∷ post))
+        (sym (out_append front (ASegment s ∷ post)) ∙ ap parts_out (sym h) ∙ no_writes msn message (range_with_len 0 (segment_count message)))
 
     answered : (a : Answer) → answer_of_call k e ≡ Some a → (pre : List Output) (s : Segment) (post : List Output) (m : List ℕ) → completed_by (begun_from None pre) s ≡ m ∷ []
         → answer_of_call (server_by opened es) e ≡ answer_of_call k e → k ≡ server_by opened es → is_live opened es → outs ≡ outs_of opened es
@@ -238,7 +238,7 @@ executed_step opened es place k outs e good t o is =
         let quiet = completes_tagged (answer_segments offer a) (tagged_answer offer a) in
         let begun : begun_from None pre ≡ begun_from None front = ap (λ (xs : List Output). begun_from None xs) is_pre ∙ begun_append None segments front ∙ ap (λ (b : Option (List ℕ)). begun_from b front) quiet.begun in
         let own : completed_by (begun_from None front) s ≡ m ∷ [] = ap (λ (b : Option (List ℕ)). completed_by b s) (sym begun) ∙ one in
-        let none : parts_out front ≡ [] = front-writes (k.messages_queued + 1) message front s post then in
+        let none : parts_out front ≡ [] = front_writes (k.messages_queued + 1) message front s post then in
         IsAnswer (record {
           earlier = es;
           call = e;
@@ -247,7 +247,7 @@ executed_step opened es place k outs e good t o is =
           live = live;
           answer = a;
           is_answer = there ∙ is;
-          message = first-is m message (completed_from None front) (completed_from None post)
+          message = first_is m message (completed_from None front) (completed_from None post)
               (sym (completes_message (k.messages_queued + 1) message).completed ∙ ap (λ (xs : List Output). completed_from None xs) then ∙ completed_at_lem front s post m own)
               ∙ ap (λ (q : ServerState). answer_message e.xid (credit_word q) (offer_of q e.xid) a) at;
           before = (λ i. parts_out (outs_are i ++ is_pre i)) ∙ out_append (outs_of opened es) (segments ++ front)
@@ -264,7 +264,7 @@ executed_step opened es place k outs e good t o is =
       is = refl;
       live = live;
       none = there ∙ is;
-      message = first-is m (chunk_error e.xid (credit_word k)) (completed_from None pre) (completed_from None post)
+      message = first_is m (chunk_error e.xid (credit_word k)) (completed_from None pre) (completed_from None post)
           (sym (completes_message (k.messages_queued + 1) (chunk_error e.xid (credit_word k))).completed ∙ ap (λ (xs : List Output). completed_from None xs) same ∙ completed_at_lem pre s post m one)
           ∙ ap (λ (q : ServerState). chunk_error e.xid (credit_word q)) at;
     })

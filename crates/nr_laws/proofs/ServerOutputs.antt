@@ -1,5 +1,5 @@
 -- What the server of a link says along its events: each of its messages answers an executed call, or refuses a Send.
-use Rattle.std.proofs.Common.{◌≡◌, ℕ, ◌+◌, ◌*◌, ◌≤◌, Bool, true, false, cond, not, eqb, List, [], ◌∷◌, ◌++◌, length, map, Option, None, Some, Ok, refl, sym, subst, arith, append-nil}
+use Rattle.std.proofs.Common.{◌≡◌, ℕ, ◌+◌, ◌≤◌, Bool, true, false, cond, not, eqb, List, [], ◌∷◌, ◌++◌, length, map, Option, None, Some, Ok, refl, sym, subst, arith, append-nil}
 use Rattle.std.specs.List.{find, AllByRecursion}
 use Rattle.std.proofs.lemmas.List.Elements.{All-nil}
 use Rattle.nr_header.specs.WithinLimits.{ListsWithin}
@@ -7,6 +7,7 @@ use Rattle.nr_xdr.specs.Item.{IsBytes, word}
 use Rattle.nr_xdr.specs.Fields.{word_at}
 use Rattle.nr_rpc.specs.declared.head.CallTarget.{CallTarget}
 use Rattle.nr_rpc.specs.Reading.{call_of, target_of}
+use Rattle.nr_header.specs.Length.{reply_chunk_len}
 use Rattle.nr_header.specs.declared.header.ChunkLists.{ChunkLists}
 use Rattle.nr_wire.specs.Segment.{Segment}
 use Rattle.nr_wire.specs.declared.stream.Awaited.TheVariants.{Fpdu}
@@ -160,7 +161,7 @@ answer_short_lem offer down prog vers proc xid credit reply a small fits e =
   where
     by : (b : Bool) → a.long ≡ b
         → (a.long ≡ false → (length (answer_message xid credit offer a) ≡ answer_size offer.write + length a.stream) × (length (answer_message xid credit offer a) ≤ down))
-        → (a.long ≡ true → length (answer_message xid credit offer a) ≡ answer_size offer.write + (4 + 16 * length (no_segments offer.reply)))
+        → (a.long ≡ true → length (answer_message xid credit offer a) ≡ answer_size offer.write + reply_chunk_len (length (no_segments offer.reply)))
         → IsShort (answer_message xid credit offer a)
     by true is short long = omega (arith, long is, fits.size)
     by false is short long = omega (arith, (short is).1, small)

@@ -95,12 +95,12 @@ tells_nothing opened = record {
   fit = tt;
   shape = inl (refl, refl, refl, refl);
   none_begun = refl;
-  said = λ xs s ys m e one. absurd (none-at xs s ys e);
+  said = λ xs s ys m e one. absurd (none_at xs s ys e);
 }
   where
-    none-at : (xs : List Output) (s : _) (ys : List Output) → [] ≡ xs ++ ASegment s ∷ ys → ⊥
-    none-at [] s ys e = absurd cc
-    none-at (x ∷ xs) s ys e = absurd cc
+    none_at : (xs : List Output) (s : _) (ys : List Output) → [] ≡ xs ++ ASegment s ∷ ys → ⊥
+    none_at [] s ys e = absurd cc
+    none_at (x ∷ xs) s ys e = absurd cc
 
 pub server_tells : (opened : LinkParameters) (link : ℕ) (run : List Mark) → IsTyped run → AskedSoFar opened link run → ServedSoFar opened link run → Matched link run
     → ServerTells opened (events link Responder run) (whole_bytes link Responder run) (server opened link run) (outs_of opened (events link Responder run))

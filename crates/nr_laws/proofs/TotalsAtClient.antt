@@ -294,9 +294,9 @@ totals_accepts opened k s w place a c =
       hello = omega (arith, c.hello, total_append hellos_in w.queued_up said, says_no hellos_in k.has_hello message (λ offset payload. refl) (λ m. refl));
       calls_up = omega (arith, c.calls_up, said_more k.has_hello k.calls_accepted, total_append sends_in w.queued_up said, says_call k.has_hello message);
       messages_down = c.messages_down;
-      sends = omega (arith, c.sends, total_append sends_in w.queued_up said, says_call k.has_hello message, waiting_append k.written k.send_ends (submitted_ends opened k a), submitted-waits k.has_hello);
+      sends = omega (arith, c.sends, total_append sends_in w.queued_up said, says_call k.has_hello message, waiting_append k.written k.send_ends (submitted_ends opened k a), submitted_waits k.has_hello);
       messages = c.messages;
-      all_sends = omega (arith, c.all_sends, said_more k.has_hello k.calls_accepted, length-append k.send_ends (submitted_ends opened k a), submitted-length k.has_hello);
+      all_sends = omega (arith, c.all_sends, said_more k.has_hello k.calls_accepted, length-append k.send_ends (submitted_ends opened k a), submitted_length k.has_hello);
       within_up = omega (arith, c.within_up);
       within_down = c.within_down;
       out = omega (arith, c.out, length-append k.outstanding (outstanding_of k a ∷ []));
@@ -310,13 +310,13 @@ totals_accepts opened k s w place a c =
     one : List ℕ
     one = call_output opened (k.calls_accepted + 1) (outstanding_of k a)
 
-    submitted-waits : (b : Bool) → ends_waiting k.written (cond b ((k.due + length (cond b one [])) ∷ []) []) ≡ hello_bit b
-    submitted-waits true = one_waiting k.written (k.due + length one) (omega (arith, c.within_up, send_some (k.calls_accepted + 1) (call_message a.xid opened.wished k.stag (outstanding_of k a).plan)))
-    submitted-waits false = refl
+    submitted_waits : (b : Bool) → ends_waiting k.written (cond b ((k.due + length (cond b one [])) ∷ []) []) ≡ hello_bit b
+    submitted_waits true = one_waiting k.written (k.due + length one) (omega (arith, c.within_up, send_some (k.calls_accepted + 1) (call_message a.xid opened.wished k.stag (outstanding_of k a).plan)))
+    submitted_waits false = refl
 
-    submitted-length : (b : Bool) → length (cond b ((k.due + length (cond b one [])) ∷ []) []) ≡ hello_bit b
-    submitted-length true = refl
-    submitted-length false = refl
+    submitted_length : (b : Bool) → length (cond b ((k.due + length (cond b one [])) ∷ []) []) ≡ hello_bit b
+    submitted_length true = refl
+    submitted_length false = refl
 
 pub totals_writes_up : (opened : LinkParameters) (k : ClientState) (s : ServerState) (w : Transit) (taken : ℕ) → k.written + taken ≡ k.due → ClientEnds k → TotalsAgree k s w
     → TotalsAgree (client_state_after opened k (QueueWritten taken)) s (record { queued_up = []; up = w.up ++ w.queued_up; queued_down = w.queued_down; down = w.down })

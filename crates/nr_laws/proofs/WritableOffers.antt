@@ -1,12 +1,13 @@
 -- What a client offers by a message that makes its call pending is within the limits of a header: so each segment of an answer,
 -- and its message, can be written.
 use Rattle.nr_laws.proofs.OneChunk.{HasOneChunk, OneChunk}
-use Rattle.std.proofs.Common.{◌≡◌, ℕ, ◌+◌, ◌*◌, ◌≤◌, ◌<◌, ◌^◌, List, [], ◌∷◌, length, sum_by, Option, Some, None, IfSome, refl, sym, subst, arith}
+use Rattle.std.proofs.Common.{◌≡◌, ℕ, ◌+◌, ◌≤◌, ◌<◌, ◌^◌, List, [], ◌∷◌, length, Option, Some, None, IfSome, sym, subst, arith}
 use Rattle.std.specs.List.{All}
 use Rattle.std.proofs.lemmas.List.Elements.{All-head, All-tail}
-use Rattle.std.proofs.lemmas.List.Sums.{sum_by-cons}
 use Rattle.nr_xdr.specs.Item.{Item, IsBytes}
 use Rattle.nr_xdr.specs.Items.{AllFit}
+use Rattle.nr_header.proofs.Lengths.{write_list_segments}
+use Rattle.nr_header.specs.Length.{reply_chunk_len}
 use Rattle.nr_header.specs.declared.header.RdmaSegment.{RdmaSegment}
 use Rattle.nr_header.specs.declared.header.ReadSegment.{ReadSegment}
 use Rattle.nr_header.specs.declared.header.ChunkLists.{ChunkLists}
@@ -14,7 +15,7 @@ use Rattle.nr_header.specs.declared.header.Body.{Body}
 use Rattle.nr_header.specs.declared.header.Body.TheVariants.{Msg, Nomsg, ErrVers, ErrChunk}
 use Rattle.nr_header.specs.Header.{read_items, segments_items, write_items, reply_items, lists_items, body_items}
 use Rattle.nr_header.specs.WithinLimits.{read_total, Ends, SegmentsEnd, ListsWithin, CanRead}
-use Rattle.nr_header.specs.Constants.{PAYLOAD_MAX}
+use Rattle.nr_header.specs.Constants.{PAYLOAD_MAX, REPLY_SEGMENTS_MAX}
 use Rattle.nr_header.proofs.Messages.{header_take}
 use Rattle.nr_reduce.specs.Limits.{send_max}
 use Rattle.nr_reduce.specs.Holds.{first_chunk, no_segments, answer_size}
@@ -38,7 +39,7 @@ EntriesFit (r ∷ read) = ((r.length < 2 ^ 32) × (r.handle < 2 ^ 32) × (r.offs
 pub record OfferFits (lists : ChunkLists) : Type 0 where
   pub reads : EntriesFit lists.read
   pub total : read_total lists.read ≤ PAYLOAD_MAX
-  pub size : answer_size lists.write + (4 + 16 * length (no_segments lists.reply)) ≤ send_max
+  pub size : answer_size lists.write + reply_chunk_len (length (no_segments lists.reply)) ≤ send_max
   pub writes : SegmentsFit (first_chunk lists.write)
   pub replies : SegmentsFit (no_segments lists.reply)
   pub items : AllFit (lists_items lists)
@@ -71,12 +72,7 @@ reply_fits (Some chunk) more h ends = segments_fit chunk more h.1.1 ends
 
 -- ---- Of lists within their limits
 
-size_by : (chunks : List (List RdmaSegment)) → sum_by (λ (chunk : List RdmaSegment). 8 + 16 * length chunk) chunks ≡ 8 * length chunks + 16 * sum_by (λ (chunk : List RdmaSegment). length chunk) chunks
-size_by [] = refl
-size_by (chunk ∷ chunks) =
-    omega (arith, size_by chunks, sum_by-cons (λ (c : List RdmaSegment). 8 + 16 * length c) chunk chunks, sum_by-cons (λ (c : List RdmaSegment). length c) chunk chunks)
-
-few_segments : (reply : Option (List RdmaSegment)) → IfSome reply (λ (chunk : List RdmaSegment). length chunk ≤ 16) → length (no_segments reply) ≤ 16
+few_segments : (reply : Option (List RdmaSegment)) → IfSome reply (λ (chunk : List RdmaSegment). length chunk ≤ REPLY_SEGMENTS_MAX) → length (no_segments reply) ≤ REPLY_SEGMENTS_MAX
 few_segments None h = omega arith
 few_segments (Some chunk) h = h
 
@@ -86,7 +82,7 @@ offer_fits lists h w total =
     record {
       reads = entries_fit lists.read (write_items lists.write (reply_items lists.reply [])) h;
       total = total;
-      size = omega (arith, size_by lists.write, w.write_chunks, w.write_segments, few_segments lists.reply w.reply_segments);
+      size = omega (arith, write_list_segments lists.write, w.write_chunks, w.write_segments, few_segments lists.reply w.reply_segments);
       writes = first_fits lists.write (reply_items lists.reply []) writes w.write_ends;
       replies = reply_fits lists.reply [] (skip_write lists.write (reply_items lists.reply []) writes) w.reply_ends;
       items = h;

@@ -7,6 +7,7 @@ use Rattle.nr_header.specs.declared.header.RdmaSegment.{RdmaSegment}
 use Rattle.nr_header.specs.declared.header.ChunkLists.{ChunkLists}
 use Rattle.nr_header.specs.Header.{ChunksFit}
 use Rattle.nr_header.specs.WithinLimits.{ListsWithin}
+use Rattle.nr_header.specs.Constants.{CHUNK_SEGMENTS_MAX}
 use Rattle.nr_reduce.specs.Chunks.{filled_chunk}
 use Rattle.nr_reduce.specs.Holds.{Answer, empty_chunks, written_chunks, no_segments, answer_lists}
 
@@ -15,7 +16,7 @@ filled_length [] n = refl
 filled_length (s ∷ chunk) n = ap suc (filled_length chunk (n - min s.length n))
 
 abbrev IsWithin : List RdmaSegment → Type 0
-IsWithin chunk = length chunk ≤ 16
+IsWithin chunk = length chunk ≤ CHUNK_SEGMENTS_MAX
 
 abbrev IsWord : List RdmaSegment → Type 0
 IsWord chunk = length chunk < 2 ^ 32

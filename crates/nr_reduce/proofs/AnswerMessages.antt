@@ -1,5 +1,5 @@
 -- The message of an answer reads back as its lists and its stream, and has the size that was tested.
-use Rattle.std.proofs.Common.{◌≡◌, ℕ, suc, ◌+◌, ◌-◌, ◌*◌, ◌^◌, ◌<◌, ◌≤◌, min, Bool, true, false, cond, leb, List, [], ◌∷◌, ◌++◌, length, sum_by, All, IfSome, Option, Some, None, refl, sym, ap, subst, ◌∙◌, arith, length-append, inl, inr}
+use Rattle.std.proofs.Common.{◌≡◌, ℕ, suc, ◌+◌, ◌-◌, ◌^◌, ◌<◌, ◌≤◌, min, Bool, true, false, cond, leb, List, [], ◌∷◌, ◌++◌, length, sum_by, All, IfSome, Option, Some, None, refl, sym, ap, subst, ◌∙◌, arith, length-append, inl, inr}
 use Rattle.std.proofs.lemmas.Bool.{leb-true}
 use Rattle.std.proofs.lemmas.List.Sums.{sum_by-cons}
 use Rattle.nr_xdr.proofs.SequencingSteps.{chosen}
@@ -8,7 +8,7 @@ use Rattle.std.proofs.lemmas.List.Elements.{All-nil, recursion_from_All, All-fro
 use Rattle.std.specs.List.{AllByRecursion}
 use Rattle.nr_xdr.specs.Item.{Item as XdrItem, IsBytes}
 use Rattle.nr_xdr.specs.Items.{AllFit}
-use Rattle.nr_header.specs.Constants.{PAYLOAD_MAX}
+use Rattle.nr_header.specs.Constants.{PAYLOAD_MAX, WRITE_CHUNKS_MAX, CHUNK_SEGMENTS_MAX, WRITE_SEGMENTS_MAX, REPLY_SEGMENTS_MAX}
 use Rattle.nr_header.specs.declared.header.RdmaSegment.{RdmaSegment}
 use Rattle.nr_header.specs.declared.header.ReadSegment.{ReadSegment}
 use Rattle.nr_header.specs.declared.header.ChunkLists.{ChunkLists}
@@ -24,7 +24,7 @@ use Rattle.nr_reduce.specs.declared.item.Of.TheVariants.{Reply}
 use Rattle.nr_reduce.specs.Holds.{Answer, Parts, parts_in, answer_size, answer_with, answer_for, fits_reply, empty_chunks, written_chunks, no_segments, answer_lists, answer_message}
 use Rattle.nr_reduce.proofs.Asking.{all_one}
 use Rattle.nr_reduce.proofs.Answering.{Answered, answered}
-use Rattle.nr_header.specs.Length.{write_chunk_len, write_list_len}
+use Rattle.nr_header.specs.Length.{write_chunk_len, write_list_len, reply_chunk_len}
 use Rattle.nr_header.proofs.Lengths.{lists_len, msg_len, nomsg_len}
 
 pub length_filled : (chunk : List RdmaSegment) (n : ℕ) → length (filled_chunk chunk n) ≡ length chunk
@@ -77,9 +77,9 @@ first_of_one : {X : Type 0} (P : X → Type 0) (x : X) → All P (x ∷ []) → 
 first_of_one P x h = (recursion_from_All P (x ∷ []) h).0
 
 record WriteWithin (chunks : List (List RdmaSegment)) : Type 0 where
-  count : length chunks ≤ 4
-  each : All (λ chunk. length chunk ≤ 16) chunks
-  segments : sum_by (λ chunk. length chunk) chunks ≤ 16
+  count : length chunks ≤ WRITE_CHUNKS_MAX
+  each : All (λ chunk. length chunk ≤ CHUNK_SEGMENTS_MAX) chunks
+  segments : sum_by (λ chunk. length chunk) chunks ≤ WRITE_SEGMENTS_MAX
   ends : All SegmentsEnd chunks
 
 written_within : (ws : ℕ) (w : Option (List ℕ)) (n : ℕ) → WriteWithin (write_list ws w) → WriteWithin (written_chunks (write_list ws w) n)
@@ -87,14 +87,14 @@ written_within ws None n h = h
 written_within ws (Some ns) n h =
     let chunk = segments_from ws 0 ns in
     let l = length_filled chunk n in
-    let small = first_of_one (λ (c : List RdmaSegment). length c ≤ 16) chunk h.each in record {
+    let small = first_of_one (λ (c : List RdmaSegment). length c ≤ CHUNK_SEGMENTS_MAX) chunk h.each in record {
       count = omega arith;
-      each = all_one (λ (c : List RdmaSegment). length c ≤ 16) _ (omega (arith, l, small));
+      each = all_one (λ (c : List RdmaSegment). length c ≤ CHUNK_SEGMENTS_MAX) _ (omega (arith, l, small));
       segments = omega (arith, l, small);
       ends = all_one SegmentsEnd _ (filled_ends chunk n (first_of_one SegmentsEnd chunk h.ends));
     }
 
-returned_count : (rs : ℕ) (r : Option (List ℕ)) (b : Bool) (n : ℕ) → IfSome (reply_chunk rs r) (λ chunk. length chunk ≤ 16) → IfSome (cond b (Some (filled_chunk (no_segments (reply_chunk rs r)) n)) None) (λ chunk. length chunk ≤ 16)
+returned_count : (rs : ℕ) (r : Option (List ℕ)) (b : Bool) (n : ℕ) → IfSome (reply_chunk rs r) (λ chunk. length chunk ≤ REPLY_SEGMENTS_MAX) → IfSome (cond b (Some (filled_chunk (no_segments (reply_chunk rs r)) n)) None) (λ chunk. length chunk ≤ REPLY_SEGMENTS_MAX)
 returned_count rs r false n h = tt
 returned_count rs None true n h = omega arith
 returned_count rs (Some ns) true n h = (let l = length_filled (segments_from rs 0 ns) n in omega (arith, l, h))
@@ -206,7 +206,7 @@ tested_by offer down (Some p) a e =
 pub answer_length : (offer : ChunkLists) (down prog vers proc xid credit : ℕ) (reply : List ℕ) (a : Answer) → answer_for offer down prog vers proc reply ≡ Some a
     → (a.long ≡ false →
     (length (answer_message xid credit offer a) ≡ answer_size offer.write + length a.stream) × (length (answer_message xid credit offer a) ≤ down))
-    × (a.long ≡ true → length (answer_message xid credit offer a) ≡ answer_size offer.write + (4 + 16 * length (no_segments offer.reply)))
+    × (a.long ≡ true → length (answer_message xid credit offer a) ≡ answer_size offer.write + reply_chunk_len (length (no_segments offer.reply)))
 unfolding answer_message answer_for
 answer_length offer down prog vers proc xid credit reply a e = (
   (λ no.

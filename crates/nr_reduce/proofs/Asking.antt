@@ -6,7 +6,7 @@ use Rattle.std.proofs.lemmas.List.Elements.{All-nil, All-cons}
 use Rattle.std.specs.List.{flat_map}
 use Rattle.nr_xdr.specs.Item.{Item as XdrItem, IsBytes}
 use Rattle.nr_xdr.specs.Items.{AllFit}
-use Rattle.nr_header.specs.Constants.{PAYLOAD_MAX}
+use Rattle.nr_header.specs.Constants.{PAYLOAD_MAX, WRITE_CHUNKS_MAX, CHUNK_SEGMENTS_MAX, WRITE_SEGMENTS_MAX, REPLY_SEGMENTS_MAX, READ_SEGMENTS_MAX}
 use Rattle.nr_header.specs.declared.header.RdmaSegment.{RdmaSegment}
 use Rattle.nr_header.specs.declared.header.ReadSegment.{ReadSegment}
 use Rattle.nr_header.specs.declared.header.ChunkLists.{ChunkLists}
@@ -131,21 +131,21 @@ pub all_one : {X : Type 0} (P : X → Type 0) (x : X) → P x → All P (x ∷ [
 all_one P x p = All-cons P x [] p (All-nil P)
 
 record WriteWithin (chunks : List (List RdmaSegment)) : Type 0 where
-  count : length chunks ≤ 4
-  each : All (λ chunk. length chunk ≤ 16) chunks
-  segments : sum_by (λ chunk. length chunk) chunks ≤ 16
+  count : length chunks ≤ WRITE_CHUNKS_MAX
+  each : All (λ chunk. length chunk ≤ CHUNK_SEGMENTS_MAX) chunks
+  segments : sum_by (λ chunk. length chunk) chunks ≤ WRITE_SEGMENTS_MAX
   ends : All SegmentsEnd chunks
 
 write_within : (w : Offering) (stag : ℕ) → IsSmall w → WriteWithin (write_list stag (offered w))
 write_within Nothing stag small = record { count = omega arith; each = All-nil _; segments = omega arith; ends = All-nil _ }
 write_within (One n) stag small = record {
   count = omega arith;
-  each = all_one (λ (chunk : List RdmaSegment). length chunk ≤ 16) _ (omega arith);
+  each = all_one (λ (chunk : List RdmaSegment). length chunk ≤ CHUNK_SEGMENTS_MAX) _ (omega arith);
   segments = omega arith;
   ends = all_one SegmentsEnd _ (all_one (λ (s : RdmaSegment). Ends s.offset s.length) _ (omega (arith, small)));
 }
 
-reply_segments : (r : Offering) (stag : ℕ) → IfSome (reply_chunk stag (offered r)) (λ chunk. length chunk ≤ 16)
+reply_segments : (r : Offering) (stag : ℕ) → IfSome (reply_chunk stag (offered r)) (λ chunk. length chunk ≤ REPLY_SEGMENTS_MAX)
 reply_segments Nothing stag = tt
 reply_segments (One n) stag = omega arith
 
@@ -154,7 +154,7 @@ reply_ends Nothing stag small = tt
 reply_ends (One n) stag small = all_one (λ (s : RdmaSegment). Ends s.offset s.length) _ (omega (arith, small))
 
 record ReadWithin (read : List ReadSegment) (total : ℕ) : Type 0 where
-  entries : length read ≤ 16
+  entries : length read ≤ READ_SEGMENTS_MAX
   ends : All (λ r. Ends r.offset r.length) read
   one : OnePosition read
   total_is : read_total read ≡ total
@@ -241,15 +241,15 @@ reads_shape payload way w r xid credit stag fits is size small_w small_r fits_x 
     let room2 : reply_from payload way w stag + one_if (has_segment (offered r)) ≤ 2 ^ 32 = (let n = needed_shape payload way w r in omega (arith, room, n)) in
     let body_same : body_by p.read_at (lists_of stag p) ≡ body_of way ls =
     ap (λ (l : ChunkLists). body_by p.read_at l) (lists_shape payload way w r stag) ∙ body_shape payload way w r ls fits is in (
-      (λ k. header_encoding (record { xid = xid; credit = credit; body = body_same k }) ++ inline-shape way k),
+      (λ k. header_encoding (record { xid = xid; credit = credit; body = body_same k }) ++ inline_shape way k),
       header_written (record { xid = xid; credit = credit; body = body_of way ls }) (stream_in payload way)
           (head_fits xid credit way ls fits_x fits_c (lists_fit payload way w r stag fits is size small_w small_r room2)) (can_read payload way w r stag fits is size small_w small_r),
     )
   where
-    inline-shape : (way : MessageKind) → (shape payload way (offered w) (offered r)).inline ≡ stream_in payload way
-    inline-shape Short = refl
-    inline-shape (Chunked i) = refl
-    inline-shape Long = refl
+    inline_shape : (way : MessageKind) → (shape payload way (offered w) (offered r)).inline ≡ stream_in payload way
+    inline_shape Short = refl
+    inline_shape (Chunked i) = refl
+    inline_shape Long = refl
 
 asks_shape : (payload : List ℕ) (way : MessageKind) (w r : Offering) (xid credit stag : ℕ) → IsBytes payload → IsKind payload way → length payload ≤ PAYLOAD_MAX → IsSmall w → IsSmall r → xid < 2 ^ 32 → credit < 2 ^ 32
     → stag + regions_needed (shape payload way (offered w) (offered r)) ≤ 2 ^ 32
@@ -263,26 +263,26 @@ asks_shape payload way w r xid credit stag fits is size small_w small_r fits_x f
     let body_same : body_by p.read_at (lists_of stag p) ≡ body_of way ls =
     ap (λ (l : ChunkLists). body_by p.read_at l) (lists_shape payload way w r stag) ∙ body_shape payload way w r ls fits is in
     let message_same : call_message xid credit stag p ≡ header_encoding h ++ stream_in payload way =
-    (λ k. header_encoding (record { xid = xid; credit = credit; body = body_same k }) ++ inline-shape payload way w r k) in
+    (λ k. header_encoding (record { xid = xid; credit = credit; body = body_same k }) ++ inline_shape payload way w r k) in
     let read = header_written h (stream_in payload way) (head_fits xid credit way ls fits_x fits_c (lists_fit payload way w r stag fits is size small_w small_r room2)) (can_read payload way w r stag fits is size small_w small_r) in
     subst (λ (m : List ℕ). MessageConveys payload p xid credit stag m) (sym message_same) (record {
       body = body_again (body_of way ls) (length (header_encoding h));
       reads = read;
-      lists = lists-again way ls (length (header_encoding h)) ∙ sym (lists_shape payload way w r stag);
+      lists = lists_again way ls (length (header_encoding h)) ∙ sym (lists_shape payload way w r stag);
       conveys = λ chunk brings.
           ap (λ (l : ChunkLists). call_conveyed (inline_by (header_encoding h ++ stream_in payload way) (body_again (body_of way ls) (length (header_encoding h)))) l.read chunk) (lists_shape payload way w r stag)
           ∙ conveys_way payload way stag (header_encoding h) ls chunk w r fits is brings;
     })
   where
-    inline-shape : (payload : List ℕ) (way : MessageKind) (w r : Offering) → (shape payload way (offered w) (offered r)).inline ≡ stream_in payload way
-    inline-shape payload Short w r = refl
-    inline-shape payload (Chunked i) w r = refl
-    inline-shape payload Long w r = refl
+    inline_shape : (payload : List ℕ) (way : MessageKind) (w r : Offering) → (shape payload way (offered w) (offered r)).inline ≡ stream_in payload way
+    inline_shape payload Short w r = refl
+    inline_shape payload (Chunked i) w r = refl
+    inline_shape payload Long w r = refl
 
-    lists-again : (way : MessageKind) (ls : ChunkLists) (n : ℕ) → lists_by (body_again (body_of way ls) n) ≡ ls
-    lists-again Short ls n = refl
-    lists-again (Chunked i) ls n = refl
-    lists-again Long ls n = refl
+    lists_again : (way : MessageKind) (ls : ChunkLists) (n : ℕ) → lists_by (body_again (body_of way ls) n) ≡ ls
+    lists_again Short ls n = refl
+    lists_again (Chunked i) ls n = refl
+    lists_again Long ls n = refl
 
 -- The message of a plan whose form isn't given reads back as its header and its stream, and conveys its payload by its chunks.
 pub asks : (payload : List ℕ) (form : Form) (up down xid credit stag : ℕ) (p : Plan) → IsBytes payload → IsNotGiven form → plan_of payload form up down ≡ Ok p → xid < 2 ^ 32 → credit < 2 ^ 32

@@ -1,8 +1,9 @@
 -- Sums over chunks, as far as a loop has come.
-use Rattle.std.proofs.Common.{◌≡◌, ℕ, ◌+◌, ◌*◌, ◌<◌, false, leb, List, [], ◌∷◌, length, take, Option, Some, None, refl, sym, arith}
-use Rattle.std.specs.Prelude.{sum_by}
+use Rattle.std.proofs.Common.{◌≡◌, ℕ, ◌+◌, ◌<◌, false, leb, List, [], ◌∷◌, length, take, Option, Some, None, refl, sym, arith}
 use Rattle.std.proofs.lemmas.Bool.{lt-leb}
 use Rattle.std.proofs.lemmas.List.Sums.{sum_by-take-le}
+use Rattle.nr_header.specs.Constants.{HEADER_LEN_MIN}
+use Rattle.nr_header.specs.Length.{write_chunk_len, write_list_len}
 use Rattle.nr_header.specs.declared.header.RdmaSegment.{RdmaSegment}
 use Rattle.nr_reduce.specs.declared.item.Item.{Item}
 use Rattle.nr_reduce.specs.declared.item.Of.{Of}
@@ -22,6 +23,6 @@ parts_by_total of ((s ∷ chunk) ∷ chunks) reply = by (reducible_item of reply
     by (Some i) = refl
 
 -- what a message has so far passes its room, and so does the complete message
-pub passes : (chunks : List (List RdmaSegment)) (i len need down : ℕ) → need ≡ 28 + len + sum_by (λ (chunk : List RdmaSegment). 8 + 16 * length chunk) (take i chunks) → down < need
+pub passes : (chunks : List (List RdmaSegment)) (i len need down : ℕ) → need ≡ HEADER_LEN_MIN + len + write_list_len (take i chunks) → down < need
     → false ≡ leb (answer_size chunks + len) down
-passes chunks i len need down e lt = sym (lt-leb _ _ (omega (arith, e, sum_by-take-le (λ (chunk : List RdmaSegment). 8 + 16 * length chunk) chunks i)))
+passes chunks i len need down e lt = sym (lt-leb _ _ (omega (arith, e, sum_by-take-le (λ (chunk : List RdmaSegment). write_chunk_len (length chunk)) chunks i)))

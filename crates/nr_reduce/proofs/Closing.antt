@@ -7,7 +7,7 @@ use Rattle.nr_regions.specs.Access.{contents}
 use Rattle.nr_regions.proofs.Holding.{live_held, release_here, release_other}
 use Rattle.nr_reduce.specs.OfferedRegions.{Region, until_at, closed_if, regions_closed, region_grants}
 use Rattle.nr_reduce.specs.OfferedMemory.{region_at, held_if_open, registered_region, HoldsRegions, is_closed_by, ReleasesClosed}
-use Rattle.nr_reduce.specs.Written.{ends_left}
+use Rattle.nr_reduce.specs.Written.{ends_written}
 use Rattle.nr_reduce.specs.ClientState.{OutstandingCall, ClientState}
 use Rattle.nr_reduce.proofs.OwnStags.{closed_stag}
 use Rattle.nr_reduce.specs.KeptCalls.{KeptCall, AreKept}
@@ -196,12 +196,12 @@ pub closed_owner : (xid place : ℕ) (calls : List KeptCall) (regions : List Reg
 closed_owner xid place calls regions owned stag r e is_open =
     by (still_there (of_call xid) place stag regions r e).0 (still_there (of_call xid) place stag regions r e).1 (of_call xid (still_there (of_call xid) place stag regions r e).0) refl (still_there (of_call xid) place stag regions r e).2
   where
-    not-open : (u : Option ℕ) → until_at place u ≡ None → ⊥
-    not-open None h = cc
-    not-open (Some until) h = cc
+    not_open : (u : Option ℕ) → until_at place u ≡ None → ⊥
+    not_open None h = cc
+    not_open (Some until) h = cc
 
     by : (x : Region) → region_at regions stag ≡ Some x → (b : Bool) → of_call xid x ≡ b → closed_if (of_call xid x) place x ≡ r → IsOwned calls r.call stag × (eqb r.call xid ≡ false)
-    by x there true is same = absurd (not-open x.until (ap (λ (q : Region). q.until) (ap (λ (b : Bool). closed_if b place x) (sym is) ∙ same) ∙ is_open))
+    by x there true is same = absurd (not_open x.until (ap (λ (q : Region). q.until) (ap (λ (b : Bool). closed_if b place x) (sym is) ∙ same) ∙ is_open))
     by x there false is same =
         let same_region : x ≡ r = ap (λ (b : Bool). closed_if b place x) (sym is) ∙ same in
         subst (λ (q : Region). IsOwned calls q.call stag × (eqb q.call xid ≡ false)) same_region
@@ -213,12 +213,12 @@ owned_closed xid place calls regions owned stag r e is_open =
     let x : Region = (still_there (of_call xid) place stag regions r e).0 in
     by x (still_there (of_call xid) place stag regions r e).1 (of_call xid x) refl (still_there (of_call xid) place stag regions r e).2
   where
-    not-open : (u : Option ℕ) → until_at place u ≡ None → ⊥
-    not-open None h = cc
-    not-open (Some until) h = cc
+    not_open : (u : Option ℕ) → until_at place u ≡ None → ⊥
+    not_open None h = cc
+    not_open (Some until) h = cc
 
     by : (x : Region) → region_at regions stag ≡ Some x → (b : Bool) → of_call xid x ≡ b → closed_if (of_call xid x) place x ≡ r → IsOwned (without xid calls) r.call stag
-    by x there true is same = absurd (not-open x.until (ap (λ (q : Region). q.until) (ap (λ (b : Bool). closed_if b place x) (sym is) ∙ same) ∙ is_open))
+    by x there true is same = absurd (not_open x.until (ap (λ (q : Region). q.until) (ap (λ (b : Bool). closed_if b place x) (sym is) ∙ same) ∙ is_open))
     by x there false is same =
         let same_region : x ≡ r = ap (λ (b : Bool). closed_if b place x) (sym is) ∙ same in
         let old : IsOwned calls x.call stag = owned stag x there (ap (λ (q : Region). q.until) same_region ∙ is_open) in
@@ -238,7 +238,7 @@ kept_alike k k2 (c ∷ cs) [] same is = absurd is
 kept_alike k k2 (c ∷ cs) (o ∷ os) same is = (
   record {
     xid = is.0.xid;
-    sent = is.0.sent ∙ (λ i. ltb (o.xid - sym same.first i) (ends_left (sym same.written i) (sym same.ends i)));
+    sent = is.0.sent ∙ (λ i. ltb (o.xid - sym same.first i) (ends_written (sym same.written i) (sym same.ends i)));
     revoked = is.0.revoked;
     call = is.0.call;
     write = is.0.write;

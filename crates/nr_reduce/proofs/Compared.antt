@@ -27,18 +27,18 @@ other_length [] [] n = absurd (n refl)
 other_length [] (b ∷ bs) n = refl
 other_length (o ∷ os) [] n = refl
 other_length (o ∷ os) (b ∷ bs) n =
-    returns_more o b os bs ∙ ap (λ (x : Bool). returns_one o b bs && x) (other_length os bs (λ e. n (ap suc e))) ∙ and-false (returns_one o b bs)
+    returns_more o b os bs ∙ ap (λ (x : Bool). returns_one o b bs && x) (other_length os bs (λ e. n (ap suc e))) ∙ and_false (returns_one o b bs)
   where
-    and-false : (x : Bool) → (x && false) ≡ false
-    and-false true = refl
-    and-false false = refl
+    and_false : (x : Bool) → (x && false) ≡ false
+    and_false true = refl
+    and_false false = refl
 
 pub other_count : (offered back : List (List RdmaSegment)) → (length offered ≡ length back → ⊥) → returns_each offered back ≡ false
 other_count [] [] n = absurd (n refl)
 other_count [] (b ∷ bs) n = refl
 other_count (o ∷ os) [] n = refl
-other_count (o ∷ os) (b ∷ bs) n = ap (λ (x : Bool). returns o b && x) (other_count os bs (λ e. n (ap suc e))) ∙ and-false (returns o b)
+other_count (o ∷ os) (b ∷ bs) n = ap (λ (x : Bool). returns o b && x) (other_count os bs (λ e. n (ap suc e))) ∙ and_false (returns o b)
   where
-    and-false : (x : Bool) → (x && false) ≡ false
-    and-false true = refl
-    and-false false = refl
+    and_false : (x : Bool) → (x && false) ≡ false
+    and_false true = refl
+    and_false false = refl

@@ -33,9 +33,9 @@ some_none end e = absurd cc
 -- ---- What is due
 
 module _ {S : Type 0} (rules : EndMachine S) (due : S → ℕ) (step : (s : S) (e : RunEvent) → due (rules.state_after s e) ≡ due s + length (rules.output_at s e)) where
-  pub due-along : (s : S) (es : List RunEvent) → (end_state_after rules (live s) es).ended ≡ None → due (end_state_after rules (live s) es).state ≡ due s + length (output_for_all rules (live s) es)
-  due-along s [] stays = omega arith
-  due-along s (e ∷ es) stays = by (λ live_still. due-along (rules.state_after s e) es live_still) (rules.end_at s e) stays
+  pub due_along : (s : S) (es : List RunEvent) → (end_state_after rules (live s) es).ended ≡ None → due (end_state_after rules (live s) es).state ≡ due s + length (output_for_all rules (live s) es)
+  due_along s [] stays = omega arith
+  due_along s (e ∷ es) stays = by (λ live_still. due_along (rules.state_after s e) es live_still) (rules.end_at s e) stays
     where
       t : S
       t = rules.state_after s e
@@ -60,9 +60,9 @@ taken_in [] = 0
 taken_in (e ∷ es) = taken_by e + taken_in es
 
 module _ {S : Type 0} (rules : EndMachine S) (written : S → ℕ) (step : (s : S) (e : RunEvent) → written (rules.state_after s e) ≡ written s + taken_by e) where
-  written-along : (s : S) (es : List RunEvent) → (end_state_after rules (live s) es).ended ≡ None → written (end_state_after rules (live s) es).state ≡ written s + taken_in es
-  written-along s [] stays = omega arith
-  written-along s (e ∷ es) stays = by (λ live_still. written-along (rules.state_after s e) es live_still) (rules.end_at s e) stays
+  written_along : (s : S) (es : List RunEvent) → (end_state_after rules (live s) es).ended ≡ None → written (end_state_after rules (live s) es).state ≡ written s + taken_in es
+  written_along s [] stays = omega arith
+  written_along s (e ∷ es) stays = by (λ live_still. written_along (rules.state_after s e) es live_still) (rules.end_at s e) stays
     where
       t : S
       t = rules.state_after s e
@@ -143,13 +143,13 @@ client_writes opened k (QueueWritten taken) = refl
 pub client_bytes_written : (opened : LinkParameters) (link : ℕ) (run : List Mark) → (client opened link run).ended ≡ None → (client opened link run).state.written ≡ length (bytes_sent link Initiator run)
 unfolding client
 client_bytes_written opened link run stays =
-    let all = written-along (client_rules opened) (λ (k : ClientState). k.written) (client_writes opened) (initial_client opened).state (events link Initiator run) stays in
+    let all = written_along (client_rules opened) (λ (k : ClientState). k.written) (client_writes opened) (initial_client opened).state (events link Initiator run) stays in
     omega (arith, all, taken_sent link Initiator run)
 
 pub client_bytes_due : (opened : LinkParameters) (link : ℕ) (run : List Mark) → (client opened link run).ended ≡ None → (client opened link run).state.due ≡ length (output_due opened link Initiator run)
 unfolding client output_due
 client_bytes_due opened link run stays =
-    due-along (client_rules opened) (λ (k : ClientState). k.due) (client_due opened) (initial_client opened).state (events link Initiator run) stays
+    due_along (client_rules opened) (λ (k : ClientState). k.due) (client_due opened) (initial_client opened).state (events link Initiator run) stays
     ∙ sym (length-append (own_hello Initiator) (output_for_all (client_rules opened) (initial_client opened) (events link Initiator run)))
 
 pub client_ends_within : (opened : LinkParameters) (link : ℕ) (run : List Mark) → ClientEnds (client opened link run).state
@@ -199,13 +199,13 @@ server_writes opened k (QueueWritten taken) = refl
 pub server_bytes_written : (opened : LinkParameters) (link : ℕ) (run : List Mark) → (server opened link run).ended ≡ None → (server opened link run).state.written ≡ length (bytes_sent link Responder run)
 unfolding server
 server_bytes_written opened link run stays =
-    let all = written-along (server_rules opened) (λ (k : ServerState). k.written) (server_writes opened) (initial_server opened).state (events link Responder run) stays in
+    let all = written_along (server_rules opened) (λ (k : ServerState). k.written) (server_writes opened) (initial_server opened).state (events link Responder run) stays in
     omega (arith, all, taken_sent link Responder run)
 
 pub server_bytes_due : (opened : LinkParameters) (link : ℕ) (run : List Mark) → (server opened link run).ended ≡ None → (server opened link run).state.due ≡ length (output_due opened link Responder run)
 unfolding server output_due
 server_bytes_due opened link run stays =
-    let all = due-along (server_rules opened) (λ (k : ServerState). k.due) (server_due opened) (initial_server opened).state (events link Responder run) stays in
+    let all = due_along (server_rules opened) (λ (k : ServerState). k.due) (server_due opened) (initial_server opened).state (events link Responder run) stays in
     omega (arith, all)
 
 pub server_ends_within : (opened : LinkParameters) (link : ℕ) (run : List Mark) → ServerEnds (server opened link run).state

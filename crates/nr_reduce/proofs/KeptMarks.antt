@@ -10,7 +10,7 @@ use Rattle.std.specs.List.{AllByRecursion}
 use Rattle.nr_reduce.specs.declared.mark.Mark.TheVariants as marks
 use Rattle.nr_reduce.specs.declared.mark.LinkParameters.{LinkParameters}
 use Rattle.nr_reduce.specs.History.{bytes_sent, bytes_received, written_at, fed_at}
-use Rattle.nr_reduce.specs.Written.{ends_left}
+use Rattle.nr_reduce.specs.Written.{ends_written}
 use Rattle.nr_reduce.specs.Events.{RunEvent, if_own, events_at, events}
 use Rattle.nr_reduce.specs.Events.RunEvent.{MemoryRevoked, QueueWritten}
 use Rattle.nr_reduce.specs.EndRules.{EndState, next_end_state, output_for, output_for_in, end_state_after, output_for_all, live}
@@ -22,7 +22,7 @@ use Rattle.nr_reduce.specs.KeptClient.{KeptClient, ClientKeeps, IsWaiting, kept_
 use Rattle.nr_reduce.specs.Standing.{input_events, ClientRepresents, ClientRunsOut}
 use Rattle.nr_reduce.specs.StandingLaws.{RevokeStands, RevokeStaysOut, WroteStands, OtherMarkStands}
 use Rattle.nr_reduce.proofs.Steps.{client_one, output_due_up_one}
-use Rattle.nr_reduce.proofs.Standing.{itself, received_one, events_input, SameAfter, same_after_lem, live_before, stands-on, client_stays_out_lem}
+use Rattle.nr_reduce.proofs.Standing.{itself, received_one, events_input, SameAfter, same_after_lem, live_before, stands_on, client_stays_out_lem}
 use Rattle.nr_reduce.proofs.Releasing.{kept_revokes}
 use Rattle.nr_reduce.proofs.Submits.{kept_writes, rising_sent, opens_sent, holds_sent}
 use Rattle.nr_reduce.proofs.CountedBytes.{first_xid_is}
@@ -69,7 +69,7 @@ stands_unfed opened link kept next input queue left run mark es s none events_ar
     let e = client opened link run in
     let count = length (bytes_received link Initiator run) in
     let same : SameAfter (client_rules opened) e (input_events link Initiator input mark) es = same_after_lem (client_rules opened) e (input_events link Initiator input mark) es events_are in
-    stands-on (ClientKeeps opened) (client_rules opened) link Initiator (client opened link) (output_due opened link Initiator) run mark kept next input input queue left
+    stands_on (ClientKeeps opened) (client_rules opened) link Initiator (client opened link) (output_due opened link Initiator) run mark kept next input input queue left
     (client_one opened link run mark) (output_due_up_one opened link run mark) s
     (record {
       keeps = subst (λ (n : ℕ). ClientKeeps opened next (end_state_after (client_rules opened) e (input_events link Initiator input mark)) n) (sym (none_more count (fed_at link Initiator mark) none))
@@ -164,7 +164,7 @@ first_is_lem : (opened : LinkParameters) (link : ℕ) (run : List Mark) → (cli
 unfolding client
 first_is_lem opened link run = first_xid_is opened (events link Initiator run)
 
-writes : (opened : LinkParameters) (kept : KeptClient) (e : EndState ClientState) (count sent taken : ℕ) → e.state.first_xid ≡ opened.first_xid → (e.ended ≡ None → sent ≡ ends_left (e.state.written + taken) e.state.send_ends) → ClientKeeps opened kept e count →
+writes : (opened : LinkParameters) (kept : KeptClient) (e : EndState ClientState) (count sent taken : ℕ) → e.state.first_xid ≡ opened.first_xid → (e.ended ≡ None → sent ≡ ends_written (e.state.written + taken) e.state.send_ends) → ClientKeeps opened kept e count →
     ClientKeeps opened (kept_sent opened.first_xid sent kept) (next_end_state (client_rules opened) e (QueueWritten taken)) count
 writes opened kept e count sent taken first many keeps = by e.ended refl
   where
@@ -172,7 +172,7 @@ writes opened kept e count sent taken first many keeps = by e.ended refl
     by None is =
         subst (λ (y : Option End). ClientKeeps opened (kept_sent opened.first_xid sent kept) (next_end_state (client_rules opened) (record { state = e.state; ended = y }) (QueueWritten taken)) count) (sym is)
         (subst (λ (m : ℕ). ClientKeeps opened (kept_sent opened.first_xid m kept) (next_end_state (client_rules opened) (live e.state) (QueueWritten taken)) count) (sym (many is))
-        (subst (λ (f : ℕ). ClientKeeps opened (kept_sent f (ends_left (e.state.written + taken) e.state.send_ends) kept) (next_end_state (client_rules opened) (live e.state) (QueueWritten taken)) count) first
+        (subst (λ (f : ℕ). ClientKeeps opened (kept_sent f (ends_written (e.state.written + taken) e.state.send_ends) kept) (next_end_state (client_rules opened) (live e.state) (QueueWritten taken)) count) first
         (kept_writes opened kept e.state count taken (subst (λ (y : Option End). ClientKeeps opened kept (record { state = e.state; ended = y }) count) is keeps))))
     by (Some end) is =
         subst (λ (y : Option End). ClientKeeps opened (kept_sent opened.first_xid sent kept) (next_end_state (client_rules opened) (record { state = e.state; ended = y }) (QueueWritten taken)) count) (sym is)

@@ -231,11 +231,11 @@ at_append (y ∷ regions) r stag o e = by (eqb y.stag stag) refl e (λ h. at_app
 append_offers : (now place stag end : ℕ) (regions : List Region) (r : Region) → r.from ≡ place → end ≤ place → grant_offer (found stag end (grants_from now regions)) ≡ grant_offer (found stag end (grants_from now (regions ++ r ∷ [])))
 append_offers now place stag end [] r from le =
     (let none : ltb r.from end ≡ false = le-ltb r.from end (omega (arith, from, le)) in
-    sym (ap (λ (b : Bool). grant_offer (cond (eqb r.stag stag && (b && leb end (until_or now r.until))) (Some (region_grant now r)) None)) none ∙ and-false (eqb r.stag stag)))
+    sym (ap (λ (b : Bool). grant_offer (cond (eqb r.stag stag && (b && leb end (until_or now r.until))) (Some (region_grant now r)) None)) none ∙ and_false (eqb r.stag stag)))
   where
-    and-false : (b : Bool) → grant_offer (cond (b && false) (Some (region_grant now r)) None) ≡ None
-    and-false true = refl
-    and-false false = refl
+    and_false : (b : Bool) → grant_offer (cond (b && false) (Some (region_grant now r)) None) ≡ None
+    and_false true = refl
+    and_false false = refl
 append_offers now place stag end (x ∷ regions) r from le = by (applies stag end (region_grant now x)) (append_offers now place stag end regions r from le)
   where
     by : (b : Bool) → grant_offer (found stag end (grants_from now regions)) ≡ grant_offer (found stag end (grants_from now (regions ++ r ∷ [])))

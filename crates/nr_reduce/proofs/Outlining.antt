@@ -3,7 +3,7 @@ use Rattle.std.proofs.Common.{◌≡◌, ℕ, ◌+◌, ◌-◌, ◌<◌, ◌≤�
 use Rattle.std.specs.Prelude.{option_map}
 use Rattle.std.proofs.lemmas.Bool.{le-ltb, lt-ltb}
 use Rattle.std.proofs.lemmas.List.{take_all, length-take, length-drop}
-use Rattle.nr_header.specs.Constants.{PAYLOAD_MAX}
+use Rattle.nr_header.specs.Constants.{HEADER_LEN_MIN, PAYLOAD_MAX}
 use Rattle.nr_reduce.specs.ChunkBytes.{IsNotGiven}
 use Rattle.nr_reduce.specs.declared.call.Form.{Form}
 use Rattle.nr_reduce.specs.declared.call.Form.TheVariants as forms
@@ -87,7 +87,7 @@ auto_is : (payload : List ℕ) (up down : ℕ) (o : Option ℕ × Option ℕ) �
 auto_is payload up down o fits e =
     auto_kind_is payload up o.0 o.1 fits
     ∙ ap (λ (p : Plan). auto_plan payload up p)
-    (ap (λ (o : Option ℕ × Option ℕ). offered payload o) e ∙ offer_is payload (leb (28 + largest_reply payload) down) (write_offer payload))
+    (ap (λ (o : Option ℕ × Option ℕ). offered payload o) e ∙ offer_is payload (leb (HEADER_LEN_MIN + largest_reply payload) down) (write_offer payload))
 
 own_is : (payload : List ℕ) (form : Form) (up down : ℕ) → IsNotGiven form → ItemFits (length payload) (reducible_item Call payload)
     → plan_of_sizes payload (sizes_in_form (facts_of payload) form up down) ≡ plan_in_form payload form up down

@@ -18,7 +18,7 @@ use Rattle.nr_reduce.specs.declared.mark.LinkParameters.{LinkParameters}
 use Rattle.nr_reduce.specs.Events.{RunEvent, events}
 use Rattle.nr_reduce.specs.Events.RunEvent.{FrameReceived, CallSubmitted, MemoryRevoked, CallExecuted, QueueWritten}
 use Rattle.nr_reduce.specs.EndRules.{EndMachine, EndState, live, next_end_state, next_end_state_by, end_state_after, output_for_by, output_for_in, output_for_all}
-use Rattle.nr_reduce.specs.Written.{ends_left, ends_waiting}
+use Rattle.nr_reduce.specs.Written.{ends_written, ends_waiting}
 use Rattle.nr_reduce.specs.Plans.{call_message}
 use Rattle.nr_reduce.specs.ClientState.{OutstandingCall, ClientState}
 use Rattle.nr_reduce.specs.Client.{client_rules, client_state_after, client_output, initial_client, call_output, calls_output, call_ends, response_output, segment_request, outstanding_of, due_with_response, with_hello, with_message, with_request, with_segment}
@@ -43,7 +43,7 @@ ends_append p at (x ∷ xs) ys =
     ap (λ (ends : List ℕ). here ++ ends) (ends_append p (at + length (item_encoding x)) xs ys ∙ ap (λ (n : ℕ). item_ends p (at + length (item_encoding x)) xs ++ item_ends p n ys) place)
     ∙ sym (append_assoc here (item_ends p (at + length (item_encoding x)) xs) (item_ends p (at + length (item_encoding x ++ items_encoding xs)) ys))
 
-pub left_items : (p : OutputItem → Bool) (at n : ℕ) (items : List OutputItem) → ends_left n (item_ends p at items) ≡ items_written p at n items
+pub left_items : (p : OutputItem → Bool) (at n : ℕ) (items : List OutputItem) → ends_written n (item_ends p at items) ≡ items_written p at n items
 left_items p at n [] = refl
 left_items p at n (x ∷ items) = by (p x) (leb end n) (left_items p end n items)
   where
@@ -82,10 +82,10 @@ waiting_items p at n (x ∷ items) = by (p x) (waiting_items p end n items)
 -- ---- Along events
 
 module _ {S : Type 0} (rules : EndMachine S) (items_at : S → RunEvent → List OutputItem) (step : (s : S) (e : RunEvent) → rules.output_at s e ≡ items_encoding (items_at s e)) (last : (end : End) → rules.final_output end ≡ final_output end) where
-  pub items-along : (r : EndState S) (es : List RunEvent) → output_for_all rules r es ≡ items_encoding (due_for_all rules items_at (λ end. LastItem end ∷ []) r es)
-  items-along r [] = refl
-  items-along r (e ∷ es) =
-      (λ i. by_ended r.ended i ++ items-along (next_end_state rules r e) es i)
+  pub items_along : (r : EndState S) (es : List RunEvent) → output_for_all rules r es ≡ items_encoding (due_for_all rules items_at (λ end. LastItem end ∷ []) r es)
+  items_along r [] = refl
+  items_along r (e ∷ es) =
+      (λ i. by_ended r.ended i ++ items_along (next_end_state rules r e) es i)
       ∙ sym (encoding_append (due_for_in rules items_at (λ end. LastItem end ∷ []) r.state e r.ended) (due_for_all rules items_at (λ end. LastItem end ∷ []) (next_end_state rules r e) es))
     where
       by : (o : Option End) → output_for_by rules r.state e o ≡ items_encoding (due_for_by rules items_at (λ end. LastItem end ∷ []) r.state e o)
@@ -99,10 +99,10 @@ module _ {S : Type 0} (rules : EndMachine S) (items_at : S → RunEvent → List
 module _ {S : Type 0} (rules : EndMachine S) (items_at : S → RunEvent → List OutputItem) (p : OutputItem → Bool) (due : S → ℕ) (ends : S → List ℕ)
     (more : (s : S) (e : RunEvent) → due (rules.state_after s e) ≡ due s + length (items_encoding (items_at s e)))
     (step : (s : S) (e : RunEvent) → ends (rules.state_after s e) ≡ ends s ++ item_ends p (due s) (items_at s e)) where
-  pub ends-along : (s : S) (es : List RunEvent) → (end_state_after rules (live s) es).ended ≡ None
+  pub ends_along : (s : S) (es : List RunEvent) → (end_state_after rules (live s) es).ended ≡ None
       → ends (end_state_after rules (live s) es).state ≡ ends s ++ item_ends p (due s) (due_for_all rules items_at (λ end. LastItem end ∷ []) (live s) es)
-  ends-along s [] stays = sym (append-nil (ends s))
-  ends-along s (e ∷ es) stays = by (λ live_still. ends-along (rules.state_after s e) es live_still) (rules.end_at s e) stays
+  ends_along s [] stays = sym (append-nil (ends s))
+  ends_along s (e ∷ es) stays = by (λ live_still. ends_along (rules.state_after s e) es live_still) (rules.end_at s e) stays
     where
       t : S
       t = rules.state_after s e
@@ -234,7 +234,7 @@ client_responses opened k (QueueWritten taken) = sym (append-nil k.response_ends
 pub client_output_items : ClientOutputIsItems
 unfolding output_due items_due hello_due
 client_output_items opened link run =
-    ap (λ (xs : List ℕ). own_hello Initiator ++ xs) (items-along (client_rules opened) (client_items_at opened) (client_encoded opened) (λ end. refl) (initial_client opened) (events link Initiator run))
+    ap (λ (xs : List ℕ). own_hello Initiator ++ xs) (items_along (client_rules opened) (client_items_at opened) (client_encoded opened) (λ end. refl) (initial_client opened) (events link Initiator run))
 
 pub client_bytes : ClientBytes
 client_bytes opened link run stays = (client_bytes_due opened link run stays, client_bytes_written opened link run stays)
@@ -245,12 +245,12 @@ server_bytes opened link run stays = (server_bytes_due opened link run stays, se
 client_send_ends : (opened : LinkParameters) (es : List RunEvent) → (end_state_after (client_rules opened) (initial_client opened) es).ended ≡ None
     → (end_state_after (client_rules opened) (initial_client opened) es).state.send_ends ≡ item_ends is_send_item (length (own_hello Initiator)) (due_for_all (client_rules opened) (client_items_at opened) (λ end. LastItem end ∷ []) (initial_client opened) es)
 client_send_ends opened es stays =
-    ends-along (client_rules opened) (client_items_at opened) is_send_item (λ (k : ClientState). k.due) (λ (k : ClientState). k.send_ends) (client_more opened) (client_sends opened) (initial_client opened).state es stays
+    ends_along (client_rules opened) (client_items_at opened) is_send_item (λ (k : ClientState). k.due) (λ (k : ClientState). k.send_ends) (client_more opened) (client_sends opened) (initial_client opened).state es stays
 
 client_response_ends : (opened : LinkParameters) (es : List RunEvent) → (end_state_after (client_rules opened) (initial_client opened) es).ended ≡ None
     → (end_state_after (client_rules opened) (initial_client opened) es).state.response_ends ≡ item_ends is_response_item (length (own_hello Initiator)) (due_for_all (client_rules opened) (client_items_at opened) (λ end. LastItem end ∷ []) (initial_client opened) es)
 client_response_ends opened es stays =
-    ends-along (client_rules opened) (client_items_at opened) is_response_item (λ (k : ClientState). k.due) (λ (k : ClientState). k.response_ends) (client_more opened) (client_responses opened) (initial_client opened).state es stays
+    ends_along (client_rules opened) (client_items_at opened) is_response_item (λ (k : ClientState). k.due) (λ (k : ClientState). k.response_ends) (client_more opened) (client_responses opened) (initial_client opened).state es stays
 
 pub client_counts_items : ClientCountsItems
 unfolding client items_due hello_due
@@ -259,6 +259,6 @@ client_counts_items opened link run stays =
     let items = due_for_all (client_rules opened) (client_items_at opened) (λ end. LastItem end ∷ []) (initial_client opened) es in
     let at = length (own_hello Initiator) in
     let written = client_bytes_written opened link run stays in (
-      (λ i. ends_left (written i) (client_send_ends opened es stays i)) ∙ left_items is_send_item at _ items,
+      (λ i. ends_written (written i) (client_send_ends opened es stays i)) ∙ left_items is_send_item at _ items,
       (λ i. ends_waiting (written i) (client_response_ends opened es stays i)) ∙ waiting_items is_response_item at _ items,
     )

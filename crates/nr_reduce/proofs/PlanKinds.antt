@@ -8,7 +8,7 @@ use Rattle.nr_xdr.specs.Reading.{Cursor}
 use Rattle.nr_xdr.proofs.SequencingSteps.{chosen}
 use Rattle.nr_rpc.specs.Reading.{call_of, target_of}
 use Rattle.nr_rpc.specs.declared.head.CallTarget.{CallTarget}
-use Rattle.nr_header.specs.Constants.{PAYLOAD_MAX}
+use Rattle.nr_header.specs.Constants.{HEADER_LEN_MIN, PAYLOAD_MAX}
 use Rattle.nr_reduce.specs.ChunkBytes.{IsNotGiven}
 use Rattle.nr_reduce.specs.declared.call.Form.{Form}
 use Rattle.nr_reduce.specs.declared.call.Form.TheVariants as forms
@@ -204,7 +204,7 @@ plain_if payload false p q h k = k
 pub shaped : (payload : List ℕ) (form : Form) (up down : ℕ) → IsNotGiven form → Shaped payload (plan_in_form payload form up down)
 shaped payload forms.Auto up down own =
     let p : Plan = auto_offer payload down (inline_plan payload) in
-    let plain : AnsweredByPlainServer payload p = plain_if payload (leb (28 + largest_reply payload) down) _ _ (plain_none payload) (plain_offering payload) in
+    let plain : AnsweredByPlainServer payload p = plain_if payload (leb (HEADER_LEN_MIN + largest_reply payload) down) _ _ (plain_none payload) (plain_offering payload) in
     shaped_if payload (leb (plan_size p) up) _ _ (shaped_plain payload p plain)
     (shaped_if payload (not (eqb (length (reduced_plan payload p).read) 0) && leb (plan_size (reduced_plan payload p)) up) _ _ (shaped_reduced payload p plain) (shaped_long payload p plain))
 shaped payload forms.Inline up down own = shaped_plain payload _ (plain_none payload)

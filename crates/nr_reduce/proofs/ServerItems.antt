@@ -146,12 +146,12 @@ answer_ends k xid offer (Some a) due =
     spelled : answer_writes offer a ≡ items_encoding (moved ++ long a.long)
     spelled = (λ i. writes_encoded (first_chunk offer.write) a.moved i ++ by a.long i) ∙ sym (encoding_append moved (long a.long))
 
-    long-none : (n : ℕ) (b : Bool) → item_ends is_send_item n (long b) ≡ []
-    long-none n true = writes_none n (no_segments offer.reply) a.stream
-    long-none n false = refl
+    long_none : (n : ℕ) (b : Bool) → item_ends is_send_item n (long b) ≡ []
+    long_none n true = writes_none n (no_segments offer.reply) a.stream
+    long_none n false = refl
 
     none : item_ends is_send_item due (moved ++ long a.long) ≡ []
-    none = ends_append is_send_item due moved (long a.long) ∙ (λ i. writes_none due (first_chunk offer.write) a.moved i ++ long-none (due + length (items_encoding moved)) a.long i)
+    none = ends_append is_send_item due moved (long a.long) ∙ (λ i. writes_none due (first_chunk offer.write) a.moved i ++ long_none (due + length (items_encoding moved)) a.long i)
 
 execution_ends : (k : ServerState) (e : ExecutedCall) → (k.due + length (execution_output k e)) ∷ [] ≡ item_ends is_send_item k.due (execution_items k e)
 unfolding execution_output execution_items

@@ -93,18 +93,18 @@ module _ {K S : Type 0} (Keeps : K → EndState S → ℕ → Type 0) (rules : E
   abbrev DueGoes : Type 0
   DueGoes = due (run ++ mark ∷ []) ≡ due run ++ output_for_all rules (state_of run) (events_at link side run mark)
 
-  by-input : (kept : K) (input : InputState) (queue : List ℕ) → RepresentsMarks Keeps link side state_of due kept input queue run →
+  by_input : (kept : K) (input : InputState) (queue : List ℕ) → RepresentsMarks Keeps link side state_of due kept input queue run →
       SameAfter rules (state_of run) (input_events link side input mark) (events_at link side run mark)
-  by-input kept input queue s =
+  by_input kept input queue s =
       same_after_lem rules (state_of run) (input_events link side input mark) (events_at link side run mark)
       (λ lives. ap (λ (i : InputState). input_events link side i mark) (s.received lives) ∙ events_input link side run mark)
 
-  count-one : length (bytes_received link side run) + length (fed_at link side mark) ≡ length (bytes_received link side (run ++ mark ∷ []))
-  count-one = sym (ap (λ (xs : List ℕ). length xs) (received_one link side run mark) ∙ length-append (bytes_received link side run) (fed_at link side mark))
+  count_one : length (bytes_received link side run) + length (fed_at link side mark) ≡ length (bytes_received link side (run ++ mark ∷ []))
+  count_one = sym (ap (λ (xs : List ℕ). length xs) (received_one link side run mark) ∙ length-append (bytes_received link side run) (fed_at link side mark))
 
-  sent-left : (queue left more : List ℕ) → bytes_sent link side run ++ queue ≡ due run → DueGoes → output_for_all rules (state_of run) (events_at link side run mark) ≡ more →
+  sent_left : (queue left more : List ℕ) → bytes_sent link side run ++ queue ≡ due run → DueGoes → output_for_all rules (state_of run) (events_at link side run mark) ≡ more →
       written_at link side mark ++ left ≡ queue ++ more → bytes_sent link side (run ++ mark ∷ []) ++ left ≡ due (run ++ mark ∷ [])
-  sent-left queue left more output due_one more_is queued =
+  sent_left queue left more output due_one more_is queued =
       let sent = bytes_sent link side run in
       ap (λ (xs : List ℕ). xs ++ left) (sent_one link side run mark)
       ∙ append_assoc sent (written_at link side mark) left
@@ -113,15 +113,15 @@ module _ {K S : Type 0} (Keeps : K → EndState S → ℕ → Type 0) (rules : E
       ∙ (λ i. output i ++ sym more_is i)
       ∙ sym due_one
 
-  pub stands-on : (kept next : K) (input next_input : InputState) (queue left : List ℕ) → StateGoes → DueGoes → RepresentsMarks Keeps link side state_of due kept input queue run →
+  pub stands_on : (kept next : K) (input next_input : InputState) (queue left : List ℕ) → StateGoes → DueGoes → RepresentsMarks Keeps link side state_of due kept input queue run →
       GoesOn Keeps rules link side next input queue left mark (state_of run) (length (bytes_received link side run)) →
       ((end_state_after rules (state_of run) (input_events link side input mark)).ended ≡ None → next_input ≡ input_after input (fed_at link side mark)) →
       RepresentsMarks Keeps link side state_of due next next_input left (run ++ mark ∷ [])
-  stands-on kept next input next_input queue left state_one due_one s goes fed =
-      let same = by-input kept input queue s in
+  stands_on kept next input next_input queue left state_one due_one s goes fed =
+      let same = by_input kept input queue s in
       let after : end_state_after rules (state_of run) (input_events link side input mark) ≡ state_of (run ++ mark ∷ []) = same.state ∙ sym state_one in
       record {
-        keeps = subst (λ (n : ℕ). Keeps next (state_of (run ++ mark ∷ [])) n) count-one
+        keeps = subst (λ (n : ℕ). Keeps next (state_of (run ++ mark ∷ [])) n) count_one
             (subst (λ (r : EndState S). Keeps next r (length (bytes_received link side run) + length (fed_at link side mark))) after goes.keeps);
         received = λ lives.
             (let lives_by : (end_state_after rules (state_of run) (input_events link side input mark)).ended ≡ None = ap (λ (r : EndState S). r.ended) after ∙ lives in
@@ -130,24 +130,24 @@ module _ {K S : Type 0} (Keeps : K → EndState S → ℕ → Type 0) (rules : E
             ∙ ap (λ (i : InputState). input_after i (fed_at link side mark)) (s.received lived)
             ∙ sym (input_of_append (other side) (bytes_received link side run) (fed_at link side mark))
             ∙ ap (λ (stream : List ℕ). input_of (other side) stream) (sym (received_one link side run mark)));
-        output = sent-left queue left (output_for_all rules (state_of run) (input_events link side input mark)) s.output due_one (sym same.output) goes.output;
+        output = sent_left queue left (output_for_all rules (state_of run) (input_events link side input mark)) s.output due_one (sym same.output) goes.output;
       }
 
   -- what an end writes that runs out of memory is due
-  pub runs-out : (kept : K) (input : InputState) (queue left : List ℕ) → DueGoes → RepresentsMarks Keeps link side state_of due kept input queue run →
+  pub runs_out : (kept : K) (input : InputState) (queue left : List ℕ) → DueGoes → RepresentsMarks Keeps link side state_of due kept input queue run →
       IsPrefixOf (written_at link side mark ++ left) (queue ++ output_for_all rules (state_of run) (input_events link side input mark)) →
       IsPrefixOf (bytes_sent link side (run ++ mark ∷ []) ++ left) (due (run ++ mark ∷ []))
-  runs-out kept input queue left due_one s first =
-      let same = by-input kept input queue s in (
+  runs_out kept input queue left due_one s first =
+      let same = by_input kept input queue s in (
         first.0,
         append_assoc (bytes_sent link side (run ++ mark ∷ [])) left first.0
-            ∙ sent-left queue (left ++ first.0) (output_for_all rules (state_of run) (input_events link side input mark)) s.output due_one (sym same.output)
+            ∙ sent_left queue (left ++ first.0) (output_for_all rules (state_of run) (input_events link side input mark)) s.output due_one (sym same.output)
             (sym (append_assoc (written_at link side mark) left first.0) ∙ first.1),
       )
 
-  pub stays-out : (queue left : List ℕ) → DueGoes → IsPrefixOf (bytes_sent link side run ++ queue) (due run) → written_at link side mark ++ left ≡ queue →
+  pub stays_out : (queue left : List ℕ) → DueGoes → IsPrefixOf (bytes_sent link side run ++ queue) (due run) → written_at link side mark ++ left ≡ queue →
       IsPrefixOf (bytes_sent link side (run ++ mark ∷ []) ++ left) (due (run ++ mark ∷ []))
-  stays-out queue left due_one first queued =
+  stays_out queue left due_one first queued =
       let sent = bytes_sent link side run in
       let more = output_for_all rules (state_of run) (events_at link side run mark) in (
         first.0 ++ more,
@@ -187,7 +187,7 @@ goes_by_input rules link side state_of due run mark input state_one due_one is =
 
 pub client_stands : ClientStandsOn
 client_stands opened link kept next input next_input queue left run mark s on fed =
-    stands-on (ClientKeeps opened) (client_rules opened) link Initiator (client opened link) (output_due opened link Initiator) run mark kept next input next_input queue left
+    stands_on (ClientKeeps opened) (client_rules opened) link Initiator (client opened link) (output_due opened link Initiator) run mark kept next input next_input queue left
     (client_one opened link run mark) (output_due_up_one opened link run mark) s on
     (λ lives. fed (on.keeps.ended ∙ lives))
 
@@ -204,7 +204,7 @@ server_by_input_lem opened link input run mark is =
 pub server_stands : ServerStandsOn
 server_stands opened link end input next_input queue left run mark s queued fed =
     let e : end ≡ server opened link run = s.keeps in
-    stands-on IsState (server_rules opened) link Responder (server opened link) (output_due opened link Responder) run mark end
+    stands_on IsState (server_rules opened) link Responder (server opened link) (output_due opened link Responder) run mark end
     (end_state_after (server_rules opened) end (input_events link Responder input mark)) input next_input queue left
     (server_one opened link run mark) (output_due_down_one opened link run mark) s
     (record {
@@ -234,14 +234,14 @@ client_runs_out_lem opened link kept next input queue queued left run piece n s 
       keeps = at.keeps;
       queued = subst (λ (xs : List ℕ). IsPrefixOf (output_due opened link Initiator (run ++ part ∷ [])) (xs ++ left)) (sym (fed_writes link run piece))
           (first_more_lem (bytes_sent link Initiator run) queued left (output_due opened link Initiator (run ++ part ∷ [])) due queues);
-      output = runs-out (ClientKeeps opened) (client_rules opened) link Initiator (client opened link) (output_due opened link Initiator) run mark kept input queue left (output_due_up_one opened link run mark) s first;
+      output = runs_out (ClientKeeps opened) (client_rules opened) link Initiator (client opened link) (output_due opened link Initiator) run mark kept input queue left (output_due_up_one opened link run mark) s first;
     }
 
 pub server_runs_out_lem : ServerRunsOutAt
 server_runs_out_lem opened link end input queue left run mark s first =
     let e : end ≡ server opened link run = s.keeps in (
       refl,
-      runs-out IsState (server_rules opened) link Responder (server opened link) (output_due opened link Responder) run mark end input queue left (output_due_down_one opened link run mark) s
+      runs_out IsState (server_rules opened) link Responder (server opened link) (output_due opened link Responder) run mark end input queue left (output_due_down_one opened link run mark) s
           (subst (λ (r : EndState ServerState). IsPrefixOf (written_at link Responder mark ++ left) (queue ++ output_for_all (server_rules opened) r (input_events link Responder input mark))) e first),
     )
 
@@ -257,12 +257,12 @@ client_stays_out_lem opened link kept queue left stopped run mark out queued = r
   ended = out.ended;
   keeps = out.keeps;
   queued = subst (λ (xs : List ℕ). IsPrefixOf (output_due opened link Initiator stopped) xs) (sent_still link queue left run mark queued) out.queued;
-  output = stays-out (ClientKeeps opened) (client_rules opened) link Initiator (client opened link) (output_due opened link Initiator) run mark queue left (output_due_up_one opened link run mark) out.output queued;
+  output = stays_out (ClientKeeps opened) (client_rules opened) link Initiator (client opened link) (output_due opened link Initiator) run mark queue left (output_due_up_one opened link run mark) out.output queued;
 }
 
 pub server_stays_out_lem : ServerStaysOut
 server_stays_out_lem opened link ended queue left run mark out queued =
-    (out.0, stays-out IsState (server_rules opened) link Responder (server opened link) (output_due opened link Responder) run mark queue left (output_due_down_one opened link run mark) out.1 queued)
+    (out.0, stays_out IsState (server_rules opened) link Responder (server opened link) (output_due opened link Responder) run mark queue left (output_due_down_one opened link run mark) out.1 queued)
 
 pub client_begins_lem : (opened : LinkParameters) (link : ℕ) → ClientRepresents opened link (opened_client opened) (initial_input Responder) (own_hello Initiator) []
 unfolding client events bytes_received bytes_sent output_due

@@ -14,7 +14,7 @@ use Rattle.nr_reduce.specs.History.{AcceptedCall}
 use Rattle.nr_reduce.specs.Plans.{TooLarge, Buffer, buffers, regions_needed, lists_of}
 use Rattle.nr_reduce.specs.OfferedRegions.{Region}
 use Rattle.nr_reduce.specs.OfferedMemory.{region_at}
-use Rattle.nr_reduce.specs.Written.{ends_left}
+use Rattle.nr_reduce.specs.Written.{ends_written}
 use Rattle.nr_reduce.specs.Events.RunEvent.{CallSubmitted}
 use Rattle.nr_reduce.specs.ClientState.{OutstandingCall, ClientState, call_payload, plan_for}
 use Rattle.nr_reduce.specs.Client.{client_end, client_state_after, outstanding_of, plan_or, region_of, with_hello, call_ends, submitted_ends}
@@ -31,7 +31,7 @@ use Rattle.nr_reduce.proofs.Registering.{Registers, register_all, buffers_number
 -- the same number has left in both states
 record SendsStay (k k2 : ClientState) : Type 0 where
   first : k2.first_xid ≡ k.first_xid
-  left : ends_left k2.written k2.send_ends ≡ ends_left k.written k.send_ends
+  left : ends_written k2.written k2.send_ends ≡ ends_written k.written k.send_ends
 
 kept_stay : (k k2 : ClientState) (cs : List KeptCall) (os : List OutstandingCall) → SendsStay k k2 → AreKept k cs os → AreKept k2 cs os
 kept_stay k k2 [] [] same is = tt
@@ -51,15 +51,15 @@ kept_stay k k2 (c ∷ cs) (o ∷ os) same is = (
 )
 
 -- none that ends later than what is written has left
-none_left_lem : (n : ℕ) (ends : List ℕ) → AllByRecursion (λ end. n < end) ends → ends_left n ends ≡ 0
+none_left_lem : (n : ℕ) (ends : List ℕ) → AllByRecursion (λ end. n < end) ends → ends_written n ends ≡ 0
 none_left_lem n [] h = refl
 none_left_lem n (end ∷ ends) h = ap (λ (b : Bool). length (cond b (end ∷ filter (λ e. leb e n) ends) (filter (λ e. leb e n) ends))) (lt-leb end n h.0) ∙ none_left_lem n ends h.1
 
-left_append : (n : ℕ) (xs ys : List ℕ) → AllByRecursion (λ end. n < end) ys → ends_left n (xs ++ ys) ≡ ends_left n xs
+left_append : (n : ℕ) (xs ys : List ℕ) → AllByRecursion (λ end. n < end) ys → ends_written n (xs ++ ys) ≡ ends_written n xs
 left_append n [] ys h = none_left_lem n ys h
 left_append n (x ∷ xs) ys h = by (leb x n) (left_append n xs ys h)
   where
-    by : (b : Bool) → ends_left n (xs ++ ys) ≡ ends_left n xs → length (cond b (x ∷ filter (λ e. leb e n) (xs ++ ys)) (filter (λ e. leb e n) (xs ++ ys))) ≡ length (cond b (x ∷ filter (λ e. leb e n) xs) (filter (λ e. leb e n) xs))
+    by : (b : Bool) → ends_written n (xs ++ ys) ≡ ends_written n xs → length (cond b (x ∷ filter (λ e. leb e n) (xs ++ ys)) (filter (λ e. leb e n) (xs ++ ys))) ≡ length (cond b (x ∷ filter (λ e. leb e n) xs) (filter (λ e. leb e n) xs))
     by true rest = ap (λ (m : ℕ). Rattle.std.proofs.Common.suc m) rest
     by false rest = rest
 
@@ -97,7 +97,7 @@ kept_places opened kept k count access keeps lt =
 
 -- ---- A write
 
-sent_all : (k k2 : ClientState) (first sent : ℕ) (cs : List KeptCall) (os : List OutstandingCall) → k2.first_xid ≡ first → ends_left k2.written k2.send_ends ≡ sent → AreKept k cs os → AreKept k2 (map (sent_kept first sent) cs) os
+sent_all : (k k2 : ClientState) (first sent : ℕ) (cs : List KeptCall) (os : List OutstandingCall) → k2.first_xid ≡ first → ends_written k2.written k2.send_ends ≡ sent → AreKept k cs os → AreKept k2 (map (sent_kept first sent) cs) os
 sent_all k k2 first sent [] [] f e is = tt
 sent_all k k2 first sent [] (o ∷ os) f e is = absurd is
 sent_all k k2 first sent (c ∷ cs) [] f e is = absurd is
@@ -141,7 +141,7 @@ kept_writes opened kept k count taken keeps =
     let calls : CallsKeep kept.calls kept.next_xid k = keeps.calls refl in
     let memory : MemoryKeeps kept.memory k count = keeps.memory refl in
     let after : ClientState = record k { written = k.written + taken } in
-    let sent : ℕ = ends_left (k.written + taken) k.send_ends in
+    let sent : ℕ = ends_written (k.written + taken) k.send_ends in
     keeps_live opened (kept_sent k.first_xid sent kept) after count keeps.ended keeps.xid keeps.grant keeps.up keeps.down keeps.outstanding keeps.accesses
     (record { next = memory.next; offered = memory.offered; holds = memory.holds; below = memory.below })
     (record {
@@ -255,7 +255,7 @@ kept_submits opened kept k count a plan keeps next is within few =
     let after : ClientState = client_state_after opened k (CallSubmitted count a) in
     let o : OutstandingCall = outstanding_of k a in
     let plan_is : o.plan ≡ plan = planned k a plan is in
-    let left : ends_left k.written (k.send_ends ++ submitted_ends opened k a) ≡ ends_left k.written k.send_ends = left_append k.written k.send_ends (submitted_ends opened k a) later in
+    let left : ends_written k.written (k.send_ends ++ submitted_ends opened k a) ≡ ends_written k.written k.send_ends = left_append k.written k.send_ends (submitted_ends opened k a) later in
     let before : Registers k.regions k.accesses_received count kept.memory k.stag = record { offered = memory.offered; holds = memory.holds; below = memory.below; next_is = memory.next } in
     let registered : Registers (k.regions ++ map (region_of a.xid count) (buffers k.stag plan)) k.accesses_received count (registered_all kept.memory (buffers k.stag plan)) (k.stag + length (buffers k.stag plan)) =
     register_all a.xid count k.accesses_received (buffers k.stag plan) k.regions kept.memory k.stag keeps.accesses (buffers_numbered k.stag plan) before in
@@ -265,7 +265,7 @@ kept_submits opened kept k count a plan keeps next is within few =
     (subst (λ (n : ℕ). Registers (k.regions ++ map (region_of a.xid count) (buffers k.stag plan)) k.accesses_received count (registered_all kept.memory (buffers k.stag plan)) (k.stag + n)) (buffers_count k.stag plan) registered)) in
     let own : IsKept after (kept_of kept.next_xid a.call plan kept.memory.next) o = record {
       xid = sym next;
-      sent = sym (ap (λ (n : ℕ). ltb (a.xid - k.first_xid) n) left ∙ not_sent a.xid k.first_xid (ends_left k.written k.send_ends) few);
+      sent = sym (ap (λ (n : ℕ). ltb (a.xid - k.first_xid) n) left ∙ not_sent a.xid k.first_xid (ends_written k.written k.send_ends) few);
       revoked = refl;
       call = refl;
       write = λ i. (lists_of (memory.next i) (sym plan_is i)).write;

@@ -56,17 +56,17 @@ unfolding restored_payload
 restored_moved of payload i r =
     let enough : i.pos ≤ length payload = omega (arith, r.size) in
     let padded : replicate (pad_len i.len) 0 ≡ drop (i.pos + i.len) payload = sym r.pad in
-    let none : drop i.pos (take i.pos payload) ≡ [] = drop-take-all i.pos payload in
+    let none : drop i.pos (take i.pos payload) ≡ [] = drop_take_all i.pos payload in
     (λ k. take-take i.pos i.pos payload (omega arith) k ++ (take-take i.len i.len (drop i.pos payload) (omega arith) k ++ (padded k ++ none k)))
     ∙ ap (λ (xs : List ℕ). take i.pos payload ++ (take i.len (drop i.pos payload) ++ xs)) (append-nil (drop (i.pos + i.len) payload))
     ∙ ap (λ (xs : List ℕ). take i.pos payload ++ (take i.len (drop i.pos payload) ++ xs)) (sym (drop-drop i.len i.pos payload))
     ∙ ap (λ (xs : List ℕ). take i.pos payload ++ xs) (take-append-drop i.len (drop i.pos payload))
     ∙ take-append-drop i.pos payload
   where
-    drop-take-all : (n : ℕ) (xs : List ℕ) → drop n (take n xs) ≡ []
-    drop-take-all zero xs = refl
-    drop-take-all (suc n) [] = refl
-    drop-take-all (suc n) (x ∷ xs) = drop-take-all n xs
+    drop_take_all : (n : ℕ) (xs : List ℕ) → drop n (take n xs) ≡ []
+    drop_take_all zero xs = refl
+    drop_take_all (suc n) [] = refl
+    drop_take_all (suc n) (x ∷ xs) = drop_take_all n xs
 
 pub moved_length : (of : Of) (payload : List ℕ) (i : Item) → Reducible of payload i → length (moved_of payload i) ≡ i.len
 moved_length of payload i r = length-take-le i.len (drop i.pos payload) (let l = length-drop i.pos payload in omega (arith, l, r.size))

@@ -29,7 +29,7 @@ use Rattle.nr_reduce.specs.EndRules.{EndState, next_end_state, next_end_state_by
 use Rattle.nr_reduce.specs.OfferedRegions.{region_grants}
 use Rattle.nr_reduce.specs.Limits.{send_max}
 use Rattle.nr_reduce.specs.ClientState.{OutstandingCall, ClientState, is_sent, plan_for}
-use Rattle.nr_reduce.specs.Written.{ends_left}
+use Rattle.nr_reduce.specs.Written.{ends_written}
 use Rattle.nr_reduce.specs.ClientMessages.{ReplyVerdict, reply_verdict, reply_by_header, by_call}
 use Rattle.nr_reduce.specs.ClientMessages.ReplyVerdict.{EndsLink, GivesOutcome}
 use Rattle.nr_reduce.specs.Client.{client_rules, client_end, client_output, client_state_after, initial_client, client_readiness, or_message_end, client_message_end, end_of_verdict, segment_message, outstanding_of, call_output, calls_output, response_output, segment_request, revoked_call, submitted_output, with_message, with_request, with_segment, with_hello, due_with_response}
@@ -81,7 +81,7 @@ revoked_same xid (o ∷ os) = ap (λ (x : OutstandingCall). x ∷ map as_submitt
 
 -- no Send is due before the hello, so none has left, and no message answers one
 unsent : (k : ClientState) (o : OutstandingCall) → k.send_ends ≡ [] → is_sent k o ≡ false
-unsent k o none = ap (λ (ends : List ℕ). ltb (o.xid - k.first_xid) (ends_left k.written ends)) none ∙ le-ltb (o.xid - k.first_xid) 0 (omega arith)
+unsent k o none = ap (λ (ends : List ℕ). ltb (o.xid - k.first_xid) (ends_written k.written ends)) none ∙ le-ltb (o.xid - k.first_xid) 0 (omega arith)
 
 and_none : (a b : Bool) → b ≡ false → (a && b) ≡ false
 and_none true b e = e

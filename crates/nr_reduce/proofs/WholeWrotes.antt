@@ -14,7 +14,7 @@ use Rattle.nr_reduce.specs.declared.mark.LinkParameters.{LinkParameters}
 use Rattle.nr_reduce.specs.Plans.{one_if}
 use Rattle.nr_reduce.specs.Events.{RunEvent}
 use Rattle.nr_reduce.specs.Events.RunEvent.{FrameReceived, CallSubmitted, MemoryRevoked, CallExecuted, QueueWritten}
-use Rattle.nr_reduce.specs.Written.{ends_left, ends_waiting}
+use Rattle.nr_reduce.specs.Written.{ends_written, ends_waiting}
 use Rattle.nr_reduce.specs.ClientState.{OutstandingCall, ClientState, responses_owed}
 use Rattle.nr_reduce.specs.Client.{client_state_after, client_output, segment_request, response_output, calls_output, call_output, call_ends, submitted_output, submitted_ends, due_with_response, with_hello, with_message, with_request, with_segment}
 use Rattle.nr_reduce.specs.ServerState.{ServerState, receives_in_use}
@@ -29,7 +29,7 @@ pub none_waiting : (n : ℕ) (ends : List ℕ) → AreWithin n ends → ends_wai
 none_waiting n [] h = refl
 none_waiting n (e ∷ ends) h = ap (λ (b : Bool). length (cond b (e ∷ filter (ltb n) ends) (filter (ltb n) ends))) (le-ltb n e h.0) ∙ none_waiting n ends h.1
 
-pub all_left_lem : (n : ℕ) (ends : List ℕ) → AreWithin n ends → ends_left n ends ≡ length ends
+pub all_left_lem : (n : ℕ) (ends : List ℕ) → AreWithin n ends → ends_written n ends ≡ length ends
 all_left_lem n [] h = refl
 all_left_lem n (e ∷ ends) h =
     ap (λ (b : Bool). length (cond b (e ∷ filter (λ end. leb end n) ends) (filter (λ end. leb end n) ends))) (le-leb e n h.0) ∙ ap (λ (m : ℕ). suc m) (all_left_lem n ends h.1)
@@ -145,11 +145,11 @@ server_ends opened k (QueueWritten taken) h = record { messages = h.messages }
 
 pub whole_at_client : (opened : LinkParameters) (k : ClientState) (taken : ℕ) → k.written + taken ≡ k.due → ClientEnds k →
     (responses_owed (client_state_after opened k (QueueWritten taken)) ≡ 0)
-    × (ends_left (client_state_after opened k (QueueWritten taken)).written (client_state_after opened k (QueueWritten taken)).send_ends ≡ length k.send_ends)
+    × (ends_written (client_state_after opened k (QueueWritten taken)).written (client_state_after opened k (QueueWritten taken)).send_ends ≡ length k.send_ends)
 unfolding client_state_after
 whole_at_client opened k taken all h = (
   ap (λ (n : ℕ). ends_waiting n k.response_ends) all ∙ none_waiting k.due k.response_ends h.responses,
-  ap (λ (n : ℕ). ends_left n k.send_ends) all ∙ all_left_lem k.due k.send_ends h.sends,
+  ap (λ (n : ℕ). ends_written n k.send_ends) all ∙ all_left_lem k.due k.send_ends h.sends,
 )
 
 pub whole_at_server : (opened : LinkParameters) (k : ServerState) (taken : ℕ) → k.written + taken ≡ k.due → ServerEnds k →

@@ -22,29 +22,29 @@ use Rattle.nr_reduce.proofs.Steps.{events_one}
 use Rattle.nr_reduce.proofs.Standing.{itself, sent_one}
 
 module _ {S A : Type 0} (rules : EndMachine S) (at_event : S → RunEvent → List A) (at_end : End → List A) where
-  pub due-append : (r : EndState S) (es fs : List RunEvent) → due_for_all rules at_event at_end r (es ++ fs) ≡ due_for_all rules at_event at_end r es ++ due_for_all rules at_event at_end (end_state_after rules r es) fs
-  due-append r [] fs = refl
-  due-append r (e ∷ es) fs =
-      ap (λ (xs : List A). due_for rules at_event at_end r e ++ xs) (due-append (next_end_state rules r e) es fs)
+  pub due_append : (r : EndState S) (es fs : List RunEvent) → due_for_all rules at_event at_end r (es ++ fs) ≡ due_for_all rules at_event at_end r es ++ due_for_all rules at_event at_end (end_state_after rules r es) fs
+  due_append r [] fs = refl
+  due_append r (e ∷ es) fs =
+      ap (λ (xs : List A). due_for rules at_event at_end r e ++ xs) (due_append (next_end_state rules r e) es fs)
       ∙ sym (append_assoc (due_for rules at_event at_end r e) (due_for_all rules at_event at_end (next_end_state rules r e) es) (due_for_all rules at_event at_end (end_state_after rules (next_end_state rules r e) es) fs))
 
-  nothing-due : ((s : S) (n : ℕ) → rules.end_at s (QueueWritten n) ≡ None) → ((s : S) (n : ℕ) → at_event s (QueueWritten n) ≡ []) → (r : EndState S) (n : ℕ) (b : Bool)
+  nothing_due : ((s : S) (n : ℕ) → rules.end_at s (QueueWritten n) ≡ None) → ((s : S) (n : ℕ) → at_event s (QueueWritten n) ≡ []) → (r : EndState S) (n : ℕ) (b : Bool)
       → due_for_all rules at_event at_end r (if_own b (QueueWritten n ∷ [])) ≡ []
-  nothing-due stays quiet r n false = refl
-  nothing-due stays quiet r n true = append-nil (due_for rules at_event at_end r (QueueWritten n)) ∙ by r.ended
+  nothing_due stays quiet r n false = refl
+  nothing_due stays quiet r n true = append-nil (due_for rules at_event at_end r (QueueWritten n)) ∙ by r.ended
     where
       by : (o : Option End) → due_for_in rules at_event at_end r.state (QueueWritten n) o ≡ []
       by None = ap (λ (o : Option End). due_for_by rules at_event at_end r.state (QueueWritten n) o) (stays r.state n) ∙ quiet r.state n
       by (Some end) = refl
 
-  wrote-due : ((s : S) (n : ℕ) → rules.end_at s (QueueWritten n) ≡ None) → ((s : S) (n : ℕ) → at_event s (QueueWritten n) ≡ []) → (first : EndState S) (link : ℕ) (side : Side) (run : List Mark) (bytes : List ℕ)
+  wrote_due : ((s : S) (n : ℕ) → rules.end_at s (QueueWritten n) ≡ None) → ((s : S) (n : ℕ) → at_event s (QueueWritten n) ≡ []) → (first : EndState S) (link : ℕ) (side : Side) (run : List Mark) (bytes : List ℕ)
       → due_for_all rules at_event at_end first (events link side (run ++ marks.Wrote link side bytes ∷ [])) ≡ due_for_all rules at_event at_end first (events link side run)
-  wrote-due stays quiet first link side run bytes =
+  wrote_due stays quiet first link side run bytes =
       let mark : Mark = marks.Wrote link side bytes in
       let es = events link side run in
       ap (λ (all : List RunEvent). due_for_all rules at_event at_end first all) (events_one link side run mark)
-      ∙ due-append first es (events_at link side run mark)
-      ∙ ap (λ (xs : List A). due_for_all rules at_event at_end first es ++ xs) (nothing-due stays quiet (end_state_after rules first es) (length bytes) (eqb link link && same_side side side))
+      ∙ due_append first es (events_at link side run mark)
+      ∙ ap (λ (xs : List A). due_for_all rules at_event at_end first es ++ xs) (nothing_due stays quiet (end_state_after rules first es) (length bytes) (eqb link link && same_side side side))
       ∙ append-nil (due_for_all rules at_event at_end first es)
 
 client_stays_lem : (opened : LinkParameters) (s : ClientState) (n : ℕ) → (client_rules opened).end_at s (QueueWritten n) ≡ None
@@ -76,12 +76,12 @@ sent_more link side run bytes =
 pub wrote_adds_nothing : WroteAddsNothing
 unfolding items_due hello_due
 wrote_adds_nothing opened link Initiator run bytes = (
-  wrote-due (client_rules opened) (client_items_at opened) (λ end. LastItem end ∷ []) (client_stays_lem opened) (client_quiet opened) (initial_client opened) link Initiator run bytes,
+  wrote_due (client_rules opened) (client_items_at opened) (λ end. LastItem end ∷ []) (client_stays_lem opened) (client_quiet opened) (initial_client opened) link Initiator run bytes,
   refl,
   sent_more link Initiator run bytes,
 )
 wrote_adds_nothing opened link Responder run bytes = (
-  wrote-due (server_rules opened) (server_items_at opened) (λ end. LastItem end ∷ []) (server_stays_lem opened) (server_quiet opened) (initial_server opened) link Responder run bytes,
-  wrote-due (server_rules opened) (λ k event. server_hello_at event) (rejection Responder) (server_stays_lem opened) (λ s n. refl) (initial_server opened) link Responder run bytes,
+  wrote_due (server_rules opened) (server_items_at opened) (λ end. LastItem end ∷ []) (server_stays_lem opened) (server_quiet opened) (initial_server opened) link Responder run bytes,
+  wrote_due (server_rules opened) (λ k event. server_hello_at event) (rejection Responder) (server_stays_lem opened) (λ s n. refl) (initial_server opened) link Responder run bytes,
   sent_more link Responder run bytes,
 )

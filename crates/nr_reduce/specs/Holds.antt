@@ -1,6 +1,7 @@
 -- How a reply is sent (RFC 8166 section 3.5): by what its call offered, or not at all.
-use Rattle.std.specs.Prelude.{◌≢◌, ℕ, ◌+◌, ◌*◌, min, Bool, true, false, nat_le, ◌==◌, if◌then◌else◌, List, [], ◌∷◌, ◌++◌, length, take, drop, sum_by, Option, None, Some}
-use Rattle.nr_header.specs.Constants.{VERSION}
+use Rattle.std.specs.Prelude.{◌≢◌, ℕ, ◌+◌, min, Bool, true, false, nat_le, ◌==◌, if◌then◌else◌, List, [], ◌∷◌, ◌++◌, length, take, drop, Option, None, Some}
+use Rattle.nr_header.specs.Constants.{HEADER_LEN_MIN, VERSION}
+use Rattle.nr_header.specs.Length.{write_list_len}
 use Rattle.nr_header.specs.declared.header.RdmaSegment.{RdmaSegment}
 use Rattle.nr_header.specs.declared.header.ChunkLists.{ChunkLists}
 use Rattle.nr_header.specs.declared.header.Body.{Body}
@@ -37,7 +38,7 @@ parts_in of ((s ∷ chunk) ∷ chunks) reply = parts_by (s ∷ chunk) reply (red
 
 -- the size of a header that repeats the write list and has no reply chunk (RFC 8166 section 4.3)
 abbrev pub answer_size : List (List RdmaSegment) → ℕ
-answer_size chunks = 28 + sum_by (λ chunk. 8 + 16 * length chunk) chunks
+answer_size chunks = HEADER_LEN_MIN + write_list_len chunks
 
 abbrev pub fits_reply : Option (List RdmaSegment) → ℕ → Bool
 fits_reply None n = false

@@ -7,7 +7,7 @@ use Rattle.nr_reduce.specs.declared.mark.Mark.{Mark}
 use Rattle.nr_reduce.specs.declared.mark.Mark.TheVariants as marks
 use Rattle.nr_reduce.specs.declared.mark.LinkParameters.{LinkParameters}
 use Rattle.nr_reduce.specs.History.{bytes_sent}
-use Rattle.nr_reduce.specs.Written.{ends_left}
+use Rattle.nr_reduce.specs.Written.{ends_written}
 use Rattle.nr_reduce.specs.ClientState.{responses_owed}
 use Rattle.nr_reduce.specs.Run.{client, server, output_due}
 use Rattle.nr_reduce.specs.DueItems.{items_due, hello_due}
@@ -32,7 +32,7 @@ ServerBytes = (opened : LinkParameters) (link : ℕ) (run : List Mark) → (serv
 -- written, or not all.
 abbrev pub ClientCountsItems : Type 0
 ClientCountsItems = (opened : LinkParameters) (link : ℕ) (run : List Mark) → (client opened link run).ended ≡ None →
-    (ends_left (client opened link run).state.written (client opened link run).state.send_ends
+    (ends_written (client opened link run).state.written (client opened link run).state.send_ends
     ≡ items_written is_send_item (length (hello_due opened link Initiator run)) (length (bytes_sent link Initiator run)) (items_due opened link Initiator run))
     × (responses_owed (client opened link run).state
     ≡ items_left is_response_item (length (hello_due opened link Initiator run)) (length (bytes_sent link Initiator run)) (items_due opened link Initiator run))

@@ -1,5 +1,5 @@
 -- Encoding and decoding a payload are inverse: what is cut is rebuilt, what is planned is conveyed, what is answered is conveyed.
-use Rattle.std.specs.Prelude.{◌≡◌, ◌≢◌, ℕ, ◌+◌, ◌*◌, ◌^◌, ◌<◌, ◌≤◌, true, false, ◌==◌, List, [], ◌∷◌, length, take, sum, Option, None, Some, Ok, Err, if◌then◌else◌}
+use Rattle.std.specs.Prelude.{◌≡◌, ◌≢◌, ℕ, ◌+◌, ◌^◌, ◌<◌, ◌≤◌, true, false, ◌==◌, List, [], ◌∷◌, length, take, sum, Option, None, Some, Ok, Err, if◌then◌else◌}
 use Rattle.std.specs.List.{flat_map}
 use Rattle.nr_xdr.specs.Item.{IsBytes}
 use Rattle.nr_wire.specs.Segment.{encoding}
@@ -7,6 +7,7 @@ use Rattle.nr_header.specs.declared.header.ReadSegment.{ReadSegment}
 use Rattle.nr_header.specs.declared.header.ChunkLists.{ChunkLists}
 use Rattle.nr_header.specs.Constants.{PAYLOAD_MAX}
 use Rattle.nr_header.specs.Header.{HeaderFits}
+use Rattle.nr_header.specs.Length.{reply_chunk_len}
 use Rattle.nr_header.specs.WithinLimits.{CanRead}
 use Rattle.nr_reduce.specs.declared.fault.Mismatch.{Mismatch}
 use Rattle.nr_reduce.specs.declared.fault.Mismatch.TheVariants as mismatches
@@ -117,7 +118,7 @@ abbrev pub AnswerHasItsSize : Type 0
 AnswerHasItsSize = (offer : ChunkLists) (down prog vers proc xid credit : ℕ) (reply : List ℕ) (a : Answer) → answer_for offer down prog vers proc reply ≡ Some a →
     (a.long ≡ false →
     (length (answer_message xid credit offer a) ≡ answer_size offer.write + length a.stream) × (length (answer_message xid credit offer a) ≤ down))
-    × (a.long ≡ true → length (answer_message xid credit offer a) ≡ answer_size offer.write + (4 + 16 * length (no_segments offer.reply)))
+    × (a.long ≡ true → length (answer_message xid credit offer a) ≡ answer_size offer.write + reply_chunk_len (length (no_segments offer.reply)))
 
 -- It reads back as the lists of the answer and its stream.
 abbrev pub AnswerReadsBack : Type 0

@@ -1,5 +1,7 @@
 -- A plan before it owns bytes, in the terms of the definitions.
-use Rattle.std.specs.Prelude.{◌≡◌, ℕ, ◌+◌, ◌*◌, ◌≤◌, nat_le, if◌then◌else◌, List, [], ◌∷◌, length, Option, None, Some, option_map, IfSome, Result, Ok, Err, nat_lt}
+use Rattle.std.specs.Prelude.{◌≡◌, ℕ, ◌+◌, ◌≤◌, nat_le, if◌then◌else◌, List, [], ◌∷◌, length, Option, None, Some, option_map, IfSome, Result, Ok, Err, nat_lt}
+use Rattle.nr_header.specs.Constants.{HEADER_LEN_MIN}
+use Rattle.nr_header.specs.Length.{read_list_len}
 use Rattle.nr_reduce.specs.declared.call.Form.{Form}
 use Rattle.nr_reduce.specs.declared.call.Form.TheVariants as forms
 use Rattle.nr_reduce.specs.declared.item.Item.{Item}
@@ -58,7 +60,7 @@ inline_len len (Chunked i) = i.pos
 inline_len len Long = 0
 
 abbrev pub send_size : ℕ → PlanSizes → ℕ
-send_size len o = 28 + 24 * entries_of o.kind + write_size (chunk_for o.write) + reply_size (chunk_for o.reply) + inline_len len o.kind
+send_size len o = HEADER_LEN_MIN + read_list_len (entries_of o.kind) + write_size (chunk_for o.write) + reply_size (chunk_for o.reply) + inline_len len o.kind
 
 -- what is offered if the form is left open
 abbrev pub offer_sizes_by : ℕ → Option ℕ → Option ℕ × Option ℕ
@@ -66,7 +68,7 @@ offer_sizes_by largest None = (None, Some largest)
 offer_sizes_by largest (Some n) = (Some n, None)
 
 abbrev pub auto_offer_sizes : PayloadFacts → ℕ → Option ℕ × Option ℕ
-auto_offer_sizes facts down = if nat_le (28 + facts.largest) down then (None, None) else offer_sizes_by facts.largest facts.offer
+auto_offer_sizes facts down = if nat_le (HEADER_LEN_MIN + facts.largest) down then (None, None) else offer_sizes_by facts.largest facts.offer
 
 abbrev pub sizes_by : MessageKind → Option ℕ → Option ℕ → PlanSizes
 sizes_by kind w r = record { kind = kind; write = w; reply = r }

@@ -1,6 +1,7 @@
 -- How a call is sent (RFC 8166 section 3.5): what goes inline, what is offered to be read, and what is offered to be filled.
-use Rattle.std.specs.Prelude.{◌≡◌, ℕ, ◌+◌, ◌-◌, ◌*◌, min, Bool, true, false, nat_lt, nat_le, ◌&&◌, ◌==◌, not, if◌then◌else◌, List, [], ◌∷◌, ◌++◌, length, take, drop, replicate, sum, Option, None, Some, Result, Ok, Err}
-use Rattle.nr_header.specs.Constants.{PAYLOAD_MAX}
+use Rattle.std.specs.Prelude.{◌≡◌, ℕ, ◌+◌, ◌-◌, min, Bool, true, false, nat_lt, nat_le, ◌&&◌, ◌==◌, not, if◌then◌else◌, List, [], ◌∷◌, ◌++◌, length, take, drop, replicate, sum, Option, None, Some, Result, Ok, Err}
+use Rattle.nr_header.specs.Constants.{HEADER_LEN_MIN, PAYLOAD_MAX}
+use Rattle.nr_header.specs.Length.{read_list_len, write_chunk_len, reply_chunk_len}
 use Rattle.nr_header.specs.declared.header.RdmaSegment.{RdmaSegment}
 use Rattle.nr_header.specs.declared.header.ReadSegment.{ReadSegment}
 use Rattle.nr_header.specs.declared.header.ChunkLists.{ChunkLists}
@@ -62,14 +63,14 @@ chunk_for (Some n) = Some (segments_for n)
 -- the sizes of lists in a header (RFC 8166 section 4.3), and that of the complete Send
 abbrev pub write_size : Option (List ℕ) → ℕ
 write_size None = 0
-write_size (Some chunk) = 8 + 16 * length chunk
+write_size (Some chunk) = write_chunk_len (length chunk)
 
 abbrev pub reply_size : Option (List ℕ) → ℕ
 reply_size None = 0
-reply_size (Some chunk) = 4 + 16 * length chunk
+reply_size (Some chunk) = reply_chunk_len (length chunk)
 
 abbrev pub header_size : Plan → ℕ
-header_size p = 28 + 24 * length p.read + write_size p.write + reply_size p.reply
+header_size p = HEADER_LEN_MIN + read_list_len (length p.read) + write_size p.write + reply_size p.reply
 
 unfoldable pub plan_size : Plan → ℕ
 plan_size p = header_size p + length p.inline
@@ -101,7 +102,7 @@ offering payload None p = record p { reply = Some (segments_for (largest_reply p
 offering payload (Some n) p = record p { write = Some (segments_for n) }
 
 abbrev pub auto_offer : List ℕ → ℕ → Plan → Plan
-auto_offer payload down p = if nat_le (28 + largest_reply payload) down then p else offering payload (write_offer payload) p
+auto_offer payload down p = if nat_le (HEADER_LEN_MIN + largest_reply payload) down then p else offering payload (write_offer payload) p
 
 abbrev pub auto_plan : List ℕ → ℕ → Plan → Plan
 auto_plan payload up p = first_within up p (reduced_plan payload p) (long_plan payload p)

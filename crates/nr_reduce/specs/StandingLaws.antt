@@ -6,7 +6,7 @@ use Rattle.nr_wire.specs.declared.stream.Awaited.TheVariants.{Hello as HelloFrom
 use Rattle.nr_regions.specs.declared.right.Right.TheVariants.{Fetch}
 use Rattle.nr_regions.specs.RegisteredMemory.{denial}
 use Rattle.nr_regions.specs.Access.{TaggedSegment}
-use Rattle.nr_reduce.specs.Written.{ends_left}
+use Rattle.nr_reduce.specs.Written.{ends_written}
 use Rattle.nr_link.specs.declared.end.End.{End}
 use Rattle.nr_link.specs.declared.end.End.TheVariants as ends
 use Rattle.nr_link.specs.Output.{own_hello, read_response}
@@ -218,7 +218,7 @@ KeptEnds = (opened : LinkParameters) (kept : KeptClient) (k : ClientState) (end 
 -- after a write, with the number of Sends that have completely left,
 abbrev pub KeptWrites : Type 0
 KeptWrites = (opened : LinkParameters) (kept : KeptClient) (k : ClientState) (count taken : ℕ) → ClientKeeps opened kept (live k) count →
-    ClientKeeps opened (kept_sent k.first_xid (ends_left (k.written + taken) k.send_ends) kept) (next_end_state (client_rules opened) (live k) (QueueWritten taken)) count
+    ClientKeeps opened (kept_sent k.first_xid (ends_written (k.written + taken) k.send_ends) kept) (next_end_state (client_rules opened) (live k) (QueueWritten taken)) count
 
 -- with the server's hello: no Send has left before it is due, since at most what is due was written,
 abbrev pub KeptGreets : Type 0
@@ -228,7 +228,7 @@ KeptGreets = (opened : LinkParameters) (kept : KeptClient) (k : ClientState) (co
 -- and after a call that it accepts: its Send hasn't left, since no more Sends have left than calls were accepted before.
 abbrev pub KeptSubmits : Type 0
 KeptSubmits = (opened : LinkParameters) (kept : KeptClient) (k : ClientState) (count : ℕ) (a : AcceptedCall) (plan : Plan) → ClientKeeps opened kept (live k) count → a.xid ≡ kept.next_xid →
-    plan_for k a.xid a.call a.form ≡ Ok plan → k.written ≤ k.due → ends_left k.written k.send_ends ≤ a.xid - k.first_xid →
+    plan_for k a.xid a.call a.form ≡ Ok plan → k.written ≤ k.due → ends_written k.written k.send_ends ≤ a.xid - k.first_xid →
     ClientKeeps opened (kept_submitted kept a.call plan) (next_end_state (client_rules opened) (live k) (CallSubmitted count a)) count
 
 -- ---- The client of a run
@@ -251,7 +251,7 @@ RevokeStands = (opened : LinkParameters) (link : ℕ) (kept : KeptClient) (input
 -- a write of a part of its queue, with the number of Sends that have completely left by then,
 abbrev pub WroteStands : Type 0
 WroteStands = (opened : LinkParameters) (link : ℕ) (kept : KeptClient) (input : InputState) (taken left : List ℕ) (run : List Mark) (sent : ℕ) → ClientRepresents opened link kept input (taken ++ left) run →
-    ((client opened link run).ended ≡ None → sent ≡ ends_left ((client opened link run).state.written + length taken) (client opened link run).state.send_ends) →
+    ((client opened link run).ended ≡ None → sent ≡ ends_written ((client opened link run).state.written + length taken) (client opened link run).state.send_ends) →
     ClientRepresents opened link (kept_sent opened.first_xid sent kept) input left (run ++ marks.Wrote link Initiator taken ∷ [])
 
 -- also of a client that ran out of memory, as if it was revoked when it stopped,

@@ -87,7 +87,7 @@ module _ (opened : LinkParameters) (link : ℕ) (h : RequesterSide) (run : List 
   sent_few : h.state.sent ≤ h.state.next_xid - h.state.first_xid
   sent_few = (let n = numbers opened link h run s in let sent = s.sent none in let left = keeps.left in omega (arith, n, sent, left))
 
-  left_few : reduce.ends_left k.written k.send_ends ≤ h.state.next_xid - k.first_xid
+  left_few : reduce.ends_written k.written k.send_ends ≤ h.state.next_xid - k.first_xid
   left_few =
       (let n = numbers opened link h run s in
       let sent = sent_is opened h.state.side k keeps (omega (arith, due)) in

@@ -22,10 +22,10 @@ waiting_true n x xs lt = ap (λ (c : Bool). length (cond c (x ∷ filter (λ e. 
 waiting_false : (n x : ℕ) (xs : List ℕ) → x ≤ n → ends_waiting n (x ∷ xs) ≡ ends_waiting n xs
 waiting_false n x xs le = ap (λ (c : Bool). length (cond c (x ∷ filter (λ e. ltb n e) xs) (filter (λ e. ltb n e) xs))) (le-ltb n x le)
 
-passed_true : (n x : ℕ) (xs : List ℕ) → x ≤ n → reduce.ends_left n (x ∷ xs) ≡ reduce.ends_left n xs + 1
+passed_true : (n x : ℕ) (xs : List ℕ) → x ≤ n → reduce.ends_written n (x ∷ xs) ≡ reduce.ends_written n xs + 1
 passed_true n x xs le = ap (λ (c : Bool). length (cond c (x ∷ filter (λ e. leb e n) xs) (filter (λ e. leb e n) xs))) (le-leb x n le) ∙ omega arith
 
-passed_false : (n x : ℕ) (xs : List ℕ) → n < x → reduce.ends_left n (x ∷ xs) ≡ reduce.ends_left n xs
+passed_false : (n x : ℕ) (xs : List ℕ) → n < x → reduce.ends_written n (x ∷ xs) ≡ reduce.ends_written n xs
 passed_false n x xs lt = ap (λ (c : Bool). length (cond c (x ∷ filter (λ e. leb e n) xs) (filter (λ e. leb e n) xs))) (lt-leb x n lt)
 
 -- ---- Lists of ends
@@ -71,7 +71,7 @@ waiting_later a b (x ∷ xs) le = elim (cases_lt b x) [
 ]
 
 -- each has left or waits
-pub left_or_waiting : (n : ℕ) (xs : List ℕ) → reduce.ends_left n xs + ends_waiting n xs ≡ length xs
+pub left_or_waiting : (n : ℕ) (xs : List ℕ) → reduce.ends_written n xs + ends_waiting n xs ≡ length xs
 left_or_waiting n [] = omega arith
 left_or_waiting n (x ∷ xs) = elim (cases_lt n x) [
   | inl lt ↦ omega (arith, passed_false n x xs lt, waiting_true n x xs lt, left_or_waiting n xs)

@@ -21,17 +21,17 @@ use Rattle.nr_requester.proofs.Queues.{next_word, word_word, send_word, output_a
 
 -- ---- How many Sends have left
 
-pub sent_is : (opened : LinkParameters) (s : LinkState) (k : ClientState) → LinkKeeps opened s k → k.written ≤ k.due → s.send_queue.sends_left ≡ reduce.ends_left k.written k.send_ends
+pub sent_is : (opened : LinkParameters) (s : LinkState) (k : ClientState) → LinkKeeps opened s k → k.written ≤ k.due → s.send_queue.sends_left ≡ reduce.ends_written k.written k.send_ends
 sent_is opened s k keeps le = by k.has_hello refl
   where
-    by : (b : Bool) → k.has_hello ≡ b → s.send_queue.sends_left ≡ reduce.ends_left k.written k.send_ends
+    by : (b : Bool) → k.has_hello ≡ b → s.send_queue.sends_left ≡ reduce.ends_written k.written k.send_ends
     by true is =
         let many : length k.send_ends ≡ k.calls_accepted = ap (λ (b : Bool). length (sends_ends b opened k)) (sym is) ∙ keeps.numbered in
         let waits : length s.send_queue.send_ends ≡ reduce.ends_waiting k.written k.send_ends = keeps.sends.count ∙ ap (λ (b : Bool). reduce.ends_waiting k.written (sends_ends b opened k)) is in
         let left = keeps.left in
         omega (arith, many, waits, left, left_or_waiting k.written k.send_ends)
     by false is =
-        let none : reduce.ends_left k.written k.send_ends ≡ 0 = ap (reduce.ends_left k.written) (keeps.none_due is) in
+        let none : reduce.ends_written k.written k.send_ends ≡ 0 = ap (reduce.ends_written k.written) (keeps.none_due is) in
         let many : length (call_ends opened k.due 1 k.outstanding) ≡ k.calls_accepted = ap (λ (b : Bool). length (sends_ends b opened k)) (sym is) ∙ keeps.numbered in
         let waits : length s.send_queue.send_ends ≡ reduce.ends_waiting k.written (call_ends opened k.due 1 k.outstanding) = keeps.sends.count ∙ ap (λ (b : Bool). reduce.ends_waiting k.written (sends_ends b opened k)) is in
         let all = all_wait k.written (call_ends opened k.due 1 k.outstanding) (calls_later opened k.written k.due 1 k.outstanding le) in

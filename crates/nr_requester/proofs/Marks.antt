@@ -142,13 +142,13 @@ drain_stands h n le fits opened link run s = record {
     next : h.state.side.ended ≡ None → LinkKeeps opened (drained n h.state.side) (record k { written = k.written + n })
     next none = link_drained opened h.state.side k n le few (s.side none)
 
-    many : (client opened link run).ended ≡ None → sent_after n h ≡ reduce.ends_left (k.written + length (take n queue)) k.send_ends
+    many : (client opened link run).ended ≡ None → sent_after n h ≡ reduce.ends_written (k.written + length (take n queue)) k.send_ends
     many none =
         let live_side : h.state.side.ended ≡ None = s.kept.keeps.ended ∙ none in
         let due = due_is opened link h run s none in
         drained_sent h n live_side
         ∙ sent_is opened (drained n h.state.side) (record k { written = k.written + n }) (next live_side) (omega (arith, due, le))
-        ∙ ap (λ (m : ℕ). reduce.ends_left (k.written + m) k.send_ends) (sym (taken_len n queue le))
+        ∙ ap (λ (m : ℕ). reduce.ends_written (k.written + m) k.send_ends) (sym (taken_len n queue le))
 
     kept : h.state.side.ended ≡ None → LinkKeeps opened (after_drain n h).state.side (state_of opened link (run ++ mark ∷ []))
     kept none =

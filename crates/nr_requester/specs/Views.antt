@@ -2,6 +2,7 @@
 use Rattle.std.specs.Prelude.{◌≡◌, ℕ, ◌^◌, ◌≤◌, length, List, [], map}
 use Rattle.std.specs.List.{AllByRecursion}
 use Rattle.nr_endpoint.specs.LinkState.{LinkSide}
+use Rattle.nr_reduce.specs.Limits.{most_credits}
 use Rattle.nr_requester.specs.declared.outstanding.OutstandingCall.{OutstandingCall}
 use Rattle.nr_requester.specs.RequesterState.{StoredCall, RequesterSide}
 use Rattle.nr_requester.specs.HeldClaims.{AreHeldFrom, all_claims, OffersOwn}
@@ -13,9 +14,9 @@ stored_view c = record { xid = c.xid; call = c.call; offered = c.offered; claims
 -- and no receive is lent; the regions of its calls are held, and are those that the calls offer.
 pub record IsSound (link : LinkSide) (next_xid grant : ℕ) (outstanding : List OutstandingCall) : Type 0 where
   pub xid : next_xid ≤ 2 ^ 32
-  pub few : length outstanding ≤ 64
+  pub few : length outstanding ≤ most_credits
   pub some : 1 ≤ grant
-  pub granted : grant ≤ 64
+  pub granted : grant ≤ most_credits
   pub none_waits : link.state.receive_queue.notices ≡ []
   pub none_lent : link.state.receive_queue.lent ≡ 0
   pub held : AreHeldFrom link.state.memory 0 (all_claims outstanding)

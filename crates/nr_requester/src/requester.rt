@@ -6,6 +6,7 @@ ghost use Rattle.nr_outside.specs.Faults.{Rises};
 ghost use Rattle.nr_wire.specs.declared.hello.Side.TheVariants.{Initiator};
 ghost use Rattle.nr_wire.specs.Stream.{IsPartial};
 ghost use Rattle.nr_endpoint.specs.declared.fault.DrainFault.TheVariants as drains;
+ghost use Rattle.nr_reduce.specs.Limits.{most_credits};
 ghost use Rattle.nr_reduce.specs.declared.mark.LinkParameters.{LinkParameters};
 ghost use Rattle.nr_reduce.specs.declared.mark.Mark.TheVariants as marks;
 ghost use Rattle.nr_requester.specs.RequesterState.{queue_of};
@@ -134,9 +135,9 @@ impl Requester {
 
     /// What holds of each requester, for the proofs of its owner. It does nothing.
     pub fn facts(&self)
-        // At most 64 calls are outstanding, and 1 to 64 credits are granted. A next xid of 2 ^ 32 is none.
-        ensures outstanding { length self.now.state.outstanding ≤ 64 }
-        ensures granted { (1 ≤ self.now.state.grant) × (self.now.state.grant ≤ 64) }
+        // At most most_credits calls are outstanding, and 1 to most_credits credits are granted. A next xid of 2 ^ 32 is none.
+        ensures outstanding { length self.now.state.outstanding ≤ most_credits }
+        ensures granted { (1 ≤ self.now.state.grant) × (self.now.state.grant ≤ most_credits) }
         ensures xid { self.now.state.next_xid ≤ 2 ^ 32 }
         // What is kept of the stream is less than a frame, and nothing once the side has ended.
         ensures partial { IsPartial self.now.awaited self.now.rest }

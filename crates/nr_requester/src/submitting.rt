@@ -22,13 +22,11 @@ use crate::requester::Requester;
 use crate::ticket::Ticket;
 use nr_endpoint::{Claims, Endpoint};
 use nr_header::ChunkLists;
+use nr_link::constants::SEND_MAX;
 use nr_reduce::{Call, Form, Outline, Refused, TooLarge, outline_of, written_parts};
 use nr_rpc::{CallTarget, write_call_head};
 use nr_xdr::{Memory, Octets};
 use std::alloc::Global;
-
-/// The most bytes of a Send.
-const SEND_MAX: u32 = 1024;
 
 /// How many numbers there are.
 const NUMBERS_END: u64 = 4294967296;

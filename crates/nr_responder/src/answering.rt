@@ -12,20 +12,15 @@ ghost use Rattle.nr_responder.specs.Sound.{InBuffer};
 
 use crate::call::{Pending, Sent, stream_of};
 use nr_endpoint::{Endpoint, RemoteWrite};
-use nr_header::{Chunk, ChunkLists, RdmaSegment, TransportError, write_error};
+use nr_header::{Chunk, ChunkLists, RdmaSegment, TransportError, VERSION, write_error};
+use nr_link::constants::SEND_MAX;
 use nr_reduce::{Answer, answer_for, answer_message};
 use nr_rpc::call_target;
 use nr_xdr::{Memory, Octets};
 use std::alloc::Global;
 
-/// The most bytes of a Send.
-const SEND_MAX: u32 = 1024;
-
 /// The most bytes of a message that an endpoint sends.
 pub(crate) const SENDABLE: usize = 4294967295;
-
-/// The version of RPC-over-RDMA (RFC 8166 section 4.2.2).
-const VERSION: u32 = 1;
 
 /// ERR_CHUNK, as the answer to a message with this xid (RFC 8166 section 4.5.3).
 #[tactic(auto, unfolding(nr_reduce::specs::Holds::chunk_error))]

@@ -7,15 +7,8 @@ ghost use Rattle.nr_reduce.specs.ServerState.{ServerState, next_stag};
 ghost use Rattle.nr_responder.specs.Views.{call_view, HasStream, Judges, JudgesBody};
 
 use crate::call::{Pending, has_xid};
-use nr_header::{Body, ChunkLists, FIXED_LEN, read_header};
+use nr_header::{Body, ChunkLists, DONE, ERROR, FIXED_LEN, VERSION, read_header};
 use nr_xdr::word_at;
-
-/// The version of RPC-over-RDMA, and the kinds that a client doesn't send (RFC 8166 section 4.2).
-const VERSION: u32 = 1;
-
-const DONE: u32 = 3;
-
-const ERROR: u32 = 4;
 
 /// What a responder makes of a message: it ends the link, by its kind or by its xid; ERR_VERS; ERR_CHUNK; a call without a read list,
 /// with its lists and the place of its stream; or a call with a read list.

@@ -39,21 +39,13 @@ use crate::judging::{Judged, judge};
 use nr_endpoint::{DrainFault, Endpoint, Event};
 use nr_header::ChunkLists;
 use nr_link::End;
+use nr_link::constants::{REASON_CALL, REASON_HEAD, REASON_KIND, REASON_XID};
 use nr_outside::Sink;
 use nr_rpc::call_xid;
 use nr_wire::Side;
 use nr_xdr::{Memory, Octets, word_at};
 use std::alloc::Global;
 use std::collections::VecDeque;
-
-/// The reasons for which a message ends the link: a kind that a client doesn't send, no call head, another xid in it, an xid that is open.
-const REASON_KIND: u32 = 17;
-
-const REASON_HEAD: u32 = 18;
-
-const REASON_XID: u32 = 19;
-
-const REASON_CALL: u32 = 20;
 
 /// The server end of a link. A pending call keeps the receive buffer of its message; `used` has those of messages that were answered or
 /// refused, whose answer hasn't left the queue.

@@ -1,7 +1,7 @@
-use Rattle.std.proofs.Common.{◌≡◌, ◌+◌, ◌*◌, List, length, take}
-use Rattle.std.specs.Prelude.{sum_by}
-use Rattle.nr_header.specs.declared.header.RdmaSegment.{RdmaSegment}
+use Rattle.std.proofs.Common.{◌≡◌, ◌+◌, take}
+use Rattle.nr_header.specs.Constants.{HEADER_LEN_MIN}
+use Rattle.nr_header.specs.Length.{write_list_len}
 use Rattle.nr_reduce.proofs.holding.fits_message.Given as goal
 
 abbrev pub invariant-loop-chunk : goal.invariant-loop-chunk
-invariant-loop-chunk l = l.need ≡ 28 + l.len + sum_by (λ (chunk : List RdmaSegment). 8 + 16 * length chunk) (take l.chunk-index l.chunks)
+invariant-loop-chunk l = l.need ≡ HEADER_LEN_MIN + l.len + write_list_len (take l.chunk-index l.chunks)
