@@ -2,7 +2,6 @@
 
 ghost use Rattle.std.specs.Prelude.{◌≡◌, ◌∷◌, [], None, Some, MatchResult, IfOk, OnOk, OnErr};
 ghost use Rattle.nr_nfs_base.specs.declared.status_union.StatusUnion.TheVariants.{Done, Failed};
-ghost use Rattle.nr_tree.specs.Sane.{IsSane};
 ghost use Rattle.nr_tree.specs.Steps.{IsBounded, CanAddNode};
 ghost use Rattle.nr_tree.specs.Changes.{tree_with_node};
 ghost use Rattle.nr_tree.specs.Rules.{first, number_of_handle, handle_of as handle_of_number};
@@ -159,7 +158,6 @@ fn add_with_handle(
     node: Node,
     object: Handle,
 ) -> Result<StatusUnion<CreateOk, WccData>, Memory>
-    requires sane { IsSane tree.old }
     requires bounded { IsBounded tree.old }
     requires directory { directory ≡ number_of_handle dir.now }
     requires allowed { CanAddNode tree.old directory name node }
@@ -167,8 +165,8 @@ fn add_with_handle(
     ensures result { IfOk result (λ r. r ≡ Done (ok_of tree.old (tree_with_node tree.old now directory name node) dir.now name)) }
     ensures tree { OnOk result (tree.new ≡ tree_with_node tree.old now directory name node) }
     ensures err { OnErr result (tree.new ≡ tree.old) }
-    ensures sane { IsSane tree.new }
 {
+    tree.facts();
     let before = wcc_attributes_at(tree, dir);
     let number = tree.add_node(directory, name.into_octets().into_vec(), node, now)?;
     Ok(StatusUnion::Done(create_ok(before, tree, dir, object, number)))
@@ -184,14 +182,12 @@ pub(crate) fn add_node(
     directory: u64,
     node: Node,
 ) -> Result<StatusUnion<CreateOk, WccData>, Memory>
-    requires sane { IsSane tree.old }
     requires bounded { IsBounded tree.old }
     requires directory { directory ≡ number_of_handle dir.now }
     requires allowed { CanAddNode tree.old directory name node }
     ensures result { IfOk result (λ r. r ≡ Done (ok_of tree.old (tree_with_node tree.old now directory name node) dir.now name)) }
     ensures tree { OnOk result (tree.new ≡ tree_with_node tree.old now directory name node) }
     ensures err { OnErr result (tree.new ≡ tree.old) }
-    ensures sane { IsSane tree.new }
 {
     match handle_of(alloc, tree.next()) {
         Ok(object) => add_with_handle(tree, now, dir, name, directory, node, object),

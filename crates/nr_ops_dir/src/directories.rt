@@ -1,7 +1,6 @@
 //! MKDIR.
 
 ghost use Rattle.std.specs.Prelude.{◌≡◌, None, Some, MatchResult, IfOk, OnOk, OnErr};
-ghost use Rattle.nr_tree.specs.Sane.{IsSane};
 ghost use Rattle.nr_tree.specs.Steps.{IsBounded};
 ghost use Rattle.nr_tree.specs.Rules.{first, number_of_handle, IsWithinCapacity};
 ghost use Rattle.nr_ops_dir.specs.Creation.{new_node as node_of, directory_mode, empty_directory, mkdir_rules, mkdir_tree, mkdir_reply};
@@ -61,13 +60,11 @@ pub fn mkdir(
     space: &Space,
     args: MkdirArgs,
 ) -> Result<MkdirRes, Memory>
-    requires sane { IsSane tree.old }
     requires bounded { IsBounded tree.old }
     requires space { IsWithinCapacity space.now }
     ensures result { IfOk result (λ r. r ≡ mkdir_reply tree.old caller.now space.now now args) }
     ensures tree { OnOk result (tree.new ≡ mkdir_tree tree.old caller.now space.now now args) }
     ensures err { OnErr result (tree.new ≡ tree.old) }
-    ensures sane { IsSane tree.new }
 {
     match place_of_directory(tree, caller, space, &args) {
         Ok(directory) => {

@@ -3,7 +3,7 @@
 ghost use Rattle.std.specs.Prelude.{◌≡◌, ℕ, ◌≤◌, true, None, Some, replicate, unwrap_or, MatchResult, IfOk, OnOk, OnErr};
 ghost use Rattle.nr_nfs_base.specs.declared.status_union.StatusUnion.TheVariants.{Done};
 ghost use Rattle.nr_nfs_args.specs.declared.create.CreateHow.TheVariants.{Unchecked};
-ghost use Rattle.nr_tree.specs.Sane.{IsSane, file_size_max};
+ghost use Rattle.nr_tree.specs.Sane.{file_size_max};
 ghost use Rattle.nr_tree.specs.Steps.{IsBounded, CanAddNode, is_regular_at};
 ghost use Rattle.nr_tree.specs.Rules.{first, number_of_handle, handle_of as handle_of_number, IsWithinCapacity};
 ghost use Rattle.nr_tree.specs.Changes.{tree_with_node};
@@ -188,14 +188,12 @@ fn add_file(
     args: CreateArgs,
     directory: u64,
 ) -> Result<CreateRes, Memory>
-    requires sane { IsSane tree.old }
     requires bounded { IsBounded tree.old }
     requires directory { directory ≡ number_of_handle args.dir }
     requires allowed { CanAddNode tree.old directory args.name (file_of caller.now now directory args.how) }
     ensures result { IfOk result (λ r. r ≡ Done (ok_of tree.old (tree_with_node tree.old now directory args.name (file_of caller.now now directory args.how)) args.dir args.name)) }
     ensures tree { OnOk result (tree.new ≡ tree_with_node tree.old now directory args.name (file_of caller.now now directory args.how)) }
     ensures err { OnErr result (tree.new ≡ tree.old) }
-    ensures sane { IsSane tree.new }
 {
     let node = new_file(alloc, caller, now, directory, args.how)?;
     let name = args.name;
@@ -204,12 +202,10 @@ fn add_file(
 
 /// Gives a file that is there the size that is given, if any. After an `Err` the tree is as before.
 fn set_given_size(tree: &mut Tree, now: Time, number: u64, how: CreateHow) -> Result<(), Memory>
-    requires sane { IsSane tree.old }
     requires regular { (size : ℕ) → size_given how ≡ Some size → is_regular_at tree.old number ≡ true }
     requires limit { (size : ℕ) → size_given how ≡ Some size → size ≤ file_size_max }
     ensures tree { OnOk result (tree.new ≡ tree_with_existing_file tree.old now how number) }
     ensures err { OnErr result (tree.new ≡ tree.old) }
-    ensures sane { IsSane tree.new }
 {
     match size_to_set(how) {
         Some(size) => tree.set_size(number, size, now),
@@ -226,7 +222,6 @@ fn use_existing_file(
     number: u64,
     how: CreateHow,
 ) -> Result<CreateRes, Memory>
-    requires sane { IsSane tree.old }
     requires regular { (size : ℕ) → size_given how ≡ Some size → is_regular_at tree.old number ≡ true }
     requires limit { (size : ℕ) → size_given how ≡ Some size → size ≤ file_size_max }
     ensures result { IfOk result (λ r. r ≡ Done (record {
@@ -236,7 +231,6 @@ fn use_existing_file(
     })) }
     ensures tree { OnOk result (tree.new ≡ tree_with_existing_file tree.old now how number) }
     ensures err { OnErr result (tree.new ≡ tree.old) }
-    ensures sane { IsSane tree.new }
 {
     let before = wcc_attributes_at(tree, dir);
     let object = handle_of(alloc, number)?;
@@ -254,14 +248,13 @@ pub fn create(
     space: &Space,
     args: CreateArgs,
 ) -> Result<CreateRes, Memory>
-    requires sane { IsSane tree.old }
     requires bounded { IsBounded tree.old }
     requires space { IsWithinCapacity space.now }
     ensures result { IfOk result (λ r. r ≡ create_reply tree.old caller.now space.now now args) }
     ensures tree { OnOk result (tree.new ≡ create_tree tree.old caller.now space.now now args) }
     ensures err { OnErr result (tree.new ≡ tree.old) }
-    ensures sane { IsSane tree.new }
 {
+    tree.facts();
     match place_of_file(tree, caller, space, &args) {
         Ok((directory, None)) => add_file(alloc, tree, now, caller, args, directory),
         Ok((_, Some(number))) => {

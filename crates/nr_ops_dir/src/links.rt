@@ -2,7 +2,6 @@
 
 ghost use Rattle.std.specs.Prelude.{◌≡◌, None, Some, MatchResult, IfOk, OnOk, OnErr};
 ghost use Rattle.nr_nfs_base.specs.declared.status_union.StatusUnion.TheVariants.{Done};
-ghost use Rattle.nr_tree.specs.Sane.{IsSane};
 ghost use Rattle.nr_tree.specs.Steps.{IsBounded, CanAddLink};
 ghost use Rattle.nr_tree.specs.Changes.{tree_with_link};
 ghost use Rattle.nr_tree.specs.Rules.{first, number_of_handle, IsWithinCapacity};
@@ -73,13 +72,11 @@ fn add_link(
     file: u64,
     directory: u64,
 ) -> Result<LinkRes, Memory>
-    requires sane { IsSane tree.old }
     requires bounded { IsBounded tree.old }
     requires allowed { CanAddLink tree.old directory args.name file }
     ensures result { IfOk result (λ r. r ≡ Done (wcc_of_link tree.old (tree_with_link tree.old now directory args.name file) args)) }
     ensures tree { OnOk result (tree.new ≡ tree_with_link tree.old now directory args.name file) }
     ensures err { OnErr result (tree.new ≡ tree.old) }
-    ensures sane { IsSane tree.new }
 {
     let before = wcc_attributes_at(tree, args.dir.as_slice());
     tree.add_link(directory, args.name.into_octets().into_vec(), file, now)?;
@@ -95,13 +92,11 @@ pub fn link(
     space: &Space,
     args: LinkArgs,
 ) -> Result<LinkRes, Memory>
-    requires sane { IsSane tree.old }
     requires bounded { IsBounded tree.old }
     requires space { IsWithinCapacity space.now }
     ensures result { IfOk result (λ r. r ≡ link_reply tree.old caller.now space.now now args) }
     ensures tree { OnOk result (tree.new ≡ link_tree tree.old caller.now space.now now args) }
     ensures err { OnErr result (tree.new ≡ tree.old) }
-    ensures sane { IsSane tree.new }
 {
     match link_to_add(tree, caller, space, &args) {
         Ok((file, directory)) => add_link(tree, now, args, file, directory),

@@ -2,7 +2,6 @@
 
 ghost use Rattle.std.specs.Prelude.{◌≡◌, ◌+◌, ◌≤◌, None, Some, length, IfOk, MatchResult};
 ghost use Rattle.nr_tree.specs.Rules.{first};
-ghost use Rattle.nr_tree.specs.Sane.{IsSane};
 ghost use Rattle.nr_tree.specs.Entries.{NamesAreValid};
 ghost use Rattle.nr_ops_dir.specs.Readdir.{readdir_rules, readdir_taken, readdir_left, readdir_reply, readdirplus_rules, readdirplus_taken, readdirplus_left, readdirplus_reply};
 ghost use Rattle.nr_ops_dir.specs.private.Sizes.{IsRange};
@@ -26,7 +25,6 @@ pub fn readdir(
     caller: &Caller,
     args: ReaddirArgs,
 ) -> Result<ReaddirRes, Memory>
-    requires { IsSane tree.now }
     ensures { IfOk result (λ r. r ≡ readdir_reply tree.now caller.now args) }
 {
     readdir_inner(alloc, tree, caller, &args)
@@ -39,7 +37,6 @@ fn readdir_inner(
     caller: &Caller,
     args: &ReaddirArgs,
 ) -> Result<ReaddirRes, Memory>
-    requires { IsSane tree.now }
     ensures { IfOk result (λ r. r ≡ readdir_reply tree.now caller.now args.now) }
 {
     let dir_attributes = attributes_at(tree, args.dir.as_slice());
@@ -69,13 +66,13 @@ fn readdir_range<'a>(
     caller: &Caller,
     args: &ReaddirArgs,
 ) -> Result<Range<'a>, Status>
-    requires { IsSane tree.now }
     ensures { MatchResult result
         (λ r. (first (readdir_rules tree.now caller.now args.now) ≡ None)
         × NamesAreValid r.dir.now.list
         × IsRange r.dir.now.list r.start r.end (readdir_taken tree.now args.now) (readdir_left tree.now args.now))
         (λ s. first (readdir_rules tree.now caller.now args.now) ≡ Some s) }
 {
+    tree.facts();
     let (_, node) = live_node(tree, args.dir.as_slice())?;
     let dir = directory_to_list(caller, args.cookie, args.verifier, node)?;
     match limits_of(Detail::Names, args.count, u32::MAX) {
@@ -92,7 +89,6 @@ pub fn readdirplus(
     caller: &Caller,
     args: ReaddirplusArgs,
 ) -> Result<ReaddirplusRes, Memory>
-    requires { IsSane tree.now }
     ensures { IfOk result (λ r. r ≡ readdirplus_reply tree.now caller.now args) }
 {
     readdirplus_inner(alloc, tree, caller, &args)
@@ -105,7 +101,6 @@ fn readdirplus_inner(
     caller: &Caller,
     args: &ReaddirplusArgs,
 ) -> Result<ReaddirplusRes, Memory>
-    requires { IsSane tree.now }
     ensures { IfOk result (λ r. r ≡ readdirplus_reply tree.now caller.now args.now) }
 {
     let dir_attributes = attributes_at(tree, args.dir.as_slice());
@@ -135,13 +130,13 @@ fn readdirplus_range<'a>(
     caller: &Caller,
     args: &ReaddirplusArgs,
 ) -> Result<Range<'a>, Status>
-    requires { IsSane tree.now }
     ensures { MatchResult result
         (λ r. (first (readdirplus_rules tree.now caller.now args.now) ≡ None)
         × NamesAreValid r.dir.now.list
         × IsRange r.dir.now.list r.start r.end (readdirplus_taken tree.now args.now) (readdirplus_left tree.now args.now))
         (λ s. first (readdirplus_rules tree.now caller.now args.now) ≡ Some s) }
 {
+    tree.facts();
     let (_, node) = live_node(tree, args.dir.as_slice())?;
     let dir = directory_to_list(caller, args.cookie, args.verifier, node)?;
     match limits_of(Detail::Nodes, args.maxcount, args.dircount) {

@@ -2,7 +2,6 @@
 
 ghost use Rattle.std.specs.Prelude.{◌≡◌, None, Some, MatchResult};
 ghost use Rattle.nr_nfs_base.specs.declared.status_union.StatusUnion.TheVariants.{Done, Failed};
-ghost use Rattle.nr_tree.specs.Sane.{IsSane};
 ghost use Rattle.nr_tree.specs.Rules.{first, answer, number_of_handle, IsWithinCapacity};
 ghost use Rattle.nr_ops_dir.specs.Entries.{number_of_entry as number_of_name};
 ghost use Rattle.nr_ops_dir.specs.Removal.{remove_rules, remove_tree, remove_reply, rmdir_rules, rmdir_of, rmdir_tree, rmdir_reply};
@@ -62,11 +61,9 @@ fn remove_file(
     space: &Space,
     args: &RemoveArgs,
 ) -> Option<Status>
-    requires sane { IsSane tree.old }
     requires space { IsWithinCapacity space.now }
     ensures result { result ≡ first (remove_rules tree.old caller.now space.now args.now) }
     ensures tree { tree.new ≡ remove_tree tree.old caller.now space.now now args.now }
-    ensures sane { IsSane tree.new }
 {
     match entry_to_remove(tree, caller, space, args) {
         Ok((directory, number)) => {
@@ -85,11 +82,9 @@ pub fn remove(
     space: &Space,
     args: RemoveArgs,
 ) -> RemoveRes
-    requires sane { IsSane tree.old }
     requires space { IsWithinCapacity space.now }
     ensures result { result ≡ remove_reply tree.old caller.now space.now now args }
     ensures tree { tree.new ≡ remove_tree tree.old caller.now space.now now args }
-    ensures sane { IsSane tree.new }
 {
     let handle = args.dir.as_slice();
     let before = wcc_attributes_at(tree, handle);
@@ -150,11 +145,9 @@ fn remove_directory(
     space: &Space,
     args: &RmdirArgs,
 ) -> Option<Status>
-    requires sane { IsSane tree.old }
     requires space { IsWithinCapacity space.now }
     ensures result { result ≡ first (rmdir_rules tree.old caller.now space.now args.now) }
     ensures tree { tree.new ≡ rmdir_tree tree.old caller.now space.now now args.now }
-    ensures sane { IsSane tree.new }
 {
     match directory_to_remove(tree, caller, space, args) {
         Ok((directory, number)) => {
@@ -173,11 +166,9 @@ pub fn rmdir(
     space: &Space,
     args: RmdirArgs,
 ) -> RmdirRes
-    requires sane { IsSane tree.old }
     requires space { IsWithinCapacity space.now }
     ensures result { result ≡ rmdir_reply tree.old caller.now space.now now args }
     ensures tree { tree.new ≡ rmdir_tree tree.old caller.now space.now now args }
-    ensures sane { IsSane tree.new }
 {
     let handle = args.dir.as_slice();
     let before = wcc_attributes_at(tree, handle);

@@ -2,7 +2,7 @@
 
 ghost use Rattle.std.specs.Prelude.{◌≡◌, ◌&&◌, if◌then◌else◌, true, false, None, Some, MatchResult, IfOk, OnOk, OnErr};
 ghost use Rattle.nr_nfs_base.specs.declared.status_union.StatusUnion.TheVariants.{Done};
-ghost use Rattle.nr_tree.specs.Sane.{IsSane, skeleton};
+ghost use Rattle.nr_tree.specs.Sane.{skeleton};
 ghost use Rattle.nr_tree.specs.Within.{is_within};
 ghost use Rattle.nr_tree.specs.Steps.{IsBounded, CanRename, is_dir_at as is_directory_at};
 ghost use Rattle.nr_tree.specs.Changes.{tree_with_new_name};
@@ -75,7 +75,6 @@ fn check_replacement(
 
 /// Whether a node is a directory that would move into itself or below.
 fn is_moved_below_itself(tree: &Tree, to: u64, number: u64) -> bool
-    requires sane { IsSane tree.now }
     requires directory { is_directory_at tree.now to ≡ true }
     ensures { result ≡ is_directory_at tree.now number && is_within (skeleton tree.now) to number }
 {
@@ -92,7 +91,6 @@ fn check_node(
     to: u64,
     number: u64,
 ) -> Result<bool, Status>
-    requires sane { IsSane tree.now }
     requires space { IsWithinCapacity space.now }
     requires from { from ≡ number_of_handle args.now.from_dir }
     requires to { to ≡ number_of_handle args.now.to_dir }
@@ -161,7 +159,6 @@ fn node_to_move(
     space: &Space,
     args: &RenameArgs,
 ) -> Result<Move, Status>
-    requires sane { IsSane tree.now }
     requires space { IsWithinCapacity space.now }
     ensures { MatchResult result
         (λ m. (first (rename_rules tree.now caller.now space.now args.now) ≡ None) × IsMoveOf tree.now args.now m)
@@ -221,12 +218,10 @@ fn move_node(
     name: Name,
     name_to: Name,
 ) -> Result<(), Memory>
-    requires sane { IsSane tree.old }
     requires bounded { IsBounded tree.old }
     requires allowed { step.is_done ≡ false → CanRename tree.old step.from name step.to name_to step.number }
     ensures tree { OnOk result (tree.new ≡ (if step.is_done then tree.old else tree_with_new_name tree.old now step.from name step.to name_to step.number)) }
     ensures err { OnErr result (tree.new ≡ tree.old) }
-    ensures sane { IsSane tree.new }
 {
     if step.is_done {
         return Ok(());
@@ -244,14 +239,12 @@ fn move_node(
 
 /// Moves the node, and gives what the reply says. After an `Err` the tree is as before.
 fn renamed(tree: &mut Tree, now: Time, args: RenameArgs, step: Move) -> Result<RenameRes, Memory>
-    requires sane { IsSane tree.old }
     requires bounded { IsBounded tree.old }
     requires allowed { step.is_done ≡ false → CanRename tree.old step.from args.from_name step.to args.to_name step.number }
     requires step { IsMoveOf tree.old args step }
     ensures result { IfOk result (λ r. r ≡ Done (wcc_of_rename tree.old (tree_with_move tree.old now args step.number) args)) }
     ensures tree { OnOk result (tree.new ≡ tree_with_move tree.old now args step.number) }
     ensures err { OnErr result (tree.new ≡ tree.old) }
-    ensures sane { IsSane tree.new }
 {
     let before = wcc_before(tree, &args);
     move_node(tree, now, step, args.from_name, args.to_name)?;
@@ -272,14 +265,13 @@ pub fn rename(
     space: &Space,
     args: RenameArgs,
 ) -> Result<RenameRes, Memory>
-    requires sane { IsSane tree.old }
     requires bounded { IsBounded tree.old }
     requires space { IsWithinCapacity space.now }
     ensures result { IfOk result (λ r. r ≡ rename_reply tree.old caller.now space.now now args) }
     ensures tree { OnOk result (tree.new ≡ rename_tree tree.old caller.now space.now now args) }
     ensures err { OnErr result (tree.new ≡ tree.old) }
-    ensures sane { IsSane tree.new }
 {
+    tree.facts();
     match node_to_move(tree, caller, space, &args) {
         Ok(step) => renamed(tree, now, args, step),
         Err(status) => {

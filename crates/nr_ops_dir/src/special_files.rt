@@ -1,7 +1,6 @@
 //! MKNOD.
 
 ghost use Rattle.std.specs.Prelude.{◌≡◌, false, None, Some, is_none, MatchResult, IfOk, OnOk, OnErr};
-ghost use Rattle.nr_tree.specs.Sane.{IsSane};
 ghost use Rattle.nr_tree.specs.Steps.{IsBounded};
 ghost use Rattle.nr_tree.specs.Rules.{first, number_of_handle, IsWithinCapacity};
 ghost use Rattle.nr_ops_dir.specs.Creation.{new_node as node_of, file_mode, special_content as content_of_data, special_attributes as attributes_of_data, is_device as is_device_data, mknod_rules, mknod_tree, mknod_reply};
@@ -104,13 +103,11 @@ pub fn mknod(
     space: &Space,
     args: MknodArgs,
 ) -> Result<MknodRes, Memory>
-    requires sane { IsSane tree.old }
     requires bounded { IsBounded tree.old }
     requires space { IsWithinCapacity space.now }
     ensures result { IfOk result (λ r. r ≡ mknod_reply tree.old caller.now space.now now args) }
     ensures tree { OnOk result (tree.new ≡ mknod_tree tree.old caller.now space.now now args) }
     ensures err { OnErr result (tree.new ≡ tree.old) }
-    ensures sane { IsSane tree.new }
 {
     match place_of_special(tree, caller, space, &args) {
         Ok(directory) => {

@@ -2,7 +2,6 @@
 
 ghost use Rattle.std.specs.Prelude.{◌≡◌, None, Some, MatchResult, IfOk, OnOk, OnErr};
 ghost use Rattle.nr_tree.specs.declared.node.Content.TheVariants.{Link};
-ghost use Rattle.nr_tree.specs.Sane.{IsSane};
 ghost use Rattle.nr_tree.specs.Steps.{IsBounded};
 ghost use Rattle.nr_tree.specs.Rules.{first, number_of_handle, IsWithinCapacity};
 ghost use Rattle.nr_ops_dir.specs.Creation.{new_node as node_of, link_mode, path_rules, symlink_rules, symlink_tree, symlink_reply};
@@ -74,13 +73,11 @@ pub fn symlink(
     space: &Space,
     args: SymlinkArgs,
 ) -> Result<SymlinkRes, Memory>
-    requires sane { IsSane tree.old }
     requires bounded { IsBounded tree.old }
     requires space { IsWithinCapacity space.now }
     ensures result { IfOk result (λ r. r ≡ symlink_reply tree.old caller.now space.now now args) }
     ensures tree { OnOk result (tree.new ≡ symlink_tree tree.old caller.now space.now now args) }
     ensures err { OnErr result (tree.new ≡ tree.old) }
-    ensures sane { IsSane tree.new }
 {
     match place_of_link(tree, caller, space, &args) {
         Ok(directory) => {

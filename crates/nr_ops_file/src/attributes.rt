@@ -5,7 +5,7 @@ ghost use Rattle.std.specs.Option.{option_map};
 ghost use Rattle.nr_ops_file.specs.Attributes.{getattr_rules, getattr_reply, same_time as same_times, guard_differs, changes_owner as changes_owner_of, needs_owner as needs_owner_for, sets_server_time as sets_the_server_time, is_owner as is_owner_of, permission_rules, value_rules, setattr_of, setattr_rules, mode_after as mode_set, mtime_of_size as mtime_of, metadata_after as metadata_set, tree_with_size_given, tree_with_attributes, setattr_tree, setattr_reply, bit_if as bit_where, access_granted, access_reply};
 ghost use Rattle.nr_tree.specs.Replies.{attributes_at as attributes_of_handle};
 ghost use Rattle.nr_tree.specs.Rules.{first, node_of_handle, number_of_handle, IsWithinCapacity};
-ghost use Rattle.nr_tree.specs.Sane.{IsSane, file_size_max};
+ghost use Rattle.nr_tree.specs.Sane.{file_size_max};
 ghost use Rattle.nr_tree.specs.Steps.{is_regular_at, links_at};
 ghost use Rattle.nr_tree.specs.Tree.{is_regular};
 ghost use Rattle.nr_tree.specs.declared.node.Node.{Node};
@@ -93,12 +93,10 @@ pub fn setattr(
     space: &Space,
     args: SetattrArgs,
 ) -> Result<SetattrRes, Memory>
-    requires sane { IsSane tree.old }
     requires space { IsWithinCapacity space.now }
     ensures result { IfOk result (λ r. r ≡ setattr_reply tree.old caller.now space.now now args) }
     ensures tree { OnOk result (tree.new ≡ setattr_tree tree.old caller.now space.now now args) }
     ensures err { OnErr result (tree.new ≡ tree.old) }
-    ensures sane { IsSane tree.new }
 {
     setattr_inner(tree, now, caller, space, &args)
 }
@@ -111,12 +109,10 @@ fn setattr_inner(
     space: &Space,
     args: &SetattrArgs,
 ) -> Result<SetattrRes, Memory>
-    requires sane { IsSane tree.old }
     requires space { IsWithinCapacity space.now }
     ensures result { IfOk result (λ r. r ≡ setattr_reply tree.old caller.now space.now now args.now) }
     ensures tree { OnOk result (tree.new ≡ setattr_tree tree.old caller.now space.now now args.now) }
     ensures err { OnErr result (tree.new ≡ tree.old) }
-    ensures sane { IsSane tree.new }
 {
     let handle = args.object.as_slice();
     let before = wcc_attributes_at(tree, handle);
@@ -251,12 +247,10 @@ fn set_attributes(
     attributes: SetAttributes,
     metadata: Metadata,
 ) -> Result<(), Memory>
-    requires sane { IsSane tree.old }
     requires links { metadata.links ≡ links_at tree.old number }
     requires size { IfSome attributes.size (λ size. (is_regular_at tree.old number ≡ true) × (size ≤ file_size_max)) }
     ensures ok { OnOk result (tree.new ≡ tree_with_attributes tree.old now number attributes metadata) }
     ensures err { OnErr result (tree.new ≡ tree.old) }
-    ensures sane { IsSane tree.new }
 {
     set_size(tree, now, number, attributes.size)?;
     tree.set_metadata(number, metadata_after(now, attributes, metadata));
@@ -265,12 +259,10 @@ fn set_attributes(
 
 /// Cuts a regular file or adds zeros, if a size is given. After an `Err` the tree is as before.
 fn set_size(tree: &mut Tree, now: Time, number: u64, size: Option<u64>) -> Result<(), Memory>
-    requires sane { IsSane tree.old }
     requires size { IfSome size (λ size. (is_regular_at tree.old number ≡ true) × (size ≤ file_size_max)) }
     ensures ok { OnOk result (tree.new ≡ tree_with_size_given tree.old now number size) }
     ensures links { OnOk result (links_at tree.new number ≡ links_at tree.old number) }
     ensures err { OnErr result (tree.new ≡ tree.old) }
-    ensures sane { IsSane tree.new }
 {
     match size {
         Some(size) => tree.set_size(number, size, now),

@@ -4,7 +4,7 @@ ghost use Rattle.std.specs.Prelude.{◌≡◌, ◌+◌, ◌≤◌, nat_le, take,
 ghost use Rattle.nr_ops_file.specs.Bytes.{regular_rules, read_rules, piece_read, read_reply, piece_rules, piece_written, write_rules, write_tree, write_reply, commit_rules, commit_reply};
 ghost use Rattle.nr_nfs_base.specs.Limits.{transfer_max};
 ghost use Rattle.nr_tree.specs.Rules.{first, node_of_handle, number_of_handle, IsWithinCapacity};
-ghost use Rattle.nr_tree.specs.Sane.{IsSane, file_size_max};
+ghost use Rattle.nr_tree.specs.Sane.{file_size_max};
 ghost use Rattle.nr_tree.specs.Steps.{is_regular_at};
 ghost use Rattle.nr_nfs_base.specs.declared.stable.StableHow.TheVariants.{FileSync};
 ghost use Rattle.nr_tree.specs.Tree.{is_regular, bytes_of};
@@ -112,12 +112,10 @@ pub fn write(
     space: &Space,
     args: &WriteArgsRef<'_>,
 ) -> Result<WriteRes, Memory>
-    requires sane { IsSane tree.old }
     requires space { IsWithinCapacity space.now }
     ensures result { IfOk result (λ r. r ≡ write_reply tree.old caller.now space.now now args.now) }
     ensures tree { OnOk result (tree.new ≡ write_tree tree.old caller.now space.now now args.now) }
     ensures err { OnErr result (tree.new ≡ tree.old) }
-    ensures sane { IsSane tree.new }
 {
     let handle = args.file();
     let before = wcc_attributes_at(tree, handle);

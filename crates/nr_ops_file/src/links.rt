@@ -4,7 +4,6 @@ ghost use Rattle.std.specs.Prelude.{◌≡◌, ◌≤◌, None, Some, length, If
 ghost use Rattle.nr_ops_file.specs.Bytes.{bytes_at};
 ghost use Rattle.nr_ops_file.specs.Links.{readlink_rules, readlink_reply};
 ghost use Rattle.nr_tree.specs.Rules.{first};
-ghost use Rattle.nr_tree.specs.Sane.{IsSane};
 ghost use Rattle.nr_nfs_base.specs.Limits.{link_target_max};
 
 use nr_nfs_args::ReadlinkArgs;
@@ -16,7 +15,6 @@ use std::alloc::Global;
 
 /// The path in a symbolic link (RFC 1813 section 3.3.5). An `Err` is out of memory.
 pub fn readlink(alloc: Global, tree: &Tree, args: ReadlinkArgs) -> Result<ReadlinkRes, Memory>
-    requires { IsSane tree.now }
     ensures { IfOk result (λ r. r ≡ readlink_reply tree.now args) }
 {
     let attributes = attributes_at(tree, args.symlink.as_slice());
@@ -34,10 +32,10 @@ pub fn readlink(alloc: Global, tree: &Tree, args: ReadlinkArgs) -> Result<Readli
 
 /// The path of the symbolic link that the call names.
 fn path_of_link<'a>(tree: &'a Tree, args: &ReadlinkArgs) -> Result<&'a [u8], Status>
-    requires { IsSane tree.now }
     ensures { MatchResult result (λ path. (first (readlink_rules tree.now args.now) ≡ None) × (path.now ≡ bytes_at tree.now args.now.symlink) × (length path.now ≤ link_target_max))
         (λ s. first (readlink_rules tree.now args.now) ≡ Some s) }
 {
+    tree.facts();
     let (_, node) = live_node(tree, args.symlink.as_slice())?;
     match &node.content {
         Content::Link(path) => Ok(path.as_slice()),

@@ -7,7 +7,6 @@ ghost use Rattle.nr_nfs_base.specs.Codec.{read_all, read_or_none};
 ghost use Rattle.nr_nfs_args.specs.Bytes.{write_args_codec};
 ghost use Rattle.nr_nfs_res.specs.Results.{nfs_result, write_res_codec};
 ghost use Rattle.nr_tree.specs.Rules.{IsWithinCapacity};
-ghost use Rattle.nr_tree.specs.Sane.{IsSane};
 ghost use Rattle.nr_tree.specs.Steps.{IsBounded};
 ghost use Rattle.nr_ops_file.specs.Attributes.{setattr_tree, setattr_reply};
 ghost use Rattle.nr_ops_file.specs.Bytes.{write_tree, write_reply};
@@ -86,13 +85,11 @@ pub(crate) fn change<A: Changing>(
     tree: &mut Tree,
     call: &Call,
 ) -> Result<Change, Memory>
-    requires sane { IsSane tree.old }
     requires bounded { IsBounded tree.old }
     requires space { IsWithinCapacity call.now.space }
     ensures result { IfOk result (IsChangeWith call.now.xid (nfs_result A.Done.codec A.Failed.codec) is_status_ok (A.results tree.old call.now.caller.now call.now.space call.now.time) (read_all A.codec call.now.arguments.now)) }
     ensures tree { OnOk result (tree.new ≡ tree_with tree.old (A.changed tree.old call.now.caller.now call.now.space call.now.time) (read_all A.codec call.now.arguments.now)) }
     ensures err { OnErr result (tree.new ≡ tree.old) }
-    ensures sane { IsSane tree.new }
 {
     match read_arguments::<A>(alloc, call.arguments)? {
         Some(arguments) => change_in(alloc, tree, call, arguments),
@@ -107,13 +104,11 @@ fn change_in<A: Changing>(
     call: &Call,
     arguments: A,
 ) -> Result<Change, Memory>
-    requires sane { IsSane tree.old }
     requires bounded { IsBounded tree.old }
     requires space { IsWithinCapacity call.now.space }
     ensures result { IfOk result (IsChangeWith call.now.xid (nfs_result A.Done.codec A.Failed.codec) is_status_ok (A.results tree.old call.now.caller.now call.now.space call.now.time) (Ok arguments)) }
     ensures tree { OnOk result (tree.new ≡ A.changed tree.old call.now.caller.now call.now.space call.now.time arguments) }
     ensures err { OnErr result (tree.new ≡ tree.old) }
-    ensures sane { IsSane tree.new }
 {
     let room = room_of_reply(alloc)?;
     let results = arguments.execute(alloc, tree, call)?;
@@ -122,12 +117,10 @@ fn change_in<A: Changing>(
 
 /// Executes a WRITE. Its data are copied once, from the arguments into the tree. After an `Err` the tree is as before.
 pub(crate) fn write_file(alloc: Global, tree: &mut Tree, call: &Call) -> Result<Change, Memory>
-    requires sane { IsSane tree.old }
     requires space { IsWithinCapacity call.now.space }
     ensures result { IfOk result (IsChangeWith call.now.xid write_res_codec is_status_ok (write_reply tree.old call.now.caller.now call.now.space call.now.time) (read_all write_args_codec call.now.arguments.now)) }
     ensures tree { OnOk result (tree.new ≡ tree_with tree.old (write_tree tree.old call.now.caller.now call.now.space call.now.time) (read_all write_args_codec call.now.arguments.now)) }
     ensures err { OnErr result (tree.new ≡ tree.old) }
-    ensures sane { IsSane tree.new }
 {
     match write_arguments(alloc, call.arguments)? {
         Some(arguments) => write_of(alloc, tree, call, &arguments),
@@ -142,12 +135,10 @@ fn write_of(
     call: &Call,
     arguments: &WriteArgsRef<'_>,
 ) -> Result<Change, Memory>
-    requires sane { IsSane tree.old }
     requires space { IsWithinCapacity call.now.space }
     ensures result { IfOk result (IsChangeWith call.now.xid write_res_codec is_status_ok (write_reply tree.old call.now.caller.now call.now.space call.now.time) (Ok arguments.now)) }
     ensures tree { OnOk result (tree.new ≡ write_tree tree.old call.now.caller.now call.now.space call.now.time arguments.now) }
     ensures err { OnErr result (tree.new ≡ tree.old) }
-    ensures sane { IsSane tree.new }
 {
     let room = room_of_reply(alloc)?;
     let results = nr_ops_file::write(tree, call.time, call.caller, &call.space, arguments)?;

@@ -2,7 +2,6 @@
 
 ghost use Rattle.std.specs.Prelude.{◌≡◌, true, false, IfOk, OnOk, OnErr};
 ghost use Rattle.nr_tree.specs.Rules.{IsWithinCapacity};
-ghost use Rattle.nr_tree.specs.Sane.{IsSane};
 ghost use Rattle.nr_tree.specs.Steps.{IsBounded};
 ghost use Rattle.nr_plain.specs.Code.{IsChange, reply_of, tree_of};
 ghost use Rattle.nr_plain.specs.Programs.{only_reads as is_read_only};
@@ -42,7 +41,6 @@ fn only_reads(p: NfsProcedure) -> bool
 }
 
 fn reading(alloc: Global, tree: &Tree, p: NfsProcedure, call: &Call) -> Result<Octets, Memory>
-    requires sane { IsSane tree.now }
     requires reads { is_read_only p ≡ true }
     ensures { IfOk result (λ o. o ≡ reply_of tree.now call.now p) }
 {
@@ -69,14 +67,12 @@ fn reading(alloc: Global, tree: &Tree, p: NfsProcedure, call: &Call) -> Result<O
 }
 
 fn changing(alloc: Global, tree: &mut Tree, p: NfsProcedure, call: &Call) -> Result<Change, Memory>
-    requires sane { IsSane tree.old }
     requires bounded { IsBounded tree.old }
     requires space { IsWithinCapacity call.now.space }
     requires changes { is_read_only p ≡ false }
     ensures result { IfOk result (IsChange tree.old call.now p) }
     ensures tree { OnOk result (tree.new ≡ tree_of tree.old call.now p) }
     ensures err { OnErr result (tree.new ≡ tree.old) }
-    ensures sane { IsSane tree.new }
 {
     match p {
         NfsProcedure::Setattr => change::<SetattrArgs>(alloc, tree, call),
@@ -100,13 +96,11 @@ pub(crate) fn run(
     p: NfsProcedure,
     call: &Call,
 ) -> Result<Change, Memory>
-    requires sane { IsSane tree.old }
     requires bounded { IsBounded tree.old }
     requires space { IsWithinCapacity call.now.space }
     ensures result { IfOk result (IsChange tree.old call.now p) }
     ensures tree { OnOk result (tree.new ≡ tree_of tree.old call.now p) }
     ensures err { OnErr result (tree.new ≡ tree.old) }
-    ensures sane { IsSane tree.new }
 {
     if only_reads(p) {
         return Ok(Change {

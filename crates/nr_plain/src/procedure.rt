@@ -11,7 +11,6 @@ pub(crate) trait Reading: Xdr {
     ghost use Rattle.std.specs.Prelude.{◌≡◌, IfOk};
     ghost use Rattle.nr_nfs_base.specs.declared.caller.Caller.{Caller};
     ghost use Rattle.nr_tree.specs.Tree.{Tree};
-    ghost use Rattle.nr_tree.specs.Sane.{IsSane};
     ghost use Rattle.nr_tree.specs.declared.rules.Space.{Space};
 
     /// What the procedure answers.
@@ -22,7 +21,6 @@ pub(crate) trait Reading: Xdr {
 
     /// Gives the results.
     fn execute(self, alloc: Global, tree: &Tree, call: &Call) -> Result<Self::Results, Memory>
-        requires { IsSane tree.now }
         ensures { IfOk result (λ r. r ≡ results tree.now call.now.caller.now call.now.space self) };
 }
 
@@ -36,7 +34,6 @@ pub(crate) trait Changing: Xdr {
     ghost use Rattle.nr_nfs_base.specs.declared.time.Time.{Time};
     ghost use Rattle.nr_nfs_res.specs.Results.{nfs_result};
     ghost use Rattle.nr_tree.specs.Rules.{IsWithinCapacity};
-    ghost use Rattle.nr_tree.specs.Sane.{IsSane};
     ghost use Rattle.nr_tree.specs.Steps.{IsBounded};
     ghost use Rattle.nr_tree.specs.Tree.{Tree};
     ghost use Rattle.nr_tree.specs.declared.rules.Space.{Space};
@@ -61,13 +58,11 @@ pub(crate) trait Changing: Xdr {
         tree: &mut Tree,
         call: &Call,
     ) -> Result<StatusUnion<Self::Done, Self::Failed>, Memory>
-        requires sane { IsSane tree.old }
         requires bounded { IsBounded tree.old }
         requires space { IsWithinCapacity call.now.space }
         ensures result { IfOk result (λ r. r ≡ results tree.old call.now.caller.now call.now.space call.now.time self) }
         // They fit into the room of a reply.
         ensures fits { IfOk result (λ r. length (encodings ((nfs_result Self.Done.codec Self.Failed.codec).items r)) ≤ most_results) }
         ensures tree { OnOk result (tree.new ≡ changed tree.old call.now.caller.now call.now.space call.now.time self) }
-        ensures err { OnErr result (tree.new ≡ tree.old) }
-        ensures sane { IsSane tree.new };
+        ensures err { OnErr result (tree.new ≡ tree.old) };
 }

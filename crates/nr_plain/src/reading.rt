@@ -2,7 +2,6 @@
 
 ghost use Rattle.std.specs.Prelude.{◌≡◌, IfOk};
 ghost use Rattle.nr_nfs_base.specs.Codec.{read_all};
-ghost use Rattle.nr_tree.specs.Sane.{IsSane};
 ghost use Rattle.nr_ops_file.specs.Attributes.{getattr_reply, access_reply};
 ghost use Rattle.nr_ops_file.specs.Links.{readlink_reply};
 ghost use Rattle.nr_ops_file.specs.Bytes.{read_reply, commit_reply};
@@ -33,7 +32,6 @@ use std::alloc::Global;
 
 /// The reply to a call of the procedure with these arguments.
 pub(crate) fn read<A: Reading>(alloc: Global, tree: &Tree, call: &Call) -> Result<Octets, Memory>
-    requires { IsSane tree.now }
     ensures { IfOk result (λ o. o ≡ reply_with call.now.xid A.Results.codec (A.results tree.now call.now.caller.now call.now.space) (read_all A.codec call.now.arguments.now)) }
 {
     match read_arguments::<A>(alloc, call.arguments)? {

@@ -6,7 +6,6 @@ ghost use Rattle.nr_nfs_base.specs.Codec.{read_all};
 ghost use Rattle.nr_nfs_base.specs.Procedures.{nfs_version, mount_version};
 ghost use Rattle.nr_reduce.specs.declared.mark.Entry.{Entry};
 ghost use Rattle.nr_rpc.specs.Reading.{call_of};
-ghost use Rattle.nr_tree.specs.Sane.{IsSane};
 ghost use Rattle.nr_tree.specs.Rules.{IsWithinCapacity, entry_cost as cost_of_entry};
 ghost use Rattle.nr_tree.specs.Steps.{IsBelow, IsBounded};
 ghost use Rattle.nr_plain.specs.Setup.{Setup, Parameters, caller_of, space_of, time_of};
@@ -80,12 +79,12 @@ impl Server {
     /// A server of a tree, with an empty journal. `capacity` is what the journal may cost, `export` the path that may be mounted.
     /// `Tree::root_only` and `Tree::drill` give trees as it asks for.
     pub fn open(tree: Tree, capacity: u64, verifier: Verifier, export: Octets) -> Server
-        requires sane { IsSane tree }
         // The next number and each next cookie: each entry of the journal raises them by one at most, so they stay below 2^63.
         requires below { IsBelow (2 ^ 62) tree }
         requires capacity { capacity < 2 ^ 63 }
         ensures { RepresentsJournal (record { tree = tree; parameters = record { capacity = capacity; verifier = verifier; export = export } }) [] result }
     {
+        tree.facts();
         Server {
             tree,
             count: 0,
@@ -158,6 +157,7 @@ impl Server {
     {
         let space = self.space(request.arguments);
         let change = executed(alloc, &mut self.tree, space, request, p)?;
+        self.tree.facts();
         if change.is_entry {
             self.count += 1;
             self.cost += entry_cost(request.arguments);
@@ -307,14 +307,12 @@ fn executed(
     request: &Request,
     p: NfsProcedure,
 ) -> Result<Change, Memory>
-    requires sane { IsSane tree.old }
     requires bounded { IsBounded tree.old }
     requires space { IsWithinCapacity space }
     ensures result { IfOk result (λ r. (r.reply ≡ reply_from request.now.xid tree.old (caller_of request.now.cred.now) space (time_of request.now.moment) p (read_all (nfs_arguments_codec p) request.now.arguments.now))
         × (r.is_entry ≡ changes_from tree.old (caller_of request.now.cred.now) space (time_of request.now.moment) p (read_all (nfs_arguments_codec p) request.now.arguments.now))) }
     ensures tree { OnOk result (tree.new ≡ tree_from tree.old (caller_of request.now.cred.now) space (time_of request.now.moment) p (read_all (nfs_arguments_codec p) request.now.arguments.now)) }
     ensures err { OnErr result (tree.new ≡ tree.old) }
-    ensures sane { IsSane tree.new }
 {
     let caller = caller(alloc, request.cred)?;
     let call = Call {

@@ -2,7 +2,7 @@
 
 ghost use Rattle.std.specs.Prelude.{◌≡◌, true, false, None};
 ghost use Rattle.nr_tree.specs.DirectoryGraph.{LiesBelow};
-ghost use Rattle.nr_tree.specs.Sane.{IsSane, skeleton};
+ghost use Rattle.nr_tree.specs.Sane.{skeleton};
 ghost use Rattle.nr_tree.specs.Steps.{is_dir_at};
 ghost use Rattle.nr_tree.specs.Within.{is_within as is_within_by_walk};
 
@@ -14,12 +14,12 @@ impl Tree {
     /// Whether a directory is `top` or lies below it: what RENAME asks of a directory that is moved (RFC 1813 section
     /// 3.3.14). Takes no memory.
     pub fn is_within(&self, dir: u64, top: u64) -> bool
-        requires sane { IsSane self.now }
         requires directory { is_dir_at self.now dir ≡ true }
         ensures walk { result ≡ is_within_by_walk (skeleton self.now) dir top }
         ensures below { result ≡ true → LiesBelow (skeleton self.now) None dir top }
         ensures apart { result ≡ false → LiesBelow (skeleton self.now) None dir top → ⊥ }
     {
+        self.facts();
         self.is_within_inner(dir, top)
     }
 

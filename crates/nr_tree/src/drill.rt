@@ -3,7 +3,6 @@
 ghost use Rattle.std.specs.Prelude.{◌≡◌, ◌+◌, ◌/◌, ◌%◌, ◌<◌, ◌^◌, [], ◌∷◌, IfOk, OnOk, OnErr};
 ghost use Rattle.nr_tree.specs.Changes.{tree_with_node};
 ghost use Rattle.nr_tree.specs.Drill.{time_zero, drill_node, mode_666, mode_777, file_name, with_root, with_hello, with_link, with_many, IsDrill, IsDrillWith};
-ghost use Rattle.nr_tree.specs.Sane.{IsSane};
 ghost use Rattle.nr_tree.specs.Steps.{CanAddNode, IsBelow, IsBounded};
 ghost use Rattle.nr_tree.specs.declared.node.Content.TheVariants.{Regular as RegularNode, Directory as DirectoryNode, Link as LinkNode};
 
@@ -25,7 +24,6 @@ impl Tree {
     /// files `f00` to `f99`; numbers 1 to 104, the next one 105. Everything is of uid 0 and gid 0, with all times zero.
     pub fn drill(alloc: Global) -> Result<Tree, Memory>
         ensures ok { IfOk result IsDrill }
-        ensures sane { IfOk result IsSane }
         // The next number and each next cookie, as a server needs it that opens with the tree.
         ensures below { IfOk result (IsBelow 106) }
     {
@@ -79,9 +77,7 @@ fn directory(alloc: Global, parent: u64) -> Node
 /// The file `hello`.
 fn add_hello(tree: &mut Tree, alloc: Global) -> Result<(), Memory>
     requires before { tree.old ≡ with_root }
-    requires sane { IsSane tree.old }
-    ensures ok { OnOk result (tree.new ≡ with_hello) }
-    ensures sane { IsSane tree.new }
+    ensures { OnOk result (tree.new ≡ with_hello) }
 {
     let name = Vec::from_slice(alloc, b"hello")?;
     let hello = file(alloc, 1, b"hello")?;
@@ -92,9 +88,7 @@ fn add_hello(tree: &mut Tree, alloc: Global) -> Result<(), Memory>
 /// The symbolic link `link`.
 fn add_link(tree: &mut Tree, alloc: Global) -> Result<(), Memory>
     requires before { tree.old ≡ with_hello }
-    requires sane { IsSane tree.old }
-    ensures ok { OnOk result (tree.new ≡ with_link) }
-    ensures sane { IsSane tree.new }
+    ensures { OnOk result (tree.new ≡ with_link) }
 {
     let name = Vec::from_slice(alloc, b"link")?;
     let link = symbolic_link(alloc, 1, b"hello")?;
@@ -105,9 +99,7 @@ fn add_link(tree: &mut Tree, alloc: Global) -> Result<(), Memory>
 /// The directory `many`.
 fn add_many(tree: &mut Tree, alloc: Global) -> Result<(), Memory>
     requires before { tree.old ≡ with_link }
-    requires sane { IsSane tree.old }
-    ensures ok { OnOk result (tree.new ≡ with_many) }
-    ensures sane { IsSane tree.new }
+    ensures { OnOk result (tree.new ≡ with_many) }
 {
     let name = Vec::from_slice(alloc, b"many")?;
     tree.add_node(1, name, directory(alloc, 1), START)?;
@@ -116,9 +108,7 @@ fn add_many(tree: &mut Tree, alloc: Global) -> Result<(), Memory>
 
 fn add_root_entries(tree: &mut Tree, alloc: Global) -> Result<(), Memory>
     requires before { tree.old ≡ with_root }
-    requires sane { IsSane tree.old }
     ensures drill { OnOk result (IsDrillWith 0 tree.new) }
-    ensures sane { IsSane tree.new }
     ensures below { OnOk result (IsBelow 6 tree.new) }
 {
     add_hello(tree, alloc)?;
@@ -129,11 +119,9 @@ fn add_root_entries(tree: &mut Tree, alloc: Global) -> Result<(), Memory>
 /// The file of this number in `many`.
 fn add_file(tree: &mut Tree, alloc: Global, count: u8) -> Result<(), Memory>
     requires drill { IsDrillWith count tree.old }
-    requires sane { IsSane tree.old }
     requires below { IsBelow (count + 6) tree.old }
     requires few { count < 100 }
     ensures drill { OnOk result (IsDrillWith (count + 1) tree.new) }
-    ensures sane { IsSane tree.new }
     ensures below { OnOk result (IsBelow (count + 7) tree.new) }
 {
     let name = [b'f', b'0' + count / 10, b'0' + count % 10];
@@ -146,10 +134,8 @@ fn add_file(tree: &mut Tree, alloc: Global, count: u8) -> Result<(), Memory>
 /// A hundred files in `many`.
 fn add_files(tree: &mut Tree, alloc: Global) -> Result<(), Memory>
     requires drill { IsDrillWith 0 tree.old }
-    requires sane { IsSane tree.old }
     requires below { IsBelow 6 tree.old }
     ensures drill { OnOk result (IsDrill tree.new) }
-    ensures sane { IsSane tree.new }
     ensures below { OnOk result (IsBelow 106 tree.new) }
 {
     for count in 0..100 {

@@ -19,7 +19,7 @@ mod node;
 mod nodes;
 mod replies;
 mod rules;
-mod steps;
+mod table;
 mod tree;
 
 pub use directory::{Directory, Slot};

@@ -1,161 +1,120 @@
-//! The tree.
+//! The tree: nodes by number that are consistent, and the steps of the procedures.
 
-ghost use Rattle.std.specs.Prelude.{◌≡◌, ◌≢◌, ◌+◌, ◌^◌, ◌<◌, ◌≤◌, ℕ, IsTrue, SomeIff, IfSome, length, IfOk, OnOk, OnErr, MatchResult, None, Some};
-ghost use Rattle.std.specs.Option.{option_copied, option_map};
-ghost use Rattle.std.specs.Ordering.{nat_cmp};
+ghost use Rattle.std.specs.Prelude.{◌≡◌, ◌+◌, ◌≤◌, true, length, IfOk, OnOk, OnErr};
+ghost use Rattle.std.specs.Option.{option_copied};
 ghost use Rattle.std.specs.FinMap as map;
 
-use crate::directory::Directory;
-use crate::node::{Content, Metadata, Node};
-use crate::nodes::{
-    Move, add_entry_to, add_link_to, drop_name_of, find, insert, insert_with_entry, is_dir_at,
-    number_in, remove_entry_from, rename_over, rename_to_free, set_metadata_of, size_node,
-    write_node,
-};
+use crate::node::{Metadata, Node};
+use crate::table::NodeTable;
 use nr_nfs_base::Time;
 use nr_xdr::Memory;
-use std::alloc::{AllocError, Global};
-use std::collections::BTreeMap;
+use std::alloc::Global;
 use std::marker::Model;
 
-/// The nodes by number, and the next number.
+/// The files of a server: nodes by number, and the next number. What holds of every tree is its invariant.
 #[derive(Drop)]
 pub struct Tree {
-    next: u64,
-    nodes: BTreeMap<u64, Node>,
+    table: NodeTable,
 }
 
 impl Model for Tree {
-    ghost use Rattle.std.specs.FinMap as map;
-    ghost use Rattle.nr_tree.specs.Tree.{Tree, nodes_of};
+    ghost use Rattle.nr_tree.specs.Tree.{Tree};
     ghost use Rattle.nr_tree.specs.Code.{tree_code};
+    ghost use Rattle.nr_tree.specs.Sane.{IsSane};
 
     ghost Value = { Tree };
 
     ghost coded = { tree_code };
 
-    ghost view = { λ t. record { next = t.next; nodes = nodes_of t.nodes.entries } };
+    ghost view = { λ t. t.table };
+
+    ghost invariant = { λ t. IsSane t.table };
 }
 
 impl Tree {
-    ghost use Rattle.nr_tree.specs.Tree.{Tree, is_dir as is_directory, is_regular as is_regular_file};
-    ghost use Rattle.nr_tree.specs.Changes.{tree_with_node, tree_without_entry, tree_with_link, tree_with_bytes, tree_with_size, tree_with_metadata, tree_with_new_name};
-    ghost use Rattle.nr_tree.specs.private.Room.{HasRoomFor};
+    ghost use Rattle.nr_tree.specs.Sane.{IsSane, file_size_max};
     ghost use Rattle.nr_tree.specs.Roots.{root_only as root_alone};
-    ghost use Rattle.nr_tree.specs.Sane.{IsSane};
-    ghost use Rattle.nr_tree.specs.Steps.{IsBelow, IsBounded, CanRename};
+    ghost use Rattle.nr_tree.specs.Steps.{IsBelow, IsBounded, CanAddNode, CanAddLink, CanRemoveEntry, CanRename, is_regular_at, links_at};
+    ghost use Rattle.nr_tree.specs.Changes.{tree_with_node, tree_without_entry, tree_with_link, tree_with_bytes, tree_with_size, tree_with_metadata, tree_with_new_name};
 
     /// The tree with a root alone, which is made now: number 1, mode 0777, uid 0, gid 0. The next number is 2.
     pub fn root_only(alloc: Global, now: Time) -> Result<Tree, Memory>
         ensures ok { IfOk result (λ t. t ≡ root_alone now) }
-        ensures sane { IfOk result IsSane }
         // The next number and each next cookie, as a server needs it that opens with the tree.
         ensures below { IfOk result (IsBelow 3) }
     {
-        let mut nodes = BTreeMap::new(alloc);
-        insert(&mut nodes, 1, root_node(alloc, now))?;
-        Ok(Tree { next: 2, nodes })
+        let table = NodeTable::root_only(alloc, now)?;
+        Ok(Tree { table })
+    }
+
+    /// What holds of every tree, for the proofs of its users. It does nothing.
+    pub fn facts(&self)
+        ensures { IsSane self.now }
+    {
+        let _ = &self.table;
     }
 
     /// The node under a number.
     pub fn get(&self, number: u64) -> Option<&Node>
         ensures { option_copied result ≡ map.get self.now.nodes number }
     {
-        find(&self.nodes, number)
+        self.table.get(number)
     }
 
     /// The next number to be given.
     pub fn next(&self) -> u64
         ensures { result ≡ self.now.next }
     {
-        self.next
+        self.table.next()
     }
 
-    /// A new node under the next number, and its entry in a directory. After an `Err` the tree is as before.
-    pub(crate) fn add_node_inner(
+    /// Puts a new node under the next number, and an entry for it last into a directory, which is changed now (CREATE,
+    /// MKDIR, SYMLINK and MKNOD, RFC 1813 sections 3.3.8 to 3.3.11). Gives the number. After an `Err` the tree is as before.
+    pub fn add_node(
         &mut self,
         dir: u64,
         name: Vec<u8>,
         node: Node,
         now: Time,
     ) -> Result<u64, Memory>
-        requires fresh { map.get self.old.nodes self.old.next ≡ None }
-        requires number { self.old.next < 2 ^ 63 }
-        requires other { dir ≢ self.old.next }
-        requires free { IfSome (map.get self.old.nodes dir) (λ n. HasRoomFor name.items n) }
+        requires bounded { IsBounded self.old }
+        requires allowed { CanAddNode self.old dir name.items node }
         ensures number { IfOk result (λ n. n ≡ self.old.next) }
         ensures ok { OnOk result (self.new ≡ tree_with_node self.old now dir name.items node) }
         ensures err { OnErr result (self.new ≡ self.old) }
     {
-        let number = self.next;
-        insert_with_entry(&mut self.nodes, number, node, dir, name, now)?;
-        self.next += 1;
-        Ok(number)
+        self.table.add_node(dir, name, node, now)
     }
 
-    /// Takes an entry out of a directory, and its node away with its last link. Takes no memory.
-    pub(crate) fn remove_entry_inner(&mut self, dir: u64, name: &[u8], number: u64, now: Time)
-        requires is { IfSome (map.get self.old.nodes dir) (λ n. IsTrue (is_directory n) × (1 ≤ n.metadata.links)) }
-        requires counted { number ≢ dir }
-        requires linked { IfSome (map.get self.old.nodes number) (λ n. 0 < n.metadata.links) }
-        ensures { self.new ≡ tree_without_entry self.old now dir name.now number }
-    {
-        let is_subdirectory = is_dir_at(&self.nodes, number);
-        remove_entry_from(&mut self.nodes, dir, name, is_subdirectory, now);
-        drop_name_of(&mut self.nodes, number, now);
-    }
-
-    /// Writes over the bytes of a regular file from an offset on; no bytes change nothing. After an `Err` the tree is as
-    /// before.
-    pub(crate) fn write_inner(
-        &mut self,
-        number: u64,
-        offset: u64,
-        bytes: &[u8],
-        now: Time,
-    ) -> Result<(), Memory>
-        requires regular { IfSome (map.get self.old.nodes number) (λ n. IsTrue (is_regular_file n)) }
-        requires room { offset + length bytes.now < 2 ^ 62 }
-        ensures ok { OnOk result (self.new ≡ tree_with_bytes self.old now number offset bytes.now) }
-        ensures err { OnErr result (self.new ≡ self.old) }
-    {
-        if bytes.is_empty() {
-            return Ok(());
-        }
-        write_node(&mut self.nodes, number, offset, bytes, now)
-    }
-
-    /// Cuts a regular file, or adds zeros. After an `Err` the tree is as before.
-    pub(crate) fn set_size_inner(&mut self, number: u64, size: u64, now: Time) -> Result<(), Memory>
-        requires regular { IfSome (map.get self.old.nodes number) (λ n. IsTrue (is_regular_file n)) }
-        requires room { size < 2 ^ 62 }
-        ensures ok { OnOk result (self.new ≡ tree_with_size self.old now number size) }
-        ensures err { OnErr result (self.new ≡ self.old) }
-    {
-        size_node(&mut self.nodes, number, size, now)
-    }
-
-    /// One more entry of a file, and its link. After an `Err` the tree is as before.
-    pub(crate) fn add_link_inner(
+    /// Puts one more entry for a file last into a directory (LINK, section 3.3.15). The file has a link more. After an
+    /// `Err` the tree is as before.
+    pub fn add_link(
         &mut self,
         dir: u64,
         name: Vec<u8>,
         number: u64,
         now: Time,
     ) -> Result<(), Memory>
-        requires other { dir ≢ number }
-        requires free { IfSome (map.get self.old.nodes dir) (λ n. HasRoomFor name.items n) }
-        requires links { IfSome (map.get self.old.nodes number) (λ n. n.metadata.links < 2 ^ 31) }
+        requires bounded { IsBounded self.old }
+        requires allowed { CanAddLink self.old dir name.items number }
         ensures ok { OnOk result (self.new ≡ tree_with_link self.old now dir name.items number) }
         ensures err { OnErr result (self.new ≡ self.old) }
     {
-        add_entry_to(&mut self.nodes, dir, name, number, false, now)?;
-        add_link_to(&mut self.nodes, number, dir, now);
-        Ok(())
+        self.table.add_link(dir, name, number, now)
     }
 
-    /// A node under another name. After an `Err` the tree is as before.
-    pub(crate) fn rename_inner(
+    /// Takes an entry out of a directory (REMOVE and RMDIR, sections 3.3.12 and 3.3.13). The node that it named has a link
+    /// less, and is removed if that was its last one or if it is a directory. Takes no memory.
+    pub fn remove_entry(&mut self, dir: u64, name: &[u8], number: u64, now: Time)
+        requires allowed { CanRemoveEntry self.old dir name.now number }
+        ensures tree { self.new ≡ tree_without_entry self.old now dir name.now number }
+    {
+        self.table.remove_entry(dir, name, number, now);
+    }
+
+    /// Gives a node another name (RENAME, section 3.3.14). An old node under the new name loses its entry; the entry of the old
+    /// name goes, and one of the new name is put last. After an `Err` the tree is as before.
+    pub fn rename(
         &mut self,
         from: u64,
         name: &[u8],
@@ -164,56 +123,40 @@ impl Tree {
         number: u64,
         now: Time,
     ) -> Result<(), Memory>
-        requires sane { IsSane self.old }
         requires bounded { IsBounded self.old }
         requires allowed { CanRename self.old from name.now to name_to.items number }
         ensures ok { OnOk result (self.new ≡ tree_with_new_name self.old now from name.now to name_to.items number) }
         ensures err { OnErr result (self.new ≡ self.old) }
     {
-        let is_subdirectory = is_dir_at(&self.nodes, number);
-        let step = Move {
-            from,
-            to,
-            number,
-            is_subdirectory,
-            now,
-        };
-        match number_in(&self.nodes, to, name_to.as_slice()) {
-            None => rename_to_free(&mut self.nodes, step, name, name_to),
-            Some(target) => {
-                rename_over(&mut self.nodes, step, name, name_to, target);
-                Ok(())
-            }
-        }
+        self.table.rename(from, name, to, name_to, number, now)
     }
 
-    /// The node under a number with other attributes. Takes no memory.
-    pub(crate) fn set_metadata_inner(&mut self, number: u64, metadata: Metadata)
-        ensures { self.new ≡ tree_with_metadata self.old number metadata }
+    /// Writes over the bytes of a regular file from an offset on; a gap before it becomes zeros (WRITE, section 3.3.7).
+    /// No bytes leave the file as it is, its size and its times too. After an `Err` the tree is as before.
+    pub fn write(&mut self, number: u64, offset: u64, bytes: &[u8], now: Time) -> Result<(), Memory>
+        requires regular { is_regular_at self.old number ≡ true }
+        requires limit { offset + length bytes.now ≤ file_size_max }
+        ensures ok { OnOk result (self.new ≡ tree_with_bytes self.old now number offset bytes.now) }
+        ensures err { OnErr result (self.new ≡ self.old) }
     {
-        set_metadata_of(&mut self.nodes, number, metadata);
+        self.table.write(number, offset, bytes, now)
+    }
+
+    /// Cuts a regular file, or adds zeros (SETATTR, section 3.3.2). After an `Err` the tree is as before.
+    pub fn set_size(&mut self, number: u64, size: u64, now: Time) -> Result<(), Memory>
+        requires regular { is_regular_at self.old number ≡ true }
+        requires limit { size ≤ file_size_max }
+        ensures ok { OnOk result (self.new ≡ tree_with_size self.old now number size) }
+        ensures err { OnErr result (self.new ≡ self.old) }
+    {
+        self.table.set_size(number, size, now)
+    }
+
+    /// Gives a node other attributes, with as many links as before (SETATTR, section 3.3.2). Takes no memory.
+    pub fn set_metadata(&mut self, number: u64, metadata: Metadata)
+        requires links { metadata.links ≡ links_at self.old number }
+        ensures tree { self.new ≡ tree_with_metadata self.old number metadata }
+    {
+        self.table.set_metadata(number, metadata);
     }
 }
-
-/// The root of a tree that is made now.
-fn root_node(alloc: Global, now: Time) -> Node
-    ensures { result ≡ new_root now }
-{
-    let metadata = Metadata {
-        mode: 0o777,
-        links: 2,
-        uid: 0,
-        gid: 0,
-        atime: now,
-        mtime: now,
-        ctime: now,
-    };
-    Node {
-        metadata,
-        parent: 1,
-        verifier: None,
-        content: Content::Directory(Directory::new(alloc)),
-    }
-}
-
-ghost use Rattle.nr_tree.specs.Roots.{root_node as new_root};

@@ -1,7 +1,6 @@
 //! The drill's tree, number by number, its look-ups and its listings.
 
 ghost use Rattle.std.specs.Prelude.{◌≡◌};
-ghost use Rattle.nr_tree.specs.Sane.{IsSane};
 ghost use Rattle.nr_tree.specs.Drill.{IsDrill};
 
 use crate::compare::same;
@@ -135,7 +134,6 @@ fn drill_tree(rt: HostRuntime) {
 /// Whether `many` lies within the root, and the root within `many`.
 fn within(tree: &Tree) -> (bool, bool)
     requires drill { IsDrill tree.now }
-    requires sane { IsSane tree.now }
 {
     (tree.is_within(4, 1), tree.is_within(1, 4))
 }

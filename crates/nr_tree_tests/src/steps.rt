@@ -1,7 +1,6 @@
 //! The steps of a tree, each tried once on the drill's tree.
 
 ghost use Rattle.std.specs.Prelude.{◌≡◌};
-ghost use Rattle.nr_tree.specs.Sane.{IsSane};
 ghost use Rattle.nr_tree.specs.Steps.{IsBounded};
 ghost use Rattle.nr_tree.specs.Drill.{IsDrill};
 
@@ -26,7 +25,6 @@ fn name(rt: &impl Abort, alloc: Global, bytes: &[u8]) -> Vec<u8>
 /// `hello` in the root becomes `bye`.
 fn rename(rt: &impl Abort, alloc: Global, tree: &mut Tree)
     requires drill { IsDrill tree.old }
-    requires sane { IsSane tree.old }
     requires bounded { IsBounded tree.old }
 {
     let bye = name(rt, alloc, b"bye");
@@ -37,7 +35,6 @@ fn rename(rt: &impl Abort, alloc: Global, tree: &mut Tree)
 /// `hello` in the root becomes `link`, which is taken.
 fn rename_over(rt: &impl Abort, alloc: Global, tree: &mut Tree)
     requires drill { IsDrill tree.old }
-    requires sane { IsSane tree.old }
     requires bounded { IsBounded tree.old }
 {
     let link = name(rt, alloc, b"link");
@@ -48,7 +45,6 @@ fn rename_over(rt: &impl Abort, alloc: Global, tree: &mut Tree)
 /// `bye` in the root becomes another name of `hello`.
 fn link(rt: &impl Abort, alloc: Global, tree: &mut Tree)
     requires drill { IsDrill tree.old }
-    requires sane { IsSane tree.old }
     requires bounded { IsBounded tree.old }
 {
     let bye = name(rt, alloc, b"bye");
@@ -58,7 +54,6 @@ fn link(rt: &impl Abort, alloc: Global, tree: &mut Tree)
 /// `hello` is taken out of the root.
 fn remove(tree: &mut Tree)
     requires drill { IsDrill tree.old }
-    requires sane { IsSane tree.old }
 {
     tree.remove_entry(1, b"hello", 2, NOW);
 }
@@ -66,7 +61,6 @@ fn remove(tree: &mut Tree)
 /// Two bytes are written after `hello`, after a gap.
 fn write(rt: &impl Abort, tree: &mut Tree)
     requires drill { IsDrill tree.old }
-    requires sane { IsSane tree.old }
 {
     tree.write(2, 7, b"ab", NOW).expect(rt, "memory");
 }
@@ -74,7 +68,6 @@ fn write(rt: &impl Abort, tree: &mut Tree)
 /// `hello` is cut to three bytes.
 fn cut(rt: &impl Abort, tree: &mut Tree)
     requires drill { IsDrill tree.old }
-    requires sane { IsSane tree.old }
 {
     tree.set_size(2, 3, NOW).expect(rt, "memory");
 }

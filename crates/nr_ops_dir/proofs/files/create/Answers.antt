@@ -12,11 +12,11 @@ add_file-requires-clause-allowed c =
 
 pub use_existing_file-requires-clause-regular : goal.use_existing_file-requires-clause-regular
 use_existing_file-requires-clause-regular c =
-    λ size e. (can_set_size c.args.tree.now c.args.caller.now c.args.space.now c.args.args c.in-Ok-default-Some.number c.requires.sane c.in-Ok-default-Some.ensures.0 (sym c.in-Ok-default-Some.ensures.2 ∙ c.in-Ok-default-Some.field-0-1-is) size e).0
+    λ size e. (can_set_size c.args.tree.now c.args.caller.now c.args.space.now c.args.args c.in-Ok-default-Some.number c.facts.ensures c.in-Ok-default-Some.ensures.0 (sym c.in-Ok-default-Some.ensures.2 ∙ c.in-Ok-default-Some.field-0-1-is) size e).0
 
 pub use_existing_file-requires-clause-limit : goal.use_existing_file-requires-clause-limit
 use_existing_file-requires-clause-limit c =
-    λ size e. (can_set_size c.args.tree.now c.args.caller.now c.args.space.now c.args.args c.in-Ok-default-Some.number c.requires.sane c.in-Ok-default-Some.ensures.0 (sym c.in-Ok-default-Some.ensures.2 ∙ c.in-Ok-default-Some.field-0-1-is) size e).1
+    λ size e. (can_set_size c.args.tree.now c.args.caller.now c.args.space.now c.args.args c.in-Ok-default-Some.number c.facts.ensures c.in-Ok-default-Some.ensures.0 (sym c.in-Ok-default-Some.ensures.2 ∙ c.in-Ok-default-Some.field-0-1-is) size e).1
 
 pub returns-in-Ok-default-Some-clause-result : goal.returns-in-Ok-default-Some-clause-result
 returns-in-Ok-default-Some-clause-result c =

@@ -12,7 +12,7 @@ pub add_node-requires-clause-allowed : goal.add_node-requires-clause-allowed
 add_node-requires-clause-allowed c =
     subst (λ (n : List ℕ). CanAddNode c.args.tree.now 1 n c.in_ok-hello.hello) (sym c.in_ok-name.ensures.items) (allowed_as c.args.tree.now with_root c.in_ok-hello.hello _ 1 hello c.requires.before c.in_ok-hello.ensures can_add_hello)
 
-pub returns-clause-ok : goal.returns-clause-ok
-returns-clause-ok c =
+pub returns : goal.returns
+returns c =
     added_as c.args.tree.now with_root c.add_node.new.self c.in_ok-hello.hello _ 1 hello c.requires.before c.in_ok-hello.ensures
     (subst (λ (n : List ℕ). c.add_node.new.self ≡ tree_with_node c.args.tree.now time_zero 1 n c.in_ok-hello.hello) c.in_ok-name.ensures.items c.in_ok-add_node.ensures.ok)

@@ -12,7 +12,7 @@ pub add_node-requires-clause-allowed : goal.add_node-requires-clause-allowed
 add_node-requires-clause-allowed c =
     subst (λ (n : List ℕ). CanAddNode c.args.tree.now 1 n c.directory.result) (sym c.in_ok-name.ensures.items) (allowed_as c.args.tree.now with_link c.directory.result _ 1 many c.requires.before c.directory.ensures can_add_many)
 
-pub returns-clause-ok : goal.returns-clause-ok
-returns-clause-ok c =
+pub returns : goal.returns
+returns c =
     added_as c.args.tree.now with_link c.add_node.new.self c.directory.result _ 1 many c.requires.before c.directory.ensures
     (subst (λ (n : List ℕ). c.add_node.new.self ≡ tree_with_node c.args.tree.now time_zero 1 n c.directory.result) c.in_ok-name.ensures.items c.in_ok-add_node.ensures.ok)

@@ -6,7 +6,7 @@ use Rattle.nr_tree.specs.Sane.{IsSane}
 use Rattle.nr_tree.specs.Steps.{IsBounded, CanRename}
 use Rattle.nr_tree.specs.Changes.{entry_at, tree_with_new_name}
 use Rattle.nr_tree.proofs.RenameLemmas.{free_room, no_number, target_counted, target_there, target_left, target_over}
-use Rattle.nr_tree.proofs.tree.Tree.rename_inner.Goals as goal
+use Rattle.nr_tree.proofs.table.NodeTable.rename.Goals as goal
 
 pub rename_to_free-requires-clause-free : goal.rename_to_free-requires-clause-free
 rename_to_free-requires-clause-free c =

@@ -4,7 +4,7 @@ use Rattle.nr_tree.specs.Tree.{Tree, nodes_of, nodes_with_change}
 use Rattle.nr_tree.specs.declared.node.Node.{Node}
 use Rattle.nr_tree.specs.Changes.{tree_with_link, node_with_entry, node_with_link}
 use Rattle.nr_tree.proofs.NodeMaps.{stays_changed, changes_commute}
-use Rattle.nr_tree.proofs.tree.Tree.add_link_inner.Goals as goal
+use Rattle.nr_tree.proofs.table.NodeTable.add_link.Goals as goal
 
 pub add_link_to-requires : goal.add_link_to-requires
 add_link_to-requires c =

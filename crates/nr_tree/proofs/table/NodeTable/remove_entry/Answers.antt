@@ -4,7 +4,7 @@ use Rattle.nr_tree.specs.Tree.{Tree, nodes_of}
 use Rattle.nr_tree.specs.declared.node.Node.{Node}
 use Rattle.nr_tree.specs.Changes.{node_without_entry}
 use Rattle.nr_tree.proofs.NodeMaps.{stays_changed}
-use Rattle.nr_tree.proofs.tree.Tree.remove_entry_inner.Goals as goal
+use Rattle.nr_tree.proofs.table.NodeTable.remove_entry.Goals as goal
 
 pub drop_name_of-requires : goal.drop_name_of-requires
 drop_name_of-requires c =
