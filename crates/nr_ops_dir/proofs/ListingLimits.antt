@@ -1,5 +1,5 @@
 -- A listing that asks for more than the limit gives what the limit gives.
-use Rattle.std.proofs.Common.{◌≡◌, ℕ, ◌≤◌, min, Bool, true, false, ◌&&◌, leb, eqb, List, [], ◌∷◌, length, Option, refl, sym, ap, ◌∙◌, arith}
+use Rattle.std.proofs.Common.{◌≡◌, ℕ, ◌≤◌, min, Bool, true, false, ◌&&◌, leb, eqb, List, [], ◌∷◌, length, Option, ap, ◌∙◌, arith}
 use Rattle.std.proofs.lemmas.Bool.{le-leb}
 use Rattle.nr_xdr.specs.Items.{encodings}
 use Rattle.nr_nfs_base.specs.declared.attributes.Attributes.{Attributes}
@@ -16,7 +16,7 @@ use Rattle.nr_tree.specs.Tree.{Tree}
 use Rattle.nr_tree.specs.Rules.{first, on, answer, node_of_handle, handle_rule}
 use Rattle.nr_tree.specs.Replies.{attributes_at}
 use Rattle.nr_tree.specs.declared.node.Node.{Node}
-use Rattle.nr_ops_dir.specs.Readdir.{longest, listing_rules, room_rules, readdir_ok, readdir_left, readdir_fits, readdir_reply, readdirplus_ok, readdirplus_left, readdirplus_fits, readdirplus_reply, name_size, total}
+use Rattle.nr_ops_dir.specs.Readdir.{longest, listing_rules, room_rules, readdir_ok, readdir_left, readdir_fits, readdir_reply, readdirplus_ok, readdirplus_left, readdirplus_reply, name_size, total}
 
 pub within_limit : (t : Tree) (args : ReaddirArgs) (taken : List Entry) → args.count ≤ listing_max → length (encodings (readdir_ok_codec.items (readdir_ok t args.dir taken false))) ≤ args.count
     → readdir_fits t args taken ≡ true
