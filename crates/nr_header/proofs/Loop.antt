@@ -1,6 +1,8 @@
 -- Lists read element after element, as loops do.
-use Rattle.std.proofs.Common.{◌≡◌, ℕ, suc, ◌-◌, ◌+◌, ◌≤◌, ◌<◌, Bool, true, false, cond, Option, Some, None, List, [], ◌∷◌, ◌++◌, Result, Ok, Err, refl, sym, ap, ◌∙◌, append_assoc, arith}
+use Rattle.std.proofs.Common.{◌≡◌, ℕ, ◌-◌, ◌+◌, ◌≤◌, ◌<◌, Bool, true, false, cond, Option, Some, None, List, [], ◌∷◌, ◌++◌, Result, Ok, Err, refl, sym, ap, ◌∙◌, arith}
 use Rattle.nr_xdr.specs.Reading.{Cursor}
+use Rattle.nr_xdr.specs.declared.decode.DecodeError.{DecodeError}
+use Rattle.nr_xdr.specs.Matching.{MatchesRead, MatchesStep}
 use Rattle.nr_xdr.specs.Sequencing.{◌>>=◌}
 use Rattle.nr_xdr.proofs.Fronts.{with_front, regroup, nothing_before, none_behind, left_is, none_left}
 use Rattle.nr_header.specs.Constants.{CHUNK_SEGMENTS_MAX}
@@ -39,6 +41,12 @@ optional_then (Err at) element some none = refl
 front_alone : {A : Type 0} (front : List A) (end : Result Cursor ℕ) → with_front front (end >>= λ d. Ok ([], d)) ≡ (end >>= λ d. Ok (front, d))
 front_alone front (Ok d) = none_behind front d
 front_alone front (Err at) = refl
+
+-- the end of a list of which all elements are read
+pub ends_read : {A : Type 0} (read : Result (List A × Cursor) ℕ) (end : Result Cursor ℕ) (result : Result Unit DecodeError) (front : List A) (new : Cursor)
+    → MatchesStep result new end → read ≡ (end >>= λ d. Ok (front, d)) → MatchesRead (λ _. front) result new read
+ends_read read end (Ok x) front new step is = rw (is, step) refl
+ends_read read end (Err error) front new step is = rw (is, step) refl
 
 -- a read list whose first entries are read
 module _ (front : List ReadSegment) (count i : ℕ) (zero_allowed : Bool) (seen : ℕ) (c : Cursor) (total : Result (List ReadSegment × Cursor) ℕ) where

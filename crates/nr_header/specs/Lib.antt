@@ -1,7 +1,9 @@
 pub mod Storage
 pub mod Header
+pub mod Slices
 pub mod WithinLimits
 pub mod Constants
 pub mod Reading
 pub mod Kinds
 pub mod Length
+pub mod private

@@ -1,5 +1,7 @@
 //! The transport header as a value.
 
+ghost use Rattle.std.specs.Prelude.{◌≡◌, option_map};
+
 use crate::constants::{CHUNK_ROOM, READ_SEGMENTS_MAX, WRITE_CHUNKS_MAX};
 use crate::inline_vec::InlineVec;
 
@@ -56,6 +58,57 @@ pub struct ChunkLists {
     pub write: WriteList,
     /// The memory into which the rest of the reply is written, if it is long (RFC 8166 section 3.5).
     pub reply: Option<Chunk>,
+}
+
+/// The lists of chunks of a header that is written, borrowed (RFC 8166 section 3.4).
+#[derive(Clone, Copy)]
+pub struct ListSlices<'a> {
+    /// The entries of the read list.
+    pub read: &'a [ReadSegment],
+    /// The chunks of the write list.
+    pub write: &'a [Chunk],
+    /// The segments of the reply chunk, if there is one.
+    pub reply: Option<&'a [RdmaSegment]>,
+}
+
+/// The segments of a reply chunk, if there is one.
+fn segments_of(reply: &Option<Chunk>) -> Option<&[RdmaSegment]>
+    ensures { option_map (λ segments. segments.now) result ≡ reply.now }
+{
+    match reply {
+        Some(chunk) => Some(chunk.as_slice()),
+        None => None,
+    }
+}
+
+impl<'a> ListSlices<'a> {
+    ghost use Rattle.nr_header.specs.Slices.{lists_of_slices};
+
+    /// These lists.
+    pub fn new(
+        read: &'a [ReadSegment],
+        write: &'a [Chunk],
+        reply: &'a Option<Chunk>,
+    ) -> ListSlices<'a>
+        ensures { lists_of_slices result ≡ record { read = read.now; write = write.now; reply = reply.now } }
+    {
+        ListSlices {
+            read,
+            write,
+            reply: segments_of(reply),
+        }
+    }
+}
+
+impl ChunkLists {
+    ghost use Rattle.nr_header.specs.Slices.{lists_of_slices};
+
+    /// The lists, borrowed.
+    pub fn as_slices(&self) -> ListSlices<'_>
+        ensures { lists_of_slices result ≡ self.now }
+    {
+        ListSlices::new(self.read.as_slice(), self.write.as_slice(), &self.reply)
+    }
 }
 
 /// What follows the fixed words of a header (RFC 8166 section 4.2).

@@ -2,6 +2,7 @@
 
 ghost use Rattle.std.specs.Prelude.{◌≡◌, ◌+◌, ◌<◌, ◌≤◌, ◌^◌, [], ◌∷◌, ◌++◌, length, IsTrue, ◌↔◌};
 
+use crate::short_list::ShortList;
 use arrayvec::ArrayVec;
 use std::marker::Model;
 
@@ -14,7 +15,7 @@ pub struct InlineVec<T, const N: usize> {
 
 #[derive(Drop)]
 enum Storage<T, const N: usize> {
-    Inline(ArrayVec<T, N>),
+    Short(ShortList<T, N>),
     Long(Vec<T>),
 }
 
@@ -31,25 +32,28 @@ impl<T, const N: usize> Model for InlineVec<T, N> {
     ghost view = { λ f. items_of f.held };
 }
 
-impl<T: Default, const N: usize> InlineVec<T, N> {
+impl<T, const N: usize> InlineVec<T, N> {
     /// The empty list. Takes no memory.
     pub fn new() -> Self
         ensures { result ≡ [] }
     {
+        InlineVec::from_list(ShortList::new())
+    }
+
+    /// The elements of a list that was read. Takes no memory.
+    pub(crate) fn from_list(items: ShortList<T, N>) -> Self
+        ensures { result ≡ items }
+    {
         InlineVec {
-            held: Storage::Inline(ArrayVec::new()),
+            held: Storage::Short(items),
         }
     }
-}
 
-impl<T, const N: usize> InlineVec<T, N> {
     /// The elements of a short list. Takes no memory.
     pub fn from_short(items: ArrayVec<T, N>) -> Self
         ensures { result ≡ items.items }
     {
-        InlineVec {
-            held: Storage::Inline(items),
-        }
+        InlineVec::from_list(ShortList::from_items(items))
     }
 
     /// The elements of a vector. Takes no memory.
@@ -66,7 +70,7 @@ impl<T, const N: usize> InlineVec<T, N> {
         ensures { result.now ≡ self.now }
     {
         match &self.held {
-            Storage::Inline(items) => items.as_slice(),
+            Storage::Short(items) => items.as_slice(),
             Storage::Long(items) => items.as_slice(),
         }
     }

@@ -3,8 +3,8 @@
 //! The crate stands on `nr_xdr`. A header begins each message. It carries the XID, the credit value and the procedure
 //! (RDMA_MSG, RDMA_NOMSG or RDMA_ERROR), then the chunk lists (memory that the requester offers, or that the responder filled)
 //! or an error. [`read_header`] judges a complete message: its lists are within fixed limits, or it says why not and at which
-//! offset. [`write_header`] encodes any header, within the limits or not; [`write_plain`], [`write_with_lists`] and
-//! [`write_error`] do so without a [`Header`]. The crates above decide which chunks a call offers and what they carry.
+//! offset. [`write_header`] encodes any header, within the limits or not; [`write_plain`], [`write_with_lists`],
+//! [`write_with_slices`] and [`write_error`] do so without a [`Header`]. The crates above decide which chunks a call offers and what they carry.
 #![tactic(auto)]
 
 mod constants;
@@ -16,6 +16,7 @@ mod laws;
 mod length;
 mod lists;
 mod reading;
+mod short_list;
 mod writing;
 
 pub use constants::{
@@ -25,10 +26,11 @@ pub use constants::{
 };
 pub use fault::HeaderFault;
 pub use header::{
-    Body, Chunk, ChunkLists, Header, RdmaSegment, ReadList, ReadSegment, TransportError, WriteList,
+    Body, Chunk, ChunkLists, Header, ListSlices, RdmaSegment, ReadList, ReadSegment,
+    TransportError, WriteList,
 };
 pub use inline_vec::InlineVec;
 pub use laws::{bad_messages, header_round_trip, kinds_of_messages, lengths_of_headers};
 pub use length::{header_len, read_list_len, reply_chunk_len, write_chunk_len};
 pub use reading::{credit_of, read_header, xid_of};
-pub use writing::{write_error, write_header, write_plain, write_with_lists};
+pub use writing::{write_error, write_header, write_plain, write_with_lists, write_with_slices};

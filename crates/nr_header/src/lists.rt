@@ -1,17 +1,18 @@
 //! The lists of chunks, read (RFC 8166 section 4.3).
 
-ghost use Rattle.std.specs.Prelude.{◌≡◌, ◌+◌, ◌^◌, ◌<◌, ◌≤◌, nat_lt, length, false};
+ghost use Rattle.std.specs.Prelude.{◌≡◌, ◌+◌, ◌^◌, ◌<◌, ◌≤◌, nat_lt, [], length, false};
 ghost use Rattle.nr_header.specs.WithinLimits.{read_total};
 ghost use Rattle.nr_xdr.specs.Matching.{MatchesRead};
-ghost use Rattle.nr_header.specs.Reading.{optional_at, list_end_at, lists_after, is_allowed, other_position, entry_at, read_list_at, segments_at, chunk_at, write_list_at, reply_chunk_at, lists_at};
+ghost use Rattle.nr_header.specs.Reading.{optional_at, lists_after, is_allowed, other_position, entry_at, read_list_at, segments_at, chunk_at, write_list_at, reply_chunk_at, lists_at};
+ghost use Rattle.nr_header.specs.private.ListsRead.{lists_of, nothing_read};
 
 use crate::constants::{
     CHUNK_ROOM, CHUNK_SEGMENTS_MAX, READ_SEGMENTS_MAX, REPLY_SEGMENTS_MAX, WRITE_CHUNKS_MAX,
 };
-use crate::header::{Chunk, ChunkLists, ReadList, ReadSegment, WriteList};
+use crate::header::{Chunk, ChunkLists, RdmaSegment, ReadSegment};
 use crate::inline_vec::InlineVec;
 use crate::item::{end, more, segment};
-use arrayvec::ArrayVec;
+use crate::short_list::ShortList;
 use nr_xdr::{DecodeError, Reader, number};
 
 /// Whether an entry may have this position, if `seen` is the position other than 0 among the entries before it.
@@ -71,42 +72,39 @@ fn next_entry(
     }
 }
 
-/// Reads the end of a list with these elements.
-fn list_end<T: Drop, const N: usize>(
+fn read_list(
     reader: &mut Reader<'_>,
-    items: ArrayVec<T, N>,
-) -> Result<InlineVec<T, N>, DecodeError>
-    ensures { MatchesRead (λ l. l) result reader.new (list_end_at items.items reader.old) }
+    zero_allowed: bool,
+    entries: &mut ShortList<ReadSegment, READ_SEGMENTS_MAX>,
+) -> Result<(), DecodeError>
+    requires { entries.old ≡ [] }
+    ensures { MatchesRead (λ _. entries.new) result reader.new (read_list_at READ_SEGMENTS_MAX zero_allowed 0 reader.old) }
 {
-    end(reader)?;
-    Ok(InlineVec::from_short(items))
-}
-
-fn read_list(reader: &mut Reader<'_>, zero_allowed: bool) -> Result<ReadList, DecodeError>
-    ensures { MatchesRead (λ l. l) result reader.new (read_list_at READ_SEGMENTS_MAX zero_allowed 0 reader.old) }
-{
-    let mut entries = ArrayVec::new();
     let mut seen = 0;
     for _ in 0..READ_SEGMENTS_MAX {
         let Some(entry) = next_entry(reader, zero_allowed, seen)? else {
-            return Ok(InlineVec::from_short(entries));
+            return Ok(());
         };
         seen = other_position(seen, entry.position);
         entries.push(entry);
     }
-    list_end(reader, entries)
+    end(reader)
 }
 
-fn segments(reader: &mut Reader<'_>, count: u32) -> Result<Chunk, DecodeError>
-    requires { count ≤ CHUNK_ROOM }
-    ensures { MatchesRead (λ c. c) result reader.new (segments_at count reader.old) }
+fn segments(
+    reader: &mut Reader<'_>,
+    count: u32,
+    items: &mut ShortList<RdmaSegment, CHUNK_ROOM>,
+) -> Result<(), DecodeError>
+    requires count { count ≤ CHUNK_ROOM }
+    requires empty { items.old ≡ [] }
+    ensures { MatchesRead (λ _. items.new) result reader.new (segments_at count reader.old) }
 {
-    let mut segments = ArrayVec::new();
     for _ in 0..count {
         let place = reader.at();
-        segments.push(segment(reader, place)?);
+        items.push(segment(reader, place)?);
     }
-    Ok(InlineVec::from_short(segments))
+    Ok(())
 }
 
 /// Reads a chunk of at most `max` segments.
@@ -120,7 +118,9 @@ fn chunk(reader: &mut Reader<'_>, max: usize) -> Result<Chunk, DecodeError>
     if count as usize > max {
         return Err(DecodeError { at });
     }
-    segments(reader, count)
+    let mut items = ShortList::new();
+    segments(reader, count, &mut items)?;
+    Ok(InlineVec::from_list(items))
 }
 
 /// Reads a chunk of at most `max` segments after the word 1, or the word 0 instead.
@@ -135,17 +135,20 @@ fn optional_chunk(reader: &mut Reader<'_>, max: usize) -> Result<Option<Chunk>, 
     }
 }
 
-fn write_list(reader: &mut Reader<'_>) -> Result<WriteList, DecodeError>
-    ensures { MatchesRead (λ l. l) result reader.new (write_list_at WRITE_CHUNKS_MAX reader.old) }
+fn write_list(
+    reader: &mut Reader<'_>,
+    chunks: &mut ShortList<Chunk, WRITE_CHUNKS_MAX>,
+) -> Result<(), DecodeError>
+    requires { chunks.old ≡ [] }
+    ensures { MatchesRead (λ _. chunks.new) result reader.new (write_list_at WRITE_CHUNKS_MAX reader.old) }
 {
-    let mut chunks = ArrayVec::new();
     for _ in 0..WRITE_CHUNKS_MAX {
         let Some(chunk) = optional_chunk(reader, CHUNK_SEGMENTS_MAX)? else {
-            return Ok(InlineVec::from_short(chunks));
+            return Ok(());
         };
         chunks.push(chunk);
     }
-    list_end(reader, chunks)
+    end(reader)
 }
 
 #[tactic(auto, unfolding(crate::specs::Reading::reply_chunk_at))]
@@ -155,20 +158,58 @@ fn reply_chunk(reader: &mut Reader<'_>) -> Result<Option<Chunk>, DecodeError>
     optional_chunk(reader, REPLY_SEGMENTS_MAX)
 }
 
-/// Reads the lists that follow this read list.
-fn lists_after(reader: &mut Reader<'_>, read: ReadList) -> Result<ChunkLists, DecodeError>
-    ensures { MatchesRead (λ l. l) result reader.new (lists_after read reader.old) }
+/// The room into which lists are read, so that they are not moved meanwhile.
+#[derive(Drop)]
+pub(crate) struct ListsRead {
+    pub(crate) read: ShortList<ReadSegment, READ_SEGMENTS_MAX>,
+    pub(crate) write: ShortList<Chunk, WRITE_CHUNKS_MAX>,
+    pub(crate) reply: Option<Chunk>,
+}
+
+impl ListsRead {
+    /// Room in which nothing was read.
+    pub(crate) fn new() -> ListsRead
+        ensures { result ≡ nothing_read }
+    {
+        ListsRead {
+            read: ShortList::new(),
+            write: ShortList::new(),
+            reply: None,
+        }
+    }
+
+    /// The lists that were read.
+    pub(crate) fn into_lists(self) -> ChunkLists
+        ensures { result ≡ lists_of self }
+    {
+        ChunkLists {
+            read: InlineVec::from_list(self.read),
+            write: InlineVec::from_list(self.write),
+            reply: self.reply,
+        }
+    }
+}
+
+/// Reads the lists that follow the read list.
+fn lists_after(reader: &mut Reader<'_>, room: &mut ListsRead) -> Result<(), DecodeError>
+    requires { room.old.write ≡ [] }
+    ensures { MatchesRead (λ _. lists_of room.new) result reader.new (lists_after room.old.read reader.old) }
 {
-    let write = write_list(reader)?;
-    let reply = reply_chunk(reader)?;
-    Ok(ChunkLists { read, write, reply })
+    write_list(reader, &mut room.write)?;
+    room.reply = reply_chunk(reader)?;
+    Ok(())
 }
 
 /// Reads the lists. An entry of the read list may have position 0 only if `zero_allowed`.
 #[tactic(auto, unfolding(crate::specs::Reading::lists_at))]
-pub(crate) fn lists(reader: &mut Reader<'_>, zero_allowed: bool) -> Result<ChunkLists, DecodeError>
-    ensures { MatchesRead (λ l. l) result reader.new (lists_at zero_allowed reader.old) }
+pub(crate) fn lists(
+    reader: &mut Reader<'_>,
+    zero_allowed: bool,
+    room: &mut ListsRead,
+) -> Result<(), DecodeError>
+    requires { room.old ≡ nothing_read }
+    ensures { MatchesRead (λ _. lists_of room.new) result reader.new (lists_at zero_allowed reader.old) }
 {
-    let read = read_list(reader, zero_allowed)?;
-    lists_after(reader, read)
+    read_list(reader, zero_allowed, &mut room.read)?;
+    lists_after(reader, room)
 }

@@ -1,26 +1,28 @@
 //! Reading of a header.
 
-ghost use Rattle.std.specs.Prelude.{◌≡◌, ℕ, ◌+◌, ◌^◌, ◌<◌, ◌≤◌, nat_lt, sum_by, length, take, drop, true, false, Ok, Err, IfOk, MatchResult};
+ghost use Rattle.std.specs.Prelude.{◌≡◌, ℕ, ◌+◌, ◌^◌, ◌<◌, ◌≤◌, nat_lt, sum_by, length, take, drop, true, false, Ok, Err, option_map, IfOk, MatchResult};
 ghost use Rattle.nr_header.specs.declared.header.Header.{Header};
 ghost use Rattle.nr_header.specs.WithinLimits.{read_total, CanRead, IsMessage, StreamWithin, stream_after};
 ghost use Rattle.nr_xdr.specs.Fields.{word_at};
 ghost use Rattle.nr_xdr.specs.Matching.{MatchesValue};
 ghost use Rattle.nr_header.specs.Reading.{sums_pass, msg_body, nomsg_body, msg_at, nomsg_at, error_of, error_by, version1_of, body_by, in_lists, header_of};
+ghost use Rattle.nr_header.specs.Header.{error_body};
+ghost use Rattle.nr_header.specs.private.ListsRead.{lists_of, nothing_read, body_of, MatchesBody};
 
 use crate::constants::{
     ERR_CHUNK, ERR_VERS, ERROR, FIXED_LEN, MSG, NOMSG, PAYLOAD_MAX, VERSION, WRITE_SEGMENTS_MAX,
 };
 use crate::fault::HeaderFault;
-use crate::header::{Body, ChunkLists, Header, ReadList, WriteList};
-use crate::lists::lists;
+use crate::header::{Body, Chunk, Header, ReadSegment, TransportError};
+use crate::lists::{ListsRead, lists};
 use nr_xdr::{DecodeError, Reader, word_at};
 
 /// Whether the chunks together have more segments than the limit.
-fn passes_segments(write: &WriteList) -> bool
+fn passes_segments(write: &[Chunk]) -> bool
     ensures { result ≡ nat_lt WRITE_SEGMENTS_MAX (sum_by (λ chunk. length chunk) write.now) }
 {
     let mut room = WRITE_SEGMENTS_MAX;
-    for chunk in write.as_slice() {
+    for chunk in write {
         if chunk.len() > room {
             return true;
         }
@@ -30,14 +32,14 @@ fn passes_segments(write: &WriteList) -> bool
 }
 
 /// Whether this many bytes of a stream and those of the read list are together more than the limit.
-fn passes_payload(read: &ReadList, stream: usize) -> bool
+fn passes_payload(read: &[ReadSegment], stream: usize) -> bool
     ensures { result ≡ nat_lt PAYLOAD_MAX (stream + read_total read.now) }
 {
     if stream > PAYLOAD_MAX {
         return true;
     }
     let mut room = PAYLOAD_MAX - stream;
-    for entry in read.as_slice() {
+    for entry in read {
         let length = entry.length as usize;
         if length > room {
             return true;
@@ -48,75 +50,82 @@ fn passes_payload(read: &ReadList, stream: usize) -> bool
 }
 
 /// Whether a sum passes its limit, with this many bytes of a stream after the lists.
-fn sums_pass(lists: &ChunkLists, stream: usize) -> bool
-    ensures { result ≡ sums_pass lists.now stream }
+fn sums_pass(room: &ListsRead, stream: usize) -> bool
+    ensures { result ≡ sums_pass (lists_of room.now) stream }
 {
-    passes_segments(&lists.write) || passes_payload(&lists.read, stream)
+    passes_segments(room.write.as_slice()) || passes_payload(room.read.as_slice(), stream)
+}
+
+/// What a message has after its fixed words, but for its lists.
+#[derive(Clone, Copy)]
+enum Found {
+    /// RDMA_MSG: its stream begins at this offset.
+    Msg { stream_at: usize },
+    /// RDMA_NOMSG.
+    Nomsg,
+    /// An error, with the version word.
+    Error { version: u32, error: TransportError },
 }
 
 /// A complete error message: its code is one of two, and it has exactly the bytes of that code.
-fn whole_error(bytes: &[u8]) -> Option<Body>
-    ensures { result ≡ error_of bytes.now }
+fn whole_error(bytes: &[u8]) -> Option<TransportError>
+    ensures { option_map (error_body (word_at 4 bytes.now)) result ≡ error_of bytes.now }
 {
     match bytes.len() {
-        28 if word_at(bytes, 16) == ERR_VERS => Some(Body::ErrVers {
-            version: word_at(bytes, 4),
+        28 if word_at(bytes, 16) == ERR_VERS => Some(TransportError::Vers {
             low: word_at(bytes, 20),
             high: word_at(bytes, 24),
         }),
-        20 if word_at(bytes, 16) == ERR_CHUNK => Some(Body::ErrChunk {
-            version: word_at(bytes, 4),
-        }),
+        20 if word_at(bytes, 16) == ERR_CHUNK => Some(TransportError::Chunk),
         _ => None,
     }
 }
 
-/// The body of RDMA_MSG, whose lists end at `at` with `left` bytes after them.
-fn msg_body(lists: ChunkLists, at: usize, left: usize) -> Result<Body, DecodeError>
-    ensures { MatchesValue (λ b. b) result (msg_body lists at left) }
+/// RDMA_MSG with these lists, which end at `at` with `left` bytes after them.
+fn msg_found(room: &ListsRead, at: usize, left: usize) -> Result<Found, DecodeError>
+    ensures { MatchesValue (λ f. body_of f (lists_of room.now)) result (msg_body (lists_of room.now) at left) }
 {
-    if sums_pass(&lists, left) {
+    if sums_pass(room, left) {
         return Err(DecodeError { at });
     }
-    Ok(Body::Msg {
-        lists,
-        stream_at: at,
-    })
+    Ok(Found::Msg { stream_at: at })
 }
 
 /// Reads what follows the fixed words of RDMA_MSG.
 #[tactic(auto, unfolding(crate::specs::Reading::msg_at))]
-fn msg(reader: &mut Reader<'_>) -> Result<Body, DecodeError>
-    ensures { MatchesValue (λ b. b) result (msg_at reader.old) }
+fn msg(reader: &mut Reader<'_>, room: &mut ListsRead) -> Result<Found, DecodeError>
+    requires { room.old ≡ nothing_read }
+    ensures { MatchesValue (λ f. body_of f (lists_of room.new)) result (msg_at reader.old) }
 {
-    let lists = lists(reader, false)?;
-    msg_body(lists, reader.at(), reader.rest().len())
+    lists(reader, false, room)?;
+    msg_found(room, reader.at(), reader.rest().len())
 }
 
-/// The body of RDMA_NOMSG, whose lists end at `at` with `left` bytes after them.
-fn nomsg_body(lists: ChunkLists, at: usize, left: usize) -> Result<Body, DecodeError>
-    ensures { MatchesValue (λ b. b) result (nomsg_body lists at left) }
+/// RDMA_NOMSG with these lists, which end at `at` with `left` bytes after them.
+fn nomsg_found(room: &ListsRead, at: usize, left: usize) -> Result<Found, DecodeError>
+    ensures { MatchesValue (λ f. body_of f (lists_of room.now)) result (nomsg_body (lists_of room.now) at left) }
 {
-    if sums_pass(&lists, 0) || left > 0 {
+    if sums_pass(room, 0) || left > 0 {
         return Err(DecodeError { at });
     }
-    Ok(Body::Nomsg { lists })
+    Ok(Found::Nomsg)
 }
 
 /// Reads what follows the fixed words of RDMA_NOMSG.
 #[tactic(auto, unfolding(crate::specs::Reading::nomsg_at))]
-fn nomsg(reader: &mut Reader<'_>) -> Result<Body, DecodeError>
-    ensures { MatchesValue (λ b. b) result (nomsg_at reader.old) }
+fn nomsg(reader: &mut Reader<'_>, room: &mut ListsRead) -> Result<Found, DecodeError>
+    requires { room.old ≡ nothing_read }
+    ensures { MatchesValue (λ f. body_of f (lists_of room.new)) result (nomsg_at reader.old) }
 {
-    let lists = lists(reader, true)?;
-    nomsg_body(lists, reader.at(), reader.rest().len())
+    lists(reader, true, room)?;
+    nomsg_found(room, reader.at(), reader.rest().len())
 }
 
-/// The body that was read; lists that fail are bad chunks.
-fn or_bad_chunks(body: Result<Body, DecodeError>) -> Result<Body, HeaderFault>
-    ensures { MatchResult body (λ read. result ≡ Ok read) (λ error. result ≡ Err (HeaderFault.BadChunks error.at)) }
+/// What was found; lists that fail are bad chunks.
+fn or_bad_chunks(found: Result<Found, DecodeError>) -> Result<Found, HeaderFault>
+    ensures { MatchResult found (λ read. result ≡ Ok read) (λ error. result ≡ Err (HeaderFault.BadChunks error.at)) }
 {
-    match body {
+    match found {
         Ok(read) => Ok(read),
         Err(error) => Err(HeaderFault::BadChunks { at: error.at }),
     }
@@ -124,35 +133,67 @@ fn or_bad_chunks(body: Result<Body, DecodeError>) -> Result<Body, HeaderFault>
 
 /// Reads what follows the fixed words of a message of version 1 that is no complete error message.
 #[tactic(auto, unfolding(crate::specs::Reading::version1_of))]
-fn version1(reader: &mut Reader<'_>, kind: u32, bytes: &[u8]) -> Result<Body, HeaderFault>
-    requires { reader.old ≡ record { place = FIXED_LEN; rest = drop FIXED_LEN bytes.now } }
-    ensures { result ≡ version1_of kind bytes.now }
+fn version1(
+    reader: &mut Reader<'_>,
+    kind: u32,
+    bytes: &[u8],
+    room: &mut ListsRead,
+) -> Result<Found, HeaderFault>
+    requires after { reader.old ≡ record { place = FIXED_LEN; rest = drop FIXED_LEN bytes.now } }
+    requires room { room.old ≡ nothing_read }
+    ensures { MatchesBody (lists_of room.new) result (version1_of kind bytes.now) }
 {
     match kind {
-        MSG => or_bad_chunks(msg(reader)),
-        NOMSG => or_bad_chunks(nomsg(reader)),
+        MSG => or_bad_chunks(msg(reader, room)),
+        NOMSG => or_bad_chunks(nomsg(reader, room)),
         _ => Err(HeaderFault::Kind { kind }),
     }
 }
 
 /// Reads what follows the fixed words.
 #[tactic(auto, unfolding(crate::specs::Reading::body_by))]
-fn body(reader: &mut Reader<'_>, bytes: &[u8]) -> Result<Body, HeaderFault>
+fn body(reader: &mut Reader<'_>, bytes: &[u8], room: &mut ListsRead) -> Result<Found, HeaderFault>
     requires fixed { FIXED_LEN ≤ length bytes.now }
-    requires behind { reader.old ≡ record { place = FIXED_LEN; rest = drop FIXED_LEN bytes.now } }
-    ensures { result ≡ body_by (error_by (word_at 12 bytes.now) bytes.now) (word_at 4 bytes.now) (word_at 12 bytes.now) bytes.now }
+    requires after { reader.old ≡ record { place = FIXED_LEN; rest = drop FIXED_LEN bytes.now } }
+    requires room { room.old ≡ nothing_read }
+    ensures { MatchesBody (lists_of room.new) result (body_by (error_by (word_at 12 bytes.now) bytes.now) (word_at 4 bytes.now) (word_at 12 bytes.now) bytes.now) }
 {
-    let kind = word_at(bytes, 12);
+    let (version, kind) = (word_at(bytes, 4), word_at(bytes, 12));
     if kind == ERROR {
-        if let Some(body) = whole_error(bytes) {
-            return Ok(body);
+        if let Some(error) = whole_error(bytes) {
+            return Ok(Found::Error { version, error });
         }
     }
-    let version = word_at(bytes, 4);
     if version != VERSION {
         return Err(HeaderFault::Version { version });
     }
-    version1(reader, kind, bytes)
+    version1(reader, kind, bytes, room)
+}
+
+/// The body of what was found, with the lists that were read.
+fn body_of(found: Found, room: ListsRead) -> Body
+    ensures { result ≡ body_of found (lists_of room) }
+{
+    match found {
+        Found::Msg { stream_at } => Body::Msg {
+            lists: room.into_lists(),
+            stream_at,
+        },
+        Found::Nomsg => Body::Nomsg {
+            lists: room.into_lists(),
+        },
+        Found::Error { version, error } => error_body(version, error),
+    }
+}
+
+/// The body of an error message.
+fn error_body(version: u32, error: TransportError) -> Body
+    ensures { result ≡ error_body version error }
+{
+    match error {
+        TransportError::Vers { low, high } => Body::ErrVers { version, low, high },
+        TransportError::Chunk => Body::ErrChunk { version },
+    }
 }
 
 #[tactic(auto, unfolding(crate::specs::Reading::header_of, nr_xdr::specs::Reading::fixed_at, nr_xdr::specs::Reading::cursor_past, nr_xdr::specs::Item::pad_len))]
@@ -164,12 +205,15 @@ fn read_header_inner(bytes: &[u8]) -> Result<Header, HeaderFault>
     if reader.fixed(FIXED_LEN).is_err() {
         return Err(HeaderFault::Short);
     }
-    let body = body(&mut reader, bytes)?;
-    Ok(Header {
-        xid: word_at(bytes, 0),
-        credit: word_at(bytes, 8),
-        body,
-    })
+    let mut room = ListsRead::new();
+    match body(&mut reader, bytes, &mut room) {
+        Ok(found) => Ok(Header {
+            xid: word_at(bytes, 0),
+            credit: word_at(bytes, 8),
+            body: body_of(found, room),
+        }),
+        Err(fault) => Err(fault),
+    }
 }
 
 /// Reads a message's header and checks it against the limits. Takes no memory. Only in RDMA_MSG may bytes follow the header.

@@ -1,12 +1,15 @@
 //! Writing of a header: each function puts its part at the end of a writer.
 
-ghost use Rattle.std.specs.Prelude.{◌≡◌, ◌^◌, ◌<◌, [], ◌∷◌, ◌++◌, length, All, true, false, OnOk, IfOk, IfSome};
+ghost use Rattle.std.specs.Prelude.{◌≡◌, ◌^◌, ◌<◌, [], ◌∷◌, ◌++◌, length, All, true, false, option_map, OnOk, IfOk, IfSome};
 ghost use Rattle.nr_xdr.specs.Item.Item.{Unsigned, Boolean};
 ghost use Rattle.nr_xdr.specs.Items.{encodings};
 ghost use Rattle.nr_header.specs.Header.{segment_items, entry_items, fixed_items, read_items, segments_items, chunk_items, write_items, reply_items, lists_items, body_items, lists_body, no_lists, error_body, ChunksFit, CanWriteHeader, header_encoding};
+ghost use Rattle.nr_header.specs.Slices.{lists_of_slices};
 
 use crate::constants::{ERR_CHUNK, ERR_VERS, ERROR, MSG, NOMSG, VERSION};
-use crate::header::{Body, Chunk, ChunkLists, Header, RdmaSegment, ReadSegment, TransportError};
+use crate::header::{
+    Body, Chunk, ChunkLists, Header, ListSlices, RdmaSegment, ReadSegment, TransportError,
+};
 use nr_xdr::{Memory, Octets, Writer};
 use std::alloc::Global;
 
@@ -48,13 +51,13 @@ fn put_segments(writer: &mut Writer, segments: &[RdmaSegment]) -> Result<(), Mem
 }
 
 /// Puts the word 1 and a chunk.
-fn put_chunk(writer: &mut Writer, chunk: &Chunk) -> Result<(), Memory>
+fn put_chunk(writer: &mut Writer, chunk: &[RdmaSegment]) -> Result<(), Memory>
     requires { length chunk.now < 2 ^ 32 }
     ensures { OnOk result (writer.new ≡ writer.old ++ encodings (Boolean true ∷ chunk_items chunk.now [])) }
 {
     writer.boolean(true)?;
     writer.u32(chunk.len() as u32)?;
-    put_segments(writer, chunk.as_slice())
+    put_segments(writer, chunk)
 }
 
 fn put_write_list(writer: &mut Writer, write: &[Chunk]) -> Result<(), Memory>
@@ -62,14 +65,14 @@ fn put_write_list(writer: &mut Writer, write: &[Chunk]) -> Result<(), Memory>
     ensures { OnOk result (writer.new ≡ writer.old ++ encodings (write_items write.now [])) }
 {
     for chunk in write {
-        put_chunk(writer, chunk)?;
+        put_chunk(writer, chunk.as_slice())?;
     }
     writer.boolean(false)
 }
 
-fn put_reply_chunk(writer: &mut Writer, reply: &Option<Chunk>) -> Result<(), Memory>
-    requires { IfSome reply.now (λ chunk. length chunk < 2 ^ 32) }
-    ensures { OnOk result (writer.new ≡ writer.old ++ encodings (reply_items reply.now [])) }
+fn put_reply_chunk(writer: &mut Writer, reply: Option<&[RdmaSegment]>) -> Result<(), Memory>
+    requires { IfSome reply (λ chunk. length chunk.now < 2 ^ 32) }
+    ensures { OnOk result (writer.new ≡ writer.old ++ encodings (reply_items (option_map (λ chunk. chunk.now) reply.entry) [])) }
 {
     match reply {
         Some(chunk) => put_chunk(writer, chunk),
@@ -77,13 +80,13 @@ fn put_reply_chunk(writer: &mut Writer, reply: &Option<Chunk>) -> Result<(), Mem
     }
 }
 
-fn put_lists(writer: &mut Writer, lists: &ChunkLists) -> Result<(), Memory>
-    requires { ChunksFit lists.now }
-    ensures { OnOk result (writer.new ≡ writer.old ++ encodings (lists_items lists.now)) }
+fn put_lists(writer: &mut Writer, lists: ListSlices<'_>) -> Result<(), Memory>
+    requires { ChunksFit (lists_of_slices lists) }
+    ensures { OnOk result (writer.new ≡ writer.old ++ encodings (lists_items (lists_of_slices lists.entry))) }
 {
-    put_read_list(writer, lists.read.as_slice())?;
-    put_write_list(writer, lists.write.as_slice())?;
-    put_reply_chunk(writer, &lists.reply)?;
+    put_read_list(writer, lists.read)?;
+    put_write_list(writer, lists.write)?;
+    put_reply_chunk(writer, lists.reply)?;
     Ok(())
 }
 
@@ -109,10 +112,10 @@ fn put_with_lists(
     xid: u32,
     credit: u32,
     kind: u32,
-    lists: &ChunkLists,
+    lists: ListSlices<'_>,
 ) -> Result<(), Memory>
-    requires { ChunksFit lists.now }
-    ensures { OnOk result (writer.new ≡ writer.old ++ encodings (fixed_items xid VERSION credit kind (lists_items lists.now))) }
+    requires { ChunksFit (lists_of_slices lists) }
+    ensures { OnOk result (writer.new ≡ writer.old ++ encodings (fixed_items xid VERSION credit kind (lists_items (lists_of_slices lists.entry)))) }
 {
     put_fixed(writer, xid, VERSION, credit, kind)?;
     put_lists(writer, lists)
@@ -159,8 +162,8 @@ fn put_header(writer: &mut Writer, header: &Header) -> Result<(), Memory>
 {
     let (xid, credit) = (header.xid, header.credit);
     match &header.body {
-        Body::Msg { lists, .. } => put_with_lists(writer, xid, credit, MSG, lists),
-        Body::Nomsg { lists } => put_with_lists(writer, xid, credit, NOMSG, lists),
+        Body::Msg { lists, .. } => put_with_lists(writer, xid, credit, MSG, lists.as_slices()),
+        Body::Nomsg { lists } => put_with_lists(writer, xid, credit, NOMSG, lists.as_slices()),
         Body::ErrVers { version, low, high } => {
             let error = TransportError::Vers {
                 low: *low,
@@ -200,10 +203,10 @@ fn octets_with_lists(
     xid: u32,
     credit: u32,
     kind: u32,
-    lists: &ChunkLists,
+    lists: ListSlices<'_>,
 ) -> Result<Octets, Memory>
-    requires { ChunksFit lists.now }
-    ensures { IfOk result (λ o. o ≡ encodings (fixed_items xid VERSION credit kind (lists_items lists.now))) }
+    requires { ChunksFit (lists_of_slices lists) }
+    ensures { IfOk result (λ o. o ≡ encodings (fixed_items xid VERSION credit kind (lists_items (lists_of_slices lists.entry)))) }
 {
     let mut writer = Writer::new(alloc);
     put_with_lists(&mut writer, xid, credit, kind, lists)?;
@@ -212,6 +215,24 @@ fn octets_with_lists(
 
 /// The encoding of a message with borrowed lists, up to its stream: RDMA_NOMSG if `long`, its stream being in a chunk, else
 /// RDMA_MSG. The lists may be within the limits or not.
+pub fn write_with_slices(
+    alloc: Global,
+    xid: u32,
+    credit: u32,
+    long: bool,
+    lists: ListSlices<'_>,
+) -> Result<Octets, Memory>
+    requires { ChunksFit (lists_of_slices lists) }
+    ensures { IfOk result (λ o. o ≡ header_encoding (record { xid = xid; credit = credit; body = lists_body long (lists_of_slices lists.entry) })) }
+{
+    if long {
+        octets_with_lists(alloc, xid, credit, NOMSG, lists)
+    } else {
+        octets_with_lists(alloc, xid, credit, MSG, lists)
+    }
+}
+
+/// As [`write_with_slices`], of lists that are one value.
 pub fn write_with_lists(
     alloc: Global,
     xid: u32,
@@ -222,11 +243,7 @@ pub fn write_with_lists(
     requires { ChunksFit lists.now }
     ensures { IfOk result (λ o. o ≡ header_encoding (record { xid = xid; credit = credit; body = lists_body long lists.now })) }
 {
-    if long {
-        octets_with_lists(alloc, xid, credit, NOMSG, lists)
-    } else {
-        octets_with_lists(alloc, xid, credit, MSG, lists)
-    }
+    write_with_slices(alloc, xid, credit, long, lists.as_slices())
 }
 
 /// The encoding of an error message with this version word.

@@ -4,6 +4,7 @@ ghost use Rattle.std.specs.Prelude.{◌≡◌, ◌+◌, ◌≤◌, Ok, length, I
 ghost use Rattle.nr_xdr.specs.Item.{pad_len};
 ghost use Rattle.nr_rpc.specs.Reading.{reply_of};
 ghost use Rattle.nr_reduce.specs.private.AfterFront.{and_then};
+ghost use Rattle.nr_reduce.specs.ReplyParts.{IsReply, AreReplyPartsOf};
 ghost use Rattle.nr_reduce.specs.Items.{from_place, item_at, is_nfs, argument_item, result_item, results_of, call_item, reply_item, item_of};
 
 use crate::limits::{READ, READLINK, SYMLINK, WRITE};
@@ -147,6 +148,21 @@ fn results_of(payload: &[u8]) -> Option<usize>
     }
 }
 
+/// The item of a reply whose results begin at this offset, if it has any.
+fn item_from(prog: u32, vers: u32, proc: u32, payload: &[u8], start: Option<usize>) -> Option<Item>
+    requires { start ≡ results_of (reply_of payload.now) }
+    ensures exact { result ≡ reply_item prog vers proc payload.now }
+    ensures inside { IfSome result (λ i. i.pos ≤ length payload.now) }
+{
+    match start {
+        Some(at) => {
+            let results = reader_at(payload, at);
+            result_item(prog, vers, proc, results)
+        }
+        None => None,
+    }
+}
+
 /// The item of a reply to a call of this program, version and procedure (RFC 8267 section 3): the data of READ or the path
 /// of READLINK, if the call was accepted with status 0 and the results can be read up to the length word. What follows
 /// that word isn't looked at. Takes no memory.
@@ -154,13 +170,35 @@ pub fn reply_item(prog: u32, vers: u32, proc: u32, payload: &[u8]) -> Option<Ite
     ensures exact { result ≡ reply_item prog vers proc payload.now }
     ensures inside { IfSome result (λ i. i.pos ≤ length payload.now) }
 {
-    match results_of(payload) {
-        Some(at) => {
-            let results = reader_at(payload, at);
-            result_item(prog, vers, proc, results)
-        }
-        None => None,
+    item_from(prog, vers, proc, payload, results_of(payload))
+}
+
+/// A reply, or its stream, with its head, which was read (RFC 5531 section 9).
+#[derive(Clone, Copy)]
+pub struct ReplyParts<'a> {
+    pub head: ReplyHead,
+    /// All of the bytes, from the head on.
+    pub payload: &'a [u8],
+}
+
+/// A reply with its head. `None` if and only if it begins with no reply head. Takes no memory.
+pub fn reply_parts(payload: &[u8]) -> Option<ReplyParts<'_>>
+    ensures { AreReplyPartsOf result payload.now }
+{
+    match read_reply(payload) {
+        Ok(head) => Some(ReplyParts { head, payload }),
+        Err(_) => None,
     }
+}
+
+/// The item of a reply to a call of this program, version and procedure: that of [`reply_item`] for its payload. The head isn't read
+/// again. Takes no memory.
+pub fn reply_item_of(prog: u32, vers: u32, proc: u32, parts: ReplyParts<'_>) -> Option<Item>
+    requires { IsReply parts }
+    ensures exact { result ≡ reply_item prog vers proc parts.entry.payload.now }
+    ensures inside { IfSome result (λ i. i.pos ≤ length parts.entry.payload.now) }
+{
+    item_from(prog, vers, proc, parts.payload, results_at(parts.head))
 }
 
 /// The item of a payload. Takes no memory.

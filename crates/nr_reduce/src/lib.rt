@@ -42,7 +42,9 @@ pub use cutting::{
 };
 pub use fault::{Mismatch, PayloadFault, TooLarge};
 pub use holding::{Answer, answer_for, holds};
-pub use item::{Cut, Item, Of, call_item, item_of, reply_item};
+pub use item::{
+    Cut, Item, Of, ReplyParts, call_item, item_of, reply_item, reply_item_of, reply_parts,
+};
 pub use largest::largest_reply;
 pub use laws::{answers_convey_replies, plans_convey_payloads, rebuild_undoes_cut};
 pub use limits::GIVEN_MAX;

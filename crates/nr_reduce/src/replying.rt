@@ -5,10 +5,13 @@ ghost use Rattle.nr_reduce.specs.Chunks.{filled_chunk};
 ghost use Rattle.nr_reduce.specs.Holds.{empty_chunks, written_chunks, answer_lists, answer_body, answer_message};
 ghost use Rattle.nr_reduce.specs.CodeViews.{answer_view, reply_of_answer};
 ghost use Rattle.nr_header.specs.Header.{header_encoding};
+ghost use Rattle.nr_header.specs.Slices.{lists_of_slices};
 ghost use Rattle.nr_header.specs.WithinLimits.{ListsWithin};
 
 use crate::holding::Answer;
-use nr_header::{Chunk, ChunkLists, RdmaSegment, ReadList, WriteList, write_with_lists};
+use nr_header::{
+    Chunk, ChunkLists, ListSlices, RdmaSegment, ReadList, WriteList, write_with_slices,
+};
 use nr_xdr::{Memory, Octets};
 use std::alloc::Global;
 
@@ -121,6 +124,23 @@ pub fn answer_lists(
     })
 }
 
+/// The header of the message of an answer, with these lists.
+fn header_with(
+    alloc: Global,
+    xid: u32,
+    credit: u32,
+    offer: &ChunkLists,
+    answer: Answer<'_>,
+    lists: ListSlices<'_>,
+) -> Result<Octets, Memory>
+    requires within { ListsWithin offer.now }
+    requires lists { lists_of_slices lists ≡ answer_lists offer.now (answer_view answer) }
+    ensures { IfOk result (λ o. o ≡ header_encoding (record { xid = xid; credit = credit; body = answer_body offer.now (answer_view answer.entry) })) }
+{
+    let _offer = offer;
+    write_with_slices(alloc, xid, credit, answer.long, lists)
+}
+
 /// The header of the message of an answer to a call whose offer was read.
 pub fn answer_header(
     alloc: Global,
@@ -132,10 +152,16 @@ pub fn answer_header(
     requires { ListsWithin offer.now }
     ensures { IfOk result (λ o. o ≡ header_encoding (record { xid = xid; credit = credit; body = answer_body offer.now (answer_view answer.entry) })) }
 {
-    let lists = answer_lists(alloc, offer, answer)?;
-    let header = write_with_lists(alloc, xid, credit, answer.long, &lists);
-    drop(lists);
-    header
+    let mut chunks = Vec::new(alloc);
+    push_written(
+        alloc,
+        &mut chunks,
+        offer.write.as_slice(),
+        answer.moved.len(),
+    )?;
+    let reply = reply_chunk(alloc, &offer.reply, answer)?;
+    let lists = ListSlices::new(&[], chunks.as_slice(), &reply);
+    header_with(alloc, xid, credit, offer, answer, lists)
 }
 
 /// The message of an answer to a call whose offer was read: its header, and its stream if that isn't in the reply chunk.

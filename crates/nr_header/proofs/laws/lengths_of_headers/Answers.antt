@@ -1,5 +1,3 @@
-use Rattle.std.proofs.Common.{[], ◌∷◌}
-use Rattle.nr_xdr.specs.Item.Item.{Unsigned}
 use Rattle.nr_header.proofs.Lengths.{lists_length, versions_length, chunk_error_length}
 use Rattle.nr_header.proofs.laws.lengths_of_headers.Goals as goal
 

@@ -1,4 +1,4 @@
-use Rattle.std.proofs.Common.{◌≡◌, ◌*◌, ◌≤◌, List, length, take}
+use Rattle.std.proofs.Common.{◌≡◌, ◌*◌, ◌≤◌, take}
 use Rattle.nr_header.specs.Length.{write_list_len}
 use Rattle.nr_header.proofs.length.write_list_len.Given as goal
 

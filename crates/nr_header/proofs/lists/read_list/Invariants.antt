@@ -6,6 +6,6 @@ use Rattle.nr_header.proofs.lists.read_list.Given as goal
 
 abbrev pub invariant-loop : goal.invariant-loop
 invariant-loop l = record {
-  room : length l.entries.items ≡ l.counter;
-  so_far : ReadSoFar l.entries.items READ_SEGMENTS_MAX l.counter l.zero_allowed l.seen l.reader (read_list_at READ_SEGMENTS_MAX l.zero_allowed 0 l.initial.reader);
+  room : length l.entries ≡ l.counter;
+  so_far : ReadSoFar l.entries READ_SEGMENTS_MAX l.counter l.zero_allowed l.seen l.reader (read_list_at READ_SEGMENTS_MAX l.zero_allowed 0 l.initial.reader);
 }

@@ -5,6 +5,6 @@ use Rattle.nr_header.proofs.lists.segments.Given as goal
 
 abbrev pub invariant-loop : goal.invariant-loop
 invariant-loop l = record {
-  room : length l.segments.items ≡ l.counter;
-  so_far : SegmentsSoFar l.segments.items l.count l.counter l.reader (segments_at l.count l.initial.reader);
+  room : length l.items ≡ l.counter;
+  so_far : SegmentsSoFar l.items l.count l.counter l.reader (segments_at l.count l.initial.reader);
 }

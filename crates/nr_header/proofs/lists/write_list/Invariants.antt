@@ -6,6 +6,6 @@ use Rattle.nr_header.proofs.lists.write_list.Given as goal
 
 abbrev pub invariant-loop : goal.invariant-loop
 invariant-loop l = record {
-  room : length l.chunks.items ≡ l.counter;
-  so_far : WriteSoFar l.chunks.items WRITE_CHUNKS_MAX l.counter l.reader (write_list_at WRITE_CHUNKS_MAX l.initial.reader);
+  room : length l.chunks ≡ l.counter;
+  so_far : WriteSoFar l.chunks WRITE_CHUNKS_MAX l.counter l.reader (write_list_at WRITE_CHUNKS_MAX l.initial.reader);
 }

@@ -4,4 +4,4 @@ use Rattle.nr_header.specs.WithinLimits.{read_total}
 use Rattle.nr_header.proofs.reading.passes_payload.Given as goal
 
 abbrev pub invariant-loop-entry : goal.invariant-loop-entry
-invariant-loop-entry l = l.room + (l.stream + read_total (take l.entry-index l.entry-items)) ≡ PAYLOAD_MAX
+invariant-loop-entry l = l.room + (l.stream + read_total (take l.entry-index l.read)) ≡ PAYLOAD_MAX

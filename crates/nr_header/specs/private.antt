@@ -1,0 +1,2 @@
+pub mod ShortItems
+pub mod ListsRead
