@@ -1,13 +1,15 @@
 //! READ, WRITE and COMMIT.
 
 ghost use Rattle.std.specs.Prelude.{◌≡◌, ◌^◌, ◌<◌, length};
-ghost use Rattle.nr_nfs_base.specs.Codec.{WritesValue};
+ghost use Rattle.nr_nfs_base.specs.Attributes.{attributes_codec};
+ghost use Rattle.nr_nfs_base.specs.Codec.{Answers, WritesValue, arm_value, optional, read_all};
+ghost use Rattle.nr_nfs_base.specs.declared.status_union.StatusUnion.TheVariants.{Done, Failed};
 ghost use Rattle.nr_nfs_res.specs.Results.{read_res_codec};
 ghost use Rattle.nr_nfs_res.specs.Bytes.{commit_ok_codec, commit_ok_lawful, read_ok_codec, read_ok_lawful, write_ok_codec, write_ok_lawful};
 
 use nr_nfs_base::{
     Attributes, Data, ReadOkFront, StableHow, Status, StatusUnion, UNLIMITED, ValueFault, Verifier,
-    WccData, Xdr, write_four, write_numbered, write_opaque, write_two,
+    WccData, Xdr, read_numbered, write_four, write_numbered, write_opaque, write_two,
 };
 use nr_xdr::{Memory, Reader, RoomWriter};
 use std::alloc::Global;
@@ -58,7 +60,8 @@ impl Xdr for ReadOk {
 /// The results of READ (RFC 1813 section 3.3.6).
 pub type ReadRes = StatusUnion<ReadOk, Option<Attributes>>;
 
-/// The results of READ on success with borrowed data, to be written (RFC 1813 section 3.3.6). Contracts see a `ReadOk`.
+/// The results of READ on success with borrowed data: that of a file, or a part of the bytes that they were read from (RFC 1813
+/// section 3.3.6). Contracts see a `ReadOk`.
 #[derive(Drop)]
 pub struct ReadOkRef<'a> {
     attributes: Option<Attributes>,
@@ -115,8 +118,71 @@ impl<'a> ReadOkRef<'a> {
     }
 }
 
+/// The results of READ on success at the reader's place, and the reader after them.
+#[tactic(auto, unfolding(crate::specs::Bytes::read_ok_codec, nr_nfs_base::specs::Codec::opaque))]
+fn read_ok_from<'a>(
+    alloc: Global,
+    reader: Reader<'a>,
+) -> Result<(ReadOkRef<'a>, Reader<'a>), ValueFault>
+    ensures { Answers result (read_ok_codec.read reader.entry) }
+{
+    let ((attributes, (count, eof)), mut reader) = ReadOkFront::read_from(alloc, reader)?;
+    let bytes = reader.opaque(UNLIMITED)?;
+    Ok((ReadOkRef::new(attributes, count, eof, bytes), reader))
+}
+
 /// The results of READ with borrowed data (RFC 1813 section 3.3.6).
 pub type ReadResRef<'a> = StatusUnion<ReadOkRef<'a>, Option<Attributes>>;
+
+/// The results after the status 0, and the reader after them.
+fn read_done<'a>(
+    alloc: Global,
+    reader: Reader<'a>,
+) -> Result<(ReadResRef<'a>, Reader<'a>), ValueFault>
+    ensures { Answers result (arm_value Done (read_ok_codec.read reader.entry)) }
+{
+    let (done, reader) = read_ok_from(alloc, reader)?;
+    Ok((StatusUnion::Done(done), reader))
+}
+
+/// The results after another status, and the reader after them.
+fn read_failed<'a>(
+    alloc: Global,
+    status: Status,
+    reader: Reader<'a>,
+) -> Result<(ReadResRef<'a>, Reader<'a>), ValueFault>
+    ensures { Answers result (arm_value (Failed status) ((optional attributes_codec).read reader.entry)) }
+{
+    let (part, reader) = Option::<Attributes>::read_from(alloc, reader)?;
+    Ok((StatusUnion::Failed { status, part }, reader))
+}
+
+/// The results at the reader's place, and the reader after them.
+#[tactic(auto, unfolding(nr_nfs_base::specs::StatusUnion::status_union_codec))]
+fn read_res_from<'a>(
+    alloc: Global,
+    reader: Reader<'a>,
+) -> Result<(ReadResRef<'a>, Reader<'a>), ValueFault>
+    ensures { Answers result (read_res_codec.read reader.entry) }
+{
+    let (tag, reader) = read_numbered::<Option<Status>>(alloc, reader)?;
+    match tag {
+        None => read_done(alloc, reader),
+        Some(status) => read_failed(alloc, status, reader),
+    }
+}
+
+/// The results that all of the bytes are read as, as by `ReadRes::read`. The data are not copied.
+pub fn read_read_res<'a>(alloc: Global, bytes: &'a [u8]) -> Result<ReadResRef<'a>, ValueFault>
+    ensures { Answers result (read_all read_res_codec bytes.now) }
+{
+    let (results, reader) = read_res_from(alloc, Reader::new(bytes))?;
+    if reader.rest().is_empty() {
+        Ok(results)
+    } else {
+        Err(ValueFault::Bad { at: reader.at() })
+    }
+}
 
 /// Appends the items that encode the results, as `ReadRes::write_to` does: the data are copied once.
 #[tactic(auto, unfolding(nr_nfs_base::specs::StatusUnion::status_union_codec))]
