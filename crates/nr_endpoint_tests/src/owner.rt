@@ -45,7 +45,7 @@ fn offer_three(rt: &impl Abort, alloc: Global, endpoint: &mut Endpoint) {
     if endpoint.regions().stags_left() < 3 {
         panic!(rt; "STags are left");
     }
-    match endpoint.offer(&[7; 1024], offered) {
+    match endpoint.offer_parts(&[7; 24], &[7; 1000], offered) {
         Err(_) => panic!(rt; "the regions are registered"),
         Ok(claims) => {
             let stags = (
@@ -134,10 +134,10 @@ fn fed_hello(rt: &impl Abort, alloc: Global) -> Endpoint {
     endpoint
 }
 
-/// They are queued in their order, and written after the hello.
-fn answer(rt: &impl Abort, alloc: Global) {
+/// They are queued in their order, and written after the hello, whether the message is in one part or in two.
+fn answer(rt: &impl Abort, alloc: Global, in_parts: bool) {
     let mut endpoint = fed_hello(rt, alloc);
-    let parts = [
+    let writes = [
         RemoteWrite {
             stag: 9,
             to: 16,
@@ -149,7 +149,12 @@ fn answer(rt: &impl Abort, alloc: Global) {
             bytes: &[2; 4],
         },
     ];
-    same(rt, 1, endpoint.answer(&parts, &[3; 16]), Ok(()));
+    let queued = if in_parts {
+        endpoint.answer_parts(&writes, &[3; 4], &[3; 12])
+    } else {
+        endpoint.answer(&writes, &[3; 16])
+    };
+    same(rt, 1, queued, Ok(()));
     let mut sink = MemSink::new(alloc, Vec::new(alloc));
     same(rt, 2, endpoint.drain_into(&mut sink), Ok(()));
     let want = joined(rt, alloc, &REQUEST, &ANSWER);
@@ -160,7 +165,29 @@ fn answer(rt: &impl Abort, alloc: Global) {
 
 #[test]
 fn answers(rt: HostRuntime) {
-    answer(&rt, rt.alloc());
+    answer(&rt, rt.alloc(), false);
+    answer(&rt, rt.alloc(), true);
+}
+
+/// A Send that offers nothing is queued.
+fn offer_nothing(rt: &impl Abort, alloc: Global) {
+    let mut endpoint = fed_hello(rt, alloc);
+    let nothing = Offered {
+        read: None,
+        write: None,
+        reply: None,
+    };
+    if endpoint.regions().stags_left() < 1 {
+        panic!(rt; "STags are left");
+    }
+    same(rt, 1, endpoint.offer(&[4; 16], nothing).is_ok(), true);
+    same(rt, 2, endpoint.sends_waiting(), 1);
+    drop(endpoint);
+}
+
+#[test]
+fn offers_nothing(rt: HostRuntime) {
+    offer_nothing(&rt, rt.alloc());
 }
 
 /// Puts a word at the end, `count` times.
