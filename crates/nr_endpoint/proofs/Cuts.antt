@@ -24,6 +24,14 @@ payload_within bytes n m =
     ap (λ (xs : List ℕ). take (min (length xs) m) xs) dropped
     ∙ ap (λ (k : ℕ). take k (drop n bytes)) (swap (length (drop n bytes)) m) ∙ take_min m (drop n bytes)
 
+pub slice_payload : (bytes : List ℕ) (i : ℕ) →
+    take (min (length bytes) (segment_max * i) + min (length bytes - min (length bytes) (segment_max * i)) segment_max - min (length bytes) (segment_max * i)) (drop (min (length bytes) (segment_max * i)) bytes)
+    ≡ segment_payload bytes i
+slice_payload bytes i =
+    let from = min (length bytes) (segment_max * i) in
+    let count : from + min (length bytes - from) segment_max - from ≡ min (length (drop from bytes)) segment_max = omega (arith, length-drop from bytes) in
+    ap (λ (n : ℕ). take n (drop from bytes)) count ∙ payload_within bytes (segment_max * i) segment_max
+
 -- the FPDU of the segment with this number, and those of the first n segments
 abbrev pub piece : Operation → List ℕ → ℕ → List ℕ
 piece carrier bytes i = encoding (operation_segment carrier (eqb (i + 1) (segment_count bytes)) (segment_max * i) (segment_payload bytes i))
@@ -125,7 +133,7 @@ segment_pushed new old header payload tail segment h p t is =
     ∙ append_assoc old (segment_header segment) (payload_in segment ++ segment_tail (ulpdu_size segment))
     ∙ ap (λ (l : List ℕ). old ++ l) (sym (encoded_parts segment))
 
-carried_payload : (carrier : Operation) (last : Bool) (offset : ℕ) (payload : List ℕ) → payload_in (operation_segment carrier last offset payload) ≡ payload
+pub carried_payload : (carrier : Operation) (last : Bool) (offset : ℕ) (payload : List ℕ) → payload_in (operation_segment carrier last offset payload) ≡ payload
 carried_payload (carriers.Send msn) last offset payload = refl
 carried_payload (carriers.Write stag to) last offset payload = refl
 carried_payload (carriers.Response stag to) last offset payload = refl

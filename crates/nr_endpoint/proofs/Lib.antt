@@ -5,6 +5,7 @@ pub mod ReceiveQueueBytes
 pub mod ReceiveQueueSteps
 mod Cuts
 mod SendQueues
+mod WrittenOut
 pub mod Alive
 pub mod WholeFrames
 pub mod Queued

@@ -12,6 +12,7 @@ use Rattle.nr_link.specs.Output.{write}
 use Rattle.nr_endpoint.specs.declared.offering.Offered.{Offered}
 use Rattle.nr_endpoint.specs.declared.offering.Claims.{Claims}
 use Rattle.nr_endpoint.specs.declared.framing.RemoteWrite.{RemoteWrite}
+use Rattle.nr_endpoint.specs.declared.sharing.SharedWrite.{SharedWrite}
 use Rattle.nr_endpoint.specs.SendQueue.{SendQueue, with_send, with_fpdus, with_write}
 use Rattle.nr_endpoint.specs.LinkState.{LinkSide, LinkState, has_ended}
 use Rattle.std.specs.Ordering.{nat_cmp}
@@ -21,7 +22,7 @@ use Rattle.nr_endpoint.specs.Carriers.{cut_room, writes_room}
 use Rattle.nr_endpoint.specs.EndpointState.{EndpointState}
 use Rattle.nr_endpoint.specs.Calls.{Call, after_call, after_calls, with_state, unless_ended}
 use Rattle.nr_endpoint.specs.Calls.Call.{Send}
-use Rattle.nr_endpoint.specs.Offering.{offer_calls, register_call, with_buffer, claim_if, with_read, with_write_buffer, with_offered, claims_of, AreHeld, after_offer, write_call, answer_calls, writes_output, after_answer}
+use Rattle.nr_endpoint.specs.Offering.{offer_calls, register_call, with_buffer, claim_if, with_read, with_write_buffer, with_offered, claims_of, AreHeld, after_offer, write_call, answer_calls, writes_output, after_answer, shared_output}
 
 -- what holds of the fields holds of the value
 pub seen_all : {room : ℕ} {outside : FinMap nat_cmp Outside} (before : LinkSide) (staging : List ℕ) (now : EndpointState) (after : LinkSide) (calls : List Call) → record { link = before; staging = staging; room = room; outside = outside } ≡ now →
@@ -168,3 +169,15 @@ write_goes writes i d total now after lt so_far e =
 pub writes_room_next : (framing : ℕ) (writes : List RemoteWrite) (i : ℕ) (d : RemoteWrite) → i < length writes →
     writes_room framing (drop i writes) ≡ cut_room framing (get_or writes i d).bytes.now + writes_room framing (drop (i + 1) writes)
 writes_room_next framing writes i d lt = ap (writes_room framing) (drop_more writes i d lt)
+
+-- ---- RDMA Writes of shared bytes, one at a time
+
+pub shared_goes : (writes : List SharedWrite) (i : ℕ) (w : SharedWrite) (total now after : List ℕ) → i < length writes → w ≡ get_or writes i w →
+    now ++ shared_output (drop i writes) ≡ total → after ≡ now ++ write w.stag w.to w.bytes → after ++ shared_output (drop (i + 1) writes) ≡ total
+shared_goes writes i w total now after lt is so_far e =
+    let others : List SharedWrite = drop (i + 1) writes in
+    let left : drop i writes ≡ w ∷ others = drop_more writes i w lt ∙ ap (λ (x : SharedWrite). x ∷ others) (sym is) in
+    ap (λ (bytes : List ℕ). bytes ++ shared_output others) e
+    ∙ append_assoc now (write w.stag w.to w.bytes) (shared_output others)
+    ∙ ap (λ (ws : List SharedWrite). now ++ shared_output ws) (sym left)
+    ∙ so_far

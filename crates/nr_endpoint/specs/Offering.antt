@@ -9,6 +9,7 @@ use Rattle.nr_link.specs.Output.{write}
 use Rattle.nr_endpoint.specs.declared.offering.Offered.{Offered}
 use Rattle.nr_endpoint.specs.declared.offering.Claims.{Claims}
 use Rattle.nr_endpoint.specs.declared.framing.RemoteWrite.{RemoteWrite}
+use Rattle.nr_endpoint.specs.declared.sharing.SharedWrite.{SharedWrite}
 use Rattle.nr_endpoint.specs.SendQueue.{with_send, with_fpdus}
 use Rattle.nr_endpoint.specs.LinkState.{LinkState, has_ended}
 use Rattle.nr_endpoint.specs.Calls.{Call, unless_ended}
@@ -78,6 +79,13 @@ after_offer message o s = record s {
 abbrev pub FitsRegion : RemoteWrite → Type 0
 FitsRegion w = w.to + length w.bytes.now ≤ 2 ^ 64
 
+-- a Write of shared bytes is one of those bytes, wherever they are
+abbrev pub plain_write : SharedWrite → RemoteWrite
+plain_write w = record { stag = w.stag; to = w.to; bytes = record { ref_ptr = (0, 0); now = w.bytes } }
+
+abbrev pub FitsSharedRegion : SharedWrite → Type 0
+FitsSharedRegion w = FitsRegion (plain_write w)
+
 abbrev pub write_call : RemoteWrite → Call
 write_call w = WriteRemote w.stag w.to w.bytes.now
 
@@ -90,3 +98,7 @@ writes_output (w ∷ writes) = write w.stag w.to w.bytes.now ++ writes_output wr
 
 abbrev pub after_answer : List RemoteWrite → List ℕ → LinkState → LinkState
 after_answer writes message s = unless_ended s (record s { send_queue = with_send message (with_fpdus (writes_output writes) s.send_queue) })
+
+-- the output of Writes of shared bytes
+abbrev pub shared_output : List SharedWrite → List ℕ
+shared_output writes = writes_output (map plain_write writes)

@@ -8,13 +8,14 @@ ghost use Rattle.nr_endpoint.specs.Carriers.{operation_segment, cut_room, writes
 ghost use Rattle.nr_endpoint.specs.Offering.{FitsRegion, writes_output};
 
 use crate::constants::{FRAMING_MAX, SEGMENT_MAX};
-use bytes::BytesMut;
+use crate::output::Output;
 use nr_wire::constants::{
     OPCODE_READ_RESPONSE, OPCODE_SEND, OPCODE_TERMINATE, OPCODE_WRITE, QUEUE_SEND, QUEUE_TERMINATE,
     UNTAGGED_LEN,
 };
 use nr_wire::{Segment, payload_in, segment_header, segment_tail, ulpdu_size, untagged_header};
-use nr_xdr::Memory;
+use nr_xdr::{Memory, Octets};
+use std::alloc::Global;
 
 /// What carries some bytes that are cut into segments: the Send with a number, or an RDMA Write or Read Response from byte `to` of a
 /// region on.
@@ -37,7 +38,7 @@ pub struct RemoteWrite<'a> {
 }
 
 /// The segment with these bytes, which lie at `offset` of all.
-fn segment(carrier: Operation, last: bool, offset: usize, payload: &[u8]) -> Segment<'_>
+pub fn segment(carrier: Operation, last: bool, offset: usize, payload: &[u8]) -> Segment<'_>
     requires { FitsAt carrier offset }
     ensures { plain result ≡ operation_segment carrier last offset payload.now }
 {
@@ -68,31 +69,20 @@ fn segment(carrier: Operation, last: bool, offset: usize, payload: &[u8]) -> Seg
     }
 }
 
-/// Puts some bytes at the end, for which there is room.
-fn append(out: &mut BytesMut, bytes: &[u8])
-    requires { length bytes.now ≤ out.old.spare }
-    ensures bytes { out.new.items ≡ out.old.items ++ bytes.now }
-    ensures spare { out.old.spare ≤ out.new.spare + length bytes.now }
-{
-    if out.extend_from_slice(bytes).is_err() {
-        unreachable!();
-    }
-}
-
 /// Puts a segment at the end, for which there is room.
-fn append_segment(out: &mut BytesMut, segment: &Segment)
+fn append_segment(out: &mut Output, segment: &Segment)
     requires writable { IsWritable (plain segment.now) }
     requires room { length (payload_in (plain segment.now)) + FRAMING_MAX ≤ out.old.spare }
     ensures bytes { out.new.items ≡ out.old.items ++ encoding (plain segment.now) }
     ensures spare { out.old.spare ≤ out.new.spare + (length (payload_in (plain segment.now)) + FRAMING_MAX) }
 {
-    append(out, segment_header(segment).as_slice());
-    append(out, payload_in(segment));
-    append(out, segment_tail(ulpdu_size(segment)));
+    out.append(segment_header(segment).as_slice());
+    out.append(payload_in(segment));
+    out.append(segment_tail(ulpdu_size(segment)));
 }
 
 /// Puts a segment at the end. An `Err` leaves the bytes as they were.
-pub fn push_segment(out: &mut BytesMut, segment: &Segment) -> Result<(), Memory>
+pub fn push_segment(out: &mut Output, segment: &Segment) -> Result<(), Memory>
     requires { IsWritable (plain segment.now) }
     ensures ok { OnOk result (out.new.items ≡ out.old.items ++ encoding (plain segment.now)) }
     ensures err { OnErr result (out.new.items ≡ out.old.items) }
@@ -103,7 +93,7 @@ pub fn push_segment(out: &mut BytesMut, segment: &Segment) -> Result<(), Memory>
 }
 
 /// How many segments the bytes take.
-fn segment_count(bytes: &[u8]) -> usize
+pub fn segment_count(bytes: &[u8]) -> usize
     ensures { result ≡ segment_count bytes.now }
 {
     bytes.len().div_ceil(SEGMENT_MAX).max(1)
@@ -120,7 +110,7 @@ fn segment_payload(bytes: &[u8], i: usize) -> &[u8]
 }
 
 /// Puts the segments of some bytes at the end, for which there is room.
-fn append_segments(out: &mut BytesMut, carrier: Operation, bytes: &[u8])
+fn append_segments(out: &mut Output, carrier: Operation, bytes: &[u8])
     requires fits { FitsCarrier carrier (length bytes.now) }
     requires room { cut_room FRAMING_MAX bytes.now ≤ out.old.spare }
     ensures bytes { out.new.items ≡ out.old.items ++ cut (operation_segment carrier) bytes.now }
@@ -144,7 +134,7 @@ fn cut_room(bytes: &[u8]) -> usize
 }
 
 /// Puts the segments of some bytes at the end. An `Err` leaves the bytes as they were.
-pub fn push_cut(out: &mut BytesMut, carrier: Operation, bytes: &[u8]) -> Result<(), Memory>
+pub fn push_cut(out: &mut Output, carrier: Operation, bytes: &[u8]) -> Result<(), Memory>
     requires { FitsCarrier carrier (length bytes.now) }
     ensures ok { OnOk result (out.new.items ≡ out.old.items ++ cut (operation_segment carrier) bytes.now) }
     ensures err { OnErr result (out.new.items ≡ out.old.items) }
@@ -155,21 +145,21 @@ pub fn push_cut(out: &mut BytesMut, carrier: Operation, bytes: &[u8]) -> Result<
 }
 
 /// Puts the Send of a message in two parts at the end, which is one segment, and for which there is room.
-fn append_send(out: &mut BytesMut, msn: u32, front: &[u8], stream: &[u8])
+fn append_send(out: &mut Output, msn: u32, front: &[u8], stream: &[u8])
     requires size { length front.now + length stream.now ≤ SEGMENT_MAX }
     requires room { length front.now + length stream.now + FRAMING_MAX ≤ out.old.spare }
     ensures { out.new.items ≡ out.old.items ++ cut (operation_segment (Operation.Send msn)) (front.now ++ stream.now) }
 {
     let len = front.len() + stream.len();
     let header = untagged_header(true, OPCODE_SEND, (0, QUEUE_SEND), (msn, 0), len);
-    append(out, header.as_slice());
-    append(out, front);
-    append(out, stream);
-    append(out, segment_tail((UNTAGGED_LEN + len) as u16));
+    out.append(header.as_slice());
+    out.append(front);
+    out.append(stream);
+    out.append(segment_tail((UNTAGGED_LEN + len) as u16));
 }
 
 /// Puts the Send of a message in two parts at the end, which is one segment. An `Err` leaves the bytes as they were.
-pub fn push_send(out: &mut BytesMut, msn: u32, front: &[u8], stream: &[u8]) -> Result<(), Memory>
+pub fn push_send(out: &mut Output, msn: u32, front: &[u8], stream: &[u8]) -> Result<(), Memory>
     requires { length front.now + length stream.now ≤ SEGMENT_MAX }
     ensures ok { OnOk result (out.new.items ≡ out.old.items ++ cut (operation_segment (Operation.Send msn)) (front.now ++ stream.now)) }
     ensures err { OnErr result (out.new.items ≡ out.old.items) }
@@ -195,7 +185,7 @@ fn writes_room(writes: &[RemoteWrite<'_>], more: usize) -> Result<usize, Memory>
 }
 
 /// Puts RDMA Writes at the end, for which there is room.
-fn append_writes(out: &mut BytesMut, writes: &[RemoteWrite<'_>])
+fn append_writes(out: &mut Output, writes: &[RemoteWrite<'_>])
     requires fits { All FitsRegion writes.now }
     requires room { writes_room FRAMING_MAX writes.now ≤ out.old.spare }
     ensures bytes { out.new.items ≡ out.old.items ++ writes_output writes.now }
@@ -216,7 +206,7 @@ fn append_writes(out: &mut BytesMut, writes: &[RemoteWrite<'_>])
 /// Puts RDMA Writes and then the Send of a message in two parts at the end, which is one segment. An `Err` leaves the bytes as they
 /// were.
 pub fn push_answer(
-    out: &mut BytesMut,
+    out: &mut Output,
     writes: &[RemoteWrite<'_>],
     msn: u32,
     front: &[u8],
@@ -236,7 +226,7 @@ pub fn push_answer(
 
 /// Puts RDMA Writes and then the Send of a message at the end. An `Err` leaves the bytes as they were.
 pub fn push_long_answer(
-    out: &mut BytesMut,
+    out: &mut Output,
     writes: &[RemoteWrite<'_>],
     msn: u32,
     message: &[u8],
@@ -253,9 +243,19 @@ pub fn push_long_answer(
     Ok(())
 }
 
+/// A message of several segments that comes in two parts.
+pub fn joined(alloc: Global, front: &[u8], stream: &[u8]) -> Result<Octets, Memory>
+    ensures { IfOk result (λ o. o ≡ front.now ++ stream.now) }
+{
+    let mut message = Vec::with_capacity(alloc, front.len() + stream.len())?;
+    message.extend_from_slice(front)?;
+    message.extend_from_slice(stream)?;
+    Ok(Octets::from_vec(message))
+}
+
 /// Puts a Terminate with this word at the end (RFC 5040 section 4.8). An `Err` leaves the bytes as they were.
 #[tactic(auto, unfolding(nr_link::specs::Output::terminate_message, nr_xdr::specs::Item::word))]
-pub fn push_terminate(out: &mut BytesMut, word: u32) -> Result<(), Memory>
+pub fn push_terminate(out: &mut Output, word: u32) -> Result<(), Memory>
     ensures ok { OnOk result (out.new.items ≡ out.old.items ++ terminate_message word) }
     ensures err { OnErr result (out.new.items ≡ out.old.items) }
 {

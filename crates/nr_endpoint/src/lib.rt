@@ -26,9 +26,11 @@ mod laws;
 mod link;
 mod offering;
 mod operations;
+mod output;
 mod reads;
 mod receive_queue;
 mod send_queue;
+mod sharing;
 mod staging;
 
 pub use endpoint::Endpoint;
@@ -41,3 +43,4 @@ pub use laws::{
     sides_stay_bounded, stream_is_kept,
 };
 pub use offering::{Claims, Offered};
+pub use sharing::SharedWrite;

@@ -1,15 +1,16 @@
 //! Several calls of an owner at once, all or none.
 
-ghost use Rattle.std.specs.Prelude.{◌≡◌, ◌+◌, ◌^◌, ◌<◌, ◌≤◌, ◌++◌, length, false, if◌then◌else◌, All, OnOk, OnErr, IfOk, IfErr};
+ghost use Rattle.std.specs.Prelude.{◌≡◌, ◌+◌, ◌^◌, ◌<◌, ◌≤◌, ◌++◌, length, map, false, if◌then◌else◌, All, OnOk, OnErr, IfOk, IfErr};
 ghost use Rattle.nr_endpoint.specs.LinkState.{has_ended};
 ghost use Rattle.nr_endpoint.specs.SendQueue.{with_send};
 ghost use Rattle.nr_endpoint.specs.Calls.{after_calls, StandsOnAll};
-ghost use Rattle.nr_endpoint.specs.Offering.{one_of, offered_count, offer_calls, with_buffer, claim_if, with_offered, outside_buffer, outside_offered, claims_of, AreHeld, after_offer, FitsRegion, answer_calls, after_answer};
+ghost use Rattle.nr_endpoint.specs.Offering.{one_of, offered_count, offer_calls, with_buffer, claim_if, with_offered, outside_buffer, outside_offered, claims_of, AreHeld, after_offer, plain_write, FitsRegion, FitsSharedRegion, answer_calls, after_answer};
 
 use crate::endpoint::Endpoint;
 use crate::framing::RemoteWrite;
 use crate::link::LinkSide;
 use crate::send_queue::SendQueue;
+use crate::sharing::SharedWrite;
 use nr_regions::{Regions, Registration, Right};
 use nr_xdr::{Memory, Octets};
 
@@ -137,6 +138,27 @@ impl LinkSide {
         }
         self.send_queue.answer(writes, front, stream)
     }
+
+    /// Queues RDMA Writes of shared bytes and then the Send of a message in two parts. `Err` changes nothing.
+    pub fn answer_shared(
+        &mut self,
+        writes: &[SharedWrite],
+        front: &[u8],
+        stream: &[u8],
+    ) -> Result<(), Memory>
+        requires size { length front.now + length stream.now < 2 ^ 32 }
+        requires fits { All FitsSharedRegion writes.now }
+        ensures ok { OnOk result (self.new.state ≡ after_answer (map plain_write writes.now) (front.now ++ stream.now) self.old.state) }
+        ensures err { OnErr result (self.new.state ≡ self.old.state) }
+        ensures live { OnErr result (has_ended self.old.state ≡ false) }
+        ensures room { self.new.room ≡ self.old.room }
+        ensures outside { self.new.outside ≡ self.old.outside }
+    {
+        if self.ended.is_some() {
+            return Ok(());
+        }
+        self.send_queue.answer_shared(writes, front, stream)
+    }
 }
 
 impl Endpoint {
@@ -220,5 +242,26 @@ impl Endpoint {
         ensures staging { self.new.staging ≡ self.old.staging }
     {
         self.link.answer(writes, front, stream)
+    }
+
+    /// Queues RDMA Writes of shared bytes and then the Send of a message in two parts, as [`Endpoint::answer_parts`] does with bytes that are
+    /// lent: many bytes are not copied into the queue, which shares them until they are written.
+    pub fn answer_shared(
+        &mut self,
+        writes: &[SharedWrite],
+        front: &[u8],
+        stream: &[u8],
+    ) -> Result<(), Memory>
+        requires size { length front.now + length stream.now < 2 ^ 32 }
+        requires fits { All FitsSharedRegion writes.now }
+        ensures state { OnOk result (self.new.link ≡ after_calls self.old.link (answer_calls (map plain_write writes.now) (front.now ++ stream.now))) }
+        ensures stands { OnOk result (StandsOnAll self.old.link (answer_calls (map plain_write writes.now) (front.now ++ stream.now)) self.new.link) }
+        ensures err { OnErr result (self.new.link ≡ self.old.link) }
+        ensures live { OnErr result (has_ended self.old.link.state ≡ false) }
+        ensures room { self.new.room ≡ self.old.room }
+        ensures outside { self.new.outside ≡ self.old.outside }
+        ensures staging { self.new.staging ≡ self.old.staging }
+    {
+        self.link.answer_shared(writes, front, stream)
     }
 }

@@ -280,6 +280,6 @@ impl LinkSide {
         ensures most { result ≤ 2 ^ 127 }
     {
         let outside = self.regions.outside_held();
-        self.receives_held() + self.regions.bytes_held() + self.send_queue.len() as u128 + outside
+        self.receives_held() + self.regions.bytes_held() + self.send_queue.len() + outside
     }
 }

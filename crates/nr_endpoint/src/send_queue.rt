@@ -9,14 +9,16 @@ ghost use Rattle.nr_link.specs.Output.{refusing_hello};
 ghost use Rattle.nr_link.specs.Ending.{final_output, rejection};
 ghost use Rattle.nr_endpoint.specs.Judging.{reply_hello};
 ghost use Rattle.nr_outside.specs.Faults.{Rises};
-ghost use Rattle.nr_endpoint.specs.Offering.{FitsRegion, writes_output};
+ghost use Rattle.nr_endpoint.specs.Offering.{FitsRegion, FitsSharedRegion, shared_output, writes_output};
 ghost use Rattle.nr_endpoint.specs.SendQueue.{initial_queue, output_len, with_hello, with_fpdus, with_send, with_write, with_request, with_response, with_end, terminate_by, writable, written, ends_left, ends_passed};
 
 use crate::constants::SEGMENT_MAX;
 use crate::framing::{
-    Operation, RemoteWrite, push_answer, push_cut, push_long_answer, push_segment, push_send,
-    push_terminate,
+    Operation, RemoteWrite, joined, push_answer, push_cut, push_long_answer, push_segment,
+    push_send, push_terminate,
 };
+use crate::output::{Output, write_run};
+use crate::sharing::{SharedWrite, push_shared_answer};
 use bytes::BytesMut;
 use nr_link::End;
 use nr_link::constants::{WORD_BOUNDS, WORD_NO_BUFFER, WORD_NO_STAG, WORD_RIGHT};
@@ -36,7 +38,7 @@ use std::marker::Model;
 pub struct SendQueue {
     alloc: Global,
     hello: BytesMut,
-    fpdus: BytesMut,
+    fpdus: Output,
     send_ends: VecDeque<usize>,
     response_ends: VecDeque<usize>,
     sends_left: u64,
@@ -136,16 +138,6 @@ fn is_rejection(side: Side, end: End) -> bool
     }
 }
 
-/// A message of several segments that comes in two parts.
-fn joined(alloc: Global, front: &[u8], stream: &[u8]) -> Result<Octets, Memory>
-    ensures { IfOk result (λ o. o ≡ front.now ++ stream.now) }
-{
-    let mut message = Vec::with_capacity(alloc, front.len() + stream.len())?;
-    message.extend_from_slice(front)?;
-    message.extend_from_slice(stream)?;
-    Ok(Octets::from_vec(message))
-}
-
 /// Drops the first end if `n` more written bytes reach it, and answers 1. Else it goes to the back, counted from there on.
 fn retire_first(ends: &mut VecDeque<usize>, n: usize) -> usize
     ensures left { ends.new.items ≡ drop 1 ends.old.items ++ ends_left n (take 1 ends.old.items) }
@@ -176,35 +168,11 @@ fn pass_ends(ends: &mut VecDeque<usize>, n: usize) -> usize
     passed
 }
 
-/// Writes the bytes to a sink, and drops from the front what it took; answers how many bytes those were.
-fn write_out<K: Sink>(out: &mut BytesMut, sink: &mut K) -> (usize, Result<(), Failed>)
-    ensures count { result.0 ≤ length out.old.items }
-    ensures left { out.new.items ≡ drop result.0 out.old.items }
-    ensures took { Appends (K.taken sink.old) (K.taken sink.new) (take result.0 out.old.items) }
-    ensures all { OnOk result.1 (result.0 ≡ length out.old.items) }
-    ensures counted { MatchResult result.1
-        (λ _. K.faults sink.new ≡ K.faults sink.old) (λ _. Rises (K.faults sink.old) (K.faults sink.new)) }
-    ensures never_falls { K.faults sink.old ≤ K.faults sink.new }
-{
-    let len = out.len();
-    let mut count = 0;
-    while count < len {
-        match sink.write(out.as_slice()) {
-            Ok(n) => {
-                out.advance(n);
-                count += n;
-            }
-            Err(failed) => return (count, Err(failed)),
-        }
-    }
-    (count, Ok(()))
-}
-
 /// Writes a hello to a sink, and after it FPDUs if these may be written, and drops from the front what the sink took. It answers
 /// how many bytes of the FPDUs those were.
 fn write_queue<K: Sink>(
     hello: &mut BytesMut,
-    fpdus: &mut BytesMut,
+    fpdus: &mut Output,
     has_hello: bool,
     sink: &mut K,
 ) -> (usize, Result<(), Failed>)
@@ -217,11 +185,11 @@ fn write_queue<K: Sink>(
         (λ _. K.faults sink.new ≡ K.faults sink.old) (λ _. Rises (K.faults sink.old) (K.faults sink.new)) }
     ensures never_falls { K.faults sink.old ≤ K.faults sink.new }
 {
-    let (_, greeted) = write_out(hello, sink);
+    let (_, greeted) = write_run(hello, sink);
     if greeted.is_err() || !has_hello {
         return (0, greeted);
     }
-    write_out(fpdus, sink)
+    fpdus.write_out(sink)
 }
 
 impl SendQueue {
@@ -237,7 +205,7 @@ impl SendQueue {
         Ok(SendQueue {
             alloc,
             hello,
-            fpdus: BytesMut::new(alloc),
+            fpdus: Output::new(alloc),
             send_ends: VecDeque::new(alloc),
             response_ends: VecDeque::new(alloc),
             sends_left: 0,
@@ -368,6 +336,27 @@ impl SendQueue {
         Ok(())
     }
 
+    /// RDMA Writes of shared bytes and then the Send of a message in two parts. An `Err` changes nothing.
+    #[tactic(auto, using(crate::proofs::Cuts::carried_send))]
+    pub fn answer_shared(
+        &mut self,
+        writes: &[SharedWrite],
+        front: &[u8],
+        stream: &[u8],
+    ) -> Result<(), Memory>
+        requires size { length front.now + length stream.now < 2 ^ 32 }
+        requires fits { All FitsSharedRegion writes.now }
+        ensures ok { OnOk result (self.new ≡ with_send (front.now ++ stream.now) (with_fpdus (shared_output writes.now) self.old)) }
+        ensures err { OnErr result (self.new ≡ self.old) }
+    {
+        let msn = self.last_send.wrapping_add(1);
+        self.send_ends.reserve(1)?;
+        push_shared_answer(&mut self.fpdus, self.alloc, writes, msn, front, stream)?;
+        self.send_ends.push_back_reserved(self.fpdus.len());
+        self.last_send = msn;
+        Ok(())
+    }
+
     /// A Read Request. An `Err` changes nothing.
     #[tactic(auto, unfolding(nr_link::specs::Output::read_request))]
     pub fn request(
@@ -448,10 +437,11 @@ impl SendQueue {
     }
 
     /// How many bytes the queue has.
-    pub fn len(&self) -> usize
-        ensures { result ≡ length self.now.hello + length self.now.fpdus }
+    pub fn len(&self) -> u128
+        ensures value { result ≡ length self.now.hello + length self.now.fpdus }
+        ensures most { result ≤ 2 ^ 65 }
     {
-        self.hello.len() + self.fpdus.len()
+        self.hello.len() as u128 + self.fpdus.len() as u128
     }
 
     /// Drops the ends of Sends and Read Responses that the first `n` bytes of the FPDUs reach, which were written. The Sends are

@@ -2,14 +2,14 @@ use Rattle.std.proofs.Common.{take, drop, arith, ap, ◌∙◌}
 use Rattle.std.proofs.Math.Seq.{take-add}
 use Rattle.std.proofs.lemmas.List.{drop-drop, length-drop}
 use Rattle.std.proofs.KnownBytes.{Appends-trans}
-use Rattle.nr_endpoint.proofs.send_queue.write_out.Goals as goal
+use Rattle.nr_endpoint.proofs.output.write_run.Goals as goal
 
 pub loop-count-preserved : goal.loop-count-preserved
 loop-count-preserved g c =
     let so_far = c.loop-count.invariant in
     let at = c.loop-count.count in
     let n = c.in-Ok.n in
-    let bytes = c.args.out.now.items in
+    let bytes = c.args.run.now.items in
     let write = c.in-Ok.ensures in
     let bound = rw (c.as_slice.ensures, so_far.left) at write.bound in
     let took = rw (c.as_slice.ensures, so_far.left) at write.took in
@@ -24,4 +24,4 @@ pub overflow_add-count : goal.overflow_add-count
 overflow_add-count g c =
     let so_far = c.loop-count.invariant in
     let bound = rw (c.as_slice.ensures, so_far.left) at c.in-Ok.ensures.bound in
-    omega (arith, bound, length-drop c.loop-count.count c.args.out.now.items, so_far.count, c.len-len.ensures.value, c.len-len.ensures.bound)
+    omega (arith, bound, length-drop c.loop-count.count c.args.run.now.items, so_far.count, c.len-len.ensures.value, c.len-len.ensures.bound)

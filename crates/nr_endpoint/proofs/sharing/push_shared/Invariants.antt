@@ -1,0 +1,6 @@
+use Rattle.std.proofs.Common.{◌≡◌, ◌++◌}
+use Rattle.nr_endpoint.proofs.Cuts.{pieces}
+use Rattle.nr_endpoint.proofs.sharing.push_shared.Given as goal
+
+abbrev pub invariant-loop-i : goal.invariant-loop-i
+invariant-loop-i l = record { items : l.out.items ≡ l.initial.out.items ++ pieces l.carrier l.bytes l.i }

@@ -1,0 +1,152 @@
+//! RDMA Writes of bytes that are shared with the owner of an endpoint.
+
+ghost use Rattle.std.specs.Prelude.{◌≡◌, ◌+◌, ◌^◌, ◌<◌, ◌≤◌, ◌++◌, length, All, IfOk, OnOk, OnErr};
+ghost use Rattle.nr_wire.specs.Segment.{encoding};
+ghost use Rattle.nr_link.specs.Output.{cut, segment_payload};
+ghost use Rattle.nr_endpoint.specs.Carriers.{operation_segment, FitsAt, FitsCarrier};
+ghost use Rattle.nr_endpoint.specs.Offering.{FitsSharedRegion, shared_output};
+
+use crate::constants::{FRAMING_MAX, SEGMENT_MAX, SHARED_MIN};
+use crate::framing::{Operation, joined, push_cut, push_send, segment, segment_count};
+use crate::output::Output;
+use bytes::Bytes;
+use nr_wire::{segment_header, segment_tail, ulpdu_size};
+use nr_xdr::Memory;
+use std::alloc::Global;
+
+/// An RDMA Write: some bytes into the peer's region `stag`, from byte `to` on. Many bytes are not copied until they are written.
+#[derive(Drop)]
+pub struct SharedWrite {
+    /// The peer's region.
+    pub stag: u32,
+    /// The offset of the first byte in that region.
+    pub to: u64,
+    /// What is written. Offset and length stay within 2^64 in sum.
+    pub bytes: Bytes,
+}
+
+/// The bytes of the segment with this number, from 0 on.
+fn segment_bytes(bytes: &Bytes, i: usize) -> Result<Bytes, Memory>
+    requires { i < 2 ^ 51 }
+    ensures { IfOk result (λ part. part ≡ segment_payload bytes.now i) }
+{
+    let len = bytes.len();
+    let from = len.min(SEGMENT_MAX * i);
+    let to = from + (len - from).min(SEGMENT_MAX);
+    Ok(bytes.slice(from..to)?)
+}
+
+/// Puts a segment at the end, without a copy of its payload.
+fn push_shared_segment(
+    out: &mut Output,
+    carrier: Operation,
+    last: bool,
+    offset: usize,
+    payload: Bytes,
+) -> Result<(), Memory>
+    requires offset { FitsAt carrier offset }
+    requires len { length payload ≤ SEGMENT_MAX }
+    ensures { OnOk result (out.new.items ≡ out.old.items ++ encoding (operation_segment carrier last offset payload)) }
+{
+    let framed = segment(carrier, last, offset, payload.as_slice());
+    let header = segment_header(&framed);
+    let size = ulpdu_size(&framed);
+    out.reserve(FRAMING_MAX)?;
+    out.append(header.as_slice());
+    out.push(payload)?;
+    out.append(segment_tail(size));
+    Ok(())
+}
+
+/// Puts the segments of some bytes at the end, without a copy of them.
+fn push_shared(out: &mut Output, carrier: Operation, bytes: &Bytes) -> Result<(), Memory>
+    requires { FitsCarrier carrier (length bytes.now) }
+    ensures { OnOk result (out.new.items ≡ out.old.items ++ cut (operation_segment carrier) bytes.now) }
+{
+    let count = segment_count(bytes.as_slice());
+    for i in 0..count {
+        let payload = segment_bytes(bytes, i)?;
+        push_shared_segment(out, carrier, i + 1 == count, SEGMENT_MAX * i, payload)?;
+    }
+    Ok(())
+}
+
+/// Puts an RDMA Write at the end. Only few bytes are copied.
+fn push_write(out: &mut Output, write: &SharedWrite) -> Result<(), Memory>
+    requires { FitsSharedRegion write.now }
+    ensures { OnOk result (out.new.items ≡ out.old.items ++ cut (operation_segment (Operation.Write write.now.stag write.now.to)) write.now.bytes) }
+{
+    let carrier = Operation::Write {
+        stag: write.stag,
+        to: write.to,
+    };
+    if write.bytes.len() < SHARED_MIN {
+        return push_cut(out, carrier, write.bytes.as_slice());
+    }
+    push_shared(out, carrier, &write.bytes)
+}
+
+/// Puts RDMA Writes at the end. After an `Err` some of them are there.
+fn push_shared_writes(out: &mut Output, writes: &[SharedWrite]) -> Result<(), Memory>
+    requires { All FitsSharedRegion writes.now }
+    ensures { OnOk result (out.new.items ≡ out.old.items ++ shared_output writes.now) }
+{
+    for write in writes {
+        push_write(out, write)?;
+    }
+    Ok(())
+}
+
+/// Puts the Send of a message in two parts at the end, which are not joined before if they take one segment.
+fn push_message(
+    out: &mut Output,
+    alloc: Global,
+    msn: u32,
+    front: &[u8],
+    stream: &[u8],
+) -> Result<(), Memory>
+    requires { length front.now + length stream.now < 2 ^ 32 }
+    ensures { OnOk result (out.new.items ≡ out.old.items ++ cut (operation_segment (Operation.Send msn)) (front.now ++ stream.now)) }
+{
+    if front.len() + stream.len() <= SEGMENT_MAX {
+        return push_send(out, msn, front, stream);
+    }
+    let message = joined(alloc, front, stream)?;
+    push_cut(out, Operation::Send { msn }, message.as_slice())
+}
+
+/// RDMA Writes and then the Send of a message in two parts, apart from other output.
+fn shared_answer(
+    alloc: Global,
+    writes: &[SharedWrite],
+    msn: u32,
+    front: &[u8],
+    stream: &[u8],
+) -> Result<Output, Memory>
+    requires size { length front.now + length stream.now < 2 ^ 32 }
+    requires fits { All FitsSharedRegion writes.now }
+    ensures { IfOk result (λ output. output.items ≡ shared_output writes.now ++ cut (operation_segment (Operation.Send msn)) (front.now ++ stream.now)) }
+{
+    let mut output = Output::new(alloc);
+    push_shared_writes(&mut output, writes)?;
+    push_message(&mut output, alloc, msn, front, stream)?;
+    Ok(output)
+}
+
+/// Puts RDMA Writes and then the Send of a message in two parts at the end. An `Err` leaves the bytes as they were.
+pub fn push_shared_answer(
+    out: &mut Output,
+    alloc: Global,
+    writes: &[SharedWrite],
+    msn: u32,
+    front: &[u8],
+    stream: &[u8],
+) -> Result<(), Memory>
+    requires size { length front.now + length stream.now < 2 ^ 32 }
+    requires fits { All FitsSharedRegion writes.now }
+    ensures ok { OnOk result (out.new.items ≡ (out.old.items ++ shared_output writes.now) ++ cut (operation_segment (Operation.Send msn)) (front.now ++ stream.now)) }
+    ensures err { OnErr result (out.new.items ≡ out.old.items) }
+{
+    let mut more = shared_answer(alloc, writes, msn, front, stream)?;
+    out.absorb(&mut more)
+}
