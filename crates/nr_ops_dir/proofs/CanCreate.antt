@@ -6,7 +6,7 @@ use Rattle.nr_nfs_base.specs.declared.time.Time.{Time}
 use Rattle.nr_nfs_base.specs.declared.status.Status.TheVariants.{Exist, Fbig}
 use Rattle.nr_tree.specs.declared.node.Node.{Node}
 use Rattle.nr_tree.specs.declared.rules.Space.{Space}
-use Rattle.nr_tree.specs.Entries.{Entry}
+use Rattle.nr_tree.specs.Entries.{Entry, name_length_max}
 use Rattle.nr_tree.specs.Tree.{Tree, is_regular}
 use Rattle.nr_tree.specs.Sane.{IsSane, file_size_max}
 use Rattle.nr_tree.specs.Steps.{is_live_at, CanAddNode, entries_at, is_regular_at}
@@ -35,18 +35,18 @@ not_false false e = absurd cc
 
 size_within : (size : Option ℕ) → size_rule size ≡ None → (n : ℕ) → size ≡ Some n → n ≤ file_size_max
 size_within None p n e = absurd cc
-size_within (Some m) p n e = let le : m ≤ 16777216 = ltb-false 16777216 m (clear (ltb 16777216 m) Fbig p) in subst (λ (k : ℕ). k ≤ 16777216) (some_number m n e) le
+size_within (Some m) p n e = let le : m ≤ file_size_max = ltb-false file_size_max m (clear (ltb file_size_max m) Fbig p) in subst (λ (k : ℕ). k ≤ file_size_max) (some_number m n e) le
 
 zeros_within : (size : Option ℕ) → size_rule size ≡ None → length (replicate {A = ℕ} (unwrap_or size 0) 0) ≤ file_size_max
 zeros_within None p = omega arith
-zeros_within (Some m) p = let le : m ≤ 16777216 = size_within (Some m) p m refl in omega (arith, length-replicate {A = ℕ} m 0, le)
+zeros_within (Some m) p = let le : m ≤ file_size_max = size_within (Some m) p m refl in omega (arith, length-replicate {A = ℕ} m 0, le)
 
 pub can_make_file : (t : Tree) (c : Caller) (space : Space) (now : Time) (args : CreateArgs) → first (create_rules t c space args) ≡ None → number_of_entry t (number_of_handle args.dir) args.name ≡ None
     → CanAddNode t (number_of_handle args.dir) args.name (new_file c now (number_of_handle args.dir) args.how)
 can_make_file t c space now args none free =
     let all : AllClear (create_rules t c space args) = all_clear (create_rules t c space args) none in
     let entry : AllClear (entry_rules t c args.dir args.name) = all_clear (entry_rules t c args.dir args.name) all.0 in
-    let ok : (0 < length args.name) × (length args.name ≤ 255) = is_name args.name entry.1.0 in
+    let ok : (0 < length args.name) × (length args.name ≤ name_length_max) = is_name args.name entry.1.0 in
     let rules : first (new_file_rules c (given_attributes args.how)) ≡ None = ap (λ (o : Option ℕ). first (file_rules t c args.how o)) (sym free) ∙ all.1.1.0 in
     let new : AllClear (new_file_rules c (given_attributes args.how)) = all_clear (new_file_rules c (given_attributes args.how)) rules in
     record {

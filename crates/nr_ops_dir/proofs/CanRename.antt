@@ -5,7 +5,7 @@ use Rattle.std.proofs.lemmas.Bool.{or_parts, eqb-false, ltb-false, ne_eqb}
 use Rattle.nr_nfs_base.specs.declared.caller.Caller.{Caller}
 use Rattle.nr_nfs_base.specs.declared.status.Status.TheVariants.{Exist, Inval}
 use Rattle.nr_tree.specs.declared.rules.Space.{Space}
-use Rattle.nr_tree.specs.Entries.{Entry}
+use Rattle.nr_tree.specs.Entries.{Entry, name_length_max}
 use Rattle.nr_tree.specs.Tree.{Tree}
 use Rattle.nr_tree.specs.Sane.{skeleton, IsSane}
 use Rattle.nr_tree.specs.Steps.{is_dir_at, links_at, CanRename, IsFreeTarget, entries_at}
@@ -16,6 +16,7 @@ use Rattle.nr_ops_dir.specs.Entries.{number_of_entry, has_entries, links_rule}
 use Rattle.nr_nfs_args.specs.declared.remove.RenameArgs.{RenameArgs}
 use Rattle.nr_tree.specs.Within.{is_within}
 use Rattle.nr_tree.proofs.Walks.{not_within_is}
+use Rattle.nr_tree.specs.DirectoryGraph.{links_max}
 use Rattle.nr_ops_dir.specs.declared.renaming.Move.{Move}
 use Rattle.nr_ops_dir.specs.Renaming.{IsMoveOf, is_same_node, exactly_one, target_rule, move_rule, rename_of, both_rules, rename_rules}
 use Rattle.nr_ops_dir.proofs.Passed.{directory_passed, links_passed}
@@ -46,7 +47,7 @@ change_by t d d_to n target false e p =
     let all : AllClear (target_rule t n target ∷ move_rule t d d_to n ∷ []) = all_clear (target_rule t n target ∷ move_rule t d d_to n ∷ []) p in
     (all.0, all.1.0)
 
-move_by : (t : Tree) (d d_to : ℕ) (a : Bool) → a ≡ true → cond a (links_rule t d_to) None ≡ None → links_at t d_to < 65535
+move_by : (t : Tree) (d d_to : ℕ) (a : Bool) → a ≡ true → cond a (links_rule t d_to) None ≡ None → links_at t d_to < links_max
 move_by t d d_to true e p = links_passed t d_to p
 move_by t d d_to false e p = absurd cc
 
@@ -67,7 +68,7 @@ can_rename t c space args m sane none step other =
     let apart : is_same_node target n ≡ false = sym step.done ∙ other in
     let change : (target_rule t n target ≡ None) × (move_rule t d d_to n ≡ None) = change_by t d d_to n target (is_same_node target n) apart of.1.0 in
     let dir_to : is_dir_at t d_to ≡ true = directory_passed t c args.to_dir both.1.0 both.1.1.1.1.1.0 in
-    let ok : (0 < length args.to_name) × (length args.to_name ≤ 255) = is_name args.to_name both.1.1.1.0 in
+    let ok : (0 < length args.to_name) × (length args.to_name ≤ name_length_max) = is_name args.to_name both.1.1.1.0 in
     let can : CanRename t d args.from_name d_to args.to_name n = record {
       entry = step.node;
       dir = dir_to;

@@ -9,7 +9,7 @@ use Rattle.nr_nfs_base.specs.declared.status.Status.TheVariants.{Exist, Isdir, M
 use Rattle.nr_nfs_args.specs.declared.remove.LinkArgs.{LinkArgs}
 use Rattle.nr_tree.specs.declared.node.Node.{Node}
 use Rattle.nr_tree.specs.declared.rules.Space.{Space}
-use Rattle.nr_tree.specs.Entries.{Entry}
+use Rattle.nr_tree.specs.Entries.{Entry, name_length_max}
 use Rattle.nr_tree.specs.Tree.{Tree}
 use Rattle.nr_tree.specs.Sane.{skeleton}
 use Rattle.nr_tree.specs.Steps.{IsFree, CanAddLink, is_dir_at, links_at}
@@ -17,6 +17,7 @@ use Rattle.nr_tree.specs.Changes.{entry_at}
 use Rattle.nr_tree.specs.Rules.{first, on, node_of_handle, number_of_handle, handle_rule, name_rules, change_rules, is_dot_name}
 use Rattle.nr_tree.proofs.SkeletonChanges.{value_at_at}
 use Rattle.nr_tree.proofs.PassedRules.{AllClear, all_clear, clear, handled, got, is_changeable, is_name}
+use Rattle.nr_tree.specs.DirectoryGraph.{links_max}
 use Rattle.nr_ops_dir.specs.Entries.{number_of_entry, is_taken, directory_rule, links_rule}
 use Rattle.nr_ops_dir.specs.Links.{link_place_rules, link_rules}
 
@@ -37,11 +38,11 @@ no_entry (Some e) p = absurd cc
 -- a name that is free, and may be an entry's
 pub free_name : (t : Tree) (d : ℕ) (name : List ℕ) → first (name_rules name) ≡ None → is_taken t d name ≡ false → IsFree (skeleton t) d name
 free_name t d name p free =
-    let ok : (0 < length name) × (length name ≤ 255) = is_name name p in
+    let ok : (0 < length name) × (length name ≤ name_length_max) = is_name name p in
     record { free = no_entry (entry_at t d name) (or_parts (is_dot_name name) (is_some (number_of_entry t d name)) free).1; not_empty = ok.0; not_too_long = ok.1 }
 
-pub links_passed : (t : Tree) (n : ℕ) → links_rule t n ≡ None → links_at t n < 65535
-links_passed t n p = leb-false 65535 (links_at t n) (clear (leb 65535 (links_at t n)) Mlink p)
+pub links_passed : (t : Tree) (n : ℕ) → links_rule t n ≡ None → links_at t n < links_max
+links_passed t n p = leb-false links_max (links_at t n) (clear (leb links_max (links_at t n)) Mlink p)
 
 -- LINK
 pub can_add_link : (t : Tree) (c : Caller) (space : Space) (args : LinkArgs) → first (link_rules t c space args) ≡ None → CanAddLink t (number_of_handle args.dir) args.name (number_of_handle args.file)

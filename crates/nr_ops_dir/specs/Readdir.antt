@@ -1,6 +1,6 @@
 -- READDIR and READDIRPLUS (RFC 1813 sections 3.3.16 and 3.3.17): the entries after a cookie, as many as fit. Refusals: of the
 -- handle; not a directory; no right to read it; a cookie with another verifier than this server's; too little room.
-use Rattle.std.specs.Prelude.{ℕ, ◌+◌, ◌==◌, nat_le, min, Bool, false, not, ◌&&◌, ◌||◌, if◌then◌else◌, List, [], ◌∷◌, ◌++◌, length, map, Option}
+use Rattle.std.specs.Prelude.{◌≡◌, ℕ, ◌+◌, ◌==◌, nat_le, min, Bool, true, false, not, ◌&&◌, ◌||◌, if◌then◌else◌, List, [], ◌∷◌, ◌++◌, length, map, Option}
 use Rattle.std.specs.Option.{option_map_or}
 use Rattle.nr_xdr.specs.Item.{pad_len}
 use Rattle.nr_xdr.specs.Items.{encodings}
@@ -38,6 +38,18 @@ entries_behind t h cookie = option_map_or (λ dir. entries_after cookie (entries
 abbrev pub longest : (List Entry → Bool) → List Entry → List Entry → List Entry
 longest fits taken [] = taken
 longest fits taken (e ∷ es) = if fits (taken ++ e ∷ []) then longest fits (taken ++ e ∷ []) es else taken
+
+-- the next entry, if one is left, does not pass the test together with those that are taken
+abbrev pub NextFails : (List Entry → Bool) → List Entry → List Entry → Type 0
+NextFails fits taken [] = Unit {0}
+NextFails fits taken (e ∷ rest) = fits (taken ++ e ∷ []) ≡ false
+
+-- these entries are the first of those that were left; they pass the test, if it passes none; and one more does not
+pub record IsLongest (fits : List Entry → Bool) (taken left : List Entry) : Type 0 where
+  pub rest : List Entry
+  pub first : left ≡ taken ++ rest
+  pub passes : fits [] ≡ true → fits taken ≡ true
+  pub next : NextFails fits taken rest
 
 -- nothing is left, or something is taken
 abbrev pub goes_on : List Entry → List Entry → Bool

@@ -4,7 +4,7 @@ use Rattle.std.specs.Ordering.{nat_cmp}
 use Rattle.std.specs.FinMap.{FinMap, get, insert}
 use Rattle.nr_nfs_base.specs.declared.time.Time.{Time}
 use Rattle.nr_tree.specs.Entries.{Entry, entry_of_name}
-use Rattle.nr_tree.specs.DirectoryGraph.{DirectoryGraph, set, one_if, node_added, link_added, entry_added, IsConsistent, LiesBelow}
+use Rattle.nr_tree.specs.DirectoryGraph.{DirectoryGraph, set, one_if, node_added, link_added, entry_added, IsConsistent, LiesBelow, links_max}
 use Rattle.nr_tree.specs.Tree.{Tree, nodes_with_change, is_dir, entries_in}
 use Rattle.nr_tree.specs.Sane.{IsSane, skeleton_of, skeleton}
 use Rattle.nr_tree.specs.Changes.{node_with_entry, node_with_link, tree_with_node, tree_with_link}
@@ -32,7 +32,7 @@ module _ (next : ℕ) (nodes : Nodes) (h d : ℕ) (now : Time) (name : List ℕ)
   after = nodes_with_change nodes d (node_with_entry now name h b)
 
   -- but for the parent of the detached node, which a change of its own may set
-  pub add_entry_to : s.dir d ≡ true → b ≡ s.dir h → (b ≡ true → s.links d < 65535) → (b ≡ true → LiesBelow s (Some h) d h → ⊥)
+  pub add_entry_to : s.dir d ≡ true → b ≡ s.dir h → (b ≡ true → s.links d < links_max) → (b ≡ true → LiesBelow s (Some h) d h → ⊥)
       → IsConsistent (record (skeleton_of next after) { parent = set h d (skeleton_of next after).parent }) None
   add_entry_to is kind room apart =
       let v : (v : Node) × (get nodes d ≡ Some v) × (is_dir v ≡ true) = directory_at nodes d is in
@@ -62,7 +62,7 @@ module _ (next : ℕ) (nodes : Nodes) (h d : ℕ) (now : Time) (name : List ℕ)
 -- ===== CREATE, MKDIR, SYMLINK, MKNOD
 
 pub sane_tree_with_node : (t : Tree) (now : Time) (d : ℕ) (name : List ℕ) (node : Node) → IsSane t → (skeleton t).dir d ≡ true → IsFree (skeleton t) d name → IsNew node d
-    → (is_dir node ≡ true → (skeleton t).links d < 65535) → IsSane (tree_with_node t now d name node)
+    → (is_dir node ≡ true → (skeleton t).links d < links_max) → IsSane (tree_with_node t now d name node)
 sane_tree_with_node t now d name node sane is free new room =
     let s : DirectoryGraph = skeleton t in
     let nodes : Nodes = insert t.nodes t.next node in
@@ -79,7 +79,7 @@ sane_tree_with_node t now d name node sane is free new room =
     let same : S.entries d ≡ s.entries d = ap (λ (k : DirectoryGraph). k.entries d) way ∙ set_other t.next [] s.entries d ne in
     let ok : IsFree S d name = record { free = ap (entry_of_name name) same ∙ free.free; not_empty = free.not_empty; not_too_long = free.not_too_long } in
     let put : IsConsistent (record (skeleton_of (t.next + 1) (tree_with_node t now d name node).nodes) { parent = set t.next d (skeleton_of (t.next + 1) (tree_with_node t now d name node).nodes).parent }) None =
-    add_entry_to (t.next + 1) nodes t.next d now name (is_dir node) sound fit dir kind (λ b. let less : s.links d < 65535 = room b in omega (arith, links, less)) (λ b below. none_below S t.next d sound bare ne below) in
+    add_entry_to (t.next + 1) nodes t.next d now name (is_dir node) sound fit dir kind (λ b. let less : s.links d < links_max = room b in omega (arith, links, less)) (λ b below. none_below S t.next d sound bare ne below) in
     record {
       contents = add_entry_to-fit (t.next + 1) nodes t.next d now name (is_dir node) sound fit dir ok;
       skeleton = subst (λ (f : ℕ → ℕ). IsConsistent (record (skeleton_of (t.next + 1) (tree_with_node t now d name node).nodes) { parent = f }) None)
@@ -89,7 +89,7 @@ sane_tree_with_node t now d name node sane is free new room =
 -- ===== LINK
 
 pub sane_tree_with_link : (t : Tree) (now : Time) (d : ℕ) (name : List ℕ) (h : ℕ) → IsSane t → (skeleton t).dir d ≡ true → IsFree (skeleton t) d name
-    → (skeleton t).live h ≡ true → (skeleton t).dir h ≡ false → (skeleton t).links h < 65535 → IsSane (tree_with_link t now d name h)
+    → (skeleton t).live h ≡ true → (skeleton t).dir h ≡ false → (skeleton t).links h < links_max → IsSane (tree_with_link t now d name h)
 sane_tree_with_link t now d name h sane is free live file room =
     let s : DirectoryGraph = skeleton t in
     let w : Named t.nodes h = node_at t.nodes h live in

@@ -7,7 +7,7 @@ use Rattle.std.specs.Cmp.Lexicographic.{pointwise}
 use Rattle.std.proofs.lemmas.Cmp.{nat_list_eq_equiv}
 use Rattle.std.specs.FinMap.{FinMap, get, insert, remove, get-insert, get-remove}
 use Rattle.nr_nfs_base.specs.declared.time.Time.{Time}
-use Rattle.nr_tree.specs.Entries.{Entry, entry_of_name, is_name, list_without, CookiesAscend, NamesAreValid}
+use Rattle.nr_tree.specs.Entries.{Entry, entry_of_name, is_name, list_without, CookiesAscend, NamesAreValid, name_length_max}
 use Rattle.nr_tree.specs.Tree.{value_at, nodes_with_change, is_dir, entries_in}
 use Rattle.nr_tree.specs.Sane.{IsValidContent}
 use Rattle.nr_tree.specs.Changes.{node_with_entry, node_without_entry}
@@ -45,7 +45,7 @@ none_append name (x ∷ es) e z f =
     let p : (is_name name x ≡ false) × (entry_of_name name es ≡ None) = found_none (is_name name x) x (entry_of_name name es) z in
     ap (λ (b : Bool). cond b (Some x) (entry_of_name name (es ++ e ∷ []))) p.0 ∙ none_append name es e p.1 f
 
-pub NamesAreValid_append : (es : List Entry) (e : Entry) → entry_of_name e.name es ≡ None → 0 < length e.name → length e.name ≤ 255 → NamesAreValid es → NamesAreValid (es ++ e ∷ [])
+pub NamesAreValid_append : (es : List Entry) (e : Entry) → entry_of_name e.name es ≡ None → 0 < length e.name → length e.name ≤ name_length_max → NamesAreValid es → NamesAreValid (es ++ e ∷ [])
 NamesAreValid_append [] e z some few n = (some, few, refl, tt)
 NamesAreValid_append (x ∷ es) e z some few n =
     let p : (is_name e.name x ≡ false) × (entry_of_name e.name es ≡ None) = found_none (is_name e.name x) x (entry_of_name e.name es) z in
@@ -97,7 +97,7 @@ gone_without name (x ∷ es) n = gone_step (is_name name x) name x es (list_with
 
 -- ===== nodes
 
-pub fit_node_with_entry : (now : Time) (name : List ℕ) (n : ℕ) (b : Bool) (v : Node) (c : Content) → v.content ≡ c → IsValidContent c → entry_of_name name (entries_in v) ≡ None → 0 < length name → length name ≤ 255
+pub fit_node_with_entry : (now : Time) (name : List ℕ) (n : ℕ) (b : Bool) (v : Node) (c : Content) → v.content ≡ c → IsValidContent c → entry_of_name name (entries_in v) ≡ None → 0 < length name → length name ≤ name_length_max
     → IsValidContent (node_with_entry now name n b v).content
 fit_node_with_entry now name n b v (Directory d) e fit z some few =
     let free : entry_of_name name d.list ≡ None = rw (e) at z in

@@ -9,7 +9,7 @@ use Rattle.std.specs.Ordering.{nat_cmp, eq_by_cmp}
 use Rattle.std.specs.Cmp.{nat_cmp_total}
 use Rattle.std.specs.FinMap.{FinMap, get, insert, empty, get-insert, get-empty}
 use Rattle.nr_nfs_base.specs.declared.time.Time.{Time}
-use Rattle.nr_tree.specs.Entries.{Entry, entry_of_name}
+use Rattle.nr_tree.specs.Entries.{Entry, entry_of_name, name_length_max}
 use Rattle.nr_tree.specs.Tree.{Tree, is_dir, entries_in}
 use Rattle.nr_tree.specs.Steps.{IsBelow, IsNew, CanAddNode}
 use Rattle.nr_tree.specs.Changes.{next_cookie_of, node_with_entry, tree_with_node}
@@ -20,6 +20,8 @@ use Rattle.nr_tree.specs.declared.node.Content.{Content}
 use Rattle.nr_tree.specs.declared.node.Content.TheVariants.{Regular, Directory, Block, Character, Link, Socket, Fifo}
 use Rattle.nr_tree.proofs.NodeMaps.{get_changed, other_key}
 use Rattle.nr_tree.proofs.Contents.{none_append}
+use Rattle.nr_tree.specs.DirectoryGraph.{links_max}
+use Rattle.nr_tree.specs.Sane.{file_size_max}
 use Rattle.nr_nfs_base.specs.Limits.{link_target_max}
 
 own_key : (q : ℕ) → eq_by_cmp nat_cmp q q ≡ true
@@ -100,15 +102,15 @@ below_root_only now = record { next = omega arith; cookies = λ n v e. by n v e 
 -- ===== what may be added
 
 pub can_add : (t : Tree) (d : ℕ) (name : List ℕ) (mode links : ℕ) (content : Content) (v : Node) → get t.nodes d ≡ Some v → is_dir v ≡ true → entry_of_name name (entries_in v) ≡ None
-    → 0 < length name → length name ≤ 255 → v.metadata.links < 65535 → IsNew (drill_node mode links d content) d → CanAddNode t d name (drill_node mode links d content)
+    → 0 < length name → length name ≤ name_length_max → v.metadata.links < links_max → IsNew (drill_node mode links d content) d → CanAddNode t d name (drill_node mode links d content)
 can_add t d name mode links content v e dir none some few room new = record {
   directory = ap (λ (o : Option Node). option_map_or is_dir o false) e ∙ dir;
   free = record { free = ap (λ (o : Option Node). entry_of_name name (option_map_or entries_in o [])) e ∙ none; not_empty = some; not_too_long = few };
   new = new;
-  links = λ b. subst (λ (k : ℕ). k < 65535) (sym (ap (λ (o : Option Node). option_map_or (λ (node : Node). node.metadata.links) o 0) e)) room;
+  links = λ b. subst (λ (k : ℕ). k < links_max) (sym (ap (λ (o : Option Node). option_map_or (λ (node : Node). node.metadata.links) o 0) e)) room;
 }
 
-pub new_file : (d : ℕ) (bytes : List ℕ) → length bytes ≤ 16777216 → IsNew (drill_node mode_666 1 d (Regular bytes)) d
+pub new_file : (d : ℕ) (bytes : List ℕ) → length bytes ≤ file_size_max → IsNew (drill_node mode_666 1 d (Regular bytes)) d
 new_file d bytes le = record { fit = le; empty = refl; first_cookie = omega arith; parent = refl; links = refl }
 
 pub new_link : (d : ℕ) (path : List ℕ) → 0 < length path → length path ≤ link_target_max → IsNew (drill_node mode_777 1 d (Link path)) d

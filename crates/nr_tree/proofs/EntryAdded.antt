@@ -2,12 +2,12 @@
 use Rattle.std.proofs.Common.{◌≡◌, ℕ, ◌+◌, ◌<◌, ◌≤◌, Bool, true, false, eqb, List, [], ◌∷◌, ◌++◌, None, Some, refl, ap, sym, ◌∙◌, subst, arith, inl, inr, ◌⊎◌}
 use Rattle.std.proofs.lemmas.Bool.{cases_eq, cases_Bool, cond-true, cond-false}
 use Rattle.nr_tree.specs.Entries.{Entry, Each, count}
-use Rattle.nr_tree.specs.DirectoryGraph.{DirectoryGraph, set, one_if, name_count, detached_count, LiesBelow, IsConnected, IsConsistent, subdirectory_count, expected_links, entry_added}
+use Rattle.nr_tree.specs.DirectoryGraph.{DirectoryGraph, set, one_if, name_count, detached_count, LiesBelow, IsConnected, IsConsistent, subdirectory_count, expected_links, entry_added, links_max}
 use Rattle.nr_tree.proofs.Lists.{set_here_lem, set_other, set_all, Each_map, Each_both, Each_append, count_append}
 use Rattle.nr_tree.proofs.Paths.{IsPathUp_same, IsPathUp_append, SameSteps, not_detached, not_root, differ, dir_below, unnamed, detached_unnamed, name_count_set}
 
 module _ (s : DirectoryGraph) (d : ℕ) (e : Entry) (sound : IsConsistent s (Some e.number)) (is : s.dir d ≡ true)
-    (room : s.dir e.number ≡ true → s.links d < 65535) (apart : s.dir e.number ≡ true → LiesBelow s (Some e.number) d e.number → ⊥) where
+    (room : s.dir e.number ≡ true → s.links d < links_max) (apart : s.dir e.number ≡ true → LiesBelow s (Some e.number) d e.number → ⊥) where
   abbrev put : DirectoryGraph
   put = entry_added s d e
 
@@ -63,7 +63,7 @@ module _ (s : DirectoryGraph) (d : ℕ) (e : Entry) (sound : IsConsistent s (Som
       ∙ (let sums : name_count s n + detached_count (Some e.number) n ≡ name_count put n + 0 = omega (arith, name_count-entry_added n) in sums)
       ∙ sym (cond-false (s.dir n) (2 + subdirectory_count put n) (name_count put n + 0) f)
 
-  room_for : (b : Bool) → s.dir e.number ≡ b → s.links d + one_if b ≤ 65535
+  room_for : (b : Bool) → s.dir e.number ≡ b → s.links d + one_if b ≤ links_max
   room_for true t = omega (arith, room t)
   room_for false f = omega (arith, sound.links_limit d (sound.dirs_live d is))
 
@@ -85,5 +85,5 @@ module _ (s : DirectoryGraph) (d : ℕ) (e : Entry) (sound : IsConsistent s (Som
     once = λ n dir ne. omega (arith, name_count-entry_added n, sound.once n dir ne);
     below = λ n dir. hangs n (sound.below n dir);
     links = λ n live. links_at n live (cases_Bool (s.dir n)) (cases_eq n d);
-    links_limit = λ n live. set_all (λ l. l ≤ 65535) d (s.links d + one_if (s.dir e.number)) s.links n (λ z. room_for (s.dir e.number) refl) (λ ne. sound.links_limit n live);
+    links_limit = λ n live. set_all (λ l. l ≤ links_max) d (s.links d + one_if (s.dir e.number)) s.links n (λ z. room_for (s.dir e.number) refl) (λ ne. sound.links_limit n live);
   }

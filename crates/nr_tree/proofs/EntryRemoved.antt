@@ -2,7 +2,7 @@
 use Rattle.std.proofs.Common.{◌≡◌, ◌≢◌, ℕ, ◌+◌, ◌-◌, ◌≤◌, true, false, eqb, List, [], ◌∷◌, None, Some, refl, ap, sym, ◌∙◌, subst, arith, inl, inr, ◌⊎◌}
 use Rattle.std.proofs.lemmas.Bool.{cases_eq, cases_Bool, cond-true, cond-false}
 use Rattle.nr_tree.specs.Entries.{Entry, Each, count, entry_of_name, list_without}
-use Rattle.nr_tree.specs.DirectoryGraph.{DirectoryGraph, one_if, name_count, detached_count, IsPathUp, IsConnected, IsConsistent, subdirectory_count, expected_links, entry_removed}
+use Rattle.nr_tree.specs.DirectoryGraph.{DirectoryGraph, one_if, name_count, detached_count, IsPathUp, IsConnected, IsConsistent, subdirectory_count, expected_links, entry_removed, links_max}
 use Rattle.nr_tree.proofs.Lists.{set_here_lem, set_other, set_all, Each_list_without, Each_found, count_list_without}
 use Rattle.nr_tree.proofs.Paths.{detached_count_other, differ, dir_below, name_count_set}
 
@@ -74,5 +74,5 @@ module _ (s : DirectoryGraph) (d : ℕ) (name : List ℕ) (e : Entry) (sound : I
     once = λ n dir ne. omega (arith, name_count-entry_removed n, sound.once n dir ne);
     below = λ n dir. hangs n (sound.below n dir);
     links = λ n live. links_at n live (cases_Bool (s.dir n)) (cases_eq n d);
-    links_limit = λ n live. set_all (λ l. l ≤ 65535) d (s.links d - one_if (s.dir e.number)) s.links n (λ z. omega (arith, sound.links_limit d (sound.dirs_live d has_entries))) (λ ne. sound.links_limit n live);
+    links_limit = λ n live. set_all (λ l. l ≤ links_max) d (s.links d - one_if (s.dir e.number)) s.links n (λ z. omega (arith, sound.links_limit d (sound.dirs_live d has_entries))) (λ ne. sound.links_limit n live);
   }

@@ -2,7 +2,7 @@
 use Rattle.std.proofs.Common.{◌≡◌, ℕ, ◌+◌, ◌-◌, ◌<◌, ◌≤◌, Bool, true, false, cond, List, [], None, Some, refl, ap, sym, ◌∙◌, subst, arith, inl, inr, ◌⊎◌}
 use Rattle.std.proofs.lemmas.Bool.{cases_eq, both_ways, cond-false}
 use Rattle.nr_tree.specs.Entries.{Entry, Each, count}
-use Rattle.nr_tree.specs.DirectoryGraph.{DirectoryGraph, sum_below, set, name_count_in, name_count, detached_count, LiesBelow, IsConnected, IsConsistent, subdirectory_count, expected_links, link_dropped, node_removed, link_added}
+use Rattle.nr_tree.specs.DirectoryGraph.{DirectoryGraph, sum_below, set, name_count_in, name_count, detached_count, LiesBelow, IsConnected, IsConsistent, subdirectory_count, expected_links, link_dropped, node_removed, link_added, links_max}
 use Rattle.nr_tree.proofs.Lists.{set_here_lem, set_other, set_all, set_same, Each_map, Each_both, count_same}
 use Rattle.nr_tree.proofs.Paths.{IsPathUp_same, SameSteps, detached_count_self, detached_count_other, not_detached, not_root, differ, unnamed, none_below}
 
@@ -41,12 +41,12 @@ module _ (s : DirectoryGraph) (h : ℕ) (sound : IsConsistent s (Some h)) (file 
     once = λ n dir ne. omega (arith, sound.once n dir ne, detached_count_other h n (λ z. differ s.dir n h dir file (sym z)));
     below = λ n dir. hangs n (sound.below n dir);
     links = λ n live. links_at n live (cases_eq n h);
-    links_limit = λ n live. set_all (λ l. l ≤ 65535) h (s.links h - 1) s.links n (λ z. omega (arith, sound.links_limit h (sound.detached_live h refl))) (λ ne. sound.links_limit n live);
+    links_limit = λ n live. set_all (λ l. l ≤ links_max) h (s.links h - 1) s.links n (λ z. omega (arith, sound.links_limit h (sound.detached_live h refl))) (λ ne. sound.links_limit n live);
   }
 
 -- ===== one link more
 
-module _ (s : DirectoryGraph) (h : ℕ) (sound : IsConsistent s None) (live : s.live h ≡ true) (file : s.dir h ≡ false) (room : s.links h < 65535) where
+module _ (s : DirectoryGraph) (h : ℕ) (sound : IsConsistent s None) (live : s.live h ≡ true) (file : s.dir h ≡ false) (room : s.links h < links_max) where
   abbrev more : DirectoryGraph
   more = link_added s h
 
@@ -78,7 +78,7 @@ module _ (s : DirectoryGraph) (h : ℕ) (sound : IsConsistent s None) (live : s.
     once = λ n dir ne. omega (arith, sound.once n dir ne, detached_count_other h n (λ z. differ s.dir n h dir file (sym z)));
     below = λ n dir. hangs_more n (sound.below n dir);
     links = λ n at. links_more n at (cases_eq n h);
-    links_limit = λ n at. set_all (λ l. l ≤ 65535) h (s.links h + 1) s.links n (λ z. omega (arith, room)) (λ ne. sound.links_limit n at);
+    links_limit = λ n at. set_all (λ l. l ≤ links_max) h (s.links h + 1) s.links n (λ z. omega (arith, room)) (λ ne. sound.links_limit n at);
   }
 
 -- ===== the node is removed
@@ -145,5 +145,5 @@ module _ (s : DirectoryGraph) (h : ℕ) (sound : IsConsistent s (Some h)) (alone
         omega (arith, same_naming n, sound.once n at.1 ne, detached_count_other h n (λ z. at.0 (sym z)));
     below = λ n t. let at : (n ≡ h → ⊥) × (s.dir n ≡ true) = lives s.dir n t in hangs_on n at.0 (sound.below n at.1);
     links = λ n t. links_on n (lives s.live n t);
-    links_limit = λ n t. set_all (λ l. l ≤ 65535) h 0 s.links n (λ z. omega arith) (λ ne. sound.links_limit n (lives s.live n t).1);
+    links_limit = λ n t. set_all (λ l. l ≤ links_max) h 0 s.links n (λ z. omega arith) (λ ne. sound.links_limit n (lives s.live n t).1);
   }

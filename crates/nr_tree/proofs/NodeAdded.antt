@@ -2,7 +2,7 @@
 use Rattle.std.proofs.Common.{◌≡◌, ◌≢◌, ℕ, zero, suc, ◌+◌, ◌<◌, ◌≤◌, Bool, true, false, cond, List, [], ◌∷◌, None, Some, refl, ap, sym, ◌∙◌, subst, arith, inl, inr, ◌⊎◌}
 use Rattle.std.proofs.lemmas.Bool.{cases_eq, ne_eqb, cond-true, cond-false, false_from_ne_true}
 use Rattle.nr_tree.specs.Entries.{Entry, Each, count}
-use Rattle.nr_tree.specs.DirectoryGraph.{DirectoryGraph, sum_below, one_if, name_count_in, name_count, detached_count, IsConnected, IsConsistent, subdirectory_count, expected_links, node_added}
+use Rattle.nr_tree.specs.DirectoryGraph.{DirectoryGraph, sum_below, one_if, name_count_in, name_count, detached_count, IsConnected, IsConsistent, subdirectory_count, expected_links, node_added, links_max}
 use Rattle.nr_tree.proofs.Lists.{set_here_lem, set_other, set_all, set_same, Each_map, Each_both, count_same}
 use Rattle.nr_tree.proofs.Paths.{IsPathUp_same, SameSteps, detached_count_self, detached_count_other, dir_below}
 
@@ -79,7 +79,7 @@ module _ (s : DirectoryGraph) (b : Bool) (p : ℕ) (sound : IsConsistent s None)
       set_other s.next (1 + one_if b) s.links n ne ∙ sound.links n (sym (set_other s.next true s.live n ne) ∙ t) ∙ (λ i. cond (s.dir n) (subs i) (sums i))
       ∙ ap (λ (c : Bool). cond c (2 + subdirectory_count more n) (name_count more n + detached_count (Some s.next) n)) (sym (set_other s.next b s.dir n ne))
 
-  one_small : (c : Bool) → 1 + one_if c ≤ 65535
+  one_small : (c : Bool) → 1 + one_if c ≤ links_max
   one_small true = omega arith
   one_small false = omega arith
 
@@ -113,5 +113,5 @@ module _ (s : DirectoryGraph) (b : Bool) (p : ℕ) (sound : IsConsistent s None)
     once = λ n t ne. once_at n t ne (cases_eq n s.next);
     below = λ n t. hangs_at n t (cases_eq n s.next);
     links = λ n t. links_at n t (cases_eq n s.next);
-    links_limit = λ n t. set_all (λ l. l ≤ 65535) s.next (1 + one_if b) s.links n (λ z. one_small b) (λ ne. sound.links_limit n (sym (set_other s.next true s.live n ne) ∙ t));
+    links_limit = λ n t. set_all (λ l. l ≤ links_max) s.next (1 + one_if b) s.links n (λ z. one_small b) (λ ne. sound.links_limit n (sym (set_other s.next true s.live n ne) ∙ t));
   }

@@ -11,6 +11,7 @@ use Rattle.nr_tree.specs.Sane.{IsSane}
 use Rattle.nr_tree.specs.Rules.{first, or_else, ◌⇒◌, on, after, node_of_handle, number_of_handle, was_given, handle_rule, name_rules, change_rules}
 use Rattle.nr_tree.specs.declared.node.Node.{Node}
 use Rattle.nr_tree.proofs.SkeletonChanges.{value_at_at}
+use Rattle.nr_tree.specs.Entries.{name_length_max}
 
 pub passed : (r o : Option Status) → or_else r o ≡ None → (r ≡ None) × (o ≡ None)
 passed None o p = (refl, p)
@@ -66,11 +67,11 @@ is_changeable t c h v e p =
     value_at_at is_dir false t.nodes (number_of_handle h) v (got t h v e) ∙ is_dir_by (is_dir v) (clear (not (is_dir v)) Notdir all.0)
 
 -- the rules of a name
-pub is_name : (name : List ℕ) → first (name_rules name) ≡ None → (0 < length name) × (length name ≤ 255)
+pub is_name : (name : List ℕ) → first (name_rules name) ≡ None → (0 < length name) × (length name ≤ name_length_max)
 is_name name p =
     let all : AllClear (name_rules name) = all_clear (name_rules name) p in
     let some : length name ≡ 0 → ⊥ = eqb-false (length name) 0 (clear (eqb (length name) 0) Acces all.0) in
-    let few : length name ≤ 255 = ltb-false 255 (length name) (clear (ltb 255 (length name)) Nametoolong all.1.1.0) in
+    let few : length name ≤ name_length_max = ltb-false name_length_max (length name) (clear (ltb name_length_max (length name)) Nametoolong all.1.1.0) in
     (omega (arith, some), few)
 
 pub sane_after : (t u : Tree) (o : Option Status) → IsSane t → (o ≡ None → IsSane u) → IsSane (after o t u)

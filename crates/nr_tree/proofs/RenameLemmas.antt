@@ -6,7 +6,7 @@ use Rattle.std.specs.Ordering.{nat_cmp}
 use Rattle.std.specs.FinMap.{FinMap, get}
 use Rattle.nr_nfs_base.specs.declared.time.Time.{Time}
 use Rattle.nr_tree.specs.Entries.{Entry, entry_of_name, list_without, entries_without}
-use Rattle.nr_tree.specs.DirectoryGraph.{one_if}
+use Rattle.nr_tree.specs.DirectoryGraph.{one_if, links_max}
 use Rattle.nr_tree.specs.Tree.{Tree, value_at, nodes_with_change, is_dir, is_directory, entries_in}
 use Rattle.nr_tree.specs.Sane.{IsSane, skeleton}
 use Rattle.nr_tree.specs.private.Room.{HasRoomFor, HasEntryIn, HasEntryFor, IsSource}
@@ -48,10 +48,10 @@ at_most_one : (b : Bool) → one_if b ≤ 1
 at_most_one true = omega arith
 at_most_one false = omega arith
 
-counted_by : (k l : ℕ) (was : Bool) → k ≡ l → 2 ≤ k → k ≤ 65535 → (one_if was ≤ l) × (l < 2 ^ 31)
+counted_by : (k l : ℕ) (was : Bool) → k ≡ l → 2 ≤ k → k ≤ links_max → (one_if was ≤ l) × (l < 2 ^ 31)
 counted_by k l was same two few = (omega (arith, same, two, at_most_one was), omega (arith, same, few))
 
-counted_left : (k l : ℕ) (b was : Bool) → k ≡ l → 2 ≤ k → k ≤ 65535 → (one_if was ≤ l - one_if b) × (l - one_if b < 2 ^ 31)
+counted_left : (k l : ℕ) (b was : Bool) → k ≡ l → 2 ≤ k → k ≤ links_max → (one_if was ≤ l - one_if b) × (l - one_if b < 2 ^ 31)
 counted_left k l b was same two few = (omega (arith, same, two, at_most_one was, at_most_one b), omega (arith, same, few))
 
 module _ (t : Tree) (from : ℕ) (name : List ℕ) (to : ℕ) (name_to : List ℕ) (h : ℕ) (sane : IsSane t) (can : CanRename t from name to name_to h) where

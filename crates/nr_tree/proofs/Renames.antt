@@ -6,7 +6,7 @@ use Rattle.std.specs.Ordering.{nat_cmp}
 use Rattle.std.specs.FinMap.{FinMap, get}
 use Rattle.nr_nfs_base.specs.declared.time.Time.{Time}
 use Rattle.nr_tree.specs.Entries.{Entry, entry_of_name, is_name, list_without}
-use Rattle.nr_tree.specs.DirectoryGraph.{DirectoryGraph, set, one_if, entry_removed, IsConsistent, LiesBelow}
+use Rattle.nr_tree.specs.DirectoryGraph.{DirectoryGraph, set, one_if, entry_removed, IsConsistent, LiesBelow, links_max}
 use Rattle.nr_tree.specs.Tree.{Tree, value_at, nodes_with_change, is_dir}
 use Rattle.nr_tree.specs.Sane.{IsSane, skeleton_of, skeleton}
 use Rattle.nr_tree.specs.Changes.{node_with_entry, node_without_entry, node_with_new_name, tree_without_entry, tree_with_entry_moved, tree_with_new_name, entry_at}
@@ -31,12 +31,12 @@ path_before s d name h n top way = (way.0, IsPathUp_same (entry_removed s d name
 pub record IsFreePlace (s : DirectoryGraph) (from to : ℕ) (name : List ℕ) (h : ℕ) : Type 0 where
   pub dir : s.dir to ≡ true
   pub free : IsFree s to name
-  pub room : s.dir h ≡ true → (to ≡ from → ⊥) → s.links to < 65535
+  pub room : s.dir h ≡ true → (to ≡ from → ⊥) → s.links to < links_max
   pub apart : s.dir h ≡ true → LiesBelow s None to h → ⊥
 
-room_in : (s : DirectoryGraph) (from to : ℕ) (name : List ℕ) (h : ℕ) → IsConsistent s None → s.dir from ≡ true → s.dir h ≡ true → ((to ≡ from → ⊥) → s.links to < 65535) → 2 ≤ s.links from → (entry_removed s from name h).links to < 65535
+room_in : (s : DirectoryGraph) (from to : ℕ) (name : List ℕ) (h : ℕ) → IsConsistent s None → s.dir from ≡ true → s.dir h ≡ true → ((to ≡ from → ⊥) → s.links to < links_max) → 2 ≤ s.links from → (entry_removed s from name h).links to < links_max
 room_in s from to name h sound is dir room two =
-    set_all (λ l. l < 65535) from (s.links from - one_if (s.dir h)) s.links to
+    set_all (λ l. l < links_max) from (s.links from - one_if (s.dir h)) s.links to
     (λ z. omega (arith, ap one_if dir, two, sound.links_limit from (sound.dirs_live from is))) room
 
 pub two_links : (s : DirectoryGraph) (d : ℕ) → IsConsistent s None → s.dir d ≡ true → 2 ≤ s.links d
@@ -64,7 +64,7 @@ sane_tree_with_entry_moved t now from name to name_to e sane found welcome =
     let after : Nodes = nodes_with_change nodes to (node_with_entry now name_to h b) in
     let put : IsConsistent (record (skeleton_of t.next after) { parent = set h to (skeleton_of t.next after).parent }) None =
     add_entry_to t.next nodes h to now name_to b sound fit dir kind
-    (λ d. let less : (entry_removed s from name h).links to < 65535 = room_in s from to name h sane.skeleton is d (welcome.room d) (two_links s from sane.skeleton is) in omega (arith, links, less))
+    (λ d. let less : (entry_removed s from name h).links to < links_max = room_in s from to name h sane.skeleton is d (welcome.room d) (two_links s from sane.skeleton is) in omega (arith, links, less))
     (λ d below. welcome.apart d (path_before s from name h to h (subst (λ (k : DirectoryGraph). LiesBelow k (Some h) to h) way below))) in
     let live : (skeleton_of t.next after).live h ≡ true = ap (λ (f : ℕ → Bool). f h) (add_entry_to-live t.next nodes h to now name_to b sound fit dir) ∙ sound.detached_live h refl in
     let w : Named after h = node_at after h live in
@@ -124,7 +124,7 @@ over_target t now from name to name_to e (Some g) target sane found may go =
     sane_tree_with_entry_moved u now from name to name_to e out.sane at_from (record {
       dir = (out.left.other to to_stays).1 ∙ may.dir;
       free = record { free = ap (entry_of_name name_to) at_to ∙ gone_without name_to (s.entries to) (names_at t.nodes to sane.contents may.dir); not_empty = may.not_empty; not_too_long = may.not_too_long };
-      room = λ d ne. (let less : s.links to < 65535 = may.links (old_dir d) ne in omega (arith, same, fewer, less));
+      room = λ d ne. (let less : s.links to < links_max = may.links (old_dir d) ne in omega (arith, same, fewer, less));
       apart = λ d way. may.apart (old_dir d) (
         way.0,
         IsPathUp_same k None s None

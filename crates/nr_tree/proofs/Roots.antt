@@ -5,7 +5,7 @@ use Rattle.std.specs.Option.{option_map_or}
 use Rattle.std.specs.Ordering.{nat_cmp}
 use Rattle.std.specs.FinMap.{FinMap, empty, get-empty}
 use Rattle.nr_nfs_base.specs.declared.time.Time.{Time}
-use Rattle.nr_tree.specs.DirectoryGraph.{DirectoryGraph, set, expected_links, IsConsistent}
+use Rattle.nr_tree.specs.DirectoryGraph.{DirectoryGraph, set, expected_links, IsConsistent, links_max}
 use Rattle.nr_tree.specs.Tree.{value_at, is_dir, entries_in}
 use Rattle.nr_tree.specs.Sane.{IsSane, skeleton}
 use Rattle.nr_tree.specs.Roots.{root_node, root_only}
@@ -66,7 +66,7 @@ sound_lone = record {
   once = λ n t ne. absurd (ne (only n t));
   below = λ n t. inl ([], only n t);
   links = λ n t. links_lone n (only n t);
-  links_limit = λ n t. subst (λ (k : ℕ). lone.links k ≤ 65535) (sym (only n t)) (omega arith);
+  links_limit = λ n t. subst (λ (k : ℕ). lone.links k ≤ links_max) (sym (only n t)) (omega arith);
 }
 
 none_fit : Fit empty

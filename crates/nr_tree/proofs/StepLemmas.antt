@@ -7,7 +7,7 @@ use Rattle.std.specs.FinMap.{get, insert}
 use Rattle.nr_nfs_base.specs.declared.time.Time.{Time}
 use Rattle.nr_tree.specs.Bytes.{with_length, with_bytes_at}
 use Rattle.nr_tree.specs.Entries.{Entry, entry_of_name}
-use Rattle.nr_tree.specs.DirectoryGraph.{DirectoryGraph}
+use Rattle.nr_tree.specs.DirectoryGraph.{DirectoryGraph, links_max}
 use Rattle.nr_tree.specs.Tree.{Tree, is_dir, is_regular, is_directory, is_regular_content, entries_in}
 use Rattle.nr_tree.specs.Sane.{IsSane, IsValidContent, skeleton, file_size_max}
 use Rattle.nr_tree.specs.private.Room.{HasRoomIn, HasRoomFor}
@@ -56,7 +56,7 @@ room_by name v (Link path) e t free below = absurd cc
 room_by name v Socket e t free below = absurd cc
 room_by name v Fifo e t free below = absurd cc
 
-few_links : (k l : ℕ) → k ≡ l → k ≤ 65535 → l < 2 ^ 31
+few_links : (k l : ℕ) → k ≡ l → k ≤ links_max → l < 2 ^ 31
 few_links k l e le = omega (arith, e, le)
 
 pub has_room : (t : Tree) (d : ℕ) (name : List ℕ) → IsSane t → IsBounded t → is_dir_at t d ≡ true → IsFree (skeleton t) d name → IfSome (get t.nodes d) (λ n. HasRoomFor name n)
