@@ -1,16 +1,18 @@
 -- Entries after a cookie are those from an index on, since cookies ascend.
-use Rattle.std.proofs.Common.{◌≡◌, ℕ, zero, suc, ◌+◌, ◌-◌, ◌/◌, ◌<◌, ◌≤◌, Bool, true, false, cond, ltb, List, [], ◌∷◌, ◌++◌, take, drop, Some, refl, ap, sym, ◌∙◌, subst, arith}
-use Rattle.std.proofs.lemmas.Bool.{le-ltb, lt-ltb}
-use Rattle.std.proofs.lemmas.List.{take-append-drop}
+use Rattle.std.proofs.Common.{◌≡◌, ℕ, zero, suc, ◌+◌, ◌-◌, ◌*◌, ◌/◌, ◌^◌, ◌<◌, ◌≤◌, Bool, true, false, cond, leb, ltb, length, List, [], ◌∷◌, ◌++◌, take, drop, Option, None, Some, refl, ap, sym, ◌∙◌, subst, arith}
+use Rattle.std.proofs.lemmas.Bool.{le-ltb, lt-ltb, leb-true, leb-false}
+use Rattle.std.proofs.lemmas.List.{take-append-drop, length-drop, length-map}
+use Rattle.std.proofs.lemmas.Nat.{mul-le}
+use Rattle.std.proofs.Math.Nat.{pow-suc, mul_assoc, mul-one}
 use Rattle.std.specs.Prelude.{slice_get}
 use Rattle.std.specs.Option.{option_map}
 use Rattle.nr_tree.specs.Entries.{Entry, CookiesAscend}
 use Rattle.std.specs.declared.vec.Vec.{Vec}
 use Rattle.std.specs.declared.alloc.Global.{Global}
 use Rattle.nr_tree.specs.declared.directory.Slot.{Slot}
-use Rattle.nr_tree.specs.Slots.{slot_entries}
+use Rattle.nr_tree.specs.Slots.{slot_entries, entry_of}
 use Rattle.nr_tree.proofs.Slots.{entry_of_slot}
-use Rattle.nr_tree.specs.Listing.{entries_after}
+use Rattle.nr_tree.specs.Listing.{entries_after, count_until}
 
 append_step : (b : Bool) (x : Entry) (xs ys all : List Entry) → all ≡ xs ++ ys → cond b (x ∷ all) all ≡ cond b (x ∷ xs) xs ++ ys
 append_step true x xs ys all e = ap (λ (l : List Entry). x ∷ l) e
@@ -71,6 +73,87 @@ middle_high low high len lt le = omega (arith, lt, le)
 pub same_place : (low high : ℕ) → low ≤ high → high ≤ low → low ≡ high
 same_place low high a b = omega (arith, a, b)
 
--- the cookie of an entry is that of its slot
-pub cookie_of_slot : (ps : List (Vec ℕ Global × Slot)) (i : ℕ) (p : Vec ℕ Global × Slot) → slice_get ps i ≡ Some p → option_map (λ (e : Entry). e.cookie) (slice_get (slot_entries ps) i) ≡ Some p.1.cookie
-cookie_of_slot ps i p here = ap (option_map (λ (e : Entry). e.cookie)) (entry_of_slot ps i p here)
+pub one_left : (low high : ℕ) → low < high → 1 ≤ high - low
+one_left low high lt = omega (arith, lt)
+
+pub fewer_low : (low high : ℕ) → low < high → 2 * (high - (low + (high - low) / 2 + 1)) ≤ high - low
+fewer_low low high lt = omega (arith, lt)
+
+pub fewer_high : (low high : ℕ) → low < high → 2 * (low + (high - low) / 2 - low) ≤ high - low
+fewer_high low high lt = omega (arith, lt)
+
+-- an entry's cookie is compared as that of its slot
+pub compared_slot : (cookie : ℕ) (ps : List (Vec ℕ Global × Slot)) (i : ℕ) (p : Vec ℕ Global × Slot) → slice_get ps i ≡ Some p
+    → option_map (λ (e : Entry). leb e.cookie cookie) (slice_get (slot_entries ps) i) ≡ Some (leb p.1.cookie cookie)
+compared_slot cookie ps i p here = ap (option_map (λ (e : Entry). leb e.cookie cookie)) (entry_of_slot ps i p here)
+
+-- the cookie that was compared
+pub compared : (cookie : ℕ) (o : Option Entry) (b : Bool) → option_map (λ (e : Entry). leb e.cookie cookie) o ≡ Some b → (k : ℕ) × (option_map (λ (e : Entry). e.cookie) o ≡ Some k) × (leb k cookie ≡ b)
+compared cookie None b at = absurd cc
+compared cookie (Some e) b at = (e.cookie, refl, cc)
+
+-- ===== how many steps halving takes
+
+-- after some steps, of n entries at most left may have the place
+pub record IsHalved (n before now left : ℕ) : Type 0 where
+  pub rises : before ≤ now
+  pub halved : 2 ^ (now - before) * left ≤ n
+  pub few : 2 ^ (now - before) ≤ 2 * n + 1
+
+pub halving_begins : (n steps left : ℕ) → left ≤ n → IsHalved n steps steps left
+halving_begins n steps left le =
+    let none : steps - steps ≡ 0 = omega arith in
+    record {
+      rises = omega arith;
+      halved = subst (λ (k : ℕ). 2 ^ k * left ≤ n) (sym none) (omega (arith, le));
+      few = subst (λ (k : ℕ). 2 ^ k ≤ 2 * n + 1) (sym none) (omega arith);
+    }
+
+-- twice the power, over half of what was left
+halved_power : (k left fewer n : ℕ) → 2 * fewer ≤ left → 2 ^ k * left ≤ n → 2 ^ suc k * fewer ≤ n
+halved_power k left fewer n half le =
+    let twice : 2 ^ suc k * fewer ≡ 2 ^ k * (2 * fewer) = ap (λ (p : ℕ). p * fewer) (pow-suc 2 k) ∙ mul_assoc (2 ^ k) 2 fewer in
+    omega (arith, twice, mul-le (2 ^ k) (2 * fewer) (2 ^ k) left (omega arith) half, le)
+
+left_power : (p left n : ℕ) → 1 ≤ left → p * left ≤ n → p ≤ n
+left_power p left n one le = omega (arith, le, mul-le p 1 p left (omega arith) one, mul-one p)
+
+pub halving_goes_on : (n before now then left fewer : ℕ) → IsHalved n before now left → then ≡ now + 1 → 1 ≤ left → 2 * fewer ≤ left → IsHalved n before then fewer
+halving_goes_on n before now then left fewer h next one half =
+    let more : then - before ≡ suc (now - before) = omega (arith, next, h.rises) in
+    let few : 2 ^ (now - before) ≤ n = left_power (2 ^ (now - before)) left n one h.halved in
+    record {
+      rises = omega (arith, next, h.rises);
+      halved = subst (λ (k : ℕ). 2 ^ k * fewer ≤ n) (sym more) (halved_power (now - before) left fewer n half h.halved);
+      few = subst (λ (k : ℕ). 2 ^ k ≤ 2 * n + 1) (sym more) (omega (arith, pow-suc 2 (now - before), few));
+    }
+
+-- ===== the place is how many entries have a cookie that is at most the given one
+
+listed_or_counted : (c : ℕ) (es : List Entry) → count_until c es + length (entries_after c es) ≡ length es
+listed_or_counted c [] = refl
+listed_or_counted c (e ∷ es) = by (leb e.cookie c) refl (listed_or_counted c es) where
+  by : (b : Bool) → leb e.cookie c ≡ b → count_until c es + length (entries_after c es) ≡ length es → count_until c (e ∷ es) + length (entries_after c (e ∷ es)) ≡ suc (length es)
+  by true is rest = rw (is, le-ltb c e.cookie (leb-true e.cookie c is)) (omega (arith, rest))
+  by false is rest = rw (is, lt-ltb c e.cookie (leb-false e.cookie c is)) (omega (arith, rest))
+
+pub place_counts : (c : ℕ) (es : List Entry) (low : ℕ) → low ≤ length es → drop low es ≡ entries_after c es → low ≡ count_until c es
+place_counts c es low le same = omega (arith, le, length-drop low es, ap (λ (l : List Entry). length l) same, listed_or_counted c es)
+
+-- ===== a step of the loop
+
+pub until_middle : (c : ℕ) (es : List Entry) (next i : ℕ) (b : Bool) → CookiesAscend 1 es next → option_map (λ (e : Entry). leb e.cookie c) (slice_get es i) ≡ Some b → b ≡ true → entries_after c (take (i + 1) es) ≡ []
+until_middle c es next i b up at is =
+    let k : (k : ℕ) × (option_map (λ (e : Entry). e.cookie) (slice_get es i) ≡ Some k) × (leb k c ≡ b) = compared c (slice_get es i) b at in
+    none_until c 1 es next i k.0 up k.1 (leb-true k.0 c (k.2 ∙ is))
+
+pub from_middle : (c : ℕ) (es : List Entry) (next i : ℕ) (b : Bool) → CookiesAscend 1 es next → option_map (λ (e : Entry). leb e.cookie c) (slice_get es i) ≡ Some b → b ≡ false → entries_after c (drop i es) ≡ drop i es
+from_middle c es next i b up at is =
+    let k : (k : ℕ) × (option_map (λ (e : Entry). e.cookie) (slice_get es i) ≡ Some k) × (leb k c ≡ b) = compared c (slice_get es i) b at in
+    all_from c 1 es next i k.0 up k.1 (leb-false k.0 c (k.2 ∙ is))
+
+-- the place that halving ends at
+pub place_by : (c : ℕ) (ps : List (Vec ℕ Global × Slot)) (low high : ℕ) → low ≡ high → high ≤ length ps → entries_after c (take low (slot_entries ps)) ≡ [] → entries_after c (drop high (slot_entries ps)) ≡ drop high (slot_entries ps)
+    → low ≡ count_until c (slot_entries ps)
+place_by c ps low high same le none all =
+    place_counts c (slot_entries ps) low (omega (arith, same, le, length-map ps entry_of)) (listed c (slot_entries ps) low high same none all)

@@ -3,6 +3,7 @@ use Rattle.std.proofs.Common.{◌≡◌, ℕ, zero, suc, ◌+◌, ◌<◌, ◌�
 use Rattle.std.proofs.lemmas.Bool.{cases_Bool, both_ways, eq-eqb, ne_eqb, eqb-true, eqb-false, or_cases, and_parts, or_left, or_right, and_from, not-true, not_from_false}
 use Rattle.nr_tree.specs.Entries.{Entry}
 use Rattle.nr_tree.specs.DirectoryGraph.{DirectoryGraph, IsPathUp, LiesBelow, IsConnected, IsConsistent, name_count_in}
+use Rattle.nr_tree.specs.Ancestors.{WalksFindAncestors}
 use Rattle.nr_tree.specs.Within.{walks_to, is_within}
 use Rattle.nr_tree.specs.Tree.{Tree}
 use Rattle.nr_tree.specs.Sane.{IsSane, skeleton}
@@ -186,3 +187,10 @@ within_is t d top sane is b e yes_ = within (skeleton t) sane.skeleton d top is 
 
 pub not_within_is : (t : Tree) (d top : ℕ) → IsSane t → is_dir_at t d ≡ true → (b : Bool) → b ≡ is_within (skeleton t) d top → b ≡ false → LiesBelow (skeleton t) None d top → ⊥
 not_within_is t d top sane is b e no_ = not_within (skeleton t) sane.skeleton d top is (sym e ∙ no_)
+
+found_or_not : (t : Tree) (d top : ℕ) → IsSane t → is_dir_at t d ≡ true → LiesBelow (skeleton t) None d top → (b : Bool) → b ≡ is_within (skeleton t) d top → b ≡ true
+found_or_not t d top sane is way true e = refl
+found_or_not t d top sane is way false e = absurd (not_within_is t d top sane is false e refl way)
+
+pub walk_finds_ancestors : WalksFindAncestors
+walk_finds_ancestors t d top sane is = (within_is t d top sane is (is_within (skeleton t) d top) refl, λ way. found_or_not t d top sane is way (is_within (skeleton t) d top) refl)

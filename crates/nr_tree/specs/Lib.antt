@@ -11,6 +11,7 @@ pub mod Steps
 pub mod Drill
 pub mod Listing
 pub mod Within
+pub mod Ancestors
 pub mod Rules
 pub mod Replies
 pub mod private

@@ -5,8 +5,15 @@ ghost use Rattle.nr_tree.specs.DirectoryGraph.{LiesBelow};
 ghost use Rattle.nr_tree.specs.Sane.{skeleton};
 ghost use Rattle.nr_tree.specs.Steps.{is_dir_at};
 ghost use Rattle.nr_tree.specs.Within.{is_within as is_within_by_walk};
+ghost use Rattle.nr_tree.specs.Ancestors.{WalksFindAncestors};
 
 use crate::tree::Tree;
+
+/// In every sane tree, a walk from a directory to its parent, and so on up to the root, finds a directory if and only if a path
+/// leads up to it. So the rule by which RENAME refuses to move a directory into itself or below asks just that.
+pub fn walks_find_ancestors()
+    ensures { WalksFindAncestors }
+{}
 
 impl Tree {
     ghost use Rattle.nr_tree.specs.Sane.{skeleton as skeleton_of_tree};

@@ -3,10 +3,12 @@
 ghost use Rattle.std.specs.Prelude.{◌≡◌, ◌+◌, ◌<◌, ◌^◌, [], ◌∷◌, ◌++◌, None, Some, slice_get, length, map, OnOk, OnErr, IsOk, is_some, true};
 ghost use Rattle.std.specs.Option.{option_map, option_copied};
 
+use crate::steps::Steps;
 use indexmap::IndexMap;
 use nr_xdr::Memory;
 use std::alloc::{AllocError, Global};
-use std::marker::Model;
+use std::marker::{Brand, Model};
+use std::sync::ledger::{Blank, Ledger};
 
 /// The node of an entry, and the cookie to go on from.
 #[derive(Clone, Copy)]
@@ -38,7 +40,7 @@ impl Model for Directory {
 
 impl Directory {
     ghost use Rattle.nr_tree.specs.Entries.{Entries, entry_of_name, entries_with, entries_without};
-    ghost use Rattle.nr_tree.specs.Listing.{entries_after};
+    ghost use Rattle.nr_tree.specs.Listing.{entries_after, count_until};
 
     /// No entries; the first one's cookie is 1. Takes no memory.
     pub fn new(alloc: Global) -> Self
@@ -104,13 +106,24 @@ impl Directory {
         }
     }
 
-    /// The index of the first entry with a cookie above the given one, or how many entries there are. The entries from there on
-    /// are those that a listing goes on with (RFC 1813 section 3.3.16). The index is found by halving.
+    /// How many entries have a cookie that is at most the given one. The entries after them are those that a listing goes on
+    /// with (RFC 1813 section 3.3.16).
     pub fn place_after(&self, cookie: u64) -> usize
         ensures within { result ≤ length self.now.list }
+        ensures place { result ≡ count_until cookie self.now.list }
         ensures entries { drop result self.now.list ≡ entries_after cookie self.now.list }
     {
-        place_above(&self.slots, self.next_cookie, cookie)
+        place_uncounted::<Brand>(self, cookie, Blank::new(1))
+    }
+
+    /// `place_after`, with the steps that it takes: a step is the comparison of one cookie.
+    pub(crate) fn place_counted<L: Ledger>(&self, cookie: u64, steps: &mut Steps<L>) -> usize
+        ensures within { result ≤ length self.now.list }
+        ensures place { result ≡ count_until cookie self.now.list }
+        ensures entries { drop result self.now.list ≡ entries_after cookie self.now.list }
+        ensures cost { 2 ^ (steps.new - steps.old) ≤ 2 * length self.now.list + 1 }
+    {
+        place_above(&self.slots, self.next_cookie, cookie, steps)
     }
 
     /// How many entries there are.
@@ -153,32 +166,59 @@ fn take_out(slots: &mut IndexMap<Vec<u8>, Slot>, name: &[u8])
 }
 
 ghost use Rattle.nr_tree.specs.Entries.{CookiesAscend};
-ghost use Rattle.nr_tree.specs.Listing.{entries_after};
-ghost use Rattle.std.specs.Prelude.{drop, ◌≤◌};
+ghost use Rattle.nr_tree.specs.Listing.{entries_after, count_until};
+ghost use Rattle.std.specs.Prelude.{drop, ◌≤◌, ◌-◌, ◌*◌, IfSome, nat_le};
 
-/// The cookie of the entry at an index.
-#[tactic(auto, using(crate::proofs::ListingLemmas::cookie_of_slot))]
-fn cookie_at(slots: &IndexMap<Vec<u8>, Slot>, index: usize) -> u64
-    requires { index < length slots.now.entries }
-    ensures { option_map (λ e. e.cookie) (slice_get (slot_entries slots.now.entries) index) ≡ Some result }
+/// The place after a cookie, with steps that nobody reads.
+fn place_uncounted<L: Ledger>(directory: &Directory, cookie: u64, blank: Blank) -> usize
+    requires name { blank.name ≡ L.name }
+    requires parts { blank.parts ≡ L.parts }
+    requires some { 0 < L.parts }
+    ensures within { result ≤ length directory.now.list }
+    ensures place { result ≡ count_until cookie directory.now.list }
+    ensures entries { drop result directory.now.list ≡ entries_after cookie directory.now.list }
 {
+    let mut steps = Steps::<L>::new(blank);
+    directory.place_counted(cookie, &mut steps)
+}
+
+/// Whether the cookie of the entry at an index is at most the given one. This is a step.
+#[tactic(auto, using(crate::proofs::ListingLemmas::compared_slot))]
+fn is_at_most<L: Ledger>(
+    slots: &IndexMap<Vec<u8>, Slot>,
+    index: usize,
+    cookie: u64,
+    steps: &mut Steps<L>,
+) -> bool
+    requires { index < length slots.now.entries }
+    ensures answer { option_map (λ e. nat_le e.cookie cookie) (slice_get (slot_entries slots.now.entries) index) ≡ Some result }
+    ensures step { steps.new ≡ steps.old + 1 }
+{
+    steps.tick();
     match slots.get_index(index) {
-        Some((_, slot)) => slot.cookie,
+        Some((_, slot)) => slot.cookie <= cookie,
         None => unreachable!(),
     }
 }
 
-/// The index of the first entry with a cookie above the given one.
-fn place_above(slots: &IndexMap<Vec<u8>, Slot>, next_cookie: u64, cookie: u64) -> usize
+/// How many entries have a cookie that is at most the given one.
+fn place_above<L: Ledger>(
+    slots: &IndexMap<Vec<u8>, Slot>,
+    next_cookie: u64,
+    cookie: u64,
+    steps: &mut Steps<L>,
+) -> usize
     requires { CookiesAscend 1 (slot_entries slots.now.entries) next_cookie }
     ensures within { result ≤ length slots.now.entries }
+    ensures place { result ≡ count_until cookie (slot_entries slots.now.entries) }
     ensures entries { drop result (slot_entries slots.now.entries) ≡ entries_after cookie (slot_entries slots.now.entries) }
+    ensures cost { 2 ^ (steps.new - steps.old) ≤ 2 * length slots.now.entries + 1 }
 {
     let mut low = 0;
     let mut high = slots.len();
     while low < high {
         let middle = low + (high - low) / 2;
-        if cookie_at(slots, middle) <= cookie {
+        if is_at_most(slots, middle, cookie, steps) {
             low = middle + 1;
         } else {
             high = middle;

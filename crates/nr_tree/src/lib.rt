@@ -19,9 +19,11 @@ mod node;
 mod nodes;
 mod replies;
 mod rules;
+mod steps;
 mod table;
 mod tree;
 
+pub use ancestry::walks_find_ancestors;
 pub use directory::{Directory, Slot};
 pub use file::File;
 pub use node::{Content, Metadata, Node};
@@ -31,4 +33,5 @@ pub use rules::{
     check_changeable, check_name, check_size, check_space, check_times, differs_if_given,
     handle_number, is_dot_name, live_node, may, time_after,
 };
+pub use steps::Steps;
 pub use tree::Tree;

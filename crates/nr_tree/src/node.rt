@@ -2,8 +2,10 @@
 
 use crate::directory::Directory;
 use crate::file::File;
+use crate::steps::Steps;
 use nr_nfs_base::{Attributes, FileType, SpecialData, Time, Verifier};
 use nr_xdr::{Memory, Octets};
+use std::sync::ledger::Ledger;
 
 /// What is kept of each node, whatever it is.
 #[derive(Clone, Copy)]
@@ -44,7 +46,8 @@ pub struct Node {
     pub content: Content,
 }
 
-ghost use Rattle.std.specs.Prelude.{◌≡◌, ◌+◌, ◌<◌, ◌≤◌, ◌^◌, IsTrue, length, OnOk, OnErr};
+ghost use Rattle.std.specs.Prelude.{◌≡◌, ◌+◌, ◌-◌, ◌*◌, ◌<◌, ◌≤◌, ◌^◌, IsTrue, IfSome, is_some, length, OnOk, OnErr};
+ghost use Rattle.nr_tree.specs.Listing.{count_until};
 ghost use Rattle.std.specs.Option.{option_map};
 ghost use Rattle.nr_tree.specs.Entries.{entry_of_name};
 ghost use Rattle.nr_tree.specs.DirectoryGraph.{one_if};
@@ -199,6 +202,18 @@ impl Node {
     {
         match &self.content {
             Content::Directory(entries) => entries.number_of(name),
+            _ => None,
+        }
+    }
+
+    /// How many entries of a directory have a cookie that is at most the given one; none if the node is no directory.
+    pub(crate) fn place_after<L: Ledger>(&self, cookie: u64, steps: &mut Steps<L>) -> Option<usize>
+        ensures directory { is_some result ≡ is_directory_node self.now }
+        ensures place { IfSome result (λ place. place ≡ count_until cookie (entries_in self.now)) }
+        ensures cost { 2 ^ (steps.new - steps.old) ≤ 2 * length (entries_in self.now) + 1 }
+    {
+        match &self.content {
+            Content::Directory(entries) => Some(entries.place_counted(cookie, steps)),
             _ => None,
         }
     }

@@ -1,15 +1,18 @@
 //! The tree: nodes by number that are consistent, and the steps of the procedures.
 
-ghost use Rattle.std.specs.Prelude.{◌≡◌, ◌+◌, ◌≤◌, true, length, IfOk, OnOk, OnErr};
+ghost use Rattle.std.specs.Prelude.{◌≡◌, ◌+◌, ◌-◌, ◌*◌, ◌^◌, ◌≤◌, true, length, IfOk, IfSome, is_some, OnOk, OnErr};
+ghost use Rattle.nr_tree.specs.Listing.{count_until};
 ghost use Rattle.std.specs.Option.{option_copied};
 ghost use Rattle.std.specs.FinMap as map;
 
 use crate::node::{Metadata, Node};
+use crate::steps::Steps;
 use crate::table::NodeTable;
 use nr_nfs_base::Time;
 use nr_xdr::Memory;
 use std::alloc::Global;
 use std::marker::Model;
+use std::sync::ledger::Ledger;
 
 /// The files of a server: nodes by number, and the next number. What holds of every tree is its invariant.
 #[derive(Drop)]
@@ -34,7 +37,7 @@ impl Model for Tree {
 impl Tree {
     ghost use Rattle.nr_tree.specs.Sane.{IsSane, file_size_max};
     ghost use Rattle.nr_tree.specs.Roots.{root_only as root_alone};
-    ghost use Rattle.nr_tree.specs.Steps.{IsBelow, IsBounded, CanAddNode, CanAddLink, CanRemoveEntry, CanRename, is_regular_at, links_at};
+    ghost use Rattle.nr_tree.specs.Steps.{IsBelow, IsBounded, CanAddNode, CanAddLink, CanRemoveEntry, CanRename, entries_at, is_dir_at, is_regular_at, links_at};
     ghost use Rattle.nr_tree.specs.Changes.{tree_with_node, tree_without_entry, tree_with_link, tree_with_bytes, tree_with_size, tree_with_metadata, tree_with_new_name};
 
     /// The tree with a root alone, which is made now: number 1, mode 0777, uid 0, gid 0. The next number is 2.
@@ -66,6 +69,24 @@ impl Tree {
         ensures { result ≡ self.now.next }
     {
         self.table.next()
+    }
+
+    /// How many entries of a directory have a cookie that is at most the given one; none if the number is no directory. A
+    /// step is the comparison of one cookie. Takes no memory.
+    pub fn place_after<L: Ledger>(
+        &self,
+        number: u64,
+        cookie: u64,
+        steps: &mut Steps<L>,
+    ) -> Option<usize>
+        ensures directory { is_some result ≡ is_dir_at self.now number }
+        ensures place { IfSome result (λ place. place ≡ count_until cookie (entries_at self.now number)) }
+        ensures cost { 2 ^ (steps.new - steps.old) ≤ 2 * length (entries_at self.now number) + 1 }
+    {
+        match self.get(number) {
+            Some(node) => node.place_after(cookie, steps),
+            None => None,
+        }
     }
 
     /// Puts a new node under the next number, and an entry for it last into a directory, which is changed now (CREATE,

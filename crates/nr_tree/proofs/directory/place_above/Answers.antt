@@ -1,24 +1,30 @@
 use Rattle.std.proofs.Common.{◌+◌, ◌-◌, ◌/◌, arith}
 use Rattle.nr_tree.specs.Slots.{slot_entries}
-use Rattle.nr_tree.proofs.ListingLemmas.{none_until, all_from, listed, middle_low, middle_high, same_place}
+use Rattle.nr_tree.proofs.ListingLemmas.{until_middle, from_middle, listed, middle_low, middle_high, same_place, fewer_low, fewer_high, one_left, halving_goes_on, place_by}
 use Rattle.nr_tree.proofs.directory.place_above.Goals as goal
 
-pub loop-low-preserved-then-cookie_at-cookie : goal.loop-low-preserved-then-cookie_at-cookie
-loop-low-preserved-then-cookie_at-cookie c = (
+pub loop-low-preserved-then-is_at_most : goal.loop-low-preserved-then-is_at_most
+loop-low-preserved-then-is_at_most g c = (
   middle_low c.loop-low.low c.loop-low.high c.loop-low-test.true,
   c.loop-low.invariant.1,
-  none_until c.args.cookie 1 (slot_entries c.args.slots.now.entries) c.args.next_cookie (c.loop-low.low + (c.loop-low.high - c.loop-low.low) / 2) c.cookie_at.result c.requires c.cookie_at.ensures c.if-cookie_at-cookie.true,
+  until_middle c.args.cookie (slot_entries c.args.slots.now.entries) c.args.next_cookie (c.loop-low.low + (c.loop-low.high - c.loop-low.low) / 2) c.is_at_most.result c.requires c.is_at_most.ensures.answer c.if-is_at_most.true,
   c.loop-low.invariant.3,
+  halving_goes_on _ _ _ _ (c.loop-low.high - c.loop-low.low) _ c.loop-low.invariant.4 c.is_at_most.ensures.step (one_left c.loop-low.low c.loop-low.high c.loop-low-test.true) (fewer_low c.loop-low.low c.loop-low.high c.loop-low-test.true),
 )
 
 pub loop-low-preserved : goal.loop-low-preserved
-loop-low-preserved c = (
+loop-low-preserved g c = (
   omega arith,
   middle_high c.loop-low.low c.loop-low.high _ c.loop-low-test.true c.loop-low.invariant.1,
   c.loop-low.invariant.2,
-  all_from c.args.cookie 1 (slot_entries c.args.slots.now.entries) c.args.next_cookie (c.loop-low.low + (c.loop-low.high - c.loop-low.low) / 2) c.cookie_at.result c.requires c.cookie_at.ensures c.if-cookie_at-cookie.false,
+  from_middle c.args.cookie (slot_entries c.args.slots.now.entries) c.args.next_cookie (c.loop-low.low + (c.loop-low.high - c.loop-low.low) / 2) c.is_at_most.result c.requires c.is_at_most.ensures.answer c.if-is_at_most.false,
+  halving_goes_on _ _ _ _ (c.loop-low.high - c.loop-low.low) _ c.loop-low.invariant.4 c.is_at_most.ensures.step (one_left c.loop-low.low c.loop-low.high c.loop-low-test.true) (fewer_high c.loop-low.low c.loop-low.high c.loop-low-test.true),
 )
 
+pub returns-clause-place : goal.returns-clause-place
+returns-clause-place g c =
+    place_by c.args.cookie c.args.slots.now.entries c.loop-low.low c.loop-low.high (same_place c.loop-low.low c.loop-low.high c.loop-low.invariant.0 c.loop-low-test.false) c.loop-low.invariant.1 c.loop-low.invariant.2 c.loop-low.invariant.3
+
 pub returns-clause-entries : goal.returns-clause-entries
-returns-clause-entries c =
+returns-clause-entries g c =
     listed c.args.cookie (slot_entries c.args.slots.now.entries) c.loop-low.low c.loop-low.high (same_place c.loop-low.low c.loop-low.high c.loop-low.invariant.0 c.loop-low-test.false) c.loop-low.invariant.2 c.loop-low.invariant.3
