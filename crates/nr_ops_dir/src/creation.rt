@@ -6,7 +6,7 @@ ghost use Rattle.nr_tree.specs.Steps.{IsBounded, CanAddNode};
 ghost use Rattle.nr_tree.specs.Changes.{tree_with_node};
 ghost use Rattle.nr_tree.specs.Rules.{first, number_of_handle, handle_of as handle_of_number};
 ghost use Rattle.nr_tree.specs.Replies.{wcc_data as wcc_of, attributes_at as attributes_of_handle};
-ghost use Rattle.nr_ops_dir.specs.Nodes.{attributes_of_number as attributes_of_node};
+ghost use Rattle.nr_ops_dir.specs.Nodes.{attributes_of_number as attributes_by_number};
 ghost use Rattle.nr_ops_dir.specs.Creation.{nothing_given as no_attributes, owner_rule, new_node as node_of, create_ok as ok_of, new_name_rules};
 
 use crate::entries::{check_entry, is_taken};
@@ -120,7 +120,7 @@ pub(crate) fn create_ok(
 ) -> CreateOk
     ensures { result ≡ record {
       object = Some object;
-      attributes = attributes_of_node tree.now number;
+      attributes = attributes_by_number tree.now number;
       dir_wcc = record { before = before; after = attributes_of_handle tree.now dir.now };
     } }
 {

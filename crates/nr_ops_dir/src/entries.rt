@@ -4,7 +4,7 @@ ghost use Rattle.std.specs.Prelude.{◌≡◌, nat_lt, length, None, Some, Match
 ghost use Rattle.nr_tree.specs.Rules.{first, handle_rule, number_of_handle};
 ghost use Rattle.nr_tree.specs.Steps.{is_dir_at as is_directory_at, links_at as links_of_number};
 ghost use Rattle.nr_tree.specs.Tree.{entries_in};
-ghost use Rattle.nr_ops_dir.specs.Entries.{number_of_entry as number_of_name, has_entries as has_entries_at, is_taken as is_taken_name, directory_rule, entry_rules, links_rule};
+ghost use Rattle.nr_ops_dir.specs.Entries.{number_of_entry as number_under, has_entries as has_entries_at, is_taken as is_taken_name, directory_rule, entry_rules, links_rule};
 
 use nr_nfs_base::{Caller, Status};
 use nr_tree::{
@@ -42,7 +42,7 @@ pub(crate) fn has_entries(tree: &Tree, number: u64) -> bool
 
 /// The number of the node that a directory has under a name.
 pub(crate) fn number_of_entry(tree: &Tree, directory: u64, name: &[u8]) -> Option<u64>
-    ensures { result ≡ number_of_name tree.now directory name.now }
+    ensures { result ≡ number_under tree.now directory name.now }
 {
     match tree.get(directory) {
         Some(dir) => dir.lookup(name),

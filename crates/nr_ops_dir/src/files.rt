@@ -8,7 +8,7 @@ ghost use Rattle.nr_tree.specs.Steps.{IsBounded, CanAddNode, is_regular_at};
 ghost use Rattle.nr_tree.specs.Rules.{first, number_of_handle, handle_of as handle_of_number, IsWithinCapacity};
 ghost use Rattle.nr_tree.specs.Changes.{tree_with_node};
 ghost use Rattle.nr_tree.specs.Replies.{wcc_data as wcc_of};
-ghost use Rattle.nr_ops_dir.specs.Entries.{number_of_entry as number_of_name};
+ghost use Rattle.nr_ops_dir.specs.Entries.{number_of_entry as number_under};
 ghost use Rattle.nr_ops_dir.specs.Creation.{create_ok as ok_of};
 ghost use Rattle.nr_ops_dir.specs.Nodes.{attributes_of_number};
 ghost use Rattle.nr_ops_dir.specs.Create.{given_attributes as attributes_given, given_verifier as verifier_given, new_file_rules, new_file as file_of, is_made_by as is_made_with, existing_file_rules, size_to_set as size_given, tree_with_existing_file, file_rules, create_rules, create_tree, create_reply};
@@ -141,7 +141,7 @@ fn place_of_file(
     requires space { IsWithinCapacity space.now }
     ensures { MatchResult result
         (λ p. (first (create_rules tree.now caller.now space.now args.now) ≡ None) × (p.0 ≡ number_of_handle args.now.dir)
-        × (p.1 ≡ number_of_name tree.now (number_of_handle args.now.dir) args.now.name))
+        × (p.1 ≡ number_under tree.now (number_of_handle args.now.dir) args.now.name))
         (λ s. first (create_rules tree.now caller.now space.now args.now) ≡ Some s) }
 {
     let (dir, name) = (args.dir.as_slice(), args.name.as_slice());

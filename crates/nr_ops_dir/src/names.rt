@@ -1,7 +1,7 @@
 //! The names that every directory has without an entry.
 
 ghost use Rattle.std.specs.Prelude.{◌≡◌};
-ghost use Rattle.nr_tree.specs.Rules.{same_name, is_dot as is_dot_name, is_dot_dot as is_dot_dot_name};
+ghost use Rattle.nr_tree.specs.Rules.{same_name, is_dot as is_one_dot, is_dot_dot as is_two_dots};
 
 fn same(a: &[u8], b: &[u8]) -> bool
     ensures { result ≡ same_name a.now b.now }
@@ -11,14 +11,14 @@ fn same(a: &[u8], b: &[u8]) -> bool
 
 /// `.`, the directory itself.
 pub(crate) fn is_dot(name: &[u8]) -> bool
-    ensures { result ≡ is_dot_name name.now }
+    ensures { result ≡ is_one_dot name.now }
 {
     same(name, b".")
 }
 
 /// `..`, the directory that names it.
 pub(crate) fn is_dot_dot(name: &[u8]) -> bool
-    ensures { result ≡ is_dot_dot_name name.now }
+    ensures { result ≡ is_two_dots name.now }
 {
     same(name, b"..")
 }

@@ -3,7 +3,7 @@
 ghost use Rattle.std.specs.Prelude.{◌≡◌, None, Some, MatchResult};
 ghost use Rattle.nr_nfs_base.specs.declared.status_union.StatusUnion.TheVariants.{Done, Failed};
 ghost use Rattle.nr_tree.specs.Rules.{first, answer, number_of_handle, IsWithinCapacity};
-ghost use Rattle.nr_ops_dir.specs.Entries.{number_of_entry as number_of_name};
+ghost use Rattle.nr_ops_dir.specs.Entries.{number_of_entry as number_under};
 ghost use Rattle.nr_ops_dir.specs.Removal.{remove_rules, remove_tree, remove_reply, rmdir_rules, rmdir_of, rmdir_tree, rmdir_reply};
 
 use crate::entries::{check_entry, has_entries, is_dir_at, number_of_entry};
@@ -34,7 +34,7 @@ fn entry_to_remove(
     requires space { IsWithinCapacity space.now }
     ensures { MatchResult result
         (λ n. (first (remove_rules tree.now caller.now space.now args.now) ≡ None) × (n.0 ≡ number_of_handle args.now.dir)
-        × (number_of_name tree.now (number_of_handle args.now.dir) args.now.name ≡ Some n.1))
+        × (number_under tree.now (number_of_handle args.now.dir) args.now.name ≡ Some n.1))
         (λ s. first (remove_rules tree.now caller.now space.now args.now) ≡ Some s) }
 {
     let name = args.name.as_slice();
@@ -118,7 +118,7 @@ fn directory_to_remove(
     requires space { IsWithinCapacity space.now }
     ensures { MatchResult result
         (λ n. (first (rmdir_rules tree.now caller.now space.now args.now) ≡ None) × (n.0 ≡ number_of_handle args.now.dir)
-        × (number_of_name tree.now (number_of_handle args.now.dir) args.now.name ≡ Some n.1))
+        × (number_under tree.now (number_of_handle args.now.dir) args.now.name ≡ Some n.1))
         (λ s. first (rmdir_rules tree.now caller.now space.now args.now) ≡ Some s) }
 {
     let name = args.name.as_slice();

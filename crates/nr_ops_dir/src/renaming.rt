@@ -8,7 +8,7 @@ ghost use Rattle.nr_tree.specs.Steps.{IsBounded, CanRename, is_dir_at as is_dire
 ghost use Rattle.nr_tree.specs.Changes.{tree_with_new_name};
 ghost use Rattle.nr_tree.specs.Rules.{first, or_else, name_rules, number_of_handle, IsWithinCapacity};
 ghost use Rattle.nr_tree.specs.Replies.{attributes_at as attributes_of_handle, wcc_attributes_at as wcc_attributes_of_handle};
-ghost use Rattle.nr_ops_dir.specs.Entries.{number_of_entry as number_of_name, directory_rule};
+ghost use Rattle.nr_ops_dir.specs.Entries.{number_of_entry as number_under, directory_rule};
 ghost use Rattle.nr_ops_dir.specs.Renaming.{IsMoveOf, is_same_node as leads_to, target_rule, move_rule, replacement_rule, rename_of, both_rules, rename_rules, tree_with_move, rename_tree, rename_reply, rename_wcc as wcc_of_rename};
 
 use crate::entries::{
@@ -96,7 +96,7 @@ fn check_node(
     requires to { to ≡ number_of_handle args.now.to_dir }
     requires directory { is_directory_at tree.now to ≡ true }
     ensures { MatchResult result
-        (λ same. (first (rename_of tree.now space.now args.now number) ≡ None) × (same ≡ leads_to (number_of_name tree.now (number_of_handle args.now.to_dir) args.now.to_name) number))
+        (λ same. (first (rename_of tree.now space.now args.now number) ≡ None) × (same ≡ leads_to (number_under tree.now (number_of_handle args.now.to_dir) args.now.to_name) number))
         (λ s. first (rename_of tree.now space.now args.now number) ≡ Some s) }
 {
     if is_moved_below_itself(tree, to, number) {

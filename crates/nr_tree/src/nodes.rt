@@ -3,7 +3,7 @@
 ghost use Rattle.std.specs.Prelude.{◌≡◌, ◌≢◌, ◌+◌, ◌^◌, ◌<◌, ◌≤◌, ℕ, IsTrue, IfSome, length, OnOk, OnErr, None, Some};
 ghost use Rattle.std.specs.Option.{option_copied};
 ghost use Rattle.std.specs.FinMap as map;
-ghost use Rattle.nr_tree.specs.Tree.{nodes_of, nodes_with_change, value_at, is_dir as is_directory, is_regular as is_regular_file};
+ghost use Rattle.nr_tree.specs.Tree.{nodes_of, nodes_with_change, value_at, is_dir as is_directory_node, is_regular as is_regular_node};
 ghost use Rattle.std.specs.Prelude.{false};
 ghost use Rattle.nr_tree.specs.Changes.{node_with_entry, node_without_entry, node_without_link, nodes_with_name_dropped, node_with_bytes, node_with_size, node_with_link, node_with_metadata, node_with_new_name};
 ghost use Rattle.nr_tree.specs.DirectoryGraph.{one_if};
@@ -74,7 +74,7 @@ pub(crate) fn insert_with_entry(
     requires fresh { map.get (nodes_of nodes.old.entries) number ≡ None }
     requires other { dir ≢ number }
     requires free { IfSome (map.get (nodes_of nodes.old.entries) dir) (λ n. HasRoomFor name.items n) }
-    ensures ok { OnOk result (nodes_of nodes.new.entries ≡ nodes_with_change (map.insert (nodes_of nodes.old.entries) number node) dir (node_with_entry now name.items number (is_directory node))) }
+    ensures ok { OnOk result (nodes_of nodes.new.entries ≡ nodes_with_change (map.insert (nodes_of nodes.old.entries) number node) dir (node_with_entry now name.items number (is_directory_node node))) }
     ensures err { OnErr result (nodes_of nodes.new.entries ≡ nodes_of nodes.old.entries) }
 {
     let is_subdirectory = node.is_dir();
@@ -90,7 +90,7 @@ pub(crate) fn insert_with_entry(
 
 #[tactic(auto, using(crate::proofs::NodeMaps::get_node))]
 pub(crate) fn is_dir_at(nodes: &BTreeMap<u64, Node>, number: u64) -> bool
-    ensures { result ≡ value_at is_directory false (nodes_of nodes.now.entries) number }
+    ensures { result ≡ value_at is_directory_node false (nodes_of nodes.now.entries) number }
 {
     match find(nodes, number) {
         Some(node) => node.is_dir(),
@@ -105,7 +105,7 @@ pub(crate) fn remove_entry_from(
     is_subdirectory: bool,
     now: Time,
 )
-    requires { IfSome (map.get (nodes_of nodes.old.entries) dir) (λ n. IsTrue (is_directory n) × (1 ≤ n.metadata.links)) }
+    requires { IfSome (map.get (nodes_of nodes.old.entries) dir) (λ n. IsTrue (is_directory_node n) × (1 ≤ n.metadata.links)) }
     ensures { nodes_of nodes.new.entries ≡ nodes_with_change (nodes_of nodes.old.entries) dir (node_without_entry now name.now is_subdirectory) }
 {
     match nodes.get_mut(&dir) {
@@ -148,7 +148,7 @@ pub(crate) fn write_node(
     bytes: &[u8],
     now: Time,
 ) -> Result<(), Memory>
-    requires regular { IfSome (map.get (nodes_of nodes.old.entries) number) (λ n. IsTrue (is_regular_file n)) }
+    requires regular { IfSome (map.get (nodes_of nodes.old.entries) number) (λ n. IsTrue (is_regular_node n)) }
     requires room { offset + length bytes.now < 2 ^ 62 }
     ensures ok { OnOk result (nodes_of nodes.new.entries ≡ nodes_with_change (nodes_of nodes.old.entries) number (node_with_bytes now offset bytes.now)) }
     ensures err { OnErr result (nodes_of nodes.new.entries ≡ nodes_of nodes.old.entries) }
@@ -165,7 +165,7 @@ pub(crate) fn size_node(
     size: u64,
     now: Time,
 ) -> Result<(), Memory>
-    requires regular { IfSome (map.get (nodes_of nodes.old.entries) number) (λ n. IsTrue (is_regular_file n)) }
+    requires regular { IfSome (map.get (nodes_of nodes.old.entries) number) (λ n. IsTrue (is_regular_node n)) }
     requires room { size < 2 ^ 62 }
     ensures ok { OnOk result (nodes_of nodes.new.entries ≡ nodes_with_change (nodes_of nodes.old.entries) number (node_with_size now size)) }
     ensures err { OnErr result (nodes_of nodes.new.entries ≡ nodes_of nodes.old.entries) }
@@ -236,7 +236,7 @@ pub(crate) fn number_in(nodes: &BTreeMap<u64, Node>, dir: u64, name: &[u8]) -> O
 
 /// A node that gets another name: its directory before and after, its number, whether it is a directory, and the moment.
 #[derive(Clone, Copy)]
-pub(crate) struct Move {
+pub(crate) struct Renaming {
     pub(crate) from: u64,
     pub(crate) to: u64,
     pub(crate) number: u64,
@@ -247,7 +247,7 @@ pub(crate) struct Move {
 /// A new name that is free. The new entry is put first, since only that takes memory.
 pub(crate) fn rename_to_free(
     nodes: &mut BTreeMap<u64, Node>,
-    step: Move,
+    step: Renaming,
     name: &[u8],
     name_to: Vec<u8>,
 ) -> Result<(), Memory>
@@ -272,7 +272,7 @@ pub(crate) fn rename_to_free(
 /// A new name that another node has: its entry goes, and its link or itself. Takes no memory.
 pub(crate) fn rename_over(
     nodes: &mut BTreeMap<u64, Node>,
-    step: Move,
+    step: Renaming,
     name: &[u8],
     name_to: Vec<u8>,
     target: u64,
@@ -281,9 +281,9 @@ pub(crate) fn rename_over(
     requires from { step.from ≢ target }
     requires counted { IfSome (map.get (nodes_of nodes.old.entries) target) (λ n. 0 < n.metadata.links) }
     requires source { IfSome (map.get (nodes_of nodes.old.entries) step.from) (IsSource name.now) }
-    requires entry { IfSome (map.get (nodes_of nodes.old.entries) step.to) (HasEntryFor name_to.items (value_at is_directory false (nodes_of nodes.old.entries) target)) }
-    requires rest { step.to ≡ step.from → IfSome (map.get (nodes_of nodes.old.entries) step.to) (λ n. HasEntryFor name_to.items (value_at is_directory false (nodes_of nodes.old.entries) target) (node_without_entry step.now name.now step.is_subdirectory n)) }
-    ensures { nodes_of nodes.new.entries ≡ nodes_with_change (nodes_with_change (nodes_with_change (nodes_with_name_dropped (nodes_with_change (nodes_of nodes.old.entries) step.to (node_without_entry step.now name_to.items (value_at is_directory false (nodes_of nodes.old.entries) target))) step.now target) step.from (node_without_entry step.now name.now step.is_subdirectory)) step.to (node_with_entry step.now name_to.items step.number step.is_subdirectory)) step.number (node_with_new_name step.now step.to) }
+    requires entry { IfSome (map.get (nodes_of nodes.old.entries) step.to) (HasEntryFor name_to.items (value_at is_directory_node false (nodes_of nodes.old.entries) target)) }
+    requires rest { step.to ≡ step.from → IfSome (map.get (nodes_of nodes.old.entries) step.to) (λ n. HasEntryFor name_to.items (value_at is_directory_node false (nodes_of nodes.old.entries) target) (node_without_entry step.now name.now step.is_subdirectory n)) }
+    ensures { nodes_of nodes.new.entries ≡ nodes_with_change (nodes_with_change (nodes_with_change (nodes_with_name_dropped (nodes_with_change (nodes_of nodes.old.entries) step.to (node_without_entry step.now name_to.items (value_at is_directory_node false (nodes_of nodes.old.entries) target))) step.now target) step.from (node_without_entry step.now name.now step.is_subdirectory)) step.to (node_with_entry step.now name_to.items step.number step.is_subdirectory)) step.number (node_with_new_name step.now step.to) }
 {
     let was_subdirectory = is_dir_at(nodes, target);
     drop_name_of(nodes, target, step.now);

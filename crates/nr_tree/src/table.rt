@@ -8,7 +8,7 @@ ghost use Rattle.std.specs.FinMap as map;
 use crate::directory::Directory;
 use crate::node::{Content, Metadata, Node};
 use crate::nodes::{
-    Move, add_entry_to, add_link_to, drop_name_of, find, insert, insert_with_entry, is_dir_at,
+    Renaming, add_entry_to, add_link_to, drop_name_of, find, insert, insert_with_entry, is_dir_at,
     number_in, remove_entry_from, rename_over, rename_to_free, set_metadata_of, size_node,
     write_node,
 };
@@ -38,7 +38,7 @@ impl Model for NodeTable {
 }
 
 impl NodeTable {
-    ghost use Rattle.nr_tree.specs.Tree.{Tree, is_dir as is_directory, is_regular as is_regular_file};
+    ghost use Rattle.nr_tree.specs.Tree.{Tree, is_dir as is_directory_node, is_regular as is_regular_node};
     ghost use Rattle.nr_tree.specs.Changes.{tree_with_node, tree_without_entry, tree_with_link, tree_with_bytes, tree_with_size, tree_with_metadata, tree_with_new_name};
     ghost use Rattle.nr_tree.specs.private.Room.{HasRoomFor};
     ghost use Rattle.nr_tree.specs.Roots.{root_only as root_alone};
@@ -92,7 +92,7 @@ impl NodeTable {
 
     /// Takes an entry out of a directory, and its node away with its last link. Takes no memory.
     pub(crate) fn remove_entry(&mut self, dir: u64, name: &[u8], number: u64, now: Time)
-        requires is { IfSome (map.get self.old.nodes dir) (λ n. IsTrue (is_directory n) × (1 ≤ n.metadata.links)) }
+        requires is { IfSome (map.get self.old.nodes dir) (λ n. IsTrue (is_directory_node n) × (1 ≤ n.metadata.links)) }
         requires counted { number ≢ dir }
         requires linked { IfSome (map.get self.old.nodes number) (λ n. 0 < n.metadata.links) }
         ensures { self.new ≡ tree_without_entry self.old now dir name.now number }
@@ -111,7 +111,7 @@ impl NodeTable {
         bytes: &[u8],
         now: Time,
     ) -> Result<(), Memory>
-        requires regular { IfSome (map.get self.old.nodes number) (λ n. IsTrue (is_regular_file n)) }
+        requires regular { IfSome (map.get self.old.nodes number) (λ n. IsTrue (is_regular_node n)) }
         requires room { offset + length bytes.now < 2 ^ 62 }
         ensures ok { OnOk result (self.new ≡ tree_with_bytes self.old now number offset bytes.now) }
         ensures err { OnErr result (self.new ≡ self.old) }
@@ -124,7 +124,7 @@ impl NodeTable {
 
     /// Cuts a regular file, or adds zeros. After an `Err` the tree is as before.
     pub(crate) fn set_size(&mut self, number: u64, size: u64, now: Time) -> Result<(), Memory>
-        requires regular { IfSome (map.get self.old.nodes number) (λ n. IsTrue (is_regular_file n)) }
+        requires regular { IfSome (map.get self.old.nodes number) (λ n. IsTrue (is_regular_node n)) }
         requires room { size < 2 ^ 62 }
         ensures ok { OnOk result (self.new ≡ tree_with_size self.old now number size) }
         ensures err { OnErr result (self.new ≡ self.old) }
@@ -168,7 +168,7 @@ impl NodeTable {
         ensures err { OnErr result (self.new ≡ self.old) }
     {
         let is_subdirectory = is_dir_at(&self.nodes, number);
-        let step = Move {
+        let step = Renaming {
             from,
             to,
             number,
