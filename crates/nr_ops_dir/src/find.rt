@@ -18,18 +18,6 @@ pub fn lookup(
     alloc: Global,
     tree: &Tree,
     caller: &Caller,
-    args: LookupArgs,
-) -> Result<LookupRes, Memory>
-    ensures { IfOk result (λ r. r ≡ lookup_reply tree.now caller.now args) }
-{
-    lookup_inner(alloc, tree, caller, &args)
-}
-
-/// The same, of borrowed arguments.
-fn lookup_inner(
-    alloc: Global,
-    tree: &Tree,
-    caller: &Caller,
     args: &LookupArgs,
 ) -> Result<LookupRes, Memory>
     ensures { IfOk result (λ r. r ≡ lookup_reply tree.now caller.now args.now) }

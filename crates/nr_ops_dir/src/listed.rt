@@ -2,12 +2,12 @@
 
 ghost use Rattle.std.specs.Prelude.{◌≡◌, ◌+◌, ◌-◌, ◌++◌, ◌∷◌, [], ◌<◌, ◌≤◌, ◌^◌, take, drop, length, map, IfOk, OnOk};
 ghost use Rattle.nr_tree.specs.Entries.{NamesAreValid};
-ghost use Rattle.nr_ops_dir.specs.Nodes.{handle_of_live as live_handle};
+ghost use Rattle.nr_ops_dir.specs.Nodes.{attributes_of_number, handle_of_live};
 ghost use Rattle.nr_ops_dir.specs.Readdir.{listed, listed_plus};
 
 use crate::listings::Range;
-use crate::nodes::{attributes_of_number, handle_of};
-use nr_nfs_base::{Handle, Name};
+use crate::nodes::handle_of;
+use nr_nfs_base::{Attributes, Handle, Name};
 use nr_nfs_res::{Entry, EntryPlus};
 use nr_tree::{Slot, Tree};
 use nr_xdr::Memory;
@@ -50,13 +50,20 @@ pub(crate) fn list_names(alloc: Global, range: &Range) -> Result<Vec<Entry>, Mem
     Ok(entries)
 }
 
-/// The handle of a node, if it is live.
-fn handle_of_live(alloc: Global, tree: &Tree, number: u64) -> Result<Option<Handle>, Memory>
-    ensures { IfOk result (λ h. h ≡ live_handle tree.now number) }
+/// What a listing says of the node under a number, if it is live: its attributes and its handle.
+fn listed_node(
+    alloc: Global,
+    tree: &Tree,
+    number: u64,
+) -> Result<(Option<Attributes>, Option<Handle>), Memory>
+    ensures { IfOk result (λ p. (p.0 ≡ attributes_of_number tree.now number) × (p.1 ≡ handle_of_live tree.now number)) }
 {
     match tree.get(number) {
-        Some(_) => Ok(Some(handle_of(alloc, number)?)),
-        None => Ok(None),
+        Some(node) => {
+            let handle = handle_of(alloc, number)?;
+            Ok((Some(node.attributes(number)), Some(handle)))
+        }
+        None => Ok((None, None)),
     }
 }
 
@@ -65,12 +72,12 @@ fn entry_plus(alloc: Global, tree: &Tree, name: &[u8], slot: Slot) -> Result<Ent
     ensures { IfOk result (λ e. e ≡ listed_plus tree.now (record { cookie = slot.cookie; name = name.now; number = slot.number })) }
 {
     let name = Name::from_slice(alloc, name)?;
-    let handle = handle_of_live(alloc, tree, slot.number)?;
+    let (attributes, handle) = listed_node(alloc, tree, slot.number)?;
     Ok(EntryPlus {
         fileid: slot.number,
         name,
         cookie: slot.cookie,
-        attributes: attributes_of_number(tree, slot.number),
+        attributes,
         handle,
     })
 }

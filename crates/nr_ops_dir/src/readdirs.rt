@@ -23,18 +23,6 @@ pub fn readdir(
     alloc: Global,
     tree: &Tree,
     caller: &Caller,
-    args: ReaddirArgs,
-) -> Result<ReaddirRes, Memory>
-    ensures { IfOk result (λ r. r ≡ readdir_reply tree.now caller.now args) }
-{
-    readdir_inner(alloc, tree, caller, &args)
-}
-
-/// The same, of borrowed arguments.
-fn readdir_inner(
-    alloc: Global,
-    tree: &Tree,
-    caller: &Caller,
     args: &ReaddirArgs,
 ) -> Result<ReaddirRes, Memory>
     ensures { IfOk result (λ r. r ≡ readdir_reply tree.now caller.now args.now) }
@@ -84,18 +72,6 @@ fn readdir_range<'a>(
 /// Lists the entries of a directory after a cookie with their attributes and handles, as many as fit (RFC 1813
 /// section 3.3.17). `Err` is out of memory.
 pub fn readdirplus(
-    alloc: Global,
-    tree: &Tree,
-    caller: &Caller,
-    args: ReaddirplusArgs,
-) -> Result<ReaddirplusRes, Memory>
-    ensures { IfOk result (λ r. r ≡ readdirplus_reply tree.now caller.now args) }
-{
-    readdirplus_inner(alloc, tree, caller, &args)
-}
-
-/// The same, of borrowed arguments.
-fn readdirplus_inner(
     alloc: Global,
     tree: &Tree,
     caller: &Caller,

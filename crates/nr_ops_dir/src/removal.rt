@@ -80,15 +80,15 @@ pub fn remove(
     now: Time,
     caller: &Caller,
     space: &Space,
-    args: RemoveArgs,
+    args: &RemoveArgs,
 ) -> RemoveRes
     requires space { IsWithinCapacity space.now }
-    ensures result { result ≡ remove_reply tree.old caller.now space.now now args }
-    ensures tree { tree.new ≡ remove_tree tree.old caller.now space.now now args }
+    ensures result { result ≡ remove_reply tree.old caller.now space.now now args.now }
+    ensures tree { tree.new ≡ remove_tree tree.old caller.now space.now now args.now }
 {
     let handle = args.dir.as_slice();
     let before = wcc_attributes_at(tree, handle);
-    let refusal = remove_file(tree, now, caller, space, &args);
+    let refusal = remove_file(tree, now, caller, space, args);
     reply(refusal, wcc_data(before, tree, handle))
 }
 
@@ -164,14 +164,14 @@ pub fn rmdir(
     now: Time,
     caller: &Caller,
     space: &Space,
-    args: RmdirArgs,
+    args: &RmdirArgs,
 ) -> RmdirRes
     requires space { IsWithinCapacity space.now }
-    ensures result { result ≡ rmdir_reply tree.old caller.now space.now now args }
-    ensures tree { tree.new ≡ rmdir_tree tree.old caller.now space.now now args }
+    ensures result { result ≡ rmdir_reply tree.old caller.now space.now now args.now }
+    ensures tree { tree.new ≡ rmdir_tree tree.old caller.now space.now now args.now }
 {
     let handle = args.dir.as_slice();
     let before = wcc_attributes_at(tree, handle);
-    let refusal = remove_directory(tree, now, caller, space, &args);
+    let refusal = remove_directory(tree, now, caller, space, args);
     reply(refusal, wcc_data(before, tree, handle))
 }

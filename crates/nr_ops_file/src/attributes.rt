@@ -20,10 +20,10 @@ use nr_tree::{
 use nr_xdr::Memory;
 
 /// The attributes of the node that the handle names (RFC 1813 section 3.3.1). Takes no memory.
-pub fn getattr(tree: &Tree, args: GetattrArgs) -> GetattrRes
-    ensures result { result ≡ getattr_reply tree.now args }
+pub fn getattr(tree: &Tree, args: &GetattrArgs) -> GetattrRes
+    ensures result { result ≡ getattr_reply tree.now args.now }
     // If no rule refuses there are attributes, so SERVERFAULT is never answered.
-    ensures live { first (getattr_rules tree.now args) ≡ None → IsSome (attributes_of_handle tree.now args.object) }
+    ensures live { first (getattr_rules tree.now args.now) ≡ None → IsSome (attributes_of_handle tree.now args.now.object) }
 {
     match live_node(tree, args.object.as_slice()) {
         Ok((number, node)) => StatusUnion::Done(node.attributes(number)),
@@ -44,8 +44,8 @@ const ACCESS_DELETE: u32 = 16;
 const ACCESS_EXECUTE: u32 = 32;
 
 /// Which of the rights that are asked for the caller has (RFC 1813 section 3.3.4). Takes no memory.
-pub fn access(tree: &Tree, caller: &Caller, args: AccessArgs) -> AccessRes
-    ensures { result ≡ access_reply tree.now caller.now args }
+pub fn access(tree: &Tree, caller: &Caller, args: &AccessArgs) -> AccessRes
+    ensures { result ≡ access_reply tree.now caller.now args.now }
 {
     let handle = args.object.as_slice();
     let attributes = attributes_at(tree, handle);
@@ -87,22 +87,6 @@ fn granted_access(caller: &Caller, node: &Node) -> u32
 /// Sets attributes, and cuts a regular file or adds zeros to it (RFC 1813 section 3.3.2). After an `Err` the tree is as
 /// before.
 pub fn setattr(
-    tree: &mut Tree,
-    now: Time,
-    caller: &Caller,
-    space: &Space,
-    args: SetattrArgs,
-) -> Result<SetattrRes, Memory>
-    requires space { IsWithinCapacity space.now }
-    ensures result { IfOk result (λ r. r ≡ setattr_reply tree.old caller.now space.now now args) }
-    ensures tree { OnOk result (tree.new ≡ setattr_tree tree.old caller.now space.now now args) }
-    ensures err { OnErr result (tree.new ≡ tree.old) }
-{
-    setattr_inner(tree, now, caller, space, &args)
-}
-
-/// The same, of borrowed arguments.
-fn setattr_inner(
     tree: &mut Tree,
     now: Time,
     caller: &Caller,

@@ -35,14 +35,7 @@ fn check_regular(node: &Node) -> Result<(), Status>
 
 /// Bytes of a regular file from an offset on, as many as are asked for, may be moved and are there (RFC 1813 section
 /// 3.3.6). The data are those of the tree. Takes no memory.
-pub fn read<'a>(tree: &'a Tree, caller: &Caller, args: ReadArgs) -> ReadResRef<'a>
-    ensures { result ≡ read_reply tree.now caller.now args }
-{
-    read_inner(tree, caller, &args)
-}
-
-/// The same, of borrowed arguments.
-fn read_inner<'a>(tree: &'a Tree, caller: &Caller, args: &ReadArgs) -> ReadResRef<'a>
+pub fn read<'a>(tree: &'a Tree, caller: &Caller, args: &ReadArgs) -> ReadResRef<'a>
     ensures { result ≡ read_reply tree.now caller.now args.now }
 {
     let attributes = attributes_at(tree, args.file.as_slice());
@@ -191,12 +184,12 @@ fn file_to_write(
 
 /// Whether all that was written of a regular file is on stable storage, which it always is (RFC 1813 section 3.3.21).
 /// Takes no memory.
-pub fn commit(tree: &Tree, space: &Space, args: CommitArgs) -> CommitRes
-    ensures { result ≡ commit_reply tree.now space.now args }
+pub fn commit(tree: &Tree, space: &Space, args: &CommitArgs) -> CommitRes
+    ensures { result ≡ commit_reply tree.now space.now args.now }
 {
     let handle = args.file.as_slice();
     let wcc = wcc_data(wcc_attributes_at(tree, handle), tree, handle);
-    match check_commit(tree, &args) {
+    match check_commit(tree, args) {
         Ok(()) => StatusUnion::Done(CommitOk {
             wcc,
             verifier: space.verifier,

@@ -24,8 +24,8 @@ const PROPERTIES: u32 = 0x01 + 0x02 + 0x08 + 0x10;
 
 /// How much of the journal's capacity there is and is left, in bytes and in files (RFC 1813 section 3.3.18). Takes no
 /// memory.
-pub fn fsstat(tree: &Tree, space: &Space, args: FsstatArgs) -> FsstatRes
-    ensures { result ≡ fsstat_reply tree.now space.now args }
+pub fn fsstat(tree: &Tree, space: &Space, args: &FsstatArgs) -> FsstatRes
+    ensures { result ≡ fsstat_reply tree.now space.now args.now }
 {
     let handle = args.fsroot.as_slice();
     let attributes = attributes_at(tree, handle);
@@ -55,8 +55,8 @@ fn fsstat_results(space: &Space, attributes: Option<Attributes>) -> FsstatOk
 }
 
 /// The sizes that the server takes and prefers (RFC 1813 section 3.3.19). Takes no memory.
-pub fn fsinfo(tree: &Tree, args: FsinfoArgs) -> FsinfoRes
-    ensures { result ≡ fsinfo_reply tree.now args }
+pub fn fsinfo(tree: &Tree, args: &FsinfoArgs) -> FsinfoRes
+    ensures { result ≡ fsinfo_reply tree.now args.now }
 {
     let handle = args.fsroot.as_slice();
     let attributes = attributes_at(tree, handle);
@@ -88,8 +88,8 @@ fn fsinfo_results(attributes: Option<Attributes>) -> FsinfoOk
 }
 
 /// The limits of names and links (RFC 1813 section 3.3.20). Takes no memory.
-pub fn pathconf(tree: &Tree, args: PathconfArgs) -> PathconfRes
-    ensures { result ≡ pathconf_reply tree.now args }
+pub fn pathconf(tree: &Tree, args: &PathconfArgs) -> PathconfRes
+    ensures { result ≡ pathconf_reply tree.now args.now }
 {
     let handle = args.object.as_slice();
     let attributes = attributes_at(tree, handle);

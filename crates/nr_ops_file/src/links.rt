@@ -14,11 +14,11 @@ use nr_xdr::Memory;
 use std::alloc::Global;
 
 /// The path in a symbolic link (RFC 1813 section 3.3.5). An `Err` is out of memory.
-pub fn readlink(alloc: Global, tree: &Tree, args: ReadlinkArgs) -> Result<ReadlinkRes, Memory>
-    ensures { IfOk result (λ r. r ≡ readlink_reply tree.now args) }
+pub fn readlink(alloc: Global, tree: &Tree, args: &ReadlinkArgs) -> Result<ReadlinkRes, Memory>
+    ensures { IfOk result (λ r. r ≡ readlink_reply tree.now args.now) }
 {
     let attributes = attributes_at(tree, args.symlink.as_slice());
-    match path_of_link(tree, &args) {
+    match path_of_link(tree, args) {
         Ok(path) => Ok(StatusUnion::Done(ReadlinkOk {
             attributes,
             path: Path::from_slice(alloc, path)?,

@@ -155,7 +155,7 @@ impl Changing for SetattrArgs {
     ghost changed = { setattr_tree };
 
     fn execute(self, _alloc: Global, tree: &mut Tree, call: &Call) -> Result<SetattrRes, Memory> {
-        nr_ops_file::setattr(tree, call.time, call.caller, &call.space, self)
+        nr_ops_file::setattr(tree, call.time, call.caller, &call.space, &self)
     }
 }
 
@@ -226,7 +226,7 @@ impl Changing for RemoveArgs {
     ghost changed = { remove_tree };
 
     fn execute(self, _alloc: Global, tree: &mut Tree, call: &Call) -> Result<RemoveRes, Memory> {
-        Ok(nr_ops_dir::remove(tree, call.time, call.caller, &call.space, self))
+        Ok(nr_ops_dir::remove(tree, call.time, call.caller, &call.space, &self))
     }
 }
 
@@ -241,7 +241,7 @@ impl Changing for RmdirArgs {
     ghost changed = { rmdir_tree };
 
     fn execute(self, _alloc: Global, tree: &mut Tree, call: &Call) -> Result<RmdirRes, Memory> {
-        Ok(nr_ops_dir::rmdir(tree, call.time, call.caller, &call.space, self))
+        Ok(nr_ops_dir::rmdir(tree, call.time, call.caller, &call.space, &self))
     }
 }
 

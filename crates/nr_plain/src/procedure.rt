@@ -20,8 +20,8 @@ pub(crate) trait Reading: Xdr {
     ghost results: { Tree → Caller → Space → Self → Self.Results };
 
     /// Gives the results.
-    fn execute(self, alloc: Global, tree: &Tree, call: &Call) -> Result<Self::Results, Memory>
-        ensures { IfOk result (λ r. r ≡ results tree.now call.now.caller.now call.now.space self) };
+    fn execute(&self, alloc: Global, tree: &Tree, call: &Call) -> Result<Self::Results, Memory>
+        ensures { IfOk result (λ r. r ≡ results tree.now call.now.caller.now call.now.space self.now) };
 }
 
 /// The arguments of a procedure that may change the tree.

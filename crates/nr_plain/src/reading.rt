@@ -53,7 +53,7 @@ pub(crate) fn read_file(alloc: Global, tree: &Tree, call: &Call) -> Result<Octet
 {
     match read_arguments::<ReadArgs>(alloc, call.arguments)? {
         Some(arguments) => {
-            let results = nr_ops_file::read(tree, call.caller, arguments);
+            let results = nr_ops_file::read(tree, call.caller, &arguments);
             read_reply_of(alloc, call.xid, &results)
         }
         None => garbage(alloc, call.xid),
@@ -84,7 +84,7 @@ impl Reading for GetattrArgs {
 
     ghost results = { λ t c space a. getattr_reply t a };
 
-    fn execute(self, _alloc: Global, tree: &Tree, _call: &Call) -> Result<GetattrRes, Memory> {
+    fn execute(&self, _alloc: Global, tree: &Tree, _call: &Call) -> Result<GetattrRes, Memory> {
         Ok(nr_ops_file::getattr(tree, self))
     }
 }
@@ -94,7 +94,7 @@ impl Reading for LookupArgs {
 
     ghost results = { λ t c space a. lookup_reply t c a };
 
-    fn execute(self, alloc: Global, tree: &Tree, call: &Call) -> Result<LookupRes, Memory> {
+    fn execute(&self, alloc: Global, tree: &Tree, call: &Call) -> Result<LookupRes, Memory> {
         nr_ops_dir::lookup(alloc, tree, call.caller, self)
     }
 }
@@ -104,7 +104,7 @@ impl Reading for AccessArgs {
 
     ghost results = { λ t c space a. access_reply t c a };
 
-    fn execute(self, _alloc: Global, tree: &Tree, call: &Call) -> Result<AccessRes, Memory> {
+    fn execute(&self, _alloc: Global, tree: &Tree, call: &Call) -> Result<AccessRes, Memory> {
         Ok(nr_ops_file::access(tree, call.caller, self))
     }
 }
@@ -114,7 +114,7 @@ impl Reading for ReadlinkArgs {
 
     ghost results = { λ t c space a. readlink_reply t a };
 
-    fn execute(self, alloc: Global, tree: &Tree, _call: &Call) -> Result<ReadlinkRes, Memory> {
+    fn execute(&self, alloc: Global, tree: &Tree, _call: &Call) -> Result<ReadlinkRes, Memory> {
         nr_ops_file::readlink(alloc, tree, self)
     }
 }
@@ -124,7 +124,7 @@ impl Reading for ReaddirArgs {
 
     ghost results = { λ t c space a. readdir_reply t c a };
 
-    fn execute(self, alloc: Global, tree: &Tree, call: &Call) -> Result<ReaddirRes, Memory> {
+    fn execute(&self, alloc: Global, tree: &Tree, call: &Call) -> Result<ReaddirRes, Memory> {
         nr_ops_dir::readdir(alloc, tree, call.caller, self)
     }
 }
@@ -134,7 +134,7 @@ impl Reading for ReaddirplusArgs {
 
     ghost results = { λ t c space a. readdirplus_reply t c a };
 
-    fn execute(self, alloc: Global, tree: &Tree, call: &Call) -> Result<ReaddirplusRes, Memory> {
+    fn execute(&self, alloc: Global, tree: &Tree, call: &Call) -> Result<ReaddirplusRes, Memory> {
         nr_ops_dir::readdirplus(alloc, tree, call.caller, self)
     }
 }
@@ -144,7 +144,7 @@ impl Reading for FsstatArgs {
 
     ghost results = { λ t c space a. fsstat_reply t space a };
 
-    fn execute(self, _alloc: Global, tree: &Tree, call: &Call) -> Result<FsstatRes, Memory> {
+    fn execute(&self, _alloc: Global, tree: &Tree, call: &Call) -> Result<FsstatRes, Memory> {
         Ok(nr_ops_file::fsstat(tree, &call.space, self))
     }
 }
@@ -154,7 +154,7 @@ impl Reading for FsinfoArgs {
 
     ghost results = { λ t c space a. fsinfo_reply t a };
 
-    fn execute(self, _alloc: Global, tree: &Tree, _call: &Call) -> Result<FsinfoRes, Memory> {
+    fn execute(&self, _alloc: Global, tree: &Tree, _call: &Call) -> Result<FsinfoRes, Memory> {
         Ok(nr_ops_file::fsinfo(tree, self))
     }
 }
@@ -164,7 +164,7 @@ impl Reading for PathconfArgs {
 
     ghost results = { λ t c space a. pathconf_reply t a };
 
-    fn execute(self, _alloc: Global, tree: &Tree, _call: &Call) -> Result<PathconfRes, Memory> {
+    fn execute(&self, _alloc: Global, tree: &Tree, _call: &Call) -> Result<PathconfRes, Memory> {
         Ok(nr_ops_file::pathconf(tree, self))
     }
 }
@@ -174,7 +174,7 @@ impl Reading for CommitArgs {
 
     ghost results = { λ t c space a. commit_reply t space a };
 
-    fn execute(self, _alloc: Global, tree: &Tree, call: &Call) -> Result<CommitRes, Memory> {
+    fn execute(&self, _alloc: Global, tree: &Tree, call: &Call) -> Result<CommitRes, Memory> {
         Ok(nr_ops_file::commit(tree, &call.space, self))
     }
 }
