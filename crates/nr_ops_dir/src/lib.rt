@@ -5,7 +5,7 @@
 //! Each takes a tree, the caller and the arguments, and one that changes the tree the time and the space of the journal too. `specs/`
 //! has for each a list of rules in the order in which they are asked: the first that holds refuses the call, and a refused call
 //! changes nothing. The tree after a call and its reply are defined there too, and each clause is an equation with these
-//! definitions. A procedure that changes the tree asks for a sane tree and leaves one; after an `Err` of memory the tree is as before.
+//! definitions. After an `Err` of memory the tree is as before.
 //!
 //! `entries.rt` has what the changing ones share: the node of a name, and the test of the handle, the name and the directory.
 //! `creation.rt` has new nodes with their entries and replies, `listings.rt` which entries fit into a listing. The values of arguments

@@ -1,9 +1,9 @@
 //! The tree of files that the plain server keeps (RFC 1813 section 2.6): nodes by number, and directories that name them.
 //!
 //! [`Tree`] has a node under each number and the next number to be given. Contracts see it as a finite map; `specs/Sane.antt` says what
-//! holds of every tree, and each step of `steps.rt` asks for such a tree and leaves one: a node or a link added, an entry removed, a
-//! node renamed, bytes written or cut, attributes set. What a step makes of a tree is in `specs/Changes.antt`, when it may be taken in
-//! `specs/Steps.antt`. After a step that ran out of memory the tree is as before.
+//! holds of every tree: it is the invariant of the type. Its steps are a node or a link added, an entry removed, a node renamed, bytes
+//! written or cut, attributes set. What a step makes of a tree is in `specs/Changes.antt`, when it may be taken in `specs/Steps.antt`.
+//! After a step that ran out of memory the tree is as before.
 //!
 //! [`File`] and [`Directory`] hide how bytes and entries are kept: contracts see a list of bytes, and a list of entries with the next
 //! cookie. `rules.rt` has the tests of handles, names, rights, attributes and of the journal's space that the procedures share, and
