@@ -5,7 +5,8 @@ use crate::endpoint::TestEndpoint;
 use crate::given::{
     REPLY, REQUEST, SIDES, bytes_of, feed_pieces, feed_words, greeted, joined, outcome, writes,
 };
-use nr_endpoint::{Endpoint, Event, Offered, RemoteWrite};
+use bytes::Bytes;
+use nr_endpoint::{Endpoint, Event, Offered, RemoteWrite, SharedWrite};
 use nr_link::End;
 use nr_outside::MemSink;
 use nr_regions::{Registration, Right};
@@ -197,15 +198,15 @@ fn put_word(rt: &impl Abort, words: &mut Vec<u32>, word: u32, count: usize) {
     }
 }
 
-/// The two segments of the response to a Read Request of 5000 bytes, all 7.
-fn long_response(rt: &impl Abort, alloc: Global) -> Vec<u32> {
+/// Two segments with 5000 bytes, all 7, for byte 0 of a region; `controls` are the words that they begin with.
+fn long_segments(rt: &impl Abort, alloc: Global, controls: (u32, u32), stag: u32) -> Vec<u32> {
     let mut words = Vec::new(alloc);
     words
-        .extend_from_slice(&[0x100e_8142, 7, 0, 0])
+        .extend_from_slice(&[controls.0, stag, 0, 0])
         .expect(rt, "memory");
     put_word(rt, &mut words, 0x0707_0707, 1024);
     words
-        .extend_from_slice(&[0, 0x0396_c142, 7, 0, 0x1000])
+        .extend_from_slice(&[0, controls.1, stag, 0, 0x1000])
         .expect(rt, "memory");
     put_word(rt, &mut words, 0x0707_0707, 226);
     put_word(rt, &mut words, 0, 1);
@@ -219,9 +220,50 @@ fn long_read(rt: &impl Abort, alloc: Global, side: Side) {
     endpoint.register(rt, alloc, bytes.as_slice(), Right::Fetch);
     let request = [0x002e_4141, 0, 1, 1, 0, 7, 0, 0, 5000, 1, 0, 0, 0];
     feed_words(rt, alloc, 0, &mut endpoint, &request, None);
-    let response = long_response(rt, alloc);
+    let response = long_segments(rt, alloc, (0x100e_8142, 0x0396_c142), 7);
     outcome(rt, alloc, 1, &mut endpoint, None, response.as_slice(), &[]);
     drop(endpoint);
+}
+
+/// A Send of 16 bytes, the first of a side.
+static SEND: [u32; 9] = [
+    0x0022_4143,
+    0,
+    0,
+    1,
+    0,
+    0x0303_0303,
+    0x0303_0303,
+    0x0303_0303,
+    0x0303_0303,
+];
+
+/// An RDMA Write of 5000 shared bytes and a Send leave as if the bytes were the endpoint's own.
+fn shared_answer(rt: &impl Abort, alloc: Global) {
+    let mut endpoint = fed_hello(rt, alloc);
+    let bytes = Bytes::copy_from_slice(alloc, sevens(rt, alloc, 5000).as_slice());
+    let bytes = bytes.expect(rt, "memory");
+    same(rt, 0, bytes.len(), 5000);
+    let writes = [SharedWrite {
+        stag: 9,
+        to: 0,
+        bytes,
+    }];
+    let queued = endpoint.answer_shared(&writes, &[3; 4], &[3; 12]);
+    same(rt, 1, queued, Ok(()));
+    let mut sink = MemSink::new(alloc, Vec::new(alloc));
+    same(rt, 2, endpoint.drain_into(&mut sink), Ok(()));
+    let mut words = long_segments(rt, alloc, (0x100e_8140, 0x0396_c140), 9);
+    words.extend_from_slice(&SEND).expect(rt, "memory");
+    put_word(rt, &mut words, 0, 1);
+    let want = joined(rt, alloc, &REQUEST, words.as_slice());
+    same(rt, 3, sink.bytes(), want.as_slice());
+    drop(endpoint);
+}
+
+#[test]
+fn shared_answers(rt: HostRuntime) {
+    shared_answer(&rt, rt.alloc());
 }
 
 #[test]
