@@ -6,7 +6,7 @@ use Rattle.nr_link.specs.Input.{InputState, input_of, input_count, input_after}
 use Rattle.nr_link.proofs.Inputs.{input_of_append, input_of_count}
 use Rattle.nr_reduce.specs.declared.mark.Mark.{Mark}
 use Rattle.nr_reduce.specs.KeptCalls.{KeptCall}
-use Rattle.std.specs.List.{AllByRecursion}
+use Rattle.std.specs.List.{AllByRecursion, find}
 use Rattle.nr_reduce.specs.declared.mark.Mark.TheVariants as marks
 use Rattle.nr_reduce.specs.declared.mark.LinkParameters.{LinkParameters}
 use Rattle.nr_reduce.specs.History.{bytes_sent, bytes_received, written_at, fed_at}
@@ -18,7 +18,7 @@ use Rattle.nr_reduce.specs.ClientState.{OutstandingCall, ClientState}
 use Rattle.nr_reduce.specs.Client.{client_rules, client_end, client_output}
 use Rattle.nr_reduce.specs.Run.{client, output_due}
 use Rattle.nr_reduce.specs.Matched.{IsPrefixOf}
-use Rattle.nr_reduce.specs.KeptClient.{KeptClient, ClientKeeps, IsWaiting, kept_revoked, sent_kept, kept_sent}
+use Rattle.nr_reduce.specs.KeptClient.{KeptClient, ClientKeeps, IsWaiting, HasRegionsOf, kept_revoked, sent_kept, kept_sent}
 use Rattle.nr_reduce.specs.Standing.{input_events, ClientRepresents, ClientRunsOut}
 use Rattle.nr_reduce.specs.StandingLaws.{RevokeStands, RevokeStaysOut, WroteStands, OtherMarkStands}
 use Rattle.nr_reduce.proofs.Steps.{client_one, output_due_up_one}
@@ -139,7 +139,11 @@ revoke_stays_out opened link kept queue stopped run xid bytes out =
 
 waits_sent : (first sent : ℕ) (os : List OutstandingCall) (cs : List KeptCall) → AllByRecursion (IsWaiting os) cs → AllByRecursion (IsWaiting os) (map (sent_kept first sent) cs)
 waits_sent first sent os [] h = tt
-waits_sent first sent os (c ∷ cs) h = (h.0, waits_sent first sent os cs h.1)
+waits_sent first sent os (c ∷ cs) h = (one (find (λ (p : OutstandingCall). eqb p.xid c.xid) os) h.0, waits_sent first sent os cs h.1)
+  where
+    one : (o : Option OutstandingCall) → HasRegionsOf c o → HasRegionsOf (sent_kept first sent c) o
+    one None h = h
+    one (Some o) h = record { call = h.call; stags = h.stags }
 
 -- of a client that has ended it doesn't matter which Sends have left
 writes_ended : (opened : LinkParameters) (kept : KeptClient) (k : ClientState) (end : End) (count first sent : ℕ) → ClientKeeps opened kept (record { state = k; ended = Some end }) count → ClientKeeps opened (kept_sent first sent kept) (record { state = k; ended = Some end }) count

@@ -1,7 +1,7 @@
 -- The regions of a call are released when its memory is revoked, and when a message of its xid comes.
 use Rattle.std.proofs.Common.{◌≡◌, ℕ, ◌<◌, ◌≤◌, Bool, true, false, not, cond, eqb, leb, List, [], ◌∷◌, length, map, inl, inr, Option, None, Some, is_some, refl, sym, ap, subst, ◌∙◌, arith}
 use Rattle.std.specs.List.{AllByRecursion, find}
-use Rattle.std.proofs.lemmas.Bool.{eqb-true, eq-eqb, le-leb}
+use Rattle.std.proofs.lemmas.Bool.{eqb-true, eq-eqb, ne_eqb, le-leb}
 use Rattle.std.proofs.lemmas.List.{length-map}
 use Rattle.nr_xdr.specs.Fields.{word_at}
 use Rattle.nr_regions.specs.RegisteredMemory.{RegisteredMemory, live_region, bytes_in}
@@ -15,8 +15,9 @@ use Rattle.nr_reduce.specs.Events.RunEvent.{MemoryRevoked}
 use Rattle.nr_reduce.specs.EndRules.{next_end_state, live}
 use Rattle.nr_reduce.specs.ClientState.{OutstandingCall, ClientState, client_memory_at}
 use Rattle.nr_reduce.specs.Client.{client_rules, client_end, client_state_after, revoked_call, with_message}
-use Rattle.nr_reduce.specs.KeptCalls.{KeptCall, IsKept, AreKept}
-use Rattle.nr_reduce.specs.KeptClient.{KeptClient, ClientKeeps, CallsKeep, MemoryKeeps, HoldsFor, IsOwned, IsOpen, IsAmong, AreRising, OpensFor, IsWaiting, bytes_under, released_all, stags_in, stags_for, without, revoked_if, revoked_kept, kept_revoked, kept_handed_back, kept_completed}
+use Rattle.nr_reduce.specs.KeptCalls.{KeptCall, IsKept, AreKept, stags_unless}
+use Rattle.nr_reduce.specs.Plans.{buffers}
+use Rattle.nr_reduce.specs.KeptClient.{KeptClient, ClientKeeps, CallsKeep, MemoryKeeps, HoldsFor, IsOwned, IsOpen, IsAmong, AreRising, OpensFor, IsWaiting, HasRegions, HasRegionsOf, bytes_under, released_all, stags_in, stags_for, without, revoked_if, revoked_kept, kept_revoked, kept_handed_back, kept_completed}
 use Rattle.nr_reduce.specs.StandingLaws.{KeptStays, KeptRevokes, KeptHandsBack, KeptCompletes}
 use Rattle.nr_reduce.proofs.OfferedMemory.{grants_from, contents_same, AreAlike, alike_offers}
 use Rattle.nr_reduce.proofs.MemorySteps.{holds_closed, holds_later, offered_closed, offered_later, received_later}
@@ -264,32 +265,38 @@ kept_stays opened kept e count later keeps le = record {
   holds = holds_on e.state count later kept.memory kept.calls le keeps.accesses keeps.holds;
 }
 
-waits_first : (c : KeptCall) (o : OutstandingCall) (os : List OutstandingCall) → c.xid ≡ o.xid → IsWaiting (o ∷ os) c
-waits_first c o os is = ap (λ (b : Bool). is_some (cond b (Some o) (find (λ (p : OutstandingCall). eqb p.xid c.xid) os))) (eq-eqb o.xid c.xid (sym is))
+has_regions : (k : ClientState) (c : KeptCall) (o : OutstandingCall) → IsKept k c o → HasRegions c o
+has_regions k c o is = record { call = is.call; stags = is.stags ∙ ap (λ (b : Bool). stags_unless b (buffers o.stag o.plan)) (sym is.revoked) }
 
-waits_more : (c : KeptCall) (o : OutstandingCall) (os : List OutstandingCall) → IsWaiting os c → IsWaiting (o ∷ os) c
-waits_more c o os is = by (eqb o.xid c.xid)
-  where
-    by : (b : Bool) → is_some (cond b (Some o) (find (λ (p : OutstandingCall). eqb p.xid c.xid) os)) ≡ true
-    by true = refl
-    by false = is
+waits_first : (k : ClientState) (c : KeptCall) (o : OutstandingCall) (os : List OutstandingCall) → IsKept k c o → IsWaiting (o ∷ os) c
+waits_first k c o os is =
+    subst (λ (b : Bool). HasRegionsOf c (cond b (Some o) (find (λ (p : OutstandingCall). eqb p.xid c.xid) os))) (sym (eq-eqb o.xid c.xid (sym is.xid))) (has_regions k c o is)
 
-all_more : (o : OutstandingCall) (os : List OutstandingCall) (cs : List KeptCall) → AllByRecursion (IsWaiting os) cs → AllByRecursion (IsWaiting (o ∷ os)) cs
-all_more o os [] is = tt
-all_more o os (c ∷ cs) is = (waits_more c o os is.0, all_more o os cs is.1)
+waits_more : (c : KeptCall) (o : OutstandingCall) (os : List OutstandingCall) → o.xid < c.xid → IsWaiting os c → IsWaiting (o ∷ os) c
+waits_more c o os lt is =
+    subst (λ (b : Bool). HasRegionsOf c (cond b (Some o) (find (λ (p : OutstandingCall). eqb p.xid c.xid) os))) (sym (ne_eqb o.xid c.xid (λ e. (let same = e in omega (arith, same, lt))))) is
+
+all_more : (o : OutstandingCall) (os : List OutstandingCall) (cs : List KeptCall) → AllByRecursion (λ d. o.xid < d.xid) cs → AllByRecursion (IsWaiting os) cs → AllByRecursion (IsWaiting (o ∷ os)) cs
+all_more o os [] lt is = tt
+all_more o os (c ∷ cs) lt is = (waits_more c o os lt.0 is.0, all_more o os cs lt.1 is.1)
 
 -- each kept call is an outstanding one
-kept_waits : (k : ClientState) (cs : List KeptCall) (os : List OutstandingCall) → AreKept k cs os → AllByRecursion (IsWaiting os) cs
-kept_waits k [] os is = tt
-kept_waits k (c ∷ cs) [] is = absurd is
-kept_waits k (c ∷ cs) (o ∷ os) is = (waits_first c o os is.0.xid, all_more o os cs (kept_waits k cs os is.1))
+kept_waits : (k : ClientState) (cs : List KeptCall) (os : List OutstandingCall) (below : ℕ) → AreRising cs below → AreKept k cs os → AllByRecursion (IsWaiting os) cs
+kept_waits k [] os below rising is = tt
+kept_waits k (c ∷ cs) [] below rising is = absurd is
+kept_waits k (c ∷ cs) (o ∷ os) below rising is =
+    (waits_first k c o os is.0, all_more o os cs (subst (λ (n : ℕ). AllByRecursion (λ d. n < d.xid) cs) is.0.xid rising.1.0) (kept_waits k cs os below rising.1.1 is.1))
 
 waits_revoked : (xid : ℕ) (os : List OutstandingCall) (cs : List KeptCall) → AllByRecursion (IsWaiting os) cs → AllByRecursion (IsWaiting os) (map (revoked_kept xid) cs)
 waits_revoked xid os [] h = tt
 waits_revoked xid os (c ∷ cs) h = (by (eqb c.xid xid), waits_revoked xid os cs h.1)
   where
+    one : (o : Option OutstandingCall) → HasRegionsOf c o → HasRegionsOf (revoked_if true c) o
+    one None h = h
+    one (Some o) h = record { call = tt; stags = refl }
+
     by : (b : Bool) → IsWaiting os (revoked_if b c)
-    by true = h.0
+    by true = one (find (λ (p : OutstandingCall). eqb p.xid c.xid) os) h.0
     by false = h.0
 
 -- of a client that hasn't ended the memory of its calls is that of its open regions
@@ -304,7 +311,7 @@ keeps_live opened kept k count ended xid grant up down outstanding accesses memo
   outstanding = outstanding;
   calls = λ lives. calls;
   memory = λ lives. memory;
-  waits = kept_waits k kept.calls k.outstanding calls.kept;
+  waits = kept_waits k kept.calls k.outstanding kept.next_xid calls.rising calls.kept;
   rising = calls.rising;
   opens = calls.opens;
   accesses = accesses;

@@ -1,6 +1,6 @@
 -- What a client keeps, and the state that it is enough for: of regions, accesses and outcomes of the past it keeps nothing but what its
 -- registered memory holds.
-use Rattle.std.specs.Prelude.{◌≡◌, ℕ, ◌+◌, ◌-◌, ◌<◌, ◌⊎◌, ◌==◌, nat_lt, Bool, true, false, not, List, [], ◌∷◌, ◌++◌, length, map, Option, None, Some, is_some}
+use Rattle.std.specs.Prelude.{◌≡◌, ℕ, ◌+◌, ◌-◌, ◌<◌, ◌⊎◌, ◌==◌, nat_lt, Bool, true, false, not, List, [], ◌∷◌, ◌++◌, length, map, Option, None, Some, IfSome, is_none}
 use Rattle.std.specs.List.{AllByRecursion, filter, find}
 use Rattle.nr_regions.specs.RegisteredMemory.{RegisteredMemory, initial_memory, live_region, after_register, after_release, bytes_in}
 use Rattle.nr_regions.specs.Access.{TaggedSegment}
@@ -23,7 +23,7 @@ use Rattle.nr_reduce.specs.ClientState.{OutstandingCall, ClientState, client_mem
 use Rattle.nr_reduce.specs.Client.{credits_of_word}
 use Rattle.nr_reduce.specs.SubmitAnswer.{next_xid}
 use Rattle.nr_xdr.specs.Fields.{word_at}
-use Rattle.nr_reduce.specs.KeptCalls.{KeptCall, AreKept}
+use Rattle.nr_reduce.specs.KeptCalls.{KeptCall, AreKept, stags_unless}
 
 -- Why the client ended, once it has; the xid that it gives next; the credits that are granted; how many calls are outstanding; the calls
 -- among them that weren't handed back, in the order of their Submits; its registered memory; the maximum length of a Send in bytes,
@@ -92,9 +92,18 @@ pub record MemoryKeeps (m : RegisteredMemory) (k : ClientState) (count : ℕ) : 
 abbrev pub HoldsFor : RegisteredMemory → ClientState → ℕ → KeptCall → Type 0
 HoldsFor m k count c = AllByRecursion (λ stag. bytes_under m stag ≡ client_memory_at k count stag) c.stags
 
--- an outstanding call has its xid
+-- Until its memory is revoked or it is handed back, a call is kept with the STags of all its regions.
+pub record HasRegions (c : KeptCall) (o : OutstandingCall) : Type 0 where
+  pub call : IfSome c.call (λ call. call ≡ o.call)
+  pub stags : c.stags ≡ stags_unless (is_none c.call) (buffers o.stag o.plan)
+
+abbrev pub HasRegionsOf : KeptCall → Option OutstandingCall → Type 0
+HasRegionsOf c None = ⊥
+HasRegionsOf c (Some o) = HasRegions c o
+
+-- an outstanding call has its xid, and it is that call
 abbrev pub IsWaiting : List OutstandingCall → KeptCall → Type 0
-IsWaiting outstanding c = is_some (find (λ o. o.xid == c.xid) outstanding) ≡ true
+IsWaiting outstanding c = HasRegionsOf c (find (λ o. o.xid == c.xid) outstanding)
 
 -- It is kept of a client in this state, after `count` bytes were received. Of a client that has ended its calls are some of those that
 -- were outstanding, and the memory counts by what it holds for them.
