@@ -8,7 +8,7 @@ use Rattle.nr_xdr.specs.Item.{IsBytes}
 use Rattle.nr_xdr.proofs.Chains.{standing}
 use Rattle.nr_xdr.proofs.SequencingSteps.{chosen}
 use Rattle.nr_xdr.proofs.WordBytes.{IsBytes_drop}
-use Rattle.nr_header.specs.Constants.{PAYLOAD_MAX}
+use Rattle.nr_header.specs.Constants.{HEADER_LEN_MIN, PAYLOAD_MAX}
 use Rattle.nr_header.specs.declared.header.ChunkLists.{ChunkLists}
 use Rattle.nr_header.specs.declared.header.RdmaSegment.{RdmaSegment}
 use Rattle.nr_rpc.specs.Reading.{call_of, target_of, head_xid}
@@ -144,7 +144,7 @@ module _ (reply : List ℕ) (down : ℕ) (room : send_max ≤ down) where
       (inline_held offer down p (omega (arith, suits.1, room, ap (λ (w : List (List RdmaSegment)). answer_size w) is, length-take i.pos reply, min-le_left i.pos (length reply))))
 
   -- no write chunk, and a reply that goes inline or fills the reply chunk
-  none_held : (offer : ChunkLists) (prog vers proc : ℕ) → offer.write ≡ [] → 28 + length reply ≤ down → answer_for offer down prog vers proc reply ≢ None
+  none_held : (offer : ChunkLists) (prog vers proc : ℕ) → offer.write ≡ [] → HEADER_LEN_MIN + length reply ≤ down → answer_for offer down prog vers proc reply ≢ None
   unfolding answer_for
   none_held offer prog vers proc is le =
       subst (λ (o : Option Parts). answer_with offer down o ≢ None) (sym (ap (λ (w : List (List RdmaSegment)). parts_in (Reply prog vers proc) w reply) is))
@@ -280,10 +280,10 @@ module _ (s : Parameters) (st : State) (m : Moment) (payload : List ℕ) (bytes 
     write_offer_is = ap (λ (r : Result CallHead ℕ). target_offer payload (target_of r)) found
 
     auto_holds : Holding (auto_offer payload down (inline_plan payload))
-    auto_holds = by (leb (28 + largest_reply payload) down) refl
+    auto_holds = by (leb (HEADER_LEN_MIN + largest_reply payload) down) refl
       where
-        by : (b : Bool) → leb (28 + largest_reply payload) down ≡ b → Holding (cond b (inline_plan payload) (offering payload (write_offer payload) (inline_plan payload)))
-        by true le = λ offer ws rs w r. any_target reply down room offer (target_of (Ok head)) (λ prog vers proc. none_held reply down room offer prog vers proc w (omega (arith, short, leb-true (28 + largest_reply payload) down le)))
+        by : (b : Bool) → leb (HEADER_LEN_MIN + largest_reply payload) down ≡ b → Holding (cond b (inline_plan payload) (offering payload (write_offer payload) (inline_plan payload)))
+        by true le = λ offer ws rs w r. any_target reply down room offer (target_of (Ok head)) (λ prog vers proc. none_held reply down room offer prog vers proc w (omega (arith, short, leb-true (HEADER_LEN_MIN + largest_reply payload) down le)))
         by false gt = offering_holds (write_offer payload) (sym write_offer_is)
 
     plan_holds : (up stag : ℕ) (p : Plan) → plan_of payload forms.Auto up down ≡ Ok p → answer_of_target (lists_of stag p) down reply (target_of (Ok head)) ≢ None

@@ -1,12 +1,13 @@
 -- The replies of calls that add an entry are short, and every offer holds them.
 use Rattle.std.proofs.Common.{◌≡◌, ◌≢◌, ℕ, ◌+◌, ◌*◌, ◌≤◌, Bool, true, false, cond, eqb, List, [], ◌∷◌, length, drop, Option, None, Some, Result, Ok, Err, refl, ap, sym, ◌∙◌, subst, arith}
-use Rattle.std.specs.Prelude.{sum_by, ◌&&◌}
+use Rattle.std.specs.Prelude.{◌&&◌}
 use Rattle.std.proofs.lemmas.Bool.{le-leb}
-use Rattle.std.proofs.lemmas.List.Sums.{sum_by-cons}
 use Rattle.nr_xdr.specs.Items.{encodings}
+use Rattle.nr_header.proofs.Lengths.{write_list_segments}
 use Rattle.nr_header.specs.WithinLimits.{ListsWithin}
 use Rattle.nr_header.specs.declared.header.ChunkLists.{ChunkLists}
 use Rattle.nr_header.specs.declared.header.RdmaSegment.{RdmaSegment}
+use Rattle.nr_header.specs.Constants.{HEADER_LEN_MIN, SEGMENT_LEN, WRITE_CHUNKS_MAX, WRITE_SEGMENTS_MAX}
 use Rattle.nr_rpc.specs.Reading.{call_of, reply_of, target_of}
 use Rattle.nr_rpc.specs.declared.cred.Cred.{Cred}
 use Rattle.nr_rpc.specs.declared.cred.Cred.TheVariants as creds
@@ -45,17 +46,13 @@ use Rattle.nr_plain.proofs.ReplyHeads.{either, same_answer}
 use Rattle.nr_plain.proofs.ReplyLimits.{results_size, numbered}
 use Rattle.nr_plain.proofs.ResultLimits.{wcc_part, make_fits}
 use Rattle.nr_plain.proofs.Serving.{mount_none}
+use Rattle.nr_plain.specs.ReplySizes.{most_results, most_reply}
 use Rattle.nr_reduce.specs.Limits.{send_max}
 
 -- ===== offers
 
-chunks_size : (chunks : List (List RdmaSegment)) → sum_by (λ (chunk : List RdmaSegment). 8 + 16 * length chunk) chunks ≡ 8 * length chunks + 16 * sum_by (λ (chunk : List RdmaSegment). length chunk) chunks
-chunks_size [] = refl
-chunks_size (chunk ∷ chunks) =
-    omega (arith, sum_by-cons (λ (c : List RdmaSegment). 8 + 16 * length c) chunk chunks, sum_by-cons (λ (c : List RdmaSegment). length c) chunk chunks, chunks_size chunks)
-
-header_short : (offer : ChunkLists) → ListsWithin offer → answer_size offer.write ≤ 316
-header_short offer within = omega (arith, chunks_size offer.write, within.write_chunks, within.write_segments)
+header_short : (offer : ChunkLists) → ListsWithin offer → answer_size offer.write ≤ HEADER_LEN_MIN + 8 * WRITE_CHUNKS_MAX + SEGMENT_LEN * WRITE_SEGMENTS_MAX
+header_short offer within = omega (arith, write_list_segments offer.write, within.write_chunks, within.write_segments)
 
 abbrev Plain : ℕ → Type 0
 Plain proc = (eqb proc 6 ≡ false) × (eqb proc 5 ≡ false)
@@ -85,7 +82,7 @@ inline_held offer down p le none =
     ap (λ (b : Bool). cond b (Some (record { long = false; stream = p.stream; moved = p.moved })) (cond (fits_reply offer.reply (length p.stream)) (Some (record { long = true; stream = p.stream; moved = p.moved })) None)) (le-leb (answer_size offer.write + length p.stream) down le) in
     absurd cc
 
-short_held : (offer : ChunkLists) (down prog vers proc : ℕ) (reply : List ℕ) → ListsWithin offer → send_max ≤ down → length reply ≤ 304 → Plain proc → answer_for offer down prog vers proc reply ≢ None
+short_held : (offer : ChunkLists) (down prog vers proc : ℕ) (reply : List ℕ) → ListsWithin offer → send_max ≤ down → length reply ≤ most_reply → Plain proc → answer_for offer down prog vers proc reply ≢ None
 unfolding answer_for
 short_held offer down prog vers proc reply within room le plain =
     subst (λ (o : Option Parts). answer_with offer down o ≢ None) (sym (whole_stream prog vers proc offer.write reply plain))
@@ -95,7 +92,7 @@ short_held offer down prog vers proc reply within room le plain =
 
 -- an answer that adds an entry is short, and to another procedure than READ and READLINK
 abbrev IsChange : ℕ → Answer → Type 0
-IsChange proc a = a.entries ≢ [] → (length a.reply ≤ 304) × Plain proc
+IsChange proc a = a.entries ≢ [] → (length a.reply ≤ most_reply) × Plain proc
 
 none_added : (proc : ℕ) (a : Answer) → a.entries ≡ [] → IsChange proc a
 none_added proc a none some = absurd (some none)
@@ -107,26 +104,26 @@ module _ (s : Parameters) (st : State) (xid : ℕ) (e : Entry) where
   abbrev results : (p : NfsProcedure) → NfsArguments p → List ℕ
   results p a = encodings ((nfs_results_codec p).items (nfs_results st.tree (caller_of e.cred) (space_of s st e.args) (time_of e.moment) p a))
 
-  change : (p : NfsProcedure) (a : NfsArguments p) → length (results p a) ≤ 280 → Plain (nfs_procedure_number p) → Done p a
+  change : (p : NfsProcedure) (a : NfsArguments p) → length (results p a) ≤ most_results → Plain (nfs_procedure_number p) → Done p a
   change p a le plain some = (omega (arith, results_size xid (results p a), le), plain)
 
   nfs_done : (p : NfsProcedure) (a : NfsArguments p) → Done p a
   nfs_done nfs.Null a = λ some. absurd (some refl)
   nfs_done nfs.Getattr a = λ some. absurd (some refl)
-  nfs_done nfs.Setattr a = change nfs.Setattr a (union_fits wcc_data_codec wcc_data_codec (setattr_reply st.tree (caller_of e.cred) (space_of s st e.args) (time_of e.moment) a) 280 (wcc_part 280 (omega arith)) (wcc_part 280 (omega arith))) (refl, refl)
+  nfs_done nfs.Setattr a = change nfs.Setattr a (union_fits wcc_data_codec wcc_data_codec (setattr_reply st.tree (caller_of e.cred) (space_of s st e.args) (time_of e.moment) a) most_results (wcc_part most_results (omega arith)) (wcc_part most_results (omega arith))) (refl, refl)
   nfs_done nfs.Lookup a = λ some. absurd (some refl)
   nfs_done nfs.Access a = λ some. absurd (some refl)
   nfs_done nfs.Readlink a = λ some. absurd (some refl)
   nfs_done nfs.Read a = λ some. absurd (some refl)
-  nfs_done nfs.Write a = change nfs.Write a (union_fits write_ok_codec wcc_data_codec (write_reply st.tree (caller_of e.cred) (space_of s st e.args) (time_of e.moment) a) 280 (wcc_part 280 (omega arith)) (λ d. omega (arith, write_size d))) (refl, refl)
+  nfs_done nfs.Write a = change nfs.Write a (union_fits write_ok_codec wcc_data_codec (write_reply st.tree (caller_of e.cred) (space_of s st e.args) (time_of e.moment) a) most_results (wcc_part most_results (omega arith)) (λ d. omega (arith, write_size d))) (refl, refl)
   nfs_done nfs.Create a = change nfs.Create a (make_fits (first (create_rules st.tree (caller_of e.cred) (space_of s st e.args) a)) _ st.tree (create_tree st.tree (caller_of e.cred) (space_of s st e.args) (time_of e.moment) a) a.dir a.name) (refl, refl)
   nfs_done nfs.Mkdir a = change nfs.Mkdir a (make_fits (first (mkdir_rules st.tree (caller_of e.cred) (space_of s st e.args) a)) _ st.tree (mkdir_tree st.tree (caller_of e.cred) (space_of s st e.args) (time_of e.moment) a) a.dir a.name) (refl, refl)
   nfs_done nfs.Symlink a = change nfs.Symlink a (make_fits (first (symlink_rules st.tree (caller_of e.cred) (space_of s st e.args) a)) _ st.tree (symlink_tree st.tree (caller_of e.cred) (space_of s st e.args) (time_of e.moment) a) a.dir a.name) (refl, refl)
   nfs_done nfs.Mknod a = change nfs.Mknod a (make_fits (first (mknod_rules st.tree (caller_of e.cred) (space_of s st e.args) a)) _ st.tree (mknod_tree st.tree (caller_of e.cred) (space_of s st e.args) (time_of e.moment) a) a.dir a.name) (refl, refl)
-  nfs_done nfs.Remove a = change nfs.Remove a (union_fits wcc_data_codec wcc_data_codec (remove_reply st.tree (caller_of e.cred) (space_of s st e.args) (time_of e.moment) a) 280 (wcc_part 280 (omega arith)) (wcc_part 280 (omega arith))) (refl, refl)
-  nfs_done nfs.Rmdir a = change nfs.Rmdir a (union_fits wcc_data_codec wcc_data_codec (rmdir_reply st.tree (caller_of e.cred) (space_of s st e.args) (time_of e.moment) a) 280 (wcc_part 280 (omega arith)) (wcc_part 280 (omega arith))) (refl, refl)
-  nfs_done nfs.Rename a = change nfs.Rename a (union_fits rename_wcc_codec rename_wcc_codec (rename_reply st.tree (caller_of e.cred) (space_of s st e.args) (time_of e.moment) a) 280 (λ d. omega (arith, rename_size d)) (λ d. omega (arith, rename_size d))) (refl, refl)
-  nfs_done nfs.Link a = change nfs.Link a (union_fits link_wcc_codec link_wcc_codec (link_reply st.tree (caller_of e.cred) (space_of s st e.args) (time_of e.moment) a) 280 (λ d. omega (arith, link_size d)) (λ d. omega (arith, link_size d))) (refl, refl)
+  nfs_done nfs.Remove a = change nfs.Remove a (union_fits wcc_data_codec wcc_data_codec (remove_reply st.tree (caller_of e.cred) (space_of s st e.args) (time_of e.moment) a) most_results (wcc_part most_results (omega arith)) (wcc_part most_results (omega arith))) (refl, refl)
+  nfs_done nfs.Rmdir a = change nfs.Rmdir a (union_fits wcc_data_codec wcc_data_codec (rmdir_reply st.tree (caller_of e.cred) (space_of s st e.args) (time_of e.moment) a) most_results (wcc_part most_results (omega arith)) (wcc_part most_results (omega arith))) (refl, refl)
+  nfs_done nfs.Rename a = change nfs.Rename a (union_fits rename_wcc_codec rename_wcc_codec (rename_reply st.tree (caller_of e.cred) (space_of s st e.args) (time_of e.moment) a) most_results (λ d. omega (arith, rename_size d)) (λ d. omega (arith, rename_size d))) (refl, refl)
+  nfs_done nfs.Link a = change nfs.Link a (union_fits link_wcc_codec link_wcc_codec (link_reply st.tree (caller_of e.cred) (space_of s st e.args) (time_of e.moment) a) most_results (λ d. omega (arith, link_size d)) (λ d. omega (arith, link_size d))) (refl, refl)
   nfs_done nfs.Readdir a = λ some. absurd (some refl)
   nfs_done nfs.Readdirplus a = λ some. absurd (some refl)
   nfs_done nfs.Fsstat a = λ some. absurd (some refl)
@@ -162,12 +159,12 @@ module _ (s : Parameters) (st : State) (xid : ℕ) (e : Entry) where
 
 -- the reply is short, and every offer holds it
 abbrev IsHeld : List ℕ → Result CallHead ℕ → Answer → Type 0
-IsHeld payload r a = a.entries ≢ [] → (length a.reply ≤ 304) × ((offer : ChunkLists) (down : ℕ) → ListsWithin offer → send_max ≤ down → answer_of_target offer down a.reply (target_of r) ≢ None)
+IsHeld payload r a = a.entries ≢ [] → (length a.reply ≤ most_reply) × ((offer : ChunkLists) (down : ℕ) → ListsWithin offer → send_max ≤ down → answer_of_target offer down a.reply (target_of r) ≢ None)
 
 answer_held : (s : Parameters) (st : State) (m : Moment) (payload : List ℕ) (head : CallHead) → IsHeld payload (Ok head) (answer_to s st m payload head)
 answer_held s st m payload (calls.Version2 xid prog vers proc cred args_at) some =
     let e : Entry = record { moment = m; cred = cred; proc = proc; args = drop args_at payload } in
-    let h : (length (answer_to s st m payload (calls.Version2 xid prog vers proc cred args_at)).reply ≤ 304) × Plain proc = cred_change s st xid e cred (program_call s st xid prog vers e) (program_change s st xid e prog vers) some in
+    let h : (length (answer_to s st m payload (calls.Version2 xid prog vers proc cred args_at)).reply ≤ most_reply) × Plain proc = cred_change s st xid e cred (program_call s st xid prog vers e) (program_change s st xid e prog vers) some in
     (h.0, λ offer down within room. short_held offer down prog vers proc (answer_to s st m payload (calls.Version2 xid prog vers proc cred args_at)).reply within room h.0 h.1)
 answer_held s st m payload (calls.Other xid rpcvers) some = absurd (some refl)
 
@@ -175,7 +172,7 @@ held : (s : Parameters) (st : State) (m : Moment) (payload : List ℕ) (a : Answ
 held s st m payload a (Ok head) found = subst (IsHeld payload (Ok head)) (same_answer (answer_to s st m payload head) a found) (answer_held s st m payload head)
 held s st m payload a (Err at) found = absurd cc
 
-pub changes_short : (s : Parameters) (st : State) (m : Moment) (payload : List ℕ) (a : Answer) → plain_answer s st m payload ≡ Some a → a.entries ≢ [] → length a.reply ≤ 304
+pub changes_short : (s : Parameters) (st : State) (m : Moment) (payload : List ℕ) (a : Answer) → plain_answer s st m payload ≡ Some a → a.entries ≢ [] → length a.reply ≤ most_reply
 changes_short s st m payload a e some = (held s st m payload a (call_of payload) e some).0
 
 pub changes_held : (s : Parameters) (st : State) (m : Moment) (payload : List ℕ) (a : Answer) (offer : ChunkLists) (down : ℕ) → plain_answer s st m payload ≡ Some a → a.entries ≢ [] → ListsWithin offer → send_max ≤ down

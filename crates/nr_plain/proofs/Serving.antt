@@ -100,7 +100,7 @@ module _ (k : PlainServerState) (e : Entry) (xid : ℕ) (p : NfsProcedure) where
       unfolding next_state
       next_tree of_number = ap (tree_by_procedure k.parameters (state_kept k) e) of_number ∙ tree_by arguments ∙ sym (tree_is tree after)
 
-      next_cost : (next_state k.parameters (state_kept k) e).cost ≡ k.cost + (64 + length e.args)
+      next_cost : (next_state k.parameters (state_kept k) e).cost ≡ k.cost + (entry_cost + length e.args)
       unfolding next_state
       next_cost = refl
 
