@@ -350,6 +350,7 @@ impl Endpoint {
         ensures is { result ≡ bytes_kept self.now }
         ensures bound { result ≤ FPDU_MAX + send_max * self.now.link.state.receive_queue.receives + bytes_held self.now.link.state.memory
             + outside_held self.now.outside + length self.now.link.state.send_queue.hello + length self.now.link.state.send_queue.fpdus }
+        ensures most { result ≤ 2 ^ 127 + 2 ^ 64 }
     {
         self.staging.len() as u128 + self.link.held()
     }
