@@ -4,7 +4,7 @@
 use crate::calls::{Row, all_answered, opened};
 
 /// Over the drill's tree.
-static ROWS: [Row; 52] = [
+static ROWS: [Row; 60] = [
     // 104 is gone from here on
     (
         "0 REMOVE 8 0 4 3 66393900",
@@ -199,6 +199,42 @@ static ROWS: [Row; 52] = [
     ),
     ("0 COMMIT 8 0 69 0*3", "NFS3ERR_BADHANDLE 0 0"),
     ("0 COMMIT 8 0 68 0*3", "NFS3ERR_STALE 0 0"),
+    // the last byte that a file may have
+    (
+        "0 WRITE 8 0 b 0 ffffff 1 2 1 1000000",
+        "NFS3_OK 1 0*6 1 1 1b6 1 0*3 1000000 0 1000000 0*3 1 0 b 0 0 134 5 134 5 1 2 0 1",
+    ),
+    // zeros before it
+    (
+        "0 READ 8 0 b 0 fffff8 8",
+        "NFS3_OK 1 1 1b6 1 0*3 1000000 0 1000000 0*3 1 0 b 0 0 134 5 134 5 8 1 8 0 1",
+    ),
+    (
+        "0 SETATTR 8 0 b 0*3 1 0 5 0*3",
+        "NFS3_OK 1 0 1000000 134 5 134 5 1 1 1b6 1 0*3 5 0 5 0*3 1 0 b 0 0 136 5 136 5",
+    ),
+    (
+        "0 READ 8 0 b 0 0 8",
+        "NFS3_OK 1 1 1b6 1 0*3 5 0 5 0*3 1 0 b 0 0 136 5 136 5 5 1 5 0 0",
+    ),
+    // over an offset of 4096
+    (
+        "0 WRITE 8 0 b 0 ffd 5 2 5 68656c6c 6f000000",
+        "NFS3_OK 1 0 5 136 5 136 5 1 1 1b6 1 0*3 1002 0 1002 0*3 1 0 b 0 0 138 5 138 5 5 2 0 1",
+    ),
+    (
+        "0 SETATTR 8 0 b 0*3 1 0 fff 0*3",
+        "NFS3_OK 1 0 1002 138 5 138 5 1 1 1b6 1 0*3 fff 0 fff 0*3 1 0 b 0 0 139 5 139 5",
+    ),
+    (
+        "0 SETATTR 8 0 b 0*3 1 0 1002 0*3",
+        "NFS3_OK 1 0 fff 139 5 139 5 1 1 1b6 1 0*3 1002 0 1002 0*3 1 0 b 0 0 13a 5 13a 5",
+    ),
+    // what was cut off does not come back
+    (
+        "0 READ 8 0 b 0 ffc 8",
+        "NFS3_OK 1 1 1b6 1 0*3 1002 0 1002 0*3 1 0 b 0 0 13a 5 13a 5 6 1 6 686500 0",
+    ),
 ];
 
 #[test]
