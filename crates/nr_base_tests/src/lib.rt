@@ -20,6 +20,8 @@ mod outside;
 #[cfg(test)]
 mod regions;
 #[cfg(test)]
+mod replies;
+#[cfg(test)]
 mod res;
 #[cfg(test)]
 mod res_fields;
