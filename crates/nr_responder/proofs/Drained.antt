@@ -41,7 +41,7 @@ left_over (x ∷ hello) fpdus (suc n) =
     ap (λ (m : ℕ). x ∷ (take n (hello ++ fpdus) ++ (drop n hello ++ drop m fpdus))) (let e : suc n - length (x ∷ hello) ≡ n - length hello = omega arith in e)
     ∙ ap (λ (xs : List ℕ). x ∷ xs) (left_over hello fpdus n)
 
-split_queue : (has_hello : Bool) (n : ℕ) (q : SendQueue) → n ≤ length (writable has_hello q) → take n (writable has_hello q) ++ queued_bytes (written n q) ≡ queued_bytes q
+pub split_queue : (has_hello : Bool) (n : ℕ) (q : SendQueue) → n ≤ length (writable has_hello q) → take n (writable has_hello q) ++ queued_bytes (written n q) ≡ queued_bytes q
 unfolding written
 split_queue true n q within = left_over q.hello q.fpdus n
 split_queue false n q within =

@@ -14,6 +14,7 @@ pub mod Marks
 pub mod NextCalls
 pub mod Opened
 pub mod Out
+pub mod OwnLaw
 pub mod Pieces
 pub mod Posted
 pub mod Queues

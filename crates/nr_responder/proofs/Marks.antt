@@ -63,6 +63,12 @@ same_kept opened link run v after end h lives (inl live) =
     subst (λ (i : InputState). KeepsEnd opened end i after) (sym (nothing_fed opened link run v h (lives live.0))) (inl live)
 same_kept opened link run v after end h lives (inr ended) = inr ended
 
+-- a mark that is no event of it, and at which it writes nothing and is fed nothing
+pub no_event_represents : (opened : LinkParameters) (link : ℕ) (run : List Mark) (v : ResponderSide) (mark : Mark) → fed_at link Responder mark ≡ [] → written_at link Responder mark ≡ [] →
+    ((input : InputState) → input_events link Responder input mark ≡ []) → RepresentsServer opened link run v → RepresentsServer opened link (run ++ mark ∷ []) v
+no_event_represents opened link run v mark fed written events h =
+    one_mark_lem opened link run mark v v [] [] (λ (input : InputState). []) fed written events h (same_kept opened link run v v h.end h (λ live. live) h.keeps) (sym (append-nil (queue v)))
+
 own : (link : ℕ) (b : Bool) (es : List RunEvent) → if_own (eqb link link && true) es ≡ es
 own link b es = ap (λ (c : Bool). if_own (c && true) es) (itself link)
 

@@ -3,6 +3,7 @@ pub mod Codes
 pub mod Draining
 pub mod Handling
 pub mod Keeping
+pub mod Laws
 pub mod ResponderState
 pub mod Sound
 pub mod Standing

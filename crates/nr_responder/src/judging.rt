@@ -29,13 +29,15 @@ fn judge_body(body: Body) -> Judged
     match body {
         Body::Msg { lists, stream_at } => {
             if lists.read.is_empty() {
-                Judged::Call { lists, stream_at }
-            } else {
-                Judged::Reads
+                return Judged::Call { lists, stream_at };
             }
+            drop(lists);
+            Judged::Reads
         }
         Body::Nomsg { lists } => {
-            if lists.read.is_empty() {
+            let none = lists.read.is_empty();
+            drop(lists);
+            if none {
                 Judged::BadChunks
             } else {
                 Judged::Reads

@@ -18,8 +18,10 @@
 mod answering;
 mod call;
 mod judging;
+mod laws;
 mod responder;
 mod server_end;
 
 pub use call::{CallId, Sent};
+pub use laws::{responders_keep_it_in_full, responders_keep_their_law};
 pub use responder::Responder;

@@ -135,10 +135,10 @@ impl ServerEnd {
         ensures staging { IfOk result (λ r. length r.endpoint.staging ≡ FPDU_MAX) }
         ensures stands { IfOk result (λ r. (opened : LinkParameters) (link : ℕ) → opened.granted ≡ credits → Stands opened link [] (state_of r)) }
     {
-        let endpoint = Endpoint::open(alloc, Side::Responder, credits, 1)?;
-        let calls = Vec::with_capacity(alloc, credits as usize)?;
         let ready = VecDeque::with_capacity(alloc, credits as usize)?;
         let used = VecDeque::with_capacity(alloc, credits as usize)?;
+        let calls = Vec::with_capacity(alloc, credits as usize)?;
+        let endpoint = Endpoint::open(alloc, Side::Responder, credits, 1)?;
         Ok(ServerEnd {
             endpoint,
             calls,
