@@ -27,7 +27,7 @@ use Rattle.nr_reduce.specs.EndRules.{EndState, live, next_end_state_in, output_f
 use Rattle.nr_reduce.specs.Holds.{Answer}
 use Rattle.nr_reduce.specs.Server.{server_rules, server_end, server_output, server_state_after, execution_output, offer_by, offer_of, answer_of_target, answer_output}
 use Rattle.nr_reduce.specs.Served.{first_ready, next_call, IsExecuted}
-use Rattle.nr_responder.specs.Keeping.{IsReadyOf, Begins, Keeps, KeepsEnd}
+use Rattle.nr_responder.specs.Keeping.{IsReadyOf, IsInline, Begins, Keeps, KeepsEnd}
 use Rattle.nr_responder.specs.Keeping.Begins.{BeforeHello, AfterHello}
 use Rattle.nr_responder.specs.Standing.{RepresentsServer, Stands}
 use Rattle.nr_responder.specs.declared.call.Sent.{Sent}
@@ -35,7 +35,7 @@ use Rattle.nr_responder.specs.Steps.{GoesOn}
 use Rattle.nr_responder.specs.declared.call.Pending.{Pending}
 use Rattle.nr_responder.specs.Views.{call_view}
 use Rattle.nr_responder.specs.Answering.{Answers, answer_to, message_for, writes_for}
-use Rattle.nr_responder.proofs.Executed.{executed, with_answer, answered_keeps, answered_server}
+use Rattle.nr_responder.proofs.Executed.{executed, with_answer, answered_keeps, answered_server, payloads_out}
 use Rattle.nr_responder.proofs.Queues.{answered_queue}
 use Rattle.nr_responder.proofs.Marks.{executed_stands, represents}
 use Rattle.nr_responder.proofs.NextCalls.{next_is_lem}
@@ -149,9 +149,9 @@ answered_goes opened end so_far v after e r sent is h next xid payload a =
     let k : ServerState = end.state in
     let ready : k.ready ≡ r ∷ drop 1 k.ready = first_of_lem k.ready r next in
     let behind : 0 < v.link.state.place = not_zero v.link.state.place (λ zero_place. never_some k.ready r ready (sym h.ready ∙ (h.quiet zero_place).0)) in
-    let own : IsReadyOf k.calls k.reads r = (subst (λ (rs : List ReadyCall). AllByRecursion (IsReadyOf k.calls k.reads) rs) ready h.server.ready).0 in
+    let own : AllByRecursion (IsInline k.calls) (r ∷ drop 1 k.ready) = subst (λ (rs : List ReadyCall). AllByRecursion (IsInline k.calls) rs) ready h.payloads in
     let place : slice_get k.calls a.at ≡ Some a.call = ap (λ (cs : List PendingCall). slice_get cs a.at) (sym h.calls) ∙ a.place in
-    let f : Found r.xid r.payload k.calls a.at a.call = found r.xid r.payload k.calls a.at a.call h.server.xids own.payload place (a.own ∙ xid) in
+    let f : Found r.xid r.payload k.calls a.at a.call = found r.xid r.payload k.calls a.at a.call h.server.xids own.0 place (a.own ∙ xid) in
     let stream : a.stream ≡ e.payload = (let two : Some a.stream ≡ Some r.payload = sym a.inline ∙ ap (λ (c : PendingCall). c.inline) (sym f.same) ∙ f.inline in let one : a.stream ≡ r.payload = cc in one ∙ sym payload) in
     let offer : offer_of k e.xid ≡ a.call.lists = ap (λ (x : ℕ). offer_of k x) xid ∙ (ap offer_by f.first ∙ ap (λ (c : PendingCall). c.lists) f.same) in
     let answer : Option Answer = answer_to a.call a.stream e.reply in
@@ -178,6 +178,8 @@ answered_goes opened end so_far v after e r sent is h next xid payload a =
       calls = ap (λ (cs : List PendingCall). remove cs a.at) h.calls ∙ f.left;
       ready = ap (drop 1) h.ready ∙ drop_map k.ready;
       credits = h.credits;
+      payloads = payloads_out r.xid k.calls (drop 1 k.ready) own.1;
+      no_regions = h.no_regions;
       quiet = λ z. absurd (omega (arith, z, behind));
     } in
     record {
@@ -211,6 +213,7 @@ record NextKept (opened : LinkParameters) (link : ℕ) (run : List Mark) (v : Re
   pub is_next : next_call opened link run ≡ Some call
   pub own : xid ≡ call.xid
   pub ready : IsReadyOf server.calls server.reads call
+  pub payload : IsInline server.calls call
 
 xid_of_first : (ready : List ReadyCall) (xid : ℕ) → slice_get (map (λ q. q.xid) ready) 0 ≡ Some xid → (r : ReadyCall) × ((slice_get ready 0 ≡ Some r) × (xid ≡ r.xid))
 xid_of_first [] xid is = absurd cc
@@ -230,13 +233,14 @@ next_kept opened link run v xid stands live_now first =
       is_next = next_is_lem opened link run v h ∙ ap (λ (o : Option End). first_ready h.end.state.ready o) both.0 ∙ f.1.0;
       own = f.1.1;
       ready = (subst (λ (rs : List ReadyCall). AllByRecursion (IsReadyOf h.end.state.calls h.end.state.reads) rs) ready both.1.server.ready).0;
+      payload = (subst (λ (rs : List ReadyCall). AllByRecursion (IsInline h.end.state.calls) rs) ready both.1.payloads).0;
     }
 
 pub payload_is_lem : (opened : LinkParameters) (link : ℕ) (run : List Mark) (v : ResponderSide) (xid : ℕ) → Stands opened link run v → end_of v ≡ None → slice_get v.ready 0 ≡ Some xid →
     (at : ℕ) (call : PendingCall) (stream : List ℕ) → slice_get v.calls at ≡ Some call → call.xid ≡ xid → call.inline ≡ Some stream → IsExecuted opened link run xid stream
 payload_is_lem opened link run v xid h live_now first at call stream place own inline =
     let n : NextKept opened link run v xid = next_kept opened link run v xid h live_now first in
-    let f : Found n.call.xid n.call.payload n.server.calls at call = found n.call.xid n.call.payload n.server.calls at call n.xids n.ready.payload (ap (λ (cs : List PendingCall). slice_get cs at) (sym n.calls) ∙ place) (own ∙ n.own) in
+    let f : Found n.call.xid n.call.payload n.server.calls at call = found n.call.xid n.call.payload n.server.calls at call n.xids n.payload (ap (λ (cs : List PendingCall). slice_get cs at) (sym n.calls) ∙ place) (own ∙ n.own) in
     record {
       call = n.call;
       is_next = n.is_next;

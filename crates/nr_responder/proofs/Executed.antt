@@ -1,5 +1,5 @@
 -- What a responder keeps after a call was answered, and after its queue was written.
-use Rattle.std.proofs.Common.{◌≡◌, ◌≢◌, ℕ, ◌+◌, ◌-◌, ◌≤◌, Bool, true, false, not, ◌||◌, eqb, cond, List, [], ◌∷◌, ◌++◌, length, drop, Some, refl, sym, ap, subst, ◌∙◌, arith, length-append, is_some}
+use Rattle.std.proofs.Common.{◌≡◌, ◌≢◌, ℕ, ◌+◌, ◌-◌, ◌≤◌, Bool, true, false, not, ◌&&◌, ◌||◌, eqb, cond, List, [], ◌∷◌, ◌++◌, length, drop, Some, refl, sym, ap, subst, ◌∙◌, arith, length-append, is_some}
 use Rattle.std.specs.List.{AllByRecursion, list_any, filter}
 use Rattle.std.proofs.lemmas.Bool.{eqb-true, eqb-false}
 use Rattle.nr_link.specs.Output.{send}
@@ -13,7 +13,7 @@ use Rattle.nr_reduce.specs.ServerState.{PendingCall, PendingRead, ReadyCall, Ser
 use Rattle.nr_reduce.specs.ServerReads.{is_read, is_read_at, is_over}
 use Rattle.nr_reduce.specs.Server.{server_state_after, execution_output}
 use Rattle.nr_responder.specs.ResponderState.{unsent, drained_posted, left_by}
-use Rattle.nr_responder.specs.Keeping.{OwnXids, OwnReady, IsReadyOf, IsServer, LinkKeeps}
+use Rattle.nr_responder.specs.Keeping.{OwnXids, OwnReady, IsReadyOf, IsInline, IsServer, LinkKeeps}
 use Rattle.nr_responder.proofs.Ends.{ends_fewer}
 use Rattle.nr_responder.proofs.Queues.{answered_has, drained_has}
 
@@ -107,7 +107,6 @@ ready_out x calls reads (q ∷ ready) none h = by (λ (e : list_any (λ p. eqb p
         pending = stays x q.xid calls (eqb-false q.xid x is) h.0.pending;
         own = all_out (λ c. c.xid ≡ q.xid → c.number ≡ q.number) x calls h.0.own;
         read = h.0.read;
-        payload = all_out (λ c. c.xid ≡ q.xid → c.inline ≡ Some q.payload) x calls h.0.payload;
       },
       others e,
     )
@@ -142,10 +141,49 @@ over_out x m calls reads g own read over = by (list_any (λ c. eqb c.number g.ca
     by true is false left = ap whole is ∙ (ap (λ (n : ℕ). is_read reads n) (gone x g.call m calls is left own) ∙ read)
     by false is b left = ap whole is ∙ (sym (ap whole (any_out (λ c. eqb c.number g.call) x calls is)) ∙ over)
 
+not_false : (b : Bool) → not b ≡ true → b ≡ false
+not_false true e = absurd cc
+not_false false e = refl
+
+none_at : (n p : ℕ) (reads : List PendingRead) → list_any (λ r. eqb r.number n) reads ≡ false → list_any (λ r. eqb r.number n && eqb r.position p) reads ≡ false
+none_at n p [] none = refl
+none_at n p (r ∷ reads) none = step (none_at n p reads) (eqb r.number n) refl none
+  where
+    step : (list_any (λ x. eqb x.number n) reads ≡ false → list_any (λ x. eqb x.number n && eqb x.position p) reads ≡ false) → (b : Bool) → eqb r.number n ≡ b → (b || list_any (λ x. eqb x.number n) reads) ≡ false →
+        ((eqb r.number n && eqb r.position p) || list_any (λ x. eqb x.number n && eqb x.position p) reads) ≡ false
+    step rest true is h = absurd cc
+    step rest false is h = ap (λ (b : Bool). (b && eqb r.position p) || list_any (λ x. eqb x.number n && eqb x.position p) reads) is ∙ rest h
+
+-- if nothing is left to be read for a call, nothing is for any of its chunks
+pub read_at_each : (reads : List PendingRead) (n p : ℕ) → is_read reads n ≡ true → is_read_at reads n p ≡ true
+read_at_each reads n p read = ap (λ (b : Bool). not b) (none_at n p reads (not_false (list_any (λ r. eqb r.number n) reads) read))
+
+still_over : (x : ℕ) (calls : List PendingCall) (reads : List PendingRead) (g : Region) → is_over calls reads g ≡ true → is_over (without_call x calls) reads g ≡ true
+still_over x calls reads g over = by (list_any (λ c. eqb c.number g.call) calls) refl (list_any (λ c. eqb c.number g.call) (without_call x calls)) refl
+  where
+    whole : Bool → Bool
+    whole b = cond b (is_read reads g.call) (is_read_at reads g.call g.position)
+
+    by : (a : Bool) → list_any (λ c. eqb c.number g.call) calls ≡ a → (b : Bool) → list_any (λ c. eqb c.number g.call) (without_call x calls) ≡ b → is_over (without_call x calls) reads g ≡ true
+    by true is true left = ap whole left ∙ (sym (ap whole is) ∙ over)
+    by true is false left = ap whole left ∙ read_at_each reads g.call g.position (sym (ap whole is) ∙ over)
+    by false is b left = ap whole (any_out (λ c. eqb c.number g.call) x calls is) ∙ (sym (ap whole is) ∙ over)
+
+pub both_ways : (a b : Bool) → (a ≡ true → b ≡ true) → (b ≡ true → a ≡ true) → a ≡ b
+both_ways true b there back = sym (there refl)
+both_ways false true there back = back refl
+both_ways false false there back = refl
+
 closed_out : (x m : ℕ) (calls : List PendingCall) (reads : List PendingRead) (regions : List Region) → AllByRecursion (λ c. c.xid ≡ x → c.number ≡ m) calls → is_read reads m ≡ true →
-    AllByRecursion (λ r. is_over calls reads r ≡ true → is_some r.until ≡ true) regions → AllByRecursion (λ r. is_over (without_call x calls) reads r ≡ true → is_some r.until ≡ true) regions
+    AllByRecursion (λ r. is_some r.until ≡ is_over calls reads r) regions → AllByRecursion (λ r. is_some r.until ≡ is_over (without_call x calls) reads r) regions
 closed_out x m calls reads [] own read h = tt
-closed_out x m calls reads (g ∷ regions) own read h = ((λ over. h.0 (over_out x m calls reads g own read over)), closed_out x m calls reads regions own read h.1)
+closed_out x m calls reads (g ∷ regions) own read h =
+    (h.0 ∙ both_ways (is_over calls reads g) (is_over (without_call x calls) reads g) (still_over x calls reads g) (over_out x m calls reads g own read), closed_out x m calls reads regions own read h.1)
+
+-- the payloads of those that are still ready
+pub payloads_out : (x : ℕ) (calls : List PendingCall) (ready : List ReadyCall) → AllByRecursion (IsInline calls) ready → AllByRecursion (IsInline (without_call x calls)) ready
+payloads_out x calls [] h = tt
+payloads_out x calls (q ∷ ready) h = (all_out (λ c. c.xid ≡ q.xid → c.inline ≡ Some q.payload) x calls h.0, payloads_out x calls ready h.1)
 
 -- ---- A call was answered
 
@@ -209,8 +247,6 @@ answered_server k place out r rest first is =
       xids = own_out r.xid k.calls is.xids;
       ready_xids = subst OwnReady (sym left) own.1;
       ready = subst (λ (rs : List ReadyCall). AllByRecursion (IsReadyOf (without_call r.xid k.calls) k.reads) rs) (sym left) (ready_out r.xid k.calls k.reads rest own.0 ready.1);
-      no_reads = is.no_reads;
-      no_regions = is.no_regions;
       up = is.up;
       down = is.down;
     }
@@ -255,8 +291,6 @@ drained_server k place n is = record {
   xids = is.xids;
   ready_xids = is.ready_xids;
   ready = is.ready;
-  no_reads = is.no_reads;
-  no_regions = is.no_regions;
   up = is.up;
   down = is.down;
 }

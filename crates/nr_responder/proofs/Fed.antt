@@ -23,7 +23,9 @@ use Rattle.nr_reduce.specs.EndRules.{EndState, live, next_end_state, output_for,
 use Rattle.nr_reduce.specs.ServerState.{ServerState}
 use Rattle.nr_reduce.specs.Server.{server_rules}
 use Rattle.nr_responder.specs.ResponderState.{ResponderSide, queue, end_of}
+use Rattle.nr_responder.proofs.ServerSteps.{new_is_read}
 use Rattle.nr_responder.specs.Keeping.{Begins, Keeps, KeepsEnd}
+use Rattle.nr_responder.proofs.ServerSteps.{new_is_read}
 use Rattle.nr_responder.specs.Keeping.Begins.{BeforeHello, AfterHello}
 use Rattle.nr_responder.specs.Steps.{received_events, GoesOn, FedOn}
 use Rattle.nr_responder.specs.Handling.{IsServerOf, IsHandled, on_link}
@@ -116,7 +118,7 @@ step_goes v after piece m live_now p step lives handled opened end so_far keeps 
     let h : Keeps opened end.state so_far v = both.1 in
     let same : input_in v.link ≡ so_far = same_input v so_far h.input in
     let own : Keeps opened end.state (input_in v.link) v = subst (λ (i : InputState). Keeps opened end.state i v) (sym same) h in
-    let server : IsServerOf end.state (on_link v m) = record { calls = sym h.calls; credits = sym h.credits; no_reads = h.server.no_reads; no_regions = h.server.no_regions } in
+    let server : IsServerOf end.state (on_link v m) = record { calls = sym h.calls; credits = sym h.credits; new_read = new_is_read end.state h.server.reads_before; no_regions = h.no_regions } in
     subst (λ (i : InputState). GoesOn opened end i v (received_events i x) (input_after i x) after) same (by opened end both.0 own (handled end.state server) step)
   where
     by : (opened : LinkParameters) (end : EndState ServerState) → end.ended ≡ None → Keeps opened end.state (input_in v.link) v → IsHandled end.state (on_link v m) after → StepOf v.link piece m →
@@ -134,6 +136,8 @@ step_goes v after piece m live_now p step lives handled opened end so_far keeps 
           calls = h.calls;
           ready = h.ready;
           credits = h.credits;
+          payloads = h.payloads;
+          no_regions = h.no_regions;
           quiet = h.quiet;
         } in
         let pp = partial_piece (input_in v.link) piece w in

@@ -175,8 +175,6 @@ server_later k place later le is = record {
   xids = is.xids;
   ready_xids = is.ready_xids;
   ready = is.ready;
-  no_reads = is.no_reads;
-  no_regions = is.no_regions;
   up = is.up;
   down = is.down;
 }
@@ -195,8 +193,6 @@ own_hello_server k place is = record {
   xids = is.xids;
   ready_xids = is.ready_xids;
   ready = is.ready;
-  no_reads = is.no_reads;
-  no_regions = is.no_regions;
   up = is.up;
   down = is.down;
 }

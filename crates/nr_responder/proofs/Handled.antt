@@ -68,7 +68,7 @@ refused_or_out v after number message answer effect (inl is) = inl (λ k server 
 refused_or_out v after number message answer effect (inr is) = inr (record { is_out = is; takes = λ k server count. ErrorFor answer (effect k server) })
 
 told_server_of : (k : ServerState) (v : ResponderSide) → IsServerOf k v → IsServerOf k (told_of v)
-told_server_of k v server = record { calls = server.calls; credits = server.credits; no_reads = server.no_reads; no_regions = server.no_regions }
+told_server_of k v server = record { calls = server.calls; credits = server.credits; new_read = server.new_read; no_regions = server.no_regions }
 
 judged_call : (k : ServerState) (message : List ℕ) (lists : ChunkLists) (stream_at : ℕ) → IsCall k message lists stream_at →
     verdict k message ≡ MakesPending (inline_call k (word_at 0 message) lists.write lists.reply (drop stream_at message))
@@ -78,10 +78,10 @@ begins_handled : (v after : ResponderSide) (number : ℕ) (message : List ℕ) (
     Goes v number message after ⊎ RanOutOf v number message after
 begins_handled v after number message lists stream_at call (NoCall at reads is) =
     ended_or_out v after number REASON_HEAD message (omega arith)
-    (λ k server count place. no_call_refused k message place (word_at 0 message) at lists.write lists.reply (drop stream_at message) server.no_reads (judged_call k message lists stream_at (call k server)) reads) is
+    (λ k server count place. no_call_refused k message place (word_at 0 message) at lists.write lists.reply (drop stream_at message) server.new_read (judged_call k message lists stream_at (call k server)) reads) is
 begins_handled v after number message lists stream_at call (OtherXid head reads other is) =
     ended_or_out v after number REASON_XID message (omega arith)
-    (λ k server count place. other_call_refused k message place (word_at 0 message) lists.write lists.reply (drop stream_at message) head server.no_reads (judged_call k message lists stream_at (call k server)) reads other) is
+    (λ k server count place. other_call_refused k message place (word_at 0 message) lists.write lists.reply (drop stream_at message) head server.new_read (judged_call k message lists stream_at (call k server)) reads other) is
 begins_handled v after number message lists stream_at call (IsReady head reads own is) = inl by
   where
     by : Goes v number message after

@@ -1,5 +1,5 @@
 -- No call that is pending has a read chunk: so an FPDU that doesn't end the side is a segment of a Send.
-use Rattle.std.proofs.Common.{◌≡◌, ◌≢◌, ℕ, Bool, true, false, eqb, List, length, Option, Some, None, Result, Ok, Err, refl, sym, ap, subst, ◌∙◌}
+use Rattle.std.proofs.Common.{◌≡◌, ◌≢◌, ℕ, Bool, true, false, eqb, List, [], length, Option, Some, None, Result, Ok, Err, refl, sym, ap, subst, ◌∙◌}
 use Rattle.std.proofs.lemmas.Bool.{eqb-true, eqb-false}
 use Rattle.nr_wire.specs.declared.stream.Awaited.TheVariants.{Fpdu}
 use Rattle.nr_wire.specs.Constants.{OPCODE_SEND, OPCODE_READ_REQUEST}
@@ -20,23 +20,23 @@ use Rattle.nr_reduce.specs.declared.mark.LinkParameters.{LinkParameters}
 use Rattle.nr_reduce.specs.OfferedRegions.{Region, region_grants}
 use Rattle.nr_reduce.specs.OfferedMemory.{registered_region, region_at}
 use Rattle.nr_reduce.specs.ServerState.{ServerState}
-use Rattle.nr_responder.specs.Keeping.{IsServer, LinkKeeps}
+use Rattle.nr_responder.specs.Keeping.{LinkKeeps}
 use Rattle.nr_responder.proofs.SendFrames.{frame_lives}
 use Rattle.nr_responder.proofs.Supported.{supported}
 
 -- memory without regions denies each access
-denied : (opened : LinkParameters) (k : ServerState) (s : LinkState) (access : Access) → LinkKeeps opened k s → IsServer k s.place → denial s.memory access ≡ Some NoStag
+denied : (opened : LinkParameters) (k : ServerState) (s : LinkState) (access : Access) → LinkKeeps opened k s → k.regions ≡ [] → denial s.memory access ≡ Some NoStag
 unfolding denial
-denied opened k s access h is =
+denied opened k s access h no_regions =
     let none : live_region s.memory access.stag ≡ None =
-    h.memory access.stag ∙ ap (λ (regions : List Region). registered_region (region_grants s.place regions) k.accesses_received (region_at regions access.stag)) is.no_regions in
+    h.memory access.stag ∙ ap (λ (regions : List Region). registered_region (region_grants s.place regions) k.accesses_received (region_at regions access.stag)) no_regions in
     ap (λ (o : Option HeldRegion). denial_in (region_offer o) access) none
 
 not_denied_lem : (stag to : ℕ) (why : Option Denied) (others : Option End) → denied_if stag to why others ≡ None → why ≡ None
 not_denied_lem stag to None others is = refl
 not_denied_lem stag to (Some why) others is = absurd cc
 
-no_tagged : (opened : LinkParameters) (k : ServerState) (s : LinkState) (bytes : List ℕ) (last : Bool) (opcode stag to : ℕ) (payload : List ℕ) → LinkKeeps opened k s → IsServer k s.place →
+no_tagged : (opened : LinkParameters) (k : ServerState) (s : LinkState) (bytes : List ℕ) (last : Bool) (opcode stag to : ℕ) (payload : List ℕ) → LinkKeeps opened k s → k.regions ≡ [] →
     segment_end s (next_frame s bytes) (Tagged last opcode stag to payload) ≢ None
 unfolding tagged_end
 no_tagged opened k s bytes last opcode stag to payload h is lives =
@@ -46,7 +46,7 @@ no_tagged opened k s bytes last opcode stag to payload h is lives =
     let two : Some NoStag ≡ None = sym (denied opened k s access h is) ∙ none in
     absurd cc
 
-no_request_lem : (opened : LinkParameters) (k : ServerState) (s : LinkState) (bytes : List ℕ) (last : Bool) (w queue msn offset : ℕ) (payload : List ℕ) → LinkKeeps opened k s → IsServer k s.place →
+no_request_lem : (opened : LinkParameters) (k : ServerState) (s : LinkState) (bytes : List ℕ) (last : Bool) (w queue msn offset : ℕ) (payload : List ℕ) → LinkKeeps opened k s → k.regions ≡ [] →
     segment_end s (next_frame s bytes) (Untagged last OPCODE_READ_REQUEST w queue msn offset payload) ≢ None
 no_request_lem opened k s bytes last w queue msn offset payload h is lives =
     let fine : RequestIsFine s payload = alive_request s (next_frame s bytes) last w queue msn offset payload refl lives in
@@ -63,7 +63,7 @@ pub record IsSend (s : LinkState) (bytes : List ℕ) : Type 0 where
   pub payload : List ℕ
   pub reads : segment_of bytes ≡ Ok (Untagged last OPCODE_SEND w queue_number msn offset payload)
 
-by_opcode : (opened : LinkParameters) (k : ServerState) (s : LinkState) (bytes : List ℕ) (last : Bool) (opcode w queue msn offset : ℕ) (payload : List ℕ) → LinkKeeps opened k s → IsServer k s.place →
+by_opcode : (opened : LinkParameters) (k : ServerState) (s : LinkState) (bytes : List ℕ) (last : Bool) (opcode w queue msn offset : ℕ) (payload : List ℕ) → LinkKeeps opened k s → k.regions ≡ [] →
     segment_of bytes ≡ Ok (Untagged last opcode w queue msn offset payload) → segment_end s (next_frame s bytes) (Untagged last opcode w queue msn offset payload) ≡ None →
     (b : Bool) → eqb opcode OPCODE_READ_REQUEST ≡ b → IsSend s bytes
 by_opcode opened k s bytes last opcode w queue msn offset payload h is reads lives true request =
@@ -78,7 +78,7 @@ never : (f : Frame) (reason : ℕ) (s : LinkState) → (with_fpdu f (Err reason)
 unfolding with_fpdu
 never f reason s e = absurd cc
 
-pub only_sends : (opened : LinkParameters) (k : ServerState) (s : LinkState) (bytes : List ℕ) → LinkKeeps opened k s → IsServer k s.place → (with_frame s Fpdu bytes).ended ≡ None → IsSend s bytes
+pub only_sends : (opened : LinkParameters) (k : ServerState) (s : LinkState) (bytes : List ℕ) → LinkKeeps opened k s → k.regions ≡ [] → (with_frame s Fpdu bytes).ended ≡ None → IsSend s bytes
 only_sends opened k s bytes h is lives = by (segment_of bytes) refl
   where
     ended : (reason : ℕ) → segment_of bytes ≡ Err reason → with_frame s Fpdu bytes ≡ with_fpdu (next_frame s bytes) (Err reason) s

@@ -18,7 +18,7 @@ use Rattle.nr_xdr.specs.Fields.{word_at}
 use Rattle.nr_reduce.specs.Chunks.{is_read_chunk_of_item, item_position, total_at, positions}
 use Rattle.nr_reduce.specs.Limits.{numbers_end}
 use Rattle.nr_reduce.specs.ServerState.{PendingCall, ServerState, is_pending, next_stag}
-use Rattle.nr_reduce.specs.ServerReads.{chunks_of}
+use Rattle.nr_reduce.specs.ServerReads.{chunks_of, is_read}
 use Rattle.nr_reduce.specs.ServerMessages.{Verdict, verdict, by_header, by_body, by_stream, by_need, has_position, no_stream}
 use Rattle.nr_reduce.specs.ServerMessages.Verdict.{EndsLink, OtherVersion, BadChunks, MakesPending}
 use Rattle.nr_rpc.specs.declared.head.CallHead.{CallHead}
@@ -173,14 +173,14 @@ chunks_refused k m credit place is same =
     ap (λ (v : Verdict). message_effect k place m v) is ∙ ap (λ (n : ℕ). refused_effect k (chunk_error (word_at 0 m) n)) same
 
 -- a pending call without a read chunk, whose stream is no call, or one of another xid
-pub no_call_refused : (k : ServerState) (m : List ℕ) (place xid at : ℕ) (write : List (List RdmaSegment)) (reply : Option (List RdmaSegment)) (stream : List ℕ) → k.reads ≡ [] → verdict k m ≡ MakesPending (inline_call k xid write reply stream) → call_of stream ≡ Err at →
+pub no_call_refused : (k : ServerState) (m : List ℕ) (place xid at : ℕ) (write : List (List RdmaSegment)) (reply : Option (List RdmaSegment)) (stream : List ℕ) → is_read k.reads (k.received.sends + 1) ≡ true → verdict k m ≡ MakesPending (inline_call k xid write reply stream) → call_of stream ≡ Err at →
     (by_message k place (Some m)).refusal ≡ Some 18
 no_call_refused k m place xid at write reply stream none is reads =
     let c : PendingCall = inline_call k xid write reply stream in
     ap (λ (s : FrameEffect). s.refusal) (inline_message_lem k place m xid write reply stream none is)
     ∙ ap (λ (r : Result CallHead ℕ). (with_verdict (by_head c stream r) (pending_effect k c)).refusal) reads
 
-pub other_call_refused : (k : ServerState) (m : List ℕ) (place xid : ℕ) (write : List (List RdmaSegment)) (reply : Option (List RdmaSegment)) (stream : List ℕ) (head : CallHead) → k.reads ≡ [] → verdict k m ≡ MakesPending (inline_call k xid write reply stream) → call_of stream ≡ Ok head → call_xid head ≢ xid →
+pub other_call_refused : (k : ServerState) (m : List ℕ) (place xid : ℕ) (write : List (List RdmaSegment)) (reply : Option (List RdmaSegment)) (stream : List ℕ) (head : CallHead) → is_read k.reads (k.received.sends + 1) ≡ true → verdict k m ≡ MakesPending (inline_call k xid write reply stream) → call_of stream ≡ Ok head → call_xid head ≢ xid →
     (by_message k place (Some m)).refusal ≡ Some 19
 other_call_refused k m place xid write reply stream head none is reads other =
     let c : PendingCall = inline_call k xid write reply stream in

@@ -38,8 +38,6 @@ server_first opened = record {
   xids = tt;
   ready_xids = tt;
   ready = tt;
-  no_reads = refl;
-  no_regions = refl;
   up = refl;
   down = refl;
 }
@@ -74,6 +72,8 @@ keeps_first opened = record {
   calls = refl;
   ready = refl;
   credits = refl;
+  payloads = tt;
+  no_regions = refl;
   quiet = λ e. (refl, refl);
 }
 

@@ -48,7 +48,7 @@ use Rattle.nr_responder.proofs.Handled.{RanOutOf}
 use Rattle.nr_responder.proofs.Inline.{IsSend, only_sends}
 use Rattle.nr_responder.proofs.Posted.{memory_ends, told_link_lem}
 use Rattle.nr_responder.proofs.SendFrames.{frame_lives, part_framed, last_framed}
-use Rattle.nr_responder.proofs.ServerSteps.{effect_is}
+use Rattle.nr_responder.proofs.ServerSteps.{effect_is, new_is_read}
 use Rattle.nr_responder.proofs.Steps.{link_behind, hello_takes, hello_notices}
 use Rattle.nr_responder.proofs.Whole.{goes_on_lem, lives_on_lem, refuses, refused_output, same_message, whole_message}
 
@@ -164,7 +164,7 @@ frame_message opened k so_far v frame number invalidated message rest h some liv
     by (AfterHello place awaited hello) =
         let lives_on : (with_frame s Fpdu frame).ended ≡ None = subst (λ (a : Awaited). (with_frame s a frame).ended ≡ None) awaited lives in
         let told_on = subst (λ (a : Awaited). (with_frame s a frame).receive_queue.notices ≡ MessageReceived number invalidated message ∷ rest) awaited one in
-        let send : IsSend s frame = only_sends opened k s frame h.link h.server lives_on in
+        let send : IsSend s frame = only_sends opened k s frame h.link h.no_regions lives_on in
         subst (λ (a : Awaited). ((with_frame s a frame).send_queue ≡ s.send_queue) × TakesMemory opened k (next_frame s frame)) (sym awaited) (fpdu place lives_on told_on send send.last refl)
 
 -- ---- A step
@@ -197,7 +197,7 @@ out_by_message v after piece m number invalidated message rest live_now p step l
     needs opened end so_far keeps same (WholeFrame frame w frame_is long link) =
         let both = not_ended_lem opened end so_far v live_now keeps in
         let h : Keeps opened end.state so_far v = both.1 in
-        let server : IsServerOf end.state (on_link v m) = record { calls = sym h.calls; credits = sym h.credits; no_reads = h.server.no_reads; no_regions = h.server.no_regions } in
+        let server : IsServerOf end.state (on_link v m) = record { calls = sym h.calls; credits = sym h.credits; new_read = new_is_read end.state h.server.reads_before; no_regions = h.no_regions } in
         let lives_on : (with_frame v.link.state v.link.awaited frame).ended ≡ None = sym (ap (λ (l : LinkSide). l.state.ended) link) ∙ lives in
         let told_on : (with_frame v.link.state v.link.awaited frame).receive_queue.notices ≡ MessageReceived number invalidated message ∷ rest = sym (ap (λ (l : LinkSide). l.state.receive_queue.notices) link) ∙ one in
         let found = frame_message opened end.state so_far v frame number invalidated message rest h long lives_on told_on (ran.takes end.state server) in (
@@ -225,7 +225,7 @@ out_frame v opened k so_far frame h long more None e (BeforeHello place awaited 
 out_frame v opened k so_far frame h long more None e (AfterHello place awaited hello) =
     let lives_on : (with_frame v.link.state Fpdu frame).ended ≡ None = subst (λ (a : Awaited). (with_frame v.link.state a frame).ended ≡ None) awaited e in
     let still : output_len v.link.state.send_queue < output_len (with_frame v.link.state Fpdu frame).send_queue = subst (λ (a : Awaited). output_len v.link.state.send_queue < output_len (with_frame v.link.state a frame).send_queue) awaited more in
-    let send : IsSend v.link.state frame = only_sends opened k v.link.state frame h.link h.server lives_on in
+    let send : IsSend v.link.state frame = only_sends opened k v.link.state frame h.link h.no_regions lives_on in
     absurd (let same = sent_same v.link.state frame send lives_on send.last refl in omega (arith, still, ap output_len same))
 
 -- it ran out of memory in its side of the link

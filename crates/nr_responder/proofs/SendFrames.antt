@@ -23,7 +23,7 @@ use Rattle.nr_reduce.specs.Plans.{one_if}
 use Rattle.nr_reduce.specs.OfferedRegions.{Region}
 use Rattle.nr_reduce.specs.ServerState.{PendingCall, PendingRead, ReadyCall, ServerState, is_pending}
 use Rattle.nr_reduce.proofs.MemorySteps.{holds_later, received_later, offered_later}
-use Rattle.nr_responder.specs.Keeping.{OwnXids, OwnReady, IsReadyOf, IsServer, LinkKeeps}
+use Rattle.nr_responder.specs.Keeping.{OwnXids, OwnReady, IsReadyOf, IsInline, IsServer, LinkKeeps}
 use Rattle.nr_responder.specs.ResponderState.{unsent}
 use Rattle.nr_responder.proofs.ServerSteps.{with_received, with_inline_call, ready_call, none_of_number, over_pushed}
 
@@ -172,8 +172,6 @@ part_server k place later payload le is = record {
   xids = is.xids;
   ready_xids = is.ready_xids;
   ready = is.ready;
-  no_reads = is.no_reads;
-  no_regions = is.no_regions;
   up = is.up;
   down = is.down;
 }
@@ -264,7 +262,6 @@ still_ready calls reads c (r ∷ ready) none h = (
     pending = some_more (λ (d : PendingCall). eqb d.xid r.xid) calls c h.0.pending;
     own = own_pushed r.xid r.number calls c (λ e. absurd (let two : true ≡ false = sym h.0.pending ∙ (ap (λ (y : ℕ). list_any (λ d. eqb d.xid y) calls) (sym e) ∙ none) in cc)) h.0.own;
     read = h.0.read;
-    payload = payload_pushed r.xid r.payload calls c (λ e. absurd (let two : true ≡ false = sym h.0.pending ∙ (ap (λ (y : ℕ). list_any (λ d. eqb d.xid y) calls) (sym e) ∙ none) in cc)) h.0.payload;
   },
   still_ready calls reads c ready none h.1,
 )
@@ -273,9 +270,18 @@ ready_last : (P : ReadyCall → Type 0) (ready : List ReadyCall) (r : ReadyCall)
 ready_last P [] r p h = (p, tt)
 ready_last P (x ∷ ready) r p h = (h.0, ready_last P ready r p h.1)
 
-pub told_server : (k : ServerState) (place later : ℕ) (c : PendingCall) (stream : List ℕ) → place ≤ later → c.number ≡ k.received.sends + 1 → c.inline ≡ Some stream → is_pending k c.xid ≡ false → IsServer k place →
+-- the payloads of those that are ready, with one more
+pub payloads_told : (calls : List PendingCall) (reads : List PendingRead) (c : PendingCall) (stream : List ℕ) (ready : List ReadyCall) → c.inline ≡ Some stream → list_any (λ d. eqb d.xid c.xid) calls ≡ false → AllByRecursion (IsReadyOf calls reads) ready →
+    AllByRecursion (IsInline calls) ready → AllByRecursion (IsInline (calls ++ c ∷ [])) (ready ++ ready_call c stream ∷ [])
+payloads_told calls reads c stream [] inline none known h = (payload_pushed c.xid stream calls c (λ _. inline) (no_payload c.xid stream calls none), tt)
+payloads_told calls reads c stream (r ∷ ready) inline none known h = (
+  payload_pushed r.xid r.payload calls c (λ e. absurd (let two : true ≡ false = sym known.0.pending ∙ (ap (λ (y : ℕ). list_any (λ d. eqb d.xid y) calls) (sym e) ∙ none) in cc)) h.0,
+  payloads_told calls reads c stream ready inline none known.1 h.1,
+)
+
+pub told_server : (k : ServerState) (place later : ℕ) (c : PendingCall) (stream : List ℕ) → place ≤ later → c.number ≡ k.received.sends + 1 → is_pending k c.xid ≡ false → IsServer k place →
     IsServer (with_inline_call k (record { sends = k.received.sends + 1; begun = None; requests = k.received.requests }) c stream) later
-told_server k place later c stream le own inline none is =
+told_server k place later c stream le own none is =
     let n : ℕ = k.received.sends in
     record {
       offered = offered_later place later k.regions le is.offered;
@@ -293,11 +299,8 @@ told_server k place later c stream le own inline none is =
             pending = last_more (λ (d : PendingCall). eqb d.xid c.xid) k.calls c (eq-eqb c.xid c.xid refl);
             own = own_pushed c.xid c.number k.calls c (λ _. refl) (no_call_lem c.xid c.number k.calls none);
             read = ap (λ (b : Bool). not b) (let e : c.number ≡ n + 1 = own in ap (λ (m : ℕ). list_any (λ r. eqb r.number m) k.reads) e ∙ none_of_number n k.reads is.reads_before);
-            payload = payload_pushed c.xid stream k.calls c (λ _. inline) (no_payload c.xid stream k.calls none);
           })
           (still_ready k.calls k.reads c k.ready none is.ready);
-      no_reads = is.no_reads;
-      no_regions = is.no_regions;
       up = is.up;
       down = is.down;
     }

@@ -1,5 +1,5 @@
 -- What an untagged frame makes of the server of a run, where it doesn't end it.
-use Rattle.std.proofs.Common.{◌≡◌, ℕ, ◌+◌, ◌≤◌, Bool, true, false, ◌||◌, eqb, cond, List, [], ◌∷◌, ◌++◌, length, take, drop, Option, Some, None, Result, Ok, refl, sym, ap, ◌∙◌, arith, is_some}
+use Rattle.std.proofs.Common.{◌≡◌, ℕ, ◌+◌, ◌≤◌, Bool, true, false, not, ◌||◌, eqb, cond, List, [], ◌∷◌, ◌++◌, length, take, drop, Option, Some, None, Result, Ok, refl, sym, ap, ◌∙◌, arith, is_some}
 use Rattle.std.specs.List.{AllByRecursion, list_any}
 use Rattle.std.proofs.lemmas.List.{append-nil, drop_all}
 use Rattle.std.proofs.lemmas.Bool.{ne_eqb, eq-eqb}
@@ -106,6 +106,10 @@ none_of_number n [] h = refl
 none_of_number n (r ∷ reads) h =
     ap (λ (b : Bool). b || list_any (λ (x : PendingRead). eqb x.number (n + 1)) reads) (other_number n r.number h.0) ∙ none_of_number n reads h.1
 
+-- nothing is read for a Send that comes now
+pub new_is_read : (k : ServerState) → AllByRecursion (λ r. r.number ≤ k.received.sends) k.reads → is_read k.reads (k.received.sends + 1) ≡ true
+new_is_read k before = ap (λ (b : Bool). not b) (none_of_number k.received.sends k.reads before)
+
 inline_payload : (k : ServerState) (place xid : ℕ) (write : List (List RdmaSegment)) (reply : Option (List RdmaSegment)) (stream : List ℕ) →
     payload_of k place (inline_call k xid write reply stream) ≡ Some stream
 unfolding payload_of call_conveyed item_position
@@ -134,21 +138,20 @@ abbrev pub pending_effect : ServerState → PendingCall → FrameEffect
 pending_effect k c = record { calls = k.calls ++ c ∷ []; reads = k.reads; regions = k.regions; ready = []; errors = []; kept = length (open_reads k); refusal = None }
 
 pub inline_message_lem : (k : ServerState) (place : ℕ) (message : List ℕ) (xid : ℕ) (write : List (List RdmaSegment)) (reply : Option (List RdmaSegment)) (stream : List ℕ) →
-    k.reads ≡ [] → verdict k message ≡ MakesPending (inline_call k xid write reply stream) →
+    is_read k.reads (k.received.sends + 1) ≡ true → verdict k message ≡ MakesPending (inline_call k xid write reply stream) →
     by_message k place (Some message) ≡ with_verdict (by_payload (inline_call k xid write reply stream) (Some stream)) (pending_effect k (inline_call k xid write reply stream))
-inline_message_lem k place message xid write reply stream no_reads is =
+inline_message_lem k place message xid write reply stream whole is =
     let c : PendingCall = inline_call k xid write reply stream in
     let pending : FrameEffect = record { calls = k.calls ++ c ∷ []; reads = k.reads ++ []; regions = k.regions ++ []; ready = []; errors = []; kept = length (open_reads k); refusal = None } in
     let plain : FrameEffect = pending_effect k c in
     let same : pending ≡ plain = λ i. record { calls = k.calls ++ c ∷ []; reads = append-nil k.reads i; regions = append-nil k.regions i; ready = []; errors = []; kept = length (open_reads k); refusal = None } in
-    let whole : is_read k.reads c.number ≡ true = ap (λ (reads : List PendingRead). is_read reads c.number) no_reads in
     ap (λ (v : Verdict). message_effect k place message v) is
     ∙ ap (λ (s : FrameEffect). ready_if_whole k place c s) same
     ∙ ap (λ (b : Bool). cond b (with_verdict (by_payload c (payload_of k place c)) plain) plain) whole
     ∙ ap (λ (p : Option (List ℕ)). with_verdict (by_payload c p) plain) (inline_payload k place xid write reply stream)
 
 pub inline_ready : (k : ServerState) (f : Frame) (message : List ℕ) (xid : ℕ) (write : List (List RdmaSegment)) (reply : Option (List RdmaSegment)) (stream : List ℕ) (head : CallHead) →
-    k.reads ≡ [] → verdict k message ≡ MakesPending (inline_call k xid write reply stream) → call_of stream ≡ Ok head → call_xid head ≡ xid →
+    is_read k.reads (k.received.sends + 1) ≡ true → verdict k message ≡ MakesPending (inline_call k xid write reply stream) → call_of stream ≡ Ok head → call_xid head ≡ xid →
     by_message k f.end (Some message) ≡ inline_effect k (inline_call k xid write reply stream) stream
 inline_ready k f message xid write reply stream head none is reads own =
     inline_message_lem k f.end message xid write reply stream none is
@@ -169,10 +172,15 @@ over_same calls c reads r n is le =
     by (x ∷ cs) = ap (λ (b : Bool). eqb x.number r.call || b) (by cs)
 
 pub over_pushed : (calls : List PendingCall) (c : PendingCall) (reads : List PendingRead) (n : ℕ) (regions : List Region) → c.number ≡ n + 1 → AllByRecursion (λ r. r.call ≤ n) regions →
-    AllByRecursion (λ r. is_over calls reads r ≡ true → is_some r.until ≡ true) regions → AllByRecursion (λ r. is_over (calls ++ c ∷ []) reads r ≡ true → is_some r.until ≡ true) regions
+    AllByRecursion (λ r. is_some r.until ≡ is_over calls reads r) regions → AllByRecursion (λ r. is_some r.until ≡ is_over (calls ++ c ∷ []) reads r) regions
 over_pushed calls c reads n [] is before closed = tt
 over_pushed calls c reads n (r ∷ regions) is before closed =
-    ((λ over. closed.0 (sym (over_same calls c reads r n is before.0) ∙ over)), over_pushed calls c reads n regions is before.1 closed.1)
+    (closed.0 ∙ sym (over_same calls c reads r n is before.0), over_pushed calls c reads n regions is before.1 closed.1)
+
+-- a region that is over is closed
+pub closed_if_over : (test : Region → Bool) (regions : List Region) → AllByRecursion (λ r. is_some r.until ≡ test r) regions → AllByRecursion (λ r. test r ≡ true → is_some r.until ≡ true) regions
+closed_if_over test [] h = tt
+closed_if_over test (r ∷ regions) h = ((λ over. h.0 ∙ over), closed_if_over test regions h.1)
 
 -- the state after a frame with the call's Send
 abbrev pub with_inline_call : ServerState → ReceiveState → PendingCall → List ℕ → ServerState

@@ -116,7 +116,7 @@ frame_notices opened k so_far v frame h lives (BeforeHello place awaited hello n
     inl (ap (λ (t : LinkState). t.receive_queue.notices) as_hello ∙ hello_notices v.link.state (next_frame v.link.state frame) (hello_of Initiator frame) ∙ h.link.told)
 frame_notices opened k so_far v frame h lives (AfterHello place awaited hello) =
     let lives_on : (with_frame v.link.state Fpdu frame).ended ≡ None = subst (λ (a : Awaited). (with_frame v.link.state a frame).ended ≡ None) awaited lives in
-    let send : IsSend v.link.state frame = only_sends opened k v.link.state frame h.link h.server lives_on in
+    let send : IsSend v.link.state frame = only_sends opened k v.link.state frame h.link h.no_regions lives_on in
     subst (λ (a : Awaited). FewNotices (with_frame v.link.state a frame).receive_queue.notices) (sym awaited) (send_notices opened k so_far v frame h lives_on send send.last refl)
 
 few_notices : (opened : LinkParameters) (k : ServerState) (so_far : InputState) (v : ResponderSide) (piece : List ℕ) (m : LinkSide) → Keeps opened k so_far v → m.state.ended ≡ None → StepOf v.link piece m → FewNotices m.state.receive_queue.notices

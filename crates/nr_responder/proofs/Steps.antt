@@ -74,6 +74,8 @@ greeted opened k so_far v frame hello h place none some reads =
       calls = h.calls;
       ready = h.ready;
       credits = h.credits;
+      payloads = h.payloads;
+      no_regions = h.no_regions;
       quiet = λ e. absurd (omega (arith, e, some));
     } in
     record {
@@ -200,4 +202,4 @@ frame_takes opened k so_far v after frame h long lives handled = by h.begins
         let lives_on : (with_frame v.link.state Fpdu frame).ended ≡ None = subst (λ (a : Awaited). (with_frame v.link.state a frame).ended ≡ None) awaited lives in
         let handled_on : IsHandled k (on_link v (record { awaited = Fpdu; rest = []; state = with_frame v.link.state Fpdu frame })) after =
         subst (λ (a : Awaited). IsHandled k (on_link v (record { awaited = Fpdu; rest = []; state = with_frame v.link.state a frame })) after) awaited handled in
-        fpdu_takes opened k so_far v after frame h place awaited long lives_on handled_on (only_sends opened k v.link.state frame h.link h.server lives_on)
+        fpdu_takes opened k so_far v after frame h place awaited long lives_on handled_on (only_sends opened k v.link.state frame h.link h.no_regions lives_on)

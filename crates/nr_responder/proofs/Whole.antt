@@ -47,8 +47,8 @@ use Rattle.nr_responder.specs.Keeping.{IsServer, Begins, LinkKeeps, Keeps, Keeps
 use Rattle.nr_responder.specs.Keeping.Begins.{BeforeHello, AfterHello}
 use Rattle.nr_responder.specs.Handling.{inline_call, refused_effect, on_link, with_ready}
 use Rattle.nr_responder.proofs.FrameEnds.{frame_ends}
-use Rattle.nr_responder.proofs.ServerSteps.{with_received, quiet, quiet_output, ready_call, inline_effect, inline_ready, effect_is, with_inline_call, ready_state, over_pushed}
-use Rattle.nr_responder.proofs.SendFrames.{framed, frame_lives, send_framed, part_framed, last_framed, part_keeps, told_keeps, part_server, told_server, message_kept, calls_later, reads_later, regions_later}
+use Rattle.nr_responder.proofs.ServerSteps.{with_received, quiet, quiet_output, ready_call, inline_effect, inline_ready, effect_is, with_inline_call, ready_state, over_pushed, closed_if_over, new_is_read}
+use Rattle.nr_responder.proofs.SendFrames.{framed, frame_lives, send_framed, part_framed, last_framed, part_keeps, told_keeps, part_server, told_server, message_kept, calls_later, reads_later, regions_later, payloads_told}
 use Rattle.nr_reduce.proofs.MemorySteps.{received_later, offered_later}
 use Rattle.nr_responder.proofs.Queues.{sent_queue, sent_has, last_queue}
 use Rattle.nr_responder.proofs.Executed.{with_message}
@@ -109,7 +109,7 @@ part_takes opened k input v frame w queue_number msn offset payload h behind_hel
     let later : is_hello f ≡ false = later_frame s.place behind_hello in
     let effect : frame_effect k f ≡ no_effect k = effect_is k f false OPCODE_SEND w queue_number msn offset payload is in
     let at = goes_on_lem opened k f (no_effect k) later (lives_on_lem opened k input v frame h behind_hello some lives) effect refl in
-    let state : with_effect k f (no_effect k) ≡ with_received (send_continued k.received false payload) k = quiet k f false OPCODE_SEND w queue_number msn offset payload is h.server.closed in
+    let state : with_effect k f (no_effect k) ≡ with_received (send_continued k.received false payload) k = quiet k f false OPCODE_SEND w queue_number msn offset payload is (closed_if_over (is_over k.calls k.reads) k.regions h.server.closed) in
     let next : next_end_state (server_rules opened) (live k) (FrameReceived f) ≡ live (with_received (send_continued k.received false payload) k) = at.next ∙ ap (λ (t : ServerState). live t) state in
     let link : with_frame s Fpdu frame ≡ send_framed s frame (received_within s.receive_queue.receive_length (send_continued s.receive_queue.received false payload)) (cond (not (is_begun s.receive_queue.received.begun)) (s.receive_queue.free - 1) s.receive_queue.free) s.receive_queue.lent (s.receive_queue.notices ++ []) =
     both.1 ∙ part_framed s frame w queue_number msn offset payload in
@@ -123,6 +123,8 @@ part_takes opened k input v frame w queue_number msn offset payload h behind_hel
       calls = h.calls;
       ready = h.ready;
       credits = h.credits;
+      payloads = h.payloads;
+      no_regions = h.no_regions;
       quiet = λ e. absurd (omega (arith, e, behind_hello));
     } in
     let kept_now : Keeps opened (with_received (send_continued k.received false payload) k) (behind input frame) (on_link v (record { awaited = Fpdu; rest = []; state = with_frame s Fpdu frame })) =
@@ -183,10 +185,10 @@ ready_takes opened k input v frame w queue_number msn offset payload xid write r
     let message : verdict k (begun_bytes k.received.begun ++ payload) ≡ MakesPending c = ap (verdict k) (sym (same_message opened k s payload h.link (fine.fits refl))) ∙ judged in
     let effect : frame_effect k f ≡ inline_effect k c stream =
     effect_is k f true OPCODE_SEND w queue_number msn offset payload is
-    ∙ inline_ready k f (begun_bytes k.received.begun ++ payload) xid write reply stream head h.server.no_reads message reads own in
+    ∙ inline_ready k f (begun_bytes k.received.begun ++ payload) xid write reply stream head (new_is_read k h.server.reads_before) message reads own in
     let at = goes_on_lem opened k f (inline_effect k c stream) later (lives_on_lem opened k input v frame h behind_hello some lives) effect refl in
     let closed = over_pushed k.calls c k.reads k.received.sends k.regions refl h.server.regions_before h.server.closed in
-    let state : with_effect k f (inline_effect k c stream) ≡ k' = ready_state k f true OPCODE_SEND w queue_number msn offset payload c stream is closed in
+    let state : with_effect k f (inline_effect k c stream) ≡ k' = ready_state k f true OPCODE_SEND w queue_number msn offset payload c stream is (closed_if_over (is_over (k.calls ++ c ∷ []) k.reads) k.regions closed) in
     let next : next_end_state (server_rules opened) (live k) (FrameReceived f) ≡ live k' = at.next ∙ ap (λ (t : ServerState). live t) state in
     let after : LinkState = send_framed s frame (record { sends = s.receive_queue.received.sends + 1; begun = None; requests = s.receive_queue.received.requests }) (cond (not (is_begun s.receive_queue.received.begun)) (s.receive_queue.free - 1) s.receive_queue.free) (s.receive_queue.lent + 1) [] in
     let link : told_link s frame ≡ after = told_framed opened k s frame w queue_number msn offset payload h.link both.1 in
@@ -196,10 +198,12 @@ ready_takes opened k input v frame w queue_number msn offset payload xid write r
       link = told_keeps opened k s frame c stream h.link h.server fine.receive;
       input = record { awaited = refl; rest = refl; place = ap (λ (n : ℕ). n + length frame) h.input.place };
       begins = begun_behind v.link after h.begins behind_hello refl (omega arith);
-      server = told_server k s.place (s.place + length frame) c stream (omega arith) refl refl new h.server;
+      server = told_server k s.place (s.place + length frame) c stream (omega arith) refl new h.server;
       calls = ap (λ (cs : List PendingCall). cs ++ c ∷ []) h.calls;
       ready = ap (λ (xs : List ℕ). xs ++ c.xid ∷ []) h.ready ∙ sym (map-append (λ (r : ReadyCall). r.xid) k.ready (ready_call c stream ∷ []));
       credits = h.credits;
+      payloads = payloads_told k.calls k.reads c stream k.ready refl new h.server.ready h.payloads;
+      no_regions = h.no_regions;
       quiet = λ e. absurd (omega (arith, e, behind_hello));
     } in
     let kept_now : Keeps opened k' (behind input frame) (with_ready v (record { awaited = Fpdu; rest = []; state = told_link s frame }) c) =
@@ -279,8 +283,6 @@ refused_server k place later message le is =
       xids = is.xids;
       ready_xids = is.ready_xids;
       ready = is.ready;
-      no_reads = is.no_reads;
-      no_regions = is.no_regions;
       up = is.up;
       down = is.down;
     }
@@ -304,7 +306,7 @@ refused_takes opened k input v frame w queue_number msn offset payload message h
     effect_is k f true OPCODE_SEND w queue_number msn offset payload is
     ∙ ap (λ (m : List ℕ). by_message k f.end (Some m)) (sym (same_message opened k s payload h.link (fine.fits refl))) ∙ judged in
     let at = goes_on_lem opened k f (refused_effect k message) later (lives_on_lem opened k input v frame h behind_hello some lives) effect refl in
-    let state : with_effect k f (refused_effect k message) ≡ k' = refused_state k f true OPCODE_SEND w queue_number msn offset payload message is h.server.closed in
+    let state : with_effect k f (refused_effect k message) ≡ k' = refused_state k f true OPCODE_SEND w queue_number msn offset payload message is (closed_if_over (is_over k.calls k.reads) k.regions h.server.closed) in
     let next : next_end_state (server_rules opened) (live k) (FrameReceived f) ≡ live k' = at.next ∙ ap (λ (t : ServerState). live t) state in
     let after : LinkState = send_framed s frame (record { sends = s.receive_queue.received.sends + 1; begun = None; requests = s.receive_queue.received.requests }) (cond (not (is_begun s.receive_queue.received.begun)) (s.receive_queue.free - 1) s.receive_queue.free) (s.receive_queue.lent + 1) [] in
     let link : told_link s frame ≡ after = told_framed opened k s frame w queue_number msn offset payload h.link both.1 in
@@ -317,6 +319,8 @@ refused_takes opened k input v frame w queue_number msn offset payload message h
       calls = h.calls;
       ready = h.ready;
       credits = h.credits;
+      payloads = h.payloads;
+      no_regions = h.no_regions;
       quiet = λ e. absurd (omega (arith, e, behind_hello));
     } in
     let kept_now : Keeps opened k' (behind input frame) (on_link v (record { awaited = Fpdu; rest = []; state = with_message (told_link s frame) message })) =

@@ -1,5 +1,5 @@
 -- What a responder makes of a message that its side of the link delivered.
-use Rattle.std.specs.Prelude.{◌≡◌, ◌≢◌, ℕ, ◌+◌, ◌≤◌, List, [], ◌∷◌, ◌++◌, drop, Option, Some, Ok, Err, ◌⊎◌, false}
+use Rattle.std.specs.Prelude.{◌≡◌, ◌≢◌, ℕ, ◌+◌, ◌≤◌, List, [], ◌∷◌, ◌++◌, drop, Option, Some, Ok, Err, ◌⊎◌, true, false}
 use Rattle.nr_header.specs.declared.header.RdmaSegment.{RdmaSegment}
 use Rattle.nr_header.specs.declared.header.ChunkLists.{ChunkLists}
 use Rattle.nr_xdr.specs.Fields.{word_at}
@@ -12,6 +12,7 @@ use Rattle.nr_endpoint.specs.Calls.{after_call}
 use Rattle.nr_endpoint.specs.Calls.Call.{NextEvent, Stop, Send, OutOfMemory}
 use Rattle.nr_reduce.specs.Holds.{chunk_error, version_error}
 use Rattle.nr_reduce.specs.ServerState.{PendingCall, ServerState, is_pending}
+use Rattle.nr_reduce.specs.ServerReads.{is_read}
 use Rattle.nr_reduce.specs.ServerMessages.{verdict, call_xid}
 use Rattle.nr_reduce.specs.ServerMessages.Verdict.{EndsLink, OtherVersion, BadChunks, MakesPending}
 use Rattle.nr_reduce.specs.ServerFrames.{FrameEffect, no_effect, by_message}
@@ -39,11 +40,11 @@ out v = on_link v (after_call v.link OutOfMemory)
 abbrev pub OrOut : ResponderSide → LinkSide → ResponderSide → Type 0
 OrOut v l after = (after ≡ on_link v l) ⊎ (after ≡ out v)
 
--- the server of a run whose calls a responder keeps
+-- the server of a run whose calls a responder keeps: nothing is read for a Send that comes now, and it has no region
 pub record IsServerOf (k : ServerState) (v : ResponderSide) : Type 0 where
   pub calls : k.calls ≡ v.calls
   pub credits : k.credit ≡ v.credits
-  pub no_reads : k.reads ≡ []
+  pub new_read : is_read k.reads (k.received.sends + 1) ≡ true
   pub no_regions : k.regions ≡ []
 
 -- ---- What the code made of a message with a number

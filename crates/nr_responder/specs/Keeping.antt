@@ -35,10 +35,13 @@ pub record IsReadyOf (calls : List PendingCall) (reads : List PendingRead) (r : 
   pub pending : list_any (λ c. c.xid == r.xid) calls ≡ true
   pub own : AllByRecursion (λ c. c.xid ≡ r.xid → c.number ≡ r.number) calls
   pub read : is_read reads r.number ≡ true
-  pub payload : AllByRecursion (λ c. c.xid ≡ r.xid → c.inline ≡ Some r.payload) calls
+
+-- its payload is the stream of its Send
+abbrev pub IsInline : List PendingCall → ReadyCall → Type 0
+IsInline calls r = AllByRecursion (λ c. c.xid ≡ r.xid → c.inline ≡ Some r.payload) calls
 
 -- The state of a server, as it comes along a run where so many bytes were received: its regions are sinks under the STags from 1 on,
--- those that are over are closed, and nothing has the number of a Send that hasn't come. No call that is pending has a read chunk.
+-- those that are over are closed and no others, and nothing has the number of a Send that hasn't come.
 pub record IsServer (k : ServerState) (place : ℕ) : Type 0 where
   pub offered : AreOffered place k.regions
   pub accesses : AreReceived place k.accesses_received
@@ -47,12 +50,10 @@ pub record IsServer (k : ServerState) (place : ℕ) : Type 0 where
   pub calls_before : AllByRecursion (λ c. c.number ≤ k.received.sends) k.calls
   pub reads_before : AllByRecursion (λ r. r.number ≤ k.received.sends) k.reads
   pub regions_before : AllByRecursion (λ r. r.call ≤ k.received.sends) k.regions
-  pub closed : AllByRecursion (λ r. is_over k.calls k.reads r ≡ true → is_some r.until ≡ true) k.regions
+  pub closed : AllByRecursion (λ r. is_some r.until ≡ is_over k.calls k.reads r) k.regions
   pub xids : OwnXids k.calls
   pub ready_xids : OwnReady k.ready
   pub ready : AllByRecursion (IsReadyOf k.calls k.reads) k.ready
-  pub no_reads : k.reads ≡ []
-  pub no_regions : k.regions ≡ []
   pub up : k.up_max ≡ send_max
   pub down : k.down_max ≡ send_max
 
@@ -109,6 +110,7 @@ pub record LinkKeeps (opened : LinkParameters) (k : ServerState) (s : LinkState)
   pub next : s.memory.next ≡ next_stag k
   pub queue : QueueKeeps k s.send_queue
 
+-- No call that is pending has a read chunk.
 pub record Keeps (opened : LinkParameters) (k : ServerState) (input_now : InputState) (v : ResponderSide) : Type 0 where
   pub link : LinkKeeps opened k v.link.state
   pub input : KeepsInput v.link input_now
@@ -117,6 +119,8 @@ pub record Keeps (opened : LinkParameters) (k : ServerState) (input_now : InputS
   pub calls : v.calls ≡ k.calls
   pub ready : v.ready ≡ map (λ r. r.xid) k.ready
   pub credits : v.credits ≡ k.credit
+  pub payloads : AllByRecursion (IsInline k.calls) k.ready
+  pub no_regions : k.regions ≡ []
   pub quiet : v.link.state.place ≡ 0 → (v.ready ≡ []) × (k.message_ends ≡ [])
 
 -- One that has ended keeps why, and the calls and the credits of the server as it ended.
