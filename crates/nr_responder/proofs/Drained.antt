@@ -20,6 +20,7 @@ use Rattle.nr_responder.specs.Keeping.{Begins, Keeps, KeepsEnd}
 use Rattle.nr_responder.specs.Keeping.Begins.{BeforeHello, AfterHello}
 use Rattle.nr_responder.specs.Standing.{Stands}
 use Rattle.nr_responder.proofs.Executed.{drained, drained_keeps, drained_server}
+use Rattle.nr_responder.proofs.Queues.{sendable_drained}
 use Rattle.nr_responder.proofs.Marks.{wrote_represents, own_bytes, stays_out}
 
 pub drained_link : (l m : LinkSide) (n posts : ℕ) → m ≡ after_call l (Drain n) → posted_times posts m ≡ record { awaited = l.awaited; rest = l.rest; state = drained_posted l.state n posts }
@@ -95,7 +96,7 @@ keeps_drained opened end so_far v n within (inl (is, h)) =
     subst (λ (e : EndState ServerState). KeepsEnd opened e so_far (after_drain v n)) (sym (live_next_lem opened end.state n end.ended is)) (inl (refl, keeps))
 keeps_drained opened end so_far v n within (inr ended) =
     subst (λ (e : EndState ServerState). KeepsEnd opened e so_far (after_drain v n)) (sym (ended_next opened end.state n end.ended ended.over))
-    (inr (record { over = ended.over; why = ended.why; calls = ended.calls; ready = ended.ready; credits = ended.credits }))
+    (inr (record { over = ended.over; why = ended.why; calls = ended.calls; ready = ended.ready; credits = ended.credits; sendable = sendable_drained v.link.state.has_hello n v.link.state.send_queue ended.sendable }))
 
 pub drained_stands : (opened : LinkParameters) (link : ℕ) (run : List Mark) (v : ResponderSide) (n : ℕ) → n ≤ length (may_write v) → Stands opened link run v →
     Stands opened link (run ++ marks.Wrote link Responder (take n (may_write v)) ∷ []) (after_drain v n)

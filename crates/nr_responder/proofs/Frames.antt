@@ -1,7 +1,7 @@
 -- A frame that ends a responder for the rules of the link, and the client's hello.
-use Rattle.std.proofs.Common.{◌≡◌, ◌≢◌, ℕ, ◌+◌, ◌<◌, ◌≤◌, Bool, true, false, eqb, cond, List, [], ◌++◌, length, Option, Some, None, Result, Ok, Err, sym, ap, subst, ◌∙◌, arith, inl, inr, is_some}
+use Rattle.std.proofs.Common.{◌≡◌, ◌≢◌, ℕ, ◌+◌, ◌<◌, ◌≤◌, Bool, true, false, eqb, cond, List, [], ◌++◌, length, Option, Some, None, Result, Ok, Err, refl, sym, ap, subst, ◌∙◌, arith, inl, inr, is_some}
 use Rattle.std.specs.Prelude.{IfSome, map}
-use Rattle.std.proofs.lemmas.Bool.{ne_eqb, eq-eqb}
+use Rattle.std.proofs.lemmas.Bool.{ne_eqb, eq-eqb, lt-ltb}
 use Rattle.nr_wire.specs.declared.hello.Side.{Side}
 use Rattle.nr_wire.specs.declared.hello.Side.TheVariants.{Initiator, Responder}
 use Rattle.nr_wire.specs.declared.stream.Awaited.{Awaited}
@@ -13,9 +13,9 @@ use Rattle.nr_link.specs.declared.end.End.{End}
 use Rattle.nr_link.specs.declared.end.End.TheVariants as ends
 use Rattle.nr_link.specs.Frames.{Frame}
 use Rattle.nr_link.specs.Input.{InputState}
-use Rattle.nr_link.specs.Output.{own_hello}
-use Rattle.nr_link.specs.Ending.{frame_end, hello_end, last_output}
-use Rattle.nr_endpoint.specs.SendQueue.{with_end, with_hello}
+use Rattle.nr_link.specs.Output.{own_hello, terminate_message}
+use Rattle.nr_link.specs.Ending.{final_output, frame_end, hello_end, last_output}
+use Rattle.nr_endpoint.specs.SendQueue.{with_end, with_hello, writable}
 use Rattle.nr_endpoint.specs.LinkState.{LinkState, LinkSide}
 use Rattle.nr_endpoint.specs.Judging.{segment_end, next_frame, with_frame, with_fpdu, with_peer_hello, with_segment_by, with_end_of, reply_hello}
 use Rattle.nr_endpoint.specs.Laws.{IsFrameEnd, IsFrameReason}
@@ -32,7 +32,7 @@ use Rattle.nr_responder.specs.Keeping.{IsServer, Begins, LinkKeeps, QueueKeeps, 
 use Rattle.nr_responder.specs.Keeping.Begins.{BeforeHello, AfterHello}
 use Rattle.nr_responder.specs.Handling.{on_link}
 use Rattle.nr_responder.proofs.FrameEnds.{frame_ends}
-use Rattle.nr_responder.proofs.Queues.{last_queue, greeted_has}
+use Rattle.nr_responder.proofs.Queues.{last_queue, greeted_has, sendable_ended}
 
 -- ---- What is to show of a frame
 
@@ -88,6 +88,22 @@ flags_first l frame end live (AfterHello place awaited hello) ended at is =
     let fpdu : IsFrameEnd Fpdu l.state.place end = subst (λ (a : Awaited). IsFrameEnd a l.state.place end) awaited end_is in
     absurd (no_flags l.state.place at end fpdu is)
 
+-- what a hello ends the side with is no FPDU
+no_final : (side : Side) (place : ℕ) (end : End) → IsFrameEnd (HelloFrom side) place end → final_output end ≡ []
+unfolding final_output
+no_final side place (ends.Bad at reason) h = ap (λ (b : Bool). cond b [] (terminate_message reason)) (lt-ltb reason 5 (let few = h.1.1 in omega (arith, few)))
+no_final side place (ends.Denied stag offset why) h = absurd cc
+no_final side place (ends.NoBuffer msn) h = absurd cc
+no_final side place (ends.Terminated reason) h = refl
+no_final side place ends.Memory h = refl
+
+first_end : (l : LinkSide) (frame : List ℕ) (end : End) → l.state.ended ≡ None → Begins l → (with_frame l.state l.awaited frame).ended ≡ Some end → l.state.has_hello ≡ false → (l.state.send_queue.fpdus ≡ []) × (final_output end ≡ [])
+first_end l frame end live (BeforeHello place awaited hello none) ended greeted =
+    let ends : IfSome (with_frame l.state l.awaited frame).ended (IsFrameEnd l.awaited l.state.place) = frames_end_for_these l.state l.awaited frame live in
+    let end_is : IsFrameEnd l.awaited l.state.place end = subst (λ (e : Option End). IfSome e (IsFrameEnd l.awaited l.state.place)) ended ends in
+    (none, no_final Initiator l.state.place end (subst (λ (a : Awaited). IsFrameEnd a l.state.place end) awaited end_is))
+first_end l frame end live (AfterHello place awaited hello) ended greeted = absurd (let two : true ≡ false = sym hello ∙ greeted in cc)
+
 -- why the frame ends the server
 by_end_lem : (k : ServerState) (f : Frame) (e : Option End) (end : End) → e ≡ Some end → or_refusal k f e ≡ Some end
 by_end_lem k f e end is = ap (or_refusal k f) is
@@ -136,6 +152,12 @@ ended_takes opened k input later v frame end h some ended =
         calls = h.calls ∙ sym (ap (λ (e : EndState ServerState). e.state.calls) next);
         ready = h.ready ∙ sym (ap (λ (e : EndState ServerState). map (λ (r : ReadyCall). r.xid) e.state.ready) next);
         credits = h.credits ∙ sym (ap (λ (e : EndState ServerState). e.state.credit) next);
+        sendable =
+            ap (λ (t : LinkState). writable t.has_hello t.send_queue) state
+            ∙ ap (λ (x : Side). writable s.has_hello (with_end x end s.send_queue)) h.link.side
+            ∙ sendable_ended s.has_hello end s.send_queue (first_end v.link frame end h.link.live h.begins ended)
+            ∙ sym (ap (λ (x : Side). queued_bytes (with_end x end s.send_queue)) h.link.side)
+            ∙ sym (ap (λ (t : LinkState). queued_bytes t.send_queue) state);
       });
       output = ap (λ (t : LinkState). queued_bytes t.send_queue) state ∙ last ∙ ap (λ (bytes : List ℕ). queued_bytes s.send_queue ++ bytes) (sym due);
     }

@@ -8,6 +8,7 @@ pub mod Fed
 pub mod FrameEnds
 pub mod Frames
 pub mod Handled
+pub mod Held
 pub mod Inline
 pub mod Judged
 pub mod Marks

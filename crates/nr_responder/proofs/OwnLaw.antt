@@ -20,13 +20,12 @@ use Rattle.nr_reduce.proofs.Standing.{AtEachMark_more, server_queue_lem}
 use Rattle.nr_endpoint.specs.SendQueue.{SendQueue, writable, written}
 use Rattle.nr_endpoint.specs.LinkState.{LinkSide}
 use Rattle.nr_responder.specs.ResponderState.{ResponderSide, queue, queued_bytes, end_of, may_write}
-use Rattle.nr_responder.specs.Keeping.{Begins}
+use Rattle.nr_responder.specs.Keeping.{Begins, KeepsEnd}
 use Rattle.nr_responder.specs.Keeping.Begins.{BeforeHello, AfterHello}
 use Rattle.nr_responder.specs.Standing.{RepresentsServer, Stands}
 use Rattle.nr_responder.specs.Laws.{IsOfOthers, OthersLeaveIt, LawBegins, OthersKeepLaw, PieceKeepsLaw, ExecuteKeepsLaw, DrainKeepsLaw, FullBegins, OthersKeepFull, PieceKeepsFull, ExecuteKeepsFull, QueueIsAllDue, AllMayBeWritten, DrainKeepsFull}
 use Rattle.nr_responder.proofs.Drained.{split_queue}
-use Rattle.nr_responder.proofs.Fed.{not_ended_lem}
-use Rattle.nr_responder.proofs.Marks.{no_event_represents, stays_out, represents}
+use Rattle.nr_responder.proofs.Marks.{no_event_represents, stays_out}
 
 -- ---- A mark of others
 
@@ -151,11 +150,13 @@ all_writable l (BeforeHello place awaited hello none) =
 all_writable l (AfterHello place awaited hello) = ap (λ (b : Bool). writable b l.state.send_queue) hello
 
 pub all_may_be_written : AllMayBeWritten
-all_may_be_written opened link v run live h =
-    let s : RepresentsServer opened link run v = represents opened link run v live h in
-    all_writable v.link (not_ended_lem opened s.end s.input v live s.keeps).1.begins
+all_may_be_written opened link v run s = by s.keeps
+  where
+    by : KeepsEnd opened s.end s.input v → may_write v ≡ queue v
+    by (inl live) = all_writable v.link live.1.begins
+    by (inr ended) = ended.sendable
 
 pub drain_keeps_full : DrainKeepsFull
-drain_keeps_full opened link v run all s served =
+drain_keeps_full opened link v run s served =
     AtEachMark_more (ServedMark IsAll opened link) [] run (marks.Wrote link Responder (may_write v)) served
-    (λ same. ap (λ (bytes : List ℕ). bytes_sent link Responder run ++ bytes) all ∙ s.stands.output)
+    (λ same. ap (λ (bytes : List ℕ). bytes_sent link Responder run ++ bytes) (all_may_be_written opened link v run s) ∙ s.stands.output)

@@ -2,7 +2,7 @@
 use Rattle.std.proofs.Common.{◌≡◌, ℕ, ◌+◌, ◌-◌, ◌<◌, ◌≤◌, ◌^◌, Bool, true, false, eqb, cond, List, [], ◌∷◌, ◌++◌, length, drop, refl, sym, ap, ◌∙◌, arith, append_assoc, subst, length-append, length-drop}
 use Rattle.std.specs.List.{AllByRecursion}
 use Rattle.std.proofs.lemmas.Bool.{eqb-true}
-use Rattle.std.proofs.lemmas.List.{append-nil}
+use Rattle.std.proofs.lemmas.List.{append-nil, drop_all}
 use Rattle.std.proofs.Math.Nat.{mod-add-mod, mod-mod}
 use Rattle.nr_wire.specs.declared.hello.Side.TheVariants.{Responder}
 use Rattle.nr_wire.specs.Constants.{REASON_FLAGS}
@@ -10,8 +10,8 @@ use Rattle.nr_wire.specs.Segment.Segment.{Untagged}
 use Rattle.nr_link.specs.declared.end.End.{End}
 use Rattle.nr_link.specs.declared.end.End.TheVariants as ends
 use Rattle.nr_link.specs.Output.{cut, msn_word, send, refusing_hello}
-use Rattle.nr_link.specs.Ending.{final_output, last_output}
-use Rattle.nr_endpoint.specs.SendQueue.{SendQueue, next_number, with_hello, with_send, with_fpdus, with_end, written, output_len, send_output, ends_left}
+use Rattle.nr_link.specs.Ending.{final_output, last_output, rejection}
+use Rattle.nr_endpoint.specs.SendQueue.{SendQueue, writable, next_number, with_hello, with_send, with_fpdus, with_end, written, output_len, send_output, ends_left}
 use Rattle.nr_responder.specs.ResponderState.{queued_bytes}
 use Rattle.nr_responder.specs.Keeping.{QueueHas, IsEnd, ends_queued}
 use Rattle.nr_endpoint.proofs.Queued.{send_some}
@@ -81,6 +81,32 @@ answered_queue n writes message q e =
     ap (λ (bytes : List ℕ). q.hello ++ bytes) (append_assoc q.fpdus writes (send (next_number q.last_send) message))
     ∙ sym (append_assoc q.hello q.fpdus (writes ++ send (next_number q.last_send) message))
     ∙ ap (λ (bytes : List ℕ). (q.hello ++ q.fpdus) ++ (writes ++ bytes)) (next_send n q.last_send message e)
+
+-- ---- What may be written of it
+
+no_length : (xs : List ℕ) → length xs ≡ 0 → xs ≡ []
+no_length [] none = refl
+no_length (x ∷ xs) none = absurd (omega (arith, none))
+
+nothing_after : (xs ys : List ℕ) → xs ++ [] ≡ xs ++ ys → ys ≡ []
+nothing_after xs ys same =
+    let nothing : List ℕ = [] in
+    no_length ys (omega (arith, ap (λ (zs : List ℕ). length zs) same, length-append xs nothing, length-append xs ys))
+
+-- all of it, also once n bytes were written
+pub sendable_drained : (b : Bool) (n : ℕ) (q : SendQueue) → writable b q ≡ queued_bytes q → writable b (written n q) ≡ queued_bytes (written n q)
+unfolding written
+sendable_drained true n q all = refl
+sendable_drained false n q all =
+    let nothing : List ℕ = [] in
+    let m : ℕ = n - length q.hello in
+    ap (λ (bytes : List ℕ). drop n q.hello ++ bytes) (sym (ap (drop m) (nothing_after q.hello q.fpdus all) ∙ drop_all m nothing (omega arith)))
+
+-- and after what a side writes last, if that is no FPDU before the peer's hello
+pub sendable_ended : (b : Bool) (end : End) (q : SendQueue) → (b ≡ false → (q.fpdus ≡ []) × (final_output end ≡ [])) → writable b (with_end Responder end q) ≡ queued_bytes (with_end Responder end q)
+unfolding with_end
+sendable_ended true end q none = refl
+sendable_ended false end q none = (let both : (q.fpdus ≡ []) × (final_output end ≡ []) = none refl in λ i. (q.hello ++ rejection Responder end) ++ (sym both.0 i ++ sym both.1 i))
 
 -- ---- What a queue has
 

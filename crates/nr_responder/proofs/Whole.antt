@@ -7,6 +7,7 @@ use Rattle.std.proofs.lemmas.List.{append-nil, map-append}
 use Rattle.nr_wire.specs.declared.stream.Awaited.TheVariants.{Fpdu}
 use Rattle.nr_wire.specs.Constants.{OPCODE_SEND}
 use Rattle.nr_wire.specs.Hello.{hello_of}
+use Rattle.nr_wire.specs.declared.hello.Side.{Side}
 use Rattle.nr_wire.specs.declared.hello.Side.TheVariants.{Initiator, Responder}
 use Rattle.nr_wire.specs.Segment.{Segment, segment_of}
 use Rattle.nr_wire.specs.Segment.Segment.{Untagged}
@@ -30,7 +31,7 @@ use Rattle.nr_endpoint.specs.ReceiveQueue.DeliveredEvent.{MessageReceived}
 use Rattle.nr_endpoint.specs.SegmentEnds.{SendIsFine, send_len}
 use Rattle.nr_endpoint.specs.LinkState.{LinkState, LinkSide}
 use Rattle.nr_endpoint.specs.Judging.{segment_end, next_frame, with_frame, with_end_of}
-use Rattle.nr_endpoint.specs.SendQueue.{with_end, send_output}
+use Rattle.nr_endpoint.specs.SendQueue.{with_end, writable, send_output}
 use Rattle.nr_endpoint.proofs.Alive.{alive_send}
 use Rattle.nr_reduce.specs.declared.mark.LinkParameters.{LinkParameters}
 use Rattle.nr_reduce.specs.OfferedRegions.{region_grants}
@@ -50,7 +51,7 @@ use Rattle.nr_responder.proofs.FrameEnds.{frame_ends}
 use Rattle.nr_responder.proofs.ServerSteps.{with_received, quiet, quiet_output, ready_call, inline_effect, inline_ready, effect_is, with_inline_call, ready_state, over_pushed, closed_if_over, new_is_read}
 use Rattle.nr_responder.proofs.SendFrames.{framed, frame_lives, send_framed, part_framed, last_framed, part_keeps, told_keeps, part_server, told_server, message_kept, calls_later, reads_later, regions_later, payloads_told}
 use Rattle.nr_reduce.proofs.MemorySteps.{received_later, offered_later}
-use Rattle.nr_responder.proofs.Queues.{sent_queue, sent_has, last_queue}
+use Rattle.nr_responder.proofs.Queues.{sent_queue, sent_has, last_queue, sendable_ended}
 use Rattle.nr_responder.proofs.Executed.{with_message}
 use Rattle.nr_responder.proofs.Frames.{behind, TakesFrame, later_frame}
 
@@ -345,6 +346,10 @@ refuses opened k f s reason later lives effect fine =
       due = ap (λ (e : Option End). output_for_by (server_rules opened) k (FrameReceived f) e) why;
     }
 
+greeted_link : (l : LinkSide) (s : LinkState) → Begins l → 0 < l.state.place → s.has_hello ≡ l.state.has_hello → s.has_hello ≡ true
+greeted_link l s (BeforeHello place awaited hello none) some same = absurd (omega (arith, place, some))
+greeted_link l s (AfterHello place awaited hello) some same = same ∙ hello
+
 pub stopped_takes : (opened : LinkParameters) (k : ServerState) (input later_input : InputState) (v : ResponderSide) (frame : List ℕ) (w queue_number msn offset : ℕ) (payload : List ℕ) (s' : FrameEffect) (reason : ℕ) → Keeps opened k input v → 0 < v.link.state.place → 0 < length frame →
     segment_of frame ≡ Ok (Untagged true OPCODE_SEND w queue_number msn offset payload) → (with_frame v.link.state Fpdu frame).ended ≡ None →
     by_message k (v.link.state.place + length frame) (Some (whole_message v.link.state payload)) ≡ s' → s'.refusal ≡ Some reason → 5 ≤ reason →
@@ -374,6 +379,10 @@ stopped_takes opened k input later_input v frame w queue_number msn offset paylo
         calls = h.calls ∙ sym (ap (λ (e : EndState ServerState). e.state.calls) at.next);
         ready = h.ready ∙ sym (ap (λ (e : EndState ServerState). map (λ (r : ReadyCall). r.xid) e.state.ready) at.next);
         credits = h.credits ∙ sym (ap (λ (e : EndState ServerState). e.state.credit) at.next);
+        sendable =
+            ap (λ (x : Side). writable (told_link s frame).has_hello (with_end x end (told_link s frame).send_queue)) side
+            ∙ sendable_ended (told_link s frame).has_hello end (told_link s frame).send_queue (λ e. absurd (let two : true ≡ false = sym (greeted_link v.link (told_link s frame) h.begins behind_hello (ap (λ (t : LinkState). t.has_hello) link)) ∙ e in cc))
+            ∙ sym (ap (λ (x : Side). queued_bytes (with_end x end (told_link s frame).send_queue)) side);
       });
       output = last ∙ ap (λ (bytes : List ℕ). queued_bytes s.send_queue ++ bytes) (sym at.due);
     }

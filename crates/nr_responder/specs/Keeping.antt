@@ -19,7 +19,7 @@ use Rattle.nr_reduce.specs.EndRules.{EndState}
 use Rattle.nr_reduce.specs.ServerState.{PendingCall, PendingRead, ReadyCall, ServerState, next_stag}
 use Rattle.nr_reduce.specs.ServerReads.{open_reads, is_read, is_over}
 use Rattle.nr_reduce.specs.StandingLaws.{StagsFrom}
-use Rattle.nr_responder.specs.ResponderState.{ResponderSide, unsent, end_of}
+use Rattle.nr_responder.specs.ResponderState.{ResponderSide, unsent, end_of, queue, may_write}
 
 -- no two pending calls have one xid, nor have two calls that are ready
 abbrev pub OwnXids : List PendingCall → Type 0
@@ -123,13 +123,14 @@ pub record Keeps (opened : LinkParameters) (k : ServerState) (input_now : InputS
   pub no_regions : k.regions ≡ []
   pub quiet : v.link.state.place ≡ 0 → (v.ready ≡ []) × (k.message_ends ≡ [])
 
--- One that has ended keeps why, and the calls and the credits of the server as it ended.
+-- One that has ended keeps why, and the calls and the credits of the server as it ended. All of its queue may be written.
 pub record KeepsEnded (end : EndState ServerState) (v : ResponderSide) : Type 0 where
   pub over : is_some end.ended ≡ true
   pub why : end_of v ≡ end.ended
   pub calls : v.calls ≡ end.state.calls
   pub ready : v.ready ≡ map (λ r. r.xid) end.state.ready
   pub credits : v.credits ≡ end.state.credit
+  pub sendable : may_write v ≡ queue v
 
 abbrev pub KeepsEnd : LinkParameters → EndState ServerState → InputState → ResponderSide → Type 0
 KeepsEnd opened end input v = ((end.ended ≡ None) × Keeps opened end.state input v) ⊎ KeepsEnded end v

@@ -1,5 +1,5 @@
 -- A responder keeps the law of its side of a link.
-use Rattle.std.specs.Prelude.{◌≡◌, ◌≢◌, ℕ, ◌≤◌, List, [], ◌∷◌, ◌++◌, length, take, None}
+use Rattle.std.specs.Prelude.{◌≡◌, ◌≢◌, ℕ, ◌≤◌, List, [], ◌∷◌, ◌++◌, length, take}
 use Rattle.nr_wire.specs.declared.hello.Side.TheVariants.{Initiator, Responder}
 use Rattle.nr_outside.specs.declared.moment.Moment.{Moment}
 use Rattle.nr_reduce.specs.declared.mark.LinkParameters.{LinkParameters}
@@ -10,7 +10,7 @@ use Rattle.nr_reduce.specs.Run.{output_due}
 use Rattle.nr_reduce.specs.Asked.{IsAll}
 use Rattle.nr_reduce.specs.AtEachMark.{AtEachMark}
 use Rattle.nr_reduce.specs.Served.{ServedMark, ServedSoFar, IsExecuted}
-use Rattle.nr_responder.specs.ResponderState.{ResponderSide, queue, end_of, may_write}
+use Rattle.nr_responder.specs.ResponderState.{ResponderSide, queue, may_write}
 use Rattle.nr_responder.specs.Standing.{RepresentsServer, Stands}
 
 -- A mark that is no event of a link's server, and of which its law asks nothing: of another link, of the client's side, what a caller does,
@@ -78,11 +78,11 @@ ExecuteKeepsFull = (opened : LinkParameters) (link : ℕ) (run : List Mark) (xid
 abbrev pub QueueIsAllDue : Type 0
 QueueIsAllDue = (opened : LinkParameters) (link : ℕ) (v : ResponderSide) (run : List Mark) → RepresentsServer opened link run v → IsAll (bytes_sent link Responder run ++ queue v) (output_due opened link Responder run)
 
--- While it hasn't ended, all of its queue may be written;
+-- All of that queue may be written,
 abbrev pub AllMayBeWritten : Type 0
-AllMayBeWritten = (opened : LinkParameters) (link : ℕ) (v : ResponderSide) (run : List Mark) → end_of v ≡ None → Stands opened link run v → may_write v ≡ queue v
+AllMayBeWritten = (opened : LinkParameters) (link : ℕ) (v : ResponderSide) (run : List Mark) → RepresentsServer opened link run v → may_write v ≡ queue v
 
 -- and a drain of all of it keeps the law in full.
 abbrev pub DrainKeepsFull : Type 0
-DrainKeepsFull = (opened : LinkParameters) (link : ℕ) (v : ResponderSide) (run : List Mark) → may_write v ≡ queue v → RepresentsServer opened link run v →
+DrainKeepsFull = (opened : LinkParameters) (link : ℕ) (v : ResponderSide) (run : List Mark) → RepresentsServer opened link run v →
     ServedInFull opened link run → ServedInFull opened link (run ++ marks.Wrote link Responder (may_write v) ∷ [])

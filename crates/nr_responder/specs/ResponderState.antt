@@ -1,12 +1,13 @@
 -- What contracts see of a responder: its side of the link; the calls that it has not answered, in the order of their Sends; the xids of
 -- those that wait to be executed, in the order in which they became ready; its credits; and the whole staging buffer, which begins with
 -- the bytes of the frame that isn't complete.
-use Rattle.std.specs.Prelude.{◌≡◌, ℕ, ◌+◌, ◌-◌, max, List, [], ◌++◌, length, drop, Option}
+use Rattle.std.specs.Prelude.{◌≡◌, ℕ, ◌+◌, ◌-◌, ◌*◌, max, List, [], ◌++◌, length, drop, Option}
 use Rattle.nr_wire.specs.declared.hello.Side.TheVariants.{Responder}
 use Rattle.nr_link.specs.declared.end.End.{End}
 use Rattle.nr_endpoint.specs.SendQueue.{SendQueue, writable, written}
 use Rattle.nr_endpoint.specs.LinkState.{LinkState, LinkSide, initial_link}
-use Rattle.nr_endpoint.specs.EndpointState.{cut_frame_len}
+use Rattle.nr_endpoint.specs.EndpointState.{bytes_of, cut_frame_len}
+use Rattle.nr_link.specs.Limits.{send_max}
 use Rattle.nr_reduce.specs.ServerState.{PendingCall}
 
 pub record ResponderSide : Type 0 where
@@ -48,6 +49,11 @@ may_write v = writable v.link.state.has_hello v.link.state.send_queue
 -- how many of its Sends haven't left the queue
 abbrev pub unsent : LinkState → ℕ
 unsent s = length s.send_queue.send_ends
+
+-- How many bytes all byte buffers have that are kept: the staging buffer, the receives, of which one is lent for each call that isn't answered
+-- and for each Send that hasn't left, the regions, and the output.
+abbrev pub bytes_held_by : ResponderState → ℕ
+bytes_held_by v = length v.staging + bytes_of v.side.link.state + send_max * (length v.side.calls + unsent v.side.link.state)
 
 -- so many receives are posted again
 abbrev pub posted_times : ℕ → LinkSide → LinkSide

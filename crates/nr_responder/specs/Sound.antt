@@ -1,6 +1,7 @@
 -- What a responder keeps of its own, whatever the marks.
 use Rattle.std.specs.Prelude.{◌≡◌, ◌⊎◌, ℕ, ◌+◌, ◌≤◌, List, [], length, map, Some, All, slice_get, vec_capacity}
 use Rattle.std.specs.VecDeque.{deque_capacity}
+use Rattle.std.specs.FinMap.{empty}
 use Rattle.nr_header.specs.WithinLimits.{ListsWithin}
 use Rattle.nr_endpoint.specs.Receives.{IsReceive}
 use Rattle.nr_endpoint.specs.LinkState.{LinkState, LinkSide}
@@ -47,6 +48,10 @@ IsSoundWith n r = AreSound n r.endpoint.link.state r.calls.items r.ready.items r
 
 abbrev pub IsSound : ServerEnd → Type 0
 IsSound r = IsSoundWith 0 r
+
+-- No region is a part of its buffer.
+abbrev pub IsOwn : ServerEnd → Type 0
+IsOwn r = IsSound r × (r.endpoint.outside ≡ empty)
 
 -- the call is the first that waits to be executed
 abbrev pub IsNext : ResponderSide → ℕ → Type 0

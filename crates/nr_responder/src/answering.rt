@@ -219,6 +219,7 @@ pub(crate) fn queue_answer(
     ensures queued { IfOk result (Queues (call_view call.now) (drop call.now.stream_at (take call.now.len call.now.buf)) reply.now credits endpoint.old.link endpoint.new.link) }
     ensures err { OnErr result (endpoint.new.link ≡ endpoint.old.link) }
     ensures staging { endpoint.new.staging ≡ endpoint.old.staging }
+    ensures outside { endpoint.new.outside ≡ endpoint.old.outside }
 {
     let answer = answer_to(call, reply);
     let sent = sent_as(&answer);

@@ -14,7 +14,7 @@ pub fn responders_keep_their_law()
 {}
 
 /// If each drain takes all that may be written, a responder that doesn't run out of memory keeps the law of each mark in full: all that is
-/// due is in its queue, and while it hasn't ended all of that may be written.
+/// due and isn't written is in its queue, and all of that may be written.
 pub fn responders_keep_it_in_full()
     ensures begins { FullBegins }
     ensures others { OthersKeepFull }

@@ -17,6 +17,7 @@
 
 mod answering;
 mod call;
+mod counting;
 mod judging;
 mod laws;
 mod responder;

@@ -21,7 +21,7 @@ ghost use Rattle.nr_link.specs.SegmentFaults.{is_begun};
 ghost use Rattle.nr_reduce.specs.Plans.{one_if};
 ghost use Rattle.nr_reduce.specs.Run.{server};
 ghost use Rattle.nr_reduce.specs.ServerState.{receives_in_use};
-ghost use Rattle.nr_responder.specs.ResponderState.{end_of, may_write, opened_side, unsent, KeepsStaging};
+ghost use Rattle.nr_responder.specs.ResponderState.{bytes_held_by, end_of, may_write, opened_side, unsent, KeepsStaging};
 ghost use Rattle.nr_responder.specs.Sound.{IsNext};
 ghost use Rattle.nr_responder.specs.Standing.{Stands};
 ghost use Rattle.nr_responder.specs.Steps.{Fed, taken_of};
@@ -49,11 +49,11 @@ impl Model for Responder {
 
     ghost coded = { responder_code };
 
-    ghost use Rattle.nr_responder.specs.Sound.{state_of, IsSound};
+    ghost use Rattle.nr_responder.specs.Sound.{state_of, IsOwn};
 
     ghost view = { λ r. record { side = state_of r.end; staging = r.end.endpoint.staging } };
 
-    ghost invariant = { λ r. IsSound r.end };
+    ghost invariant = { λ r. IsOwn r.end };
 }
 
 impl Responder {
@@ -164,6 +164,14 @@ impl Responder {
         ensures staging { self.new.staging ≡ self.old.staging }
     {
         self.end.drain_into(sink)
+    }
+
+    /// How many bytes all byte buffers have that are kept: the staging buffer, the receives, the regions and the output. Lists of calls and
+    /// their segments aren't counted. Takes no memory.
+    pub fn held(&self) -> u128
+        ensures is { result ≡ bytes_held_by self.now }
+    {
+        self.end.held()
     }
 
     /// How many calls are pending: their Send is complete, and they aren't answered. Once the side has ended, how many were so as it ended.

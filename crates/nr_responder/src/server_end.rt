@@ -2,13 +2,12 @@
 
 ghost use Rattle.std.specs.Prelude.{◌≡◌, ◌≢◌, ℕ, ◌+◌, ◌-◌, ◌<◌, ◌≤◌, ◌^◌, List, [], ◌∷◌, ◌++◌, length, take, drop, get_or, None, Some, IfOk, OnOk, OnErr, IfSome, IsOk, is_some, All, MatchOption, MatchResult, true, false, if◌then◌else◌, ◌⊎◌, vec_len, vec_capacity};
 ghost use Rattle.std.specs.VecDeque.{deque_capacity};
+ghost use Rattle.std.specs.FinMap.{empty};
 ghost use Rattle.nr_outside.specs.Faults.{Rises};
 ghost use Rattle.nr_endpoint.specs.declared.fault.DrainFault.TheVariants as drains;
 ghost use Rattle.nr_wire.specs.Constants.{FPDU_MAX};
 ghost use Rattle.nr_wire.specs.Feeding.{bytes_taken};
 ghost use Rattle.nr_link.specs.Limits.{send_max};
-ghost use Rattle.nr_link.specs.SegmentFaults.{is_begun};
-ghost use Rattle.nr_reduce.specs.Plans.{one_if};
 ghost use Rattle.nr_header.specs.Constants.{FIXED_LEN};
 ghost use Rattle.nr_header.specs.WithinLimits.{ListsWithin};
 ghost use Rattle.nr_endpoint.specs.FedBytes.{fed_bytes};
@@ -22,13 +21,11 @@ ghost use Rattle.nr_reduce.specs.declared.mark.LinkParameters.{LinkParameters};
 ghost use Rattle.nr_reduce.specs.declared.mark.Mark.{Mark};
 ghost use Rattle.nr_reduce.specs.declared.mark.Mark.TheVariants as marks;
 ghost use Rattle.nr_outside.specs.declared.moment.Moment.{Moment};
-ghost use Rattle.nr_reduce.specs.Run.{server};
-ghost use Rattle.nr_reduce.specs.ServerState.{receives_in_use};
 ghost use Rattle.nr_reduce.specs.Served.{next_call, IsExecuted};
 ghost use Rattle.nr_responder.specs.Answering.{Answers};
 ghost use Rattle.nr_responder.specs.Draining.{Drains};
 ghost use Rattle.nr_responder.specs.Handling.{Begins, IsTaken, Makes};
-ghost use Rattle.nr_responder.specs.ResponderState.{end_of, opened_side, posted_times, unsent, may_write, KeepsStaging};
+ghost use Rattle.nr_responder.specs.ResponderState.{end_of, opened_side, posted_times, may_write, KeepsStaging};
 ghost use Rattle.nr_responder.specs.Sound.{state_of, with_staging, AreSound, InBuffer, IsNext, IsSound, IsSoundWith, SameInput};
 ghost use Rattle.nr_responder.specs.Standing.{Stands};
 ghost use Rattle.nr_responder.specs.Steps.{Fed, taken_of};
@@ -66,6 +63,7 @@ fn stop(endpoint: &mut Endpoint, reason: u32)
     requires reason { IsStopReason reason }
     ensures link { (endpoint.new.link ≡ after_call endpoint.old.link (Stop reason)) ⊎ (endpoint.new.link ≡ after_call endpoint.old.link OutOfMemory) }
     ensures staging { endpoint.new.staging ≡ endpoint.old.staging }
+    ensures outside { endpoint.new.outside ≡ endpoint.old.outside }
 {
     match endpoint.stop(reason) {
         End::Memory => (),
@@ -79,6 +77,7 @@ fn send_error(endpoint: &mut Endpoint, made: Result<Octets, Memory>) -> bool
     ensures sent { result ≡ true → IfOk made (λ m. endpoint.new.link ≡ after_call endpoint.old.link (Send m)) × IsOk made }
     ensures out { result ≡ false → endpoint.new.link ≡ after_call endpoint.old.link OutOfMemory }
     ensures staging { endpoint.new.staging ≡ endpoint.old.staging }
+    ensures outside { endpoint.new.outside ≡ endpoint.old.outside }
 {
     if let Ok(message) = made {
         if message.len() <= SENDABLE && endpoint.send(message.as_slice()).is_ok() {
@@ -99,6 +98,7 @@ fn post_until(endpoint: &mut Endpoint, used: &mut VecDeque<Octets>, left: usize)
     ensures bufs { All (IsReceive send_max) used.new.items }
     ensures room { deque_capacity used.new ≡ deque_capacity used.old }
     ensures staging { endpoint.new.staging ≡ endpoint.old.staging }
+    ensures outside { endpoint.new.outside ≡ endpoint.old.outside }
 {
     let count = used.len() - left;
     'posts: for i in 0..count {
@@ -107,12 +107,6 @@ fn post_until(endpoint: &mut Endpoint, used: &mut VecDeque<Octets>, left: usize)
             None => unreachable!(),
         }
     }
-}
-
-fn one_if(condition: bool) -> usize
-    ensures { result ≡ one_if condition }
-{
-    if condition { 1 } else { 0 }
 }
 
 /// How many bytes of a piece are taken: all of them if the side has ended.
@@ -133,6 +127,7 @@ impl ServerEnd {
         ensures live { IfOk result (λ r. end_of (state_of r) ≡ None) }
         ensures fed { IfOk result (λ r. fed_bytes r.endpoint.link ≡ 0) }
         ensures staging { IfOk result (λ r. length r.endpoint.staging ≡ FPDU_MAX) }
+        ensures outside { IfOk result (λ r. r.endpoint.outside ≡ empty) }
         ensures stands { IfOk result (λ r. (opened : LinkParameters) (link : ℕ) → opened.granted ≡ credits → Stands opened link [] (state_of r)) }
     {
         let ready = VecDeque::with_capacity(alloc, credits as usize)?;
@@ -160,6 +155,7 @@ impl ServerEnd {
         ensures kept { is_some (end_of (state_of self.old)) ≡ true → (state_of self.new ≡ state_of self.old) × (self.new.endpoint.staging ≡ self.old.endpoint.staging) }
         ensures within { fed_bytes self.new.endpoint.link ≤ fed_bytes self.old.endpoint.link + length piece.now }
         ensures staging { (opened : LinkParameters) (link : ℕ) (run : List Mark) → Stands opened link run (state_of self.old) → KeepsStaging (with_staging self.old) (with_staging self.new) piece.now }
+        ensures outside { self.new.endpoint.outside ≡ self.old.endpoint.outside }
         ensures sound { IsSound self.new }
     {
         if let Some(end) = self.endpoint.end() {
@@ -188,6 +184,7 @@ impl ServerEnd {
         ensures kept { is_some (end_of (state_of self.old)) ≡ true → (state_of self.new ≡ state_of self.old) × (self.new.endpoint.staging ≡ self.old.endpoint.staging) }
         ensures within { fed_bytes self.new.endpoint.link ≤ fed_bytes self.old.endpoint.link + length piece.now }
         ensures staging { (opened : LinkParameters) (link : ℕ) (run : List Mark) → Stands opened link run (state_of self.old) → KeepsStaging (with_staging self.old) (with_staging self.new) piece.now }
+        ensures outside { self.new.endpoint.outside ≡ self.old.endpoint.outside }
         ensures sound { IsSound self.new }
     {
         if let Some(end) = self.endpoint.end() {
@@ -243,6 +240,7 @@ impl ServerEnd {
         ensures some { 0 < length piece.now → 0 < result }
         ensures goes { Fed (state_of self.old) (take result piece.now) (state_of self.new) }
         ensures staging { self.old.endpoint.link.state.receive_queue.notices ≡ [] → KeepsStaging (with_staging self.old) (with_staging self.new) piece.now }
+        ensures outside { self.new.endpoint.outside ≡ self.old.endpoint.outside }
         ensures rest { (self.new.endpoint.link.rest ≡ []) ⊎ (result ≡ length piece.now) }
         ensures sound { IsSound self.new }
         ensures within { fed_bytes self.new.endpoint.link ≤ fed_bytes self.old.endpoint.link + result }
@@ -270,6 +268,7 @@ impl ServerEnd {
         ensures fed { fed_bytes self.new.endpoint.link ≤ fed_bytes self.old.endpoint.link }
         ensures rest { (self.new.endpoint.link.rest ≡ self.old.endpoint.link.rest) ⊎ (self.new.endpoint.link.rest ≡ []) }
         ensures staging { self.new.endpoint.staging ≡ self.old.endpoint.staging }
+        ensures outside { self.new.endpoint.outside ≡ self.old.endpoint.outside }
     {
         match self.endpoint.next_event() {
             None => (),
@@ -296,6 +295,7 @@ impl ServerEnd {
         ensures sound { IsSound self.new }
         ensures input { SameInput self.old.endpoint.link self.new.endpoint.link }
         ensures staging { self.new.endpoint.staging ≡ self.old.endpoint.staging }
+        ensures outside { self.new.endpoint.outside ≡ self.old.endpoint.outside }
     {
         let message = stream_of(&buf, len, 0);
         let xid = word_at(message, 0);
@@ -326,6 +326,7 @@ impl ServerEnd {
         ensures link { (IfOk made (λ m. self.new.endpoint.link ≡ after_call self.old.endpoint.link (Send m)) × IsOk made) ⊎ (self.new.endpoint.link ≡ after_call self.old.endpoint.link OutOfMemory) }
         ensures same { (self.new.calls ≡ self.old.calls) × (self.new.ready ≡ self.old.ready) × (self.new.credits ≡ self.old.credits) }
         ensures staging { self.new.endpoint.staging ≡ self.old.endpoint.staging }
+        ensures outside { self.new.endpoint.outside ≡ self.old.endpoint.outside }
         ensures sound { IsSound self.new }
     {
         self.endpoint.facts();
@@ -346,6 +347,7 @@ impl ServerEnd {
         ensures sound { IsSound self.new }
         ensures input { SameInput self.old.endpoint.link self.new.endpoint.link }
         ensures staging { self.new.endpoint.staging ≡ self.old.endpoint.staging }
+        ensures outside { self.new.endpoint.outside ≡ self.old.endpoint.outside }
     {
         let xid = word_at(stream_of(&buf, len, 0), 0);
         match call_xid(stream_of(&buf, len, stream_at)) {
@@ -392,6 +394,7 @@ impl ServerEnd {
         ensures err { OnErr result (state_of self.new ≡ state_of self.old) }
         ensures fed { fed_bytes self.new.endpoint.link ≡ fed_bytes self.old.endpoint.link }
         ensures staging { self.new.endpoint.staging ≡ self.old.endpoint.staging }
+        ensures outside { self.new.endpoint.outside ≡ self.old.endpoint.outside }
         ensures sound { IsSound self.new }
     {
         self.endpoint.facts();
@@ -419,6 +422,7 @@ impl ServerEnd {
         ensures err { OnErr result (state_of self.new ≡ state_of self.old) }
         ensures fed { fed_bytes self.new.endpoint.link ≡ fed_bytes self.old.endpoint.link }
         ensures staging { self.new.endpoint.staging ≡ self.old.endpoint.staging }
+        ensures outside { self.new.endpoint.outside ≡ self.old.endpoint.outside }
         ensures sound { IsSound self.new }
     {
         match place_of(self.calls.as_slice(), xid) {
@@ -426,32 +430,6 @@ impl ServerEnd {
             // A call that is ready is pending.
             None => Err(Memory),
         }
-    }
-
-    /// How many calls are pending.
-    pub fn unanswered(&self) -> usize
-        ensures exact { result ≡ length self.now.calls.items }
-        ensures of_run { end_of (state_of self.now) ≢ Some ends.Memory → (opened : LinkParameters) (link : ℕ) (run : List Mark) → Stands opened link run (state_of self.now) → result ≡ length (server opened link run).state.calls }
-    {
-        self.calls.len()
-    }
-
-    /// How many receives are in use.
-    pub fn in_use(&self) -> usize
-        requires sound { IsSound self.now }
-        ensures of_run { end_of (state_of self.now) ≡ None → (opened : LinkParameters) (link : ℕ) (run : List Mark) → Stands opened link run (state_of self.now) → result ≡ receives_in_use (server opened link run).state }
-        ensures exact { result ≡ length self.now.calls.items + (unsent self.now.endpoint.link.state + one_if (is_begun self.now.endpoint.link.state.receive_queue.received.begun)) }
-    {
-        self.in_use_inner()
-    }
-
-    fn in_use_inner(&self) -> usize
-        requires sound { IsSound self.now }
-        ensures { result ≡ length self.now.calls.items + (unsent self.now.endpoint.link.state + one_if (is_begun self.now.endpoint.link.state.receive_queue.received.begun)) }
-    {
-        self.endpoint.facts();
-        let begun = one_if(self.endpoint.is_send_begun());
-        self.calls.len() + self.used.len() + begun
     }
 
     /// Hands the output to a sink, in order, and posts the receives of the answers that left.
@@ -464,6 +442,7 @@ impl ServerEnd {
         ensures fed { fed_bytes self.new.endpoint.link ≡ fed_bytes self.old.endpoint.link }
         ensures sound { IsSound self.new }
         ensures staging { self.new.endpoint.staging ≡ self.old.endpoint.staging }
+        ensures outside { self.new.endpoint.outside ≡ self.old.endpoint.outside }
     {
         let result = self.endpoint.drain_into(sink);
         let left = self.endpoint.sends_waiting();

@@ -12,5 +12,6 @@ posts-preserved c = record {
       subst (λ (xs : List (List ℕ)). IsReceive send_max (get_or xs (suc k) d)) c.in-Some.ensures.items
       (c.posts.invariant.bufs (suc k) d (omega (arith, lt, ap (λ (xs : List (List ℕ)). length xs) c.in-Some.ensures.items)));
   room = c.pop_front.ensures.capacity ∙ c.posts.invariant.room;
+  outside = c.post.ensures.outside ∙ c.posts.invariant.outside;
   staging = c.post.ensures.staging ∙ c.posts.invariant.staging;
 }

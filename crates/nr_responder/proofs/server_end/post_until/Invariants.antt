@@ -11,5 +11,6 @@ invariant-posts l = record {
   link : l.endpoint.link ≡ posted_times l.i l.fn.endpoint.link;
   bufs : All (IsReceive send_max) l.used.items;
   room : deque_capacity l.used ≡ deque_capacity l.fn.used;
+  outside : l.endpoint.outside ≡ l.fn.endpoint.outside;
   staging : l.endpoint.staging ≡ l.fn.endpoint.staging;
 }

@@ -1,0 +1,64 @@
+//! How many calls and receives a responder has, and how many bytes it keeps.
+
+ghost use Rattle.std.specs.Prelude.{◌≡◌, ◌≢◌, ℕ, ◌+◌, List, length, None, Some};
+ghost use Rattle.std.specs.FinMap.{empty};
+ghost use Rattle.nr_link.specs.declared.end.End.TheVariants as ends;
+ghost use Rattle.nr_link.specs.SegmentFaults.{is_begun};
+ghost use Rattle.nr_reduce.specs.declared.mark.LinkParameters.{LinkParameters};
+ghost use Rattle.nr_reduce.specs.declared.mark.Mark.{Mark};
+ghost use Rattle.nr_reduce.specs.Plans.{one_if};
+ghost use Rattle.nr_reduce.specs.Run.{server};
+ghost use Rattle.nr_reduce.specs.ServerState.{receives_in_use};
+ghost use Rattle.nr_responder.specs.ResponderState.{bytes_held_by, end_of, unsent};
+ghost use Rattle.nr_responder.specs.Sound.{state_of, with_staging, IsSound};
+ghost use Rattle.nr_responder.specs.Standing.{Stands};
+
+use crate::server_end::ServerEnd;
+
+/// The length of a receive in bytes.
+const SEND_LEN: u128 = nr_link::constants::SEND_MAX as u128;
+
+fn one_if(condition: bool) -> usize
+    ensures { result ≡ one_if condition }
+{
+    if condition { 1 } else { 0 }
+}
+
+impl ServerEnd {
+    /// How many calls are pending.
+    pub fn unanswered(&self) -> usize
+        ensures exact { result ≡ length self.now.calls.items }
+        ensures of_run { end_of (state_of self.now) ≢ Some ends.Memory → (opened : LinkParameters) (link : ℕ) (run : List Mark) → Stands opened link run (state_of self.now) → result ≡ length (server opened link run).state.calls }
+    {
+        self.calls.len()
+    }
+
+    /// How many receives are in use.
+    pub fn in_use(&self) -> usize
+        requires sound { IsSound self.now }
+        ensures of_run { end_of (state_of self.now) ≡ None → (opened : LinkParameters) (link : ℕ) (run : List Mark) → Stands opened link run (state_of self.now) → result ≡ receives_in_use (server opened link run).state }
+        ensures exact { result ≡ length self.now.calls.items + (unsent self.now.endpoint.link.state + one_if (is_begun self.now.endpoint.link.state.receive_queue.received.begun)) }
+    {
+        self.in_use_inner()
+    }
+
+    fn in_use_inner(&self) -> usize
+        requires sound { IsSound self.now }
+        ensures { result ≡ length self.now.calls.items + (unsent self.now.endpoint.link.state + one_if (is_begun self.now.endpoint.link.state.receive_queue.received.begun)) }
+    {
+        self.endpoint.facts();
+        let begun = one_if(self.endpoint.is_send_begun());
+        self.calls.len() + self.used.len() + begun
+    }
+
+    /// How many bytes all byte buffers have that are kept.
+    pub fn held(&self) -> u128
+        requires sound { IsSound self.now }
+        requires outside { self.now.endpoint.outside ≡ empty }
+        ensures is { result ≡ bytes_held_by (with_staging self.now) }
+    {
+        self.endpoint.facts();
+        let lent = self.calls.len() + self.used.len();
+        self.endpoint.held() + SEND_LEN * lent as u128
+    }
+}
