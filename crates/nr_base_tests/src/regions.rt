@@ -143,8 +143,10 @@ fn placed_in_window(rt: &impl Abort, alloc: Global) {
         Err(Denied::Bounds),
     );
     same(rt, 2, regions.bytes(&registration), b".ire".as_slice());
+    let held = (regions.bytes_held(), regions.outside_held());
+    same(rt, 3, held, (4, 8));
     let buf = regions.release_buffer(registration);
-    same(rt, 3, buf.as_slice(), b"head.iretail".as_slice());
+    same(rt, 4, buf.as_slice(), b"head.iretail".as_slice());
 }
 
 #[test]
