@@ -4,13 +4,11 @@
 #![tactic(auto)]
 
 use nr_header::{Chunk, ChunkLists, InlineVec, RdmaSegment};
+use nr_link::constants::SEND_MAX;
 use nr_reduce::{Form, PayloadFault, call_item, call_parts, holds, outline_of, plan};
 use std::alloc::{AllocError, Global};
 use std::env;
 use std::process::ExitCode;
-
-/// The maximum length of a message in either direction, in bytes.
-const SEND_MAX: u32 = 1024;
 
 /// The words of a WRITE of file 2 (RFC 5531 section 9, RFC 1813 section 3.3.7) before its stable word and the length of its data.
 const WRITE: [u32; 16] = [1, 0, 2, 100_003, 3, 7, 0, 0, 0, 0, 8, 0, 2, 0, 0, 0];
