@@ -1,16 +1,17 @@
 #!/bin/sh
-# One WRITE and one READ of 32 KiB in form Auto through both sides of a link and the plain server, in microseconds and in copies of 32
-# KiB. Run by hand, at the top of the repository, once `(cd crates/data_bench && rt run -- write 2)` has built the program; or with the
-# program's path as $1.
+# One WRITE and one READ of 32 KiB in form Auto through both sides of a link and the plain server: in microseconds, in copies of 32 KiB of
+# the same run, and, if there is a C compiler, in bytes that are copied and cleared by the C library. Run by hand, at the top of the
+# repository, once `(cd crates/data_bench && rt run -- write 2)` has built the program; or with the program's path as $1.
 exec python3 - "${1:-crates/data_bench/out/data_bench}" <<'END'
-import resource, subprocess, sys
+import os, resource, shutil, subprocess, sys, tempfile
 
+PROGRAM = sys.argv[1]
 FEW, MANY = 1_000, 21_000
 
 def seconds(what, rounds):
     """The processor time of a run."""
     before = resource.getrusage(resource.RUSAGE_CHILDREN)
-    subprocess.run([sys.argv[1], what, str(rounds)], stdout=subprocess.DEVNULL, check=True)
+    subprocess.run([PROGRAM, what, str(rounds)], stdout=subprocess.DEVNULL, check=True)
     after = resource.getrusage(resource.RUSAGE_CHILDREN)
     return after.ru_utime + after.ru_stime - before.ru_utime - before.ru_stime
 
@@ -24,8 +25,56 @@ def least(times=9):
                 best[what, rounds] = min(used, best.get((what, rounds), used))
     return {what: (best[what, MANY] - best[what, FEW]) / (MANY - FEW) * 1e6 for what in ('copy', 'write', 'read')}
 
+# Counts calls and bytes, in pieces of less than 2,048 bytes and in others.
+COUNTER = r'''
+#include <stddef.h>
+#include <stdio.h>
+static unsigned long calls[2][2], bytes[2][2];
+static void count(int kind, size_t n) { calls[kind][n >= 2048]++; bytes[kind][n >= 2048] += n; }
+void *memmove(void *to, const void *from, size_t n)
+{
+    char *t = to;
+    const char *f = from;
+    count(0, n);
+    if (t <= f || t >= f + n) __asm__ volatile("rep movsb" : "+D"(t), "+S"(f), "+c"(n)::"memory");
+    else while (n--) t[n] = f[n];
+    return to;
+}
+void *memcpy(void *to, const void *from, size_t n) { return memmove(to, from, n); }
+void *memset(void *to, int byte, size_t n)
+{
+    char *t = to;
+    count(1, n);
+    __asm__ volatile("rep stosb" : "+D"(t), "+c"(n) : "a"(byte) : "memory");
+    return to;
+}
+__attribute__((destructor)) static void report(void)
+{
+    for (int kind = 0; kind < 2; kind++)
+        for (int large = 0; large < 2; large++) fprintf(stderr, "%lu %lu ", calls[kind][large], bytes[kind][large]);
+}
+'''
+
+def counts():
+    """For each kind of call: calls and bytes of one round, of small copies, large copies, small and large clearings."""
+    compiler = shutil.which('cc') or shutil.which('gcc')
+    if compiler is None or os.uname().machine != 'x86_64':
+        return {}
+    with tempfile.TemporaryDirectory() as folder:
+        source, library = f'{folder}/counter.c', f'{folder}/counter.so'
+        open(source, 'w').write(COUNTER)
+        subprocess.run([compiler, '-O1', '-fno-builtin', '-shared', '-fPIC', '-o', library, source], check=True)
+        def run(what, rounds):
+            done = subprocess.run([PROGRAM, what, str(rounds)], env={**os.environ, 'LD_PRELOAD': library}, capture_output=True, check=True)
+            return [int(word) for word in done.stderr.split()]
+        return {what: [(many - few) / 100 for few, many in zip(run(what, 10), run(what, 110))] for what in ('write', 'read')}
+
 each = least()
 print(f"copying 32768 bytes: {each['copy']:.2f} microseconds")
+counted = counts()
 for what in ('write', 'read'):
     print(f"a {what.upper()} of 32768 bytes: {each[what]:.2f} microseconds, {each[what] / each['copy']:.1f} copies (target 6)")
+    if what in counted:
+        kinds = zip(('small copies', 'large copies', 'small clearings', 'large clearings'), counted[what][::2], counted[what][1::2])
+        print('  ' + ', '.join(f'{calls:.0f} {kind} of {size:.0f} bytes' for kind, calls, size in kinds))
 END

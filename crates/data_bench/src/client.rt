@@ -1,18 +1,19 @@
 //! What a client does for a call.
 
 ghost use Rattle.std.specs.Prelude.{◌≡◌, ◌^◌, ◌<◌, length, All, IfSome};
-ghost use Rattle.nr_header.specs.Header.{ChunksFit};
 ghost use Rattle.nr_rpc.specs.Credential.{CanWriteCred};
 ghost use Rattle.data_bench.specs.Sound.{IsSound};
 
 use crate::peer::{Peer, SEND_MAX};
 use nr_endpoint::Offered;
 use nr_header::{
-    Body, Chunk, ChunkLists, InlineVec, RdmaSegment, ReadList, ReadSegment, WriteList, read_header,
-    write_with_lists,
+    Body, Chunk, ListSlices, RdmaSegment, ReadSegment, read_header, write_with_slices,
 };
 use nr_nfs_base::{NFS_PROGRAM, NFS_VERSION};
-use nr_reduce::{Form, Of, Outline, ReadOutline, item_of, outline_of, rebuild_item, written_parts};
+use nr_reduce::{
+    Form, Of, Outline, ReadOutline, outline_of, rebuild_item, reply_item_of, reply_parts,
+    written_parts,
+};
 use nr_rpc::{CallTarget, Cred, write_call_head};
 use nr_xdr::Octets;
 use std::alloc::Global;
@@ -25,19 +26,17 @@ fn write_len(outline: &Outline<'_>) -> Option<u32> {
     }
 }
 
-fn read_list(alloc: Global, stag: u32, read: Option<ReadOutline<'_>>) -> Option<ReadList> {
-    let Some(read) = read else {
-        return Some(InlineVec::new());
-    };
-    let segment = ReadSegment {
+/// The entry of the read list for the region with this STag.
+fn entry(stag: u32, read: ReadOutline<'_>) -> ReadSegment {
+    ReadSegment {
         position: read.position,
         handle: stag,
         length: read.len,
         offset: 0,
-    };
-    Some(InlineVec::from_vec(Vec::from_array(alloc, [segment]).ok()?))
+    }
 }
 
+/// The write chunk for the region with this STag.
 fn chunk(alloc: Global, stag: u32, len: u32) -> Option<Chunk>
     ensures { IfSome result (λ chunk. length chunk ≡ 1) }
 {
@@ -46,53 +45,25 @@ fn chunk(alloc: Global, stag: u32, len: u32) -> Option<Chunk>
         length: len,
         offset: 0,
     };
-    Some(InlineVec::from_vec(Vec::from_array(alloc, [segment]).ok()?))
+    Some(Chunk::from_vec(Vec::from_array(alloc, [segment]).ok()?))
 }
 
-fn write_list(alloc: Global, stag: u32, len: Option<u32>) -> Option<WriteList>
-    ensures { IfSome result (λ chunks. All (λ chunk. length chunk < 2 ^ 32) chunks) }
+/// The header of a call with these lists.
+fn with_lists(alloc: Global, xid: u32, read: &[ReadSegment], write: &[Chunk]) -> Option<Octets>
+    requires { All (λ chunk. length chunk < 2 ^ 32) write.now }
 {
-    let Some(len) = len else {
-        return Some(InlineVec::new());
-    };
-    let chunk = chunk(alloc, stag, len)?;
-    Some(InlineVec::from_vec(Vec::from_array(alloc, [chunk]).ok()?))
-}
-
-fn lists_of(alloc: Global, stag: u32, outline: &Outline<'_>) -> Option<ChunkLists>
-    ensures { IfSome result ChunksFit }
-{
-    let read = read_list(alloc, stag, outline.read)?;
-    let write = write_list(alloc, stag, write_len(outline))?;
-    Some(ChunkLists {
-        read,
-        write,
-        reply: None,
-    })
+    write_with_slices(alloc, xid, 1, false, ListSlices::new(read, write, &None)).ok()
 }
 
 /// The header of a call whose region gets this STag.
 fn header(alloc: Global, xid: u32, stag: u32, outline: &Outline<'_>) -> Option<Octets> {
-    let lists = lists_of(alloc, stag, outline)?;
-    let header = write_with_lists(alloc, xid, 1, false, &lists).ok();
-    drop(lists);
-    header
-}
-
-/// The message of a call whose region gets this STag.
-fn message(
-    alloc: Global,
-    xid: u32,
-    stag: u32,
-    outline: &Outline<'_>,
-    head: &[u8],
-    args: &[u8],
-) -> Option<Octets> {
-    let mut message = header(alloc, xid, stag, outline)?;
-    let (first, second) = outline.inline(head, args);
-    message.extend_from_slice(first).ok()?;
-    message.extend_from_slice(second).ok()?;
-    Some(message)
+    if let Some(read) = outline.read {
+        return with_lists(alloc, xid, &[entry(stag, read)], &[]);
+    }
+    match write_len(outline) {
+        Some(len) => with_lists(alloc, xid, &[], &[chunk(alloc, stag, len)?]),
+        None => with_lists(alloc, xid, &[], &[]),
+    }
 }
 
 /// The bytes of the read chunk.
@@ -142,8 +113,14 @@ fn send(
     requires { IsSound client.old }
     ensures { IfSome result (λ _. IsSound client.new) }
 {
-    let message = message(alloc, xid, client.next_stag()?, outline, head, args)?;
-    client.offer(message.as_slice(), offered(alloc, outline, head, args)?)
+    let mut front = header(alloc, xid, client.next_stag()?, outline)?;
+    let (first, second) = outline.inline(head, args);
+    front.extend_from_slice(first).ok()?;
+    client.offer(
+        front.as_slice(),
+        second,
+        offered(alloc, outline, head, args)?,
+    )
 }
 
 /// Sends a call with this credential and these arguments, in a form.
@@ -192,10 +169,10 @@ fn stream_of<'a>(body: &Body, message: &'a [u8]) -> Option<&'a [u8]> {
 
 /// The stream of a message.
 fn stream(message: &[u8]) -> Option<&[u8]> {
-    let header = read_header(message).ok()?;
-    let stream = stream_of(&header.body, message);
-    drop(header);
-    stream
+    match &read_header(message) {
+        Ok(header) => stream_of(&header.body, message),
+        Err(_) => None,
+    }
 }
 
 /// The payload of a reply, whose item stands in the region if it has one.
@@ -206,7 +183,8 @@ fn payload(alloc: Global, proc: u32, message: &[u8], region: &[u8]) -> Option<Oc
         vers: NFS_VERSION,
         proc,
     };
-    let Some(item) = item_of(&of, stream) else {
+    let parts = reply_parts(stream)?;
+    let Some(item) = reply_item_of(NFS_PROGRAM, NFS_VERSION, proc, parts) else {
         return Octets::from_slice(alloc, stream).ok();
     };
     let moved = region.get(..item.len as usize)?;

@@ -1,6 +1,6 @@
 //! One side of a link, with one region at a time.
 
-ghost use Rattle.std.specs.Prelude.{◌≤◌, All, IfSome};
+ghost use Rattle.std.specs.Prelude.{◌+◌, ◌<◌, ◌≤◌, ◌^◌, length, All, IfSome, IsTrue};
 ghost use Rattle.nr_regions.specs.RegisteredMemory.{RegisteredMemory, IsHeld};
 ghost use Rattle.nr_endpoint.specs.FedBytes.{fed_bytes};
 ghost use Rattle.nr_endpoint.specs.Offering.{AreHeld, FitsRegion};
@@ -26,6 +26,14 @@ pub struct Peer {
     pub endpoint: Endpoint,
     pub fed: u64,
     pub claim: Option<Registration>,
+}
+
+/// Whether a message in two parts is no longer than a Send.
+fn fits(front: &[u8], stream: &[u8]) -> bool
+    ensures { IsTrue result → length front.now + length stream.now < 2 ^ 32 }
+{
+    let max = SEND_MAX as usize;
+    front.len() <= max && stream.len() <= max - front.len()
 }
 
 /// The registration of the one buffer that is offered.
@@ -103,17 +111,17 @@ impl Peer {
         u32::try_from((1 << 32) - self.endpoint.regions().stags_left()).ok()
     }
 
-    /// Sends a message, and registers the buffers that it offers.
+    /// Sends a message in two parts, and registers the buffers that it offers.
     #[tactic(auto, using(crate::proofs::Kept::three_most))]
-    pub fn offer(&mut self, message: &[u8], offered: Offered) -> Option<()>
+    pub fn offer(&mut self, front: &[u8], stream: &[u8], offered: Offered) -> Option<()>
         requires { IsSound self.old }
         ensures { IfSome result (λ _. IsSound self.new) }
     {
-        if message.len() > SEND_MAX as usize || self.endpoint.regions().stags_left() < 3 {
+        if !fits(front, stream) || self.endpoint.regions().stags_left() < 3 {
             drop(offered);
             return None;
         }
-        match self.endpoint.offer(message, offered) {
+        match self.endpoint.offer_parts(front, stream, offered) {
             Ok(claims) => {
                 self.claim = one_of(claims);
                 Some(())
@@ -162,16 +170,16 @@ impl Peer {
         }
     }
 
-    /// Sends RDMA Writes and a message.
-    pub fn answer(&mut self, writes: &[RemoteWrite<'_>], message: &[u8]) -> Option<()>
+    /// Sends RDMA Writes and a message in two parts.
+    pub fn answer(&mut self, writes: &[RemoteWrite<'_>], front: &[u8], stream: &[u8]) -> Option<()>
         requires sound { IsSound self.old }
         requires fits { All FitsRegion writes.now }
         ensures { IfSome result (λ _. IsSound self.new) }
     {
-        if message.len() > SEND_MAX as usize {
+        if !fits(front, stream) {
             return None;
         }
-        match self.endpoint.answer(writes, message) {
+        match self.endpoint.answer_parts(writes, front, stream) {
             Ok(()) => Some(()),
             Err(_) => None,
         }

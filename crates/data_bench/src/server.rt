@@ -11,7 +11,9 @@ use nr_endpoint::RemoteWrite;
 use nr_header::{Body, ChunkLists, ReadSegment, read_header};
 use nr_outside::Moment;
 use nr_plain::Server;
-use nr_reduce::{Item, answer_for, answer_message, call_item_of, call_parts, is_read_chunk_of};
+use nr_reduce::{
+    Answer, Item, answer_for, answer_header, call_item_of, call_parts, is_read_chunk_of,
+};
 use nr_rpc::CallTarget;
 use nr_xdr::Octets;
 use std::alloc::Global;
@@ -97,14 +99,19 @@ fn write_of<'a>(lists: &ChunkLists, moved: &'a [u8]) -> Option<RemoteWrite<'a>>
     })
 }
 
+/// What of an answer goes inline.
+fn inline(answer: Answer<'_>) -> &[u8] {
+    if answer.long { &[] } else { answer.stream }
+}
+
 /// Sends what moves, if a write chunk is offered, and a message.
-fn send(server: &mut Peer, lists: &ChunkLists, moved: &[u8], message: &[u8]) -> Option<()>
+fn send(server: &mut Peer, lists: &ChunkLists, answer: Answer<'_>, header: &[u8]) -> Option<()>
     requires { IsSound server.old }
     ensures { IfSome result (λ _. IsSound server.new) }
 {
-    match write_of(lists, moved) {
-        Some(write) => server.answer(&[write], message),
-        None => server.answer(&[], message),
+    match write_of(lists, answer.moved) {
+        Some(write) => server.answer(&[write], header, inline(answer)),
+        None => server.answer(&[], header, inline(answer)),
     }
 }
 
@@ -128,8 +135,8 @@ fn answer(
         ..
     } = target;
     let answer = answer_for(lists, prog, vers, proc, reply, SEND_MAX)?;
-    let message = answer_message(alloc, xid, 1, lists, answer).ok()?;
-    send(server, lists, answer.moved, message.as_slice())
+    let header = answer_header(alloc, xid, 1, lists, answer).ok()?;
+    send(server, lists, answer, header.as_slice())
 }
 
 /// Executes a call, and gives the payload of its reply.
@@ -192,12 +199,10 @@ fn serve_message(alloc: Global, link: &mut Link, plain: &mut Server, message: &[
     requires { AreSound link.old }
     ensures { IfSome result (λ _. AreSound link.new) }
 {
-    let Ok(header) = read_header(message) else {
-        return None;
-    };
-    let served = serve_body(alloc, link, plain, &header.body, message);
-    drop(header);
-    served
+    match &read_header(message) {
+        Ok(header) => serve_body(alloc, link, plain, &header.body, message),
+        Err(_) => None,
+    }
 }
 
 /// Takes the call that came, executes it and answers it.
