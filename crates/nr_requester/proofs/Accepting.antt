@@ -36,10 +36,10 @@ use Rattle.nr_reduce.proofs.Submits.{kept_submits}
 use Rattle.nr_reduce.proofs.OutcomesStay.{first_xid_stays}
 use Rattle.nr_reduce.proofs.Keeping.{kept_answers, kept_counts}
 use Rattle.nr_requester.specs.RequesterState.{RequesterState, RequesterSide, kept_call, queue_of, kept_client, input_kept}
-use Rattle.nr_requester.specs.Standing.{LinkKeeps, RequesterRepresents}
+use Rattle.nr_requester.specs.Standing.{LinkKeeps, KeepsClient}
 use Rattle.nr_requester.specs.AfterCalls.{submitted, after_submit}
 use Rattle.nr_requester.specs.Answers.{plan_under, answer_by_plan, answer_if, answer_of}
-use Rattle.nr_requester.specs.Laws.{AnswersAsClient, CountsAsClient, SubmitIsAMark}
+use Rattle.nr_requester.specs.Laws.{AnswersAsClient, CountsAsClient}
 use Rattle.nr_requester.proofs.Links.{sent_is, link_submitted, queue_submitted}
 use Rattle.nr_requester.proofs.KeptCalls.{kept_accepted}
 use Rattle.nr_requester.proofs.Marks.{state_of, lives_as, lives, due_is, numbers, own_events, state_next}
@@ -55,7 +55,7 @@ same_input link run input is =
 
 -- ---- What goes out with an accepted call
 
-module _ (opened : LinkParameters) (link : ℕ) (h : RequesterSide) (run : List Mark) (call : Call) (form : Form) (plan : Plan) (s : RequesterRepresents opened link h run) (none : h.state.side.ended ≡ None) (is : plan_for (state_of opened link run) h.state.next_xid call form ≡ Ok plan) where
+module _ (opened : LinkParameters) (link : ℕ) (h : RequesterSide) (run : List Mark) (call : Call) (form : Form) (plan : Plan) (s : KeepsClient opened link h run) (none : h.state.side.ended ≡ None) (is : plan_for (state_of opened link run) h.state.next_xid call form ≡ Ok plan) where
   abbrev pub k : ClientState
   k = state_of opened link run
 
@@ -137,8 +137,8 @@ module _ (opened : LinkParameters) (link : ℕ) (h : RequesterSide) (run : List 
       (sym (state_next opened link run mark event stays (own_events link (event ∷ [])) refl))
       (link_submitted opened h.state.side k count a plan keeps is due))
 
-  pub submit_stands : RequesterRepresents opened link (after_submit h call plan) (run ++ mark ∷ [])
-  submit_stands = record {
+  pub submit_keeps : KeepsClient opened link (after_submit h call plan) (run ++ mark ∷ [])
+  submit_keeps = record {
     first = s.first;
     wished = s.wished;
     kept = client_stands opened link (kept_client h.state) (kept_client (after_submit h call plan).state) (input_kept h) (input_kept (after_submit h call plan)) (queue_of h.state) (queue_of (after_submit h call plan).state) run mark s.kept goes_on
@@ -165,18 +165,19 @@ answer_kept r call form None = answer_same r (plan_under r call form)
 pub answers_as_client : AnswersAsClient
 unfolding answer_of
 answers_as_client opened link h run call form s =
-    answer_kept h.state call form h.state.side.ended ∙ kept_answers opened (kept_client h.state) (client opened link run) (length (bytes_received link Initiator run)) call form s.kept.keeps
+    answer_kept h.state call form h.state.side.ended ∙ kept_answers opened (kept_client h.state) (client opened link run) (length (bytes_received link Initiator run)) call form s.keeps.kept.keeps
 
 pub counts_as_client : CountsAsClient
 unfolding calls_outstanding credits_granted
 counts_as_client opened link h run s =
-    (let c = kept_counts opened (kept_client h.state) (client opened link run) (length (bytes_received link Initiator run)) s.kept.keeps in (c.0, c.1.0))
+    (let c = kept_counts opened (kept_client h.state) (client opened link run) (length (bytes_received link Initiator run)) s.keeps.kept.keeps in (c.0, c.1.0))
 
 -- ---- An accepted call
 
-plan_same : (opened : LinkParameters) (link : ℕ) (h : RequesterSide) (run : List Mark) (call : Call) (form : Form) → RequesterRepresents opened link h run → plan_under h.state call form ≡ plan_for (state_of opened link run) h.state.next_xid call form
+plan_same : (opened : LinkParameters) (link : ℕ) (h : RequesterSide) (run : List Mark) (call : Call) (form : Form) → KeepsClient opened link h run → plan_under h.state call form ≡ plan_for (state_of opened link run) h.state.next_xid call form
 unfolding plan_for
 plan_same opened link h run call form s = λ i. plan_of (call_payload h.state.next_xid call) form (s.kept.keeps.up i) (s.kept.keeps.down i)
 
-pub submit_is_a_mark : SubmitIsAMark
-submit_is_a_mark h call form plan none number is opened link run s = submit_stands opened link h run call form plan s none (sym (plan_same opened link h run call form s) ∙ is)
+pub submit_client : (opened : LinkParameters) (link : ℕ) (h : RequesterSide) (run : List Mark) (call : Call) (form : Form) (plan : Plan) → h.state.side.ended ≡ None → plan_under h.state call form ≡ Ok plan → KeepsClient opened link h run →
+    KeepsClient opened link (after_submit h call plan) (run ++ marks.Submit link call form (submissions.Accepted h.state.next_xid) ∷ [])
+submit_client opened link h run call form plan none is s = submit_keeps opened link h run call form plan s none (sym (plan_same opened link h run call form s) ∙ is)

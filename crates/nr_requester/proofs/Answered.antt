@@ -25,7 +25,7 @@ use Rattle.nr_requester.specs.Standing.{RequesterRepresents}
 use Rattle.nr_requester.specs.AfterCalls.{after_submit}
 use Rattle.nr_requester.specs.Answers.{plan_under, answer_by_plan, answer_if, answer_of, WasSent}
 use Rattle.nr_requester.specs.Sending.{xid_word, answer_for, IsPlan, target_under, head_under}
-use Rattle.nr_requester.proofs.Accepting.{submit_is_a_mark}
+use Rattle.nr_requester.proofs.AllMarks.{submit_is_a_mark}
 
 -- the bytes of a call under the word of its xid
 payload_end : (call : Call) → call_payload 0 call ≡ call_payload 4294967296 call

@@ -29,10 +29,7 @@ use Rattle.nr_reduce.specs.Asked.{AskedSoFar, AskedMark}
 use Rattle.nr_reduce.proofs.Placing.{segment_accepted}
 use Rattle.nr_reduce.proofs.Standing.{itself}
 use Rattle.nr_reduce.proofs.Steps.{client_one}
-
--- the STags of the regions of a call
-abbrev pub call_stags : ℕ → List Region → List ℕ
-call_stags xid regions = map (λ r. r.stag) (filter (λ r. eqb r.call xid) regions)
+use Rattle.nr_requester.specs.CallRegions.{call_stags, AreOfBefore, OffersPlan, CallsOffer}
 
 pick : (b : Bool) (x y : Region) (xs ys : List Region) → x.stag ≡ y.stag → map (λ (r : Region). r.stag) xs ≡ map (λ (r : Region). r.stag) ys →
     map (λ (r : Region). r.stag) (cond b (x ∷ xs) xs) ≡ map (λ (r : Region). r.stag) (cond b (y ∷ ys) ys)
@@ -41,7 +38,7 @@ pick false x y xs ys e h = h
 
 -- ---- Regions that are closed
 
-stags_closed : (test : Region → Bool) (place xid : ℕ) (rs : List Region) → call_stags xid (regions_closed test place rs) ≡ call_stags xid rs
+pub stags_closed : (test : Region → Bool) (place xid : ℕ) (rs : List Region) → call_stags xid (regions_closed test place rs) ≡ call_stags xid rs
 unfolding regions_closed
 stags_closed test place xid [] = refl
 stags_closed test place xid (r ∷ rs) = by (test r) (stags_closed test place xid rs)
@@ -49,9 +46,6 @@ stags_closed test place xid (r ∷ rs) = by (test r) (stags_closed test place xi
     by : (b : Bool) → call_stags xid (map (λ r. closed_if (test r) place r) rs) ≡ call_stags xid rs → call_stags xid (closed_if b place r ∷ map (λ r. closed_if (test r) place r) rs) ≡ call_stags xid (r ∷ rs)
     by true rest = pick (eqb r.call xid) (closed_if true place r) r (filter (λ r. eqb r.call xid) (map (λ r. closed_if (test r) place r) rs)) (filter (λ r. eqb r.call xid) rs) refl rest
     by false rest = pick (eqb r.call xid) r r (filter (λ r. eqb r.call xid) (map (λ r. closed_if (test r) place r) rs)) (filter (λ r. eqb r.call xid) rs) refl rest
-
-abbrev pub AreOfBefore : ℕ → List Region → Type 0
-AreOfBefore next rs = AllByRecursion (λ (r : Region). r.call < next) rs
 
 before_closed : (test : Region → Bool) (place next : ℕ) (rs : List Region) → AreOfBefore next rs → AreOfBefore next (regions_closed test place rs)
 unfolding regions_closed
@@ -115,14 +109,6 @@ before_own next place [] = tt
 before_own next place (b ∷ bs) = (omega arith, before_own next place bs)
 
 -- ---- What holds of a client
-
--- the regions of a call are those of its plan
-abbrev pub OffersPlan : ℕ → List Region → OutstandingCall → Type 0
-OffersPlan next regions o = (o.xid < next) × (call_stags o.xid regions ≡ map (λ (b : Buffer). b.stag) (buffers o.stag o.plan))
-
-pub record CallsOffer (next : ℕ) (k : ClientState) : Type 0 where
-  pub before : AreOfBefore next k.regions
-  pub calls : AllByRecursion (OffersPlan next k.regions) k.outstanding
 
 calls_closed : (test : Region → Bool) (place next : ℕ) (rs : List Region) (os : List OutstandingCall) → AllByRecursion (OffersPlan next rs) os → AllByRecursion (OffersPlan next (regions_closed test place rs)) os
 calls_closed test place next rs [] h = tt
@@ -212,7 +198,7 @@ frame_accepted : (opened : LinkParameters) (k : ClientState) (f : Frame) (b : Bo
 frame_accepted opened k f true = refl
 frame_accepted opened k f false = segment_accepted k f (frame_segment f)
 
-event_offers : (opened : LinkParameters) (k : ClientState) (event : RunEvent) → SubmitsNothing event → Offers opened k → Offers opened (client_state_after opened k event)
+pub event_offers : (opened : LinkParameters) (k : ClientState) (event : RunEvent) → SubmitsNothing event → Offers opened k → Offers opened (client_state_after opened k event)
 unfolding client_state_after
 event_offers opened k (FrameReceived f) none h =
     let after : ClientState = cond (is_hello f) (with_hello opened k) (with_segment k f (frame_segment f)) in
@@ -225,7 +211,7 @@ event_offers opened k (MemoryRevoked place xid) none h = record {
 event_offers opened k (CallExecuted call) none h = h
 event_offers opened k (QueueWritten taken) none h = record { before = h.before; calls = h.calls }
 
-next_offers : (opened : LinkParameters) (r : EndState ClientState) (event : RunEvent) → SubmitsNothing event → Offers opened r.state → Offers opened (next_end_state (client_rules opened) r event).state
+pub next_offers : (opened : LinkParameters) (r : EndState ClientState) (event : RunEvent) → SubmitsNothing event → Offers opened r.state → Offers opened (next_end_state (client_rules opened) r event).state
 next_offers opened r event none h = by_end r.state r.ended h
   where
     by_why : (k : ClientState) (why : Option End) → Offers opened k → Offers opened (next_end_state_by (client_rules opened) k event why).state
@@ -236,19 +222,19 @@ next_offers opened r event none h = by_end r.state r.ended h
     by_end k None g = by_why k (client_end k event) g
     by_end k (Some end) g = g
 
-all_offer : (opened : LinkParameters) (r : EndState ClientState) (es : List RunEvent) → SubmitNothing es → Offers opened r.state → Offers opened (end_state_after (client_rules opened) r es).state
+pub all_offer : (opened : LinkParameters) (r : EndState ClientState) (es : List RunEvent) → SubmitNothing es → Offers opened r.state → Offers opened (end_state_after (client_rules opened) r es).state
 all_offer opened r [] none h = h
 all_offer opened r (event ∷ es) none h = all_offer opened (next_end_state (client_rules opened) r event) es none.1 (next_offers opened r event none.0 h)
 
-none_if : (b : Bool) (es : List RunEvent) → SubmitNothing es → SubmitNothing (if_own b es)
+pub none_if : (b : Bool) (es : List RunEvent) → SubmitNothing es → SubmitNothing (if_own b es)
 none_if true es h = h
 none_if false es h = tt
 
-none_in_frames : (fs : List Frame) → SubmitNothing (map FrameReceived fs)
+pub none_in_frames : (fs : List Frame) → SubmitNothing (map FrameReceived fs)
 none_in_frames [] = tt
 none_in_frames (f ∷ fs) = (tt, none_in_frames fs)
 
-submit_offers : (opened : LinkParameters) (k : ClientState) (ended : Option End) (place : ℕ) (a : AcceptedCall) → a.xid ≡ next_xid opened k → Offers opened k → Offers opened (next_end_state_in (client_rules opened) k (CallSubmitted place a) ended).state
+pub submit_offers : (opened : LinkParameters) (k : ClientState) (ended : Option End) (place : ℕ) (a : AcceptedCall) → a.xid ≡ next_xid opened k → Offers opened k → Offers opened (next_end_state_in (client_rules opened) k (CallSubmitted place a) ended).state
 unfolding client_state_after client_end
 submit_offers opened k None place a own h =
     let n : ℕ = next_xid opened k in
@@ -273,7 +259,7 @@ OffersAfter opened link before mark = Offers opened (end_state_after (client_rul
 none_offers : (opened : LinkParameters) (link : ℕ) (before : List Mark) (mark : Mark) → Offers opened (client opened link before).state → SubmitNothing (events_at link Initiator before mark) → OffersAfter opened link before mark
 none_offers opened link before mark h none = all_offer opened (client opened link before) (events_at link Initiator before mark) none h
 
-mark_offers : (opened : LinkParameters) (link : ℕ) (before : List Mark) (mark : Mark) → Offers opened (client opened link before).state → AskedMark IsPrefixOf opened link before mark → OffersAfter opened link before mark
+pub mark_offers : (opened : LinkParameters) (link : ℕ) (before : List Mark) (mark : Mark) → Offers opened (client opened link before).state → AskedMark IsPrefixOf opened link before mark → OffersAfter opened link before mark
 mark_offers opened link before (marks.Submit l call form (submissions.Accepted xid)) h asked = by (eqb l link) refl
   where
     a : AcceptedCall

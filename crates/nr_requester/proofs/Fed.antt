@@ -2,7 +2,7 @@
 use Rattle.std.proofs.Common.{◌≡◌, ℕ, ◌+◌, ◌<◌, ◌≤◌, Bool, true, false, cond, ◌&&◌, List, [], ◌∷◌, ◌++◌, length, take, drop, map, Option, None, Some, inl, inr, refl, sym, ap, subst, ◌∙◌, arith, append_assoc, length-append}
 use Rattle.std.specs.Prelude.{is_some}
 use Rattle.std.specs.List.{concat}
-use Rattle.std.proofs.lemmas.List.{append-nil, map-append, take_at, take-append-le, take-append-drop}
+use Rattle.std.proofs.lemmas.List.{append-nil, take_at, take-append-le, take-append-drop}
 use Rattle.std.proofs.lemmas.Bool.{cases_lt}
 use Rattle.nr_wire.specs.declared.hello.Side.TheVariants.{Initiator, Responder}
 use Rattle.nr_wire.specs.declared.stream.Awaited.{Awaited}
@@ -17,27 +17,29 @@ use Rattle.nr_link.proofs.Inputs.{input_of_count}
 use Rattle.nr_reduce.specs.declared.mark.LinkParameters.{LinkParameters}
 use Rattle.nr_reduce.specs.declared.mark.Mark.{Mark}
 use Rattle.nr_reduce.specs.declared.mark.Mark.TheVariants as marks
-use Rattle.nr_reduce.specs.History.{bytes_received, fed_at}
-use Rattle.nr_reduce.specs.Events.{RunEvent}
+use Rattle.nr_reduce.specs.History.{AcceptedCall, accepted_calls, bytes_received, fed_at}
+use Rattle.nr_reduce.specs.Events.{RunEvent, events_at, events}
 use Rattle.nr_reduce.specs.Events.RunEvent.{FrameReceived}
 use Rattle.nr_reduce.specs.EndRules.{EndState, end_state_after, output_for_all, live}
 use Rattle.nr_reduce.specs.ClientState.{ClientState}
 use Rattle.nr_reduce.specs.Client.{client_rules}
 use Rattle.nr_reduce.specs.Run.{client}
-use Rattle.nr_reduce.specs.KeptClient.{KeptClient, ClientKeeps}
+use Rattle.nr_reduce.specs.KeptClient.{ClientKeeps}
 use Rattle.nr_reduce.specs.Standing.{input_events, ClientRepresents}
-use Rattle.nr_reduce.specs.StandingLaws.{GoesOn, GoesByInput}
-use Rattle.nr_reduce.proofs.Standing.{itself, client_stands, client_by_input_lem, client_runs_out_lem}
-use Rattle.nr_reduce.proofs.Steps.{ended_stays, output_for_all_append}
-use Rattle.nr_reduce.proofs.Pieces.{in_parts}
-use Rattle.nr_reduce.specs.Matched.{IsPrefixOf}
-use Rattle.nr_link.specs.Frames.{Frame}
+use Rattle.nr_reduce.specs.StandingLaws.{GoesByInput}
+use Rattle.nr_reduce.proofs.Standing.{itself, client_stands, client_by_input_lem, events_input}
+use Rattle.nr_reduce.proofs.Steps.{ended_stays}
+use Rattle.nr_link.specs.Frames.{frames_completed}
 use Rattle.nr_requester.specs.RequesterState.{RequesterState, RequesterSide, queue_of, kept_client, input_kept}
-use Rattle.nr_requester.specs.Standing.{LinkKeeps, RequesterRepresents}
-use Rattle.nr_requester.specs.AfterPiece.{requester_ended, after_frame, after_piece, out_of_memory}
-use Rattle.nr_requester.specs.Laws.{PieceIsAMark, PieceRunsOut}
+use Rattle.nr_requester.specs.Standing.{LinkKeeps, KeepsClient, AnswersAfter}
+use Rattle.nr_requester.specs.KeptAnswers.{is_due, client_by, KeepsAnswers}
+use Rattle.nr_requester.specs.AfterPiece.{requester_ended, after_frame, after_piece}
+use Rattle.nr_requester.specs.Laws.{PieceIsAMark}
 use Rattle.nr_requester.proofs.Marks.{state_of, lives_as, due_is, own_events}
 use Rattle.nr_requester.proofs.Frames.{Kept, KeptEnd}
+use Rattle.nr_requester.proofs.CallRegions.{none_if, none_in_frames}
+use Rattle.nr_requester.proofs.AnswerSteps.{due_same, by_events}
+use Rattle.nr_requester.proofs.FrameAnswers.{ended_answers}
 use Rattle.nr_requester.proofs.Feeding.{IsAwaited, IsBeyond, Along, frames_along, frame_some, keeps_later}
 
 -- ---- The frames of a piece
@@ -81,9 +83,14 @@ fed_ended h piece e = by (split h.awaited (h.rest ++ piece)).frames
     by [] = refl
     by (f ∷ frames) = ap (λ (b : Bool). (cond b (feeding_in requester_ended after_frame h.awaited [] h.state) (feeding_after_frames requester_ended after_frame frames s.rest Fpdu (after_frame h.state h.awaited f))).state) e
 
+-- the client after some marks is that after their events
+pub client_is : (opened : LinkParameters) (link : ℕ) (run : List Mark) → client opened link run ≡ client_by opened (events link Initiator run)
+unfolding client
+client_is opened link run = refl
+
 -- ---- A piece
 
-module _ (opened : LinkParameters) (link : ℕ) (h : RequesterSide) (run : List Mark) (piece : List ℕ) (s : RequesterRepresents opened link h run) where
+module _ (opened : LinkParameters) (link : ℕ) (h : RequesterSide) (run : List Mark) (piece : List ℕ) (s : KeepsClient opened link h run) where
   abbrev pub stream : List ℕ
   stream = bytes_received link Initiator run
 
@@ -107,6 +114,7 @@ module _ (opened : LinkParameters) (link : ℕ) (h : RequesterSide) (run : List 
     pub keeps : KeptEnd opened after.state (end_state_after (client_rules opened) (client opened link run) (input_events link Initiator input mark)) (length stream + length (fed_at link Initiator mark))
     pub queue : queue_of after.state ≡ queue_of h.state ++ output_for_all (client_rules opened) (client opened link run) (input_events link Initiator input mark)
     pub input_is : after.state.side.ended ≡ None → input_kept after ≡ input_after input (fed_at link Initiator mark)
+    pub answers : (due : ℕ → Bool) (asked : List AcceptedCall) → KeepsAnswers opened (events link Initiator run) due asked h.state → KeepsAnswers opened (events link Initiator run ++ events_at link Initiator run mark) due asked after.state
 
   goes_live : (client opened link run).ended ≡ None → Goes
   unfolding after_piece feeding_after
@@ -145,6 +153,10 @@ module _ (opened : LinkParameters) (link : ℕ) (h : RequesterSide) (run : List 
         input_is = λ lives.
             (λ i. record { awaited = a.awaited lives i; rest = a.rest_is lives i; place = a.place_is lives i })
             ∙ ap (λ (bytes : List ℕ). input_after input bytes) (sym fed_is);
+        answers = λ due asked k.
+            subst (λ (es : List RunEvent). KeepsAnswers opened (events link Initiator run ++ es) due asked after.state)
+            (sym events_are ∙ ap (λ (i : InputState). input_events link Initiator i mark) is ∙ events_input link Initiator run mark)
+            (a.answers (events link Initiator run) due asked (sym e_is ∙ client_is opened link run) k);
       }
 
   goes_ended : (end : End) → (client opened link run).ended ≡ Some end → Goes
@@ -168,6 +180,9 @@ module _ (opened : LinkParameters) (link : ℕ) (h : RequesterSide) (run : List 
             (keeps_later opened h.state (record { state = k; ended = Some end }) (length stream) (length stream + length (fed_at link Initiator mark)) later here)));
         queue = ap queue_of same ∙ sym (append-nil (queue_of h.state)) ∙ ap (λ (xs : List ℕ). queue_of h.state ++ xs) (sym stays.1 ∙ ap (λ (e : EndState ClientState). output_for_all (client_rules opened) e es) (sym e_is));
         input_is = λ lives. absurd (let wrong : Some end ≡ None = sym (ap (λ (r : RequesterState). r.side.ended) same ∙ s.kept.keeps.ended ∙ ends) ∙ lives in cc);
+        answers = λ due asked g.
+            subst (λ (r : RequesterState). KeepsAnswers opened (events link Initiator run ++ events_at link Initiator run mark) due asked r) (sym same)
+            (ended_answers opened h.state k end (events link Initiator run) (events_at link Initiator run mark) due asked (none_if _ (map FrameReceived (frames_completed Responder stream piece)) (none_in_frames (frames_completed Responder stream piece))) (sym e_is ∙ client_is opened link run) g);
       }
 
   goes : Goes
@@ -177,8 +192,8 @@ module _ (opened : LinkParameters) (link : ℕ) (h : RequesterSide) (run : List 
       by None is = goes_live is
       by (Some end) is = goes_ended end is
 
-  pub fed_stands : RequesterRepresents opened link after (run ++ mark ∷ [])
-  fed_stands =
+  pub fed_client : KeepsClient opened link after (run ++ mark ∷ [])
+  fed_client =
       let g : Goes = goes in
       let by_input : GoesByInput (client_rules opened) link Initiator (client opened link) (Rattle.nr_reduce.specs.Run.output_due opened link Initiator) input run mark = client_by_input_lem opened link input run mark s.kept.received in
       let state : client opened link (run ++ mark ∷ []) ≡ end_state_after (client_rules opened) (client opened link run) (input_events link Initiator input mark) = by_input.state in
@@ -195,47 +210,14 @@ module _ (opened : LinkParameters) (link : ℕ) (h : RequesterSide) (run : List 
         side = λ lives. subst (λ (e : EndState ClientState). LinkKeeps opened after.state.side e.state) (sym state) (next lives).side;
       }
 
+-- its answers
+pub fed_answers : (opened : LinkParameters) (link : ℕ) (h : RequesterSide) (run : List Mark) (piece : List ℕ) → KeepsClient opened link h run → AnswersAfter opened link h run → AnswersAfter opened link (after_piece h piece) (run ++ marks.Fed link Initiator piece ∷ [])
+fed_answers opened link h run piece s k =
+    let m : Mark = marks.Fed link Initiator piece in
+    by_events opened link run m (after_piece h piece).state
+    (subst (λ (xs : List AcceptedCall). KeepsAnswers opened (events link Initiator run ++ events_at link Initiator run m) (is_due link (run ++ m ∷ [])) xs (after_piece h piece).state) (sym (append-nil (accepted_calls link run)))
+    ((goes opened link h run piece s).answers (is_due link (run ++ m ∷ [])) (accepted_calls link run)
+    (subst (λ (due : ℕ → Bool). KeepsAnswers opened (events link Initiator run) due (accepted_calls link run) h.state) (λ i xid. sym (due_same link run m (λ x. refl) xid) i) k)))
+
 pub piece_is_a_mark : PieceIsAMark
-piece_is_a_mark h piece opened link run s = fed_stands opened link h run piece s
-
--- ---- A piece for which it runs out of memory
-
-pub piece_runs_out : PieceRunsOut
-unfolding out_of_memory
-piece_runs_out h piece n lives opened link run s =
-    let first : List ℕ = take n piece in
-    let input : InputState = input_kept h in
-    let e : EndState ClientState = client opened link run in
-    let after : RequesterSide = after_piece h first in
-    let g : Goes opened link h run first s = goes opened link h run first s in
-    let next : KeptClient = kept_client (out_of_memory after).state in
-    let kept_is : kept_client after.state ≡ record next { ended = None } = ap (λ (x : Option End). record next { ended = x }) lives in
-    let on : GoesOn (ClientKeeps opened) (client_rules opened) link Initiator (record next { ended = None }) input (queue_of h.state) (queue_of after.state) (marks.Fed link Initiator first) e (length (bytes_received link Initiator run)) =
-    record {
-      keeps = subst (λ (k : KeptClient). ClientKeeps opened k (end_state_after (client_rules opened) e (input_events link Initiator input (marks.Fed link Initiator first))) (length (bytes_received link Initiator run) + length (fed_at link Initiator (marks.Fed link Initiator first)))) kept_is g.keeps.client;
-      output = g.queue;
-    } in
-    client_runs_out_lem opened link (kept_client h.state) next input (queue_of h.state) (queue_of after.state) (queue_of after.state) run piece n s.kept on
-    ([], append-nil (queue_of after.state))
-    (later_output opened link input e (queue_of h.state) (queue_of after.state) first (drop n piece) piece (take-append-drop n piece) g.queue)
-    refl
-  where
-    later_output : (opened : LinkParameters) (link : ℕ) (input : InputState) (e : EndState ClientState) (queue left first more piece : List ℕ) → first ++ more ≡ piece →
-        left ≡ queue ++ output_for_all (client_rules opened) e (input_events link Initiator input (marks.Fed link Initiator first)) →
-        IsPrefixOf left (queue ++ output_for_all (client_rules opened) e (input_events link Initiator input (marks.Fed link Initiator piece)))
-    later_output opened link input e queue left first more piece is left_is =
-        let fs : List RunEvent = map FrameReceived (input_frames input first) in
-        let gs : List RunEvent = map FrameReceived (input_frames (input_after input first) more) in
-        let all : input_events link Initiator input (marks.Fed link Initiator piece) ≡ fs ++ gs =
-        own_events link (map FrameReceived (input_frames input piece))
-        ∙ ap (λ (xs : List ℕ). map FrameReceived (input_frames input xs)) (sym is)
-        ∙ ap (λ (frames : List Frame). map FrameReceived frames) (in_parts input first more).0
-        ∙ map-append FrameReceived (input_frames input first) (input_frames (input_after input first) more) in
-        let here : left ≡ queue ++ output_for_all (client_rules opened) e fs = left_is ∙ ap (λ (es : List RunEvent). queue ++ output_for_all (client_rules opened) e es) (own_events link fs) in
-        let rest : List ℕ = output_for_all (client_rules opened) (end_state_after (client_rules opened) e fs) gs in (
-          rest,
-          ap (λ (xs : List ℕ). xs ++ rest) here
-              ∙ append_assoc queue (output_for_all (client_rules opened) e fs) rest
-              ∙ ap (λ (xs : List ℕ). queue ++ xs) (sym (output_for_all_append (client_rules opened) e fs gs))
-              ∙ ap (λ (es : List RunEvent). queue ++ output_for_all (client_rules opened) e es) (sym all),
-        )
+piece_is_a_mark h piece opened link run s = record { keeps = fed_client opened link h run piece s.keeps; answers = fed_answers opened link h run piece s.keeps s.answers }

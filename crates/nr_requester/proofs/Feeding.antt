@@ -14,6 +14,8 @@ use Rattle.nr_link.specs.declared.end.End.{End}
 use Rattle.nr_link.specs.Frames.{Frame, frames_from}
 use Rattle.nr_endpoint.specs.Judging.{next_frame}
 use Rattle.nr_reduce.specs.declared.mark.LinkParameters.{LinkParameters}
+use Rattle.nr_reduce.specs.History.{AcceptedCall}
+use Rattle.nr_reduce.specs.Events.{RunEvent}
 use Rattle.nr_reduce.specs.Events.RunEvent.{FrameReceived}
 use Rattle.nr_reduce.specs.EndRules.{EndState, next_end_state, end_state_after, output_for, output_for_all, live}
 use Rattle.nr_reduce.specs.ClientState.{ClientState}
@@ -24,6 +26,9 @@ use Rattle.nr_requester.specs.RequesterState.{RequesterState, queue_of, kept_cli
 use Rattle.nr_requester.specs.AfterPiece.{requester_ended, after_frame}
 use Rattle.nr_requester.proofs.Frames.{Kept, KeptEnd, FrameTaken, fpdu_taken}
 use Rattle.nr_requester.proofs.Greeting.{hello_taken}
+use Rattle.nr_requester.specs.KeptAnswers.{client_by, KeepsAnswers}
+use Rattle.nr_requester.proofs.CallRegions.{none_in_frames}
+use Rattle.nr_requester.proofs.FrameAnswers.{frame_answers, ended_answers, one_more_event}
 
 -- it keeps as much while more bytes are received
 pub keeps_later : (opened : LinkParameters) (r : RequesterState) (e : EndState ClientState) (count later : ℕ) → count ≤ later → KeptEnd opened r e count → KeptEnd opened r e later
@@ -69,6 +74,7 @@ ended_taken : (opened : LinkParameters) (r : RequesterState) (k : ClientState) (
     (KeptEnd opened (feeding_after_frames requester_ended after_frame frames rest a r).state (end_state_after (client_rules opened) (record { state = k; ended = Some end }) (map FrameReceived (frames_from place frames))) count2)
     × (queue_of (feeding_after_frames requester_ended after_frame frames rest a r).state ≡ queue_of r ++ output_for_all (client_rules opened) (record { state = k; ended = Some end }) (map FrameReceived (frames_from place frames)))
     × ((feeding_after_frames requester_ended after_frame frames rest a r).state.side.ended ≡ Some end)
+    × ((feeding_after_frames requester_ended after_frame frames rest a r).state ≡ r)
 ended_taken opened r k end count place a frames rest keeps count2 le =
     let stays = ended_stays (client_rules opened) k end (map FrameReceived (frames_from place frames)) in
     let same : (feeding_after_frames requester_ended after_frame frames rest a r).state ≡ r = no_change frames (ap (λ (x : Option End). is_some x) keeps.client.ended) in
@@ -77,6 +83,7 @@ ended_taken opened r k end count place a frames rest keeps count2 le =
           (subst (λ (e : EndState ClientState). KeptEnd opened r e count2) (sym stays.0) all),
       ap queue_of same ∙ sym (append-nil (queue_of r)) ∙ ap (λ (xs : List ℕ). queue_of r ++ xs) (sym stays.1),
       ap (λ (x : RequesterState). x.side.ended) same ∙ keeps.client.ended,
+      same,
     )
   where
     no_change : (fs : List (List ℕ)) → requester_ended r ≡ true → (feeding_after_frames requester_ended after_frame fs rest a r).state ≡ r
@@ -96,6 +103,7 @@ pub record Along (opened : LinkParameters) (r : RequesterState) (e : EndState Cl
   pub awaited : after.state.side.ended ≡ None → after.awaited ≡ awaited_after a frames
   pub rest_is : after.state.side.ended ≡ None → after.rest ≡ rest
   pub place_is : after.state.side.ended ≡ None → after.state.side.place ≡ place + length (concat frames)
+  pub answers : (past : List RunEvent) (due : ℕ → Bool) (asked : List AcceptedCall) → e ≡ client_by opened past → KeepsAnswers opened past due asked r → KeepsAnswers opened (past ++ map FrameReceived (frames_from place frames)) due asked after.state
 
 awaited_fpdu : (a : Awaited) (frames : List (List ℕ)) → a ≡ Fpdu → awaited_after a frames ≡ Fpdu
 awaited_fpdu a [] e = e
@@ -108,14 +116,16 @@ none_along opened r k count rest a keeps le = record {
   awaited = λ e. refl;
   rest_is = λ e. ap (λ (b : Bool). cond b [] rest) (ap (λ (x : Option End). is_some x) keeps.client.ended);
   place_is = λ e. omega arith;
+  answers = λ past due asked is h. subst (λ (es : List RunEvent). KeepsAnswers opened es due asked r) (sym (append-nil past)) h;
 }
 
 -- the rest of the frames, once the first was taken
-then_along : (opened : LinkParameters) (r r1 : RequesterState) (k : ClientState) (a : Awaited) (frame : List ℕ) (frames : List (List ℕ)) (rest : List ℕ) (after : Feeding RequesterState) → r.side.ended ≡ None →
+then_along : (opened : LinkParameters) (r r1 : RequesterState) (k : ClientState) (count : ℕ) (a : Awaited) (frame : List ℕ) (frames : List (List ℕ)) (rest : List ℕ) (after : Feeding RequesterState) → r.side.ended ≡ None →
+    Kept opened r k count → count ≤ r.side.place + length frame → FrameTaken opened r k (next_frame r.side frame) r1 →
     queue_of r1 ≡ queue_of r ++ output_for (client_rules opened) (live k) (FrameReceived (next_frame r.side frame)) →
     Along opened r1 (next_end_state (client_rules opened) (live k) (FrameReceived (next_frame r.side frame))) (r.side.place + length frame) frames rest Fpdu after →
     Along opened r (live k) r.side.place (frame ∷ frames) rest a after
-then_along opened r r1 k a frame frames rest after lives queue h =
+then_along opened r r1 k count a frame frames rest after lives keeps le taken queue h =
     let all : length (concat (frame ∷ frames)) ≡ length frame + length (concat frames) = length-append frame (concat frames) in
     record {
       keeps = subst (λ (n : ℕ). KeptEnd opened after.state (end_state_after (client_rules opened) (live k) (map FrameReceived (frames_from r.side.place (frame ∷ frames)))) n)
@@ -127,6 +137,12 @@ then_along opened r r1 k a frame frames rest after lives queue h =
       awaited = λ e. h.awaited e ∙ awaited_fpdu Fpdu frames refl;
       rest_is = h.rest_is;
       place_is = λ e. h.place_is e ∙ omega (arith, all);
+      answers = λ past due asked is g.
+          let f : Frame = next_frame r.side frame in
+          let next : KeepsAnswers opened (past ++ FrameReceived f ∷ []) due asked r1 = frame_answers opened r r1 k count f past due asked is keeps le taken g in
+          let more : next_end_state (client_rules opened) (live k) (FrameReceived f) ≡ client_by opened (past ++ FrameReceived f ∷ []) = one_more_event opened (live k) f past is in
+          subst (λ (es : List RunEvent). KeepsAnswers opened es due asked after.state) (append_assoc past (FrameReceived f ∷ []) (map FrameReceived (frames_from (r.side.place + length frame) frames)))
+          (h.answers (past ++ FrameReceived f ∷ []) due asked more next);
     }
 
 ended_along : (opened : LinkParameters) (r : RequesterState) (k : ClientState) (end : End) (count place : ℕ) (frames : List (List ℕ)) (rest : List ℕ) (a : Awaited) → KeptEnd opened r (record { state = k; ended = Some end }) count → count ≤ place →
@@ -139,6 +155,8 @@ ended_along opened r k end count place frames rest a keeps le =
       awaited = λ e. absurd (let wrong : Some end ≡ None = sym t.2 ∙ e in cc);
       rest_is = λ e. absurd (let wrong : Some end ≡ None = sym t.2 ∙ e in cc);
       place_is = λ e. absurd (let wrong : Some end ≡ None = sym t.2 ∙ e in cc);
+      answers = λ past due asked is h. subst (λ (x : RequesterState). KeepsAnswers opened (past ++ map FrameReceived (frames_from place frames)) due asked x) (sym t.3)
+          (ended_answers opened r k end past (map FrameReceived (frames_from place frames)) due asked (none_in_frames (frames_from place frames)) is h);
     }
 
 abbrev ended_as : EndState ClientState → Option End → EndState ClientState
@@ -150,7 +168,7 @@ frames_along opened [] rest a r k count keeps is each beyond = none_along opened
 frames_along opened (frame ∷ frames) rest a r k count keeps is each beyond =
     let t : FrameTaken opened r k f r1 = next_awaited opened r k count a frame keeps is beyond in
     subst (λ (b : Bool). Along opened r (live k) r.side.place (frame ∷ frames) rest a (cond b (feeding_in requester_ended after_frame a [] r) (feeding_after_frames requester_ended after_frame frames rest Fpdu r1))) (sym going)
-    (then_along opened r r1 k a frame frames rest (feeding_after_frames requester_ended after_frame frames rest Fpdu r1) keeps.client.ended t.queue
+    (then_along opened r r1 k count a frame frames rest (feeding_after_frames requester_ended after_frame frames rest Fpdu r1) keeps.client.ended keeps (let lt = beyond in omega (arith, lt)) t t.queue
     (by e1.ended refl t.keeps t.place (λ (k1 : ClientState) (kept : Kept opened r1 k1 f.end) (at : r1.side.place ≡ f.end).
     subst (λ (n : ℕ). Along opened r1 (live k1) n frames rest Fpdu (feeding_after_frames requester_ended after_frame frames rest Fpdu r1)) at
     (frames_along opened frames rest Fpdu r1 k1 f.end kept (let some = frame_some a frame each.0 in omega (arith, at, some)) each.1 (later_beyond frames r1.side.place f.end at each.1)))))

@@ -1,5 +1,5 @@
 -- A frame of the server's stream: a requester that keeps its client keeps it after the frame, and queues what is due.
-use Rattle.std.proofs.Common.{◌≡◌, ◌≢◌, ℕ, ◌+◌, ◌<◌, ◌≤◌, Bool, true, false, cond, not, eqb, ltb, List, [], ◌∷◌, ◌++◌, length, map, Option, None, Some, Result, Ok, Err, refl, sym, ap, subst, ◌∙◌, arith, append_assoc, length-append}
+use Rattle.std.proofs.Common.{◌≡◌, ◌≢◌, ℕ, ◌+◌, ◌<◌, ◌≤◌, ◌⊎◌, inl, inr, Bool, true, false, cond, not, eqb, ltb, List, [], ◌∷◌, ◌++◌, length, map, Option, None, Some, Result, Ok, Err, refl, sym, ap, subst, ◌∙◌, arith, append_assoc, length-append}
 use Rattle.std.specs.Prelude.{IfSome}
 use Rattle.std.proofs.lemmas.List.{append-nil, length-map}
 use Rattle.std.proofs.lemmas.Bool.{ne_eqb, ltb-false}
@@ -38,7 +38,7 @@ use Rattle.nr_reduce.specs.EndRules.{EndState, next_end_state, next_end_state_by
 use Rattle.nr_reduce.specs.ClientState.{ClientState}
 use Rattle.nr_reduce.specs.ClientMessages.{ReplyVerdict, reply_verdict}
 use Rattle.nr_reduce.specs.ClientMessages.ReplyVerdict.{EndsLink, GivesOutcome}
-use Rattle.nr_reduce.specs.Client.{client_rules, client_end, client_output, client_state_after, client_readiness, end_of_verdict, client_message_end, segment_message, or_message_end, with_segment, with_message, with_request, with_hello, due_with_response, response_output, segment_request, calls_output, credits_of_word}
+use Rattle.nr_reduce.specs.Client.{client_rules, client_end, client_output, client_state_after, client_readiness, end_of_verdict, client_message_end, segment_message, or_message_end, with_segment, with_message, with_request, with_hello, due_with_response, response_output, segment_request, calls_output, credits_of_word, outcomes_of}
 use Rattle.nr_reduce.specs.KeptCalls.{KeptCall, kept_verdict}
 use Rattle.nr_reduce.specs.KeptClient.{KeptClient, ClientKeeps, bytes_under, released_all, without, kept_completed, kept_placed, kept_received, kept_by_message, stags_for as kept_stags}
 use Rattle.nr_reduce.proofs.Touches.{AreNone, all_none, no_flaw}
@@ -49,7 +49,7 @@ use Rattle.nr_reduce.proofs.Taking.{kept_takes, kept_ends}
 use Rattle.nr_requester.specs.RequesterState.{StoredCall, RequesterState, kept_call, kept_calls, queue_of, kept_client}
 use Rattle.nr_requester.specs.Standing.{LinkKeeps}
 use Rattle.nr_requester.specs.AfterCalls.{stags_for}
-use Rattle.nr_requester.specs.AfterPiece.{without_call, judged, noticed, unless_ended, after_fpdu}
+use Rattle.nr_requester.specs.AfterPiece.{without_call, answer_to, call_of, judged, noticed, unless_ended, after_fpdu}
 use Rattle.nr_requester.proofs.KeptCalls.{stags_alike}
 use Rattle.nr_requester.proofs.Faults.{ends_alike}
 use Rattle.nr_requester.proofs.OneReceive.{MessageAt, message_at}
@@ -71,17 +71,44 @@ pub record KeptEnd (opened : LinkParameters) (r : RequesterState) (e : EndState 
   pub wished : r.wished ≡ opened.wished
   pub live_one : e.ended ≡ None → Kept opened r e.state count
 
+-- What a frame makes of the answers: it leaves them, or it completes the message of a call.
+pub record Quiet (r after : RequesterState) (k next : ClientState) : Type 0 where
+  pub answered : after.answered ≡ r.answered
+  pub outstanding : after.outstanding ≡ r.outstanding
+  pub outcomes : next.outcomes ≡ k.outcomes
+
+pub record Completes (opened : LinkParameters) (r after : RequesterState) (k next : ClientState) (f : Frame) : Type 0 where
+  pub segment : Segment
+  pub message : List ℕ
+  pub xid : ℕ
+  pub outcome : Option Outcome
+  pub stays : client_end k (FrameReceived f) ≡ None
+  pub after_hello : is_hello f ≡ false
+  pub is_segment : frame_segment f ≡ Ok segment
+  pub completes : message_completed k.received segment ≡ Some message
+  pub verdict : kept_verdict (kept_calls r) (bytes_under r.side.memory) message ≡ GivesOutcome xid outcome
+  pub judged_alike : reply_verdict k f.end message ≡ GivesOutcome xid outcome
+  pub answered : after.answered ≡ r.answered ++ answer_to r.side.memory (call_of (word_at 0 message) r.outstanding) outcome
+  pub outstanding : after.outstanding ≡ without_call (word_at 0 message) r.outstanding
+  pub outcomes : next.outcomes ≡ k.outcomes ++ outcomes_of (GivesOutcome xid outcome)
+
+abbrev pub Moves : LinkParameters → (r after : RequesterState) → (k next : ClientState) → Frame → Type 0
+Moves opened r after k next f = Quiet r after k next ⊎ Completes opened r after k next f
+
 -- after a frame
 pub record FrameTaken (opened : LinkParameters) (r : RequesterState) (k : ClientState) (f : Frame) (after : RequesterState) : Type 0 where
   pub keeps : KeptEnd opened after (next_end_state (client_rules opened) (live k) (FrameReceived f)) f.end
   pub queue : queue_of after ≡ queue_of r ++ output_for (client_rules opened) (live k) (FrameReceived f)
   pub place : after.side.ended ≡ None → after.side.place ≡ f.end
+  pub next_xid : after.next_xid ≡ r.next_xid
+  pub moves : Moves opened r after k (next_end_state (client_rules opened) (live k) (FrameReceived f)).state f
 
 -- ---- A frame that ends the client, and one that doesn't
 
 pub taken_ended : (opened : LinkParameters) (r : RequesterState) (k : ClientState) (count : ℕ) (f : Frame) (after : RequesterState) (end : End) → Kept opened r k count → client_end k (FrameReceived f) ≡ Some end →
-    kept_client after ≡ record (kept_client r) { ended = Some end } → after.first_xid ≡ r.first_xid → after.wished ≡ r.wished → count ≤ f.end → queue_of after ≡ queue_of r ++ final_output end → FrameTaken opened r k f after
-taken_ended opened r k count f after end keeps is kept first wished le queue =
+    kept_client after ≡ record (kept_client r) { ended = Some end } → after.first_xid ≡ r.first_xid → after.wished ≡ r.wished → count ≤ f.end → queue_of after ≡ queue_of r ++ final_output end →
+    after.next_xid ≡ r.next_xid → after.answered ≡ r.answered → after.outstanding ≡ r.outstanding → FrameTaken opened r k f after
+taken_ended opened r k count f after end keeps is kept first wished le queue next answered outstanding =
     let e : EndState ClientState = next_end_state (client_rules opened) (live k) (FrameReceived f) in
     let ended : e.ended ≡ Some end = ap (λ (x : Option End). (next_end_state_by (client_rules opened) k (FrameReceived f) x).ended) is in
     let side_ended : after.side.ended ≡ Some end = ap (λ (x : KeptClient). x.ended) kept in
@@ -95,6 +122,8 @@ taken_ended opened r k count f after end keeps is kept first wished le queue =
       };
       queue = queue ∙ ap (λ (e : Option End). queue_of r ++ output_for_by (client_rules opened) k (FrameReceived f) e) (sym is);
       place = λ none. absurd (let wrong : Some end ≡ None = sym side_ended ∙ none in cc);
+      next_xid = next;
+      moves = inl (record { answered = answered; outstanding = outstanding; outcomes = ap (λ (x : Option End). (next_end_state_by (client_rules opened) k (FrameReceived f) x).state.outcomes) is });
     }
 
 -- a frame writes nothing
@@ -119,8 +148,8 @@ written_still opened k f = by (is_hello f)
 pub taken_live : (opened : LinkParameters) (r : RequesterState) (k : ClientState) (count : ℕ) (f : Frame) (after : RequesterState) → Kept opened r k count → client_end k (FrameReceived f) ≡ None →
     ClientKeeps opened (kept_client after) (next_end_state (client_rules opened) (live k) (FrameReceived f)) f.end → LinkKeeps opened after.side (client_state_after opened k (FrameReceived f)) → after.sent ≡ r.sent → after.side.send_queue.sends_left ≡ r.side.send_queue.sends_left →
     after.first_xid ≡ r.first_xid → after.wished ≡ r.wished →
-    queue_of after ≡ queue_of r ++ client_output opened k (FrameReceived f) → after.side.place ≡ f.end → FrameTaken opened r k f after
-taken_live opened r k count f after keeps is client side sent left first wished queue place =
+    queue_of after ≡ queue_of r ++ client_output opened k (FrameReceived f) → after.side.place ≡ f.end → after.next_xid ≡ r.next_xid → Moves opened r after k (client_state_after opened k (FrameReceived f)) f → FrameTaken opened r k f after
+taken_live opened r k count f after keeps is client side sent left first wished queue place next_xid moves =
     let e : EndState ClientState = next_end_state (client_rules opened) (live k) (FrameReceived f) in
     let e_is : e ≡ live (client_state_after opened k (FrameReceived f)) = ap (λ (x : Option End). next_end_state_by (client_rules opened) k (FrameReceived f) x) is in
     let due = client_due opened k (FrameReceived f) in
@@ -144,6 +173,8 @@ taken_live opened r k count f after keeps is client side sent left first wished 
       };
       queue = queue ∙ ap (λ (x : Option End). queue_of r ++ output_for_by (client_rules opened) k (FrameReceived f) x) (sym is);
       place = λ none. place;
+      next_xid = next_xid;
+      moves = subst (λ (x : ClientState). Moves opened r after k x f) (sym (ap (λ (x : EndState ClientState). x.state) e_is)) moves;
     }
 
 -- ---- What ends the side
@@ -207,6 +238,26 @@ reads opened k f segment later is none = record {
   output = (λ i. cond (later i) (calls_output opened 1 k.outstanding) (response_output k f.end (segment_request (is i))));
   state = (λ i. cond (later i) (with_hello opened k) (with_segment k f (is i)));
 }
+
+-- a segment that completes no message leaves the outcomes
+quiet_segment : (k : ClientState) (f : Frame) (segment : Segment) → message_completed k.received segment ≡ None → (with_segment k f (Ok segment)).outcomes ≡ k.outcomes
+quiet_segment k f segment none =
+    ap (λ (m : Option (List ℕ)). (with_request (with_message k f.end m) (due_with_response k f segment) (read_request_of segment)).outcomes) none
+    ∙ by (read_request_of segment)
+  where
+    by : (q : Option ReadRequest) → (with_request k (due_with_response k f segment) q).outcomes ≡ k.outcomes
+    by None = refl
+    by (Some q) = refl
+
+-- one that completes a message adds its outcome
+message_segment : (k : ClientState) (f : Frame) (segment : Segment) (message : List ℕ) → message_completed k.received segment ≡ Some message → (with_segment k f (Ok segment)).outcomes ≡ k.outcomes ++ outcomes_of (reply_verdict k f.end message)
+message_segment k f segment message whole =
+    ap (λ (m : Option (List ℕ)). (with_request (with_message k f.end m) (due_with_response k f segment) (read_request_of segment)).outcomes) whole
+    ∙ by (read_request_of segment)
+  where
+    by : (q : Option ReadRequest) → (with_request (with_message k f.end (Some message)) (due_with_response k f segment) q).outcomes ≡ k.outcomes ++ outcomes_of (reply_verdict k f.end message)
+    by None = refl
+    by (Some q) = refl
 
 -- a message is no longer than its receive
 not_long : (k : ClientState) (f : Frame) (last : Bool) (opcode w queue msn offset : ℕ) (payload message : List ℕ) → frame_segment f ≡ Ok (Untagged last opcode w queue msn offset payload) →
@@ -294,6 +345,7 @@ module _ (opened : LinkParameters) (r : RequesterState) (k : ClientState) (count
       (subst (λ (x : ClientState). LinkKeeps opened after.side x) (sym said.state) (link_tagged opened r.side k f last opcode stag to payload keeps.side fine later (omega (arith, lt))))
       refl (ap (λ (s : LinkState). s.send_queue.sends_left) effect) refl refl
       (ap (λ (s : LinkState). writable s.has_hello s.send_queue) effect ∙ sym (append-nil (queue_of r)) ∙ ap (λ (xs : List ℕ). queue_of r ++ xs) (sym said.output)) refl
+      refl (inl (record { answered = refl; outstanding = refl; outcomes = ap (λ (x : ClientState). x.outcomes) said.state ∙ quiet_segment k f segment refl }))
 
   -- a Read Request is answered by what the client's region holds
   request_is : (req : Option ReadRequest) → IfSome req (λ q. denial r.side.memory (fetch_access q) ≡ None) → RequestFine r.side k f.end req
@@ -317,6 +369,7 @@ module _ (opened : LinkParameters) (r : RequesterState) (k : ClientState) (count
       (ap (λ (h : Bool). writable h (with_read_request req r.side.memory r.side.send_queue)) hello
       ∙ queue_request r.side k f.end req fine
       ∙ (λ i. writable (sym hello i) r.side.send_queue ++ sym said.output i)) refl
+      refl (inl (record { answered = refl; outstanding = refl; outcomes = ap (λ (x : ClientState). x.outcomes) said.state ∙ quiet_segment k f segment whole }))
     where
       same_left : (q : Option ReadRequest) → (with_read_request q r.side.memory r.side.send_queue).sends_left ≡ r.side.send_queue.sends_left
       same_left None = refl
@@ -357,6 +410,7 @@ module _ (opened : LinkParameters) (r : RequesterState) (k : ClientState) (count
           taken_ended opened r k count f (judged r s1 message (EndsLink reason)) (ends.Bad f.at reason) keeps (end_is ∙ ap (end_of_verdict f) is) refl refl refl (omega (arith, lt))
           (queue_ended r.side.has_hello r.side.side (ends.Bad f.at reason) (with_read_request (read_request_of segment) r.side.memory r.side.send_queue) hello keeps.side.side
           ∙ ap (λ (q : SendQueue). writable r.side.has_hello q ++ final_output (ends.Bad f.at reason)) (same_queue (read_request_of segment) at.no_request))
+          refl refl refl
       by (GivesOutcome xid outcome) is =
           let after : RequesterState = judged r s1 message (GivesOutcome xid outcome) in
           let stays : client_end k (FrameReceived f) ≡ None = end_is ∙ ap (end_of_verdict f) is in
@@ -368,6 +422,22 @@ module _ (opened : LinkParameters) (r : RequesterState) (k : ClientState) (count
           refl (ap (λ (q : SendQueue). q.sends_left) (same_queue (read_request_of segment) at.no_request)) refl refl
           (ap (λ (q : SendQueue). writable r.side.has_hello q) (same_queue (read_request_of segment) at.no_request)
           ∙ sym (append-nil (queue_of r)) ∙ ap (λ (xs : List ℕ). queue_of r ++ xs) (sym no_response)) refl
+          refl
+          (inr (record {
+            segment = segment;
+            message = message;
+            xid = xid;
+            outcome = outcome;
+            stays = stays;
+            after_hello = said.later;
+            is_segment = said.is_segment;
+            completes = whole;
+            verdict = is;
+            judged_alike = sym same_verdict ∙ is;
+            answered = refl;
+            outstanding = refl;
+            outcomes = ap (λ (x : ClientState). x.outcomes) said.state ∙ message_segment k f segment message whole ∙ ap (λ (v : ReplyVerdict). k.outcomes ++ outcomes_of v) (sym same_verdict ∙ is);
+          }))
 
   -- ---- Any FPDU
 
@@ -437,7 +507,8 @@ fpdu_taken opened r k count frame keeps lt later = by (with_frame r.side Fpdu fr
         subst (λ (x : Option End). FrameTaken opened r k f (unless_ended r (with_frame r.side Fpdu frame) x)) (sym is)
         (subst (λ (x : LinkState). FrameTaken opened r k f (record r { side = x })) (sym shape)
         (taken_ended opened r k count f (record r { side = with_end_of end r.side }) end keeps (end_of_link end (sym alike ∙ is)) refl refl refl (omega (arith, lt))
-        (queue_ended r.side.has_hello r.side.side end r.side.send_queue (keeps.side.has_hello ∙ has_greeted opened r.side k keeps.side later) keeps.side.side)))
+        (queue_ended r.side.has_hello r.side.side end r.side.send_queue (keeps.side.has_hello ∙ has_greeted opened r.side k keeps.side later) keeps.side.side)
+        refl refl refl))
     by None is =
         let lives : frame_end (client_readiness k) (region_grants f.end k.regions) f ≡ None = sym alike ∙ is in
         let l : Lives r.side f frame = lives_by_lem r.side f frame (segment_of frame) refl is in

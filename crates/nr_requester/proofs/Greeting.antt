@@ -1,5 +1,5 @@
 -- The server's hello.
-use Rattle.std.proofs.Common.{◌≡◌, ℕ, ◌<◌, ◌≤◌, Bool, true, false, cond, not, List, [], ◌++◌, length, Option, None, Some, Result, Ok, Err, refl, sym, ap, subst, ◌∙◌, arith}
+use Rattle.std.proofs.Common.{◌≡◌, ℕ, inl, ◌<◌, ◌≤◌, Bool, true, false, cond, not, List, [], ◌++◌, length, Option, None, Some, Result, Ok, Err, refl, sym, ap, subst, ◌∙◌, arith}
 use Rattle.std.specs.Prelude.{IfSome}
 use Rattle.std.proofs.lemmas.List.{append-nil}
 use Rattle.std.proofs.lemmas.Bool.{ne_eqb, eq-eqb, lt-ltb}
@@ -112,12 +112,14 @@ hello_taken opened r k count frame keeps lt first = by (hello_of Responder frame
         refl refl refl refl
         ((λ i. (r.side.send_queue.hello ++ none i) ++ link.waiting no_hello i)
         ∙ (λ i. writable (sym (link.has_hello ∙ no_hello) i) r.side.send_queue ++ sym output_is i)) refl
+        refl (inl (record { answered = refl; outstanding = refl; outcomes = ap (λ (x : ClientState). x.outcomes) state_is }))
     by (Err reason) e =
         let end : End = ends.Bad 0 reason in
         taken_ended opened r k count f (record r { side = with_end_of (ends.Bad f.at reason) r.side }) end keeps (end_is (Err reason) e)
         (ap (λ (n : ℕ). record (kept_client r) { ended = Some (ends.Bad n reason) }) first) refl refl (omega (arith, lt))
         (no_last r.side.has_hello (link.has_hello ∙ no_hello)
         ∙ sym (append-nil (queue_of r)) ∙ ap (λ (xs : List ℕ). queue_of r ++ xs) (sym (no_output reason 0 (hello_reason r.side frame reason keeps.client.ended e))))
+        refl refl refl
       where
         no_last : (h : Bool) → h ≡ false → writable h (with_end r.side.side (ends.Bad f.at reason) r.side.send_queue) ≡ writable h r.side.send_queue
         no_last true e = absurd cc

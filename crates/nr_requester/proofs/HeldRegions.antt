@@ -1,6 +1,7 @@
 -- The registrations of the outstanding calls stay held.
-use Rattle.std.proofs.Common.{◌≡◌, ℕ, ◌+◌, ◌<◌, ◌≤◌, ◌^◌, List, [], ◌∷◌, ◌++◌, length, Option, None, Some, refl, sym, ap, subst, ◌∙◌, arith, append-nil, append_assoc, length-append}
-use Rattle.std.specs.List.{AllByRecursion}
+use Rattle.std.proofs.Common.{◌≡◌, ℕ, ◌+◌, ◌<◌, ◌≤◌, ◌^◌, Bool, true, false, cond, eqb, List, [], ◌∷◌, ◌++◌, length, Option, None, Some, refl, sym, ap, subst, ◌∙◌, arith, append-nil, append_assoc, length-append}
+use Rattle.std.specs.List.{AllByRecursion, find}
+use Rattle.std.proofs.lemmas.Bool.{eqb-true}
 use Rattle.nr_regions.specs.declared.right.Right.{Right}
 use Rattle.nr_regions.specs.declared.right.Right.TheVariants.{Fetch, Fill}
 use Rattle.nr_regions.specs.RegisteredMemory.{RegisteredMemory, Claim, IsHeld, after_register}
@@ -15,7 +16,8 @@ use Rattle.nr_endpoint.specs.Calls.Call.{Drain}
 use Rattle.nr_endpoint.specs.Offering.{with_buffer, with_read, with_write_buffer, with_offered, claim_if, claims_of}
 use Rattle.nr_requester.specs.declared.outstanding.OutstandingCall.{OutstandingCall}
 use Rattle.nr_requester.specs.HeldClaims.{claim_list, call_claims, all_claims, AreHeldFrom, SentHeld, OffersOwn}
-use Rattle.nr_requester.specs.Views.{IsSound}
+use Rattle.nr_requester.specs.declared.answer.AnsweredCall.{AnsweredCall}
+use Rattle.nr_requester.specs.Views.{AreRising, IsAnswered, IsSound}
 
 -- what is held in one memory is held in the other
 abbrev pub Keeps : RegisteredMemory → RegisteredMemory → Type 0
@@ -84,10 +86,39 @@ offers_append : (xs : List OutstandingCall) (o : OutstandingCall) → AllByRecur
 offers_append [] o h one = (one, tt)
 offers_append (x ∷ xs) o h one = (h.0, offers_append xs o h.1 one)
 
-pub sent_sound : (link link2 : LinkSide) (xid grant : ℕ) (items items2 : List OutstandingCall) (o : OutstandingCall) → IsSound link xid grant items → SentHeld link.state.memory link2.state.memory o.claims → link2.state.receive_queue ≡ link.state.receive_queue → OffersOwn o →
-    xid < 2 ^ 32 → length items < grant → items2 ≡ items ++ o ∷ [] → IsSound link2 (xid + 1) grant items2
-sent_sound link link2 xid grant items items2 o s h queue own fits credit more =
+rising_append : (xs : List OutstandingCall) (o : OutstandingCall) (next : ℕ) → AreRising xs next → o.xid ≡ next → AreRising (xs ++ o ∷ []) (next + 1)
+rising_append [] o next h own = (omega (arith, own), (tt, tt))
+rising_append (x ∷ xs) o next h own = ((let lt = h.0 in omega (arith, lt)), (above xs h.1.0, rising_append xs o next h.1.1 own))
+  where
+    above : (cs : List OutstandingCall) → AllByRecursion (λ (d : OutstandingCall). x.xid < d.xid) cs → AllByRecursion (λ (d : OutstandingCall). x.xid < d.xid) (cs ++ o ∷ [])
+    above [] g = ((let lt = h.0 in omega (arith, lt, own)), tt)
+    above (c ∷ cs) g = (g.0, above cs g.1)
+
+apart_append : (next : ℕ) (xs : List OutstandingCall) (o : OutstandingCall) (answers : List AnsweredCall) → o.xid ≡ next → AllByRecursion (IsAnswered next xs) answers → AllByRecursion (IsAnswered (next + 1) (xs ++ o ∷ [])) answers
+apart_append next xs o [] own h = tt
+apart_append next xs o (a ∷ answers) own h = (((let lt = h.0.0 in omega (arith, lt)), none xs h.0.1), apart_append next xs o answers own h.1)
+  where
+    other : eqb o.xid a.xid ≡ false
+    other = by (eqb o.xid a.xid) refl
+      where
+        by : (b : Bool) → eqb o.xid a.xid ≡ b → eqb o.xid a.xid ≡ false
+        by false e = e
+        by true e = absurd (let same : o.xid ≡ a.xid = eqb-true o.xid a.xid e in let lt = h.0.0 in omega (arith, same, lt, own))
+
+    none : (cs : List OutstandingCall) → find (λ (c : OutstandingCall). eqb c.xid a.xid) cs ≡ None → find (λ (c : OutstandingCall). eqb c.xid a.xid) (cs ++ o ∷ []) ≡ None
+    none [] g = ap (λ (b : Bool). cond b (Some o) None) other
+    none (c ∷ cs) g = by (eqb c.xid a.xid) (λ e. none cs e) g
+      where
+        by : (b : Bool) → (find (λ (c : OutstandingCall). eqb c.xid a.xid) cs ≡ None → find (λ (c : OutstandingCall). eqb c.xid a.xid) (cs ++ o ∷ []) ≡ None) →
+            cond b (Some c) (find (λ (c : OutstandingCall). eqb c.xid a.xid) cs) ≡ None → cond b (Some c) (find (λ (c : OutstandingCall). eqb c.xid a.xid) (cs ++ o ∷ [])) ≡ None
+        by true rest e = absurd cc
+        by false rest e = rest e
+
+pub sent_sound : (link link2 : LinkSide) (xid grant room room2 : ℕ) (items items2 : List OutstandingCall) (answers answers2 : List AnsweredCall) (o : OutstandingCall) → IsSound link xid grant items answers room → SentHeld link.state.memory link2.state.memory o.claims → link2.state.receive_queue ≡ link.state.receive_queue → OffersOwn o →
+    xid < 2 ^ 32 → length items < grant → items2 ≡ items ++ o ∷ [] → answers2 ≡ answers → o.xid ≡ xid → length answers + (length items + 1) ≤ room2 → IsSound link2 (xid + 1) grant items2 answers2 room2
+sent_sound link link2 xid grant room room2 items items2 answers answers2 o s h queue own fits credit more same number more_room =
     let len = ap (λ (xs : List OutstandingCall). length xs) more ∙ length-append items (o ∷ []) in
+    let count = ap (λ (xs : List AnsweredCall). length xs) same in
     record {
       xid = omega (arith, fits);
       few = (let g = s.granted in omega (arith, len, credit, g));
@@ -99,6 +130,10 @@ sent_sound link link2 xid grant items items2 o s h queue own fits credit more =
           (subst (λ (cs : List Claim). AreHeldFrom link2.state.memory 0 cs) (sym (claims_append items o))
           (held_append link.state.memory link2.state.memory 0 (all_claims items) (call_claims o.claims) (h.next, h.keeps) s.held h.own));
       offers = subst (λ (xs : List OutstandingCall). AllByRecursion OffersOwn xs) (sym more) (offers_append items o s.offers own);
+      rising = subst (λ (xs : List OutstandingCall). AreRising xs (xid + 1)) (sym more) (rising_append items o xid s.rising number);
+      apart = subst (λ (ys : List AnsweredCall). AllByRecursion (IsAnswered (xid + 1) items2) ys) (sym same)
+          (subst (λ (xs : List OutstandingCall). AllByRecursion (IsAnswered (xid + 1) xs) answers) (sym more) (apart_append xid items o answers number s.apart));
+      has_room = omega (arith, len, count, more_room);
     }
 
 -- ---- A drain, and the opening
@@ -107,25 +142,32 @@ drain_leaves : (link : LinkSide) (n : ℕ) → ((after_call link (Drain n)).stat
 unfolding after_call
 drain_leaves link n = (refl, refl)
 
-pub drain_sound : (link link2 : LinkSide) (n xid grant : ℕ) (items : List OutstandingCall) → IsSound link xid grant items → link2 ≡ after_call link (Drain n) → IsSound link2 xid grant items
-drain_sound link link2 n xid grant items s is =
-    let memory : link2.state.memory ≡ link.state.memory = ap (λ (l : LinkSide). l.state.memory) is ∙ (drain_leaves link n).0 in
-    let queue : link2.state.receive_queue ≡ link.state.receive_queue = ap (λ (l : LinkSide). l.state.receive_queue) is ∙ (drain_leaves link n).1 in
-    record {
-      xid = s.xid;
-      few = s.few;
-      some = s.some;
-      granted = s.granted;
-      none_waits = ap (λ (q : ReceiveQueue). q.notices) queue ∙ s.none_waits;
-      none_lent = ap (λ (q : ReceiveQueue). q.lent) queue ∙ s.none_lent;
-      held = subst (λ (m : RegisteredMemory). AreHeldFrom m 0 (all_claims items)) (sym memory) s.held;
-      offers = s.offers;
-    }
+-- the same with another side of the link, which has its regions and receives
+pub same_sound : (link link2 : LinkSide) (xid grant room room2 : ℕ) (items : List OutstandingCall) (answers : List AnsweredCall) → IsSound link xid grant items answers room → link2.state.memory ≡ link.state.memory → link2.state.receive_queue ≡ link.state.receive_queue →
+    room ≤ room2 → IsSound link2 xid grant items answers room2
+same_sound link link2 xid grant room room2 items answers s memory queue le = record {
+  xid = s.xid;
+  few = s.few;
+  some = s.some;
+  granted = s.granted;
+  none_waits = ap (λ (q : ReceiveQueue). q.notices) queue ∙ s.none_waits;
+  none_lent = ap (λ (q : ReceiveQueue). q.lent) queue ∙ s.none_lent;
+  held = subst (λ (m : RegisteredMemory). AreHeldFrom m 0 (all_claims items)) (sym memory) s.held;
+  offers = s.offers;
+  rising = s.rising;
+  apart = s.apart;
+  has_room = (let room_was = s.has_room in omega (arith, room_was, le));
+}
 
-first_sound : (first_stag xid : ℕ) → xid ≤ 2 ^ 32 → IsSound (initial_link Initiator 1 first_stag) xid 1 []
+pub drain_sound : (link link2 : LinkSide) (n xid grant room : ℕ) (items : List OutstandingCall) (answers : List AnsweredCall) → IsSound link xid grant items answers room → link2 ≡ after_call link (Drain n) → IsSound link2 xid grant items answers room
+drain_sound link link2 n xid grant room items answers s is =
+    same_sound link link2 xid grant room room items answers s (ap (λ (l : LinkSide). l.state.memory) is ∙ (drain_leaves link n).0) (ap (λ (l : LinkSide). l.state.receive_queue) is ∙ (drain_leaves link n).1) (omega arith)
+
+first_sound : (first_stag xid room : ℕ) → xid ≤ 2 ^ 32 → IsSound (initial_link Initiator 1 first_stag) xid 1 [] [] room
 unfolding initial_link
-first_sound first_stag xid fits = record { xid = fits; few = omega arith; some = omega arith; granted = omega arith; none_waits = refl; none_lent = refl; held = omega arith; offers = tt }
+first_sound first_stag xid room fits = record { xid = fits; few = omega arith; some = omega arith; granted = omega arith; none_waits = refl; none_lent = refl; held = omega arith; offers = tt; rising = tt; apart = tt; has_room = omega arith }
 
-pub opened_sound : (link : LinkSide) (first_xid first_stag n : ℕ) (items : List OutstandingCall) → link ≡ initial_link Initiator 1 first_stag → n ≡ first_xid → first_xid < 2 ^ 32 → items ≡ [] → IsSound link n 1 items
-opened_sound link first_xid first_stag n items is xid fits none =
-    subst (λ (l : LinkSide). IsSound l n 1 items) (sym is) (subst (λ (xs : List OutstandingCall). IsSound (initial_link Initiator 1 first_stag) n 1 xs) (sym none) (first_sound first_stag n (omega (arith, xid, fits))))
+pub opened_sound : (link : LinkSide) (first_xid first_stag n room : ℕ) (items : List OutstandingCall) (answers : List AnsweredCall) → link ≡ initial_link Initiator 1 first_stag → n ≡ first_xid → first_xid < 2 ^ 32 → items ≡ [] → answers ≡ [] → IsSound link n 1 items answers room
+opened_sound link first_xid first_stag n room items answers is xid fits none empty =
+    subst (λ (l : LinkSide). IsSound l n 1 items answers room) (sym is) (subst (λ (ys : List AnsweredCall). IsSound (initial_link Initiator 1 first_stag) n 1 items ys room) (sym empty)
+    (subst (λ (xs : List OutstandingCall). IsSound (initial_link Initiator 1 first_stag) n 1 xs [] room) (sym none) (first_sound first_stag n room (omega (arith, xid, fits)))))

@@ -22,3 +22,8 @@ pub mod Revoking
 pub mod HeldRegions
 pub mod OwnOffers
 pub mod Stepping
+pub mod FoundCalls
+pub mod AnswerSteps
+pub mod FrameAnswers
+pub mod AllMarks
+pub mod DueAnswers

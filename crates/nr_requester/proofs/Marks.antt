@@ -11,7 +11,7 @@ use Rattle.nr_endpoint.specs.SendQueue.{written}
 use Rattle.nr_reduce.specs.declared.mark.LinkParameters.{LinkParameters}
 use Rattle.nr_reduce.specs.declared.mark.Mark.{Mark}
 use Rattle.nr_reduce.specs.declared.mark.Mark.TheVariants as marks
-use Rattle.nr_reduce.specs.History.{bytes_sent, bytes_received, written_at}
+use Rattle.nr_reduce.specs.History.{bytes_sent, bytes_received, written_at, fed_at}
 use Rattle.nr_reduce.specs.Events.{RunEvent, if_own, events_at, events}
 use Rattle.nr_reduce.specs.Events.RunEvent.{MemoryRevoked, QueueWritten}
 use Rattle.nr_reduce.specs.EndRules.{EndState, next_end_state, next_end_state_by, end_state_after, live}
@@ -26,9 +26,8 @@ use Rattle.nr_reduce.proofs.Standing.{itself, client_stays_out_lem, client_begin
 use Rattle.nr_reduce.proofs.KeptMarks.{revoke_stands_lem, revoke_stays_out, wrote_stands, other_stands}
 use Rattle.nr_reduce.proofs.CountedBytes.{client_bytes_written, client_bytes_due}
 use Rattle.nr_requester.specs.RequesterState.{RequesterSide, queue_of, kept_client, input_kept}
-use Rattle.nr_requester.specs.Standing.{LinkKeeps, RequesterRepresents, RequesterRunsOut}
+use Rattle.nr_requester.specs.Standing.{LinkKeeps, KeepsClient}
 use Rattle.nr_requester.specs.AfterCalls.{opened_as, drained, after_drain, after_revoke, stags_for}
-use Rattle.nr_requester.specs.Laws.{Begins, DrainIsAMark, RevokeIsAMark, RevokeStaysOut, OthersLeaveIt}
 use Rattle.nr_requester.proofs.Queues.{written_writable}
 use Rattle.nr_requester.proofs.Links.{sent_is, link_drained, link_revoked}
 use Rattle.nr_requester.proofs.KeptCalls.{sent_after, kept_drained, ended_drained, kept_after_revoke}
@@ -44,11 +43,11 @@ ended_as e x = record { state = e.state; ended = x }
 pub lives_as : (e : EndState ClientState) → e.ended ≡ None → e ≡ live e.state
 lives_as e none = ap (λ (x : Option End). ended_as e x) none
 
-pub lives : (opened : LinkParameters) (link : ℕ) (h : RequesterSide) (run : List Mark) → RequesterRepresents opened link h run → h.state.side.ended ≡ None → (client opened link run).ended ≡ None
+pub lives : (opened : LinkParameters) (link : ℕ) (h : RequesterSide) (run : List Mark) → KeepsClient opened link h run → h.state.side.ended ≡ None → (client opened link run).ended ≡ None
 lives opened link h run s none = sym s.kept.keeps.ended ∙ none
 
 -- the bytes that are due are those that were written, and the queue
-pub due_is : (opened : LinkParameters) (link : ℕ) (h : RequesterSide) (run : List Mark) → RequesterRepresents opened link h run → (client opened link run).ended ≡ None →
+pub due_is : (opened : LinkParameters) (link : ℕ) (h : RequesterSide) (run : List Mark) → KeepsClient opened link h run → (client opened link run).ended ≡ None →
     (state_of opened link run).due ≡ (state_of opened link run).written + length (queue_of h.state)
 due_is opened link h run s none =
     let due = client_bytes_due opened link run none in
@@ -57,7 +56,7 @@ due_is opened link h run s none =
     omega (arith, due, wrote, all, length-append (bytes_sent link Initiator run) (queue_of h.state))
 
 -- its next xid counts the calls that it accepted
-pub numbers : (opened : LinkParameters) (link : ℕ) (h : RequesterSide) (run : List Mark) → RequesterRepresents opened link h run → h.state.next_xid ≡ h.state.first_xid + (state_of opened link run).calls_accepted
+pub numbers : (opened : LinkParameters) (link : ℕ) (h : RequesterSide) (run : List Mark) → KeepsClient opened link h run → h.state.next_xid ≡ h.state.first_xid + (state_of opened link run).calls_accepted
 numbers opened link h run s = (let xid = s.kept.keeps.xid in let first = s.first in omega (arith, xid, first))
 
 pub own_events : (link : ℕ) (es : List RunEvent) → if_own (eqb link link && true) es ≡ es
@@ -75,7 +74,7 @@ state_next opened link run mark event none is goes_on =
 
 -- ---- A drain
 
-wrote_state : (opened : LinkParameters) (link : ℕ) (run : List Mark) (bytes : List ℕ) → (client opened link run).ended ≡ None →
+pub wrote_state : (opened : LinkParameters) (link : ℕ) (run : List Mark) (bytes : List ℕ) → (client opened link run).ended ≡ None →
     state_of opened link (run ++ marks.Wrote link Initiator bytes ∷ []) ≡ record (state_of opened link run) { written = (state_of opened link run).written + length bytes }
 unfolding client_end client_state_after
 wrote_state opened link run bytes none =
@@ -111,8 +110,8 @@ drained_sent h n none = ap (λ (x : Option End). cond (is_some x) h.state.sent (
 taken_len : (n : ℕ) (xs : List ℕ) → n ≤ length xs → length (take n xs) ≡ n
 taken_len n xs le = omega (arith, length-take n xs, le)
 
-pub drain_stands : (h : RequesterSide) (n : ℕ) → n ≤ length (queue_of h.state) → h.state.next_xid ≤ 2 ^ 32 → (opened : LinkParameters) (link : ℕ) (run : List Mark) → RequesterRepresents opened link h run →
-    RequesterRepresents opened link (after_drain n h) (run ++ marks.Wrote link Initiator (take n (queue_of h.state)) ∷ [])
+pub drain_stands : (h : RequesterSide) (n : ℕ) → n ≤ length (queue_of h.state) → h.state.next_xid ≤ 2 ^ 32 → (opened : LinkParameters) (link : ℕ) (run : List Mark) → KeepsClient opened link h run →
+    KeepsClient opened link (after_drain n h) (run ++ marks.Wrote link Initiator (take n (queue_of h.state)) ∷ [])
 drain_stands h n le fits opened link run s = record {
   first = (drain_first h n).0 ∙ s.first;
   wished = (drain_first h n).1 ∙ s.wished;
@@ -161,8 +160,8 @@ drain_stands h n le fits opened link run s = record {
 taken_is : (link : ℕ) (taken : List ℕ) → written_at link Initiator (marks.Wrote link Initiator taken) ≡ taken
 taken_is link taken = ap (λ (b : Bool). cond (b && true) taken []) (itself link)
 
-pub drain_stays_out : (h : RequesterSide) (n : ℕ) → (opened : LinkParameters) (link : ℕ) (stopped run : List Mark) → RequesterRunsOut opened link h stopped run →
-    RequesterRunsOut opened link (after_drain n h) stopped (run ++ marks.Wrote link Initiator (take n (queue_of h.state)) ∷ [])
+pub drain_stays_out : (h : RequesterSide) (n : ℕ) → (opened : LinkParameters) (link : ℕ) (stopped run : List Mark) → ClientRunsOut opened link (kept_client h.state) (queue_of h.state) stopped run →
+    ClientRunsOut opened link (kept_client (after_drain n h).state) (queue_of (after_drain n h).state) stopped (run ++ marks.Wrote link Initiator (take n (queue_of h.state)) ∷ [])
 drain_stays_out h n opened link stopped run out =
     let queue = queue_of h.state in
     let mark : Mark = marks.Wrote link Initiator (take n queue) in
@@ -170,9 +169,6 @@ drain_stays_out h n opened link stopped run out =
     subst (λ (k : KeptClient). ClientRunsOut opened link k (queue_of (after_drain n h).state) stopped (run ++ mark ∷ [])) (sym (ended_drained h n (ap (λ (x : Option End). is_some x) out.ended)))
     (subst (λ (q : List ℕ). ClientRunsOut opened link (kept_client h.state) q stopped (run ++ mark ∷ [])) (sym (drain_queue h n))
     (client_stays_out_lem opened link (kept_client h.state) queue (drop n queue) stopped run mark out queued))
-
-pub drain_is_a_mark : DrainIsAMark
-drain_is_a_mark h n le fits = (drain_stands h n le fits, drain_stays_out h n)
 
 -- ---- A revoke
 
@@ -194,14 +190,14 @@ revoke_leaves : (h : RequesterSide) (xid : ℕ) → RevokeLeaves h xid
 unfolding after_revoke
 revoke_leaves h xid = record { first = refl; wished = refl; sent = refl; ended = refl; sends_left = refl; queue = refl; input = refl }
 
-revoke_state : (opened : LinkParameters) (link : ℕ) (run : List Mark) (xid : ℕ) (bytes : List ℕ) → (client opened link run).ended ≡ None →
+pub revoke_state : (opened : LinkParameters) (link : ℕ) (run : List Mark) (xid : ℕ) (bytes : List ℕ) → (client opened link run).ended ≡ None →
     state_of opened link (run ++ marks.Revoke link xid bytes ∷ []) ≡ client_state_after opened (state_of opened link run) (MemoryRevoked (length (bytes_received link Initiator run)) xid)
 unfolding client_end
 revoke_state opened link run xid bytes none =
     state_next opened link run (marks.Revoke link xid bytes) (MemoryRevoked (length (bytes_received link Initiator run)) xid) none (own_events link (MemoryRevoked (length (bytes_received link Initiator run)) xid ∷ [])) refl
 
-pub revoke_is_a_mark : RevokeIsAMark
-revoke_is_a_mark h xid bytes opened link run s =
+pub revoke_stands : (opened : LinkParameters) (link : ℕ) (h : RequesterSide) (run : List Mark) (xid : ℕ) (bytes : List ℕ) → KeepsClient opened link h run → KeepsClient opened link (after_revoke h xid) (run ++ marks.Revoke link xid bytes ∷ [])
+revoke_stands opened link h run xid bytes s =
     let l : RevokeLeaves h xid = revoke_leaves h xid in
     let mark : Mark = marks.Revoke link xid bytes in
     record {
@@ -218,7 +214,8 @@ revoke_is_a_mark h xid bytes opened link run s =
           (link_revoked opened h.state.side (state_of opened link run) (length (bytes_received link Initiator run)) xid (released_all h.state.side.memory (stags_for xid h.state.outstanding)) (s.side (sym l.ended ∙ none))));
     }
 
-pub revoke_stays_out_lem : RevokeStaysOut
+pub revoke_stays_out_lem : (opened : LinkParameters) (link : ℕ) (h : RequesterSide) (stopped run : List Mark) (xid : ℕ) (bytes : List ℕ) → ClientRunsOut opened link (kept_client h.state) (queue_of h.state) stopped run →
+    ClientRunsOut opened link (kept_client (after_revoke h xid).state) (queue_of (after_revoke h xid).state) (stopped ++ marks.Revoke link xid bytes ∷ []) (run ++ marks.Revoke link xid bytes ∷ [])
 revoke_stays_out_lem opened link h stopped run xid bytes out =
     let l : RevokeLeaves h xid = revoke_leaves h xid in
     let mark : Mark = marks.Revoke link xid bytes in
@@ -228,8 +225,9 @@ revoke_stays_out_lem opened link h stopped run xid bytes out =
 
 -- ---- A mark that is no event
 
-pub others_leave_it : OthersLeaveIt
-others_leave_it opened link h run mark s no_events no_write no_feed =
+pub others_leave_client : (opened : LinkParameters) (link : ℕ) (h : RequesterSide) (run : List Mark) (mark : Mark) → KeepsClient opened link h run →
+    events_at link Initiator run mark ≡ [] → written_at link Initiator mark ≡ [] → fed_at link Initiator mark ≡ [] → KeepsClient opened link h (run ++ mark ∷ [])
+others_leave_client opened link h run mark s no_events no_write no_feed =
     let same : state_of opened link (run ++ mark ∷ []) ≡ state_of opened link run =
     ap (λ (e : EndState ClientState). e.state) (client_one opened link run mark ∙ ap (λ (es : List RunEvent). end_state_after (client_rules opened) (client opened link run) es) no_events) in
     record {
@@ -268,9 +266,9 @@ link_opened opened link = record {
   greeted = refl;
 }
 
-pub begins : Begins
+pub begins_client : (opened : LinkParameters) (link : ℕ) → KeepsClient opened link (opened_as opened.first_xid opened.first_stag opened.wished) []
 unfolding opened_as
-begins opened link = record {
+begins_client opened link = record {
   first = refl;
   wished = refl;
   kept = subst (λ (k : KeptClient). ClientRepresents opened link k (initial_input Responder) (own_hello Initiator ++ []) []) (kept_opened opened)

@@ -27,7 +27,7 @@ pub drain_keeps_law : DrainKeepsLaw
 drain_keeps_law opened link h run n s asked =
     let queue : List ℕ = queue_of h.state in
     let parts : ClientRepresents opened link (kept_client h.state) (input_kept h) (take n queue ++ drop n queue) run =
-    subst (λ (q : List ℕ). ClientRepresents opened link (kept_client h.state) (input_kept h) q run) (sym (take-append-drop n queue)) s.kept in
+    subst (λ (q : List ℕ). ClientRepresents opened link (kept_client h.state) (input_kept h) q run) (sym (take-append-drop n queue)) s.keeps.kept in
     AtEachMark_more (AskedMark IsPrefixOf opened link) [] run (marks.Wrote link Initiator (take n queue)) asked
     (λ same. ((client_queue_lem opened link (kept_client h.state) (input_kept h) (take n queue) (drop n queue) run run).0 parts).0)
 
@@ -35,7 +35,7 @@ pub drain_out_keeps_law : DrainOutKeepsLaw
 drain_out_keeps_law opened link h stopped run n out asked =
     let queue : List ℕ = queue_of h.state in
     let parts : ClientRunsOut opened link (kept_client h.state) (take n queue ++ drop n queue) stopped run =
-    subst (λ (q : List ℕ). ClientRunsOut opened link (kept_client h.state) q stopped run) (sym (take-append-drop n queue)) out in
+    subst (λ (q : List ℕ). ClientRunsOut opened link (kept_client h.state) q stopped run) (sym (take-append-drop n queue)) out.out in
     AtEachMark_more (AskedMark IsPrefixOf opened link) [] run (marks.Wrote link Initiator (take n queue)) asked
     (λ same. (client_queue_lem opened link (kept_client h.state) (input_kept h) (take n queue) (drop n queue) stopped run).1 parts)
 
@@ -43,7 +43,7 @@ pub queue_is_all_due : QueueIsAllDue
 queue_is_all_due opened link h run s =
     let queue : List ℕ = queue_of h.state in
     let parts : ClientRepresents opened link (kept_client h.state) (input_kept h) (queue ++ []) run =
-    subst (λ (q : List ℕ). ClientRepresents opened link (kept_client h.state) (input_kept h) q run) (sym (append-nil queue)) s.kept in
+    subst (λ (q : List ℕ). ClientRepresents opened link (kept_client h.state) (input_kept h) q run) (sym (append-nil queue)) s.keeps.kept in
     ((client_queue_lem opened link (kept_client h.state) (input_kept h) queue [] run run).0 parts).1 refl
 
 -- ---- Marks of which nothing is asked

@@ -19,12 +19,11 @@ use Rattle.nr_reduce.specs.History.{bytes_received}
 use Rattle.nr_reduce.specs.Run.{client, placed_bytes, grants_of}
 use Rattle.nr_reduce.specs.Credits.{calls_outstanding, credits_granted}
 use Rattle.nr_reduce.specs.KeptClient.{bytes_under, HoldsFor}
-use Rattle.nr_reduce.proofs.Standing.{client_stays_out_lem}
-use Rattle.nr_requester.specs.RequesterState.{StoredCall, RequesterSide, stags_of, kept_call, kept_client, queue_of}
-use Rattle.nr_requester.specs.Standing.{RequesterRunsOut}
+use Rattle.nr_requester.specs.RequesterState.{StoredCall, RequesterSide, stags_of, kept_call}
 use Rattle.nr_requester.specs.AfterPiece.{requester_ended, after_frame, after_piece}
-use Rattle.nr_requester.specs.Laws.{MemoryAsClient, MemoryOut, CountsOut, RefusesOut, PieceStaysOut, OthersStayOut}
+use Rattle.nr_requester.specs.Laws.{MemoryAsClient, MemoryOut, CountsOut, RefusesOut, PieceStaysOut}
 use Rattle.nr_requester.proofs.Answered.{ended_answer}
+use Rattle.nr_requester.proofs.AllMarks.{others_stay_out}
 
 -- ---- What its memory holds
 
@@ -40,25 +39,21 @@ stored_hold opened link run m count first sent (c ∷ cs) is h = (
 )
 
 pub memory_as_client : MemoryAsClient
-memory_as_client opened link h run s = stored_hold opened link run h.state.side.memory _ h.state.first_xid h.state.sent h.state.outstanding refl s.kept.keeps.holds
+memory_as_client opened link h run s = stored_hold opened link run h.state.side.memory _ h.state.first_xid h.state.sent h.state.outstanding refl s.keeps.kept.keeps.holds
 
 pub memory_out_lem : MemoryOut
-memory_out_lem opened link h stopped run out = stored_hold opened link stopped h.state.side.memory _ h.state.first_xid h.state.sent h.state.outstanding refl out.keeps.holds
+memory_out_lem opened link h stopped run out = stored_hold opened link stopped h.state.side.memory _ h.state.first_xid h.state.sent h.state.outstanding refl out.out.keeps.holds
 
 -- ---- Of one that ran out of memory
 
 pub counts_out_lem : CountsOut
 unfolding calls_outstanding credits_granted
-counts_out_lem opened link h stopped run out = (out.keeps.outstanding, out.keeps.grant)
-
-pub others_stay_out : OthersStayOut
-others_stay_out opened link h stopped run mark out no_write =
-    client_stays_out_lem opened link (kept_client h.state) (queue_of h.state) (queue_of h.state) stopped run mark out (ap (λ (xs : List ℕ). xs ++ queue_of h.state) no_write)
+counts_out_lem opened link h stopped run out = (out.out.keeps.outstanding, out.out.keeps.grant)
 
 pub refuses_out : RefusesOut
 refuses_out opened link h stopped run call form out = (
-  ended_answer h.state call form ends.Memory (sym out.ended),
-  others_stay_out opened link h stopped run (marks.Submit link call form (submissions.Refused (refusals.Ended ends.Memory))) out refl,
+  ended_answer h.state call form ends.Memory (sym out.out.ended),
+  others_stay_out opened link h stopped run (marks.Submit link call form (submissions.Refused (refusals.Ended ends.Memory))) out refl refl refl (λ x. refl),
 )
 
 -- a side that has ended takes nothing of a piece
@@ -76,9 +71,5 @@ fed_out h piece e = by (split h.awaited (h.rest ++ piece)).frames
         ∙ ap (λ (b : Bool). record { awaited = h.awaited; rest = cond b [] []; state = h.state }) e
 
 pub piece_stays_out_lem : PieceStaysOut
-piece_stays_out_lem opened link h stopped run piece out =
-    let fed : after_piece h piece ≡ record { awaited = h.awaited; rest = []; state = h.state } = fed_out h piece (ap (λ (x : Option End). is_some x) out.ended) in
-    let mark : Mark = marks.Fed link Initiator piece in (
-      λ none. fed ∙ (λ i. record { awaited = h.awaited; rest = sym none i; state = h.state }),
-      subst (λ (x : RequesterSide). RequesterRunsOut opened link x stopped (run ++ mark ∷ [])) (sym fed) (others_stay_out opened link h stopped run mark out refl),
-    )
+piece_stays_out_lem opened link h stopped run piece out none =
+    fed_out h piece (ap (λ (x : Option End). is_some x) out.out.ended) ∙ (λ i. record { awaited = h.awaited; rest = sym none i; state = h.state })

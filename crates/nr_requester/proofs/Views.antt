@@ -14,7 +14,8 @@ use Rattle.nr_requester.specs.RequesterState.{RequesterSide, queue_of}
 use Rattle.nr_requester.specs.Standing.{RequesterRepresents, RequesterRunsOut, StandsOn, StaysOut}
 use Rattle.nr_requester.specs.AfterCalls.{opened_as, sent_unless, after_drain}
 use Rattle.nr_requester.specs.Views.{requester_view}
-use Rattle.nr_requester.proofs.Marks.{begins, drain_is_a_mark}
+use Rattle.nr_requester.proofs.AllMarks.{begins, drain_is_a_mark}
+use Rattle.nr_requester.specs.declared.answer.AnsweredCall.{AnsweredCall}
 
 pub if_ok : {T E : Type 0} {P Q : T → Type 0} (r : Result T E) → ((t : T) → P t → Q t) → IfOk r P → IfOk r Q
 if_ok (Ok t) f h = f t h
@@ -32,24 +33,24 @@ opened_stands h first_xid first_stag wished is opened link xid stag credits =
 
 -- ---- After a drain
 
-drained_as : (link : LinkSide) (sent wished first xid grant n : ℕ) (items : List OutstandingCall) →
-    requester_view (after_call link (Drain n)) (sent_unless (has_ended link.state) sent (after_call link (Drain n)).state.send_queue.sends_left) wished first xid grant items ≡ after_drain n (requester_view link sent wished first xid grant items)
+drained_as : (link : LinkSide) (sent wished first xid grant n : ℕ) (items : List OutstandingCall) (answers : List AnsweredCall) →
+    requester_view (after_call link (Drain n)) (sent_unless (has_ended link.state) sent (after_call link (Drain n)).state.send_queue.sends_left) wished first xid grant items answers ≡ after_drain n (requester_view link sent wished first xid grant items answers)
 unfolding after_call after_drain
-drained_as link sent wished first xid grant n items = refl
+drained_as link sent wished first xid grant n items answers = refl
 
 ended_stays : (link : LinkSide) (n : ℕ) → has_ended (after_call link (Drain n)).state ≡ has_ended link.state
 unfolding after_call
 ended_stays link n = refl
 
-drained_view : (link link2 : LinkSide) (sent sent2 wished first xid grant n : ℕ) (items : List OutstandingCall) → link2 ≡ after_call link (Drain n) →
-    sent2 ≡ sent_unless (has_ended link2.state) sent link2.state.send_queue.sends_left → requester_view link2 sent2 wished first xid grant items ≡ after_drain n (requester_view link sent wished first xid grant items)
-drained_view link link2 sent sent2 wished first xid grant n items link_is sent_is =
+drained_view : (link link2 : LinkSide) (sent sent2 wished first xid grant n : ℕ) (items : List OutstandingCall) (answers : List AnsweredCall) → link2 ≡ after_call link (Drain n) →
+    sent2 ≡ sent_unless (has_ended link2.state) sent link2.state.send_queue.sends_left → requester_view link2 sent2 wished first xid grant items answers ≡ after_drain n (requester_view link sent wished first xid grant items answers)
+drained_view link link2 sent sent2 wished first xid grant n items answers link_is sent_is =
     let drained : LinkSide = after_call link (Drain n) in
     let count : sent2 ≡ sent_unless (has_ended link.state) sent drained.state.send_queue.sends_left =
     sent_is ∙ ap (λ (l : LinkSide). sent_unless (has_ended l.state) sent l.state.send_queue.sends_left) link_is
     ∙ ap (λ (b : Bool). sent_unless b sent drained.state.send_queue.sends_left) (ended_stays link n) in
-    (λ i. requester_view (link_is i) (count i) wished first xid grant items)
-    ∙ drained_as link sent wished first xid grant n items
+    (λ i. requester_view (link_is i) (count i) wished first xid grant items answers)
+    ∙ drained_as link sent wished first xid grant n items answers
 
 -- what a drain says of the requester before and after it
 abbrev pub DrainTaken : {T E : Type 0} → (before after : RequesterSide) → ℕ → (had has : Option (List ℕ)) → Result T E → Type 0
@@ -59,14 +60,14 @@ DrainTaken before after n had has r =
     × StaysOut before (λ link. marks.Wrote link Initiator (take n (queue_of before.state))) after
     × OnOk r (n ≡ length (queue_of before.state))
 
-pub drain_taken : {T E : Type 0} (h : RequesterSide) (link link2 : LinkSide) (sent sent2 wished first xid grant n : ℕ) (items : List OutstandingCall) (had has : Option (List ℕ)) (r : Result T E) → requester_view link sent wished first xid grant items ≡ h → xid ≤ 2 ^ 32 →
+pub drain_taken : {T E : Type 0} (h : RequesterSide) (link link2 : LinkSide) (sent sent2 wished first xid grant n : ℕ) (items : List OutstandingCall) (answers : List AnsweredCall) (had has : Option (List ℕ)) (r : Result T E) → requester_view link sent wished first xid grant items answers ≡ h → xid ≤ 2 ^ 32 →
     n ≤ length (writable link.state.has_hello link.state.send_queue) → Appends had has (take n (writable link.state.has_hello link.state.send_queue)) → link2 ≡ after_call link (Drain n) → sent2 ≡ sent_unless (has_ended link2.state) sent link2.state.send_queue.sends_left →
-    OnOk r (n ≡ length (writable link.state.has_hello link.state.send_queue)) → DrainTaken h (requester_view link2 sent2 wished first xid grant items) n had has r
-drain_taken h link link2 sent sent2 wished first xid grant n items had has r is fits le appends link_is sent_is all =
-    let here : RequesterSide = requester_view link sent wished first xid grant items in
-    let view : requester_view link2 sent2 wished first xid grant items ≡ after_drain n here = drained_view link link2 sent sent2 wished first xid grant n items link_is sent_is in
+    OnOk r (n ≡ length (writable link.state.has_hello link.state.send_queue)) → DrainTaken h (requester_view link2 sent2 wished first xid grant items answers) n had has r
+drain_taken h link link2 sent sent2 wished first xid grant n items answers had has r is fits le appends link_is sent_is all =
+    let here : RequesterSide = requester_view link sent wished first xid grant items answers in
+    let view : requester_view link2 sent2 wished first xid grant items answers ≡ after_drain n here = drained_view link link2 sent sent2 wished first xid grant n items answers link_is sent_is in
     let mark = drain_is_a_mark here n le fits in
-    subst (λ (x : RequesterSide). DrainTaken x (requester_view link2 sent2 wished first xid grant items) n had has r) is (
+    subst (λ (x : RequesterSide). DrainTaken x (requester_view link2 sent2 wished first xid grant items answers) n had has r) is (
       le,
       appends,
       view,

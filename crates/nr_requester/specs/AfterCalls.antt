@@ -1,6 +1,6 @@
 -- A requester as it is opened, and after the calls that its owner makes.
-use Rattle.std.specs.Prelude.{ℕ, ◌+◌, Bool, true, false, ◌==◌, if◌then◌else◌, List, [], ◌∷◌, ◌++◌, map, Option, None, Some}
-use Rattle.std.specs.List.{find}
+use Rattle.std.specs.Prelude.{ℕ, ◌+◌, Bool, true, false, not, ◌==◌, if◌then◌else◌, List, [], ◌∷◌, ◌++◌, map, Option, None, Some}
+use Rattle.std.specs.List.{filter, find}
 use Rattle.nr_wire.specs.declared.hello.Side.TheVariants.{Initiator, Responder}
 use Rattle.nr_wire.specs.declared.stream.Awaited.TheVariants.{Hello as HelloFrom}
 use Rattle.nr_endpoint.specs.LinkState.{LinkState, has_ended, initial_state}
@@ -12,6 +12,7 @@ use Rattle.nr_reduce.specs.declared.call.Call.{Call}
 use Rattle.nr_reduce.specs.declared.outline.Plan.{Plan}
 use Rattle.nr_reduce.specs.Plans.{Buffer, buffers, call_message, lists_of}
 use Rattle.nr_reduce.specs.KeptClient.{registered_all, released_all}
+use Rattle.nr_requester.specs.declared.answer.AnsweredCall.{AnsweredCall}
 use Rattle.nr_requester.specs.RequesterState.{stags_of, StoredCall, RequesterSide}
 use Rattle.nr_requester.specs.Sending.{offered_of}
 
@@ -19,7 +20,7 @@ unfoldable pub opened_as : (first_xid first_stag wished : ℕ) → RequesterSide
 opened_as first_xid first_stag wished = record {
   awaited = HelloFrom Responder;
   rest = [];
-  state = record { side = initial_state Initiator 1 first_stag; sent = 0; wished = wished; first_xid = first_xid; next_xid = first_xid; grant = 1; outstanding = [] };
+  state = record { side = initial_state Initiator 1 first_stag; sent = 0; wished = wished; first_xid = first_xid; next_xid = first_xid; grant = 1; outstanding = []; answered = [] };
 }
 
 -- the side once the regions of a plan were registered and its message was queued
@@ -28,7 +29,7 @@ submitted s message bs = record s { memory = registered_all s.memory bs; send_qu
 
 -- what is stored of a call that is accepted under an xid, by a plan whose regions are registered in this memory
 abbrev pub stored_call : ℕ → Call → Plan → RegisteredMemory → StoredCall
-stored_call xid call plan m = record { xid = xid; call = Some call; offered = lists_of m.next plan; claims = claims_of m (offered_of plan) }
+stored_call xid call plan m = record { xid = xid; call = Some call; is_forgotten = false; offered = lists_of m.next plan; claims = claims_of m (offered_of plan) }
 
 -- after a call was accepted, by this plan
 abbrev pub after_submit : RequesterSide → Call → Plan → RequesterSide
@@ -55,13 +56,17 @@ after_drain n h = record h {
   };
 }
 
+-- the answers of all but one xid
+abbrev pub without_answer : ℕ → List AnsweredCall → List AnsweredCall
+without_answer xid answers = filter (λ a. not (a.xid == xid)) answers
+
 -- no regions
 abbrev pub no_claims : Claims
 no_claims = record { read = None; write = None; reply = None }
 
 -- the memory of a call is revoked: its regions are released, and the call is handed back
 abbrev pub revoked_if : Bool → StoredCall → StoredCall
-revoked_if true c = record { xid = c.xid; call = None; offered = c.offered; claims = no_claims }
+revoked_if true c = record { xid = c.xid; call = None; is_forgotten = c.is_forgotten; offered = c.offered; claims = no_claims }
 revoked_if false c = c
 
 abbrev pub revoked_call : ℕ → StoredCall → StoredCall
@@ -80,5 +85,22 @@ after_revoke h xid = record h {
   state = record h.state {
     side = record h.state.side { memory = released_all h.state.side.memory (stags_for xid h.state.outstanding) };
     outstanding = map (revoked_call xid) h.state.outstanding;
+    answered = without_answer xid h.state.answered;
+  };
+}
+
+-- the outcome of a call is handed over, or given up: then the call's regions stay until its message comes
+abbrev pub forgotten_if : Bool → StoredCall → StoredCall
+forgotten_if true c = record { xid = c.xid; call = c.call; is_forgotten = true; offered = c.offered; claims = c.claims }
+forgotten_if false c = c
+
+abbrev pub forgotten_call : ℕ → StoredCall → StoredCall
+forgotten_call xid c = forgotten_if (c.xid == xid) c
+
+unfoldable pub after_forget : RequesterSide → ℕ → RequesterSide
+after_forget h xid = record h {
+  state = record h.state {
+    outstanding = map (forgotten_call xid) h.state.outstanding;
+    answered = without_answer xid h.state.answered;
   };
 }

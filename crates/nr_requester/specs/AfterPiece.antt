@@ -1,6 +1,6 @@
 -- What a piece of the server's stream makes of a requester, frame by frame.
-use Rattle.std.specs.Prelude.{ℕ, Bool, not, ◌==◌, List, [], ◌∷◌, Option, None, Some, is_some}
-use Rattle.std.specs.List.{filter}
+use Rattle.std.specs.Prelude.{◌≡◌, ℕ, Bool, not, ◌==◌, List, [], ◌∷◌, ◌++◌, Option, None, Some, is_some}
+use Rattle.std.specs.List.{filter, find}
 use Rattle.nr_xdr.specs.Fields.{word_at}
 use Rattle.nr_wire.specs.declared.stream.Awaited.{Awaited}
 use Rattle.nr_wire.specs.declared.stream.Awaited.TheVariants.{Fpdu, Hello as HelloFrom}
@@ -11,12 +11,18 @@ use Rattle.nr_endpoint.specs.LinkState.{LinkState}
 use Rattle.nr_endpoint.specs.ReceiveQueue.{DeliveredEvent, delivered, posted}
 use Rattle.nr_endpoint.specs.ReceiveQueue.DeliveredEvent.{MessageReceived, ReadDone}
 use Rattle.nr_endpoint.specs.Judging.{with_frame, with_end_of}
+use Rattle.nr_regions.specs.RegisteredMemory.{RegisteredMemory, Claim}
+use Rattle.nr_endpoint.specs.declared.offering.Claims.{Claims}
+use Rattle.nr_reduce.specs.declared.call.Call.{Call}
+use Rattle.nr_reduce.specs.declared.call.Outcome.{Outcome}
 use Rattle.nr_reduce.specs.ClientMessages.{ReplyVerdict}
 use Rattle.nr_reduce.specs.ClientMessages.ReplyVerdict.{EndsLink, GivesOutcome}
 use Rattle.nr_reduce.specs.Client.{credits_of_word}
 use Rattle.nr_reduce.specs.KeptCalls.{kept_verdict}
 use Rattle.nr_reduce.specs.KeptClient.{bytes_under, released_all}
-use Rattle.nr_requester.specs.RequesterState.{StoredCall, RequesterState, RequesterSide, kept_calls}
+use Rattle.nr_requester.specs.declared.answer.AnsweredCall.{AnsweredCall}
+use Rattle.nr_requester.specs.declared.answer.Buffers.{Buffers}
+use Rattle.nr_requester.specs.RequesterState.{StoredCall, RequesterState, RequesterSide, awaited_call, kept_calls, queue_of}
 use Rattle.nr_requester.specs.AfterCalls.{stags_for}
 
 -- the message was delivered, and its receive is posted again
@@ -26,13 +32,36 @@ taken s = record s { receive_queue = posted (delivered s.receive_queue) }
 abbrev pub without_call : ℕ → List StoredCall → List StoredCall
 without_call xid calls = filter (λ c. not (c.xid == xid)) calls
 
--- A message that gives an outcome ends its call: its regions are released, and it isn't outstanding any more. Else the side is stopped.
+-- the buffers of a call: what its regions hold
+abbrev pub buffer_under : RegisteredMemory → Option Claim → Option (List ℕ)
+buffer_under m None = None
+buffer_under m (Some claim) = Some (bytes_under m claim.stag)
+
+abbrev pub buffers_under : RegisteredMemory → Claims → Buffers
+buffers_under m c = record { read = buffer_under m c.read; write = buffer_under m c.write; reply = buffer_under m c.reply }
+
+-- a call that an outcome came for, if its owner awaits it
+abbrev pub answered_as : RegisteredMemory → StoredCall → Option Call → Option Outcome → List AnsweredCall
+answered_as m c None outcome = []
+answered_as m c (Some call) None = []
+answered_as m c (Some call) (Some outcome) = record { xid = c.xid; call = call; buffers = buffers_under m c.claims; outcome = outcome } ∷ []
+
+abbrev pub answer_to : RegisteredMemory → Option StoredCall → Option Outcome → List AnsweredCall
+answer_to m None outcome = []
+answer_to m (Some c) outcome = answered_as m c (awaited_call c) outcome
+
+abbrev pub call_of : ℕ → List StoredCall → Option StoredCall
+call_of xid calls = find (λ c. c.xid == xid) calls
+
+-- A message that gives an outcome ends its call: its regions are released, it isn't outstanding any more, and if its owner awaits the outcome,
+-- this is kept for it with the call and its buffers. Else the side is stopped.
 abbrev pub judged : RequesterState → LinkState → List ℕ → ReplyVerdict → RequesterState
 judged r s message (EndsLink reason) = record r { side = with_end_of (ends.Bad s.last reason) (taken s) }
 judged r s message (GivesOutcome xid outcome) = record r {
   side = record (taken s) { memory = released_all s.memory (stags_for (word_at 0 message) r.outstanding) };
   grant = credits_of_word (word_at 8 message);
   outstanding = without_call (word_at 0 message) r.outstanding;
+  answered = r.answered ++ answer_to s.memory (call_of (word_at 0 message) r.outstanding) outcome;
 }
 
 -- what is made of the event that a frame delivers
@@ -60,6 +89,11 @@ after_frame r Fpdu frame = after_fpdu r frame
 unfoldable pub after_piece : RequesterSide → List ℕ → RequesterSide
 after_piece h piece = feeding_after requester_ended after_frame h piece
 
--- memory ran out: the side has ended, and keeps no input
-unfoldable pub out_of_memory : RequesterSide → RequesterSide
-out_of_memory h = record { awaited = h.awaited; rest = []; state = record h.state { side = record h.state.side { ended = Some ends.Memory } } }
+-- It ran out of memory for a frame: it has ended and keeps no input, and all else is as before that frame but for what only its side of the link
+-- knows of the frame.
+pub record RanOut (before after : RequesterSide) : Type 0 where
+  pub rest : after.rest ≡ []
+  pub ended : after.state.side.ended ≡ Some ends.Memory
+  pub memory : after.state.side.memory ≡ before.state.side.memory
+  pub queue : queue_of after.state ≡ queue_of before.state
+  pub same : after.state ≡ record before.state { side = after.state.side }

@@ -1,12 +1,13 @@
 -- A requester stands for the marks of its link: each call of its owner is one mark more.
-use Rattle.std.specs.Prelude.{◌≡◌, ◌≢◌, ℕ, ◌^◌, ◌<◌, ◌≤◌, List, [], ◌∷◌, ◌++◌, true, length, take, None, Some, Ok, is_some, ◌==◌}
-use Rattle.std.specs.List.{AllByRecursion, find, flat_map}
+use Rattle.std.specs.Prelude.{◌≡◌, ◌≢◌, ℕ, ◌^◌, ◌<◌, ◌≤◌, ◌||◌, Bool, List, [], ◌∷◌, ◌++◌, true, false, length, map, take, None, Some, Ok, is_some, ◌==◌}
+use Rattle.std.specs.List.{AllByRecursion, Contains, find, flat_map, list_any}
 use Rattle.nr_wire.specs.declared.hello.Side.TheVariants.{Initiator, Responder}
 use Rattle.nr_link.specs.declared.end.End.TheVariants as ends
 use Rattle.nr_reduce.specs.declared.call.Call.{Call}
 use Rattle.nr_reduce.specs.declared.call.Form.{Form}
 use Rattle.nr_reduce.specs.declared.call.Refused.{Refused}
 use Rattle.nr_reduce.specs.declared.call.Refused.TheVariants as refusals
+use Rattle.nr_reduce.specs.declared.call.Outcome.{Outcome}
 use Rattle.nr_reduce.specs.declared.call.Submission.TheVariants as submissions
 use Rattle.nr_reduce.specs.declared.mark.LinkParameters.{LinkParameters}
 use Rattle.nr_reduce.specs.declared.mark.Mark.{Mark}
@@ -14,7 +15,8 @@ use Rattle.nr_reduce.specs.declared.mark.Mark.TheVariants as marks
 use Rattle.nr_reduce.specs.declared.outline.Plan.{Plan}
 use Rattle.nr_reduce.specs.Events.{events_at}
 use Rattle.nr_rpc.specs.Credential.{CanWriteCred}
-use Rattle.nr_reduce.specs.History.{bytes_sent, written_at, fed_at}
+use Rattle.nr_reduce.specs.History.{CompletedCall, bytes_sent, written_at, fed_at, completed_at, abandons}
+use Rattle.nr_reduce.specs.OutcomesDue.{outcomes_due}
 use Rattle.nr_reduce.specs.Run.{client, output_due, placed_bytes}
 use Rattle.nr_reduce.specs.Opening.{IsOpened}
 use Rattle.nr_reduce.specs.Asked.{AskedSoFar, IsAll, IsAwaited, revoked_bytes}
@@ -23,8 +25,9 @@ use Rattle.nr_reduce.specs.Credits.{calls_outstanding, credits_granted, KeepsGra
 use Rattle.nr_reduce.specs.KeptClient.{bytes_under}
 use Rattle.nr_requester.specs.RequesterState.{StoredCall, RequesterSide, stags_of, queue_of}
 use Rattle.nr_requester.specs.Standing.{RequesterRepresents, RequesterRunsOut, StandsOn, StaysOut}
-use Rattle.nr_requester.specs.AfterCalls.{opened_as, after_submit, after_drain, after_revoke}
-use Rattle.nr_requester.specs.AfterPiece.{after_piece, out_of_memory}
+use Rattle.nr_requester.specs.KeptAnswers.{completed_of}
+use Rattle.nr_requester.specs.AfterCalls.{opened_as, after_submit, after_drain, after_revoke, after_forget}
+use Rattle.nr_requester.specs.AfterPiece.{after_piece, RanOut}
 use Rattle.nr_requester.specs.Answers.{answer_of, plan_under}
 
 abbrev pub Begins : Type 0
@@ -55,23 +58,42 @@ DrainIsAMark = (h : RequesterSide) (n : ℕ) → n ≤ length (queue_of h.state)
 abbrev pub PieceIsAMark : Type 0
 PieceIsAMark = (h : RequesterSide) (piece : List ℕ) → StandsOn h (λ link. marks.Fed link Initiator piece) (after_piece h piece)
 
--- also if memory runs out after its first n bytes, when the requester hasn't ended,
+-- also if memory runs out for the frame after it, when the requester hasn't ended: the rest of what it was fed is no mark,
 abbrev pub PieceRunsOut : Type 0
-PieceRunsOut = (h : RequesterSide) (piece : List ℕ) (n : ℕ) → (after_piece h (take n piece)).state.side.ended ≡ None → (opened : LinkParameters) (link : ℕ) (run : List Mark) → RequesterRepresents opened link h run →
-    RequesterRunsOut opened link (out_of_memory (after_piece h (take n piece))) (run ++ marks.Fed link Initiator (take n piece) ∷ []) (run ++ marks.Fed link Initiator piece ∷ [])
+PieceRunsOut = (h after : RequesterSide) (piece : List ℕ) → (after_piece h piece).state.side.ended ≡ None → RanOut (after_piece h piece) after → (opened : LinkParameters) (link : ℕ) (run : List Mark) → RequesterRepresents opened link h run →
+    RequesterRunsOut opened link after (run ++ marks.Fed link Initiator piece ∷ []) (run ++ marks.Fed link Initiator piece ∷ [])
 
--- a revoke,
+-- a revoke of a call that was accepted,
 abbrev pub RevokeIsAMark : Type 0
-RevokeIsAMark = (h : RequesterSide) (xid : ℕ) (bytes : List ℕ) → StandsOn h (λ link. marks.Revoke link xid bytes) (after_revoke h xid)
+RevokeIsAMark = (h : RequesterSide) (xid : ℕ) (bytes : List ℕ) → xid < h.state.next_xid → StandsOn h (λ link. marks.Revoke link xid bytes) (after_revoke h xid)
 
 abbrev pub RevokeStaysOut : Type 0
-RevokeStaysOut = (opened : LinkParameters) (link : ℕ) (h : RequesterSide) (stopped run : List Mark) (xid : ℕ) (bytes : List ℕ) → RequesterRunsOut opened link h stopped run →
+RevokeStaysOut = (opened : LinkParameters) (link : ℕ) (h : RequesterSide) (stopped run : List Mark) (xid : ℕ) (bytes : List ℕ) → xid < h.state.next_xid → RequesterRunsOut opened link h stopped run →
     RequesterRunsOut opened link (after_revoke h xid) (stopped ++ marks.Revoke link xid bytes ∷ []) (run ++ marks.Revoke link xid bytes ∷ [])
 
--- and a mark that is no event of it: a refused Submit, Done, Lost, Forget, and what happens elsewhere.
+-- an outcome of such a call that is handed over or given up, also after it ran out of memory,
+abbrev pub ForgetIsAMark : Type 0
+ForgetIsAMark = (h : RequesterSide) (xid : ℕ) → xid < h.state.next_xid → StandsOn h (λ link. marks.Forget link xid) (after_forget h xid) × StaysOut h (λ link. marks.Forget link xid) (after_forget h xid)
+
+abbrev pub DoneIsAMark : Type 0
+DoneIsAMark = (h : RequesterSide) (xid : ℕ) (outcome : Outcome) → xid < h.state.next_xid →
+    StandsOn h (λ link. marks.Done link xid outcome) (after_forget h xid) × StaysOut h (λ link. marks.Done link xid outcome) (after_forget h xid)
+
+-- and a mark that is no event of it and gives up no call of it: a refused Submit, and what happens elsewhere.
+abbrev pub gives_up : ℕ → ℕ → Mark → Bool
+gives_up link xid mark = abandons link xid mark || list_any (λ c. c.xid == xid) (completed_at link mark)
+
+abbrev pub GivesUpNothing : ℕ → Mark → Type 0
+GivesUpNothing link mark = (xid : ℕ) → gives_up link xid mark ≡ false
+
 abbrev pub OthersLeaveIt : Type 0
 OthersLeaveIt = (opened : LinkParameters) (link : ℕ) (h : RequesterSide) (run : List Mark) (mark : Mark) → RequesterRepresents opened link h run →
-    events_at link Initiator run mark ≡ [] → written_at link Initiator mark ≡ [] → fed_at link Initiator mark ≡ [] → RequesterRepresents opened link h (run ++ mark ∷ [])
+    events_at link Initiator run mark ≡ [] → written_at link Initiator mark ≡ [] → fed_at link Initiator mark ≡ [] → GivesUpNothing link mark → RequesterRepresents opened link h (run ++ mark ∷ [])
+
+-- The outcomes of its answered calls are the outcomes that are due, no more and no fewer.
+abbrev pub AnswersAreDue : Type 0
+AnswersAreDue = (opened : LinkParameters) (link : ℕ) (h : RequesterSide) (run : List Mark) (c : CompletedCall) → RequesterRepresents opened link h run →
+    (Contains (map completed_of h.state.answered) c → Contains (outcomes_due opened link run) c) × (Contains (outcomes_due opened link run) c → Contains (map completed_of h.state.answered) c)
 
 -- ---- What its memory holds
 
@@ -99,15 +121,14 @@ RefusesOut = (opened : LinkParameters) (link : ℕ) (h : RequesterSide) (stopped
     (answer_of h.state call form ≡ submissions.Refused (refusals.Ended ends.Memory))
     × RequesterRunsOut opened link h stopped (run ++ marks.Submit link call form (submissions.Refused (refusals.Ended ends.Memory)) ∷ [])
 
--- by a later piece, which changes nothing of it,
+-- by a later piece, which changes nothing of it and is no mark,
 abbrev pub PieceStaysOut : Type 0
-PieceStaysOut = (opened : LinkParameters) (link : ℕ) (h : RequesterSide) (stopped run : List Mark) (piece : List ℕ) → RequesterRunsOut opened link h stopped run →
-    (h.rest ≡ [] → after_piece h piece ≡ h) × RequesterRunsOut opened link (after_piece h piece) stopped (run ++ marks.Fed link Initiator piece ∷ [])
+PieceStaysOut = (opened : LinkParameters) (link : ℕ) (h : RequesterSide) (stopped run : List Mark) (piece : List ℕ) → RequesterRunsOut opened link h stopped run → h.rest ≡ [] → after_piece h piece ≡ h
 
--- and by each mark at which its side writes nothing.
+-- and by each mark that is no event of it and gives up no call of it.
 abbrev pub OthersStayOut : Type 0
 OthersStayOut = (opened : LinkParameters) (link : ℕ) (h : RequesterSide) (stopped run : List Mark) (mark : Mark) → RequesterRunsOut opened link h stopped run →
-    written_at link Initiator mark ≡ [] → RequesterRunsOut opened link h stopped (run ++ mark ∷ [])
+    events_at link Initiator run mark ≡ [] → written_at link Initiator mark ≡ [] → fed_at link Initiator mark ≡ [] → GivesUpNothing link mark → RequesterRunsOut opened link h stopped (run ++ mark ∷ [])
 
 -- ---- The law of its side, so far
 
@@ -177,7 +198,7 @@ RevokeKeepsLaw = (opened : LinkParameters) (link : ℕ) (h : RequesterSide) (run
     find (λ d. d.xid == xid) h.state.outstanding ≡ Some c → is_some c.call ≡ true → IsAwaited link run xid → AskedSoFar opened link run → KeepsGrant opened link run →
     AskedSoFar opened link (run ++ marks.Revoke link xid (bytes_of_call h c) ∷ []) × KeepsGrant opened link (run ++ marks.Revoke link xid (bytes_of_call h c) ∷ [])
 
--- Of one that ran out of memory these are the bytes that the client would have handed back when it stopped.
+-- Of one that ran out of memory these are the bytes that a revoke hands back by its marks.
 abbrev pub RevokedOut : Type 0
 RevokedOut = (opened : LinkParameters) (link : ℕ) (h : RequesterSide) (stopped run : List Mark) (xid : ℕ) (c : StoredCall) → RequesterRunsOut opened link h stopped run →
-    find (λ d. d.xid == xid) h.state.outstanding ≡ Some c → is_some c.call ≡ true → AskedSoFar opened link stopped → bytes_of_call h c ≡ revoked_bytes opened link stopped xid
+    find (λ d. d.xid == xid) h.state.outstanding ≡ Some c → is_some c.call ≡ true → bytes_of_call h c ≡ revoked_bytes opened link run xid

@@ -1,4 +1,6 @@
 pub mod RequesterState
+pub mod CallRegions
+pub mod KeptAnswers
 pub mod Standing
 pub mod AfterCalls
 pub mod AfterPiece

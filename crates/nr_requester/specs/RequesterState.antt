@@ -1,5 +1,5 @@
 -- What a requester is: its side of the link, and what it keeps of its calls.
-use Rattle.std.specs.Prelude.{ℕ, ◌-◌, nat_lt, List, [], ◌∷◌, ◌++◌, length, map, Option, None, Some}
+use Rattle.std.specs.Prelude.{ℕ, ◌-◌, nat_lt, Bool, if◌then◌else◌, List, [], ◌∷◌, ◌++◌, length, map, Option, None, Some}
 use Rattle.nr_wire.specs.Feeding.{Feeding}
 use Rattle.nr_header.specs.declared.header.ChunkLists.{ChunkLists}
 use Rattle.nr_regions.specs.RegisteredMemory.{Claim}
@@ -11,6 +11,7 @@ use Rattle.nr_reduce.specs.declared.call.Call.{Call}
 use Rattle.nr_reduce.specs.Limits.{send_max}
 use Rattle.nr_reduce.specs.KeptCalls.{KeptCall}
 use Rattle.nr_reduce.specs.KeptClient.{KeptClient}
+use Rattle.nr_requester.specs.declared.answer.AnsweredCall.{AnsweredCall}
 
 -- the STags of some registrations, in the order in which they were made
 abbrev pub stag_of : Option Claim → List ℕ
@@ -20,17 +21,22 @@ stag_of (Some claim) = claim.stag ∷ []
 abbrev pub stags_of : Claims → List ℕ
 stags_of c = stag_of c.read ++ (stag_of c.write ++ stag_of c.reply)
 
--- A call that is outstanding: the call, until its memory is revoked; the lists that its reply has to repeat; its regions, and none once they
--- are released.
+-- A call that is outstanding: the call, until its memory is revoked; whether its owner gave up the answer; the lists that its reply has to
+-- repeat; its regions, and none once they are released.
 pub record StoredCall : Type 0 where
   pub xid : ℕ
   pub call : Option Call
+  pub is_forgotten : Bool
   pub offered : ChunkLists
   pub claims : Claims
 
+-- the call, if its owner awaits the answer
+abbrev pub awaited_call : StoredCall → Option Call
+awaited_call c = if c.is_forgotten then None else c.call
+
 -- The side of the link, without the input that isn't a complete frame; how many Sends have wholly left, until the side has ended; the
 -- credits that it wishes for; its first xid and the one that it gives next; the credits that are granted; the outstanding calls, in the
--- order of their Submits.
+-- order of their Submits; the calls whose outcome came and wasn't handed over, in the order in which they were answered.
 pub record RequesterState : Type 0 where
   pub side : LinkState
   pub sent : ℕ
@@ -39,6 +45,7 @@ pub record RequesterState : Type 0 where
   pub next_xid : ℕ
   pub grant : ℕ
   pub outstanding : List StoredCall
+  pub answered : List AnsweredCall
 
 -- a requester between two pieces of the server's stream
 abbrev pub RequesterSide : Type 0

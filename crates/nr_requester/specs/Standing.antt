@@ -12,9 +12,13 @@ use Rattle.nr_reduce.specs.Limits.{send_max}
 use Rattle.nr_reduce.specs.Written.{ends_waiting}
 use Rattle.nr_reduce.specs.ClientState.{ClientState}
 use Rattle.nr_reduce.specs.Client.{calls_output, call_ends}
+use Rattle.nr_reduce.specs.History.{accepted_calls, bytes_received}
+use Rattle.nr_reduce.specs.Events.{events}
+use Rattle.nr_reduce.specs.EndRules.{live}
 use Rattle.nr_reduce.specs.Run.{client}
 use Rattle.nr_reduce.specs.Standing.{ClientRepresents, ClientRunsOut}
 use Rattle.nr_requester.specs.RequesterState.{RequesterSide, queue_of, kept_client, input_kept}
+use Rattle.nr_requester.specs.KeptAnswers.{is_due, KeepsAnswers}
 
 -- Messages of which some end at these offsets of all output, as a queue has them of which the first `written` bytes are gone, and that begins
 -- with `hello` other bytes: those that haven't left, each with the bytes up to its end.
@@ -48,18 +52,33 @@ pub record LinkKeeps (opened : LinkParameters) (s : LinkState) (k : ClientState)
   pub numbered : length (sends_ends k.has_hello opened k) ≡ k.calls_accepted
   pub greeted : k.has_hello ≡ not (s.place == 0)
 
--- A requester that hasn't run out of memory stands for these marks of its link: it keeps what the client of the run asks for; its input
--- is what they fed to it, until it has ended; and its queue is the output that is due by them and isn't written.
-pub record RequesterRepresents (opened : LinkParameters) (link : ℕ) (h : RequesterSide) (run : List Mark) : Type 0 where
+-- A requester that hasn't run out of memory keeps the client of these marks: what that client asks for; its input is what they fed to it,
+-- until it has ended; and its queue is the output that is due by them and isn't written.
+pub record KeepsClient (opened : LinkParameters) (link : ℕ) (h : RequesterSide) (run : List Mark) : Type 0 where
   pub first : h.state.first_xid ≡ opened.first_xid
   pub wished : h.state.wished ≡ opened.wished
   pub kept : ClientRepresents opened link (kept_client h.state) (input_kept h) (queue_of h.state) run
   pub sent : h.state.side.ended ≡ None → h.state.sent ≡ h.state.side.send_queue.sends_left
   pub side : h.state.side.ended ≡ None → LinkKeeps opened h.state.side (client opened link run).state
 
--- A requester that ran out of memory while it was fed stands for these marks. When it stopped, after the marks `stopped`, it hadn't ended.
-abbrev pub RequesterRunsOut : LinkParameters → ℕ → RequesterSide → (stopped run : List Mark) → Type 0
-RequesterRunsOut opened link h stopped run = ClientRunsOut opened link (kept_client h.state) (queue_of h.state) stopped run
+-- the answers that it keeps are those of these marks
+abbrev pub AnswersAfter : LinkParameters → ℕ → RequesterSide → List Mark → Type 0
+AnswersAfter opened link h run = KeepsAnswers opened (events link Initiator run) (is_due link run) (accepted_calls link run) h.state
+
+-- It stands for these marks of its link: it keeps their client and their answers.
+pub record RequesterRepresents (opened : LinkParameters) (link : ℕ) (h : RequesterSide) (run : List Mark) : Type 0 where
+  pub keeps : KeepsClient opened link h run
+  pub answers : AnswersAfter opened link h run
+
+-- A requester that ran out of memory while it was fed stands for these marks. When it stopped, after the marks `stopped`, it hadn't ended. Since
+-- then it was fed nothing more: of the piece at which it stopped these marks have the bytes up to the frame for which memory ran out, and what
+-- was fed after these is no mark. So the client of the marks is still as it was then, but for what was written since.
+pub record RequesterRunsOut (opened : LinkParameters) (link : ℕ) (h : RequesterSide) (stopped run : List Mark) : Type 0 where
+  pub out : ClientRunsOut opened link (kept_client h.state) (queue_of h.state) stopped run
+  pub received : bytes_received link Initiator run ≡ bytes_received link Initiator stopped
+  pub written : ℕ
+  pub same : client opened link run ≡ live (record (client opened link stopped).state { written = written })
+  pub answers : AnswersAfter opened link h run
 
 -- For every list of marks that the first one stood for, the second stands for that list with one mark more.
 abbrev pub StandsOn : RequesterSide → (ℕ → Mark) → RequesterSide → Type 0

@@ -1,18 +1,29 @@
 -- What the code keeps, as the definitions see it.
-use Rattle.std.specs.Prelude.{◌≡◌, ℕ, ◌^◌, ◌≤◌, length, List, [], map}
-use Rattle.std.specs.List.{AllByRecursion}
+use Rattle.std.specs.Prelude.{◌≡◌, ℕ, ◌+◌, ◌^◌, ◌<◌, ◌≤◌, ◌==◌, length, List, [], ◌∷◌, map, None}
+use Rattle.std.specs.List.{AllByRecursion, find}
 use Rattle.nr_endpoint.specs.LinkState.{LinkSide}
 use Rattle.nr_reduce.specs.Limits.{most_credits}
 use Rattle.nr_requester.specs.declared.outstanding.OutstandingCall.{OutstandingCall}
+use Rattle.nr_requester.specs.declared.answer.AnsweredCall.{AnsweredCall}
 use Rattle.nr_requester.specs.RequesterState.{StoredCall, RequesterSide}
 use Rattle.nr_requester.specs.HeldClaims.{AreHeldFrom, all_claims, OffersOwn}
 
 abbrev pub stored_view : OutstandingCall → StoredCall
-stored_view c = record { xid = c.xid; call = c.call; offered = c.offered; claims = c.claims }
+stored_view c = record { xid = c.xid; call = c.call; is_forgotten = c.is_forgotten; offered = c.offered; claims = c.claims }
+
+-- the calls come in the order of their xids, all of which are below this
+abbrev pub AreRising : List OutstandingCall → ℕ → Type 0
+AreRising [] next = Unit {0}
+AreRising (c ∷ cs) next = (c.xid < next) × (AllByRecursion (λ (d : OutstandingCall). c.xid < d.xid) cs × AreRising cs next)
+
+-- a call that was answered isn't outstanding
+abbrev pub IsAnswered : (next_xid : ℕ) → List OutstandingCall → AnsweredCall → Type 0
+IsAnswered next_xid outstanding a = (a.xid < next_xid) × (find (λ (c : OutstandingCall). c.xid == a.xid) outstanding ≡ None)
 
 -- What holds of each requester: its numbers are in range, a credit is granted, and no more calls are outstanding than can be; no event waits
--- and no receive is lent; the regions of its calls are held, and are those that the calls offer.
-pub record IsSound (link : LinkSide) (next_xid grant : ℕ) (outstanding : List OutstandingCall) : Type 0 where
+-- and no receive is lent; the regions of its calls are held, and are those that the calls offer; xids rise; and there is room for the answers of
+-- all calls that are outstanding.
+pub record IsSound (link : LinkSide) (next_xid grant : ℕ) (outstanding : List OutstandingCall) (answered : List AnsweredCall) (room : ℕ) : Type 0 where
   pub xid : next_xid ≤ 2 ^ 32
   pub few : length outstanding ≤ most_credits
   pub some : 1 ≤ grant
@@ -21,10 +32,13 @@ pub record IsSound (link : LinkSide) (next_xid grant : ℕ) (outstanding : List 
   pub none_lent : link.state.receive_queue.lent ≡ 0
   pub held : AreHeldFrom link.state.memory 0 (all_claims outstanding)
   pub offers : AllByRecursion OffersOwn outstanding
+  pub rising : AreRising outstanding next_xid
+  pub apart : AllByRecursion (IsAnswered next_xid outstanding) answered
+  pub has_room : length answered + length outstanding ≤ room
 
-abbrev pub requester_view : LinkSide → (sent wished first_xid next_xid grant : ℕ) → List OutstandingCall → RequesterSide
-requester_view link sent wished first_xid next_xid grant outstanding = record {
+abbrev pub requester_view : LinkSide → (sent wished first_xid next_xid grant : ℕ) → List OutstandingCall → List AnsweredCall → RequesterSide
+requester_view link sent wished first_xid next_xid grant outstanding answered = record {
   awaited = link.awaited;
   rest = link.rest;
-  state = record { side = link.state; sent = sent; wished = wished; first_xid = first_xid; next_xid = next_xid; grant = grant; outstanding = map stored_view outstanding };
+  state = record { side = link.state; sent = sent; wished = wished; first_xid = first_xid; next_xid = next_xid; grant = grant; outstanding = map stored_view outstanding; answered = answered };
 }

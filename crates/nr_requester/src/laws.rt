@@ -1,11 +1,11 @@
 //! Laws of a requester.
 
-ghost use Rattle.nr_requester.specs.Laws.{Begins, AnswersAsClient, CountsAsClient, SubmitIsAMark, PieceIsAMark, PieceRunsOut, DrainIsAMark, RevokeIsAMark, RevokeStaysOut, OthersLeaveIt, MemoryAsClient, MemoryOut, CountsOut, RefusesOut, PieceStaysOut, OthersStayOut, LawBegins, OthersKeepLaw, RevokeKeepsLaw, RevokedOut, SubmitKeepsLaw, DrainKeepsLaw, DrainOutKeepsLaw, QueueIsAllDue, RefusedKeepsLaw, PieceKeepsLaw, DrainKeepsGrant};
+ghost use Rattle.nr_requester.specs.Laws.{Begins, AnswersAsClient, CountsAsClient, SubmitIsAMark, PieceIsAMark, PieceRunsOut, DrainIsAMark, RevokeIsAMark, RevokeStaysOut, ForgetIsAMark, DoneIsAMark, AnswersAreDue, OthersLeaveIt, MemoryAsClient, MemoryOut, CountsOut, RefusesOut, PieceStaysOut, OthersStayOut, LawBegins, OthersKeepLaw, RevokeKeepsLaw, RevokedOut, SubmitKeepsLaw, DrainKeepsLaw, DrainOutKeepsLaw, QueueIsAllDue, RefusedKeepsLaw, PieceKeepsLaw, DrainKeepsGrant};
 
 /// A requester stands for the marks of its link, from its opening on: what it keeps is what the client of the run asks for, and what it may
 /// write is what is due and not yet written. It answers a call as that client does, and knows how many calls are outstanding
-/// and granted; the regions of its calls hold what that client's hold. After it ran out of memory nothing but a revoke and a drain
-/// changes it.
+/// and granted; the regions of its calls hold what that client's hold; its answers are the outcomes that are due. After it ran out of memory
+/// nothing but a drain and what is handed over or given up changes it.
 pub fn requesters_stand_for_marks()
     ensures begins { Begins }
     ensures answer { AnswersAsClient }
@@ -16,6 +16,9 @@ pub fn requesters_stand_for_marks()
     ensures drain { DrainIsAMark }
     ensures revoke { RevokeIsAMark }
     ensures revoke_out { RevokeStaysOut }
+    ensures forget { ForgetIsAMark }
+    ensures done { DoneIsAMark }
+    ensures answers { AnswersAreDue }
     ensures others { OthersLeaveIt }
     ensures memory { MemoryAsClient }
     ensures memory_out { MemoryOut }

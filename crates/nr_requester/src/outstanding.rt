@@ -4,12 +4,13 @@ use nr_endpoint::Claims;
 use nr_header::ChunkLists;
 use nr_reduce::Call;
 
-/// A call that is outstanding: accepted, and no message of its xid was received. The call, until its memory is revoked; the lists
-/// that its reply has to repeat; its regions.
+/// A call that is outstanding: accepted, and no message of its xid was received. The call, until its memory is revoked; whether its
+/// owner gave up the answer; the lists that its reply has to repeat; its regions.
 #[derive(Drop)]
 pub struct OutstandingCall {
     pub xid: u32,
     pub call: Option<Call>,
+    pub is_forgotten: bool,
     pub offered: ChunkLists,
     pub claims: Claims,
 }

@@ -14,6 +14,7 @@ ghost use Rattle.nr_requester.specs.Standing.{RequesterRepresents, StandsOn, Sta
 ghost use Rattle.nr_endpoint.specs.LinkState.{has_ended};
 ghost use Rattle.nr_requester.specs.AfterCalls.{opened_as, after_drain, sent_unless};
 
+use crate::answer::AnsweredCall;
 use crate::outstanding::OutstandingCall;
 use nr_endpoint::{DrainFault, Endpoint};
 use nr_link::End;
@@ -38,6 +39,8 @@ pub struct Requester {
     pub(crate) next_xid: u64,
     pub(crate) grant: u32,
     pub(crate) outstanding: Vec<OutstandingCall>,
+    // The answers that weren't handed over, with room for those of the outstanding calls.
+    pub(crate) answered: Vec<AnsweredCall>,
 }
 
 impl Model for Requester {
@@ -50,11 +53,12 @@ impl Model for Requester {
 
     ghost coded = { Prim.hlevel (codes, state_code) };
 
-    ghost view = { λ r. requester_view r.endpoint.link r.sent r.wished r.first_xid r.next_xid r.grant r.outstanding.items };
+    ghost view = { λ r. requester_view r.endpoint.link r.sent r.wished r.first_xid r.next_xid r.grant r.outstanding.items r.answered.items };
 
     ghost use Rattle.nr_requester.specs.Views.{IsSound};
+    ghost use Rattle.std.specs.Prelude.{vec_capacity};
 
-    ghost invariant = { λ r. IsSound r.endpoint.link r.next_xid r.grant r.outstanding.items };
+    ghost invariant = { λ r. IsSound r.endpoint.link r.next_xid r.grant r.outstanding.items r.answered.items (vec_capacity r.answered) };
 }
 
 impl Requester {
@@ -101,6 +105,7 @@ impl Requester {
             next_xid: u64::from(first_xid),
             grant: 1,
             outstanding: Vec::with_capacity(alloc, CALLS_MAX)?,
+            answered: Vec::new(alloc),
         })
     }
 

@@ -1,6 +1,6 @@
 //! A call is submitted.
 
-ghost use Rattle.std.specs.Prelude.{◌≡◌, ◌≢◌, ℕ, ◌+◌, ◌^◌, ◌<◌, ◌≤◌, map, length, ◌++◌, None, Ok, IfOk, IfErr, OnOk, OnErr, MatchOption};
+ghost use Rattle.std.specs.Prelude.{◌≡◌, ◌≢◌, ℕ, ◌+◌, ◌^◌, ◌<◌, ◌≤◌, map, length, ◌++◌, None, Ok, IfOk, IfErr, OnOk, OnErr, MatchOption, vec_len, vec_capacity};
 ghost use Rattle.nr_rpc.specs.Credential.{CanWriteCred};
 ghost use Rattle.nr_endpoint.specs.Calls.{with_state};
 ghost use Rattle.nr_endpoint.specs.Offering.{claims_of};
@@ -16,6 +16,7 @@ ghost use Rattle.nr_requester.specs.Sending.{IsPlan, HasNumbers, answer_for, off
 ghost use Rattle.nr_requester.specs.HeldClaims.{SentHeld, IsOfferOf};
 ghost use Rattle.nr_requester.specs.Standing.{StandsOn};
 
+use crate::answer::AnsweredCall;
 use crate::messages::{PlannedCall, lists_of, message_of, offered_of, regions_needed};
 use crate::outstanding::OutstandingCall;
 use crate::requester::Requester;
@@ -96,6 +97,23 @@ fn send_plan(
     }
 }
 
+/// Takes the room of a call more, and of its answer.
+fn make_room(
+    outstanding: &mut Vec<OutstandingCall>,
+    answered: &mut Vec<AnsweredCall>,
+) -> Result<(), Memory>
+    ensures outstanding { outstanding.new.items ≡ outstanding.old.items }
+    ensures answered { answered.new.items ≡ answered.old.items }
+    ensures room { OnOk result (vec_len outstanding.new < vec_capacity outstanding.new) }
+    ensures answer { OnOk result (length answered.old.items + (length outstanding.old.items + 1) ≤ vec_capacity answered.new) }
+    ensures kept { vec_capacity answered.old ≤ vec_capacity answered.new }
+{
+    let more = outstanding.len() + 1;
+    outstanding.reserve(1)?;
+    answered.reserve(more)?;
+    Ok(())
+}
+
 impl Requester {
     /// Why a call with this many regions isn't accepted, if it isn't: without credit, or without numbers.
     fn refusal(&self, needed: u64) -> Option<Refused>
@@ -132,7 +150,7 @@ impl Requester {
         ensures err { OnErr result (self.new ≡ self.old) }
     {
         let xid = self.next_xid as u32;
-        if self.outstanding.reserve(1).is_err() {
+        if let Err(_) = make_room(&mut self.outstanding, &mut self.answered) {
             return Err(call);
         }
         let Sent { lists, claims } = match send_plan(
@@ -153,6 +171,7 @@ impl Requester {
         self.outstanding.push_reserved(OutstandingCall {
             xid,
             call: Some(call),
+            is_forgotten: false,
             offered: lists,
             claims,
         });

@@ -1,7 +1,8 @@
-use Rattle.nr_requester.proofs.Marks.{begins, drain_is_a_mark, revoke_is_a_mark, revoke_stays_out_lem, others_leave_it}
-use Rattle.nr_requester.proofs.Accepting.{answers_as_client, counts_as_client, submit_is_a_mark}
-use Rattle.nr_requester.proofs.Fed.{piece_is_a_mark, piece_runs_out}
-use Rattle.nr_requester.proofs.RunOut.{memory_as_client, memory_out_lem, counts_out_lem, refuses_out, piece_stays_out_lem, others_stay_out}
+use Rattle.nr_requester.proofs.AllMarks.{begins, submit_is_a_mark, drain_is_a_mark, piece_runs_out, revoke_is_a_mark, revoke_stays_out, forget_is_a_mark, done_is_a_mark, others_leave_it, others_stay_out}
+use Rattle.nr_requester.proofs.Accepting.{answers_as_client, counts_as_client}
+use Rattle.nr_requester.proofs.Fed.{piece_is_a_mark}
+use Rattle.nr_requester.proofs.RunOut.{memory_as_client, memory_out_lem, counts_out_lem, refuses_out, piece_stays_out_lem}
+use Rattle.nr_requester.proofs.DueAnswers.{answers_are_due}
 use Rattle.nr_requester.proofs.laws.requesters_stand_for_marks.Goals as goal
 
 pub returns-clause-begins : goal.returns-clause-begins
@@ -29,7 +30,7 @@ pub returns-clause-revoke : goal.returns-clause-revoke
 returns-clause-revoke c = revoke_is_a_mark
 
 pub returns-clause-revoke_out : goal.returns-clause-revoke_out
-returns-clause-revoke_out c = revoke_stays_out_lem
+returns-clause-revoke_out c = revoke_stays_out
 
 pub returns-clause-others : goal.returns-clause-others
 returns-clause-others c = others_leave_it
@@ -51,3 +52,12 @@ returns-clause-piece_stays_out c = piece_stays_out_lem
 
 pub returns-clause-others_out : goal.returns-clause-others_out
 returns-clause-others_out c = others_stay_out
+
+pub returns-clause-forget : goal.returns-clause-forget
+returns-clause-forget c = forget_is_a_mark
+
+pub returns-clause-done : goal.returns-clause-done
+returns-clause-done c = done_is_a_mark
+
+pub returns-clause-answers : goal.returns-clause-answers
+returns-clause-answers c = answers_are_due

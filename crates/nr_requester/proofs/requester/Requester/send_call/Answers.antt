@@ -1,4 +1,4 @@
-use Rattle.std.proofs.Common.{◌≡◌, ℕ, List, [], ◌∷◌, ◌++◌, length, Some, ap, ◌∙◌, arith}
+use Rattle.std.proofs.Common.{◌≡◌, ℕ, false, refl, List, [], ◌∷◌, ◌++◌, length, Some, ap, ◌∙◌, arith}
 use Rattle.std.proofs.lemmas.List.{length-map}
 use Rattle.nr_endpoint.specs.LinkState.{LinkSide}
 use Rattle.nr_reduce.specs.Plans.{regions_needed}
@@ -25,7 +25,7 @@ invariant_of-self-2 c =
     let credit = c.requires.numbers.credit in
     let len = length-map c.self.inside.outstanding.items stored_view in
     let queue : c.send_plan.new.endpoint.link.state.receive_queue ≡ c.self.inside.endpoint.link.state.receive_queue = ap (λ (l : LinkSide). l.state.receive_queue) c.in-Ok.ensures.link in
-    let o : OutstandingCall = record { xid = c.self.inside.next_xid; call = Some c.args.call; offered = c.in-Ok.sent.lists; claims = c.in-Ok.sent.claims } in
-    sent_sound c.self.inside.endpoint.link c.send_plan.new.endpoint.link c.self.inside.next_xid c.self.inside.grant c.self.inside.outstanding.items c.push_reserved.new.self.items o
+    let o : OutstandingCall = record { xid = c.self.inside.next_xid; call = Some c.args.call; is_forgotten = false; offered = c.in-Ok.sent.lists; claims = c.in-Ok.sent.claims } in
+    sent_sound c.self.inside.endpoint.link c.send_plan.new.endpoint.link c.self.inside.next_xid c.self.inside.grant _ _ c.self.inside.outstanding.items c.push_reserved.new.self.items c.self.inside.answered.items c.make_room.new.answered.items o
     c.self.invariant c.in-Ok.ensures.held queue c.in-Ok.ensures.offer (omega (arith, xid, number)) (omega (arith, count, credit, grant, len))
-    (c.push_reserved.ensures.items ∙ ap (λ (xs : List OutstandingCall). xs ++ o ∷ []) c.reserve.ensures.items)
+    (c.push_reserved.ensures.items ∙ ap (λ (xs : List OutstandingCall). xs ++ o ∷ []) c.make_room.ensures.outstanding) c.make_room.ensures.answered refl c.in_default.ensures.answer

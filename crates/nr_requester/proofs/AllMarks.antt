@@ -1,0 +1,328 @@
+-- What a requester stands for, mark by mark: its client and its answers.
+use Rattle.std.proofs.Common.{◌≡◌, ℕ, ◌+◌, ◌<◌, Bool, true, false, cond, eqb, List, [], ◌∷◌, ◌++◌, length, take, map, None, refl, sym, ap, subst, ◌∙◌, arith, append-nil}
+use Rattle.std.specs.List.{AllByRecursion, Contains, find}
+use Rattle.std.proofs.lemmas.List.Elements.{Contains-push}
+use Rattle.nr_wire.specs.declared.hello.Side.TheVariants.{Initiator}
+use Rattle.nr_reduce.specs.declared.call.Call.{Call}
+use Rattle.nr_reduce.specs.declared.call.Form.{Form}
+use Rattle.nr_reduce.specs.declared.call.Submission.TheVariants as submissions
+use Rattle.nr_reduce.specs.declared.outline.Plan.{Plan}
+use Rattle.nr_reduce.specs.declared.mark.LinkParameters.{LinkParameters}
+use Rattle.nr_reduce.specs.declared.mark.Mark.{Mark}
+use Rattle.nr_reduce.specs.declared.mark.Mark.TheVariants as marks
+use Rattle.nr_reduce.specs.History.{AcceptedCall, accepted_as, accepted_at, accepted_calls, completed_calls, bytes_sent, bytes_received, written_at, fed_at}
+use Rattle.nr_reduce.specs.Events.{RunEvent, if_own, events_at, events}
+use Rattle.nr_reduce.specs.Events.RunEvent.{CallSubmitted, MemoryRevoked, QueueWritten}
+use Rattle.nr_reduce.specs.EndRules.{EndState, next_end_state, end_state_after, live}
+use Rattle.nr_reduce.specs.ClientState.{ClientState}
+use Rattle.nr_reduce.specs.Client.{client_rules, client_end, client_state_after, initial_client}
+use Rattle.nr_reduce.specs.Run.{client, output_due}
+use Rattle.nr_reduce.specs.SubmitAnswer.{next_xid}
+use Rattle.nr_reduce.specs.KeptClient.{KeptClient, ClientKeeps}
+use Rattle.nr_reduce.specs.Standing.{ClientRepresents, ClientRunsOut}
+use Rattle.nr_reduce.proofs.Steps.{client_one, end_state_after_append}
+use Rattle.nr_reduce.proofs.Standing.{itself, received_one, client_stays_out_lem}
+use Rattle.nr_requester.specs.declared.answer.AnsweredCall.{AnsweredCall}
+use Rattle.nr_requester.specs.RequesterState.{StoredCall, RequesterState, RequesterSide, kept_call, kept_client, queue_of, input_kept}
+use Rattle.nr_requester.specs.KeptAnswers.{is_due, client_by, KeepsAnswers}
+use Rattle.nr_requester.specs.Standing.{KeepsClient, AnswersAfter, RequesterRepresents, RequesterRunsOut}
+use Rattle.nr_requester.specs.AfterCalls.{opened_as, stored_call, after_submit, after_drain, after_revoke, revoked_if, forgotten_if, forgotten_call, after_forget}
+use Rattle.nr_requester.specs.AfterPiece.{after_piece, RanOut}
+use Rattle.nr_requester.specs.Laws.{Begins, SubmitIsAMark, DrainIsAMark, PieceRunsOut, RevokeIsAMark, RevokeStaysOut, ForgetIsAMark, DoneIsAMark, OthersLeaveIt, OthersStayOut}
+use Rattle.nr_requester.proofs.CallRegions.{SubmitNothing, Offers, none_if, submit_offers}
+use Rattle.nr_requester.proofs.Marks.{lives_as, own_events, drain_stands, drain_stays_out, revoke_stands, revoke_stays_out_lem, others_leave_client, begins_client}
+use Rattle.nr_requester.proofs.Accepting.{submit_client}
+use Rattle.nr_requester.proofs.AnswerSteps.{all_as, all_append, AreNoFrames, IsQuiet, back_more, asked_more, some_asked, quiet_more, quiet_mark, quiet_outcomes, by_events, due_same, forgets, revokes, GivesUp, given_state, given_mark, forget_gives, revoke_gives, done_gives}
+use Rattle.nr_requester.proofs.Fed.{fed_client, fed_answers}
+
+no_frames_if : (b : Bool) (es : List RunEvent) → AreNoFrames es → AreNoFrames (if_own b es)
+no_frames_if true es h = h
+no_frames_if false es h = tt
+
+-- ---- As it is opened
+
+pub begins : Begins
+unfolding opened_as events completed_calls accepted_calls
+begins opened link = record {
+  keeps = begins_client opened link;
+  answers = record { outcomes = refl; hands_back = tt; calls = tt; awaited = tt; submitted = tt; to_come = λ xid le. refl; regions = record { before = tt; calls = tt } };
+}
+
+-- ---- An accepted call
+
+submit_answers : (opened : LinkParameters) (link : ℕ) (h : RequesterSide) (run : List Mark) (call : Call) (form : Form) (plan : Plan) → KeepsClient opened link h run → AnswersAfter opened link h run →
+    AnswersAfter opened link (after_submit h call plan) (run ++ marks.Submit link call form (submissions.Accepted h.state.next_xid) ∷ [])
+unfolding client
+submit_answers opened link h run call form plan s k =
+    let a : AcceptedCall = record { xid = h.state.next_xid; call = call; form = form } in
+    let mark : Mark = marks.Submit link call form (submissions.Accepted h.state.next_xid) in
+    let es : List RunEvent = events link Initiator run in
+    let event : RunEvent = CallSubmitted (length (bytes_received link Initiator run)) a in
+    let asked : List AcceptedCall = accepted_calls link run in
+    let c : StoredCall = stored_call h.state.next_xid call plan h.state.side.memory in
+    let due2 : ℕ → Bool = is_due link (run ++ mark ∷ []) in
+    let same : (xid : ℕ) → due2 xid ≡ is_due link run xid = due_same link run mark (λ x. refl) in
+    let outs = quiet_outcomes opened es (event ∷ []) (tt, tt) in
+    let e : EndState ClientState = client_by opened es in
+    let xid_is : h.state.next_xid ≡ next_xid opened e.state = s.kept.keeps.xid in
+    let regions : Offers opened (next_end_state (client_rules opened) e event).state = submit_offers opened e.state e.ended (length (bytes_received link Initiator run)) a xid_is k.regions in
+    let next : KeepsAnswers opened (es ++ event ∷ []) due2 (asked ++ a ∷ []) (after_submit h call plan).state = record {
+      outcomes = k.outcomes ∙ (λ i. Rattle.std.specs.List.filter (λ (x : Rattle.nr_reduce.specs.History.CompletedCall). sym (same x.xid) i) (sym outs i));
+      hands_back = all_as h.state.answered (back_more opened es (event ∷ [])) k.hands_back;
+      calls = all_as h.state.answered (λ (x : AnsweredCall) g. asked_more asked (a ∷ []) x.xid x.call g) k.calls;
+      awaited = all_append _ h.state.outstanding (c ∷ []) (all_as h.state.outstanding (λ (x : StoredCall) g. g ∙ sym (same x.xid)) k.awaited) (sym (same h.state.next_xid ∙ k.to_come h.state.next_xid (omega arith)), tt);
+      submitted = all_append _ h.state.outstanding (c ∷ []) (all_as h.state.outstanding (λ (x : StoredCall) g. some_asked asked (a ∷ []) x.xid x.call g) k.submitted) ((form, Contains-push asked a), tt);
+      to_come = λ xid at. same xid ∙ k.to_come xid (omega (arith, at));
+      regions = subst (λ (x : EndState ClientState). Offers opened x.state) (sym (end_state_after_append (client_rules opened) (initial_client opened) es (event ∷ []))) regions;
+    } in
+    by_events opened link run mark (after_submit h call plan).state
+    (subst (λ (more : List RunEvent). KeepsAnswers opened (es ++ more) due2 (asked ++ accepted_at link mark) (after_submit h call plan).state) (sym (own_events link (event ∷ [])))
+    (subst (λ (xs : List AcceptedCall). KeepsAnswers opened (es ++ event ∷ []) due2 (asked ++ xs) (after_submit h call plan).state) (sym (ap (λ (b : Bool). cond b (a ∷ []) []) (itself link))) next))
+
+pub submit_is_a_mark : SubmitIsAMark
+submit_is_a_mark h call form plan none number is opened link run s = record {
+  keeps = submit_client opened link h run call form plan none is s.keeps;
+  answers = submit_answers opened link h run call form plan s.keeps s.answers;
+}
+
+-- ---- A drain
+
+wrote_quiet : (link : ℕ) (run : List Mark) (bytes : List ℕ) → IsQuiet link run (marks.Wrote link Initiator bytes)
+wrote_quiet link run bytes = (no_frames_if _ (QueueWritten (length bytes) ∷ []) (tt, tt), none_if _ (QueueWritten (length bytes) ∷ []) (tt, tt))
+
+record DrainLeaves (h : RequesterSide) (n : ℕ) : Type 0 where
+  pub answered : (after_drain n h).state.answered ≡ h.state.answered
+  pub outstanding : (after_drain n h).state.outstanding ≡ h.state.outstanding
+  pub next : (after_drain n h).state.next_xid ≡ h.state.next_xid
+
+drain_leaves : (h : RequesterSide) (n : ℕ) → DrainLeaves h n
+unfolding after_drain
+drain_leaves h n = record { answered = refl; outstanding = refl; next = refl }
+
+drain_answers : (opened : LinkParameters) (link : ℕ) (h : RequesterSide) (run : List Mark) (n : ℕ) (bytes : List ℕ) → AnswersAfter opened link h run → AnswersAfter opened link (after_drain n h) (run ++ marks.Wrote link Initiator bytes ∷ [])
+drain_answers opened link h run n bytes k =
+    let l : DrainLeaves h n = drain_leaves h n in
+    quiet_mark opened link h (after_drain n h) run (marks.Wrote link Initiator bytes) (wrote_quiet link run bytes) (λ x. refl) k l.answered l.outstanding l.next
+
+-- nothing is received with such a mark
+received_same : (link : ℕ) (run : List Mark) (mark : Mark) → fed_at link Initiator mark ≡ [] → bytes_received link Initiator (run ++ mark ∷ []) ≡ bytes_received link Initiator run
+received_same link run mark none = received_one link Initiator run mark ∙ ap (λ (xs : List ℕ). bytes_received link Initiator run ++ xs) none ∙ append-nil (bytes_received link Initiator run)
+
+client_next : (opened : LinkParameters) (link : ℕ) (run : List Mark) (mark : Mark) (event : RunEvent) → events_at link Initiator run mark ≡ event ∷ [] → client opened link (run ++ mark ∷ []) ≡ next_end_state (client_rules opened) (client opened link run) event
+client_next opened link run mark event is = client_one opened link run mark ∙ ap (λ (es : List RunEvent). end_state_after (client_rules opened) (client opened link run) es) is
+
+drain_out : (opened : LinkParameters) (link : ℕ) (h : RequesterSide) (stopped run : List Mark) (n : ℕ) → RequesterRunsOut opened link h stopped run → RequesterRunsOut opened link (after_drain n h) stopped (run ++ marks.Wrote link Initiator (take n (queue_of h.state)) ∷ [])
+unfolding client_end client_state_after
+drain_out opened link h stopped run n out =
+    let bytes : List ℕ = take n (queue_of h.state) in
+    let mark : Mark = marks.Wrote link Initiator bytes in
+    record {
+      out = drain_stays_out h n opened link stopped run out.out;
+      received = received_same link run mark refl ∙ out.received;
+      written = out.written + length bytes;
+      same = client_next opened link run mark (QueueWritten (length bytes)) (own_events link (QueueWritten (length bytes) ∷ []))
+          ∙ ap (λ (e : EndState ClientState). next_end_state (client_rules opened) e (QueueWritten (length bytes))) out.same;
+      answers = drain_answers opened link h run n bytes out.answers;
+    }
+
+pub drain_is_a_mark : DrainIsAMark
+drain_is_a_mark h n le fits = (
+  λ opened link run s. record { keeps = drain_stands h n le fits opened link run s.keeps; answers = drain_answers opened link h run n (take n (queue_of h.state)) s.answers },
+  λ opened link stopped run out. drain_out opened link h stopped run n out,
+)
+
+-- ---- Out of memory
+
+-- what it keeps of its client, but for why it ended
+kept_out : (before after : RequesterSide) → before.state.side.ended ≡ None → RanOut before after → kept_client before.state ≡ record (kept_client after.state) { ended = None }
+kept_out before after lives out =
+    (λ i. record (kept_client before.state) { ended = lives i; memory = sym out.memory i })
+    ∙ (λ i. record (kept_client (sym out.same i)) { ended = None; memory = after.state.side.memory })
+
+same_answers : (opened : LinkParameters) (es : List RunEvent) (due : ℕ → Bool) (asked : List AcceptedCall) (r r2 : RequesterState) → KeepsAnswers opened es due asked r → r2.answered ≡ r.answered → r2.outstanding ≡ r.outstanding → r2.next_xid ≡ r.next_xid → KeepsAnswers opened es due asked r2
+same_answers opened es due asked r r2 k answered outstanding next =
+    subst (λ (xs : List RunEvent). KeepsAnswers opened xs due asked r2) (append-nil es)
+    (subst (λ (xs : List AcceptedCall). KeepsAnswers opened (es ++ []) due xs r2) (append-nil asked)
+    (quiet_more opened es [] due due asked [] r r2 k (ap (λ (xs : List RunEvent). (client_by opened xs).state.outcomes) (append-nil es)) (subst (λ (xs : List RunEvent). Offers opened (client_by opened xs).state) (sym (append-nil es)) k.regions)
+    (λ x. refl) answered outstanding (omega (arith, next))))
+
+pub piece_runs_out : PieceRunsOut
+piece_runs_out h after piece lives out opened link run s =
+    let mark : Mark = marks.Fed link Initiator piece in
+    let all : List Mark = run ++ mark ∷ [] in
+    let before : RequesterSide = after_piece h piece in
+    let c : KeepsClient opened link before all = fed_client opened link h run piece s.keeps in
+    let k : AnswersAfter opened link before all = fed_answers opened link h run piece s.keeps s.answers in
+    let is_live : (client opened link all).ended ≡ None = sym c.kept.keeps.ended ∙ lives in
+    let queued : bytes_sent link Initiator all ++ queue_of after.state ≡ output_due opened link Initiator all = ap (λ (xs : List ℕ). bytes_sent link Initiator all ++ xs) out.queue ∙ c.kept.output in
+    record {
+      out = record {
+        ended = out.ended;
+        keeps = subst (λ (x : KeptClient). ClientKeeps opened x (client opened link all) (length (bytes_received link Initiator all))) (kept_out before after lives out) c.kept.keeps;
+        queued = ([], append-nil (output_due opened link Initiator all) ∙ sym queued);
+        output = ([], append-nil (bytes_sent link Initiator all ++ queue_of after.state) ∙ queued);
+      };
+      received = refl;
+      written = (client opened link all).state.written;
+      same = lives_as (client opened link all) is_live;
+      answers = same_answers opened (events link Initiator all) (is_due link all) (accepted_calls link all) before.state after.state k
+          (ap (λ (r : RequesterState). r.answered) out.same) (ap (λ (r : RequesterState). r.outstanding) out.same) (ap (λ (r : RequesterState). r.next_xid) out.same);
+    }
+
+-- ---- A revoke
+
+revoke_quiet : (link : ℕ) (run : List Mark) (xid : ℕ) (bytes : List ℕ) → IsQuiet link run (marks.Revoke link xid bytes)
+revoke_quiet link run xid bytes =
+    (let events : List RunEvent = MemoryRevoked (length (bytes_received link Initiator run)) xid ∷ [] in (no_frames_if _ events (tt, tt), none_if _ events (tt, tt)))
+
+revoke_given : (h : RequesterSide) (xid : ℕ) → given_state revoked_if xid h.state (after_revoke h xid).state
+unfolding after_revoke
+revoke_given h xid = (refl, (refl, refl))
+
+revoke_answers : (opened : LinkParameters) (link : ℕ) (h : RequesterSide) (run : List Mark) (xid : ℕ) (bytes : List ℕ) → xid < h.state.next_xid → AnswersAfter opened link h run → AnswersAfter opened link (after_revoke h xid) (run ++ marks.Revoke link xid bytes ∷ [])
+revoke_answers opened link h run xid bytes lt k =
+    given_mark revoked_if opened link h (after_revoke h xid) run (marks.Revoke link xid bytes) xid revokes (revoke_quiet link run xid bytes) (revoke_gives link xid bytes) lt k (revoke_given h xid)
+
+pub revoke_is_a_mark : RevokeIsAMark
+revoke_is_a_mark h xid bytes lt opened link run s = record { keeps = revoke_stands opened link h run xid bytes s.keeps; answers = revoke_answers opened link h run xid bytes lt s.answers }
+
+pub revoke_stays_out : RevokeStaysOut
+unfolding client_end client_state_after
+revoke_stays_out opened link h stopped run xid bytes lt out =
+    let mark : Mark = marks.Revoke link xid bytes in
+    let before : EndState ClientState = client opened link stopped in
+    let is_live : before ≡ live before.state = lives_as before (sym out.out.keeps.ended) in
+    let at : ℕ = length (bytes_received link Initiator run) in
+    let then : ℕ = length (bytes_received link Initiator stopped) in
+    let place : at ≡ then = ap (λ (xs : List ℕ). length xs) out.received in
+    let after : client opened link (stopped ++ mark ∷ []) ≡ live (client_state_after opened before.state (MemoryRevoked then xid)) =
+    client_next opened link stopped mark (MemoryRevoked then xid) (own_events link (MemoryRevoked then xid ∷ []))
+    ∙ ap (λ (e : EndState ClientState). next_end_state (client_rules opened) e (MemoryRevoked then xid)) is_live in
+    record {
+      out = revoke_stays_out_lem opened link h stopped run xid bytes out.out;
+      received = received_same link run mark refl ∙ out.received ∙ sym (received_same link stopped mark refl);
+      written = out.written;
+      same = client_next opened link run mark (MemoryRevoked at xid) (own_events link (MemoryRevoked at xid ∷ []))
+          ∙ (λ i. next_end_state (client_rules opened) (out.same i) (MemoryRevoked (place i) xid))
+          ∙ ap (λ (e : EndState ClientState). live (record e.state { written = out.written })) (sym after);
+      answers = revoke_answers opened link h run xid bytes lt out.answers;
+    }
+
+-- ---- An outcome that is handed over or given up
+
+forget_given : (h : RequesterSide) (xid : ℕ) → given_state forgotten_if xid h.state (after_forget h xid).state
+unfolding after_forget
+forget_given h xid = (refl, (refl, refl))
+
+kept_forgotten : (first sent xid : ℕ) (cs : List StoredCall) → map (kept_call first sent) (map (forgotten_call xid) cs) ≡ map (kept_call first sent) cs
+kept_forgotten first sent xid [] = refl
+kept_forgotten first sent xid (c ∷ cs) = λ i. one (eqb c.xid xid) i ∷ kept_forgotten first sent xid cs i
+  where
+    one : (b : Bool) → kept_call first sent (forgotten_if b c) ≡ kept_call first sent c
+    one true = refl
+    one false = refl
+
+count_forgotten : (xid : ℕ) (cs : List StoredCall) → length (map (forgotten_call xid) cs) ≡ length cs
+count_forgotten xid [] = refl
+count_forgotten xid (c ∷ cs) = omega (arith, count_forgotten xid cs)
+
+kept_after_forget : (h : RequesterSide) (xid : ℕ) → kept_client h.state ≡ kept_client (after_forget h xid).state
+unfolding after_forget
+kept_after_forget h xid = λ i. record (kept_client h.state) {
+  outstanding = sym (count_forgotten xid h.state.outstanding) i;
+  calls = sym (kept_forgotten h.state.first_xid h.state.sent xid h.state.outstanding) i;
+}
+
+record ForgetLeaves (h : RequesterSide) (xid : ℕ) : Type 0 where
+  pub first : (after_forget h xid).state.first_xid ≡ h.state.first_xid
+  pub wished : (after_forget h xid).state.wished ≡ h.state.wished
+  pub sent : (after_forget h xid).state.sent ≡ h.state.sent
+  pub side : (after_forget h xid).state.side ≡ h.state.side
+  pub input : input_kept (after_forget h xid) ≡ input_kept h
+
+forget_leaves : (h : RequesterSide) (xid : ℕ) → ForgetLeaves h xid
+unfolding after_forget
+forget_leaves h xid = record { first = refl; wished = refl; sent = refl; side = refl; input = refl }
+
+-- of its client nothing changes
+forget_client : (opened : LinkParameters) (link : ℕ) (h : RequesterSide) (run : List Mark) (xid : ℕ) → KeepsClient opened link h run → KeepsClient opened link (after_forget h xid) run
+unfolding after_forget
+forget_client opened link h run xid s = record {
+  first = s.first;
+  wished = s.wished;
+  kept = subst (λ (x : KeptClient). ClientRepresents opened link x (input_kept h) (queue_of h.state) run) (kept_after_forget h xid) s.kept;
+  sent = s.sent;
+  side = s.side;
+}
+
+forget_out : (opened : LinkParameters) (link : ℕ) (h : RequesterSide) (stopped run : List Mark) (xid : ℕ) → ClientRunsOut opened link (kept_client h.state) (queue_of h.state) stopped run →
+    ClientRunsOut opened link (kept_client (after_forget h xid).state) (queue_of (after_forget h xid).state) stopped run
+unfolding after_forget
+forget_out opened link h stopped run xid out = subst (λ (x : KeptClient). ClientRunsOut opened link x (queue_of h.state) stopped run) (kept_after_forget h xid) out
+
+-- a mark that has no event, and gives up the call of an xid
+abbrev HasNoEvent : ℕ → Mark → Type 0
+HasNoEvent link mark = (run : List Mark) → (events_at link Initiator run mark ≡ []) × ((written_at link Initiator mark ≡ []) × (fed_at link Initiator mark ≡ []))
+
+none_quiet : (es : List RunEvent) → es ≡ [] → AreNoFrames es × SubmitNothing es
+none_quiet es none = subst (λ (xs : List RunEvent). AreNoFrames xs × SubmitNothing xs) (sym none) (tt, tt)
+
+out_still : (opened : LinkParameters) (link : ℕ) (h : RequesterSide) (stopped run : List Mark) (mark : Mark) (answers : AnswersAfter opened link h (run ++ mark ∷ [])) → RequesterRunsOut opened link h stopped run →
+    events_at link Initiator run mark ≡ [] → written_at link Initiator mark ≡ [] → fed_at link Initiator mark ≡ [] → RequesterRunsOut opened link h stopped (run ++ mark ∷ [])
+out_still opened link h stopped run mark answers out no_events no_write no_feed = record {
+  out = client_stays_out_lem opened link (kept_client h.state) (queue_of h.state) (queue_of h.state) stopped run mark out.out (ap (λ (xs : List ℕ). xs ++ queue_of h.state) no_write);
+  received = received_same link run mark no_feed ∙ out.received;
+  written = out.written;
+  same = client_one opened link run mark ∙ ap (λ (es : List RunEvent). end_state_after (client_rules opened) (client opened link run) es) no_events ∙ out.same;
+  answers = answers;
+}
+
+given_answers : (opened : LinkParameters) (link : ℕ) (h : RequesterSide) (run : List Mark) (mark : Mark) (xid : ℕ) → HasNoEvent link mark → GivesUp link mark xid → xid < h.state.next_xid → AnswersAfter opened link h run → AnswersAfter opened link (after_forget h xid) (run ++ mark ∷ [])
+given_answers opened link h run mark xid none gives lt k =
+    given_mark forgotten_if opened link h (after_forget h xid) run mark xid forgets (none_quiet (events_at link Initiator run mark) (none run).0) gives lt k (forget_given h xid)
+
+given_stands : (h : RequesterSide) (mark : ℕ → Mark) (xid : ℕ) → ((link : ℕ) → HasNoEvent link (mark link)) → ((link : ℕ) → GivesUp link (mark link) xid) → xid < h.state.next_xid → (opened : LinkParameters) (link : ℕ) (run : List Mark) → RequesterRepresents opened link h run →
+    RequesterRepresents opened link (after_forget h xid) (run ++ mark link ∷ [])
+given_stands h mark xid none gives lt opened link run s =
+    let n = none link run in
+    record {
+      keeps = forget_client opened link h (run ++ mark link ∷ []) xid (others_leave_client opened link h run (mark link) s.keeps n.0 n.1.0 n.1.1);
+      answers = given_answers opened link h run (mark link) xid (none link) (gives link) lt s.answers;
+    }
+
+given_stays_out : (h : RequesterSide) (mark : ℕ → Mark) (xid : ℕ) → ((link : ℕ) → HasNoEvent link (mark link)) → ((link : ℕ) → GivesUp link (mark link) xid) → xid < h.state.next_xid → (opened : LinkParameters) (link : ℕ) (stopped run : List Mark) → RequesterRunsOut opened link h stopped run →
+    RequesterRunsOut opened link (after_forget h xid) stopped (run ++ mark link ∷ [])
+given_stays_out h mark xid none gives lt opened link stopped run out =
+    let n = none link run in
+    record {
+      out = forget_out opened link h stopped (run ++ mark link ∷ []) xid
+          (client_stays_out_lem opened link (kept_client h.state) (queue_of h.state) (queue_of h.state) stopped run (mark link) out.out (ap (λ (xs : List ℕ). xs ++ queue_of h.state) n.1.0));
+      received = received_same link run (mark link) n.1.1 ∙ out.received;
+      written = out.written;
+      same = client_one opened link run (mark link) ∙ ap (λ (es : List RunEvent). end_state_after (client_rules opened) (client opened link run) es) n.0 ∙ out.same;
+      answers = given_answers opened link h run (mark link) xid (none link) (gives link) lt out.answers;
+    }
+
+pub forget_is_a_mark : ForgetIsAMark
+forget_is_a_mark h xid lt = (
+  given_stands h (λ link. marks.Forget link xid) xid (λ link run. (refl, (refl, refl))) (λ link. forget_gives link xid) lt,
+  given_stays_out h (λ link. marks.Forget link xid) xid (λ link run. (refl, (refl, refl))) (λ link. forget_gives link xid) lt,
+)
+
+pub done_is_a_mark : DoneIsAMark
+done_is_a_mark h xid outcome lt = (
+  given_stands h (λ link. marks.Done link xid outcome) xid (λ link run. (refl, (refl, refl))) (λ link. done_gives link xid outcome) lt,
+  given_stays_out h (λ link. marks.Done link xid outcome) xid (λ link run. (refl, (refl, refl))) (λ link. done_gives link xid outcome) lt,
+)
+
+-- ---- A mark that is no event, and gives up nothing
+
+pub others_leave_it : OthersLeaveIt
+others_leave_it opened link h run mark s no_events no_write no_feed none = record {
+  keeps = others_leave_client opened link h run mark s.keeps no_events no_write no_feed;
+  answers = quiet_mark opened link h h run mark (none_quiet (events_at link Initiator run mark) no_events) none s.answers refl refl refl;
+}
+
+pub others_stay_out : OthersStayOut
+others_stay_out opened link h stopped run mark out no_events no_write no_feed none =
+    out_still opened link h stopped run mark (quiet_mark opened link h h run mark (none_quiet (events_at link Initiator run mark) no_events) none out.answers refl refl refl) out no_events no_write no_feed

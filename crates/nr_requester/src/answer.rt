@@ -1,0 +1,22 @@
+//! A call that was answered.
+
+use nr_reduce::{Call, Outcome};
+use nr_xdr::Octets;
+
+/// The buffers of a call's regions, which go back to its owner: those of its read chunk, its write chunk and its reply chunk, each if it
+/// had one with a segment.
+#[derive(Drop)]
+pub struct Buffers {
+    pub read: Option<Octets>,
+    pub write: Option<Octets>,
+    pub reply: Option<Octets>,
+}
+
+/// A call whose outcome came and wasn't handed over yet: the call, the buffers of its regions, and what it was answered by.
+#[derive(Drop)]
+pub struct AnsweredCall {
+    pub xid: u32,
+    pub call: Call,
+    pub buffers: Buffers,
+    pub outcome: Outcome,
+}
