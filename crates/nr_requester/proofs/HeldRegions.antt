@@ -18,14 +18,11 @@ use Rattle.nr_requester.specs.declared.outstanding.OutstandingCall.{OutstandingC
 use Rattle.nr_requester.specs.HeldClaims.{claim_list, call_claims, all_claims, AreHeldFrom, SentHeld, OffersOwn}
 use Rattle.nr_requester.specs.declared.answer.AnsweredCall.{AnsweredCall}
 use Rattle.nr_requester.specs.Views.{AreRising, IsAnswered, IsSound}
+use Rattle.nr_requester.proofs.Releases.{from_lower}
 
 -- what is held in one memory is held in the other
 abbrev pub Keeps : RegisteredMemory → RegisteredMemory → Type 0
 Keeps m n = (m.next ≤ n.next) × ((c : Claim) → IsHeld m c → IsHeld n c)
-
-from_lower : (m : RegisteredMemory) (low lower : ℕ) (cs : List Claim) → lower ≤ low → AreHeldFrom m low cs → AreHeldFrom m lower cs
-from_lower m low lower [] le h = omega (arith, le, h)
-from_lower m low lower (c ∷ cs) le h = ((let at = h.0 in omega (arith, le, at)), h.1)
 
 -- claims, and later ones
 pub held_append : (m n : RegisteredMemory) (low : ℕ) (xs ys : List Claim) → Keeps m n → AreHeldFrom m low xs → AreHeldFrom n m.next ys → AreHeldFrom n low (xs ++ ys)

@@ -18,7 +18,11 @@ pub mod Fed
 pub mod OwnLaw
 pub mod RunOut
 pub mod CallRegions
-pub mod Revoking
+pub mod RevokedBytes
+pub mod ChangedCalls
+pub mod FoundAnswers
+pub mod GivenUp
+pub mod Within
 pub mod HeldRegions
 pub mod OwnOffers
 pub mod Stepping
@@ -27,3 +31,11 @@ pub mod AnswerSteps
 pub mod FrameAnswers
 pub mod AllMarks
 pub mod DueAnswers
+pub mod Releases
+pub mod OutputBounds
+pub mod FrameBounds
+pub mod PlanBounds
+pub mod Unsent
+pub mod RegionBounds
+pub mod HeldBounds
+pub mod Lost

@@ -1,6 +1,6 @@
 -- A requester stands for the marks of its link: each call of its owner is one mark more.
-use Rattle.std.specs.Prelude.{◌≡◌, ◌≢◌, ℕ, ◌^◌, ◌<◌, ◌≤◌, ◌||◌, Bool, List, [], ◌∷◌, ◌++◌, true, false, length, map, take, None, Some, Ok, is_some, ◌==◌}
-use Rattle.std.specs.List.{AllByRecursion, Contains, find, flat_map, list_any}
+use Rattle.std.specs.Prelude.{◌≡◌, ◌≢◌, ℕ, ◌^◌, ◌<◌, ◌≤◌, ◌||◌, Bool, List, [], ◌∷◌, ◌++◌, false, length, map, take, None, Ok, ◌==◌}
+use Rattle.std.specs.List.{AllByRecursion, Contains, list_any}
 use Rattle.nr_wire.specs.declared.hello.Side.TheVariants.{Initiator, Responder}
 use Rattle.nr_link.specs.declared.end.End.TheVariants as ends
 use Rattle.nr_reduce.specs.declared.call.Call.{Call}
@@ -23,12 +23,14 @@ use Rattle.nr_reduce.specs.Asked.{AskedSoFar, IsAll, IsAwaited, revoked_bytes}
 use Rattle.nr_reduce.specs.SubmitAnswer.{submit_answer}
 use Rattle.nr_reduce.specs.Credits.{calls_outstanding, credits_granted, KeepsGrant}
 use Rattle.nr_reduce.specs.KeptClient.{bytes_under}
-use Rattle.nr_requester.specs.RequesterState.{StoredCall, RequesterSide, stags_of, queue_of}
+use Rattle.nr_requester.specs.RequesterState.{RequesterSide, stags_of, queue_of}
 use Rattle.nr_requester.specs.Standing.{RequesterRepresents, RequesterRunsOut, StandsOn, StaysOut}
 use Rattle.nr_requester.specs.KeptAnswers.{completed_of}
 use Rattle.nr_requester.specs.AfterCalls.{opened_as, after_submit, after_drain, after_revoke, after_forget}
 use Rattle.nr_requester.specs.AfterPiece.{after_piece, RanOut}
 use Rattle.nr_requester.specs.Answers.{answer_of, plan_under}
+use Rattle.nr_requester.specs.Buffers.{bytes_of_buffers}
+use Rattle.nr_requester.specs.OpenCalls.{IsOutstanding, buffers_of}
 
 abbrev pub Begins : Type 0
 Begins = (opened : LinkParameters) (link : ℕ) → RequesterRepresents opened link (opened_as opened.first_xid opened.first_stag opened.wished) []
@@ -187,18 +189,14 @@ PieceKeepsLaw = (opened : LinkParameters) (link : ℕ) (run : List Mark) (piece 
 abbrev pub DrainKeepsGrant : Type 0
 DrainKeepsGrant = (opened : LinkParameters) (link : ℕ) (run : List Mark) (bytes : List ℕ) → KeepsGrant opened link run → KeepsGrant opened link (run ++ marks.Wrote link Initiator bytes ∷ [])
 
--- what the regions of a call hold, in their order
-abbrev pub bytes_of_call : RequesterSide → StoredCall → List ℕ
-bytes_of_call h c = flat_map (λ stag. bytes_under h.state.side.memory stag) (stags_of c.claims)
-
--- A revoke of an outstanding call that wasn't revoked keeps the law if it hands back what the call's regions hold, while the call's outcome
--- is awaited and the link hasn't ended.
+-- A revoke of a call that is outstanding and was neither revoked nor forgotten keeps the law if it hands back what the call's regions hold, while
+-- the call's outcome is awaited, also after an End.
 abbrev pub RevokeKeepsLaw : Type 0
-RevokeKeepsLaw = (opened : LinkParameters) (link : ℕ) (h : RequesterSide) (run : List Mark) (xid : ℕ) (c : StoredCall) → RequesterRepresents opened link h run → h.state.side.ended ≡ None →
-    find (λ d. d.xid == xid) h.state.outstanding ≡ Some c → is_some c.call ≡ true → IsAwaited link run xid → AskedSoFar opened link run → KeepsGrant opened link run →
-    AskedSoFar opened link (run ++ marks.Revoke link xid (bytes_of_call h c) ∷ []) × KeepsGrant opened link (run ++ marks.Revoke link xid (bytes_of_call h c) ∷ [])
+RevokeKeepsLaw = (opened : LinkParameters) (link : ℕ) (h : RequesterSide) (run : List Mark) (xid : ℕ) → RequesterRepresents opened link h run → IsOutstanding xid h.state →
+    IsAwaited link run xid → AskedSoFar opened link run → KeepsGrant opened link run →
+    AskedSoFar opened link (run ++ marks.Revoke link xid (bytes_of_buffers (buffers_of xid h.state)) ∷ []) × KeepsGrant opened link (run ++ marks.Revoke link xid (bytes_of_buffers (buffers_of xid h.state)) ∷ [])
 
 -- Of one that ran out of memory these are the bytes that a revoke hands back by its marks.
 abbrev pub RevokedOut : Type 0
-RevokedOut = (opened : LinkParameters) (link : ℕ) (h : RequesterSide) (stopped run : List Mark) (xid : ℕ) (c : StoredCall) → RequesterRunsOut opened link h stopped run →
-    find (λ d. d.xid == xid) h.state.outstanding ≡ Some c → is_some c.call ≡ true → bytes_of_call h c ≡ revoked_bytes opened link run xid
+RevokedOut = (opened : LinkParameters) (link : ℕ) (h : RequesterSide) (stopped run : List Mark) (xid : ℕ) → RequesterRunsOut opened link h stopped run → IsOutstanding xid h.state →
+    bytes_of_buffers (buffers_of xid h.state) ≡ revoked_bytes opened link run xid

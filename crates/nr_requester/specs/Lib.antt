@@ -7,5 +7,9 @@ pub mod AfterPiece
 pub mod Answers
 pub mod Sending
 pub mod HeldClaims
+pub mod Buffers
+pub mod OpenCalls
+pub mod HeldBytes
 pub mod Views
 pub mod Laws
+pub mod Takes

@@ -8,6 +8,7 @@ use Rattle.nr_endpoint.specs.ReceiveQueue.{sends_begun}
 use Rattle.nr_endpoint.specs.SendQueue.{ends_left}
 use Rattle.nr_reduce.specs.declared.mark.LinkParameters.{LinkParameters}
 use Rattle.nr_reduce.specs.declared.mark.Mark.{Mark}
+use Rattle.nr_reduce.specs.declared.mark.Mark.TheVariants as marks
 use Rattle.nr_reduce.specs.Limits.{send_max}
 use Rattle.nr_reduce.specs.Written.{ends_waiting}
 use Rattle.nr_reduce.specs.ClientState.{ClientState}
@@ -87,3 +88,8 @@ StandsOn before mark after = (opened : LinkParameters) (link : ℕ) (run : List 
 -- The same of one that ran out of memory.
 abbrev pub StaysOut : RequesterSide → (ℕ → Mark) → RequesterSide → Type 0
 StaysOut before mark after = (opened : LinkParameters) (link : ℕ) (stopped run : List Mark) → RequesterRunsOut opened link before stopped run → RequesterRunsOut opened link after stopped (run ++ mark link ∷ [])
+
+-- One that ran out of memory stands on for a revoke, as if the revoke had come before it stopped.
+abbrev pub StopsRevoked : RequesterSide → ℕ → List ℕ → RequesterSide → Type 0
+StopsRevoked before xid bytes after = (opened : LinkParameters) (link : ℕ) (stopped run : List Mark) → RequesterRunsOut opened link before stopped run →
+    RequesterRunsOut opened link after (stopped ++ marks.Revoke link xid bytes ∷ []) (run ++ marks.Revoke link xid bytes ∷ [])

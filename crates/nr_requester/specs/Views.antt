@@ -1,11 +1,12 @@
 -- What the code keeps, as the definitions see it.
-use Rattle.std.specs.Prelude.{◌≡◌, ℕ, ◌+◌, ◌^◌, ◌<◌, ◌≤◌, ◌==◌, length, List, [], ◌∷◌, map, None}
+use Rattle.std.specs.Prelude.{◌≡◌, ℕ, ◌+◌, ◌^◌, ◌<◌, ◌≤◌, ◌==◌, length, List, [], ◌∷◌, map, None, true}
 use Rattle.std.specs.List.{AllByRecursion, find}
 use Rattle.nr_endpoint.specs.LinkState.{LinkSide}
 use Rattle.nr_reduce.specs.Limits.{most_credits}
 use Rattle.nr_requester.specs.declared.outstanding.OutstandingCall.{OutstandingCall}
 use Rattle.nr_requester.specs.declared.answer.AnsweredCall.{AnsweredCall}
 use Rattle.nr_requester.specs.RequesterState.{StoredCall, RequesterSide}
+use Rattle.nr_requester.specs.AfterCalls.{no_claims}
 use Rattle.nr_requester.specs.HeldClaims.{AreHeldFrom, all_claims, OffersOwn}
 
 abbrev pub stored_view : OutstandingCall → StoredCall
@@ -19,6 +20,14 @@ AreRising (c ∷ cs) next = (c.xid < next) × (AllByRecursion (λ (d : Outstandi
 -- a call that was answered isn't outstanding
 abbrev pub IsAnswered : (next_xid : ℕ) → List OutstandingCall → AnsweredCall → Type 0
 IsAnswered next_xid outstanding a = (a.xid < next_xid) × (find (λ (c : OutstandingCall). c.xid == a.xid) outstanding ≡ None)
+
+-- a call that is given up: it is handed back, and its regions are released
+abbrev pub given_up : OutstandingCall → OutstandingCall
+given_up c = record { xid = c.xid; call = None; is_forgotten = c.is_forgotten; offered = c.offered; claims = no_claims }
+
+-- a call whose owner gave up the answer
+abbrev pub forgot : OutstandingCall → OutstandingCall
+forgot c = record { xid = c.xid; call = c.call; is_forgotten = true; offered = c.offered; claims = c.claims }
 
 -- What holds of each requester: its numbers are in range, a credit is granted, and no more calls are outstanding than can be; no event waits
 -- and no receive is lent; the regions of its calls are held, and are those that the calls offer; xids rise; and there is room for the answers of

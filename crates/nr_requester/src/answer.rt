@@ -1,5 +1,7 @@
 //! A call that was answered.
 
+ghost use Rattle.std.specs.Prelude.{◌≡◌};
+
 use nr_reduce::{Call, Outcome};
 use nr_xdr::Octets;
 
@@ -19,4 +21,14 @@ pub struct AnsweredCall {
     pub call: Call,
     pub buffers: Buffers,
     pub outcome: Outcome,
+}
+
+impl AnsweredCall {
+    /// The call and its buffers. The answer is dropped.
+    pub(crate) fn into_call(self) -> (Call, Buffers)
+        ensures { (result.0 ≡ self.call) × (result.1 ≡ self.buffers) }
+    {
+        let AnsweredCall { call, buffers, .. } = self;
+        (call, buffers)
+    }
 }

@@ -2,14 +2,19 @@
 #![tactic(auto)]
 
 mod answer;
+mod holding;
 mod laws;
 mod messages;
 mod outstanding;
+mod releasing;
 mod requester;
+mod revoking;
 mod submitting;
+mod taking;
 mod ticket;
 
 pub use answer::{AnsweredCall, Buffers};
 pub use laws::{requesters_keep_their_law, requesters_stand_for_marks};
 pub use requester::Requester;
+pub use taking::{Done, Take};
 pub use ticket::Ticket;

@@ -4,6 +4,7 @@ ghost use Rattle.std.specs.Prelude.{◌≡◌, ℕ, ◌^◌, ◌<◌, ◌≤◌,
 ghost use Rattle.std.specs.Io.KnownBytes.{Appends};
 ghost use Rattle.nr_outside.specs.Faults.{Rises};
 ghost use Rattle.nr_wire.specs.declared.hello.Side.TheVariants.{Initiator};
+ghost use Rattle.nr_wire.specs.Constants.{FPDU_MAX};
 ghost use Rattle.nr_wire.specs.Stream.{IsPartial};
 ghost use Rattle.nr_endpoint.specs.declared.fault.DrainFault.TheVariants as drains;
 ghost use Rattle.nr_reduce.specs.Limits.{most_credits};
@@ -56,9 +57,10 @@ impl Model for Requester {
     ghost view = { λ r. requester_view r.endpoint.link r.sent r.wished r.first_xid r.next_xid r.grant r.outstanding.items r.answered.items };
 
     ghost use Rattle.nr_requester.specs.Views.{IsSound};
+    ghost use Rattle.nr_requester.specs.HeldBytes.{IsWithin};
     ghost use Rattle.std.specs.Prelude.{vec_capacity};
 
-    ghost invariant = { λ r. IsSound r.endpoint.link r.next_xid r.grant r.outstanding.items r.answered.items (vec_capacity r.answered) };
+    ghost invariant = { λ r. IsSound r.endpoint.link r.next_xid r.grant r.outstanding.items r.answered.items (vec_capacity r.answered) × IsWithin r.endpoint r.first_xid r.next_xid r.outstanding.items r.answered.items };
 }
 
 impl Requester {
@@ -136,6 +138,14 @@ impl Requester {
         ensures ended { is_some self.now.state.side.ended ≡ true → result ≡ 0 }
     {
         self.endpoint.staged()
+    }
+
+    /// The staging buffer, which begins with the bytes of the server's frame that isn't complete.
+    pub fn staging(&self) -> &[u8]
+        ensures begins { take (length self.now.rest) result.now ≡ self.now.rest }
+        ensures len { length result.now ≡ FPDU_MAX }
+    {
+        self.endpoint.staging()
     }
 
     /// What holds of each requester, for the proofs of its owner. It does nothing.

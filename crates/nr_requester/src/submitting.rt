@@ -14,6 +14,7 @@ ghost use Rattle.nr_requester.specs.AfterCalls.{submitted, after_submit};
 ghost use Rattle.nr_requester.specs.Answers.{answer_of, plan_under, WasSent};
 ghost use Rattle.nr_requester.specs.Sending.{IsPlan, HasNumbers, answer_for, offered_of, xid_word, target_under, head_under, call_plan};
 ghost use Rattle.nr_requester.specs.HeldClaims.{SentHeld, IsOfferOf};
+ghost use Rattle.nr_requester.specs.HeldBytes.{call_bytes, call_max};
 ghost use Rattle.nr_requester.specs.Standing.{StandsOn};
 
 use crate::answer::AnsweredCall;
@@ -55,6 +56,7 @@ fn offer_plan(
     ensures link { OnOk result (endpoint.new.link ≡ with_state (submitted endpoint.old.link.state (call_message xid credit endpoint.old.link.state.memory.next (call_plan plan.entry)) (buffers endpoint.old.link.state.memory.next (call_plan plan.entry))) endpoint.old.link) }
     ensures claims { IfOk result (λ claims. claims ≡ claims_of endpoint.old.link.state.memory (offered_of (call_plan plan.entry))) }
     ensures held { IfOk result (λ claims. SentHeld endpoint.old.link.state.memory endpoint.new.link.state.memory claims) }
+    ensures staging { endpoint.new.staging ≡ endpoint.old.staging }
     ensures err { OnErr result (endpoint.new.link ≡ endpoint.old.link) }
 {
     let message = message_of(alloc, xid, credit, plan, lists)?;
@@ -84,6 +86,7 @@ fn send_plan(
     ensures claims { IfOk result (λ s. s.claims ≡ claims_of endpoint.old.link.state.memory (offered_of (call_plan plan.entry))) }
     ensures held { IfOk result (λ s. SentHeld endpoint.old.link.state.memory endpoint.new.link.state.memory s.claims) }
     ensures offer { IfOk result (λ s. IsOfferOf s.claims s.lists) }
+    ensures staging { endpoint.new.staging ≡ endpoint.old.staging }
     ensures err { OnErr result (endpoint.new.link ≡ endpoint.old.link) }
 {
     let stag = NUMBERS_END - endpoint.regions().stags_left();
@@ -144,6 +147,7 @@ impl Requester {
         requires live { self.old.state.side.ended ≡ None }
         requires planned { IsPlan (outline_plan (head.now ++ call.args) outline) }
         requires numbers { HasNumbers self.old.state (regions_needed (outline_plan (head.now ++ call.args) outline)) }
+        requires small { call_bytes call ≤ call_max }
         ensures xid { IfOk result (λ xid. xid ≡ self.old.state.next_xid) }
         ensures state { OnOk result (self.new ≡ after_submit self.old call (outline_plan (head.now ++ call.args) outline.entry)) }
         ensures returned { IfErr result (λ c. c ≡ call) }
@@ -212,6 +216,7 @@ impl Requester {
     ) -> Result<u32, (Call, Refused)>
         requires live { self.old.state.side.ended ≡ None }
         requires planned { IsPlan (outline_plan (head.now ++ call.args) outline) }
+        requires small { call_bytes call ≤ call_max }
         ensures accepted { IfOk result (λ xid. (answer_for self.old.state (regions_needed (outline_plan (head.now ++ call.args) outline.entry)) ≡ submissions.Accepted xid) × (xid ≡ self.old.state.next_xid)) }
         ensures state { OnOk result ((self.new ≡ after_submit self.old call (outline_plan (head.now ++ call.args) outline.entry)) × (self.old.state.next_xid < 2 ^ 32)) }
         ensures refused { IfErr result (λ e. e.1 ≢ refusals.Memory → answer_for self.old.state (regions_needed (outline_plan (head.now ++ call.args) outline.entry)) ≡ submissions.Refused e.1) }

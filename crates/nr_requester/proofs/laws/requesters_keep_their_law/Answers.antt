@@ -1,5 +1,5 @@
 use Rattle.nr_requester.proofs.OwnLaw.{law_begins, others_keep_law, submit_keeps_law, drain_keeps_law, drain_out_keeps_law, queue_is_all_due, refused_keeps_law, piece_keeps_law, drain_keeps_grant}
-use Rattle.nr_requester.proofs.Revoking.{revoke_keeps_law, revoked_out_lem}
+use Rattle.nr_requester.proofs.RevokedBytes.{revoke_keeps_law, revoked_out_lem}
 use Rattle.nr_requester.proofs.laws.requesters_keep_their_law.Goals as goal
 
 pub returns-clause-submit : goal.returns-clause-submit

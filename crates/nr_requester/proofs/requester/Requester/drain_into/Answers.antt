@@ -1,15 +1,18 @@
 use Rattle.nr_requester.proofs.Views.{drain_taken}
 use Rattle.nr_requester.proofs.HeldRegions.{drain_sound}
+use Rattle.nr_requester.proofs.Within.{drained_within}
 use Rattle.nr_requester.proofs.requester.Requester.drain_into.Goals as goal
 
 pub returns-clause-taken : goal.returns-clause-taken
 returns-clause-taken c d =
     let t = d.drain_into-drained.ensures.taken in
     let x = drain_taken d.args.self.now d.self.inside.endpoint.link d.drain_into-drained.new.self.link d.self.inside.sent d.sent_by_now-self-inside.result d.self.inside.wished d.self.inside.first_xid d.self.inside.next_xid d.self.inside.grant t.0
-    d.self.inside.outstanding.items d.self.inside.answered.items _ _ d.drain_into-drained.result d.self.view_is d.self.invariant.xid t.1 t.2 t.3 d.sent_by_now-self-inside.ensures t.5 in
+    d.self.inside.outstanding.items d.self.inside.answered.items _ _ d.drain_into-drained.result d.self.view_is d.self.invariant.0.xid t.1 t.2 t.3 d.sent_by_now-self-inside.ensures t.5 in
     (t.0, x.0, x.1, x.2, x.3, x.4, x.5)
 
 pub invariant_of-self : goal.invariant_of-self
 invariant_of-self g c =
-    let t = c.drain_into-drained.ensures.taken in
-    drain_sound c.self.inside.endpoint.link c.drain_into-drained.new.self.link t.0 c.self.inside.next_xid c.self.inside.grant _ c.self.inside.outstanding.items c.self.inside.answered.items c.self.invariant t.3
+    let t = c.drain_into-drained.ensures.taken in (
+      drain_sound c.self.inside.endpoint.link c.drain_into-drained.new.self.link t.0 c.self.inside.next_xid c.self.inside.grant _ c.self.inside.outstanding.items c.self.inside.answered.items c.self.invariant.0 t.3,
+      drained_within c.self.inside.endpoint c.drain_into-drained.new.self c.self.inside.first_xid c.self.inside.next_xid t.0 c.self.inside.outstanding.items c.self.inside.answered.items c.self.invariant.1 c.self.invariant.0.rising c.drain_into-drained.ensures.staging t.3,
+    )

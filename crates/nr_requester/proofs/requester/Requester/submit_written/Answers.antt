@@ -3,6 +3,7 @@ use Rattle.nr_reduce.specs.declared.call.Call.{Call}
 use Rattle.nr_reduce.specs.declared.call.Refused.{Refused}
 use Rattle.nr_reduce.specs.CallOutlines.{outline_plan}
 use Rattle.nr_requester.proofs.Views.{if_ok, if_err}
+use Rattle.nr_requester.proofs.Within.{call_small}
 use Rattle.nr_requester.proofs.Answered.{live_answer, accepted_answer, refused_answer, too_large_answer}
 use Rattle.nr_requester.proofs.requester.Requester.submit_written.Goals as goal
 
@@ -22,3 +23,6 @@ pub returns-in-Err-clause-refused : goal.returns-in-Err-clause-refused
 returns-in-Err-clause-refused c =
     λ other. live_answer c.args.self.now.state c.args.call c.args.form.now c.requires.live
     ∙ too_large_answer c.args.self.now.state c.args.call c.args.form.now (record { need = c.in-Err.field-0.need; room = c.in-Err.field-0.room }) c.in-Err.ensures
+
+pub accept-requires-clause-small : goal.accept-requires-clause-small
+accept-requires-clause-small c = call_small c.args.self.now.state.next_xid c.args.call c.args.form.now (outline_plan (c.args.head.now ++ c.args.call.args) c.in-Ok.outline) c.in-Ok.ensures c.requires.cred

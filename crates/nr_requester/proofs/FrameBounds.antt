@@ -1,0 +1,230 @@
+-- A frame of the peer leaves the vectors of a side within their bounds.
+use Rattle.std.proofs.Common.{◌≡◌, ℕ, ◌≤◌, Bool, true, false, cond, eqb, List, [], ◌∷◌, ◌++◌, length, take, drop, Option, None, Some, Result, Ok, Err, refl, sym, ap, subst, ◌∙◌, inl, inr, arith, length-append}
+use Rattle.std.proofs.lemmas.Bool.{eqb-true, cases_eq}
+use Rattle.std.proofs.lemmas.List.{length-take, length-drop}
+use Rattle.std.specs.FinMap.{get, insert}
+use Rattle.nr_regions.specs.declared.denied.Denied.{Denied}
+use Rattle.nr_regions.specs.declared.denied.Denied.TheVariants.{NoStag}
+use Rattle.nr_regions.specs.declared.right.Kind.{Kind}
+use Rattle.nr_regions.specs.RegisteredMemory.{Region, RegisteredMemory, Access, held_region, live_region, region_offer, denial_in, denial, bytes_in, bytes_at, bytes_after_write, after_place, after_place_in, right_for}
+use Rattle.nr_regions.proofs.Holding.{live_held, within, get_insert_here, get_insert_other, length_bytes_after_write}
+use Rattle.nr_regions.proofs.Totals.{sound_place}
+use Rattle.nr_wire.specs.Constants.{HELLO_LEN, OPCODE_READ_RESPONSE, OPCODE_READ_REQUEST}
+use Rattle.nr_wire.specs.declared.hello.Side.{Side}
+use Rattle.nr_wire.specs.declared.hello.Side.TheVariants.{Initiator}
+use Rattle.nr_wire.specs.declared.stream.Awaited.{Awaited}
+use Rattle.nr_wire.specs.declared.stream.Awaited.TheVariants.{Hello as HelloFrom, Fpdu}
+use Rattle.nr_wire.specs.Hello.{Hello, hello_of}
+use Rattle.nr_wire.specs.Segment.{Segment, segment_of}
+use Rattle.nr_wire.specs.Segment.Segment.{Tagged, Untagged}
+use Rattle.nr_link.specs.declared.end.End.{End}
+use Rattle.nr_link.specs.declared.end.End.TheVariants as ends
+use Rattle.nr_link.specs.Frames.{Frame}
+use Rattle.nr_link.specs.Limits.{open_reads_max, send_max}
+use Rattle.nr_link.specs.Output.{read_response}
+use Rattle.nr_link.specs.Reasons.{denied_word, NO_BUFFER_WORD}
+use Rattle.nr_link.specs.ReceiveState.{read_request_in}
+use Rattle.nr_link.specs.Ending.{final_output, rejection, is_hello_reason, kind_of}
+use Rattle.nr_endpoint.specs.SendQueue.{SendQueue, with_end}
+use Rattle.nr_endpoint.specs.ReceiveQueue.{with_segment, with_read_done}
+use Rattle.nr_endpoint.specs.LinkState.{LinkState, LinkSide, has_ended}
+use Rattle.nr_endpoint.specs.Judging.{segment_end, next_frame, with_end_of, with_frame, with_segment_by, with_fpdu, with_peer_hello, with_effect, with_read_request, with_read_response, reply_hello, fetch_access}
+use Rattle.nr_endpoint.specs.SegmentEnds.{RequestIsFine, denied_if, tagged_end}
+use Rattle.nr_endpoint.specs.Calls.{after_call}
+use Rattle.nr_endpoint.specs.Calls.Call.{FeedOne}
+use Rattle.nr_endpoint.proofs.AlongFrames.{feed_one_keeps}
+use Rattle.nr_endpoint.proofs.Alive.{alive_tagged, alive_request}
+use Rattle.nr_requester.specs.HeldBytes.{region_max, frame_max, QueueFits, RegionsFit, LinkFits, RegionsHave}
+use Rattle.nr_requester.proofs.OutputBounds.{response_fits, last_fits, last_len}
+
+-- both: its vectors are within their bounds, and its regions have this number of bytes
+abbrev pub Fits : ℕ → LinkState → Type 0
+Fits total s = LinkFits s × RegionsHave s.memory total
+
+-- ---- What it writes last
+
+last_bytes : (end : End) → length (final_output end) ≤ frame_max
+unfolding final_output
+last_bytes (ends.Bad at reason) = by (is_hello_reason reason)
+  where
+    by : (b : Bool) → length (cond b [] (Rattle.nr_link.specs.Output.terminate_message reason)) ≤ frame_max
+    by true = omega arith
+    by false = last_len reason
+last_bytes (ends.Denied stag offset why) = last_len (denied_word why)
+last_bytes (ends.NoBuffer msn) = last_len NO_BUFFER_WORD
+last_bytes (ends.Terminated reason) = omega arith
+last_bytes ends.Memory = omega arith
+
+no_rejection : (side : Side) (end : End) → side ≡ Initiator → length (rejection side end) ≡ 0
+no_rejection side end is = ap (λ (x : Side). length (rejection x end)) is
+
+pub end_fits : (s : LinkState) (end : End) (total : ℕ) → has_ended s ≡ false → Fits total s → Fits total (with_end_of end s)
+unfolding with_end
+end_fits s end total live f = (
+  record {
+    side = f.0.side;
+    receives = f.0.receives;
+    receive_length = f.0.receive_length;
+    hello = omega (arith, f.0.hello, length-append s.send_queue.hello (rejection s.side end), no_rejection s.side end f.0.side);
+    queue = last_fits s.send_queue (final_output end) (last_bytes end) (subst (λ (b : Bool). QueueFits b s.send_queue) live f.0.queue);
+    responses = f.0.responses;
+    regions = f.0.regions;
+  },
+  f.1,
+)
+
+-- ---- An access is placed
+
+abbrev denied : Denied → Option Denied
+denied why = Some why
+
+abbrev or_region : Region → Option Region → Region
+or_region x None = x
+or_region x (Some y) = y
+
+same_region : (x y : Region) → Some x ≡ Some y → x ≡ y
+same_region x y e = ap (or_region x) e
+
+-- an access that is allowed leaves the lengths of the regions
+placed_by : (m : RegisteredMemory) (stag to : ℕ) (kind : Kind) (payload : List ℕ) (total : ℕ) (o : Option Region) → held_region m stag ≡ o →
+    denial_in (region_offer o) (record { right = right_for kind; stag = stag; to = to; len = length payload }) ≡ None → RegionsFit m → RegionsHave m total →
+    RegionsFit (after_place_in o m stag to payload) × RegionsHave (after_place_in o m stag to payload) total
+unfolding held_region
+placed_by m stag to kind payload total None there allowed fit have = absurd (let wrong : denied NoStag ≡ None = allowed in cc)
+placed_by m stag to kind payload total (Some region) there allowed fit have =
+    let after : Region = record { right = region.right; buf = bytes_after_write region.buf to payload } in
+    let len : length after.buf ≡ length region.buf = length_bytes_after_write region.buf to payload (within region.right region.buf (record { kind = kind; stag = stag; to = to; payload = payload; end = 0 }) allowed) in (
+      λ q r e. elim (cases_eq q stag) [
+        | inl same ↦ (let is : r ≡ after = same_region r after (sym e ∙ ap (λ (k : ℕ). get (insert m.held stag after) k) same ∙ get_insert_here m.held stag after) in
+            omega (arith, len, fit stag region there, ap (λ (x : Region). length x.buf) is))
+        | inr other ↦ fit q r (sym (get_insert_other m.held stag after q other) ∙ e)
+      ],
+      sound_place m.next total m.held stag region after have there len,
+    )
+
+placed_fits : (m : RegisteredMemory) (stag to : ℕ) (kind : Kind) (payload : List ℕ) (total : ℕ) → denial m (record { right = right_for kind; stag = stag; to = to; len = length payload }) ≡ None → RegionsFit m → RegionsHave m total →
+    RegionsFit (after_place m stag to payload) × RegionsHave (after_place m stag to payload) total
+unfolding denial after_place
+placed_fits m stag to kind payload total allowed fit have = placed_by m stag to kind payload total (live_region m stag) (sym (live_held m stag)) allowed fit have
+
+-- ---- A segment that doesn't end the side
+
+tagged_allowed : (stag to : ℕ) (d : Option Denied) (others : Option End) → denied_if stag to d others ≡ None → d ≡ None
+tagged_allowed stag to None others e = refl
+tagged_allowed stag to (Some why) others e = absurd cc
+
+allowed_lem : (s : LinkState) (last : Bool) (opcode stag to : ℕ) (payload : List ℕ) → tagged_end s last opcode stag to payload ≡ None →
+    denial s.memory (record { right = right_for (kind_of opcode); stag = stag; to = to; len = length payload }) ≡ None
+unfolding tagged_end
+allowed_lem s last opcode stag to payload e = tagged_allowed stag to _ _ e
+
+read_fits : (s : LinkState) (last : Bool) (n : ℕ) (b : Bool) (total : ℕ) → Fits total s → Fits total (cond b (with_read_response last n s) s)
+read_fits s last n true total f = (
+  record {
+    side = f.0.side;
+    receives = by last f.0.receives;
+    receive_length = by_length last f.0.receive_length;
+    hello = f.0.hello;
+    queue = f.0.queue;
+    responses = f.0.responses;
+    regions = f.0.regions;
+  },
+  f.1,
+)
+  where
+    by : (l : Bool) → s.receive_queue.receives ≡ 1 → (cond l (with_read_done s.receive_queue) s.receive_queue).receives ≡ 1
+    by true e = e
+    by false e = e
+
+    by_length : (l : Bool) → s.receive_queue.receive_length ≡ send_max → (cond l (with_read_done s.receive_queue) s.receive_queue).receive_length ≡ send_max
+    by_length true e = e
+    by_length false e = e
+read_fits s last n false total f = f
+
+reached_short : (m : RegisteredMemory) (access : Access) → RegionsFit m → length (bytes_at m access) ≤ region_max
+reached_short m access fit = by (live_region m access.stag) (sym (live_held m access.stag))
+  where
+    by : (o : Option Region) → held_region m access.stag ≡ o → length (take access.len (drop access.to (bytes_in o))) ≤ region_max
+    by None there = omega (arith, length-take {A = ℕ} access.len (drop access.to []), length-drop {A = ℕ} access.to [])
+    by (Some region) there = omega (arith, length-take access.len (drop access.to region.buf), length-drop access.to region.buf, fit access.stag region there)
+
+-- the queue after a Read Request
+record QueueLeft (q : SendQueue) : Type 0 where
+  pub hello : length q.hello ≤ HELLO_LEN
+  pub queue : QueueFits false q
+  pub responses : length q.response_ends ≤ open_reads_max
+
+answered_fits : (s : LinkState) (f : Frame) (last : Bool) (opcode w queue msn offset : ℕ) (payload : List ℕ) (b : Bool) → eqb opcode OPCODE_READ_REQUEST ≡ b → f.at ≡ s.place →
+    segment_end s f (Untagged last opcode w queue msn offset payload) ≡ None → RegionsFit s.memory → QueueLeft s.send_queue →
+    QueueLeft (with_read_request (cond b (Some (read_request_in payload)) None) s.memory s.send_queue)
+answered_fits s f last opcode w queue msn offset payload false is at lives fit left = left
+answered_fits s f last opcode w queue msn offset payload true is at lives fit left =
+    let same : opcode ≡ OPCODE_READ_REQUEST = eqb-true opcode OPCODE_READ_REQUEST is in
+    let goes : segment_end s f (Untagged last OPCODE_READ_REQUEST w queue msn offset payload) ≡ None = subst (λ (o : ℕ). segment_end s f (Untagged last o w queue msn offset payload) ≡ None) same lives in
+    let fine : RequestIsFine s payload = alive_request s f last w queue msn offset payload at goes in
+    let r = read_request_in payload in
+    record {
+      hello = left.hello;
+      queue = response_fits s.send_queue r.sink r.sink_to (bytes_at s.memory (fetch_access r)) (reached_short s.memory (fetch_access r) fit) left.queue;
+      responses = omega (arith, fine.few, length-append s.send_queue.response_ends (length (s.send_queue.fpdus ++ read_response r.sink r.sink_to (bytes_at s.memory (fetch_access r))) ∷ []));
+    }
+
+-- ---- A frame
+
+segment_fits : (s : LinkState) (f : Frame) (segment : Segment) (e : Option End) (total : ℕ) → has_ended s ≡ false → f.at ≡ s.place → segment_end s f segment ≡ e → Fits total s → Fits total (with_segment_by f segment e s)
+unfolding with_effect with_segment
+segment_fits s f segment (Some end) total live at lives h = end_fits s end total live h
+segment_fits s f (Tagged last opcode stag to payload) None total live at lives h =
+    let m = placed_fits s.memory stag to (kind_of opcode) payload total (allowed_lem s last opcode stag to payload (alive_tagged s f last opcode stag to payload at lives)) h.0.regions h.1 in
+    let placed : LinkState = record s { memory = after_place s.memory stag to payload } in
+    let after = read_fits placed last (length payload) (eqb opcode OPCODE_READ_RESPONSE) total (
+      record { side = h.0.side; receives = h.0.receives; receive_length = h.0.receive_length; hello = h.0.hello; queue = h.0.queue; responses = h.0.responses; regions = m.0 },
+      m.1,
+    ) in
+    (record { side = after.0.side; receives = after.0.receives; receive_length = after.0.receive_length; hello = after.0.hello; queue = after.0.queue; responses = after.0.responses; regions = after.0.regions }, after.1)
+segment_fits s f (Untagged last opcode w queue msn offset payload) None total live at lives h =
+    let left = answered_fits s f last opcode w queue msn offset payload (eqb opcode OPCODE_READ_REQUEST) refl at lives h.0.regions
+    (record { hello = h.0.hello; queue = subst (λ (b : Bool). QueueFits b s.send_queue) live h.0.queue; responses = h.0.responses }) in (
+      record {
+        side = h.0.side;
+        receives = h.0.receives;
+        receive_length = h.0.receive_length;
+        hello = left.hello;
+        queue = subst (λ (b : Bool). QueueFits b (with_read_request (cond (eqb opcode OPCODE_READ_REQUEST) (Some (read_request_in payload)) None) s.memory s.send_queue)) (sym live) left.queue;
+        responses = left.responses;
+        regions = h.0.regions;
+      },
+      h.1,
+    )
+
+fpdu_fits : (s : LinkState) (f : Frame) (r : Result Segment ℕ) (total : ℕ) → has_ended s ≡ false → f.at ≡ s.place → Fits total s → Fits total (with_fpdu f r s)
+unfolding with_fpdu
+fpdu_fits s f (Ok segment) total live at h = segment_fits s f segment (segment_end s f segment) total live at refl h
+fpdu_fits s f (Err reason) total live at h = end_fits s (ends.Bad f.at reason) total live h
+
+no_reply : (side : Side) → side ≡ Initiator → length (reply_hello side) ≡ 0
+no_reply side is = ap (λ (x : Side). length (reply_hello x)) is
+
+hello_fits : (s : LinkState) (f : Frame) (r : Result Hello ℕ) (total : ℕ) → has_ended s ≡ false → Fits total s → Fits total (with_peer_hello f r s)
+unfolding with_peer_hello
+hello_fits s f (Ok hello) total live h = (
+  record {
+    side = h.0.side;
+    receives = h.0.receives;
+    receive_length = h.0.receive_length;
+    hello = omega (arith, h.0.hello, length-append s.send_queue.hello (reply_hello s.side), no_reply s.side h.0.side);
+    queue = h.0.queue;
+    responses = h.0.responses;
+    regions = h.0.regions;
+  },
+  h.1,
+)
+hello_fits s f (Err reason) total live h = end_fits s (ends.Bad f.at reason) total live h
+
+frame_fits : (total : ℕ) (a : Awaited) (s : LinkState) (frame : List ℕ) → has_ended s ≡ false → Fits total s → Fits total (with_frame s a frame)
+frame_fits total (HelloFrom side) s frame live h = hello_fits s (next_frame s frame) (hello_of side frame) total live h
+frame_fits total Fpdu s frame live h = fpdu_fits s (next_frame s frame) (segment_of frame) total live refl h
+
+-- one step on a piece
+pub fed_one_fits : (total : ℕ) (link : LinkSide) (piece : List ℕ) → Fits total link.state → Fits total (after_call link (FeedOne piece)).state
+fed_one_fits total link piece h = feed_one_keeps (λ a s. Fits total s) (frame_fits total) link piece h

@@ -1,0 +1,315 @@
+-- A call is given up: it is handed back and its regions are released, or its owner forgets it; or its answer is taken.
+use Rattle.std.proofs.Common.{◌≡◌, ◌≢◌, ℕ, suc, ◌-◌, ◌<◌, Bool, true, false, cond, eqb, List, [], ◌∷◌, ◌++◌, length, map, take, drop, get_or, set, Option, None, Some, is_some, refl, sym, ap, subst, ◌∙◌, arith}
+use Rattle.std.specs.List.{AllByRecursion, find}
+use Rattle.nr_regions.specs.RegisteredMemory.{RegisteredMemory, Claim}
+use Rattle.nr_endpoint.specs.LinkState.{LinkState, LinkSide}
+use Rattle.nr_endpoint.specs.EndpointState.{EndpointState}
+use Rattle.nr_reduce.specs.KeptClient.{released_all}
+use Rattle.nr_reduce.specs.declared.call.Call.{Call}
+use Rattle.nr_reduce.specs.declared.mark.Mark.TheVariants as marks
+use Rattle.nr_requester.specs.declared.answer.AnsweredCall.{AnsweredCall}
+use Rattle.nr_requester.specs.declared.outstanding.OutstandingCall.{OutstandingCall}
+use Rattle.nr_requester.specs.RequesterState.{StoredCall, RequesterSide, stags_of, awaited_call}
+use Rattle.nr_requester.specs.AfterCalls.{no_claims, without_answer, revoked_if, forgotten_if, stags_in, after_revoke, after_forget}
+use Rattle.nr_requester.specs.AfterPiece.{buffers_under}
+use Rattle.nr_requester.specs.Buffers.{with_memory}
+use Rattle.nr_requester.specs.HeldClaims.{call_claims, all_claims, AreHeldFrom, OffersOwn}
+use Rattle.nr_requester.specs.OpenCalls.{open_call, call_with, buffers_with, buffers_of}
+use Rattle.nr_requester.specs.Standing.{RequesterRepresents, RequesterRunsOut, StandsOn, StaysOut, StopsRevoked}
+use Rattle.nr_requester.specs.Views.{IsSound, IsAnswered, AreRising, stored_view, given_up, forgot, requester_view}
+use Rattle.nr_requester.specs.HeldBytes.{LinkFits, RegionsHave, CountsFit, claims_len, claims_total, CallFits, AnswerFits, IsWithin}
+use Rattle.nr_requester.proofs.Releases.{all_released, held_middle, stags_are_of}
+use Rattle.nr_requester.proofs.RegionBounds.{released_both}
+use Rattle.nr_requester.proofs.ChangedCalls.{changed_by, LeavesOthers, found_at, none_found, one_changed, none_changed, count_stays, each_stays, nth_of, rising_stays, from_stays, waiting_stays, claims_around, claims_changed, total_changed, apart_stays, others_answered}
+use Rattle.nr_requester.proofs.FoundAnswers.{all_left, distinct_left, fewer_left, none_taken}
+use Rattle.nr_link.specs.declared.end.End.{End}
+use Rattle.nr_reduce.specs.declared.call.Outcome.{Outcome}
+use Rattle.nr_requester.proofs.Lost.{lost_is_a_mark}
+use Rattle.nr_requester.proofs.AllMarks.{revoke_is_a_mark, revoke_stays_out, forget_is_a_mark, done_is_a_mark}
+
+revoke_leaves : LeavesOthers revoked_if
+revoke_leaves c = refl
+
+forget_leaves : LeavesOthers forgotten_if
+forget_leaves c = refl
+
+-- any call: these have one
+pub given : (calls : List OutstandingCall) (at : ℕ) → OutstandingCall
+given calls at = get_or calls at (record { xid = 0; call = None; is_forgotten = false; offered = record { read = []; write = []; reply = None }; claims = no_claims })
+
+-- ---- The regions of a call are released
+
+-- those of one call are held
+pub own_held : (m : RegisteredMemory) (n : ℕ) (calls : List OutstandingCall) (d : OutstandingCall) → n < length calls → AreHeldFrom m 0 (all_claims calls) → AreHeldFrom m 0 (call_claims (get_or calls n d).claims)
+own_held m n calls d lt h = held_middle m 0 (all_claims (take n calls)) (call_claims (get_or calls n d).claims) (all_claims (drop (suc n) calls)) (subst (λ (cs : List Claim). AreHeldFrom m 0 cs) (claims_around n calls d lt) h)
+
+others_held : (m : RegisteredMemory) (n : ℕ) (calls : List OutstandingCall) (d : OutstandingCall) → n < length calls → AreHeldFrom m 0 (all_claims calls) →
+    AreHeldFrom (released_all m (stags_of (get_or calls n d).claims)) 0 (all_claims (set calls n (given_up (get_or calls n d))))
+others_held m n calls d lt h =
+    subst (λ (cs : List Claim). AreHeldFrom (released_all m (stags_of (get_or calls n d).claims)) 0 cs) (sym (claims_changed n calls (given_up (get_or calls n d)) lt))
+    (subst (λ (ss : List ℕ). AreHeldFrom (released_all m ss) 0 (all_claims (take n calls) ++ all_claims (drop (suc n) calls))) (stags_are_of (get_or calls n d).claims)
+    (all_released m 0 (all_claims (take n calls)) (call_claims (get_or calls n d).claims) (all_claims (drop (suc n) calls))
+    (subst (λ (cs : List Claim). AreHeldFrom m 0 cs) (claims_around n calls d lt) h)))
+
+pub given_up_sound : (link link2 : LinkSide) (next grant room n : ℕ) (calls calls2 : List OutstandingCall) (answers : List AnsweredCall) (d : OutstandingCall) → IsSound link next grant calls answers room → n < length calls →
+    link2 ≡ with_memory (released_all link.state.memory (stags_of (get_or calls n d).claims)) link → calls2 ≡ set calls n (given_up (get_or calls n d)) → IsSound link2 next grant calls2 answers room
+given_up_sound link link2 next grant room n calls calls2 answers d s lt link_is are =
+    let after : LinkSide = with_memory (released_all link.state.memory (stags_of (get_or calls n d).claims)) link in
+    let y : OutstandingCall = given_up (get_or calls n d) in
+    let left : List OutstandingCall = set calls n y in
+    let count = count_stays n calls y in
+    let all : IsSound after next grant left answers room = record {
+      xid = s.xid;
+      few = (let few = s.few in omega (arith, few, count));
+      some = s.some;
+      granted = s.granted;
+      none_waits = s.none_waits;
+      none_lent = s.none_lent;
+      held = others_held link.state.memory n calls d lt s.held;
+      offers = each_stays OffersOwn n calls y tt s.offers;
+      rising = rising_stays next n calls y d refl lt s.rising;
+      apart = apart_stays next n calls y d answers refl lt s.apart;
+      has_room = (let has = s.has_room in omega (arith, has, count));
+    } in
+    subst (λ (l : LinkSide). IsSound l next grant calls2 answers room) (sym link_is) (subst (λ (cs : List OutstandingCall). IsSound after next grant cs answers room) (sym are) all)
+
+pub given_up_within : (e e2 : EndpointState) (first next n : ℕ) (calls calls2 : List OutstandingCall) (answers : List AnsweredCall) (d : OutstandingCall) → IsWithin e first next calls answers → AreHeldFrom e.link.state.memory 0 (all_claims calls) → n < length calls →
+    e2.staging ≡ e.staging → e2.link ≡ with_memory (released_all e.link.state.memory (stags_of (get_or calls n d).claims)) e.link → calls2 ≡ set calls n (given_up (get_or calls n d)) → IsWithin e2 first next calls2 answers
+given_up_within e e2 first next n calls calls2 answers d w held lt same link_is are =
+    let s : LinkState = e.link.state in
+    let c : OutstandingCall = get_or calls n d in
+    let y : OutstandingCall = given_up c in
+    let left : List OutstandingCall = set calls n y in
+    let memory : RegisteredMemory = released_all s.memory (stags_of c.claims) in
+    let state : e2.link.state ≡ record s { memory = memory } = ap (λ (l : LinkSide). l.state) link_is in
+    let both = released_both s.memory c.claims (claims_total calls) (own_held s.memory n calls d lt held) (w.link.regions, w.regions) in
+    let sum : claims_total calls - claims_len c.claims ≡ claims_total left = omega (arith, total_changed n calls y d lt) in
+    let all : IsWithin e2 first next left answers = record {
+      staging = ap (λ (xs : List ℕ). length xs) same ∙ w.staging;
+      from = from_stays first n calls y d refl lt w.from;
+      order = w.order;
+      link = subst (λ (x : LinkState). LinkFits x) (sym state) (record {
+        side = w.link.side;
+        receives = w.link.receives;
+        receive_length = w.link.receive_length;
+        hello = w.link.hello;
+        queue = w.link.queue;
+        responses = w.link.responses;
+        regions = both.0;
+      });
+      regions = subst (λ (x : LinkState). RegionsHave x.memory (claims_total left)) (sym state) (subst (λ (k : ℕ). RegionsHave memory k) sum both.1);
+      counts = subst (λ (x : LinkState). CountsFit first next x.send_queue left) (sym state)
+          (record { waiting = omega (arith, w.counts.waiting, waiting_stays first s.send_queue.sends_left n calls y d refl lt); numbered = w.counts.numbered });
+      each = each_stays CallFits n calls y (record { call = omega arith; offer = omega arith }) w.each;
+      kept = w.kept;
+      distinct = w.distinct;
+    } in
+    subst (λ (cs : List OutstandingCall). IsWithin e2 first next cs answers) (sym are) all
+
+-- ---- A call is forgotten
+
+pub forgot_sound : (link : LinkSide) (next grant room n : ℕ) (calls calls2 : List OutstandingCall) (answers : List AnsweredCall) (d : OutstandingCall) → IsSound link next grant calls answers room → n < length calls →
+    calls2 ≡ set calls n (forgot (get_or calls n d)) → IsSound link next grant calls2 answers room
+forgot_sound link next grant room n calls calls2 answers d s lt are =
+    let c : OutstandingCall = get_or calls n d in
+    let y : OutstandingCall = forgot c in
+    let left : List OutstandingCall = set calls n y in
+    let count = count_stays n calls y in
+    let claims : all_claims left ≡ all_claims calls = claims_changed n calls y lt ∙ sym (claims_around n calls d lt) in
+    let all : IsSound link next grant left answers room = record {
+      xid = s.xid;
+      few = (let few = s.few in omega (arith, few, count));
+      some = s.some;
+      granted = s.granted;
+      none_waits = s.none_waits;
+      none_lent = s.none_lent;
+      held = subst (λ (cs : List Claim). AreHeldFrom link.state.memory 0 cs) (sym claims) s.held;
+      offers = each_stays OffersOwn n calls y (nth_of OffersOwn n calls d lt s.offers) s.offers;
+      rising = rising_stays next n calls y d refl lt s.rising;
+      apart = apart_stays next n calls y d answers refl lt s.apart;
+      has_room = (let has = s.has_room in omega (arith, has, count));
+    } in
+    subst (λ (cs : List OutstandingCall). IsSound link next grant cs answers room) (sym are) all
+
+pub forgot_within : (e : EndpointState) (first next n : ℕ) (calls calls2 : List OutstandingCall) (answers : List AnsweredCall) (d : OutstandingCall) → IsWithin e first next calls answers → n < length calls → calls2 ≡ set calls n (forgot (get_or calls n d)) →
+    IsWithin e first next calls2 answers
+forgot_within e first next n calls calls2 answers d w lt are =
+    let c : OutstandingCall = get_or calls n d in
+    let y : OutstandingCall = forgot c in
+    let left : List OutstandingCall = set calls n y in
+    let fits : CallFits c = nth_of CallFits n calls d lt w.each in
+    let sum : claims_total calls ≡ claims_total left = omega (arith, total_changed n calls y d lt) in
+    let all : IsWithin e first next left answers = record {
+      staging = w.staging;
+      from = from_stays first n calls y d refl lt w.from;
+      order = w.order;
+      link = w.link;
+      regions = subst (λ (k : ℕ). RegionsHave e.link.state.memory k) sum w.regions;
+      counts = record { waiting = omega (arith, w.counts.waiting, waiting_stays first e.link.state.send_queue.sends_left n calls y d refl lt); numbered = w.counts.numbered };
+      each = each_stays CallFits n calls y (record { call = fits.call; offer = fits.offer }) w.each;
+      kept = w.kept;
+      distinct = w.distinct;
+    } in
+    subst (λ (cs : List OutstandingCall). IsWithin e first next cs answers) (sym are) all
+
+-- ---- An answer is taken
+
+pub taken_sound : (link : LinkSide) (next grant room room2 xid : ℕ) (calls : List OutstandingCall) (answers answers2 : List AnsweredCall) → IsSound link next grant calls answers room → answers2 ≡ without_answer xid answers → room2 ≡ room → IsSound link next grant calls answers2 room2
+taken_sound link next grant room room2 xid calls answers answers2 s are same =
+    let fewer = fewer_left xid answers in
+    let all : IsSound link next grant calls (without_answer xid answers) room2 = record {
+      xid = s.xid;
+      few = s.few;
+      some = s.some;
+      granted = s.granted;
+      none_waits = s.none_waits;
+      none_lent = s.none_lent;
+      held = s.held;
+      offers = s.offers;
+      rising = s.rising;
+      apart = all_left (IsAnswered next calls) xid answers s.apart;
+      has_room = (let has = s.has_room in omega (arith, has, fewer, same));
+    } in
+    subst (λ (ys : List AnsweredCall). IsSound link next grant calls ys room2) (sym are) all
+
+pub taken_within : (e : EndpointState) (first next xid : ℕ) (calls : List OutstandingCall) (answers answers2 : List AnsweredCall) → IsWithin e first next calls answers → answers2 ≡ without_answer xid answers → IsWithin e first next calls answers2
+taken_within e first next xid calls answers answers2 w are =
+    let all : IsWithin e first next calls (without_answer xid answers) = record {
+      staging = w.staging;
+      from = w.from;
+      order = w.order;
+      link = w.link;
+      regions = w.regions;
+      counts = w.counts;
+      each = w.each;
+      kept = all_left AnswerFits xid answers w.kept;
+      distinct = distinct_left xid answers w.distinct;
+    } in
+    subst (λ (ys : List AnsweredCall). IsWithin e first next calls ys) (sym are) all
+
+-- ---- As contracts see it
+
+-- an outstanding call is revoked,
+pub given_up_view : (link link2 : LinkSide) (sent wished first next grant xid n : ℕ) (calls calls2 : List OutstandingCall) (answers : List AnsweredCall) (d : OutstandingCall) → AreRising calls next → AllByRecursion (IsAnswered next calls) answers → n < length calls → (get_or calls n d).xid ≡ xid →
+    link2 ≡ with_memory (released_all link.state.memory (stags_of (get_or calls n d).claims)) link → calls2 ≡ set calls n (given_up (get_or calls n d)) →
+    requester_view link2 sent wished first next grant calls2 answers ≡ after_revoke (requester_view link sent wished first next grant calls answers) xid
+unfolding after_revoke
+given_up_view link link2 sent wished first next grant xid n calls calls2 answers d rise apart lt own link_is are =
+    let c : OutstandingCall = get_or calls n d in
+    let found = found_at next xid n calls d rise lt own in
+    let none : answers ≡ without_answer xid answers = sym (none_taken xid answers (subst (λ (x : ℕ). AllByRecursion (λ (a : AnsweredCall). a.xid ≢ x) answers) own (others_answered next n calls d answers lt apart))) in
+    let out : map stored_view calls2 ≡ map (changed_by revoked_if xid) (map stored_view calls) = ap (map stored_view) are ∙ one_changed revoked_if revoke_leaves next xid n calls (given_up c) d refl rise lt own in
+    (λ i. record (requester_view (link_is i) sent wished first next grant calls answers) {
+      state = record (requester_view (link_is i) sent wished first next grant calls answers).state { outstanding = out i; answered = none i };
+    })
+    ∙ (λ i. record (requester_view link sent wished first next grant calls answers) {
+      state = record (requester_view link sent wished first next grant calls answers).state {
+        side = record link.state { memory = released_all link.state.memory (stags_in (sym found i)) };
+        outstanding = map (changed_by revoked_if xid) (map stored_view calls);
+        answered = without_answer xid answers;
+      };
+    })
+
+-- and one that was answered;
+pub revoked_view : (link : LinkSide) (sent wished first next grant xid : ℕ) (calls : List OutstandingCall) (answers answers2 : List AnsweredCall) → ((k : ℕ) (d : OutstandingCall) → k < length calls → (get_or calls k d).xid ≢ xid) → answers2 ≡ without_answer xid answers →
+    requester_view link sent wished first next grant calls answers2 ≡ after_revoke (requester_view link sent wished first next grant calls answers) xid
+unfolding after_revoke
+revoked_view link sent wished first next grant xid calls answers answers2 none are =
+    let no_stags = ap stags_in (none_found xid calls none) in
+    let out : map stored_view calls ≡ map (changed_by revoked_if xid) (map stored_view calls) = sym (none_changed revoked_if revoke_leaves xid calls none) in
+    λ i. record (requester_view link sent wished first next grant calls answers) {
+      state = record (requester_view link sent wished first next grant calls answers).state {
+        side = record link.state { memory = released_all link.state.memory (sym no_stags i) };
+        outstanding = out i;
+        answered = are i;
+      };
+    }
+
+-- an outstanding call is forgotten,
+pub forgot_view : (link : LinkSide) (sent wished first next grant xid n : ℕ) (calls calls2 : List OutstandingCall) (answers : List AnsweredCall) (d : OutstandingCall) → AreRising calls next → AllByRecursion (IsAnswered next calls) answers → n < length calls → (get_or calls n d).xid ≡ xid →
+    calls2 ≡ set calls n (forgot (get_or calls n d)) → requester_view link sent wished first next grant calls2 answers ≡ after_forget (requester_view link sent wished first next grant calls answers) xid
+unfolding after_forget
+forgot_view link sent wished first next grant xid n calls calls2 answers d rise apart lt own are =
+    let c : OutstandingCall = get_or calls n d in
+    let none : answers ≡ without_answer xid answers = sym (none_taken xid answers (subst (λ (x : ℕ). AllByRecursion (λ (a : AnsweredCall). a.xid ≢ x) answers) own (others_answered next n calls d answers lt apart))) in
+    let out : map stored_view calls2 ≡ map (changed_by forgotten_if xid) (map stored_view calls) = ap (map stored_view) are ∙ one_changed forgotten_if forget_leaves next xid n calls (forgot c) d refl rise lt own in
+    λ i. record (requester_view link sent wished first next grant calls answers) {
+      state = record (requester_view link sent wished first next grant calls answers).state { outstanding = out i; answered = none i };
+    }
+
+-- and an answer is taken
+pub taken_view : (link : LinkSide) (sent wished first next grant xid : ℕ) (calls : List OutstandingCall) (answers answers2 : List AnsweredCall) → ((k : ℕ) (d : OutstandingCall) → k < length calls → (get_or calls k d).xid ≢ xid) → answers2 ≡ without_answer xid answers →
+    requester_view link sent wished first next grant calls answers2 ≡ after_forget (requester_view link sent wished first next grant calls answers) xid
+unfolding after_forget
+taken_view link sent wished first next grant xid calls answers answers2 none are =
+    let out : map stored_view calls ≡ map (changed_by forgotten_if xid) (map stored_view calls) = sym (none_changed forgotten_if forget_leaves xid calls none) in
+    λ i. record (requester_view link sent wished first next grant calls answers) {
+      state = record (requester_view link sent wished first next grant calls answers).state { outstanding = out i; answered = are i };
+    }
+
+-- ---- What is handed back
+
+pub call_is : (link : LinkSide) (sent wished first next grant xid n : ℕ) (calls : List OutstandingCall) (answers : List AnsweredCall) (d : OutstandingCall) → AreRising calls next → n < length calls → (get_or calls n d).xid ≡ xid →
+    open_call xid (requester_view link sent wished first next grant calls answers).state ≡ awaited_call (stored_view (get_or calls n d))
+call_is link sent wished first next grant xid n calls answers d rise lt own = ap (λ (x : Option StoredCall). call_with x (find (λ (a : AnsweredCall). eqb a.xid xid) answers)) (found_at next xid n calls d rise lt own)
+
+pub buffers_of_one : (link : LinkSide) (sent wished first next grant xid n : ℕ) (calls : List OutstandingCall) (answers : List AnsweredCall) (d : OutstandingCall) → AreRising calls next → n < length calls → (get_or calls n d).xid ≡ xid →
+    buffers_of xid (requester_view link sent wished first next grant calls answers).state ≡ buffers_under link.state.memory (get_or calls n d).claims
+buffers_of_one link sent wished first next grant xid n calls answers d rise lt own = ap (λ (x : Option StoredCall). buffers_with link.state.memory x (find (λ (a : AnsweredCall). eqb a.xid xid) answers)) (found_at next xid n calls d rise lt own)
+
+-- if it isn't outstanding
+pub call_answered : (link : LinkSide) (sent wished first next grant xid : ℕ) (calls : List OutstandingCall) (answers : List AnsweredCall) (answer : Option AnsweredCall) → ((k : ℕ) (d : OutstandingCall) → k < length calls → (get_or calls k d).xid ≢ xid) →
+    find (λ (a : AnsweredCall). eqb a.xid xid) answers ≡ answer → open_call xid (requester_view link sent wished first next grant calls answers).state ≡ call_with None answer
+call_answered link sent wished first next grant xid calls answers answer none is = λ i. call_with (none_found xid calls none i) (is i)
+
+pub buffers_answered : (link : LinkSide) (sent wished first next grant xid : ℕ) (calls : List OutstandingCall) (answers : List AnsweredCall) (answer : Option AnsweredCall) → ((k : ℕ) (d : OutstandingCall) → k < length calls → (get_or calls k d).xid ≢ xid) →
+    find (λ (a : AnsweredCall). eqb a.xid xid) answers ≡ answer → buffers_of xid (requester_view link sent wished first next grant calls answers).state ≡ buffers_with link.state.memory None answer
+buffers_answered link sent wished first next grant xid calls answers answer none is = λ i. buffers_with link.state.memory (none_found xid calls none i) (is i)
+
+-- ---- A mark more
+
+pub revoked_stands : (before after : RequesterSide) (xid : ℕ) (bytes : List ℕ) → xid < before.state.next_xid → after ≡ after_revoke before xid → StandsOn before (λ link. marks.Revoke link xid bytes) after
+revoked_stands before after xid bytes lt is opened link run s =
+    subst (λ (h : RequesterSide). RequesterRepresents opened link h (run ++ marks.Revoke link xid bytes ∷ [])) (sym is) (revoke_is_a_mark before xid bytes lt opened link run s)
+
+pub revoked_stays_out : (before after : RequesterSide) (xid : ℕ) (bytes : List ℕ) → xid < before.state.next_xid → after ≡ after_revoke before xid → StopsRevoked before xid bytes after
+revoked_stays_out before after xid bytes lt is opened link stopped run out =
+    subst (λ (h : RequesterSide). RequesterRunsOut opened link h (stopped ++ marks.Revoke link xid bytes ∷ []) (run ++ marks.Revoke link xid bytes ∷ [])) (sym is)
+    (revoke_stays_out opened link before stopped run xid bytes lt out)
+
+pub forgot_stands : (before after : RequesterSide) (xid : ℕ) → xid < before.state.next_xid → after ≡ after_forget before xid → StandsOn before (λ link. marks.Forget link xid) after
+forgot_stands before after xid lt is opened link run s =
+    subst (λ (h : RequesterSide). RequesterRepresents opened link h (run ++ marks.Forget link xid ∷ [])) (sym is) ((forget_is_a_mark before xid lt).0 opened link run s)
+
+pub forgot_stays_out : (before after : RequesterSide) (xid : ℕ) → xid < before.state.next_xid → after ≡ after_forget before xid → StaysOut before (λ link. marks.Forget link xid) after
+forgot_stays_out before after xid lt is opened link stopped run out =
+    subst (λ (h : RequesterSide). RequesterRunsOut opened link h stopped (run ++ marks.Forget link xid ∷ [])) (sym is) ((forget_is_a_mark before xid lt).1 opened link stopped run out)
+
+pub done_stands : (before after : RequesterSide) (xid : ℕ) (outcome : Outcome) → xid < before.state.next_xid → after ≡ after_forget before xid → StandsOn before (λ link. marks.Done link xid outcome) after × StaysOut before (λ link. marks.Done link xid outcome) after
+done_stands before after xid outcome lt is = (
+  λ opened link run s. subst (λ (h : RequesterSide). RequesterRepresents opened link h (run ++ marks.Done link xid outcome ∷ [])) (sym is) ((done_is_a_mark before xid outcome lt).0 opened link run s),
+  λ opened link stopped run out. subst (λ (h : RequesterSide). RequesterRunsOut opened link h stopped (run ++ marks.Done link xid outcome ∷ [])) (sym is) ((done_is_a_mark before xid outcome lt).1 opened link stopped run out),
+)
+
+pub lost_stands : (before after : RequesterSide) (xid : ℕ) (end : End) → before.state.side.ended ≡ Some end → xid < before.state.next_xid → after ≡ after_revoke before xid → StandsOn before (λ link. marks.Lost link xid) after
+lost_stands before after xid end ended lt is opened link run s =
+    subst (λ (h : RequesterSide). RequesterRepresents opened link h (run ++ marks.Lost link xid ∷ [])) (sym is) (lost_is_a_mark before xid end ended lt opened link run s)
+
+-- ---- A ticket that is open
+
+-- the call of one that is outstanding
+pub awaited_is : (c : StoredCall) → is_some (awaited_call c) ≡ true → awaited_call c ≡ c.call
+awaited_is c h = by c.is_forgotten h
+  where
+    by : (b : Bool) → is_some (cond b None c.call) ≡ true → cond b None c.call ≡ c.call
+    by true h = absurd cc
+    by false h = refl
+
+-- and of one that isn't
+pub open_answered : (answer : Option AnsweredCall) → is_some (call_with None answer) ≡ true → is_some answer ≡ true
+open_answered None h = absurd cc
+open_answered (Some a) h = refl
+
+pub given_or : {X : Type 0} (x : Option Call) → x ≡ None → is_some x ≡ true → X
+given_or None is h = absurd cc
+given_or (Some call) is h = absurd cc

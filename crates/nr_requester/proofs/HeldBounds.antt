@@ -1,0 +1,93 @@
+-- What a requester keeps is bounded.
+use Rattle.std.proofs.Common.{◌≡◌, ℕ, zero, suc, ◌+◌, ◌*◌, ◌<◌, ◌≤◌, max, Bool, true, false, List, [], ◌∷◌, length, map, drop, get_or, sym, ap, subst, ◌∙◌, arith}
+use Rattle.std.specs.List.{AllByRecursion}
+use Rattle.std.proofs.lemmas.List.{length-map, drop_more}
+use Rattle.nr_wire.specs.Constants.{FPDU_MAX}
+use Rattle.nr_link.specs.Limits.{send_max}
+use Rattle.nr_regions.specs.RegisteredMemory.{bytes_held}
+use Rattle.nr_endpoint.specs.EndpointState.{EndpointState, bytes_of, bytes_kept}
+use Rattle.nr_endpoint.specs.LinkState.{LinkState, has_ended}
+use Rattle.nr_endpoint.specs.ReceiveQueue.{ReceiveQueue, receives_kept}
+use Rattle.nr_requester.specs.declared.outstanding.OutstandingCall.{OutstandingCall}
+use Rattle.nr_requester.specs.declared.answer.AnsweredCall.{AnsweredCall}
+use Rattle.nr_requester.specs.RequesterState.{StoredCall, RequesterSide}
+use Rattle.nr_requester.specs.Views.{IsSound, stored_view, requester_view}
+use Rattle.nr_requester.specs.HeldBytes.{stored_bytes, calls_bytes, bytes_held_by, held_unit, last_max, frame_max, LinkFits, RegionsHave, claims_total, CallFits, answer_bytes, answers_bytes, AnswerFits, IsWithin}
+use Rattle.nr_requester.proofs.OutputBounds.{count_fewer}
+use Rattle.nr_requester.proofs.Unsent.{few_wait}
+
+-- ---- The link
+
+last_small : (b : Bool) → last_max b ≤ frame_max
+last_small true = omega arith
+last_small false = omega arith
+
+receives_small : (q : ReceiveQueue) → q.receive_length ≡ send_max → receives_kept q ≤ 1 → q.receive_length * receives_kept q ≤ send_max
+receives_small q is few = subst (λ (n : ℕ). n * receives_kept q ≤ send_max) (sym is) (omega (arith, few))
+
+-- the bytes of the staging buffer, the receive and the output
+abbrev pub link_max : ℕ
+link_max = 4 * held_unit
+
+pub link_bytes : (s : LinkState) (total : ℕ) → LinkFits s → RegionsHave s.memory total → receives_kept s.receive_queue ≤ 1 → length s.send_queue.send_ends ≤ 64 → FPDU_MAX + bytes_of s ≤ link_max + total
+link_bytes s total l have kept few =
+    let regions : total ≡ bytes_held s.memory = have.bytes_are in
+    let receives = receives_small s.receive_queue l.receive_length kept in
+    let queue = l.queue 0 in
+    omega (arith, regions, receives, queue, l.hello, l.responses, few, count_fewer 0 s.send_queue.send_ends, count_fewer 0 s.send_queue.response_ends, last_small (has_ended s))
+
+-- ---- The calls
+
+pub each_small : (calls : List OutstandingCall) → AllByRecursion CallFits calls → claims_total calls + calls_bytes (map stored_view calls) ≤ held_unit * length calls
+each_small [] h = omega arith
+each_small (c ∷ calls) h = (let one = h.0 in omega (arith, one.call, one.offer, each_small calls h.1))
+
+-- one more of them is counted
+pub one_counted : (calls : List OutstandingCall) (i sum n all : ℕ) (c : OutstandingCall) → i < length calls → c ≡ get_or calls i c → n ≡ stored_bytes c.call → sum + calls_bytes (map stored_view (drop i calls)) ≡ all →
+    sum + n + calls_bytes (map stored_view (drop (i + 1) calls)) ≡ all
+one_counted calls i sum n all c lt is of so_far =
+    let first : drop i calls ≡ c ∷ drop (i + 1) calls = drop_more calls i c lt ∙ ap (λ (x : OutstandingCall). x ∷ drop (i + 1) calls) (sym is) in
+    let step : calls_bytes (map stored_view (drop i calls)) ≡ stored_bytes c.call + calls_bytes (map stored_view (drop (i + 1) calls)) = ap (λ (cs : List OutstandingCall). calls_bytes (map stored_view cs)) first in
+    omega (arith, of, so_far, step)
+
+-- ---- The answers
+
+one_small : (a : AnsweredCall) → AnswerFits a → answer_bytes a ≤ held_unit
+one_small a f = omega (arith, f.call, f.offer, f.reply)
+
+answer_of : (n : ℕ) (answers : List AnsweredCall) (a : AnsweredCall) → n < length answers → AllByRecursion AnswerFits answers → AnswerFits (get_or answers n a)
+answer_of n [] a lt h = absurd (omega (arith, lt))
+answer_of zero (b ∷ answers) a lt h = h.0
+answer_of (suc n) (b ∷ answers) a lt h = answer_of n answers a (omega (arith, lt)) h.1
+
+pub answer_small : (answers : List AnsweredCall) (i : ℕ) (a : AnsweredCall) → i < length answers → a ≡ get_or answers i a → AllByRecursion AnswerFits answers → answer_bytes a ≤ held_unit
+answer_small answers i a lt is h = subst (λ (x : AnsweredCall). answer_bytes x ≤ held_unit) (sym is) (one_small (get_or answers i a) (answer_of i answers a lt h))
+
+pub one_answer : (answers : List AnsweredCall) (i sum n all : ℕ) (a : AnsweredCall) → i < length answers → a ≡ get_or answers i a → n ≡ answer_bytes a → sum + answers_bytes (drop i answers) ≡ all → sum + n + answers_bytes (drop (i + 1) answers) ≡ all
+one_answer answers i sum n all a lt is of so_far =
+    let first : drop i answers ≡ a ∷ drop (i + 1) answers = drop_more answers i a lt ∙ ap (λ (x : AnsweredCall). x ∷ drop (i + 1) answers) (sym is) in
+    let step : answers_bytes (drop i answers) ≡ answer_bytes a + answers_bytes (drop (i + 1) answers) = ap (λ (xs : List AnsweredCall). answers_bytes xs) first in
+    omega (arith, of, so_far, step)
+
+-- ---- Both
+
+pub held_is : (e : EndpointState) (first next sent wished first_xid next_xid grant kept more : ℕ) (calls : List OutstandingCall) (answers : List AnsweredCall) (rest : ℕ) (h : RequesterSide) → requester_view e.link sent wished first_xid next_xid grant calls answers ≡ h → IsWithin e first next calls answers →
+    kept ≡ bytes_kept e → more ≡ calls_bytes (map stored_view calls) → rest ≡ answers_bytes answers → kept + more + rest ≡ bytes_held_by h.state
+unfolding bytes_held_by
+held_is e first next sent wished first_xid next_xid grant kept more calls answers rest h is w kept_is more_is rest_is =
+    let here : FPDU_MAX + bytes_of e.link.state + calls_bytes (map stored_view calls) + answers_bytes answers ≡ bytes_held_by h.state = ap (λ (x : RequesterSide). bytes_held_by x.state) is in
+    omega (arith, here, w.staging, kept_is, more_is, rest_is)
+
+pub held_bound : (e : EndpointState) (first next grant kept more : ℕ) (calls : List OutstandingCall) (answers : List AnsweredCall) (room : ℕ) → IsWithin e first next calls answers → IsSound e.link next grant calls answers room → receives_kept e.link.state.receive_queue + e.link.state.receive_queue.lent ≡ e.link.state.receive_queue.receives →
+    kept ≡ bytes_kept e → more ≡ calls_bytes (map stored_view calls) → kept + more ≤ held_unit * (length calls + 4)
+held_bound e first next grant kept more calls answers room w s receives kept_is more_is =
+    let s1 : LinkState = e.link.state in
+    let link = link_bytes s1 (claims_total calls) w.link w.regions (omega (arith, receives, w.link.receives)) (omega (arith, w.counts.waiting, few_wait first s1.send_queue.sends_left calls, s.few)) in
+    omega (arith, link, w.staging, kept_is, more_is, each_small calls w.each)
+
+pub held_most : (wished kept rest : ℕ) (calls : List OutstandingCall) (answers : List AnsweredCall) (h : RequesterSide) → h.state.wished ≡ wished → h.state.outstanding ≡ map stored_view calls → h.state.answered ≡ answers → kept ≤ held_unit * (length calls + 4) → rest ≤ held_unit * length answers →
+    kept + rest ≤ held_unit * (max h.state.wished (length h.state.outstanding) + length h.state.answered + 4)
+held_most wished kept rest calls answers h is are left le few =
+    let len : length h.state.outstanding ≡ length calls = ap (λ (xs : List StoredCall). length xs) are ∙ length-map calls stored_view in
+    let count : length h.state.answered ≡ length answers = ap (λ (xs : List AnsweredCall). length xs) left in
+    omega (arith, len, count, le, few)

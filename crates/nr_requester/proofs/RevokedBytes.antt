@@ -1,0 +1,142 @@
+-- What a revoke hands back: the bytes under the STags of a call are those of the client's regions for it, in their order.
+use Rattle.std.proofs.Common.{◌≡◌, ℕ, Bool, true, false, cond, eqb, List, [], ◌∷◌, ◌++◌, length, map, Option, None, Some, refl, sym, ap, subst, ◌∙◌}
+use Rattle.std.specs.Prelude.{is_some, is_none}
+use Rattle.std.proofs.lemmas.Bool.{eqb-true}
+use Rattle.std.specs.List.{AllByRecursion, filter, find, flat_map}
+use Rattle.nr_wire.specs.declared.hello.Side.TheVariants.{Initiator}
+use Rattle.nr_reduce.specs.declared.mark.LinkParameters.{LinkParameters}
+use Rattle.nr_reduce.specs.declared.mark.Mark.{Mark}
+use Rattle.nr_reduce.specs.declared.mark.Mark.TheVariants as marks
+use Rattle.nr_reduce.specs.OfferedRegions.{Region, region_bytes, region_grants}
+use Rattle.nr_reduce.specs.ClientState.{ClientState, OutstandingCall}
+use Rattle.nr_reduce.specs.Run.{client, placed_bytes, grants_of}
+use Rattle.nr_reduce.specs.EndRules.{EndState}
+use Rattle.nr_reduce.specs.SubmitAnswer.{next_xid}
+use Rattle.nr_requester.specs.Standing.{AnswersAfter, RequesterRunsOut}
+use Rattle.nr_reduce.specs.Matched.{IsPrefixOf}
+use Rattle.nr_reduce.specs.Asked.{AskedMark, IsRevoked, revoked_bytes}
+use Rattle.nr_reduce.specs.Credits.{WithinGrant}
+use Rattle.nr_reduce.specs.declared.call.Call.{Call}
+use Rattle.nr_reduce.specs.Plans.{buffers}
+use Rattle.nr_reduce.specs.KeptCalls.{KeptCall, stags_unless}
+use Rattle.nr_reduce.specs.KeptClient.{bytes_under, IsWaiting, HasRegionsOf}
+use Rattle.nr_reduce.proofs.Standing.{AtEachMark_more}
+use Rattle.nr_requester.specs.RequesterState.{StoredCall, RequesterSide, stags_of, kept_call}
+use Rattle.nr_requester.specs.Laws.{HoldsPlaced, RevokeKeepsLaw, RevokedOut}
+use Rattle.nr_requester.specs.declared.answer.AnsweredCall.{AnsweredCall}
+use Rattle.nr_requester.specs.Buffers.{bytes_of_buffers}
+use Rattle.nr_requester.specs.OpenCalls.{IsOutstanding, buffers_with, buffers_of}
+use Rattle.nr_requester.proofs.Releases.{joined_buffers}
+use Rattle.nr_requester.specs.CallRegions.{CallsOffer, OffersPlan, call_stags}
+use Rattle.nr_requester.proofs.FoundCalls.{found_one}
+use Rattle.nr_requester.proofs.RunOut.{memory_as_client, memory_out_lem}
+
+abbrev or_call : StoredCall → Option StoredCall → StoredCall
+or_call c None = c
+or_call c (Some d) = d
+
+some_same : (d c : StoredCall) → Some d ≡ Some c → d ≡ c
+some_same d c e = ap (or_call d) e
+
+not_revoked : (x : Option Call) → is_some x ≡ true → is_none x ≡ false
+not_revoked None e = absurd cc
+not_revoked (Some call) e = refl
+
+abbrev or_out : OutstandingCall → Option OutstandingCall → OutstandingCall
+or_out o None = o
+or_out o (Some p) = p
+
+same_out : (p o : OutstandingCall) → Some p ≡ Some o → p ≡ o
+same_out p o e = ap (or_out p) e
+
+-- a call of a client that is found by its xid
+found_out : (P : OutstandingCall → Type 0) (x : ℕ) (o : OutstandingCall) (os : List OutstandingCall) → AllByRecursion P os → find (λ (p : OutstandingCall). eqb p.xid x) os ≡ Some o → (o.xid ≡ x) × P o
+found_out P x o [] h there = absurd (let wrong : None ≡ Some o = there in cc)
+found_out P x o (p ∷ os) h there = by (eqb p.xid x) refl (λ e. found_out P x o os h.1 e) there
+  where
+    by : (b : Bool) → eqb p.xid x ≡ b → (find (λ (q : OutstandingCall). eqb q.xid x) os ≡ Some o → (o.xid ≡ x) × P o) → cond b (Some p) (find (λ (q : OutstandingCall). eqb q.xid x) os) ≡ Some o → (o.xid ≡ x) × P o
+    by true own rest e = (ap (λ (q : OutstandingCall). q.xid) (sym (same_out p o e)) ∙ eqb-true p.xid x own, subst P (same_out p o e) h.0)
+    by false own rest e = rest e
+
+-- the STags of a call that isn't revoked are those of its regions in the client's state
+stags_of_one : (k : ClientState) (next : ℕ) (d : KeptCall) → AllByRecursion (OffersPlan next k.regions) k.outstanding → IsWaiting k.outstanding d → is_some d.call ≡ true → d.stags ≡ call_stags d.xid k.regions
+stags_of_one k next d offers waits has = by (find (λ (o : OutstandingCall). eqb o.xid d.xid) k.outstanding) refl waits
+  where
+    by : (x : Option OutstandingCall) → find (λ (o : OutstandingCall). eqb o.xid d.xid) k.outstanding ≡ x → HasRegionsOf d x → d.stags ≡ call_stags d.xid k.regions
+    by None there h = absurd h
+    by (Some o) there h =
+        let own = found_out (OffersPlan next k.regions) d.xid o k.outstanding offers there in
+        h.stags
+        ∙ ap (λ (b : Bool). stags_unless b (buffers o.stag o.plan)) (not_revoked d.call has)
+        ∙ sym own.1.1
+        ∙ ap (λ (x : ℕ). call_stags x k.regions) own.0
+
+stags_by_waits : (k : ClientState) (next first sent xid : ℕ) (c : StoredCall) (cs : List StoredCall) → AllByRecursion (OffersPlan next k.regions) k.outstanding → AllByRecursion (IsWaiting k.outstanding) (map (kept_call first sent) cs) →
+    find (λ d. eqb d.xid xid) cs ≡ Some c → is_some c.call ≡ true → stags_of c.claims ≡ call_stags xid k.regions
+stags_by_waits k next first sent xid c [] offers waits there has = absurd (let wrong : None ≡ Some c = there in cc)
+stags_by_waits k next first sent xid c (d ∷ cs) offers waits there has = by (eqb d.xid xid) refl (λ e. stags_by_waits k next first sent xid c cs offers waits.1 e has) there
+  where
+    by : (b : Bool) → eqb d.xid xid ≡ b → (find (λ d. eqb d.xid xid) cs ≡ Some c → stags_of c.claims ≡ call_stags xid k.regions) → cond b (Some d) (find (λ d. eqb d.xid xid) cs) ≡ Some c → stags_of c.claims ≡ call_stags xid k.regions
+    by false e rest found = rest found
+    by true e rest found =
+        let same : d ≡ c = some_same d c found in
+        ap (λ (x : StoredCall). stags_of x.claims) (sym same)
+        ∙ stags_of_one k next (kept_call first sent d) offers waits.0 (ap (λ (x : StoredCall). is_some x.call) same ∙ has)
+        ∙ ap (λ (x : ℕ). call_stags x k.regions) (eqb-true d.xid xid e)
+
+under_all : (f g : ℕ → List ℕ) (stags : List ℕ) → AllByRecursion (λ s. f s ≡ g s) stags → flat_map f stags ≡ flat_map g stags
+under_all f g [] h = refl
+under_all f g (s ∷ stags) h = λ i. h.0 i ++ under_all f g stags h.1 i
+
+by_regions : (f : ℕ → List ℕ) (rs : List Region) → flat_map f (map (λ r. r.stag) rs) ≡ flat_map (λ r. f r.stag) rs
+by_regions f [] = refl
+by_regions f (r ∷ rs) = ap (λ (xs : List ℕ). f r.stag ++ xs) (by_regions f rs)
+
+-- the regions of the client of some marks
+offers_after : (opened : LinkParameters) (link : ℕ) (h : RequesterSide) (run : List Mark) → AnswersAfter opened link h run → CallsOffer (next_xid opened (client opened link run).state) (client opened link run).state
+unfolding client
+offers_after opened link h run k = k.regions
+
+bytes_are_lem : (opened : LinkParameters) (link : ℕ) (h : RequesterSide) (run : List Mark) (xid : ℕ) (c : StoredCall) → HoldsPlaced opened link h run → CallsOffer (next_xid opened (client opened link run).state) (client opened link run).state →
+    AllByRecursion (IsWaiting (client opened link run).state.outstanding) (map (kept_call h.state.first_xid h.state.sent) h.state.outstanding) →
+    find (λ d. eqb d.xid xid) h.state.outstanding ≡ Some c → is_some c.call ≡ true → flat_map (λ s. bytes_under h.state.side.memory s) (stags_of c.claims) ≡ revoked_bytes opened link run xid
+bytes_are_lem opened link h run xid c holds offers waits there has =
+    let k : ClientState = (client opened link run).state in
+    let placed : ℕ → List ℕ = λ s. placed_bytes opened link Initiator run s in
+    under_all (λ s. bytes_under h.state.side.memory s) placed (stags_of c.claims)
+    (found_one (λ c. AllByRecursion (λ stag. bytes_under h.state.side.memory stag ≡ placed_bytes opened link Initiator run stag) (stags_of c.claims)) xid c h.state.outstanding holds there)
+    ∙ ap (λ (ss : List ℕ). flat_map placed ss) (stags_by_waits k _ h.state.first_xid h.state.sent xid c h.state.outstanding offers.calls waits there has)
+    ∙ by_regions placed (filter (λ r. eqb r.call xid) k.regions)
+
+-- the buffers of a call that is outstanding have these bytes
+buffers_are : (opened : LinkParameters) (link : ℕ) (h : RequesterSide) (run : List Mark) (xid : ℕ) → HoldsPlaced opened link h run → CallsOffer (next_xid opened (client opened link run).state) (client opened link run).state →
+    AllByRecursion (IsWaiting (client opened link run).state.outstanding) (map (kept_call h.state.first_xid h.state.sent) h.state.outstanding) →
+    IsOutstanding xid h.state → bytes_of_buffers (buffers_of xid h.state) ≡ revoked_bytes opened link run xid
+buffers_are opened link h run xid holds offers waits is =
+    ap (λ (x : Option StoredCall). bytes_of_buffers (buffers_with h.state.side.memory x (find (λ (a : AnsweredCall). eqb a.xid xid) h.state.answered))) is.there
+    ∙ joined_buffers h.state.side.memory is.call.claims
+    ∙ bytes_are_lem opened link h run xid is.call holds offers waits is.there is.has
+
+pub revoke_keeps_law : RevokeKeepsLaw
+revoke_keeps_law opened link h run xid s there awaited asked grant =
+    let bytes : List ℕ = bytes_of_buffers (buffers_of xid h.state) in
+    let mark : Mark = marks.Revoke link xid bytes in
+    let is : IsRevoked opened link run xid bytes = record {
+      awaited = awaited;
+      bytes_are = buffers_are opened link h run xid (memory_as_client opened link h run s) (offers_after opened link h run s.answers) s.keeps.kept.keeps.waits there;
+    } in
+    (AtEachMark_more (AskedMark IsPrefixOf opened link) [] run mark asked (λ same. is), AtEachMark_more (WithinGrant opened link) [] run mark grant tt)
+
+-- what a revoke hands back by its marks is what it would have handed back when it stopped
+revoked_same : (opened : LinkParameters) (link : ℕ) (h : RequesterSide) (stopped run : List Mark) (xid : ℕ) → RequesterRunsOut opened link h stopped run → revoked_bytes opened link stopped xid ≡ revoked_bytes opened link run xid
+unfolding placed_bytes grants_of
+revoked_same opened link h stopped run xid out = λ i.
+    flat_map (λ (r : Region). region_bytes (region_grants (length (sym out.received i)) (sym out.same i).state.regions) (sym out.same i).state.regions (sym out.same i).state.accesses_received r.stag)
+    (filter (λ (r : Region). eqb r.call xid) (sym out.same i).state.regions)
+
+pub revoked_out_lem : RevokedOut
+revoked_out_lem opened link h stopped run xid out there =
+    let now : CallsOffer _ (client opened link run).state = offers_after opened link h run out.answers in
+    let then : CallsOffer _ (record (client opened link stopped).state { written = out.written }) = subst (λ (e : EndState ClientState). CallsOffer (next_xid opened e.state) e.state) out.same now in
+    buffers_are opened link h stopped xid (memory_out_lem opened link h stopped run out) (record { before = then.before; calls = then.calls }) out.out.keeps.waits there
+    ∙ revoked_same opened link h stopped run xid out

@@ -1,0 +1,216 @@
+-- What holds of each requester beside that its calls' regions are held, after each call of its owner and each step of its side of the link.
+use Rattle.std.proofs.Common.{◌≡◌, ℕ, ◌+◌, ◌-◌, ◌^◌, ◌<◌, ◌≤◌, Bool, false, List, [], ◌∷◌, ◌++◌, length, Option, None, Some, Ok, refl, sym, ap, subst, ◌∙◌, arith, length-append}
+use Rattle.std.specs.Prelude.{is_some}
+use Rattle.std.specs.List.{AllByRecursion}
+use Rattle.std.proofs.lemmas.List.{length-drop}
+use Rattle.std.specs.Ordering.{nat_cmp}
+use Rattle.std.specs.FinMap.{get-empty}
+use Rattle.nr_endpoint.specs.declared.offering.Claims.{Claims}
+use Rattle.nr_wire.specs.Fields.{half_word}
+use Rattle.nr_rpc.specs.declared.cred.Cred.{Cred}
+use Rattle.nr_rpc.specs.declared.cred.Cred.TheVariants as creds
+use Rattle.nr_rpc.specs.Credential.{CanWriteCred}
+use Rattle.nr_rpc.specs.declared.head.CallHead.TheVariants.{Version2}
+use Rattle.nr_rpc.specs.Call.{call_head}
+use Rattle.nr_wire.specs.Constants.{FPDU_MAX, HELLO_LEN}
+use Rattle.nr_wire.specs.declared.hello.Side.TheVariants.{Initiator}
+use Rattle.nr_wire.specs.Hello.{hello_encoding, key}
+use Rattle.nr_regions.specs.RegisteredMemory.{RegisteredMemory, initial_memory, held_region, Region}
+use Rattle.nr_regions.proofs.Totals.{sound_initial}
+use Rattle.nr_link.specs.declared.end.End.{End}
+use Rattle.nr_link.specs.Limits.{send_max, open_reads_max}
+use Rattle.nr_link.specs.Output.{own_hello}
+use Rattle.nr_endpoint.specs.EndpointState.{EndpointState}
+use Rattle.nr_endpoint.specs.SendQueue.{SendQueue, with_send, written}
+use Rattle.nr_endpoint.specs.LinkState.{LinkState, LinkSide, has_ended, initial_link}
+use Rattle.nr_endpoint.specs.Calls.{with_state, after_call}
+use Rattle.nr_endpoint.specs.Calls.Call.{Drain}
+use Rattle.nr_endpoint.specs.Offering.{claims_of, with_offered}
+use Rattle.nr_reduce.specs.declared.call.Call.{Call}
+use Rattle.nr_reduce.specs.declared.call.Form.{Form}
+use Rattle.nr_reduce.specs.declared.outline.Plan.{Plan}
+use Rattle.nr_reduce.specs.ClientState.{call_payload}
+use Rattle.nr_reduce.specs.Plans.{plan_of, buffers, call_message, regions_needed}
+use Rattle.nr_reduce.specs.KeptClient.{registered_all}
+use Rattle.nr_reduce.proofs.Sizes.{message_size}
+use Rattle.nr_requester.specs.declared.answer.AnsweredCall.{AnsweredCall}
+use Rattle.nr_requester.specs.declared.outstanding.OutstandingCall.{OutstandingCall}
+use Rattle.nr_requester.specs.AfterCalls.{submitted}
+use Rattle.nr_requester.specs.Sending.{IsPlan, offered_of}
+use Rattle.nr_requester.specs.Views.{AreRising}
+use Rattle.nr_requester.specs.HeldBytes.{cred_bytes, call_bytes, stored_bytes, call_max, QueueFits, LinkFits, RegionsHave, CountsFit, claims_len, claims_total, CallFits, PlanFits, IsWithin}
+use Rattle.nr_requester.proofs.OutputBounds.{send_fits, written_fits, count_fewer}
+use Rattle.nr_requester.proofs.PlanBounds.{plan_bounds, payload_small}
+use Rattle.nr_requester.proofs.RegionBounds.{Both, offered_both, plan_short, plan_len}
+use Rattle.nr_requester.proofs.Sent.{count_offered, registered_offered}
+use Rattle.nr_requester.proofs.Unsent.{counts_written, counts_sent}
+
+-- ---- As it is opened
+
+abbrev no_region : Option Region
+no_region = None
+
+abbrev some_region : Region → Option Region
+some_region r = Some r
+
+none_there : {X : Type 0} (r : Region) → no_region ≡ some_region r → X
+none_there r e = absurd cc
+
+first_regions : (first_stag : ℕ) → first_stag ≤ 2 ^ 32 → Both (initial_memory first_stag) 0
+unfolding initial_memory held_region
+first_regions first_stag fits = (
+  λ stag r there. none_there r (sym (get-empty nat_cmp stag) ∙ there),
+  sound_initial first_stag fits,
+)
+
+hello_is : length (own_hello Initiator) ≡ HELLO_LEN
+unfolding own_hello hello_encoding key half_word
+hello_is = refl
+
+hello_small : length (own_hello Initiator) ≤ HELLO_LEN
+hello_small = omega (arith, hello_is)
+
+first_link : (first_stag : ℕ) → first_stag ≤ 2 ^ 32 → LinkFits (initial_link Initiator 1 first_stag).state × RegionsHave (initial_link Initiator 1 first_stag).state.memory 0
+unfolding initial_link
+first_link first_stag fits =
+    let b = first_regions first_stag fits in
+    (record { side = refl; receives = refl; receive_length = refl; hello = hello_small; queue = λ n. omega arith; responses = omega arith; regions = b.0 }, b.1)
+
+first_counts : (first first_stag : ℕ) → CountsFit first first (initial_link Initiator 1 first_stag).state.send_queue []
+unfolding initial_link
+first_counts first first_stag = record { waiting = omega arith; numbered = omega arith }
+
+pub opened_within : (e : EndpointState) (first first_stag next : ℕ) (calls : List OutstandingCall) (answers : List AnsweredCall) → length e.staging ≡ FPDU_MAX → e.link ≡ initial_link Initiator 1 first_stag → first_stag < 2 ^ 32 → next ≡ first → calls ≡ [] → answers ≡ [] → IsWithin e first next calls answers
+opened_within e first first_stag next calls answers staging is fits same none empty =
+    let l = first_link first_stag (omega (arith, fits)) in
+    let all : IsWithin e first first [] [] = record {
+      staging = staging;
+      from = tt;
+      order = omega arith;
+      link = subst (λ (x : LinkSide). LinkFits x.state) (sym is) l.0;
+      regions = subst (λ (x : LinkSide). RegionsHave x.state.memory 0) (sym is) l.1;
+      counts = subst (λ (x : LinkSide). CountsFit first first x.state.send_queue []) (sym is) (first_counts first first_stag);
+      each = tt;
+      kept = tt;
+      distinct = tt;
+    } in
+    subst (λ (n : ℕ). IsWithin e first n calls answers) (sym same)
+    (subst (λ (cs : List OutstandingCall). IsWithin e first first cs answers) (sym none) (subst (λ (ys : List AnsweredCall). IsWithin e first first [] ys) (sym empty) all))
+
+-- ---- A call more
+
+all_append : (P : OutstandingCall → Type 0) (xs : List OutstandingCall) (o : OutstandingCall) → AllByRecursion P xs → P o → AllByRecursion P (xs ++ o ∷ [])
+all_append P [] o h one = (one, tt)
+all_append P (x ∷ xs) o h one = (h.0, all_append P xs o h.1 one)
+
+total_append : (xs : List OutstandingCall) (o : OutstandingCall) → claims_total (xs ++ o ∷ []) ≡ claims_total xs + claims_len o.claims
+total_append [] o = omega arith
+total_append (x ∷ xs) o = (let rest = total_append xs o in omega (arith, rest))
+
+-- the message of a plan is queued and its regions are registered
+sent_state : (s : LinkState) (plan : Plan) (xid credit total : ℕ) → IsPlan plan → s.ended ≡ None → s.memory.next + regions_needed plan ≤ 2 ^ 32 → LinkFits s → RegionsHave s.memory total →
+    LinkFits (submitted s (call_message xid credit s.memory.next plan) (buffers s.memory.next plan))
+    × RegionsHave (submitted s (call_message xid credit s.memory.next plan) (buffers s.memory.next plan)).memory (total + claims_len (claims_of s.memory (offered_of plan)))
+sent_state s plan xid credit total i lives stags l have =
+    let live : has_ended s ≡ false = ap (λ (x : Option End). is_some x) lives in
+    let fits : PlanFits plan = plan_bounds i.payload i.form plan i.is in
+    let message : List ℕ = call_message xid credit s.memory.next plan in
+    let small = (message_size i.payload i.form send_max send_max xid credit s.memory.next plan i.is).1 in
+    let both = offered_both s.memory (offered_of plan) total (plan_short plan fits) (omega (arith, stags, count_offered plan)) (l.regions, have) in
+    let here : registered_all s.memory (buffers s.memory.next plan) ≡ with_offered s.memory (offered_of plan) = registered_offered s.memory s.memory.next plan in
+    let after : Both (registered_all s.memory (buffers s.memory.next plan)) (total + claims_len (claims_of s.memory (offered_of plan))) =
+    subst (λ (m : RegisteredMemory). Both m (total + claims_len (claims_of s.memory (offered_of plan)))) (sym here) both in (
+      record {
+        side = l.side;
+        receives = l.receives;
+        receive_length = l.receive_length;
+        hello = l.hello;
+        queue = subst (λ (b : Bool). QueueFits b (with_send message s.send_queue)) (sym live) (send_fits s.send_queue message small (subst (λ (b : Bool). QueueFits b s.send_queue) live l.queue));
+        responses = l.responses;
+        regions = after.0;
+      },
+      after.1,
+    )
+
+pub sent_within : (e e2 : EndpointState) (first next xid credit : ℕ) (calls calls2 : List OutstandingCall) (answers answers2 : List AnsweredCall) (o : OutstandingCall) (plan : Plan) → IsWithin e first next calls answers → AreRising calls next → e2.staging ≡ e.staging →
+    e2.link ≡ with_state (submitted e.link.state (call_message xid credit e.link.state.memory.next plan) (buffers e.link.state.memory.next plan)) e.link → IsPlan plan → e.link.state.ended ≡ None →
+    e.link.state.memory.next + regions_needed plan ≤ 2 ^ 32 → o.claims ≡ claims_of e.link.state.memory (offered_of plan) → stored_bytes o.call ≤ call_max → o.xid ≡ next → calls2 ≡ calls ++ o ∷ [] → answers2 ≡ answers → IsWithin e2 first (next + 1) calls2 answers2
+sent_within e e2 first next xid credit calls calls2 answers answers2 o plan w rising same link_is i lives stags claims small number more kept =
+    let s : LinkState = e.link.state in
+    let after : LinkState = submitted s (call_message xid credit s.memory.next plan) (buffers s.memory.next plan) in
+    let state : e2.link.state ≡ after = ap (λ (l : LinkSide). l.state) link_is in
+    let l = sent_state s plan xid credit (claims_total calls) i lives stags w.link w.regions in
+    let len : claims_len o.claims ≡ claims_len (claims_of s.memory (offered_of plan)) = ap (λ (c : Claims). claims_len c) claims in
+    let sum : claims_total calls + claims_len (claims_of s.memory (offered_of plan)) ≡ claims_total (calls ++ o ∷ []) = omega (arith, len, total_append calls o) in
+    let fits : PlanFits plan = plan_bounds i.payload i.form plan i.is in
+    let short = plan_len s.memory plan fits in
+    let all : IsWithin e2 first (next + 1) (calls ++ o ∷ []) answers = record {
+      staging = ap (λ (xs : List ℕ). length xs) same ∙ w.staging;
+      from = all_append (λ (c : OutstandingCall). first ≤ c.xid) calls o w.from (omega (arith, number, w.order));
+      order = omega (arith, w.order);
+      link = subst (λ (x : LinkState). LinkFits x) (sym state) l.0;
+      regions = subst (λ (x : LinkState). RegionsHave x.memory (claims_total (calls ++ o ∷ []))) (sym state) (subst (λ (n : ℕ). RegionsHave after.memory n) sum l.1);
+      counts = subst (λ (x : LinkState). CountsFit first (next + 1) x.send_queue (calls ++ o ∷ [])) (sym state)
+          (counts_sent first next _ s.send_queue after.send_queue calls o refl refl number w.order w.counts);
+      each = all_append CallFits calls o w.each (record { call = small; offer = omega (arith, len, short) });
+      kept = w.kept;
+      distinct = w.distinct;
+    } in
+    subst (λ (cs : List OutstandingCall). IsWithin e2 first (next + 1) cs answers2) (sym more) (subst (λ (ys : List AnsweredCall). IsWithin e2 first (next + 1) (calls ++ o ∷ []) ys) (sym kept) all)
+
+-- a call that has a plan is short
+cred_small : (cred : Cred) → CanWriteCred cred → cred_bytes cred ≤ 255
+cred_small creds.None h = omega arith
+cred_small (creds.Sys stamp machine uid gid gids) h = (let m = h.0 in omega (arith, m))
+cred_small (creds.Other flavor) h = omega arith
+
+args_within : (xid : ℕ) (call : Call) → length call.args ≤ length (call_payload xid call)
+unfolding call_payload
+args_within xid call = omega (arith, length-append (call_head (Version2 xid call.prog call.vers call.proc call.cred 0)) call.args)
+
+pub call_small : (xid : ℕ) (call : Call) (form : Form) (plan : Plan) → plan_of (call_payload xid call) form send_max send_max ≡ Ok plan → CanWriteCred call.cred → call_bytes call ≤ call_max
+call_small xid call form plan is can =
+    let a = payload_small (call_payload xid call) form plan is in
+    omega (arith, a, args_within xid call, cred_small call.cred can)
+
+-- ---- A drain
+
+written_hello : (n : ℕ) (q : SendQueue) → length q.hello ≤ HELLO_LEN → length (written n q).hello ≤ HELLO_LEN
+unfolding written
+written_hello n q h = omega (arith, h, length-drop n q.hello)
+
+written_responses : (n : ℕ) (q : SendQueue) → length q.response_ends ≤ open_reads_max → length (written n q).response_ends ≤ open_reads_max
+unfolding written
+written_responses n q h = omega (arith, h, count_fewer (n - length q.hello) q.response_ends)
+
+drained_link : (s : LinkState) (n : ℕ) → LinkFits s → LinkFits (record s { send_queue = written n s.send_queue })
+drained_link s n l = record {
+  side = l.side;
+  receives = l.receives;
+  receive_length = l.receive_length;
+  hello = written_hello n s.send_queue l.hello;
+  queue = written_fits (has_ended s) n s.send_queue l.queue;
+  responses = written_responses n s.send_queue l.responses;
+  regions = l.regions;
+}
+
+drain_is : (link : LinkSide) (n : ℕ) → (after_call link (Drain n)).state ≡ record link.state { send_queue = written n link.state.send_queue }
+unfolding after_call
+drain_is link n = refl
+
+pub drained_within : (e e2 : EndpointState) (first next n : ℕ) (calls : List OutstandingCall) (answers : List AnsweredCall) → IsWithin e first next calls answers → AreRising calls next → e2.staging ≡ e.staging → e2.link ≡ after_call e.link (Drain n) →
+    IsWithin e2 first next calls answers
+drained_within e e2 first next n calls answers w rising same is =
+    let s : LinkState = e.link.state in
+    let state : e2.link.state ≡ record s { send_queue = written n s.send_queue } = ap (λ (l : LinkSide). l.state) is ∙ drain_is e.link n in
+    record {
+      staging = ap (λ (xs : List ℕ). length xs) same ∙ w.staging;
+      from = w.from;
+      order = w.order;
+      link = subst (λ (x : LinkState). LinkFits x) (sym state) (drained_link s n w.link);
+      regions = subst (λ (x : LinkState). RegionsHave x.memory (claims_total calls)) (sym state) w.regions;
+      counts = subst (λ (x : LinkState). CountsFit first next x.send_queue calls) (sym state) (counts_written n first next s.send_queue calls rising w.from w.counts);
+      each = w.each;
+      kept = w.kept;
+      distinct = w.distinct;
+    }

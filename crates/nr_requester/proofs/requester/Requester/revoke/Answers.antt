@@ -1,0 +1,14 @@
+use Rattle.std.proofs.Common.{ℕ, ◌<◌, ap, subst, ◌∙◌}
+use Rattle.nr_requester.specs.AfterCalls.{after_revoke}
+use Rattle.nr_requester.proofs.GivenUp.{revoked_stands, revoked_stays_out}
+use Rattle.nr_requester.proofs.requester.Requester.revoke.Goals as goal
+
+pub returns-clause-stands : goal.returns-clause-stands
+returns-clause-stands c =
+    revoked_stands c.args.self.now c.revoke_xid.new.self c.args.ticket _ (subst (λ (n : ℕ). n < c.args.self.now.state.next_xid) c.xid.ensures c.revoke_xid.ensures.number)
+    (c.revoke_xid.ensures.state ∙ ap (λ (n : ℕ). after_revoke c.args.self.now n) c.xid.ensures)
+
+pub returns-clause-out : goal.returns-clause-out
+returns-clause-out c =
+    revoked_stays_out c.args.self.now c.revoke_xid.new.self c.args.ticket _ (subst (λ (n : ℕ). n < c.args.self.now.state.next_xid) c.xid.ensures c.revoke_xid.ensures.number)
+    (c.revoke_xid.ensures.state ∙ ap (λ (n : ℕ). after_revoke c.args.self.now n) c.xid.ensures)

@@ -1,0 +1,36 @@
+use Rattle.std.proofs.Common.{ap, sym, ◌∙◌, arith}
+use Rattle.std.specs.Prelude.{is_some}
+use Rattle.nr_requester.specs.RequesterState.{RequesterSide}
+use Rattle.nr_requester.specs.AfterCalls.{after_forget}
+use Rattle.nr_requester.specs.OpenCalls.{found_answer}
+use Rattle.nr_requester.proofs.FoundAnswers.{answer_is, answered_below, not_outstanding}
+use Rattle.nr_requester.proofs.GivenUp.{taken_sound, taken_within, taken_view}
+use Rattle.nr_requester.proofs.requester.Requester.take_done.Goals as goal
+
+pub invariant_of-self : goal.invariant_of-self
+invariant_of-self c =
+    let i = c.self.inside in (
+      taken_sound i.endpoint.link i.next_xid i.grant _ _ c.args.xid i.outstanding.items i.answered.items c.take_answer.new.answered.items c.self.invariant.0 c.take_answer.ensures.left c.take_answer.ensures.capacity,
+      taken_within i.endpoint i.first_xid i.next_xid c.args.xid i.outstanding.items i.answered.items c.take_answer.new.answered.items c.self.invariant.1 c.take_answer.ensures.left,
+    )
+
+pub returns-clause-found : goal.returns-clause-found
+returns-clause-found c =
+    ap (λ (h : RequesterSide). found_answer c.args.xid h.state) (sym c.self.view_is)
+    ∙ answer_is c.args.xid c.self.inside.answered.items c.in-Some.answer (sym c.in-Some.is ∙ c.take_answer.ensures.found)
+
+pub returns-clause-state : goal.returns-clause-state
+returns-clause-state c =
+    let i = c.self.inside in
+    let there = ap (λ (h : RequesterSide). is_some (found_answer c.args.xid h.state)) c.self.view_is ∙ c.requires.there in
+    taken_view i.endpoint.link i.sent i.wished i.first_xid i.next_xid i.grant c.args.xid i.outstanding.items i.answered.items c.take_answer.new.answered.items
+    (not_outstanding i.next_xid c.args.xid i.outstanding.items i.answered.items c.self.invariant.0.apart there) c.take_answer.ensures.left
+    ∙ ap (λ (h : RequesterSide). after_forget h c.args.xid) c.self.view_is
+
+pub returns-clause-number : goal.returns-clause-number
+returns-clause-number c =
+    let i = c.self.inside in
+    let there = ap (λ (h : RequesterSide). is_some (found_answer c.args.xid h.state)) c.self.view_is ∙ c.requires.there in
+    let next = ap (λ (h : RequesterSide). h.state.next_xid) c.self.view_is in
+    let lt = answered_below i.next_xid c.args.xid i.outstanding.items i.answered.items c.self.invariant.0.apart there in
+    omega (arith, next, lt)

@@ -1,0 +1,181 @@
+-- The bytes of the vectors that a requester keeps, and their bounds. The bounds are own.
+use Rattle.std.specs.Prelude.{◌≡◌, ◌≢◌, ℕ, ◌+◌, ◌-◌, ◌*◌, ◌≤◌, nat_lt, Bool, true, false, not, List, [], ◌∷◌, length, Option, None, Some}
+use Rattle.std.specs.List.{AllByRecursion, filter}
+use Rattle.nr_rpc.specs.declared.cred.Cred.{Cred}
+use Rattle.nr_rpc.specs.declared.cred.Cred.TheVariants as creds
+use Rattle.nr_regions.specs.RegisteredMemory.{Region, RegisteredMemory, Claim, held_region}
+use Rattle.nr_endpoint.specs.declared.offering.Claims.{Claims}
+use Rattle.nr_regions.specs.Table.{IsSound}
+use Rattle.nr_wire.specs.Constants.{FPDU_MAX, HELLO_LEN}
+use Rattle.nr_wire.specs.declared.hello.Side.TheVariants.{Initiator}
+use Rattle.nr_link.specs.Limits.{send_max, open_reads_max}
+use Rattle.nr_endpoint.specs.LinkState.{LinkState, has_ended}
+use Rattle.nr_endpoint.specs.SendQueue.{SendQueue, ends_left}
+use Rattle.nr_endpoint.specs.EndpointState.{EndpointState, bytes_of}
+use Rattle.nr_reduce.specs.declared.call.Call.{Call}
+use Rattle.nr_reduce.specs.declared.call.Outcome.{Outcome}
+use Rattle.nr_reduce.specs.declared.call.Outcome.TheVariants as outcomes
+use Rattle.nr_reduce.specs.declared.outline.Plan.{Plan}
+use Rattle.nr_reduce.specs.Plans.{total}
+use Rattle.nr_requester.specs.declared.outstanding.OutstandingCall.{OutstandingCall}
+use Rattle.nr_requester.specs.declared.answer.AnsweredCall.{AnsweredCall}
+use Rattle.nr_requester.specs.declared.answer.Buffers.{Buffers}
+use Rattle.nr_requester.specs.RequesterState.{StoredCall, RequesterState}
+
+-- The bytes of a call: its arguments, and the name of the machine in its credential.
+abbrev pub cred_bytes : Cred → ℕ
+cred_bytes creds.None = 0
+cred_bytes (creds.Sys stamp machine uid gid gids) = length machine
+cred_bytes (creds.Other flavor) = 0
+
+abbrev pub call_bytes : Call → ℕ
+call_bytes call = length call.args + cred_bytes call.cred
+
+-- of a call whose memory was revoked nothing is kept
+abbrev pub stored_bytes : Option Call → ℕ
+stored_bytes None = 0
+stored_bytes (Some call) = call_bytes call
+
+abbrev pub calls_bytes : List StoredCall → ℕ
+calls_bytes [] = 0
+calls_bytes (c ∷ calls) = stored_bytes c.call + calls_bytes calls
+
+-- The bytes of an answer: the call, its buffers, and the payload of the reply.
+abbrev pub outcome_bytes : Outcome → ℕ
+outcome_bytes (outcomes.Reply payload) = length payload
+outcome_bytes outcomes.Chunk = 0
+outcome_bytes (outcomes.Version low high) = 0
+
+abbrev pub buffer_len : Option (List ℕ) → ℕ
+buffer_len None = 0
+buffer_len (Some bytes) = length bytes
+
+abbrev pub buffers_len : Buffers → ℕ
+buffers_len b = buffer_len b.read + (buffer_len b.write + buffer_len b.reply)
+
+abbrev pub answer_bytes : AnsweredCall → ℕ
+answer_bytes a = call_bytes a.call + (buffers_len a.buffers + outcome_bytes a.outcome)
+
+abbrev pub answers_bytes : List AnsweredCall → ℕ
+answers_bytes [] = 0
+answers_bytes (a ∷ answers) = answer_bytes a + answers_bytes answers
+
+-- The bytes of the staging buffer, the receives, the regions and the output, and those of the calls and the answers.
+unfoldable pub bytes_held_by : RequesterState → ℕ
+bytes_held_by r = FPDU_MAX + bytes_of r.side + calls_bytes r.outstanding + answers_bytes r.answered
+
+-- ---- Bounds
+
+-- What is held for each credit, for each call that was answered and not taken, and four times for the link itself, in bytes.
+abbrev pub held_unit : ℕ
+held_unit = 262144
+
+-- the maximum of a region, and of the bytes of a segment's frame
+abbrev pub region_max : ℕ
+region_max = 65536
+
+abbrev pub frame_max : ℕ
+frame_max = 4136
+
+-- the maximum of a call, and of what it offers, all its regions together
+abbrev pub call_max : ℕ
+call_max = 45056
+
+abbrev pub offer_max : ℕ
+offer_max = 122880
+
+-- the maximum of the payload of a reply
+abbrev pub reply_max : ℕ
+reply_max = 94208
+
+-- a plan's regions are within these
+pub record PlanFits (p : Plan) : Type 0 where
+  pub region : length p.region ≤ region_max
+  pub write : total p.write ≤ region_max
+  pub reply : total p.reply ≤ region_max
+  pub all : length p.region + total p.write + total p.reply ≤ offer_max
+
+-- a Read Response of a region has at most this many segments
+abbrev pub response_max : ℕ
+response_max = 16 * frame_max
+
+-- a side that has ended has one message more to write
+abbrev pub last_max : Bool → ℕ
+last_max true = frame_max
+last_max false = 0
+
+-- From any offset on, the queue has a frame for each Send and a Read Response for each that ends after it.
+abbrev pub QueueFits : Bool → SendQueue → Type 0
+QueueFits ended q = (n : ℕ) → length q.fpdus - n ≤ frame_max * length (ends_left n q.send_ends) + response_max * length (ends_left n q.response_ends) + last_max ended
+
+-- no region is longer than it may be
+abbrev pub RegionsFit : RegisteredMemory → Type 0
+RegionsFit m = (stag : ℕ) (region : Region) → held_region m stag ≡ Some region → length region.buf ≤ region_max
+
+-- A side of a link whose vectors are within their bounds: it has one receive, and owes at most eight Read Responses.
+pub record LinkFits (s : LinkState) : Type 0 where
+  pub side : s.side ≡ Initiator
+  pub receives : s.receive_queue.receives ≡ 1
+  pub receive_length : s.receive_queue.receive_length ≡ send_max
+  pub hello : length s.send_queue.hello ≤ HELLO_LEN
+  pub queue : QueueFits (has_ended s) s.send_queue
+  pub responses : length s.send_queue.response_ends ≤ open_reads_max
+  pub regions : RegionsFit s.memory
+
+-- its regions have this number of bytes together
+abbrev pub RegionsHave : RegisteredMemory → ℕ → Type 0
+RegionsHave m total = IsSound m.next total m.held
+
+-- the xids of these calls are at least the first one
+abbrev pub AreFrom : ℕ → List OutstandingCall → Type 0
+AreFrom first calls = AllByRecursion (λ (c : OutstandingCall). first ≤ c.xid) calls
+
+-- the calls whose Sends are not among the first `sent`
+abbrev pub unsent : (first sent : ℕ) → List OutstandingCall → List OutstandingCall
+unsent first sent calls = filter (λ c. not (nat_lt (c.xid - first) sent)) calls
+
+-- a Send that waits is that of an outstanding call, and no later one was given a number
+pub record CountsFit (first next : ℕ) (q : SendQueue) (calls : List OutstandingCall) : Type 0 where
+  pub waiting : length q.send_ends ≤ length (unsent first q.sends_left calls)
+  pub numbered : q.sends_left + length q.send_ends ≤ next - first
+
+-- The bytes of the regions of a call, and of all calls.
+abbrev pub claim_len : Option Claim → ℕ
+claim_len None = 0
+claim_len (Some claim) = claim.len
+
+abbrev pub claims_len : Claims → ℕ
+claims_len c = claim_len c.read + (claim_len c.write + claim_len c.reply)
+
+abbrev pub claims_total : List OutstandingCall → ℕ
+claims_total [] = 0
+claims_total (c ∷ calls) = claims_len c.claims + claims_total calls
+
+-- a call and its regions are within these
+pub record CallFits (c : OutstandingCall) : Type 0 where
+  pub call : stored_bytes c.call ≤ call_max
+  pub offer : claims_len c.claims ≤ offer_max
+
+-- so are an answered call, its buffers and its reply
+pub record AnswerFits (a : AnsweredCall) : Type 0 where
+  pub call : call_bytes a.call ≤ call_max
+  pub offer : buffers_len a.buffers ≤ offer_max
+  pub reply : outcome_bytes a.outcome ≤ reply_max
+
+-- no two answers have one xid
+abbrev pub AreDistinct : List AnsweredCall → Type 0
+AreDistinct [] = Unit {0}
+AreDistinct (a ∷ answers) = AllByRecursion (λ (b : AnsweredCall). b.xid ≢ a.xid) answers × AreDistinct answers
+
+-- What holds of each requester beside `IsSound`: the size of its staging buffer, and the bounds of its side of the link, of its regions, its
+-- calls and its answers; a Send that waits is that of an outstanding call.
+pub record IsWithin (e : EndpointState) (first next : ℕ) (calls : List OutstandingCall) (answers : List AnsweredCall) : Type 0 where
+  pub staging : length e.staging ≡ FPDU_MAX
+  pub from : AreFrom first calls
+  pub order : first ≤ next
+  pub link : LinkFits e.link.state
+  pub regions : RegionsHave e.link.state.memory (claims_total calls)
+  pub counts : CountsFit first next e.link.state.send_queue calls
+  pub each : AllByRecursion CallFits calls
+  pub kept : AllByRecursion AnswerFits answers
+  pub distinct : AreDistinct answers

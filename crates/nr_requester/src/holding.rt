@@ -1,0 +1,107 @@
+//! How many bytes a requester keeps.
+
+ghost use Rattle.std.specs.Prelude.{◌≡◌, ◌+◌, ◌*◌, ◌^◌, ◌≤◌, length, map, max};
+ghost use Rattle.std.specs.List.{AllByRecursion};
+ghost use Rattle.nr_requester.specs.HeldBytes.{cred_bytes, call_bytes, stored_bytes, calls_bytes, outcome_bytes, buffer_len, answer_bytes, answers_bytes, AnswerFits, bytes_held_by, held_unit};
+ghost use Rattle.nr_requester.specs.Views.{stored_view};
+
+use crate::answer::AnsweredCall;
+use crate::outstanding::OutstandingCall;
+use crate::requester::Requester;
+use nr_reduce::{Call, Outcome};
+use nr_rpc::Cred;
+use nr_xdr::Octets;
+
+fn cred_bytes(cred: &Cred) -> usize
+    ensures { result ≡ cred_bytes cred.now }
+{
+    match cred {
+        Cred::None => 0,
+        Cred::Sys { machine, .. } => machine.len(),
+        Cred::Other { .. } => 0,
+    }
+}
+
+fn call_bytes(call: &Call) -> u128
+    ensures is { result ≡ call_bytes call.now }
+    ensures small { result ≤ 2 ^ 65 }
+{
+    call.args.len() as u128 + cred_bytes(&call.cred) as u128
+}
+
+fn stored_bytes(stored: &OutstandingCall) -> u128
+    ensures is { result ≡ stored_bytes stored.now.call }
+    ensures small { result ≤ 2 ^ 65 }
+{
+    match &stored.call {
+        Some(call) => call_bytes(call),
+        None => 0,
+    }
+}
+
+fn calls_bytes(calls: &[OutstandingCall]) -> u128
+    requires { length calls.now ≤ 64 }
+    ensures { result ≡ calls_bytes (map stored_view calls.now) }
+{
+    let mut sum: u128 = 0;
+    for call in calls {
+        sum += stored_bytes(call);
+    }
+    sum
+}
+
+fn outcome_bytes(outcome: &Outcome) -> usize
+    ensures { result ≡ outcome_bytes outcome.now }
+{
+    match outcome {
+        Outcome::Reply(payload) => payload.len(),
+        Outcome::Chunk => 0,
+        Outcome::Version { .. } => 0,
+    }
+}
+
+fn buffer_len(buffer: &Option<Octets>) -> u128
+    ensures is { result ≡ buffer_len buffer.now }
+    ensures small { result ≤ 2 ^ 64 }
+{
+    match buffer {
+        Some(bytes) => bytes.len() as u128,
+        None => 0,
+    }
+}
+
+fn answer_bytes(answer: &AnsweredCall) -> u128
+    ensures { result ≡ answer_bytes answer.now }
+{
+    let buffers = buffer_len(&answer.buffers.read)
+        + (buffer_len(&answer.buffers.write) + buffer_len(&answer.buffers.reply));
+    call_bytes(&answer.call) + (buffers + outcome_bytes(&answer.outcome) as u128)
+}
+
+fn answers_bytes(answers: &[AnsweredCall]) -> u128
+    requires { AllByRecursion AnswerFits answers.now }
+    ensures is { result ≡ answers_bytes answers.now }
+    ensures small { result ≤ held_unit * length answers.now }
+    ensures most { result ≤ 2 ^ 82 }
+{
+    let mut sum: u128 = 0;
+    'answers: for i in 0..answers.len() {
+        sum += answer_bytes(&answers[i]);
+    }
+    sum
+}
+
+impl Requester {
+    /// How many bytes all byte buffers have that are kept: the staging buffer, the receive, the regions, the output, the calls with the names
+    /// of their machines, and the answers with their buffers. At most 262144 for each call that is outstanding or each credit that was
+    /// wished for, whichever are more, for each answer that wasn't taken, and four times that. Takes no memory.
+    pub fn held(&self) -> u128
+        ensures is { result ≡ bytes_held_by self.now.state }
+        ensures bound { result ≤ held_unit * (max self.now.state.wished (length self.now.state.outstanding) + length self.now.state.answered + 4) }
+    {
+        self.endpoint.facts();
+        self.endpoint.held()
+            + calls_bytes(self.outstanding.as_slice())
+            + answers_bytes(self.answered.as_slice())
+    }
+}

@@ -1,0 +1,42 @@
+//! The regions of a call are released.
+
+ghost use Rattle.std.specs.Prelude.{◌≡◌, IfSome};
+ghost use Rattle.nr_regions.specs.RegisteredMemory.{IsHeld};
+ghost use Rattle.nr_reduce.specs.KeptClient.{released_all};
+ghost use Rattle.nr_requester.specs.RequesterState.{stag_of, stags_of};
+ghost use Rattle.nr_requester.specs.HeldClaims.{AreHeldFrom, call_claims};
+ghost use Rattle.nr_requester.specs.Buffers.{with_memory};
+ghost use Rattle.nr_requester.specs.AfterPiece.{buffer_under, buffers_under};
+
+use crate::answer::Buffers;
+use nr_endpoint::{Claims, Endpoint};
+use nr_regions::Registration;
+use nr_xdr::Octets;
+
+/// Releases a region, if there is one.
+#[tactic(auto, unfolding(nr_endpoint::specs::Calls::after_call))]
+fn release_some(endpoint: &mut Endpoint, claim: Option<Registration>) -> Option<Octets>
+    requires { IfSome claim (IsHeld endpoint.old.link.state.memory) }
+    ensures buffer { result ≡ buffer_under endpoint.old.link.state.memory claim }
+    ensures link { endpoint.new.link ≡ with_memory (released_all endpoint.old.link.state.memory (stag_of claim)) endpoint.old.link }
+    ensures staging { endpoint.new.staging ≡ endpoint.old.staging }
+{
+    match claim {
+        None => None,
+        Some(claim) => Some(endpoint.release(claim)),
+    }
+}
+
+/// Releases the regions of a call; answers their buffers. Takes no memory.
+pub fn release_claims(endpoint: &mut Endpoint, claims: Claims) -> Buffers
+    requires { AreHeldFrom endpoint.old.link.state.memory 0 (call_claims claims) }
+    ensures buffers { result ≡ buffers_under endpoint.old.link.state.memory claims }
+    ensures link { endpoint.new.link ≡ with_memory (released_all endpoint.old.link.state.memory (stags_of claims)) endpoint.old.link }
+    ensures staging { endpoint.new.staging ≡ endpoint.old.staging }
+{
+    let Claims { read, write, reply } = claims;
+    let read = release_some(endpoint, read);
+    let write = release_some(endpoint, write);
+    let reply = release_some(endpoint, reply);
+    Buffers { read, write, reply }
+}
