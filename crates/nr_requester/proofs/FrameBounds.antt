@@ -8,7 +8,8 @@ use Rattle.nr_regions.specs.declared.denied.Denied.TheVariants.{NoStag}
 use Rattle.nr_regions.specs.declared.right.Kind.{Kind}
 use Rattle.nr_regions.specs.RegisteredMemory.{Region, RegisteredMemory, Access, held_region, live_region, region_offer, denial_in, denial, bytes_in, bytes_at, bytes_after_write, after_place, after_place_in, right_for}
 use Rattle.nr_regions.proofs.Holding.{live_held, within, get_insert_here, get_insert_other, length_bytes_after_write}
-use Rattle.nr_regions.proofs.Totals.{sound_place}
+use Rattle.nr_regions.proofs.Totals.{sound_change}
+use Rattle.nr_regions.specs.Table.{region_len}
 use Rattle.nr_wire.specs.Constants.{HELLO_LEN, OPCODE_READ_RESPONSE, OPCODE_READ_REQUEST}
 use Rattle.nr_wire.specs.declared.hello.Side.{Side}
 use Rattle.nr_wire.specs.declared.hello.Side.TheVariants.{Initiator}
@@ -99,7 +100,7 @@ placed_by m stag to kind payload total (Some region) there allowed fit have =
             omega (arith, len, fit stag region there, ap (λ (x : Region). length x.buf) is))
         | inr other ↦ fit q r (sym (get_insert_other m.held stag after q other) ∙ e)
       ],
-      sound_place m.next total m.held stag region after have there len,
+      sound_change region_len m.next total m.held stag region after have there len,
     )
 
 placed_fits : (m : RegisteredMemory) (stag to : ℕ) (kind : Kind) (payload : List ℕ) (total : ℕ) → denial m (record { right = right_for kind; stag = stag; to = to; len = length payload }) ≡ None → RegionsFit m → RegionsHave m total →

@@ -17,7 +17,7 @@ use Rattle.nr_requester.specs.HeldClaims.{call_claims, all_claims, AreHeldFrom, 
 use Rattle.nr_requester.specs.OpenCalls.{open_call, call_with, buffers_with, buffers_of}
 use Rattle.nr_requester.specs.Standing.{RequesterRepresents, RequesterRunsOut, StandsOn, StaysOut, StopsRevoked}
 use Rattle.nr_requester.specs.Views.{IsSound, IsAnswered, AreRising, stored_view, given_up, forgot, requester_view}
-use Rattle.nr_requester.specs.HeldBytes.{LinkFits, RegionsHave, CountsFit, claims_len, claims_total, CallFits, AnswerFits, IsWithin}
+use Rattle.nr_requester.specs.HeldBytes.{NothingOutside, LinkFits, RegionsHave, CountsFit, claims_len, claims_total, CallFits, AnswerFits, IsWithin}
 use Rattle.nr_requester.proofs.Releases.{all_released, held_middle, stags_are_of}
 use Rattle.nr_requester.proofs.RegionBounds.{released_both}
 use Rattle.nr_requester.proofs.ChangedCalls.{changed_by, LeavesOthers, found_at, none_found, one_changed, none_changed, count_stays, each_stays, nth_of, rising_stays, from_stays, waiting_stays, claims_around, claims_changed, total_changed, apart_stays, others_answered}
@@ -74,8 +74,8 @@ given_up_sound link link2 next grant room n calls calls2 answers d s lt link_is 
     subst (λ (l : LinkSide). IsSound l next grant calls2 answers room) (sym link_is) (subst (λ (cs : List OutstandingCall). IsSound after next grant cs answers room) (sym are) all)
 
 pub given_up_within : (e e2 : EndpointState) (first next n : ℕ) (calls calls2 : List OutstandingCall) (answers : List AnsweredCall) (d : OutstandingCall) → IsWithin e first next calls answers → AreHeldFrom e.link.state.memory 0 (all_claims calls) → n < length calls →
-    e2.staging ≡ e.staging → e2.link ≡ with_memory (released_all e.link.state.memory (stags_of (get_or calls n d).claims)) e.link → calls2 ≡ set calls n (given_up (get_or calls n d)) → IsWithin e2 first next calls2 answers
-given_up_within e e2 first next n calls calls2 answers d w held lt same link_is are =
+    e2.staging ≡ e.staging → (NothingOutside e → NothingOutside e2) → e2.link ≡ with_memory (released_all e.link.state.memory (stags_of (get_or calls n d).claims)) e.link → calls2 ≡ set calls n (given_up (get_or calls n d)) → IsWithin e2 first next calls2 answers
+given_up_within e e2 first next n calls calls2 answers d w held lt same none link_is are =
     let s : LinkState = e.link.state in
     let c : OutstandingCall = get_or calls n d in
     let y : OutstandingCall = given_up c in
@@ -86,6 +86,7 @@ given_up_within e e2 first next n calls calls2 answers d w held lt same link_is 
     let sum : claims_total calls - claims_len c.claims ≡ claims_total left = omega (arith, total_changed n calls y d lt) in
     let all : IsWithin e2 first next left answers = record {
       staging = ap (λ (xs : List ℕ). length xs) same ∙ w.staging;
+      outside = none w.outside;
       from = from_stays first n calls y d refl lt w.from;
       order = w.order;
       link = subst (λ (x : LinkState). LinkFits x) (sym state) (record {
@@ -141,6 +142,7 @@ forgot_within e first next n calls calls2 answers d w lt are =
     let sum : claims_total calls ≡ claims_total left = omega (arith, total_changed n calls y d lt) in
     let all : IsWithin e first next left answers = record {
       staging = w.staging;
+      outside = w.outside;
       from = from_stays first n calls y d refl lt w.from;
       order = w.order;
       link = w.link;
@@ -176,6 +178,7 @@ pub taken_within : (e : EndpointState) (first next xid : ℕ) (calls : List Outs
 taken_within e first next xid calls answers answers2 w are =
     let all : IsWithin e first next calls (without_answer xid answers) = record {
       staging = w.staging;
+      outside = w.outside;
       from = w.from;
       order = w.order;
       link = w.link;

@@ -4,7 +4,7 @@ use Rattle.std.specs.List.{AllByRecursion}
 use Rattle.std.proofs.lemmas.List.{length-map, drop_more}
 use Rattle.nr_wire.specs.Constants.{FPDU_MAX}
 use Rattle.nr_link.specs.Limits.{send_max}
-use Rattle.nr_regions.specs.RegisteredMemory.{bytes_held}
+use Rattle.nr_regions.specs.RegisteredMemory.{RegisteredMemory, bytes_held, outside_held}
 use Rattle.nr_endpoint.specs.EndpointState.{EndpointState, bytes_of, bytes_kept}
 use Rattle.nr_endpoint.specs.LinkState.{LinkState, has_ended}
 use Rattle.nr_endpoint.specs.ReceiveQueue.{ReceiveQueue, receives_kept}
@@ -12,7 +12,7 @@ use Rattle.nr_requester.specs.declared.outstanding.OutstandingCall.{OutstandingC
 use Rattle.nr_requester.specs.declared.answer.AnsweredCall.{AnsweredCall}
 use Rattle.nr_requester.specs.RequesterState.{StoredCall, RequesterSide}
 use Rattle.nr_requester.specs.Views.{IsSound, stored_view, requester_view}
-use Rattle.nr_requester.specs.HeldBytes.{stored_bytes, calls_bytes, bytes_held_by, held_unit, last_max, frame_max, LinkFits, RegionsHave, claims_total, CallFits, answer_bytes, answers_bytes, AnswerFits, IsWithin}
+use Rattle.nr_requester.specs.HeldBytes.{NothingOutside, stored_bytes, calls_bytes, bytes_held_by, held_unit, last_max, frame_max, LinkFits, RegionsHave, claims_total, CallFits, answer_bytes, answers_bytes, AnswerFits, IsWithin}
 use Rattle.nr_requester.proofs.OutputBounds.{count_fewer}
 use Rattle.nr_requester.proofs.Unsent.{few_wait}
 
@@ -29,9 +29,17 @@ receives_small q is few = subst (λ (n : ℕ). n * receives_kept q ≤ send_max)
 abbrev pub link_max : ℕ
 link_max = 4 * held_unit
 
+all_bytes : (m : RegisteredMemory) (total : ℕ) → RegionsHave m total → total ≡ bytes_held m
+unfolding bytes_held
+all_bytes m total have = have.bytes_are
+
+no_outside : (e : EndpointState) → NothingOutside e → outside_held e.outside ≡ 0
+unfolding outside_held
+no_outside e s = sym s.bytes_are
+
 pub link_bytes : (s : LinkState) (total : ℕ) → LinkFits s → RegionsHave s.memory total → receives_kept s.receive_queue ≤ 1 → length s.send_queue.send_ends ≤ 64 → FPDU_MAX + bytes_of s ≤ link_max + total
 link_bytes s total l have kept few =
-    let regions : total ≡ bytes_held s.memory = have.bytes_are in
+    let regions : total ≡ bytes_held s.memory = all_bytes s.memory total have in
     let receives = receives_small s.receive_queue l.receive_length kept in
     let queue = l.queue 0 in
     omega (arith, regions, receives, queue, l.hello, l.responses, few, count_fewer 0 s.send_queue.send_ends, count_fewer 0 s.send_queue.response_ends, last_small (has_ended s))
@@ -76,14 +84,14 @@ pub held_is : (e : EndpointState) (first next sent wished first_xid next_xid gra
 unfolding bytes_held_by
 held_is e first next sent wished first_xid next_xid grant kept more calls answers rest h is w kept_is more_is rest_is =
     let here : FPDU_MAX + bytes_of e.link.state + calls_bytes (map stored_view calls) + answers_bytes answers ≡ bytes_held_by h.state = ap (λ (x : RequesterSide). bytes_held_by x.state) is in
-    omega (arith, here, w.staging, kept_is, more_is, rest_is)
+    omega (arith, here, w.staging, no_outside e w.outside, kept_is, more_is, rest_is)
 
 pub held_bound : (e : EndpointState) (first next grant kept more : ℕ) (calls : List OutstandingCall) (answers : List AnsweredCall) (room : ℕ) → IsWithin e first next calls answers → IsSound e.link next grant calls answers room → receives_kept e.link.state.receive_queue + e.link.state.receive_queue.lent ≡ e.link.state.receive_queue.receives →
     kept ≡ bytes_kept e → more ≡ calls_bytes (map stored_view calls) → kept + more ≤ held_unit * (length calls + 4)
 held_bound e first next grant kept more calls answers room w s receives kept_is more_is =
     let s1 : LinkState = e.link.state in
     let link = link_bytes s1 (claims_total calls) w.link w.regions (omega (arith, receives, w.link.receives)) (omega (arith, w.counts.waiting, few_wait first s1.send_queue.sends_left calls, s.few)) in
-    omega (arith, link, w.staging, kept_is, more_is, each_small calls w.each)
+    omega (arith, link, w.staging, no_outside e w.outside, kept_is, more_is, each_small calls w.each)
 
 pub held_most : (wished kept rest : ℕ) (calls : List OutstandingCall) (answers : List AnsweredCall) (h : RequesterSide) → h.state.wished ≡ wished → h.state.outstanding ≡ map stored_view calls → h.state.answered ≡ answers → kept ≤ held_unit * (length calls + 4) → rest ≤ held_unit * length answers →
     kept + rest ≤ held_unit * (max h.state.wished (length h.state.outstanding) + length h.state.answered + 4)

@@ -37,5 +37,6 @@ pub mod FrameBounds
 pub mod PlanBounds
 pub mod Unsent
 pub mod RegionBounds
+pub mod OutsideBounds
 pub mod HeldBounds
 pub mod Lost

@@ -8,6 +8,7 @@ use Rattle.nr_regions.specs.declared.right.Right.TheVariants.{Fetch, Fill}
 use Rattle.nr_regions.specs.RegisteredMemory.{Region, RegisteredMemory, Claim, IsHeld, held_region, after_register, after_release}
 use Rattle.nr_regions.proofs.Holding.{register_here, register_other, release_here, release_other}
 use Rattle.nr_regions.proofs.Totals.{sound_register, sound_release}
+use Rattle.nr_regions.specs.Table.{IsSound, region_len}
 use Rattle.nr_endpoint.specs.declared.offering.Offered.{Offered}
 use Rattle.nr_endpoint.specs.declared.offering.Claims.{Claims}
 use Rattle.nr_endpoint.specs.Offering.{one_of, offered_count, with_buffer, with_read, with_write_buffer, with_offered, claim_if, claims_of}
@@ -46,7 +47,7 @@ registered_fits m right buf small fit stag r there =
 
 registered_have : (m : RegisteredMemory) (right : Right) (buf : List ℕ) (total : ℕ) → length buf ≤ region_max → m.next < 2 ^ 32 → RegionsHave m total → RegionsHave (after_register m right buf) (total + length buf)
 unfolding after_register
-registered_have m right buf total small fits have = sound_register m.next total m.held (record { right = right; buf = buf }) have fits (omega (arith, small))
+registered_have m right buf total small fits have = sound_register region_len m.next total m.held (record { right = right; buf = buf }) have fits (omega (arith, small))
 
 one_buffer : (m : RegisteredMemory) (right : Right) (buf : Option (List ℕ)) (total : ℕ) → IfSome buf (λ bytes. length bytes ≤ region_max) → m.next + one_of buf ≤ 2 ^ 32 → Both m total → Both (with_buffer m right buf) (total + claim_len (claim_if m buf))
 one_buffer m right None total small fits b = (b.0, subst (λ (n : ℕ). RegionsHave m n) (omega arith) b.1)
@@ -114,7 +115,7 @@ released_fits m stag fit q r there =
 
 released_have : (m : RegisteredMemory) (claim : Claim) (total : ℕ) → IsHeld m claim → RegionsHave m total → RegionsHave (after_release m claim.stag) (total - claim.len)
 unfolding after_release held_region
-released_have m claim total h have = subst (λ (n : ℕ). RegionsHave (after_release m claim.stag) (total - n)) h.len (sound_release m.next total m.held claim.stag h.region have h.there)
+released_have m claim total h have = subst (λ (n : ℕ). RegionsHave (after_release m claim.stag) (total - n)) h.len (sound_release region_len m.next total m.held claim.stag h.region have h.there)
 
 abbrev pub sum_len : List Claim → ℕ
 sum_len [] = 0

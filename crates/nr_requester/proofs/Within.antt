@@ -4,7 +4,7 @@ use Rattle.std.specs.Prelude.{is_some}
 use Rattle.std.specs.List.{AllByRecursion}
 use Rattle.std.proofs.lemmas.List.{length-drop}
 use Rattle.std.specs.Ordering.{nat_cmp}
-use Rattle.std.specs.FinMap.{get-empty}
+use Rattle.std.specs.FinMap.{empty, get-empty}
 use Rattle.nr_endpoint.specs.declared.offering.Claims.{Claims}
 use Rattle.nr_wire.specs.Fields.{half_word}
 use Rattle.nr_rpc.specs.declared.cred.Cred.{Cred}
@@ -17,6 +17,7 @@ use Rattle.nr_wire.specs.declared.hello.Side.TheVariants.{Initiator}
 use Rattle.nr_wire.specs.Hello.{hello_encoding, key}
 use Rattle.nr_regions.specs.RegisteredMemory.{RegisteredMemory, initial_memory, held_region, Region}
 use Rattle.nr_regions.proofs.Totals.{sound_initial}
+use Rattle.nr_regions.specs.Table.{IsSound, region_len}
 use Rattle.nr_link.specs.declared.end.End.{End}
 use Rattle.nr_link.specs.Limits.{send_max, open_reads_max}
 use Rattle.nr_link.specs.Output.{own_hello}
@@ -38,9 +39,10 @@ use Rattle.nr_requester.specs.declared.outstanding.OutstandingCall.{OutstandingC
 use Rattle.nr_requester.specs.AfterCalls.{submitted}
 use Rattle.nr_requester.specs.Sending.{IsPlan, offered_of}
 use Rattle.nr_requester.specs.Views.{AreRising}
-use Rattle.nr_requester.specs.HeldBytes.{cred_bytes, call_bytes, stored_bytes, call_max, QueueFits, LinkFits, RegionsHave, CountsFit, claims_len, claims_total, CallFits, PlanFits, IsWithin}
+use Rattle.nr_requester.specs.HeldBytes.{NothingOutside, cred_bytes, call_bytes, stored_bytes, call_max, QueueFits, LinkFits, RegionsHave, CountsFit, claims_len, claims_total, CallFits, PlanFits, IsWithin}
 use Rattle.nr_requester.proofs.OutputBounds.{send_fits, written_fits, count_fewer}
 use Rattle.nr_requester.proofs.PlanBounds.{plan_bounds, payload_small}
+use Rattle.nr_requester.proofs.OutsideBounds.{opened_outside, same_outside}
 use Rattle.nr_requester.proofs.RegionBounds.{Both, offered_both, plan_short, plan_len}
 use Rattle.nr_requester.proofs.Sent.{count_offered, registered_offered}
 use Rattle.nr_requester.proofs.Unsent.{counts_written, counts_sent}
@@ -60,7 +62,7 @@ first_regions : (first_stag : ℕ) → first_stag ≤ 2 ^ 32 → Both (initial_m
 unfolding initial_memory held_region
 first_regions first_stag fits = (
   λ stag r there. none_there r (sym (get-empty nat_cmp stag) ∙ there),
-  sound_initial first_stag fits,
+  sound_initial region_len first_stag fits,
 )
 
 hello_is : length (own_hello Initiator) ≡ HELLO_LEN
@@ -80,11 +82,12 @@ first_counts : (first first_stag : ℕ) → CountsFit first first (initial_link 
 unfolding initial_link
 first_counts first first_stag = record { waiting = omega arith; numbered = omega arith }
 
-pub opened_within : (e : EndpointState) (first first_stag next : ℕ) (calls : List OutstandingCall) (answers : List AnsweredCall) → length e.staging ≡ FPDU_MAX → e.link ≡ initial_link Initiator 1 first_stag → first_stag < 2 ^ 32 → next ≡ first → calls ≡ [] → answers ≡ [] → IsWithin e first next calls answers
-opened_within e first first_stag next calls answers staging is fits same none empty =
+pub opened_within : (e : EndpointState) (first first_stag next : ℕ) (calls : List OutstandingCall) (answers : List AnsweredCall) → length e.staging ≡ FPDU_MAX → e.outside ≡ empty → e.link ≡ initial_link Initiator 1 first_stag → first_stag < 2 ^ 32 → next ≡ first → calls ≡ [] → answers ≡ [] → IsWithin e first next calls answers
+opened_within e first first_stag next calls answers staging nothing is fits same none empty =
     let l = first_link first_stag (omega (arith, fits)) in
     let all : IsWithin e first first [] [] = record {
       staging = staging;
+      outside = opened_outside e first_stag is nothing (omega (arith, fits));
       from = tt;
       order = omega arith;
       link = subst (λ (x : LinkSide). LinkFits x.state) (sym is) l.0;
@@ -132,10 +135,10 @@ sent_state s plan xid credit total i lives stags l have =
       after.1,
     )
 
-pub sent_within : (e e2 : EndpointState) (first next xid credit : ℕ) (calls calls2 : List OutstandingCall) (answers answers2 : List AnsweredCall) (o : OutstandingCall) (plan : Plan) → IsWithin e first next calls answers → AreRising calls next → e2.staging ≡ e.staging →
+pub sent_within : (e e2 : EndpointState) (first next xid credit : ℕ) (calls calls2 : List OutstandingCall) (answers answers2 : List AnsweredCall) (o : OutstandingCall) (plan : Plan) → IsWithin e first next calls answers → AreRising calls next → e2.staging ≡ e.staging → (NothingOutside e → NothingOutside e2) →
     e2.link ≡ with_state (submitted e.link.state (call_message xid credit e.link.state.memory.next plan) (buffers e.link.state.memory.next plan)) e.link → IsPlan plan → e.link.state.ended ≡ None →
     e.link.state.memory.next + regions_needed plan ≤ 2 ^ 32 → o.claims ≡ claims_of e.link.state.memory (offered_of plan) → stored_bytes o.call ≤ call_max → o.xid ≡ next → calls2 ≡ calls ++ o ∷ [] → answers2 ≡ answers → IsWithin e2 first (next + 1) calls2 answers2
-sent_within e e2 first next xid credit calls calls2 answers answers2 o plan w rising same link_is i lives stags claims small number more kept =
+sent_within e e2 first next xid credit calls calls2 answers answers2 o plan w rising same none link_is i lives stags claims small number more kept =
     let s : LinkState = e.link.state in
     let after : LinkState = submitted s (call_message xid credit s.memory.next plan) (buffers s.memory.next plan) in
     let state : e2.link.state ≡ after = ap (λ (l : LinkSide). l.state) link_is in
@@ -146,6 +149,7 @@ sent_within e e2 first next xid credit calls calls2 answers answers2 o plan w ri
     let short = plan_len s.memory plan fits in
     let all : IsWithin e2 first (next + 1) (calls ++ o ∷ []) answers = record {
       staging = ap (λ (xs : List ℕ). length xs) same ∙ w.staging;
+      outside = none w.outside;
       from = all_append (λ (c : OutstandingCall). first ≤ c.xid) calls o w.from (omega (arith, number, w.order));
       order = omega (arith, w.order);
       link = subst (λ (x : LinkState). LinkFits x) (sym state) l.0;
@@ -198,13 +202,14 @@ drain_is : (link : LinkSide) (n : ℕ) → (after_call link (Drain n)).state ≡
 unfolding after_call
 drain_is link n = refl
 
-pub drained_within : (e e2 : EndpointState) (first next n : ℕ) (calls : List OutstandingCall) (answers : List AnsweredCall) → IsWithin e first next calls answers → AreRising calls next → e2.staging ≡ e.staging → e2.link ≡ after_call e.link (Drain n) →
+pub drained_within : (e e2 : EndpointState) (first next n : ℕ) (calls : List OutstandingCall) (answers : List AnsweredCall) → IsWithin e first next calls answers → AreRising calls next → e2.staging ≡ e.staging → e2.outside ≡ e.outside → e2.link ≡ after_call e.link (Drain n) →
     IsWithin e2 first next calls answers
-drained_within e e2 first next n calls answers w rising same is =
+drained_within e e2 first next n calls answers w rising same out is =
     let s : LinkState = e.link.state in
     let state : e2.link.state ≡ record s { send_queue = written n s.send_queue } = ap (λ (l : LinkSide). l.state) is ∙ drain_is e.link n in
     record {
       staging = ap (λ (xs : List ℕ). length xs) same ∙ w.staging;
+      outside = same_outside e e2 (ap (λ (x : LinkState). x.memory.next) state) out w.outside;
       from = w.from;
       order = w.order;
       link = subst (λ (x : LinkState). LinkFits x) (sym state) (drained_link s n w.link);

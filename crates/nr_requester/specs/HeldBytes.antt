@@ -3,9 +3,9 @@ use Rattle.std.specs.Prelude.{◌≡◌, ◌≢◌, ℕ, ◌+◌, ◌-◌, ◌*�
 use Rattle.std.specs.List.{AllByRecursion, filter}
 use Rattle.nr_rpc.specs.declared.cred.Cred.{Cred}
 use Rattle.nr_rpc.specs.declared.cred.Cred.TheVariants as creds
-use Rattle.nr_regions.specs.RegisteredMemory.{Region, RegisteredMemory, Claim, held_region}
+use Rattle.nr_regions.specs.RegisteredMemory.{Region, RegisteredMemory, Claim, held_region, outside_len}
 use Rattle.nr_endpoint.specs.declared.offering.Claims.{Claims}
-use Rattle.nr_regions.specs.Table.{IsSound}
+use Rattle.nr_regions.specs.Table.{IsSound, region_len}
 use Rattle.nr_wire.specs.Constants.{FPDU_MAX, HELLO_LEN}
 use Rattle.nr_wire.specs.declared.hello.Side.TheVariants.{Initiator}
 use Rattle.nr_link.specs.Limits.{send_max, open_reads_max}
@@ -124,7 +124,11 @@ pub record LinkFits (s : LinkState) : Type 0 where
 
 -- its regions have this number of bytes together
 abbrev pub RegionsHave : RegisteredMemory → ℕ → Type 0
-RegionsHave m total = IsSound m.next total m.held
+RegionsHave m total = IsSound region_len m.next total m.held
+
+-- no buffer has bytes outside its region
+abbrev pub NothingOutside : EndpointState → Type 0
+NothingOutside e = IsSound outside_len e.link.state.memory.next 0 e.outside
 
 -- the xids of these calls are at least the first one
 abbrev pub AreFrom : ℕ → List OutstandingCall → Type 0
@@ -171,6 +175,7 @@ AreDistinct (a ∷ answers) = AllByRecursion (λ (b : AnsweredCall). b.xid ≢ a
 -- calls and its answers; a Send that waits is that of an outstanding call.
 pub record IsWithin (e : EndpointState) (first next : ℕ) (calls : List OutstandingCall) (answers : List AnsweredCall) : Type 0 where
   pub staging : length e.staging ≡ FPDU_MAX
+  pub outside : NothingOutside e
   pub from : AreFrom first calls
   pub order : first ≤ next
   pub link : LinkFits e.link.state

@@ -5,6 +5,7 @@ ghost use Rattle.nr_regions.specs.RegisteredMemory.{IsHeld};
 ghost use Rattle.nr_reduce.specs.KeptClient.{released_all};
 ghost use Rattle.nr_requester.specs.RequesterState.{stag_of, stags_of};
 ghost use Rattle.nr_requester.specs.HeldClaims.{AreHeldFrom, call_claims};
+ghost use Rattle.nr_requester.specs.HeldBytes.{NothingOutside};
 ghost use Rattle.nr_requester.specs.Buffers.{with_memory};
 ghost use Rattle.nr_requester.specs.AfterPiece.{buffer_under, buffers_under};
 
@@ -20,6 +21,7 @@ fn release_some(endpoint: &mut Endpoint, claim: Option<Registration>) -> Option<
     ensures buffer { result ≡ buffer_under endpoint.old.link.state.memory claim }
     ensures link { endpoint.new.link ≡ with_memory (released_all endpoint.old.link.state.memory (stag_of claim)) endpoint.old.link }
     ensures staging { endpoint.new.staging ≡ endpoint.old.staging }
+    ensures outside { NothingOutside endpoint.old → NothingOutside endpoint.new }
 {
     match claim {
         None => None,
@@ -33,6 +35,7 @@ pub fn release_claims(endpoint: &mut Endpoint, claims: Claims) -> Buffers
     ensures buffers { result ≡ buffers_under endpoint.old.link.state.memory claims }
     ensures link { endpoint.new.link ≡ with_memory (released_all endpoint.old.link.state.memory (stags_of claims)) endpoint.old.link }
     ensures staging { endpoint.new.staging ≡ endpoint.old.staging }
+    ensures outside { NothingOutside endpoint.old → NothingOutside endpoint.new }
 {
     let Claims { read, write, reply } = claims;
     let read = release_some(endpoint, read);

@@ -7,6 +7,7 @@ ghost use Rattle.nr_requester.specs.RequesterState.{stags_of};
 ghost use Rattle.nr_requester.specs.AfterCalls.{after_revoke};
 ghost use Rattle.nr_requester.specs.AfterPiece.{buffers_under};
 ghost use Rattle.nr_requester.specs.Buffers.{bytes_of_buffers, with_memory};
+ghost use Rattle.nr_requester.specs.HeldBytes.{NothingOutside};
 ghost use Rattle.nr_requester.specs.HeldClaims.{AreHeldFrom, all_claims};
 ghost use Rattle.nr_requester.specs.OpenCalls.{open_call, buffers_of};
 ghost use Rattle.nr_requester.specs.Standing.{StandsOn, StopsRevoked};
@@ -63,6 +64,7 @@ fn revoke_at(
     ensures link { (d : OutstandingCall) → endpoint.new.link ≡ with_memory (released_all endpoint.old.link.state.memory (stags_of (get_or calls.old.items at d).claims)) endpoint.old.link }
     ensures calls { (d : OutstandingCall) → calls.new.items ≡ set calls.old.items at (given_up (get_or calls.old.items at d)) }
     ensures staging { endpoint.new.staging ≡ endpoint.old.staging }
+    ensures outside { NothingOutside endpoint.old → NothingOutside endpoint.new }
 {
     let (call, claims) = take_out(&mut calls[at]);
     (call, release_claims(endpoint, claims))

@@ -14,7 +14,7 @@ ghost use Rattle.nr_requester.specs.AfterCalls.{submitted, after_submit};
 ghost use Rattle.nr_requester.specs.Answers.{answer_of, plan_under, WasSent};
 ghost use Rattle.nr_requester.specs.Sending.{IsPlan, HasNumbers, answer_for, offered_of, xid_word, target_under, head_under, call_plan};
 ghost use Rattle.nr_requester.specs.HeldClaims.{SentHeld, IsOfferOf};
-ghost use Rattle.nr_requester.specs.HeldBytes.{call_bytes, call_max};
+ghost use Rattle.nr_requester.specs.HeldBytes.{call_bytes, call_max, NothingOutside};
 ghost use Rattle.nr_requester.specs.Standing.{StandsOn};
 
 use crate::answer::AnsweredCall;
@@ -57,6 +57,8 @@ fn offer_plan(
     ensures claims { IfOk result (λ claims. claims ≡ claims_of endpoint.old.link.state.memory (offered_of (call_plan plan.entry))) }
     ensures held { IfOk result (λ claims. SentHeld endpoint.old.link.state.memory endpoint.new.link.state.memory claims) }
     ensures staging { endpoint.new.staging ≡ endpoint.old.staging }
+    ensures outside { OnOk result (NothingOutside endpoint.old → NothingOutside endpoint.new) }
+    ensures outside_err { OnErr result (endpoint.new.outside ≡ endpoint.old.outside) }
     ensures err { OnErr result (endpoint.new.link ≡ endpoint.old.link) }
 {
     let message = message_of(alloc, xid, credit, plan, lists)?;
@@ -87,6 +89,8 @@ fn send_plan(
     ensures held { IfOk result (λ s. SentHeld endpoint.old.link.state.memory endpoint.new.link.state.memory s.claims) }
     ensures offer { IfOk result (λ s. IsOfferOf s.claims s.lists) }
     ensures staging { endpoint.new.staging ≡ endpoint.old.staging }
+    ensures outside { OnOk result (NothingOutside endpoint.old → NothingOutside endpoint.new) }
+    ensures outside_err { OnErr result (endpoint.new.outside ≡ endpoint.old.outside) }
     ensures err { OnErr result (endpoint.new.link ≡ endpoint.old.link) }
 {
     let stag = NUMBERS_END - endpoint.regions().stags_left();

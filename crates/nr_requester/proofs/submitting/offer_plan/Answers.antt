@@ -8,6 +8,7 @@ use Rattle.nr_requester.specs.Sending.{call_plan}
 use Rattle.nr_requester.proofs.Sized.{few, plan_fits, lists_fit_lem}
 use Rattle.nr_requester.proofs.Sent.{count_offered, offered_memory, offered_view, message_by}
 use Rattle.nr_requester.proofs.HeldRegions.{sent_held}
+use Rattle.nr_requester.proofs.OutsideBounds.{offered_outside}
 use Rattle.nr_requester.proofs.submitting.offer_plan.Goals as goal
 
 pub message_of-requires : goal.message_of-requires
@@ -42,3 +43,9 @@ pub returns-in-Ok-clause-held : goal.returns-in-Ok-clause-held
 returns-in-Ok-clause-held c =
     sent_held c.args.endpoint.now.link.state.memory c.offer.new.self.link.state.memory c.in_ok-offered.offered c.in-Ok.claims
     (offered_memory c.args.endpoint.now.link c.offer.new.self.link c.as_slice.result.now c.in_ok-offered.offered c.in-Ok.ensures.state) c.in-Ok.ensures.claims
+
+pub returns-in-Ok-clause-outside : goal.returns-in-Ok-clause-outside
+returns-in-Ok-clause-outside c =
+    let count = ap (λ (o : Offered). offered_count o) c.in_ok-offered.ensures ∙ count_offered (call_plan c.args.plan) in
+    let fits = c.requires.stags in
+    offered_outside c.args.endpoint.now c.offer.new.self c.in_ok-offered.offered (offered_memory c.args.endpoint.now.link c.offer.new.self.link c.as_slice.result.now c.in_ok-offered.offered c.in-Ok.ensures.state) c.in-Ok.ensures.outside (omega (arith, count, fits))

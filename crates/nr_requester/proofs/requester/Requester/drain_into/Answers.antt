@@ -14,5 +14,5 @@ pub invariant_of-self : goal.invariant_of-self
 invariant_of-self g c =
     let t = c.drain_into-drained.ensures.taken in (
       drain_sound c.self.inside.endpoint.link c.drain_into-drained.new.self.link t.0 c.self.inside.next_xid c.self.inside.grant _ c.self.inside.outstanding.items c.self.inside.answered.items c.self.invariant.0 t.3,
-      drained_within c.self.inside.endpoint c.drain_into-drained.new.self c.self.inside.first_xid c.self.inside.next_xid t.0 c.self.inside.outstanding.items c.self.inside.answered.items c.self.invariant.1 c.self.invariant.0.rising c.drain_into-drained.ensures.staging t.3,
+      drained_within c.self.inside.endpoint c.drain_into-drained.new.self c.self.inside.first_xid c.self.inside.next_xid t.0 c.self.inside.outstanding.items c.self.inside.answered.items c.self.invariant.1 c.self.invariant.0.rising c.drain_into-drained.ensures.staging c.drain_into-drained.ensures.outside t.3,
     )

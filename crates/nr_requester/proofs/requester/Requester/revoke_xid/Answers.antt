@@ -30,7 +30,7 @@ invariant_of-self c =
     is_found i.outstanding.items c.as_slice.result.now c.args.xid c.args.xid c.in-Some.at c.as_slice.ensures.value refl c.in-Some.ensures.some.0 c.in-Some.ensures.some.1 in
     let d : OutstandingCall = given i.outstanding.items c.in-Some.at in (
       given_up_sound i.endpoint.link c.revoke_at-call.new.endpoint.link i.next_xid i.grant _ c.in-Some.at i.outstanding.items c.revoke_at-call.new.calls.items i.answered.items d c.self.invariant.0 f.within (c.revoke_at-call.ensures.link d) (c.revoke_at-call.ensures.calls d),
-      given_up_within i.endpoint c.revoke_at-call.new.endpoint i.first_xid i.next_xid c.in-Some.at i.outstanding.items c.revoke_at-call.new.calls.items i.answered.items d c.self.invariant.1 c.self.invariant.0.held f.within c.revoke_at-call.ensures.staging
+      given_up_within i.endpoint c.revoke_at-call.new.endpoint i.first_xid i.next_xid c.in-Some.at i.outstanding.items c.revoke_at-call.new.calls.items i.answered.items d c.self.invariant.1 c.self.invariant.0.held f.within c.revoke_at-call.ensures.staging c.revoke_at-call.ensures.outside
           (c.revoke_at-call.ensures.link d) (c.revoke_at-call.ensures.calls d),
     )
 

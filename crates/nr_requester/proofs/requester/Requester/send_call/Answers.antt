@@ -47,6 +47,6 @@ invariant_of-self-2 c =
           c.self.invariant.0 c.in-Ok.ensures.held queue c.in-Ok.ensures.offer (omega (arith, xid, number)) (omega (arith, count, credit, grant, len))
           (c.push_reserved.ensures.items ∙ ap (λ (xs : List OutstandingCall). xs ++ o ∷ []) c.make_room.ensures.outstanding) c.make_room.ensures.answered refl c.in_default.ensures.answer,
       sent_within c.self.inside.endpoint c.send_plan.new.endpoint c.self.inside.first_xid c.self.inside.next_xid c.self.inside.next_xid c.self.inside.wished c.self.inside.outstanding.items c.push_reserved.new.self.items c.self.inside.answered.items c.make_room.new.answered.items o plan c.self.invariant.1 c.self.invariant.0.rising
-          c.send_plan.ensures.staging link_is planned lives stags claims_are c.requires.small refl
+          c.send_plan.ensures.staging c.in-Ok.ensures.outside link_is planned lives stags claims_are c.requires.small refl
           (c.push_reserved.ensures.items ∙ ap (λ (xs : List OutstandingCall). xs ++ o ∷ []) c.make_room.ensures.outstanding) c.make_room.ensures.answered,
     )

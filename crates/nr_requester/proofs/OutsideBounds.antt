@@ -1,0 +1,70 @@
+-- No buffer has bytes outside its region.
+use Rattle.std.proofs.Common.{◌≡◌, ℕ, ◌+◌, ◌-◌, ◌^◌, ◌≤◌, Bool, true, false, List, Option, None, Some, is_some, refl, sym, ap, subst, ◌∙◌, arith}
+use Rattle.std.specs.Ordering.{nat_cmp}
+use Rattle.std.specs.FinMap.{FinMap, empty, get, remove}
+use Rattle.nr_regions.specs.declared.right.Right.{Right}
+use Rattle.nr_regions.specs.declared.right.Right.TheVariants.{Fetch, Fill}
+use Rattle.nr_regions.specs.RegisteredMemory.{RegisteredMemory, Outside, outside_len, nothing_outside, initial_memory, after_release, after_register}
+use Rattle.nr_regions.specs.Table.{IsSound}
+use Rattle.nr_regions.proofs.Totals.{sound_initial, sound_register, sound_release}
+use Rattle.nr_wire.specs.declared.hello.Side.TheVariants.{Initiator}
+use Rattle.nr_endpoint.specs.declared.offering.Offered.{Offered}
+use Rattle.nr_endpoint.specs.EndpointState.{EndpointState}
+use Rattle.nr_endpoint.specs.LinkState.{LinkSide, initial_link}
+use Rattle.nr_endpoint.specs.Calls.{after_call}
+use Rattle.nr_endpoint.specs.Calls.Call.{Release}
+use Rattle.nr_endpoint.specs.Offering.{one_of, offered_count, outside_buffer, outside_offered, with_buffer, with_read, with_write_buffer, with_offered}
+use Rattle.nr_requester.specs.HeldBytes.{NothingOutside}
+
+-- ---- As it is opened
+
+initial_next : (first_stag : ℕ) → (initial_link Initiator 1 first_stag).state.memory.next ≡ first_stag
+unfolding initial_link initial_memory
+initial_next first_stag = refl
+
+pub opened_outside : (e : EndpointState) (first_stag : ℕ) → e.link ≡ initial_link Initiator 1 first_stag → e.outside ≡ empty → first_stag ≤ 2 ^ 32 → NothingOutside e
+opened_outside e first_stag is none fits =
+    let next : e.link.state.memory.next ≡ first_stag = ap (λ (l : LinkSide). l.state.memory.next) is ∙ initial_next first_stag in
+    subst (λ (n : ℕ). IsSound outside_len n 0 e.outside) (sym next) (subst (λ (m : FinMap nat_cmp Outside). IsSound outside_len first_stag 0 m) (sym none) (sound_initial outside_len first_stag fits))
+
+-- ---- A region is released
+
+release_next : (link : LinkSide) (stag : ℕ) → (after_call link (Release stag)).state.memory.next ≡ link.state.memory.next
+unfolding after_call after_release
+release_next link stag = refl
+
+released_by : (next stag : ℕ) (outside : FinMap nat_cmp Outside) (o : Option Outside) → get outside stag ≡ o → is_some o ≡ true → IsSound outside_len next 0 outside → IsSound outside_len next 0 (remove outside stag)
+released_by next stag outside None there is s = absurd cc
+released_by next stag outside (Some x) there is s = subst (λ (n : ℕ). IsSound outside_len next n (remove outside stag)) (omega arith) (sound_release outside_len next 0 outside stag x s there)
+
+pub released_outside : (e e2 : EndpointState) (stag : ℕ) → e2.link ≡ after_call e.link (Release stag) → e2.outside ≡ remove e.outside stag → is_some (get e.outside stag) ≡ true → NothingOutside e → NothingOutside e2
+released_outside e e2 stag link_is is around s =
+    let next : e2.link.state.memory.next ≡ e.link.state.memory.next = ap (λ (l : LinkSide). l.state.memory.next) link_is ∙ release_next e.link stag in
+    subst (λ (n : ℕ). IsSound outside_len n 0 e2.outside) (sym next)
+    (subst (λ (m : FinMap nat_cmp Outside). IsSound outside_len e.link.state.memory.next 0 m) (sym is) (released_by e.link.state.memory.next stag e.outside (get e.outside stag) refl around s))
+
+-- ---- Buffers are registered
+
+next_one : (m : RegisteredMemory) (right : Right) (buf : Option (List ℕ)) → (with_buffer m right buf).next ≡ m.next + one_of buf
+unfolding after_register
+next_one m right None = omega arith
+next_one m right (Some buf) = refl
+
+one_more : (m : RegisteredMemory) (right : Right) (buf : Option (List ℕ)) (outside : FinMap nat_cmp Outside) → m.next + one_of buf ≤ 2 ^ 32 → IsSound outside_len m.next 0 outside → IsSound outside_len (with_buffer m right buf).next 0 (outside_buffer m buf outside)
+unfolding after_register
+one_more m right None outside fits s = s
+one_more m right (Some buf) outside fits s = sound_register outside_len m.next 0 outside nothing_outside s (omega (arith, fits)) (omega arith)
+
+pub offered_outside : (e e2 : EndpointState) (o : Offered) → e2.link.state.memory ≡ with_offered e.link.state.memory o → e2.outside ≡ outside_offered e.link.state.memory o e.outside → e.link.state.memory.next + offered_count o ≤ 2 ^ 32 → NothingOutside e → NothingOutside e2
+offered_outside e e2 o memory is fits s =
+    let m : RegisteredMemory = e.link.state.memory in
+    let n1 = next_one m Fetch o.read in
+    let n2 = next_one (with_read m o) Fill o.write in
+    let first = one_more m Fetch o.read e.outside (omega (arith, fits)) s in
+    let second = one_more (with_read m o) Fill o.write (outside_buffer m o.read e.outside) (omega (arith, fits, n1)) first in
+    let third = one_more (with_write_buffer m o) Fill o.reply (outside_buffer (with_read m o) o.write (outside_buffer m o.read e.outside)) (omega (arith, fits, n1, n2)) second in
+    subst (λ (n : RegisteredMemory). IsSound outside_len n.next 0 e2.outside) (sym memory) (subst (λ (x : FinMap nat_cmp Outside). IsSound outside_len (with_offered m o).next 0 x) (sym is) third)
+
+pub same_outside : (e e2 : EndpointState) → e2.link.state.memory.next ≡ e.link.state.memory.next → e2.outside ≡ e.outside → NothingOutside e → NothingOutside e2
+same_outside e e2 next is s =
+    subst (λ (n : ℕ). IsSound outside_len n 0 e2.outside) (sym next) (subst (λ (m : FinMap nat_cmp Outside). IsSound outside_len e.link.state.memory.next 0 m) (sym is) s)
