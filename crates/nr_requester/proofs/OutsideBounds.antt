@@ -1,7 +1,10 @@
 -- No buffer has bytes outside its region.
-use Rattle.std.proofs.Common.{◌≡◌, ℕ, ◌+◌, ◌-◌, ◌^◌, ◌≤◌, Bool, true, false, List, Option, None, Some, is_some, refl, sym, ap, subst, ◌∙◌, arith}
+use Rattle.std.proofs.Common.{◌≡◌, ℕ, ◌+◌, ◌^◌, ◌≤◌, List, Option, None, Some, inl, inr, refl, sym, ap, subst, ◌∙◌, arith}
 use Rattle.std.specs.Ordering.{nat_cmp}
-use Rattle.std.specs.FinMap.{FinMap, empty, get, remove}
+use Rattle.std.specs.FinMap.{FinMap, empty, get, remove, same_map, nat_cmp-IsAntisymmetric}
+use Rattle.std.specs.Cmp.{nat_cmp_total}
+use Rattle.std.proofs.lemmas.Bool.{cases_eq}
+use Rattle.nr_regions.proofs.Holding.{get_remove_here, get_remove_other}
 use Rattle.nr_regions.specs.declared.right.Right.{Right}
 use Rattle.nr_regions.specs.declared.right.Right.TheVariants.{Fetch, Fill}
 use Rattle.nr_regions.specs.RegisteredMemory.{RegisteredMemory, Outside, outside_len, nothing_outside, initial_memory, after_release, after_register}
@@ -33,15 +36,22 @@ release_next : (link : LinkSide) (stag : ℕ) → (after_call link (Release stag
 unfolding after_call after_release
 release_next link stag = refl
 
-released_by : (next stag : ℕ) (outside : FinMap nat_cmp Outside) (o : Option Outside) → get outside stag ≡ o → is_some o ≡ true → IsSound outside_len next 0 outside → IsSound outside_len next 0 (remove outside stag)
-released_by next stag outside None there is s = absurd cc
-released_by next stag outside (Some x) there is s = subst (λ (n : ℕ). IsSound outside_len next n (remove outside stag)) (omega arith) (sound_release outside_len next 0 outside stag x s there)
+not_there : (stag : ℕ) (outside : FinMap nat_cmp Outside) → get outside stag ≡ None → remove outside stag ≡ outside
+not_there stag outside none =
+    same_map nat_cmp_total nat_cmp-IsAntisymmetric (remove outside stag) outside (λ q. elim (cases_eq q stag) [
+      | inl e ↦ ap (λ (k : ℕ). get (remove outside stag) k) e ∙ get_remove_here outside stag ∙ sym none ∙ ap (λ (k : ℕ). get outside k) (sym e)
+      | inr ne ↦ get_remove_other outside stag q ne
+    ])
 
-pub released_outside : (e e2 : EndpointState) (stag : ℕ) → e2.link ≡ after_call e.link (Release stag) → e2.outside ≡ remove e.outside stag → is_some (get e.outside stag) ≡ true → NothingOutside e → NothingOutside e2
-released_outside e e2 stag link_is is around s =
+released_by : (next stag : ℕ) (outside : FinMap nat_cmp Outside) (o : Option Outside) → get outside stag ≡ o → IsSound outside_len next 0 outside → IsSound outside_len next 0 (remove outside stag)
+released_by next stag outside None there s = subst (λ (m : FinMap nat_cmp Outside). IsSound outside_len next 0 m) (sym (not_there stag outside there)) s
+released_by next stag outside (Some x) there s = subst (λ (n : ℕ). IsSound outside_len next n (remove outside stag)) (omega arith) (sound_release outside_len next 0 outside stag x s there)
+
+pub released_outside : (e e2 : EndpointState) (stag : ℕ) → e2.link ≡ after_call e.link (Release stag) → e2.outside ≡ remove e.outside stag → NothingOutside e → NothingOutside e2
+released_outside e e2 stag link_is is s =
     let next : e2.link.state.memory.next ≡ e.link.state.memory.next = ap (λ (l : LinkSide). l.state.memory.next) link_is ∙ release_next e.link stag in
     subst (λ (n : ℕ). IsSound outside_len n 0 e2.outside) (sym next)
-    (subst (λ (m : FinMap nat_cmp Outside). IsSound outside_len e.link.state.memory.next 0 m) (sym is) (released_by e.link.state.memory.next stag e.outside (get e.outside stag) refl around s))
+    (subst (λ (m : FinMap nat_cmp Outside). IsSound outside_len e.link.state.memory.next 0 m) (sym is) (released_by e.link.state.memory.next stag e.outside (get e.outside stag) refl s))
 
 -- ---- Buffers are registered
 

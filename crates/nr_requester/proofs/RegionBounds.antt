@@ -8,7 +8,7 @@ use Rattle.nr_regions.specs.declared.right.Right.TheVariants.{Fetch, Fill}
 use Rattle.nr_regions.specs.RegisteredMemory.{Region, RegisteredMemory, Claim, IsHeld, held_region, after_register, after_release}
 use Rattle.nr_regions.proofs.Holding.{register_here, register_other, release_here, release_other}
 use Rattle.nr_regions.proofs.Totals.{sound_register, sound_release}
-use Rattle.nr_regions.specs.Table.{IsSound, region_len}
+use Rattle.nr_regions.specs.Table.{region_len}
 use Rattle.nr_endpoint.specs.declared.offering.Offered.{Offered}
 use Rattle.nr_endpoint.specs.declared.offering.Claims.{Claims}
 use Rattle.nr_endpoint.specs.Offering.{one_of, offered_count, with_buffer, with_read, with_write_buffer, with_offered, claim_if, claims_of}

@@ -17,7 +17,7 @@ use Rattle.nr_wire.specs.declared.hello.Side.TheVariants.{Initiator}
 use Rattle.nr_wire.specs.Hello.{hello_encoding, key}
 use Rattle.nr_regions.specs.RegisteredMemory.{RegisteredMemory, initial_memory, held_region, Region}
 use Rattle.nr_regions.proofs.Totals.{sound_initial}
-use Rattle.nr_regions.specs.Table.{IsSound, region_len}
+use Rattle.nr_regions.specs.Table.{region_len}
 use Rattle.nr_link.specs.declared.end.End.{End}
 use Rattle.nr_link.specs.Limits.{send_max, open_reads_max}
 use Rattle.nr_link.specs.Output.{own_hello}

@@ -12,4 +12,4 @@ returns-in-Some-clause-buffer c =
     ∙ sym (ap (λ (x : Option Claim). buffer_under c.args.endpoint.now.link.state.memory x) c.in-Some.is)
 
 pub returns-in-Some-clause-outside : goal.returns-in-Some-clause-outside
-returns-in-Some-clause-outside c = released_outside c.args.endpoint.now c.release.new.self c.in-Some.claim.stag c.release.ensures.state c.release.ensures.outside c.release.ensures.around
+returns-in-Some-clause-outside c = released_outside c.args.endpoint.now c.release.new.self c.in-Some.claim.stag c.release.ensures.state c.release.ensures.outside
