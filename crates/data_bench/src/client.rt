@@ -4,11 +4,12 @@ ghost use Rattle.std.specs.Prelude.{◌≡◌, ◌^◌, ◌<◌, length, All, If
 ghost use Rattle.nr_rpc.specs.Credential.{CanWriteCred};
 ghost use Rattle.data_bench.specs.Sound.{IsSound};
 
-use crate::peer::{Peer, SEND_MAX};
+use crate::peer::Peer;
 use nr_endpoint::Offered;
 use nr_header::{
     Body, Chunk, ListSlices, RdmaSegment, ReadSegment, read_header, write_with_slices,
 };
+use nr_link::constants::SEND_MAX;
 use nr_nfs_base::{NFS_PROGRAM, NFS_VERSION};
 use nr_reduce::{
     Form, Of, Outline, ReadOutline, outline_of, rebuild_item, reply_item_of, reply_parts,

@@ -8,14 +8,12 @@ ghost use Rattle.data_bench.specs.Sound.{IsSound};
 
 use nr_endpoint::{Claims, Endpoint, Event, Offered, RemoteWrite};
 use nr_header::ReadSegment;
+use nr_link::constants::SEND_MAX;
 use nr_outside::StdSink;
 use nr_regions::{Registration, Right};
 use nr_wire::Side;
 use nr_xdr::Octets;
 use std::alloc::Global;
-
-/// The most bytes of a Send.
-pub const SEND_MAX: u32 = 1024;
 
 /// The most bytes that a side is fed.
 const FED_MAX: u64 = 1 << 62;

@@ -6,9 +6,10 @@ ghost use Rattle.nr_endpoint.specs.Offering.{FitsRegion};
 ghost use Rattle.data_bench.specs.Sound.{IsSound, AreSound};
 
 use crate::link::Link;
-use crate::peer::{Peer, SEND_MAX};
+use crate::peer::Peer;
 use nr_endpoint::RemoteWrite;
 use nr_header::{Body, ChunkLists, ReadSegment, read_header};
+use nr_link::constants::SEND_MAX;
 use nr_outside::Moment;
 use nr_plain::Server;
 use nr_reduce::{
