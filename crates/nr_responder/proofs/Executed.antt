@@ -13,7 +13,7 @@ use Rattle.nr_reduce.specs.ServerState.{PendingCall, PendingRead, ReadyCall, Ser
 use Rattle.nr_reduce.specs.ServerReads.{is_read, is_read_at, is_over}
 use Rattle.nr_reduce.specs.Server.{server_state_after, execution_output}
 use Rattle.nr_responder.specs.ResponderState.{unsent, drained_posted, left_by}
-use Rattle.nr_responder.specs.Keeping.{OwnXids, OwnReady, IsReadyOf, IsInline, IsServer, LinkKeeps}
+use Rattle.nr_responder.specs.Keeping.{OwnNumbers, OwnXids, OwnReady, IsReadyOf, IsInline, IsServer, LinkKeeps}
 use Rattle.nr_responder.proofs.Ends.{ends_fewer}
 use Rattle.nr_responder.proofs.Queues.{answered_has, drained_has}
 
@@ -78,6 +78,14 @@ own_out x (c ∷ calls) own = by (own_out x calls own.1) (not (eqb c.xid x))
   where
     by : OwnXids (without_call x calls) → (b : Bool) → OwnXids (cond b (c ∷ without_call x calls) (without_call x calls))
     by others true = (any_out (λ (d : PendingCall). eqb d.xid c.xid) x calls own.0, others)
+    by others false = others
+
+numbers_out : (x : ℕ) (calls : List PendingCall) → OwnNumbers calls → OwnNumbers (without_call x calls)
+numbers_out x [] own = tt
+numbers_out x (c ∷ calls) own = by (numbers_out x calls own.1) (not (eqb c.xid x))
+  where
+    by : OwnNumbers (without_call x calls) → (b : Bool) → OwnNumbers (cond b (c ∷ without_call x calls) (without_call x calls))
+    by others true = (any_out (λ (d : PendingCall). eqb d.number c.number) x calls own.0, others)
     by others false = others
 
 -- a call of another xid stays
@@ -244,9 +252,11 @@ answered_server k place out r rest first is =
       reads_before = is.reads_before;
       regions_before = is.regions_before;
       closed = closed_out r.xid r.number k.calls k.reads k.regions ready.0.own ready.0.read is.closed;
+      numbers = numbers_out r.xid k.calls is.numbers;
       xids = own_out r.xid k.calls is.xids;
       ready_xids = subst OwnReady (sym left) own.1;
       ready = subst (λ (rs : List ReadyCall). AllByRecursion (IsReadyOf (without_call r.xid k.calls) k.reads) rs) (sym left) (ready_out r.xid k.calls k.reads rest own.0 ready.1);
+      idle = is.idle;
       up = is.up;
       down = is.down;
     }
@@ -288,9 +298,11 @@ drained_server k place n is = record {
   reads_before = is.reads_before;
   regions_before = is.regions_before;
   closed = is.closed;
+  numbers = is.numbers;
   xids = is.xids;
   ready_xids = is.ready_xids;
   ready = is.ready;
+  idle = is.idle;
   up = is.up;
   down = is.down;
 }

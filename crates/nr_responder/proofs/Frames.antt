@@ -194,9 +194,11 @@ server_later k place later le is = record {
   reads_before = is.reads_before;
   regions_before = is.regions_before;
   closed = is.closed;
+  numbers = is.numbers;
   xids = is.xids;
   ready_xids = is.ready_xids;
   ready = is.ready;
+  idle = is.idle;
   up = is.up;
   down = is.down;
 }
@@ -212,9 +214,11 @@ own_hello_server k place is = record {
   reads_before = is.reads_before;
   regions_before = is.regions_before;
   closed = is.closed;
+  numbers = is.numbers;
   xids = is.xids;
   ready_xids = is.ready_xids;
   ready = is.ready;
+  idle = is.idle;
   up = is.up;
   down = is.down;
 }

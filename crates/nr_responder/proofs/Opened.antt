@@ -35,9 +35,11 @@ server_first opened = record {
   reads_before = tt;
   regions_before = tt;
   closed = tt;
+  numbers = tt;
   xids = tt;
   ready_xids = tt;
   ready = tt;
+  idle = λ e. refl;
   up = refl;
   down = refl;
 }

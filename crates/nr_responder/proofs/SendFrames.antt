@@ -23,7 +23,7 @@ use Rattle.nr_reduce.specs.Plans.{one_if}
 use Rattle.nr_reduce.specs.OfferedRegions.{Region}
 use Rattle.nr_reduce.specs.ServerState.{PendingCall, PendingRead, ReadyCall, ServerState, is_pending}
 use Rattle.nr_reduce.proofs.MemorySteps.{holds_later, received_later, offered_later}
-use Rattle.nr_responder.specs.Keeping.{OwnXids, OwnReady, IsReadyOf, IsInline, IsServer, LinkKeeps}
+use Rattle.nr_responder.specs.Keeping.{OwnNumbers, OwnXids, OwnReady, IsReadyOf, IsInline, IsServer, LinkKeeps}
 use Rattle.nr_responder.specs.ResponderState.{unsent}
 use Rattle.nr_responder.proofs.ServerSteps.{with_received, with_inline_call, ready_call, none_of_number, over_pushed}
 
@@ -169,9 +169,11 @@ part_server k place later payload le is = record {
   reads_before = is.reads_before;
   regions_before = is.regions_before;
   closed = is.closed;
+  numbers = is.numbers;
   xids = is.xids;
   ready_xids = is.ready_xids;
   ready = is.ready;
+  idle = is.idle;
   up = is.up;
   down = is.down;
 }
@@ -222,7 +224,7 @@ not_ready calls reads x (r ∷ ready) none h = by (not_ready calls reads x ready
     by others true is = absurd (let same : r.xid ≡ x = eqb-true r.xid x is in let two : true ≡ false = sym h.0.pending ∙ (ap (λ (y : ℕ). list_any (λ c. eqb c.xid y) calls) same ∙ none) in cc)
     by others false is = ap (λ (b : Bool). b || list_any (λ q. eqb q.xid x) ready) is ∙ others
 
-ready_pushed : (ready : List ReadyCall) (r : ReadyCall) → list_any (λ q. eqb q.xid r.xid) ready ≡ false → OwnReady ready → OwnReady (ready ++ r ∷ [])
+pub ready_pushed : (ready : List ReadyCall) (r : ReadyCall) → list_any (λ q. eqb q.xid r.xid) ready ≡ false → OwnReady ready → OwnReady (ready ++ r ∷ [])
 ready_pushed [] r none own = (refl, tt)
 ready_pushed (x ∷ ready) r none own = by (λ (n : list_any (λ q. eqb q.xid r.xid) ready ≡ false). ready_pushed ready r n own.1) (eqb x.xid r.xid) refl none
   where
@@ -234,7 +236,7 @@ own_pushed : (x n : ℕ) (calls : List PendingCall) (c : PendingCall) → (c.xid
 own_pushed x n [] c e h = (e, tt)
 own_pushed x n (y ∷ calls) c e h = (h.0, own_pushed x n calls c e h.1)
 
-no_call_lem : (x n : ℕ) (calls : List PendingCall) → list_any (λ d. eqb d.xid x) calls ≡ false → AllByRecursion (λ d. d.xid ≡ x → d.number ≡ n) calls
+pub no_call_lem : (x n : ℕ) (calls : List PendingCall) → list_any (λ d. eqb d.xid x) calls ≡ false → AllByRecursion (λ d. d.xid ≡ x → d.number ≡ n) calls
 no_call_lem x n [] none = tt
 no_call_lem x n (y ∷ calls) none = by (no_call_lem x n calls) (eqb y.xid x) refl none
   where
@@ -266,7 +268,7 @@ still_ready calls reads c (r ∷ ready) none h = (
   still_ready calls reads c ready none h.1,
 )
 
-ready_last : (P : ReadyCall → Type 0) (ready : List ReadyCall) (r : ReadyCall) → P r → AllByRecursion P ready → AllByRecursion P (ready ++ r ∷ [])
+pub ready_last : (P : ReadyCall → Type 0) (ready : List ReadyCall) (r : ReadyCall) → P r → AllByRecursion P ready → AllByRecursion P (ready ++ r ∷ [])
 ready_last P [] r p h = (p, tt)
 ready_last P (x ∷ ready) r p h = (h.0, ready_last P ready r p h.1)
 
@@ -278,6 +280,11 @@ payloads_told calls reads c stream (r ∷ ready) inline none known h = (
   payload_pushed r.xid r.payload calls c (λ e. absurd (let two : true ≡ false = sym known.0.pending ∙ (ap (λ (y : ℕ). list_any (λ d. eqb d.xid y) calls) (sym e) ∙ none) in cc)) h.0,
   payloads_told calls reads c stream ready inline none known.1 h.1,
 )
+
+numbers_pushed : (n : ℕ) (calls : List PendingCall) (c : PendingCall) → c.number ≡ n + 1 → AllByRecursion (λ x. x.number ≤ n) calls → OwnNumbers calls → OwnNumbers (calls ++ c ∷ [])
+numbers_pushed n [] c is h own = (refl, tt)
+numbers_pushed n (x ∷ calls) c is h own =
+    (none_more (λ (d : PendingCall). eqb d.number x.number) calls c own.0 (ne_eqb c.number x.number (λ e. (let le : x.number ≤ n = h.0 in omega (arith, e, is, le)))), numbers_pushed n calls c is h.1 own.1)
 
 pub told_server : (k : ServerState) (place later : ℕ) (c : PendingCall) (stream : List ℕ) → place ≤ later → c.number ≡ k.received.sends + 1 → is_pending k c.xid ≡ false → IsServer k place →
     IsServer (with_inline_call k (record { sends = k.received.sends + 1; begun = None; requests = k.received.requests }) c stream) later
@@ -292,6 +299,7 @@ told_server k place later c stream le own none is =
       reads_before = reads_later n (n + 1) k.reads (omega arith) is.reads_before;
       regions_before = regions_later n (n + 1) k.regions (omega arith) is.regions_before;
       closed = over_pushed k.calls c k.reads n k.regions own is.regions_before is.closed;
+      numbers = numbers_pushed n k.calls c own is.calls_before is.numbers;
       xids = xids_pushed k.calls c none is.xids;
       ready_xids = ready_pushed k.ready (ready_call c stream) (not_ready k.calls k.reads c.xid k.ready none is.ready) is.ready_xids;
       ready = ready_last (IsReadyOf (k.calls ++ c ∷ []) k.reads) k.ready (ready_call c stream)
@@ -301,6 +309,7 @@ told_server k place later c stream le own none is =
             read = ap (λ (b : Bool). not b) (let e : c.number ≡ n + 1 = own in ap (λ (m : ℕ). list_any (λ r. eqb r.number m) k.reads) e ∙ none_of_number n k.reads is.reads_before);
           })
           (still_ready k.calls k.reads c k.ready none is.ready);
+      idle = is.idle;
       up = is.up;
       down = is.down;
     }

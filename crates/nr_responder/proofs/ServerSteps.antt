@@ -39,7 +39,7 @@ closed_same test place (r ∷ regions) h = λ i. closed_one (test r) place r h.0
 
 -- ---- The state after an untagged frame
 
-none_new : {X : Type 0} (n : ℕ) (xs : List X) → drop (length (take n xs)) (take n xs) ≡ []
+pub none_new : {X : Type 0} (n : ℕ) (xs : List X) → drop (length (take n xs)) (take n xs) ≡ []
 none_new n xs = drop_all (length (take n xs)) (take n xs) (omega arith)
 
 abbrev pub with_received : ReceiveState → ServerState → ServerState

@@ -281,9 +281,11 @@ refused_server k place later message le is =
       reads_before = reads_later n (n + 1) k.reads (omega arith) is.reads_before;
       regions_before = regions_later n (n + 1) k.regions (omega arith) is.regions_before;
       closed = is.closed;
+      numbers = is.numbers;
       xids = is.xids;
       ready_xids = is.ready_xids;
       ready = is.ready;
+      idle = is.idle;
       up = is.up;
       down = is.down;
     }

@@ -21,7 +21,11 @@ use Rattle.nr_reduce.specs.ServerReads.{open_reads, is_read, is_over}
 use Rattle.nr_reduce.specs.StandingLaws.{StagsFrom}
 use Rattle.nr_responder.specs.ResponderState.{ResponderSide, unsent, end_of, queue, may_write}
 
--- no two pending calls have one xid, nor have two calls that are ready
+-- no two pending calls have one number, or one xid, nor have two calls that are ready one xid
+abbrev pub OwnNumbers : List PendingCall → Type 0
+OwnNumbers [] = Unit {0}
+OwnNumbers (c ∷ calls) = (list_any (λ d. d.number == c.number) calls ≡ false) × OwnNumbers calls
+
 abbrev pub OwnXids : List PendingCall → Type 0
 OwnXids [] = Unit {0}
 OwnXids (c ∷ calls) = (list_any (λ d. d.xid == c.xid) calls ≡ false) × OwnXids calls
@@ -51,9 +55,11 @@ pub record IsServer (k : ServerState) (place : ℕ) : Type 0 where
   pub reads_before : AllByRecursion (λ r. r.number ≤ k.received.sends) k.reads
   pub regions_before : AllByRecursion (λ r. r.call ≤ k.received.sends) k.regions
   pub closed : AllByRecursion (λ r. is_some r.until ≡ is_over k.calls k.reads r) k.regions
+  pub numbers : OwnNumbers k.calls
   pub xids : OwnXids k.calls
   pub ready_xids : OwnReady k.ready
   pub ready : AllByRecursion (IsReadyOf k.calls k.reads) k.ready
+  pub idle : k.reads ≡ [] → k.response_bytes ≡ 0
   pub up : k.up_max ≡ send_max
   pub down : k.down_max ≡ send_max
 

@@ -9,3 +9,4 @@ pub mod Sound
 pub mod Standing
 pub mod Steps
 pub mod Views
+pub mod private
