@@ -4,11 +4,12 @@ ghost use Rattle.nr_header.specs.Header.{ChunksFit};
 
 use crate::compare::{bytes_of, same};
 use nr_header::{
-    ChunkLists, InlineVec, ReadSegment, TransportError, header_len, lengths_of_headers,
+    ChunkLists, InlineVec, ListSlices, ReadSegment, TransportError, header_len, lengths_of_headers,
     read_list_len, reply_chunk_len, write_chunk_len, write_error, write_plain, write_with_lists,
+    write_with_slices,
 };
 use nr_nfs_base::StatusUnion;
-use nr_nfs_res::{ReadOkRef, write_read_res};
+use nr_nfs_res::{ReadOkRef, read_read_res, write_read_res};
 use nr_rpc::{CallTarget, Cred, write_call_head, write_call_of};
 use nr_xdr::RoomWriter;
 use std::alloc::Global;
@@ -48,6 +49,23 @@ fn results_of_read_with_borrowed_data(rt: HostRuntime) {
     );
 }
 
+/// How many bytes of data the results of READ have, if they are read.
+fn read_of(alloc: Global, bytes: &[u8]) -> Option<usize> {
+    match read_read_res(alloc, bytes) {
+        Ok(StatusUnion::Done(done)) => Some(done.bytes().len()),
+        _ => None,
+    }
+}
+
+// The same results, and without their data.
+#[test]
+fn results_of_read_are_borrowed(rt: HostRuntime) {
+    let bytes = bytes_of(&rt, rt.alloc(), &[0, 0, 2, 1, 2, 0x6869_0000]);
+    same(&rt, 0, read_of(rt.alloc(), bytes.as_slice()), Some(2));
+    let bytes = bytes_of(&rt, rt.alloc(), &[0, 0, 2, 1, 2]);
+    same(&rt, 1, read_of(rt.alloc(), bytes.as_slice()), None);
+}
+
 #[test]
 fn header_without_chunks(rt: HostRuntime) {
     let written = write_plain(rt.alloc(), 9, 16).expect(&rt, "memory");
@@ -79,18 +97,19 @@ fn error_messages(rt: HostRuntime) {
     }
 }
 
+const SEGMENT: ReadSegment = ReadSegment {
+    position: 8,
+    handle: 11,
+    length: 12,
+    offset: 0x0000_000d_0000_000e,
+};
+
 /// Lists with one read segment.
 fn one_segment(rt: &impl Abort, alloc: Global) -> ChunkLists
     ensures { ChunksFit result }
 {
-    let segment = ReadSegment {
-        position: 8,
-        handle: 11,
-        length: 12,
-        offset: 0x0000_000d_0000_000e,
-    };
     ChunkLists {
-        read: InlineVec::from_vec(vec![in alloc; segment; 1].expect(rt, "memory")),
+        read: InlineVec::from_vec(vec![in alloc; SEGMENT; 1].expect(rt, "memory")),
         write: InlineVec::new(),
         reply: None,
     }
@@ -121,10 +140,19 @@ fn lists_written(rt: &impl Abort, alloc: Global, long: bool) -> Vec<u8> {
     written.into_vec()
 }
 
+fn slices_written(rt: &impl Abort, alloc: Global, long: bool) -> Vec<u8> {
+    let slices = ListSlices::new(&[SEGMENT], &[], &None);
+    write_with_slices(alloc, 9, 16, long, slices)
+        .expect(rt, "memory")
+        .into_vec()
+}
+
 #[test]
 fn headers_with_lists(rt: HostRuntime) {
     for (row, (long, words)) in KINDS.iter().enumerate() {
         let got = lists_written(&rt, rt.alloc(), *long);
+        same(&rt, row, got, bytes_of(&rt, rt.alloc(), words));
+        let got = slices_written(&rt, rt.alloc(), *long);
         same(&rt, row, got, bytes_of(&rt, rt.alloc(), words));
     }
 }
