@@ -4,7 +4,7 @@ use crate::compare::same;
 use crate::given::{MOUNT, NFS, Payload, call_of, payload_of, put_text, put_words};
 use nr_reduce::{
     Item, Mismatch, Of, PayloadFault, call_item, cut, first_bytes, largest_reply, rebuild,
-    rebuild_in_place, rebuild_into, rebuild_undoes_cut, reducible_item,
+    rebuild_in_place, rebuild_into, rebuild_undoes_cut, reducible_item, reply_item_of, reply_parts,
 };
 use nr_xdr::Octets;
 use std::alloc::Global;
@@ -96,12 +96,27 @@ fn item_of_reply(call: [u32; 3], bytes: &[u8]) -> Option<Item> {
     reducible_item(&Of::Reply { prog, vers, proc }, bytes)
 }
 
+/// The item of a reply, by parts of which the head was read.
+fn item_of_read_reply(call: [u32; 3], bytes: &[u8]) -> Option<Item> {
+    let [prog, vers, proc] = call;
+    reply_item_of(prog, vers, proc, reply_parts(bytes)?)
+}
+
 #[test]
 fn items_of_replies(rt: HostRuntime) {
     for (row, (call, accepted, status, results, want)) in REPLIES.iter().enumerate() {
         let bytes = reply_of(&rt, rt.alloc(), *accepted, *status, results);
         same(&rt, row, item_of_reply(*call, &bytes), *want);
     }
+}
+
+// The first row of the table, and no reply.
+#[test]
+fn items_of_replies_with_their_heads(rt: HostRuntime) {
+    let bytes = reply_of(&rt, rt.alloc(), 0, 0, &[5, 1]);
+    let got = item_of_read_reply([NFS, 3, READ], &bytes);
+    same(&rt, 0, got, Some(Item { pos: 128, len: 5 }));
+    same(&rt, 1, item_of_read_reply([NFS, 3, READ], &[]), None);
 }
 
 /// WRITE of HELLO to file 2 at offset 0, before its data.
