@@ -9,6 +9,7 @@ use Rattle.nr_tree.specs.Steps.{IsFreeTarget, CanAddLink, CanRemoveEntry, CanRen
 use Rattle.nr_tree.specs.Changes.{entry_at}
 use Rattle.nr_tree.specs.Drill.{IsDrill, hello, link}
 use Rattle.nr_tree.specs.declared.node.Node.{Node}
+use Rattle.nr_tree.specs.DirectoryGraph.{links_max}
 
 abbrev bye : List ℕ
 bye = 98 ∷ 121 ∷ 101 ∷ []
@@ -69,7 +70,7 @@ module _ (t : Tree) (is : IsDrill t) where
     free = record { free = free; not_empty = omega arith; not_too_long = omega arith };
     live = ap (λ (o : Option Node). option_map_or (λ (node : Node). true) o false) is.hello_file;
     file = file;
-    links = subst (λ (k : ℕ). k < 65535) (sym (ap (λ (o : Option Node). option_map_or (λ (node : Node). node.metadata.links) o 0) is.hello_file)) (omega arith);
+    links = subst (λ (k : ℕ). k < links_max) (sym (ap (λ (o : Option Node). option_map_or (λ (node : Node). node.metadata.links) o 0) is.hello_file)) (omega arith);
   }
 
   pub can_write : is_regular_at t 2 ≡ true
