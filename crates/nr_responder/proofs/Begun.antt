@@ -1,22 +1,25 @@
 -- A message with a call whose stream stands in it: what the code did is what is said of it.
-use Rattle.std.proofs.Common.{◌≡◌, ℕ, List, [], ◌∷◌, ◌++◌, length, map, Some, None, Result, Ok, Err, refl, ap, ◌∙◌, ◌≤◌, arith, inl, inr}
+use Rattle.std.proofs.Common.{◌≡◌, ℕ, List, [], ◌∷◌, ◌++◌, length, map, drop, Some, None, Result, Ok, Err, refl, ap, subst, ◌∙◌, ◌≤◌, arith, inl, inr}
 use Rattle.std.specs.Prelude.{◌⊎◌}
 use Rattle.nr_xdr.specs.Fields.{word_at}
 use Rattle.nr_rpc.specs.declared.head.CallHead.{CallHead}
 use Rattle.nr_rpc.specs.declared.head.CallHead.TheVariants as calls
 use Rattle.nr_rpc.specs.Reading.{call_of, xid_of_call, head_xid}
-use Rattle.nr_link.specs.Reasons.{REASON_STAGS}
+use Rattle.nr_header.specs.declared.header.ChunkLists.{ChunkLists}
+use Rattle.nr_link.specs.Reasons.{REASON_HEAD, REASON_STAGS, REASON_XID}
 use Rattle.std.proofs.lemmas.List.{map-append}
 use Rattle.nr_endpoint.specs.EndpointState.{EndpointState}
 use Rattle.nr_endpoint.specs.LinkState.{LinkSide}
-use Rattle.nr_endpoint.specs.Calls.{after_call}
-use Rattle.nr_endpoint.specs.Calls.Call.{OutOfMemory}
+use Rattle.nr_endpoint.specs.Calls.{after_call, IsStopReason}
+use Rattle.nr_endpoint.specs.Calls.Call.{OutOfMemory, Stop}
 use Rattle.nr_reduce.specs.Holds.{chunk_error}
 use Rattle.nr_reduce.specs.OfferedRegions.{Region}
 use Rattle.nr_reduce.specs.ServerState.{ServerState, next_stag}
 use Rattle.nr_reduce.specs.ServerMessages.{call_xid}
 use Rattle.nr_responder.specs.ResponderState.{ResponderSide}
-use Rattle.nr_responder.specs.Handling.{on_link, with_ready, OrOut, IsServerOf, MessageTakes}
+use Rattle.nr_responder.specs.Handling.{on_link, with_ready, OrOut, IsServerOf, MessageTakes, Begins, ReadsXid}
+use Rattle.nr_responder.specs.Handling.Begins.{NoCall, OtherXid, IsReady}
+use Rattle.nr_responder.specs.Handling.ReadsXid.{ReadsNoCall, ReadsOther, ReadsOwn}
 use Rattle.nr_responder.specs.Handling.MessageTakes.{EndsFor, ErrorFor, ReadsFor}
 use Rattle.nr_responder.specs.declared.call.Pending.{Pending}
 use Rattle.nr_responder.specs.declared.server_end.ServerEnd.{ServerEnd}
@@ -71,3 +74,28 @@ pushed_view r s call endpoint credits calls ready = λ i. record {
   ready = ready i;
   credits = credits i;
 }
+
+-- ---- The xid of a call, or why the link ends
+
+pub stops_as : (message : List ℕ) (stream_at reason : ℕ) → ReadsXid message stream_at (Err reason) → IsStopReason reason
+stops_as message stream_at reason (ReadsNoCall at e is) = inr (inl (let same : reason ≡ REASON_HEAD = cc in same))
+stops_as message stream_at reason (ReadsOther head e other is) = inr (inr (inl (let same : reason ≡ REASON_XID = cc in same)))
+stops_as message stream_at reason (ReadsOwn head e own is) = absurd cc
+
+pub ends_as : (v : ResponderSide) (number reason : ℕ) (message : List ℕ) (lists : ChunkLists) (stream_at : ℕ) (m : LinkSide) → ReadsXid message stream_at (Err reason) →
+    (m ≡ after_call v.link (Stop reason)) ⊎ (m ≡ after_call v.link OutOfMemory) → Begins v (on_link v m) number message lists stream_at
+ends_as v number reason message lists stream_at m (ReadsNoCall at e is) link =
+    let same : reason ≡ REASON_HEAD = cc in
+    NoCall at e (or_out v _ m (subst (λ (x : ℕ). (m ≡ after_call v.link (Stop x)) ⊎ (m ≡ after_call v.link OutOfMemory)) same link))
+ends_as v number reason message lists stream_at m (ReadsOther head e other is) link =
+    let same : reason ≡ REASON_XID = cc in
+    OtherXid head e other (or_out v _ m (subst (λ (x : ℕ). (m ≡ after_call v.link (Stop x)) ⊎ (m ≡ after_call v.link OutOfMemory)) same link))
+ends_as v number reason message lists stream_at m (ReadsOwn head e own is) link = absurd cc
+
+pub begins_as : (v w : ResponderSide) (number xid : ℕ) (message : List ℕ) (lists : ChunkLists) (stream_at : ℕ) → ReadsXid message stream_at (Ok xid) →
+    w ≡ with_ready v v.link (record { number = number; xid = xid; lists = lists; inline = Some (drop stream_at message) }) → Begins v w number message lists stream_at
+begins_as v w number xid message lists stream_at (ReadsNoCall at e is) pushed = absurd cc
+begins_as v w number xid message lists stream_at (ReadsOther head e other is) pushed = absurd cc
+begins_as v w number xid message lists stream_at (ReadsOwn head e own is) pushed =
+    let same : xid ≡ word_at 0 message = cc in
+    IsReady head e own (pushed ∙ ap (λ (x : ℕ). with_ready v v.link (record { number = number; xid = x; lists = lists; inline = Some (drop stream_at message) })) same)

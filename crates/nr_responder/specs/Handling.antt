@@ -1,5 +1,5 @@
 -- What a responder makes of a message that its side of the link delivered.
-use Rattle.std.specs.Prelude.{◌≡◌, ◌≢◌, ℕ, ◌+◌, ◌≤◌, List, [], ◌∷◌, ◌++◌, drop, Option, Some, Ok, Err, ◌⊎◌, true, false}
+use Rattle.std.specs.Prelude.{◌≡◌, ◌≢◌, ℕ, ◌+◌, ◌≤◌, List, [], ◌∷◌, ◌++◌, drop, Option, Some, Result, Ok, Err, ◌⊎◌, true, false}
 use Rattle.nr_header.specs.declared.header.RdmaSegment.{RdmaSegment}
 use Rattle.nr_header.specs.declared.header.ChunkLists.{ChunkLists}
 use Rattle.nr_xdr.specs.Fields.{word_at}
@@ -51,6 +51,12 @@ pub record IsServerOf (k : ServerState) (v : ResponderSide) : Type 0 where
 
 abbrev pub begun_call : (number : ℕ) → List ℕ → ChunkLists → ℕ → PendingCall
 begun_call number message lists stream_at = record { number = number; xid = word_at 0 message; lists = lists; inline = Some (drop stream_at message) }
+
+-- the xid of a call whose stream stands in its message, or why the link ends
+pub data ReadsXid (message : List ℕ) (stream_at : ℕ) (result : Result ℕ ℕ) : Type 0 where
+  ReadsNoCall : (at : ℕ) → call_of (drop stream_at message) ≡ Err at → result ≡ Err REASON_HEAD → ReadsXid message stream_at result
+  ReadsOther : (head : CallHead) → call_of (drop stream_at message) ≡ Ok head → call_xid head ≢ word_at 0 message → result ≡ Err REASON_XID → ReadsXid message stream_at result
+  ReadsOwn : (head : CallHead) → call_of (drop stream_at message) ≡ Ok head → call_xid head ≡ word_at 0 message → result ≡ Ok (word_at 0 message) → ReadsXid message stream_at result
 
 -- of one with a call whose stream stands in it
 pub data Begins (before after : ResponderSide) (number : ℕ) (message : List ℕ) (lists : ChunkLists) (stream_at : ℕ) : Type 0 where

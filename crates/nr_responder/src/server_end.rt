@@ -24,7 +24,7 @@ ghost use Rattle.nr_outside.specs.declared.moment.Moment.{Moment};
 ghost use Rattle.nr_reduce.specs.Served.{next_call, IsExecuted};
 ghost use Rattle.nr_responder.specs.Answering.{Answers};
 ghost use Rattle.nr_responder.specs.Draining.{Drains};
-ghost use Rattle.nr_responder.specs.Handling.{Begins, IsTaken, Makes};
+ghost use Rattle.nr_responder.specs.Handling.{Begins, IsTaken, Makes, ReadsXid};
 ghost use Rattle.nr_responder.specs.ResponderState.{end_of, opened_side, posted_times, may_write, KeepsStaging};
 ghost use Rattle.nr_responder.specs.Sound.{state_of, with_staging, AreSound, InBuffer, IsNext, IsSound, IsSoundWith, SameInput};
 ghost use Rattle.nr_responder.specs.Standing.{Stands};
@@ -54,6 +54,24 @@ pub struct ServerEnd {
     pub(crate) used: VecDeque<Octets>,
     pub(crate) credits: u32,
     pub(crate) alloc: Global,
+}
+
+/// The xid of a call whose stream stands in its message, or the reason for which the link ends.
+fn own_xid(buf: &Octets, len: usize, stream_at: usize) -> Result<u32, u32>
+    requires len { (FIXED_LEN ≤ len) × (len ≤ length buf.now) }
+    requires stream { stream_at ≤ len }
+    ensures xid { ReadsXid (take len buf.now) stream_at result }
+{
+    let xid = word_at(stream_of(buf, len, 0), 0);
+    match call_xid(stream_of(buf, len, stream_at)) {
+        None => Err(REASON_HEAD),
+        Some(found) => {
+            if found != xid {
+                return Err(REASON_XID);
+            }
+            Ok(xid)
+        }
+    }
 }
 
 /// Ends a side for a reason that a message gives, or because memory ran out for its Terminate.
@@ -349,23 +367,16 @@ impl ServerEnd {
         ensures staging { self.new.endpoint.staging ≡ self.old.endpoint.staging }
         ensures outside { self.new.endpoint.outside ≡ self.old.endpoint.outside }
     {
-        let xid = word_at(stream_of(&buf, len, 0), 0);
-        match call_xid(stream_of(&buf, len, stream_at)) {
-            None => stop(&mut self.endpoint, REASON_HEAD),
-            Some(found) => {
-                if found != xid {
-                    stop(&mut self.endpoint, REASON_XID);
-                    return;
-                }
-                self.push(Pending {
-                    number,
-                    xid,
-                    lists,
-                    buf,
-                    len,
-                    stream_at,
-                });
-            }
+        match own_xid(&buf, len, stream_at) {
+            Err(reason) => stop(&mut self.endpoint, reason),
+            Ok(xid) => self.push(Pending {
+                number,
+                xid,
+                lists,
+                buf,
+                len,
+                stream_at,
+            }),
         }
     }
 
