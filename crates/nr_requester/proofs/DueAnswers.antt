@@ -14,7 +14,7 @@ use Rattle.nr_reduce.proofs.Standing.{itself}
 -- ---- Elements
 
 -- an element, part by part
-abbrev Among : {X : Type 0} → X → List X → Type 0
+abbrev pub Among : {X : Type 0} → X → List X → Type 0
 Among x [] = ⊥
 Among x (y ∷ ys) = (y ≡ x) ⊎ Among x ys
 
@@ -24,7 +24,7 @@ here x xs = Contains-append_left (x ∷ []) xs x (0, omega arith, refl)
 no_element : {X : Type 0} (x : X) → Contains [] x → ⊥
 no_element x h = (let lt = h.1 in absurd (omega arith))
 
-from_among : {X : Type 0} (x : X) (xs : List X) → Among x xs → Contains xs x
+pub from_among : {X : Type 0} (x : X) (xs : List X) → Among x xs → Contains xs x
 from_among x [] h = absurd h
 from_among x (y ∷ ys) (inl e) = subst (λ z. Contains (y ∷ ys) z) e (here y ys)
 from_among x (y ∷ ys) (inr h) = Contains-append_right (y ∷ []) ys x (from_among x ys h)
@@ -32,7 +32,7 @@ from_among x (y ∷ ys) (inr h) = Contains-append_right (y ∷ []) ys x (from_am
 one_element : {X : Type 0} (x y : X) → Contains (y ∷ []) x → y ≡ x
 one_element x y h = elim (Contains-push_cases [] y x h) [ inl none ↦ absurd (no_element x none) | inr e ↦ e ]
 
-to_among : {X : Type 0} (x : X) (xs : List X) → Contains xs x → Among x xs
+pub to_among : {X : Type 0} (x : X) (xs : List X) → Contains xs x → Among x xs
 to_among x [] h = absurd (no_element x h)
 to_among x (y ∷ ys) h = elim (Contains-append_cases (y ∷ []) ys x h) [
   | inl g ↦ inl (one_element x y g)
@@ -40,7 +40,7 @@ to_among x (y ∷ ys) h = elim (Contains-append_cases (y ∷ []) ys x h) [
 ]
 
 module _ (p : CompletedCall → Bool) where
-  in_filter : (c : CompletedCall) (cs : List CompletedCall) → Among c cs → p c ≡ true → Among c (filter p cs)
+  pub in_filter : (c : CompletedCall) (cs : List CompletedCall) → Among c cs → p c ≡ true → Among c (filter p cs)
   in_filter c [] h e = absurd h
   in_filter c (x ∷ cs) (inl is) e = subst (λ (b : Bool). Among c (cond b (x ∷ filter p cs) (filter p cs))) (sym (ap p is ∙ e)) (inl is)
   in_filter c (x ∷ cs) (inr h) e = by (p x) (in_filter c cs h e)
@@ -49,7 +49,7 @@ module _ (p : CompletedCall → Bool) where
       by true rest = inr rest
       by false rest = rest
 
-  of_filter : (c : CompletedCall) (cs : List CompletedCall) → Among c (filter p cs) → Among c cs × (p c ≡ true)
+  pub of_filter : (c : CompletedCall) (cs : List CompletedCall) → Among c (filter p cs) → Among c cs × (p c ≡ true)
   of_filter c [] h = absurd h
   of_filter c (x ∷ cs) h = by (p x) refl (λ g. of_filter c cs g) h
     where

@@ -133,7 +133,7 @@ found_by next xid calls (a ∷ answers) h there = by (eqb a.xid xid) refl (λ e.
 pub answered_below : (next xid : ℕ) (calls : List OutstandingCall) (answers : List AnsweredCall) → AllByRecursion (IsAnswered next calls) answers → is_some (answer_with xid answers) ≡ true → xid < next
 answered_below next xid calls answers h there = found_by next xid calls answers h there
 
-found_own : (xid : ℕ) (answers : List AnsweredCall) (a : AnsweredCall) → answer_with xid answers ≡ Some a → a.xid ≡ xid
+pub found_own : (xid : ℕ) (answers : List AnsweredCall) (a : AnsweredCall) → answer_with xid answers ≡ Some a → a.xid ≡ xid
 found_own xid [] a there = absurd (let wrong : none_of a ≡ some_of a = there in cc)
 found_own xid (b ∷ answers) a there = by (eqb b.xid xid) refl (λ e. found_own xid answers a e) there
   where

@@ -40,3 +40,4 @@ pub mod RegionBounds
 pub mod OutsideBounds
 pub mod HeldBounds
 pub mod Lost
+pub mod OpenTickets

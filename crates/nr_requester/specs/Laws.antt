@@ -1,8 +1,10 @@
 -- A requester stands for the marks of its link: each call of its owner is one mark more.
-use Rattle.std.specs.Prelude.{◌≡◌, ◌≢◌, ℕ, ◌^◌, ◌<◌, ◌≤◌, ◌||◌, Bool, List, [], ◌∷◌, ◌++◌, false, length, map, take, None, Ok, ◌==◌}
+use Rattle.std.specs.Prelude.{true, ◌≡◌, ◌≢◌, ℕ, ◌^◌, ◌<◌, ◌≤◌, ◌||◌, Bool, List, [], ◌∷◌, ◌++◌, false, length, map, take, None, Ok, ◌==◌, is_some, Some}
 use Rattle.std.specs.List.{AllByRecursion, Contains, list_any}
 use Rattle.nr_wire.specs.declared.hello.Side.TheVariants.{Initiator, Responder}
+use Rattle.nr_link.specs.declared.end.End.{End}
 use Rattle.nr_link.specs.declared.end.End.TheVariants as ends
+use Rattle.nr_requester.specs.declared.answer.AnsweredCall.{AnsweredCall}
 use Rattle.nr_reduce.specs.declared.call.Call.{Call}
 use Rattle.nr_reduce.specs.declared.call.Form.{Form}
 use Rattle.nr_reduce.specs.declared.call.Refused.{Refused}
@@ -30,7 +32,7 @@ use Rattle.nr_requester.specs.AfterCalls.{opened_as, after_submit, after_drain, 
 use Rattle.nr_requester.specs.AfterPiece.{after_piece, RanOut}
 use Rattle.nr_requester.specs.Answers.{answer_of, plan_under}
 use Rattle.nr_requester.specs.Buffers.{bytes_of_buffers}
-use Rattle.nr_requester.specs.OpenCalls.{IsOutstanding, buffers_of}
+use Rattle.nr_requester.specs.OpenCalls.{IsOutstanding, open_call, found_answer, buffers_of}
 
 abbrev pub Begins : Type 0
 Begins = (opened : LinkParameters) (link : ℕ) → RequesterRepresents opened link (opened_as opened.first_xid opened.first_stag opened.wished) []
@@ -200,3 +202,26 @@ RevokeKeepsLaw = (opened : LinkParameters) (link : ℕ) (h : RequesterSide) (run
 abbrev pub RevokedOut : Type 0
 RevokedOut = (opened : LinkParameters) (link : ℕ) (h : RequesterSide) (stopped run : List Mark) (xid : ℕ) → RequesterRunsOut opened link h stopped run → IsOutstanding xid h.state →
     bytes_of_buffers (buffers_of xid h.state) ≡ revoked_bytes opened link run xid
+
+-- ---- An answer that is taken or given up
+
+-- A ticket that is open is that of an awaited call, also of one that ran out of memory.
+abbrev pub OpenIsAwaited : Type 0
+OpenIsAwaited = (opened : LinkParameters) (link : ℕ) (h : RequesterSide) (run : List Mark) (xid : ℕ) → RequesterRepresents opened link h run → is_some (open_call xid h.state) ≡ true → IsAwaited link run xid
+
+abbrev pub OpenOut : Type 0
+OpenOut = (opened : LinkParameters) (link : ℕ) (h : RequesterSide) (stopped run : List Mark) (xid : ℕ) → RequesterRunsOut opened link h stopped run → is_some (open_call xid h.state) ≡ true → IsAwaited link run xid
+
+-- So the law is kept by a call whose ticket is open and that is forgotten, by the outcome of an answer that is handed over,
+abbrev pub ForgetKeepsLaw : Type 0
+ForgetKeepsLaw = (opened : LinkParameters) (link : ℕ) (h : RequesterSide) (run : List Mark) (xid : ℕ) → RequesterRepresents opened link h run → is_some (open_call xid h.state) ≡ true → AskedSoFar opened link run → KeepsGrant opened link run →
+    AskedSoFar opened link (run ++ marks.Forget link xid ∷ []) × KeepsGrant opened link (run ++ marks.Forget link xid ∷ [])
+
+abbrev pub DoneKeepsLaw : Type 0
+DoneKeepsLaw = (opened : LinkParameters) (link : ℕ) (h : RequesterSide) (run : List Mark) (xid : ℕ) (a : AnsweredCall) → RequesterRepresents opened link h run → found_answer xid h.state ≡ Some a → AskedSoFar opened link run → KeepsGrant opened link run →
+    AskedSoFar opened link (run ++ marks.Done link xid a.outcome ∷ []) × KeepsGrant opened link (run ++ marks.Done link xid a.outcome ∷ [])
+
+-- and by a call that is lost: its link has ended, and it has no answer.
+abbrev pub LostKeepsLaw : Type 0
+LostKeepsLaw = (opened : LinkParameters) (link : ℕ) (h : RequesterSide) (run : List Mark) (xid : ℕ) (end : End) → RequesterRepresents opened link h run → h.state.side.ended ≡ Some end → is_some (open_call xid h.state) ≡ true → found_answer xid h.state ≡ None →
+    AskedSoFar opened link run → KeepsGrant opened link run → AskedSoFar opened link (run ++ marks.Lost link xid ∷ []) × KeepsGrant opened link (run ++ marks.Lost link xid ∷ [])

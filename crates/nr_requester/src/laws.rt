@@ -1,6 +1,6 @@
 //! Laws of a requester.
 
-ghost use Rattle.nr_requester.specs.Laws.{Begins, AnswersAsClient, CountsAsClient, SubmitIsAMark, PieceIsAMark, PieceRunsOut, DrainIsAMark, RevokeIsAMark, RevokeStaysOut, ForgetIsAMark, DoneIsAMark, AnswersAreDue, OthersLeaveIt, MemoryAsClient, MemoryOut, CountsOut, RefusesOut, PieceStaysOut, OthersStayOut, LawBegins, OthersKeepLaw, RevokeKeepsLaw, RevokedOut, SubmitKeepsLaw, DrainKeepsLaw, DrainOutKeepsLaw, QueueIsAllDue, RefusedKeepsLaw, PieceKeepsLaw, DrainKeepsGrant};
+ghost use Rattle.nr_requester.specs.Laws.{Begins, AnswersAsClient, CountsAsClient, SubmitIsAMark, PieceIsAMark, PieceRunsOut, DrainIsAMark, RevokeIsAMark, RevokeStaysOut, ForgetIsAMark, DoneIsAMark, AnswersAreDue, OthersLeaveIt, MemoryAsClient, MemoryOut, CountsOut, RefusesOut, PieceStaysOut, OthersStayOut, LawBegins, OthersKeepLaw, RevokeKeepsLaw, RevokedOut, SubmitKeepsLaw, DrainKeepsLaw, DrainOutKeepsLaw, QueueIsAllDue, RefusedKeepsLaw, PieceKeepsLaw, DrainKeepsGrant, OpenIsAwaited, OpenOut, ForgetKeepsLaw, DoneKeepsLaw, LostKeepsLaw};
 
 /// A requester stands for the marks of its link, from its opening on: what it keeps is what the client of the run asks for, and what it may
 /// write is what is due and not yet written. It answers a call as that client does, and knows how many calls are outstanding
@@ -29,7 +29,7 @@ pub fn requesters_stand_for_marks()
 {}
 
 /// A requester keeps the law of its side, so far, and the last grant, from no marks on: by a call that it accepts or refuses, a piece that
-/// it is fed, a drain, also if it ran out of memory, a revoke of an outstanding call, and each mark of others. All that it may write is all that is due.
+/// it is fed, a drain, also if it ran out of memory, a revoke of an outstanding call, an answer that is taken or given up, and each mark of others. All that it may write is all that is due.
 pub fn requesters_keep_their_law()
     ensures begins { LawBegins }
     ensures others { OthersKeepLaw }
@@ -42,4 +42,9 @@ pub fn requesters_keep_their_law()
     ensures drain_grant { DrainKeepsGrant }
     ensures revoke { RevokeKeepsLaw }
     ensures revoked_out { RevokedOut }
+    ensures awaited { OpenIsAwaited }
+    ensures awaited_out { OpenOut }
+    ensures forget { ForgetKeepsLaw }
+    ensures done { DoneKeepsLaw }
+    ensures lost { LostKeepsLaw }
 {}

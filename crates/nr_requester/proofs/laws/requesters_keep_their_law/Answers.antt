@@ -1,5 +1,6 @@
 use Rattle.nr_requester.proofs.OwnLaw.{law_begins, others_keep_law, submit_keeps_law, drain_keeps_law, drain_out_keeps_law, queue_is_all_due, refused_keeps_law, piece_keeps_law, drain_keeps_grant}
 use Rattle.nr_requester.proofs.RevokedBytes.{revoke_keeps_law, revoked_out_lem}
+use Rattle.nr_requester.proofs.OpenTickets.{open_is_awaited, open_out, forget_keeps_law, done_keeps_law, lost_keeps_law}
 use Rattle.nr_requester.proofs.laws.requesters_keep_their_law.Goals as goal
 
 pub returns-clause-submit : goal.returns-clause-submit
@@ -34,3 +35,18 @@ returns-clause-revoke c = revoke_keeps_law
 
 pub returns-clause-revoked_out : goal.returns-clause-revoked_out
 returns-clause-revoked_out c = revoked_out_lem
+
+pub returns-clause-awaited : goal.returns-clause-awaited
+returns-clause-awaited c = open_is_awaited
+
+pub returns-clause-awaited_out : goal.returns-clause-awaited_out
+returns-clause-awaited_out c = open_out
+
+pub returns-clause-forget : goal.returns-clause-forget
+returns-clause-forget c = forget_keeps_law
+
+pub returns-clause-done : goal.returns-clause-done
+returns-clause-done c = done_keeps_law
+
+pub returns-clause-lost : goal.returns-clause-lost
+returns-clause-lost c = lost_keeps_law

@@ -1,0 +1,182 @@
+-- A ticket that is open is that of an awaited call; and the law of a requester's side with the marks of an answer that is taken or given up.
+use Rattle.std.proofs.Common.{◌≡◌, ◌≢◌, ℕ, inl, inr, Bool, true, false, cond, not, ◌||◌, eqb, List, [], ◌∷◌, map, Option, None, Some, is_some, IfSome, refl, sym, ap, subst, ◌∙◌}
+use Rattle.std.specs.List.{AllByRecursion, filter, find, list_any}
+use Rattle.std.proofs.lemmas.Bool.{eq-eqb, ne_eqb}
+use Rattle.nr_reduce.specs.declared.call.Call.{Call}
+use Rattle.nr_reduce.specs.declared.mark.LinkParameters.{LinkParameters}
+use Rattle.nr_reduce.specs.declared.mark.Mark.{Mark}
+use Rattle.nr_reduce.specs.declared.mark.Mark.TheVariants as marks
+use Rattle.nr_reduce.specs.History.{CompletedCall, accepted_calls, completed_calls, is_abandoned}
+use Rattle.nr_reduce.specs.OutcomesDue.{is_completed}
+use Rattle.nr_reduce.specs.Run.{client}
+use Rattle.nr_reduce.specs.Matched.{IsPrefixOf}
+use Rattle.nr_reduce.specs.Asked.{AskedMark, IsAwaited, IsCompleted, IsLost}
+use Rattle.nr_reduce.specs.Credits.{WithinGrant}
+use Rattle.nr_reduce.proofs.Standing.{AtEachMark_more}
+use Rattle.nr_requester.specs.declared.answer.AnsweredCall.{AnsweredCall}
+use Rattle.nr_requester.specs.RequesterState.{StoredCall, RequesterSide, awaited_call}
+use Rattle.nr_requester.specs.KeptAnswers.{is_due, completed_of, IsAsked}
+use Rattle.nr_requester.specs.Standing.{AnswersAfter}
+use Rattle.nr_requester.specs.OpenCalls.{call_with, open_call, found_call, found_answer}
+use Rattle.nr_requester.specs.Laws.{OpenIsAwaited, OpenOut, ForgetKeepsLaw, DoneKeepsLaw, LostKeepsLaw}
+use Rattle.nr_requester.proofs.DueAnswers.{Among, from_among, to_among, in_filter, of_filter}
+use Rattle.nr_requester.proofs.FoundAnswers.{found_own}
+use Rattle.nr_requester.proofs.FoundCalls.{found_one, found_xid}
+
+-- ---- What is due
+
+due_parts : (a b : Bool) → not (a || b) ≡ true → (a ≡ false) × (b ≡ false)
+due_parts true b e = absurd cc
+due_parts false true e = absurd cc
+due_parts false false e = (refl, refl)
+
+none_completed : (xid : ℕ) (cs : List CompletedCall) → list_any (λ c. eqb c.xid xid) cs ≡ false → (c : CompletedCall) → Among c cs → c.xid ≢ xid
+none_completed xid [] none c there e = absurd there
+none_completed xid (x ∷ cs) none c there e = by (eqb x.xid xid) refl (λ f g. none_completed xid cs f c g e) none there
+  where
+    by : (b : Bool) → eqb x.xid xid ≡ b → (list_any (λ c. eqb c.xid xid) cs ≡ false → Among c cs → ⊥) → (b || list_any (λ c. eqb c.xid xid) cs) ≡ false → Among c (x ∷ cs) → ⊥
+    by true is rest f g = absurd cc
+    by false is rest f (inl same) = absurd (let wrong : true ≡ false = sym (eq-eqb x.xid xid (ap (λ (y : CompletedCall). y.xid) same ∙ e)) ∙ is in cc)
+    by false is rest f (inr g) = rest f g
+
+awaited_from : (link : ℕ) (run : List Mark) (xid : ℕ) (call : Call) → IsAsked (accepted_calls link run) xid call → is_due link run xid ≡ true → IsAwaited link run xid
+awaited_from link run xid call asked due =
+    let d = due_parts (is_abandoned link xid run) (is_completed link xid run) due in
+    record {
+      asked = record { xid = xid; call = call; form = asked.0 };
+      is_asked = asked.1;
+      own = refl;
+      first = λ c there e. none_completed xid (completed_calls link run) d.1 c (to_among c (completed_calls link run) there) e;
+      kept = d.0;
+    }
+
+-- ---- The answers
+
+abbrev or_answer : AnsweredCall → Option AnsweredCall → AnsweredCall
+or_answer a None = a
+or_answer a (Some b) = b
+
+abbrev none_of : AnsweredCall → Option AnsweredCall
+none_of a = None
+
+abbrev some_of : AnsweredCall → Option AnsweredCall
+some_of a = Some a
+
+answer_one : (P : AnsweredCall → Type 0) (xid : ℕ) (a : AnsweredCall) (answers : List AnsweredCall) → AllByRecursion P answers → find (λ (b : AnsweredCall). eqb b.xid xid) answers ≡ Some a → P a
+answer_one P xid a [] h there = absurd (let wrong : none_of a ≡ some_of a = there in cc)
+answer_one P xid a (b ∷ answers) h there = by (eqb b.xid xid) (λ e. answer_one P xid a answers h.1 e) there
+  where
+    by : (t : Bool) → (find (λ (b : AnsweredCall). eqb b.xid xid) answers ≡ Some a → P a) → cond t (Some b) (find (λ (b : AnsweredCall). eqb b.xid xid) answers) ≡ Some a → P a
+    by true rest e = subst P (ap (or_answer b) e) h.0
+    by false rest e = rest e
+
+all_filtered : (p : CompletedCall → Bool) (cs : List CompletedCall) → AllByRecursion (λ c. (p c ≡ true) × Among c cs) (filter p cs)
+all_filtered p cs = all_of (filter p cs) (λ c there. (let o = of_filter p c cs there in (o.1, o.0)))
+  where
+    all_of : (xs : List CompletedCall) → ((c : CompletedCall) → Among c xs → (p c ≡ true) × Among c cs) → AllByRecursion (λ c. (p c ≡ true) × Among c cs) xs
+    all_of [] f = tt
+    all_of (x ∷ xs) f = (f x (inl refl), all_of xs (λ c there. f c (inr there)))
+
+all_mapped : (P : CompletedCall → Type 0) (answers : List AnsweredCall) → AllByRecursion P (map completed_of answers) → AllByRecursion (λ (a : AnsweredCall). P (completed_of a)) answers
+all_mapped P [] h = tt
+all_mapped P (a ∷ answers) h = (h.0, all_mapped P answers h.1)
+
+-- each has an outcome that is due
+answers_due : (opened : LinkParameters) (link : ℕ) (h : RequesterSide) (run : List Mark) → AnswersAfter opened link h run →
+    AllByRecursion (λ (a : AnsweredCall). (is_due link run a.xid ≡ true) × Among (completed_of a) (client opened link run).state.outcomes) h.state.answered
+unfolding client
+answers_due opened link h run k =
+    all_mapped (λ c. (is_due link run c.xid ≡ true) × Among c (client opened link run).state.outcomes) h.state.answered
+    (subst (λ (cs : List CompletedCall). AllByRecursion (λ c. (is_due link run c.xid ≡ true) × Among c (client opened link run).state.outcomes) cs) (sym k.outcomes)
+    (all_filtered (λ (c : CompletedCall). is_due link run c.xid) (client opened link run).state.outcomes))
+
+-- ---- An open ticket
+
+abbrev no_call : Option Call
+no_call = None
+
+forgotten_none : (b : Bool) → is_some (cond b no_call no_call) ≡ false
+forgotten_none true = refl
+forgotten_none false = refl
+
+asked_by : (asked : Call → Type 0) (b : Bool) (call : Option Call) → IfSome call asked → is_some (cond b no_call call) ≡ true → (c : Call) × asked c
+asked_by asked b None h e = absurd (let wrong : true ≡ false = sym e ∙ forgotten_none b in cc)
+asked_by asked b (Some c) h e = (c, h)
+
+open_awaits : (opened : LinkParameters) (link : ℕ) (h : RequesterSide) (run : List Mark) (xid : ℕ) → AnswersAfter opened link h run → is_some (open_call xid h.state) ≡ true → IsAwaited link run xid
+open_awaits opened link h run xid k is_open = by (found_call xid h.state) (found_answer xid h.state) refl refl is_open
+  where
+    by : (c : Option StoredCall) (a : Option AnsweredCall) → found_call xid h.state ≡ c → found_answer xid h.state ≡ a → is_some (call_with c a) ≡ true → IsAwaited link run xid
+    by None None there answer e = absurd cc
+    by None (Some a) there answer e =
+        let due = answer_one (λ (a : AnsweredCall). (is_due link run a.xid ≡ true) × Among (completed_of a) (client opened link run).state.outcomes) xid a h.state.answered (answers_due opened link h run k) answer in
+        let asked = answer_one (λ (a : AnsweredCall). IsAsked (accepted_calls link run) a.xid a.call) xid a h.state.answered k.calls answer in
+        subst (λ (x : ℕ). IsAwaited link run x) (found_own xid h.state.answered a answer) (awaited_from link run a.xid a.call asked due.0)
+    by (Some c) a there answer e =
+        let due : is_some (awaited_call c) ≡ is_due link run c.xid = found_one (λ c. is_some (awaited_call c) ≡ is_due link run c.xid) xid c h.state.outstanding k.awaited there in
+        let asked = asked_by (λ (call : Call). IsAsked (accepted_calls link run) c.xid call) c.is_forgotten c.call (found_one (λ c. IfSome c.call (IsAsked (accepted_calls link run) c.xid)) xid c h.state.outstanding k.submitted there) e in
+        subst (λ (x : ℕ). IsAwaited link run x) (found_xid xid c h.state.outstanding there) (awaited_from link run c.xid asked.0 asked.1 (sym due ∙ e))
+
+pub open_is_awaited : OpenIsAwaited
+open_is_awaited opened link h run xid s is_open = open_awaits opened link h run xid s.answers is_open
+
+pub open_out : OpenOut
+open_out opened link h stopped run xid out is_open = open_awaits opened link h run xid out.answers is_open
+
+-- ---- The law of its side
+
+pub forget_keeps_law : ForgetKeepsLaw
+forget_keeps_law opened link h run xid s is_open asked grant =
+    let mark : Mark = marks.Forget link xid in
+    (AtEachMark_more (AskedMark IsPrefixOf opened link) [] run mark asked (λ same. open_is_awaited opened link h run xid s is_open), AtEachMark_more (WithinGrant opened link) [] run mark grant tt)
+
+pub done_keeps_law : DoneKeepsLaw
+done_keeps_law opened link h run xid a s answer asked grant =
+    let k : AnswersAfter opened link h run = s.answers in
+    let mark : Mark = marks.Done link xid a.outcome in
+    let due = answer_one (λ (a : AnsweredCall). (is_due link run a.xid ≡ true) × Among (completed_of a) (client opened link run).state.outcomes) xid a h.state.answered (answers_due opened link h run k) answer in
+    let given = answer_one (λ (a : AnsweredCall). IsAsked (accepted_calls link run) a.xid a.call) xid a h.state.answered k.calls answer in
+    let own : a.xid ≡ xid = found_own xid h.state.answered a answer in
+    let is : IsCompleted opened link run xid a.outcome = subst (λ (x : ℕ). IsCompleted opened link run x a.outcome) own (record {
+      awaited = awaited_from link run a.xid a.call given due.0;
+      is_received = from_among (completed_of a) (client opened link run).state.outcomes due.1;
+    }) in
+    (AtEachMark_more (AskedMark IsPrefixOf opened link) [] run mark asked (λ same. is), AtEachMark_more (WithinGrant opened link) [] run mark grant tt)
+
+-- an outcome that is due is that of an answer
+of_answer : (xid : ℕ) (c : CompletedCall) (answers : List AnsweredCall) → Among c (map completed_of answers) → c.xid ≡ xid → find (λ (a : AnsweredCall). eqb a.xid xid) answers ≢ None
+of_answer xid c [] there own e = absurd there
+of_answer xid c (a ∷ answers) there own e = by (eqb a.xid xid) refl (λ g f. of_answer xid c answers g own f) there e
+  where
+    by : (b : Bool) → eqb a.xid xid ≡ b → (Among c (map completed_of answers) → find (λ (a : AnsweredCall). eqb a.xid xid) answers ≡ None → ⊥) → Among c (map completed_of (a ∷ answers)) →
+        cond b (Some a) (find (λ (a : AnsweredCall). eqb a.xid xid) answers) ≡ None → ⊥
+    by true is rest g f = absurd (let wrong : some_of a ≡ none_of a = f in cc)
+    by false is rest (inl same) f = absurd (let wrong : true ≡ false = sym (eq-eqb a.xid xid (ap (λ (y : CompletedCall). y.xid) same ∙ own)) ∙ is in cc)
+    by false is rest (inr g) f = rest g f
+
+any_none : (xid : ℕ) (cs : List CompletedCall) → ((c : CompletedCall) → Among c cs → c.xid ≢ xid) → list_any (λ c. eqb c.xid xid) cs ≡ false
+any_none xid [] f = refl
+any_none xid (x ∷ cs) f = λ i. ne_eqb x.xid xid (f x (inl refl)) i || any_none xid cs (λ c there. f c (inr there)) i
+
+due_by : (link : ℕ) (run : List Mark) (xid : ℕ) → IsAwaited link run xid → is_due link run xid ≡ true
+due_by link run xid w =
+    let completed : is_completed link xid run ≡ false = any_none xid (completed_calls link run) (λ c there. w.first c (from_among c (completed_calls link run) there)) in
+    λ i. not (w.kept i || completed i)
+
+pub lost_keeps_law : LostKeepsLaw
+unfolding client
+lost_keeps_law opened link h run xid end s ended is_open none asked grant =
+    let k : AnswersAfter opened link h run = s.answers in
+    let mark : Mark = marks.Lost link xid in
+    let awaited : IsAwaited link run xid = open_is_awaited opened link h run xid s is_open in
+    let is : IsLost opened link run xid = record {
+      awaited = awaited;
+      ended = end;
+      is_ended = sym s.keeps.kept.keeps.ended ∙ ended;
+      none = λ c there own. of_answer xid c h.state.answered
+          (subst (λ (cs : List CompletedCall). Among c cs) (sym k.outcomes)
+          (in_filter (λ (c : CompletedCall). is_due link run c.xid) c (client opened link run).state.outcomes (to_among c (client opened link run).state.outcomes there)
+          (ap (λ (x : ℕ). is_due link run x) own ∙ due_by link run xid awaited)))
+          own none;
+    } in
+    (AtEachMark_more (AskedMark IsPrefixOf opened link) [] run mark asked (λ same. is), AtEachMark_more (WithinGrant opened link) [] run mark grant tt)
