@@ -1,0 +1,14 @@
+use Rattle.std.proofs.Common.{◌≡◌, None, length}
+use Rattle.nr_endpoint.specs.FedBytes.{fed_bytes}
+use Rattle.nr_responder.specs.ResponderState.{end_of}
+use Rattle.nr_host.specs.Steps.{GoesOn}
+use Rattle.nr_host.proofs.feeding.execute_ready.Given as goal
+
+abbrev pub invariant-loop-call : goal.invariant-loop-call
+invariant-loop-call g l =
+    (end_of l.responder.side ≡ None)
+    × (fed_bytes l.responder.side.link ≡ fed_bytes l.initial.responder.side.link)
+    × GoesOn (g.C.Clock.gave l.initial.clock) (g.C.Clock.gave l.clock) l.initial.server l.server l.initial.responder.side l.responder.side
+
+abbrev pub decreases-loop-call : goal.decreases-loop-call
+decreases-loop-call g l = length l.responder.side.ready

@@ -1,0 +1,90 @@
+-- What one connection of a server did: its marks, and what they say of the link, of the journal and of the clock.
+use Rattle.std.specs.Prelude.{◌≡◌, ⊤, ℕ, ◌+◌, List, [], ◌∷◌, ◌++◌, length, Option, None, Some}
+use Rattle.std.specs.List.{flat_map}
+use Rattle.std.specs.Io.KnownBytes.{Appends}
+use Rattle.nr_outside.specs.Content.{HandsOut}
+use Rattle.nr_outside.specs.declared.moment.Moment.{Moment}
+use Rattle.nr_wire.specs.declared.hello.Side.TheVariants.{Responder}
+use Rattle.nr_reduce.specs.declared.mark.Mark.{Mark}
+use Rattle.nr_reduce.specs.declared.mark.Mark.TheVariants as marks
+use Rattle.nr_reduce.specs.declared.mark.Entry.{Entry}
+use Rattle.nr_reduce.specs.declared.mark.LinkParameters.{LinkParameters}
+use Rattle.nr_reduce.specs.AtEachMark.{AtEachMark}
+use Rattle.nr_reduce.specs.History.{bytes_sent, bytes_received}
+use Rattle.nr_reduce.specs.PlainJournal.{journal, any_that_adds}
+use Rattle.nr_reduce.specs.Run.{HasWritten}
+use Rattle.nr_reduce.specs.Served.{ServedSoFar, next_call}
+use Rattle.nr_plain.specs.Added.{entries_of_call}
+use Rattle.nr_plain.specs.Replies.{plain_reply}
+use Rattle.nr_plain.specs.Setup.{Setup}
+use Rattle.nr_plain.specs.Stands.{PlainServerState, RepresentsJournal}
+
+-- the moments at which calls were executed, in order
+abbrev pub moment_of : Mark → List Moment
+moment_of (marks.Execute l xid moment payload place reply) = moment ∷ []
+moment_of mark = []
+
+unfoldable pub moments : List Mark → List Moment
+moments run = flat_map moment_of run
+
+-- the entries that they added to the journal, in order
+abbrev pub added : List Mark → List Entry
+added run = journal (any_that_adds entries_of_call) run
+
+-- a mark of the server's side of this link
+abbrev pub IsOwn : ℕ → Mark → Type 0
+IsOwn link (marks.Fed l Responder bytes) = l ≡ link
+IsOwn link (marks.Wrote l Responder bytes) = l ≡ link
+IsOwn link (marks.Execute l xid moment payload place reply) = l ≡ link
+IsOwn link mark = ⊥
+
+-- A call is answered as the plain server answers at its place: after the entries J and those that the marks before added.
+abbrev pub PlainMark : Setup → List Entry → List Mark → Mark → Type 0
+PlainMark s J before (marks.Execute l xid moment payload place reply) =
+    (place ≡ length (J ++ added before)) × (plain_reply s (J ++ added before) place moment payload ≡ Some reply)
+PlainMark s J before mark = ⊤
+
+-- a server that stood for the entries J executed the calls of these marks
+pub record OverJournal (s : Setup) (J : List Entry) (run : List Mark) (kept : PlainServerState) : Type 0 where
+  pub stands : RepresentsJournal s (J ++ added run) kept
+  pub each : AtEachMark (PlainMark s J) [] run
+
+-- all output that is due is written, and every call that became complete is executed
+pub record IsQuiet (opened : LinkParameters) (link : ℕ) (run : List Mark) : Type 0 where
+  pub written : HasWritten opened link Responder run
+  pub executed : next_call opened link run ≡ None
+
+-- so it is before each piece of the client's stream
+abbrev pub QuietMark : LinkParameters → ℕ → List Mark → Mark → Type 0
+QuietMark opened link before (marks.Fed l side bytes) = IsQuiet opened link before
+QuietMark opened link before mark = ⊤
+
+-- a clock gave these moments, in order, if it is known what it gave
+abbrev pub GivesAll : Option (List Moment) → Option (List Moment) → List Moment → Type 0
+GivesAll before None given = ⊤
+GivesAll before (Some after) given = (earlier : List Moment) × (before ≡ Some earlier) × (after ≡ earlier ++ given)
+
+-- what is known of the source, the sink and the clock of a connection, and what its server keeps
+pub record Outside : Type 0 where
+  pub left : Option (List ℕ)
+  pub given : Option (List ℕ)
+  pub taken : Option (List ℕ)
+  pub gave : Option (List Moment)
+  pub kept : PlainServerState
+
+-- the credits that a connection grants, and how many bytes were read of it
+pub record Terms : Type 0 where
+  pub credits : ℕ
+  pub read : ℕ
+
+-- The connection made these marks, after it had read the bytes that they fed and `ahead`, and the clock had given the moments of its
+-- calls and `more`.
+pub record Runs (terms : Terms) (link : ℕ) (before after : Outside) (ahead : List ℕ) (more : List Moment) (run : List Mark) : Type 0 where
+  pub own : AtEachMark (λ earlier mark. IsOwn link mark) [] run
+  pub handed : HandsOut before.left before.given after.left after.given (bytes_received link Responder run ++ ahead)
+  pub taken : Appends before.taken after.taken (bytes_sent link Responder run)
+  pub served : (opened : LinkParameters) → opened.granted ≡ terms.credits → ServedSoFar opened link run
+  pub quiet : (opened : LinkParameters) → opened.granted ≡ terms.credits → AtEachMark (QuietMark opened link) [] run
+  pub over : (s : Setup) (J : List Entry) → RepresentsJournal s J before.kept → OverJournal s J run after.kept
+  pub gave : GivesAll before.gave after.gave (moments run ++ more)
+  pub count : length (bytes_received link Responder run) + length ahead ≡ terms.read

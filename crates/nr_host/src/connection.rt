@@ -1,0 +1,129 @@
+//! A connection, from its first byte to its end.
+
+ghost use Rattle.std.specs.Prelude.{◌≡◌, ◌<◌, ◌≤◌, ℕ, None, [], length, take, IfOk, OnErr, MatchResult};
+ghost use Rattle.std.specs.Io.KnownBytes.{IsAtEnd};
+ghost use Rattle.nr_outside.specs.Content.{HandsOut};
+ghost use Rattle.nr_outside.specs.Faults.{Rises};
+ghost use Rattle.nr_endpoint.specs.FedBytes.{fed_bytes};
+ghost use Rattle.nr_responder.specs.ResponderState.{end_of};
+ghost use Rattle.nr_host.specs.Ending.{AheadAt, MoreAt, SinkCount, SourceCount, piece_max};
+ghost use Rattle.nr_host.specs.Steps.{CarriesTo, EndsIdle, IsServed, outside};
+
+use crate::conn_end::ConnEnd;
+use crate::feeding::feed_all;
+use crate::limits::{PIECE_MAX, READ_MAX};
+use nr_links::Clock;
+use nr_outside::{Failed, Sink, Source};
+use nr_plain::Server;
+use nr_responder::Responder;
+use std::alloc::Global;
+
+/// The end of a connection whose client ended its stream, after this many bytes.
+fn at_end(responder: &Responder, read: u64) -> ConnEnd
+    requires live { end_of responder.now.side ≡ None }
+    ensures idle { EndsIdle result read responder.now.side }
+    ensures ahead { AheadAt result [] }
+    ensures more { MoreAt result [] }
+    ensures source { (count : ℕ) → SourceCount result count count }
+    ensures sink { (count : ℕ) → SinkCount result count count }
+{
+    let calls = responder.unanswered();
+    if responder.begun() {
+        return ConnEnd::Cut { at: read, calls };
+    }
+    if calls > 0 {
+        return ConnEnd::Cut { at: read, calls };
+    }
+    ConnEnd::Closed
+}
+
+/// One read, of at most `room` bytes, into the front of the buffer.
+#[tactic(auto, using(std::proofs::lemmas::Grind::common_steps))]
+fn read_part<I: Source>(source: &mut I, buf: &mut [u8], room: usize) -> Result<usize, Failed>
+    requires { room ≤ length buf.old }
+    ensures len { length buf.new ≡ length buf.old }
+    ensures bound { IfOk result (λ n. n ≤ room) }
+    ensures handed { IfOk result (λ n. HandsOut (I.left source.old) (I.given source.old) (I.left source.new) (I.given source.new) (take n buf.new)) }
+    ensures end { IfOk result (λ n. n ≡ 0 → 0 < room → IsAtEnd (I.left source.new)) }
+    ensures err { OnErr result (HandsOut (I.left source.old) (I.given source.old) (I.left source.new) (I.given source.new) []) }
+    ensures counted { MatchResult result
+        (λ _. I.faults source.new ≡ I.faults source.old) (λ _. Rises (I.faults source.old) (I.faults source.new)) }
+{
+    let (front, _) = buf.split_at_mut(room);
+    source.read(front)
+}
+
+/// Reads the client's stream to its end through this buffer, and serves what is read.
+fn carry<I: Source, O: Sink, C: Clock>(
+    alloc: Global,
+    source: &mut I,
+    sink: &mut O,
+    server: &mut Server,
+    clock: &mut C,
+    responder: &mut Responder,
+    buf: &mut [u8],
+) -> ConnEnd
+    requires live { end_of responder.old.side ≡ None }
+    requires fed { fed_bytes responder.old.side.link ≡ 0 }
+    requires len { length buf.old ≡ piece_max }
+    ensures served { (credits : ℕ) → CarriesTo credits
+        (outside (I.left source.old) (I.given source.old) (O.taken sink.old) (C.gave clock.old) server.old)
+        (outside (I.left source.old) (I.given source.old) (O.taken sink.old) (C.gave clock.old) server.old) responder.old.side 0 →
+        IsServed credits (outside (I.left source.old) (I.given source.old) (O.taken sink.old) (C.gave clock.old) server.old)
+        (outside (I.left source.new) (I.given source.new) (O.taken sink.new) (C.gave clock.new) server.new) result }
+    ensures source_count { SourceCount result (I.faults source.old) (I.faults source.new) }
+    ensures sink_count { SinkCount result (O.faults sink.old) (O.faults sink.new) }
+{
+    let mut read = 0u64;
+    while read < READ_MAX {
+        let room = (READ_MAX - read).min(PIECE_MAX as u64) as usize;
+        let n = match read_part(source, buf, room) {
+            Ok(n) => n,
+            Err(_) => return ConnEnd::LinkRead,
+        };
+        if n == 0 {
+            return at_end(responder, read);
+        }
+        read += n as u64;
+        let (piece, _) = buf.split_at(n);
+        match feed_all(alloc, responder, server, clock, sink, piece) {
+            Ok(()) => {}
+            Err(end) => return end,
+        }
+    }
+    ConnEnd::Budget { read }
+}
+
+/// Serves one connection to its end: reads the client's stream, feeds it frame by frame, and before the next frame executes
+/// each call that is complete and writes what is due. Grants this many credits.
+pub fn serve_connection<I: Source, O: Sink, C: Clock>(
+    alloc: Global,
+    source: &mut I,
+    sink: &mut O,
+    server: &mut Server,
+    clock: &mut C,
+    credits: u32,
+) -> ConnEnd
+    ensures served { IsServed credits (outside (I.left source.old) (I.given source.old) (O.taken sink.old) (C.gave clock.old) server.old)
+        (outside (I.left source.new) (I.given source.new) (O.taken sink.new) (C.gave clock.new) server.new) result }
+    ensures source_count { SourceCount result (I.faults source.old) (I.faults source.new) }
+    ensures sink_count { SinkCount result (O.faults sink.old) (O.faults sink.new) }
+{
+    let Ok(mut buf) = vec![in alloc; 0u8; PIECE_MAX] else {
+        return ConnEnd::Memory;
+    };
+    let Ok(mut responder) = Responder::open(alloc, credits) else {
+        return ConnEnd::Memory;
+    };
+    let end = carry(
+        alloc,
+        source,
+        sink,
+        server,
+        clock,
+        &mut responder,
+        buf.as_mut_slice(),
+    );
+    drop(responder);
+    end
+}

@@ -1,0 +1,11 @@
+//! Connections of a server.
+#![tactic(auto)]
+
+mod conn_end;
+mod connection;
+mod executing;
+mod feeding;
+mod limits;
+
+pub use conn_end::ConnEnd;
+pub use connection::serve_connection;
