@@ -16,7 +16,7 @@ use Rattle.nr_requester.specs.Buffers.{with_memory}
 use Rattle.nr_requester.specs.HeldClaims.{call_claims, all_claims, AreHeldFrom, OffersOwn}
 use Rattle.nr_requester.specs.OpenCalls.{open_call, call_with, buffers_with, buffers_of}
 use Rattle.nr_requester.specs.Standing.{RequesterRepresents, RequesterRunsOut, StandsOn, StaysOut, StopsRevoked}
-use Rattle.nr_requester.specs.Views.{IsSound, IsAnswered, AreRising, stored_view, given_up, forgot, requester_view}
+use Rattle.nr_requester.specs.Views.{HasRoom, IsSound, IsAnswered, AreRising, stored_view, given_up, forgot, requester_view}
 use Rattle.nr_requester.specs.HeldBytes.{NothingOutside, LinkFits, RegionsHave, CountsFit, claims_len, claims_total, CallFits, AnswerFits, IsWithin}
 use Rattle.nr_requester.proofs.Releases.{all_released, held_middle, stags_are_of}
 use Rattle.nr_requester.proofs.RegionBounds.{released_both}
@@ -35,7 +35,7 @@ forget_leaves c = refl
 
 -- any call: these have one
 pub given : (calls : List OutstandingCall) (at : ℕ) → OutstandingCall
-given calls at = get_or calls at (record { xid = 0; call = None; is_forgotten = false; offered = record { read = []; write = []; reply = None }; claims = no_claims })
+given calls at = get_or calls at (record { xid = 0; call = None; is_forgotten = false; offered = record { read = []; write = []; reply = None }; claims = no_claims; room = [] })
 
 -- ---- The regions of a call are released
 
@@ -67,6 +67,8 @@ given_up_sound link link2 next grant room n calls calls2 answers d s lt link_is 
       none_lent = s.none_lent;
       held = others_held link.state.memory n calls d lt s.held;
       offers = each_stays OffersOwn n calls y tt s.offers;
+      rooms = each_stays HasRoom n calls y (let had = nth_of HasRoom n calls d lt s.rooms in (let len = had.0 in omega (arith, len), had.1)) s.rooms;
+      no_reads = s.no_reads;
       rising = rising_stays next n calls y d refl lt s.rising;
       apart = apart_stays next n calls y d answers refl lt s.apart;
       has_room = (let has = s.has_room in omega (arith, has, count));
@@ -101,7 +103,7 @@ given_up_within e e2 first next n calls calls2 answers d w held lt same none lin
       regions = subst (λ (x : LinkState). RegionsHave x.memory (claims_total left)) (sym state) (subst (λ (k : ℕ). RegionsHave memory k) sum both.1);
       counts = subst (λ (x : LinkState). CountsFit first next x.send_queue left) (sym state)
           (record { waiting = omega (arith, w.counts.waiting, waiting_stays first s.send_queue.sends_left n calls y d refl lt); numbered = w.counts.numbered });
-      each = each_stays CallFits n calls y (record { call = omega arith; offer = omega arith }) w.each;
+      each = each_stays CallFits n calls y (record { call = omega arith; offer = omega arith; room = (nth_of CallFits n calls d lt w.each).room }) w.each;
       kept = w.kept;
       distinct = w.distinct;
     } in
@@ -126,6 +128,8 @@ forgot_sound link next grant room n calls calls2 answers d s lt are =
       none_lent = s.none_lent;
       held = subst (λ (cs : List Claim). AreHeldFrom link.state.memory 0 cs) (sym claims) s.held;
       offers = each_stays OffersOwn n calls y (nth_of OffersOwn n calls d lt s.offers) s.offers;
+      rooms = each_stays HasRoom n calls y (nth_of HasRoom n calls d lt s.rooms) s.rooms;
+      no_reads = s.no_reads;
       rising = rising_stays next n calls y d refl lt s.rising;
       apart = apart_stays next n calls y d answers refl lt s.apart;
       has_room = (let has = s.has_room in omega (arith, has, count));
@@ -148,7 +152,7 @@ forgot_within e first next n calls calls2 answers d w lt are =
       link = w.link;
       regions = subst (λ (k : ℕ). RegionsHave e.link.state.memory k) sum w.regions;
       counts = record { waiting = omega (arith, w.counts.waiting, waiting_stays first e.link.state.send_queue.sends_left n calls y d refl lt); numbered = w.counts.numbered };
-      each = each_stays CallFits n calls y (record { call = fits.call; offer = fits.offer }) w.each;
+      each = each_stays CallFits n calls y (record { call = fits.call; offer = fits.offer; room = fits.room }) w.each;
       kept = w.kept;
       distinct = w.distinct;
     } in
@@ -168,6 +172,8 @@ taken_sound link next grant room room2 xid calls answers answers2 s are same =
       none_lent = s.none_lent;
       held = s.held;
       offers = s.offers;
+      rooms = s.rooms;
+      no_reads = s.no_reads;
       rising = s.rising;
       apart = all_left (IsAnswered next calls) xid answers s.apart;
       has_room = (let has = s.has_room in omega (arith, has, fewer, same));

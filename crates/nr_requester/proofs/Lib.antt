@@ -8,6 +8,7 @@ pub mod Answered
 pub mod Sized
 pub mod Sent
 pub mod Views
+pub mod OneMessage
 pub mod OneReceive
 pub mod Faults
 pub mod FrameSides
@@ -41,3 +42,15 @@ pub mod OutsideBounds
 pub mod HeldBounds
 pub mod Lost
 pub mod OpenTickets
+pub mod CameBack
+pub mod ReplyParts
+pub mod Completing
+pub mod Taken
+pub mod StepLeaves
+pub mod StepSides
+pub mod Steps
+pub mod PieceLoop
+pub mod MessageBodies
+pub mod FedBounds
+pub mod AnswerBounds
+pub mod StepBounds

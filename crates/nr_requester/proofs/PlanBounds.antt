@@ -33,9 +33,9 @@ shape_fits payload kind w r h write reply =
     by kind a b c
   where
     by : (k : MessageKind) → length (shape payload k (offered w) (offered r)).region ≤ PAYLOAD_MAX → total (offered w) ≤ 40000 → total (offered r) ≤ 40000 → PlanFits (shape payload k (offered w) (offered r))
-    by Short a b c = record { region = omega (arith, a); write = omega (arith, b); reply = omega (arith, c); all = omega (arith, a, b, c) }
-    by (Chunked i) a b c = record { region = omega (arith, a); write = omega (arith, b); reply = omega (arith, c); all = omega (arith, a, b, c) }
-    by Long a b c = record { region = omega (arith, a); write = omega (arith, b); reply = omega (arith, c); all = omega (arith, a, b, c) }
+    by Short a b c = record { region = omega (arith, a); write = omega (arith, b); reply = omega (arith, c); all = omega (arith, a, b, c); back = omega (arith, b, c) }
+    by (Chunked i) a b c = record { region = omega (arith, a); write = omega (arith, b); reply = omega (arith, c); all = omega (arith, a, b, c); back = omega (arith, b, c) }
+    by Long a b c = record { region = omega (arith, a); write = omega (arith, b); reply = omega (arith, c); all = omega (arith, a, b, c); back = omega (arith, b, c) }
 
 own_fits : (payload : List ℕ) (form : Form) (p : Plan) → IsNotGiven form → plan_of payload form send_max send_max ≡ Ok p → PlanFits p
 own_fits payload form p own is =
@@ -54,10 +54,10 @@ given_len payload at size =
 
 read_fits : (payload : List ℕ) (at : ℕ) (read w r : Option (List ℕ)) → total read + total w + total r ≤ given_max →
     PlanFits (given_read payload at read (record { inline = payload; read_at = None; read = []; region = []; write = w; reply = r }))
-read_fits payload at None w r h = record { region = omega arith; write = omega (arith, h); reply = omega (arith, h); all = omega (arith, h) }
+read_fits payload at None w r h = record { region = omega arith; write = omega (arith, h); reply = omega (arith, h); all = omega (arith, h); back = omega (arith, h) }
 read_fits payload at (Some lengths) w r h =
     let len = given_len payload at (sum lengths) in
-    record { region = omega (arith, h, len); write = omega (arith, h); reply = omega (arith, h); all = omega (arith, h, len) }
+    record { region = omega (arith, h, len); write = omega (arith, h); reply = omega (arith, h); all = omega (arith, h, len); back = omega (arith, h) }
 
 given_small : (payload : List ℕ) (offer : Offer) (p : Plan) → plan_of payload (forms.Given offer) send_max send_max ≡ Ok p → given_total offer ≤ given_max
 unfolding plan_of

@@ -57,7 +57,7 @@ refuses_out opened link h stopped run call form out = (
 )
 
 -- a side that has ended takes nothing of a piece
-fed_out : (h : RequesterSide) (piece : List ℕ) → requester_ended h.state ≡ true → after_piece h piece ≡ record { awaited = h.awaited; rest = []; state = h.state }
+pub fed_out : (h : RequesterSide) (piece : List ℕ) → requester_ended h.state ≡ true → after_piece h piece ≡ record { awaited = h.awaited; rest = []; state = h.state }
 unfolding after_piece feeding_after
 fed_out h piece e = by (split h.awaited (h.rest ++ piece)).frames
   where

@@ -1,5 +1,5 @@
 -- What the code keeps after a call, as the definitions see it.
-use Rattle.std.proofs.Common.{◌≡◌, ℕ, ◌^◌, ◌≤◌, Bool, List, [], ◌∷◌, ◌++◌, length, take, refl, sym, ap, subst, ◌∙◌}
+use Rattle.std.proofs.Common.{◌≡◌, ℕ, ◌^◌, ◌≤◌, Bool, List, [], ◌∷◌, ◌++◌, length, map, take, ◌+◌, refl, sym, ap, subst, ◌∙◌}
 use Rattle.std.specs.Prelude.{IfOk, IfErr, OnOk, Option, Result, Ok, Err}
 use Rattle.std.specs.Io.KnownBytes.{Appends}
 use Rattle.nr_wire.specs.declared.hello.Side.TheVariants.{Initiator}
@@ -10,10 +10,14 @@ use Rattle.nr_endpoint.specs.Calls.{after_call}
 use Rattle.nr_endpoint.specs.Calls.Call.{Drain}
 use Rattle.nr_reduce.specs.declared.mark.LinkParameters.{LinkParameters}
 use Rattle.nr_requester.specs.declared.outstanding.OutstandingCall.{OutstandingCall}
-use Rattle.nr_requester.specs.RequesterState.{RequesterSide, queue_of}
+use Rattle.nr_requester.specs.RequesterState.{StoredCall, RequesterSide, queue_of}
 use Rattle.nr_requester.specs.Standing.{RequesterRepresents, RequesterRunsOut, StandsOn, StaysOut}
-use Rattle.nr_requester.specs.AfterCalls.{opened_as, sent_unless, after_drain}
-use Rattle.nr_requester.specs.Views.{requester_view}
+use Rattle.nr_endpoint.specs.Calls.{with_state}
+use Rattle.nr_reduce.specs.declared.call.Call.{Call}
+use Rattle.nr_reduce.specs.declared.outline.Plan.{Plan}
+use Rattle.nr_reduce.specs.Plans.{buffers, call_message}
+use Rattle.nr_requester.specs.AfterCalls.{opened_as, submitted, stored_call, after_submit, sent_unless, after_drain}
+use Rattle.nr_requester.specs.Views.{stored_view, requester_view}
 use Rattle.nr_requester.proofs.AllMarks.{begins, drain_is_a_mark}
 use Rattle.nr_requester.specs.declared.answer.AnsweredCall.{AnsweredCall}
 
@@ -75,3 +79,19 @@ drain_taken h link link2 sent sent2 wished first xid grant n items answers had h
       (λ opened link stopped run out. subst (λ (x : RequesterSide). RequesterRunsOut opened link x stopped (run ++ marks.Wrote link Initiator (take n (queue_of here.state)) ∷ [])) (sym view) (mark.1 opened link stopped run out)),
       all,
     )
+
+-- ---- After a call was sent
+
+map_one : (items : List OutstandingCall) (o : OutstandingCall) → map stored_view (items ++ o ∷ []) ≡ map stored_view items ++ stored_view o ∷ []
+map_one [] o = refl
+map_one (x ∷ items) o = ap (λ (xs : List StoredCall). stored_view x ∷ xs) (map_one items o)
+
+pub sent_view : (h : RequesterSide) (link link2 : LinkSide) (sent wished first xid grant : ℕ) (items items2 : List OutstandingCall) (answers answers2 : List AnsweredCall) (call : Call) (plan : Plan) (o : OutstandingCall) → requester_view link sent wished first xid grant items answers ≡ h →
+    link2 ≡ with_state (submitted link.state (call_message xid wished link.state.memory.next plan) (buffers link.state.memory.next plan)) link → items2 ≡ items ++ o ∷ [] → answers2 ≡ answers → stored_view o ≡ stored_call xid call plan link.state.memory →
+    requester_view link2 sent wished first (xid + 1) grant items2 answers2 ≡ after_submit h call plan
+sent_view h link link2 sent wished first xid grant items items2 answers answers2 call plan o is link_is more same own =
+    (λ i. requester_view (link_is i) sent wished first (xid + 1) grant (more i) (same i))
+    ∙ (λ i. record (requester_view (with_state (submitted link.state (call_message xid wished link.state.memory.next plan) (buffers link.state.memory.next plan)) link) sent wished first (xid + 1) grant items answers) {
+      state = record (requester_view (with_state (submitted link.state (call_message xid wished link.state.memory.next plan) (buffers link.state.memory.next plan)) link) sent wished first (xid + 1) grant items answers).state { outstanding = (map_one items o ∙ ap (λ (c : StoredCall). map stored_view items ++ c ∷ []) own) i };
+    })
+    ∙ ap (λ (x : RequesterSide). after_submit x call plan) is

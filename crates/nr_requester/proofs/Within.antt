@@ -1,5 +1,5 @@
 -- What holds of each requester beside that its calls' regions are held, after each call of its owner and each step of its side of the link.
-use Rattle.std.proofs.Common.{◌≡◌, ℕ, ◌+◌, ◌-◌, ◌^◌, ◌<◌, ◌≤◌, Bool, false, List, [], ◌∷◌, ◌++◌, length, Option, None, Some, Ok, refl, sym, ap, subst, ◌∙◌, arith, length-append}
+use Rattle.std.proofs.Common.{◌≡◌, ℕ, ◌+◌, ◌-◌, ◌^◌, ◌<◌, ◌≤◌, Bool, true, false, List, [], ◌∷◌, ◌++◌, length, Option, None, Some, Ok, refl, sym, ap, subst, ◌∙◌, arith, length-append}
 use Rattle.std.specs.Prelude.{is_some}
 use Rattle.std.specs.List.{AllByRecursion}
 use Rattle.std.proofs.lemmas.List.{length-drop}
@@ -31,12 +31,12 @@ use Rattle.nr_reduce.specs.declared.call.Call.{Call}
 use Rattle.nr_reduce.specs.declared.call.Form.{Form}
 use Rattle.nr_reduce.specs.declared.outline.Plan.{Plan}
 use Rattle.nr_reduce.specs.ClientState.{call_payload}
-use Rattle.nr_reduce.specs.Plans.{plan_of, buffers, call_message, regions_needed}
+use Rattle.nr_reduce.specs.Plans.{total, plan_of, buffers, call_message, regions_needed}
 use Rattle.nr_reduce.specs.KeptClient.{registered_all}
 use Rattle.nr_reduce.proofs.Sizes.{message_size}
 use Rattle.nr_requester.specs.declared.answer.AnsweredCall.{AnsweredCall}
 use Rattle.nr_requester.specs.declared.outstanding.OutstandingCall.{OutstandingCall}
-use Rattle.nr_requester.specs.AfterCalls.{submitted}
+use Rattle.nr_requester.specs.AfterCalls.{submitted, sent_unless}
 use Rattle.nr_requester.specs.Sending.{IsPlan, offered_of}
 use Rattle.nr_requester.specs.Views.{AreRising}
 use Rattle.nr_requester.specs.HeldBytes.{NothingOutside, cred_bytes, call_bytes, stored_bytes, call_max, QueueFits, LinkFits, RegionsHave, CountsFit, claims_len, claims_total, CallFits, PlanFits, IsWithin}
@@ -137,8 +137,8 @@ sent_state s plan xid credit total i lives stags l have =
 
 pub sent_within : (e e2 : EndpointState) (first next xid credit : ℕ) (calls calls2 : List OutstandingCall) (answers answers2 : List AnsweredCall) (o : OutstandingCall) (plan : Plan) → IsWithin e first next calls answers → AreRising calls next → e2.staging ≡ e.staging → (NothingOutside e → NothingOutside e2) →
     e2.link ≡ with_state (submitted e.link.state (call_message xid credit e.link.state.memory.next plan) (buffers e.link.state.memory.next plan)) e.link → IsPlan plan → e.link.state.ended ≡ None →
-    e.link.state.memory.next + regions_needed plan ≤ 2 ^ 32 → o.claims ≡ claims_of e.link.state.memory (offered_of plan) → stored_bytes o.call ≤ call_max → o.xid ≡ next → calls2 ≡ calls ++ o ∷ [] → answers2 ≡ answers → IsWithin e2 first (next + 1) calls2 answers2
-sent_within e e2 first next xid credit calls calls2 answers answers2 o plan w rising same none link_is i lives stags claims small number more kept =
+    e.link.state.memory.next + regions_needed plan ≤ 2 ^ 32 → o.claims ≡ claims_of e.link.state.memory (offered_of plan) → stored_bytes o.call ≤ call_max → length o.room ≤ send_max + (total plan.write + (total plan.reply + 3)) → o.xid ≡ next → calls2 ≡ calls ++ o ∷ [] → answers2 ≡ answers → IsWithin e2 first (next + 1) calls2 answers2
+sent_within e e2 first next xid credit calls calls2 answers answers2 o plan w rising same none link_is i lives stags claims small room number more kept =
     let s : LinkState = e.link.state in
     let after : LinkState = submitted s (call_message xid credit s.memory.next plan) (buffers s.memory.next plan) in
     let state : e2.link.state ≡ after = ap (λ (l : LinkSide). l.state) link_is in
@@ -156,7 +156,7 @@ sent_within e e2 first next xid credit calls calls2 answers answers2 o plan w ri
       regions = subst (λ (x : LinkState). RegionsHave x.memory (claims_total (calls ++ o ∷ []))) (sym state) (subst (λ (n : ℕ). RegionsHave after.memory n) sum l.1);
       counts = subst (λ (x : LinkState). CountsFit first (next + 1) x.send_queue (calls ++ o ∷ [])) (sym state)
           (counts_sent first next _ s.send_queue after.send_queue calls o refl refl number w.order w.counts);
-      each = all_append CallFits calls o w.each (record { call = small; offer = omega (arith, len, short) });
+      each = all_append CallFits calls o w.each (record { call = small; offer = omega (arith, len, short); room = (let back = fits.back in omega (arith, room, back)) });
       kept = w.kept;
       distinct = w.distinct;
     } in
@@ -219,3 +219,21 @@ drained_within e e2 first next n calls answers w rising same out is =
       kept = w.kept;
       distinct = w.distinct;
     }
+
+-- the number of Sends that it knows to have left
+pub few_left : (l : LinkSide) (first next : ℕ) (calls : List OutstandingCall) → CountsFit first next l.state.send_queue calls → next ≤ 2 ^ 32 → l.state.send_queue.sends_left ≤ 2 ^ 32
+few_left l first next calls counts le = (let number = counts.numbered in omega (arith, number, le))
+
+written_left : (n : ℕ) (q : SendQueue) → q.sends_left ≤ 2 ^ 32 → q.sends_left ≤ (written n q).sends_left
+unfolding written
+written_left n q le = omega (arith, le)
+
+pub drained_sent : (l l2 : LinkSide) (sent sent2 n : ℕ) → l2 ≡ after_call l (Drain n) → sent2 ≡ sent_unless (has_ended l2.state) sent l2.state.send_queue.sends_left → l.state.send_queue.sends_left ≤ 2 ^ 32 → sent ≤ l.state.send_queue.sends_left → sent2 ≤ l2.state.send_queue.sends_left
+drained_sent l l2 sent sent2 n is sent_is few le = by (has_ended l2.state) sent_is
+  where
+    after : l2.state.send_queue.sends_left ≡ (written n l.state.send_queue).sends_left
+    after = ap (λ (x : LinkSide). x.state.send_queue.sends_left) is ∙ ap (λ (s : LinkState). s.send_queue.sends_left) (drain_is l n)
+
+    by : (b : Bool) → sent2 ≡ sent_unless b sent l2.state.send_queue.sends_left → sent2 ≤ l2.state.send_queue.sends_left
+    by true e = omega (arith, e, le, after, written_left n l.state.send_queue few)
+    by false e = omega (arith, e)

@@ -88,12 +88,17 @@ offer_max = 122880
 abbrev pub reply_max : ℕ
 reply_max = 94208
 
+-- the maximum of what a call offers for its reply
+abbrev pub back_max : ℕ
+back_max = 81920
+
 -- a plan's regions are within these
 pub record PlanFits (p : Plan) : Type 0 where
   pub region : length p.region ≤ region_max
   pub write : total p.write ≤ region_max
   pub reply : total p.reply ≤ region_max
   pub all : length p.region + total p.write + total p.reply ≤ offer_max
+  pub back : total p.write + total p.reply ≤ back_max
 
 -- a Read Response of a region has at most this many segments
 abbrev pub response_max : ℕ
@@ -155,10 +160,16 @@ abbrev pub claims_total : List OutstandingCall → ℕ
 claims_total [] = 0
 claims_total (c ∷ calls) = claims_len c.claims + claims_total calls
 
--- a call and its regions are within these
+-- The bytes of the rooms in which replies are put together.
+abbrev pub rooms_bytes : List OutstandingCall → ℕ
+rooms_bytes [] = 0
+rooms_bytes (c ∷ calls) = length c.room + rooms_bytes calls
+
+-- a call, its regions and the room of its reply are within these
 pub record CallFits (c : OutstandingCall) : Type 0 where
   pub call : stored_bytes c.call ≤ call_max
   pub offer : claims_len c.claims ≤ offer_max
+  pub room : length c.room ≤ reply_max
 
 -- so are an answered call, its buffers and its reply
 pub record AnswerFits (a : AnsweredCall) : Type 0 where
@@ -184,3 +195,7 @@ pub record IsWithin (e : EndpointState) (first next : ℕ) (calls : List Outstan
   pub each : AllByRecursion CallFits calls
   pub kept : AllByRecursion AnswerFits answers
   pub distinct : AreDistinct answers
+
+-- Of the number of Sends that it knows to have left, each has.
+abbrev pub IsBounded : (sent first next : ℕ) → EndpointState → List OutstandingCall → List AnsweredCall → Type 0
+IsBounded sent first next e calls answers = IsWithin e first next calls answers × (sent ≤ e.link.state.send_queue.sends_left)

@@ -13,3 +13,5 @@ pub mod HeldBytes
 pub mod Views
 pub mod Laws
 pub mod Takes
+pub mod Judged
+pub mod Fed

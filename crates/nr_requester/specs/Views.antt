@@ -1,6 +1,8 @@
 -- What the code keeps, as the definitions see it.
-use Rattle.std.specs.Prelude.{◌≡◌, ℕ, ◌+◌, ◌^◌, ◌<◌, ◌≤◌, ◌==◌, length, List, [], ◌∷◌, map, None, true}
+use Rattle.std.specs.Prelude.{◌≡◌, ℕ, ◌+◌, ◌^◌, ◌<◌, ◌≤◌, ◌==◌, length, List, [], ◌∷◌, map, Option, None, Some, true}
 use Rattle.std.specs.List.{AllByRecursion, find}
+use Rattle.nr_regions.specs.RegisteredMemory.{Claim}
+use Rattle.nr_link.specs.Limits.{send_max}
 use Rattle.nr_endpoint.specs.LinkState.{LinkSide}
 use Rattle.nr_reduce.specs.Limits.{most_credits}
 use Rattle.nr_requester.specs.declared.outstanding.OutstandingCall.{OutstandingCall}
@@ -11,6 +13,14 @@ use Rattle.nr_requester.specs.HeldClaims.{AreHeldFrom, all_claims, OffersOwn}
 
 abbrev pub stored_view : OutstandingCall → StoredCall
 stored_view c = record { xid = c.xid; call = c.call; is_forgotten = c.is_forgotten; offered = c.offered; claims = c.claims }
+
+abbrev pub claim_len : Option Claim → ℕ
+claim_len None = 0
+claim_len (Some claim) = claim.len
+
+-- the room in which the payload of the largest reply through a call's chunks is put together
+abbrev pub HasRoom : OutstandingCall → Type 0
+HasRoom c = (send_max + (claim_len c.claims.write + (claim_len c.claims.reply + 3)) ≤ length c.room) × (length c.room < 2 ^ 32)
 
 -- the calls come in the order of their xids, all of which are below this
 abbrev pub AreRising : List OutstandingCall → ℕ → Type 0
@@ -23,15 +33,15 @@ IsAnswered next_xid outstanding a = (a.xid < next_xid) × (find (λ (c : Outstan
 
 -- a call that is given up: it is handed back, and its regions are released
 abbrev pub given_up : OutstandingCall → OutstandingCall
-given_up c = record { xid = c.xid; call = None; is_forgotten = c.is_forgotten; offered = c.offered; claims = no_claims }
+given_up c = record { xid = c.xid; call = None; is_forgotten = c.is_forgotten; offered = c.offered; claims = no_claims; room = c.room }
 
 -- a call whose owner gave up the answer
 abbrev pub forgot : OutstandingCall → OutstandingCall
-forgot c = record { xid = c.xid; call = c.call; is_forgotten = true; offered = c.offered; claims = c.claims }
+forgot c = record { xid = c.xid; call = c.call; is_forgotten = true; offered = c.offered; claims = c.claims; room = c.room }
 
 -- What holds of each requester: its numbers are in range, a credit is granted, and no more calls are outstanding than can be; no event waits
--- and no receive is lent; the regions of its calls are held, and are those that the calls offer; xids rise; and there is room for the answers of
--- all calls that are outstanding.
+-- and no receive is lent; the regions of its calls are held, and are those that the calls offer; xids rise; it reads nothing of
+-- its peer; and there is room for each reply, and for the answers of all calls that are outstanding.
 pub record IsSound (link : LinkSide) (next_xid grant : ℕ) (outstanding : List OutstandingCall) (answered : List AnsweredCall) (room : ℕ) : Type 0 where
   pub xid : next_xid ≤ 2 ^ 32
   pub few : length outstanding ≤ most_credits
@@ -41,6 +51,8 @@ pub record IsSound (link : LinkSide) (next_xid grant : ℕ) (outstanding : List 
   pub none_lent : link.state.receive_queue.lent ≡ 0
   pub held : AreHeldFrom link.state.memory 0 (all_claims outstanding)
   pub offers : AllByRecursion OffersOwn outstanding
+  pub rooms : AllByRecursion HasRoom outstanding
+  pub no_reads : link.state.reads ≡ []
   pub rising : AreRising outstanding next_xid
   pub apart : AllByRecursion (IsAnswered next_xid outstanding) answered
   pub has_room : length answered + length outstanding ≤ room

@@ -1,8 +1,8 @@
 //! How many bytes a requester keeps.
 
-ghost use Rattle.std.specs.Prelude.{◌≡◌, ◌+◌, ◌*◌, ◌^◌, ◌≤◌, length, map, max};
+ghost use Rattle.std.specs.Prelude.{◌≡◌, ℕ, ◌+◌, ◌*◌, ◌^◌, ◌≤◌, length, map, max};
 ghost use Rattle.std.specs.List.{AllByRecursion};
-ghost use Rattle.nr_requester.specs.HeldBytes.{cred_bytes, call_bytes, stored_bytes, calls_bytes, outcome_bytes, buffer_len, answer_bytes, answers_bytes, AnswerFits, bytes_held_by, held_unit};
+ghost use Rattle.nr_requester.specs.HeldBytes.{cred_bytes, call_bytes, stored_bytes, calls_bytes, rooms_bytes, reply_max, outcome_bytes, buffer_len, answer_bytes, answers_bytes, AnswerFits, bytes_held_by, held_unit};
 ghost use Rattle.nr_requester.specs.Views.{stored_view};
 
 use crate::answer::AnsweredCall;
@@ -50,6 +50,17 @@ fn calls_bytes(calls: &[OutstandingCall]) -> u128
     sum
 }
 
+fn rooms_bytes(calls: &[OutstandingCall]) -> u128
+    requires { length calls.now ≤ 64 }
+    ensures { result ≡ rooms_bytes calls.now }
+{
+    let mut sum: u128 = 0;
+    for call in calls {
+        sum += call.room.len() as u128;
+    }
+    sum
+}
+
 fn outcome_bytes(outcome: &Outcome) -> usize
     ensures { result ≡ outcome_bytes outcome.now }
 {
@@ -93,15 +104,16 @@ fn answers_bytes(answers: &[AnsweredCall]) -> u128
 
 impl Requester {
     /// How many bytes all byte buffers have that are kept: the staging buffer, the receive, the regions, the output, the calls with the names
-    /// of their machines, and the answers with their buffers. At most 262144 for each call that is outstanding or each credit that was
+    /// of their machines, the rooms of their replies, and the answers with their buffers. At most 262144 for each call that is outstanding or each credit that was
     /// wished for, whichever are more, for each answer that wasn't taken, and four times that. Takes no memory.
     pub fn held(&self) -> u128
-        ensures is { result ≡ bytes_held_by self.now.state }
+        ensures is { (rooms : ℕ) × ((result ≡ bytes_held_by self.now.state + rooms) × (rooms ≤ reply_max * length self.now.state.outstanding)) }
         ensures bound { result ≤ held_unit * (max self.now.state.wished (length self.now.state.outstanding) + length self.now.state.answered + 4) }
     {
         self.endpoint.facts();
         self.endpoint.held()
             + calls_bytes(self.outstanding.as_slice())
+            + rooms_bytes(self.outstanding.as_slice())
             + answers_bytes(self.answered.as_slice())
     }
 }

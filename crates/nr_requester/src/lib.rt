@@ -3,10 +3,13 @@
 
 mod answer;
 mod holding;
+mod judging;
 mod laws;
 mod messages;
 mod outstanding;
+mod pieces;
 mod releasing;
+mod replies;
 mod requester;
 mod revoking;
 mod submitting;

@@ -3,6 +3,7 @@
 ghost use Rattle.std.specs.Prelude.{◌≡◌, ℕ, ◌+◌, ◌^◌, ◌<◌, ◌≤◌, [], ◌∷◌, ◌++◌, length, sum, replicate, Some, if◌then◌else◌, IfOk, IfSome};
 ghost use Rattle.nr_reduce.specs.CallOutlines.{chunk_lengths};
 ghost use Rattle.nr_reduce.specs.Plans.{segments_from, entries_from, has_segment, one_if, read_list, write_list, reply_chunk, lists_of, read_stag, write_stag, reply_stag, regions_needed, call_message, total, body_by};
+ghost use Rattle.nr_link.specs.Limits.{send_max};
 ghost use Rattle.nr_header.specs.declared.header.ChunkLists.{ChunkLists};
 ghost use Rattle.nr_header.specs.Header.{header_encoding, lists_body, ChunksFit};
 ghost use Rattle.nr_requester.specs.Sending.{AreFew, some_if, offered_of, call_plan};
@@ -14,6 +15,13 @@ use nr_header::{
 use nr_reduce::{ChunkLengths, Outline};
 use nr_xdr::{Memory, Octets};
 use std::alloc::Global;
+
+/// The most bytes of a Send, of a chunk that a reply is taken through, and of an item's pad.
+const SEND_MAX: u64 = 1024;
+
+const CHUNK_MAX: u64 = 1073741824;
+
+const PAD_MAX: u64 = 3;
 
 /// A call that has a plan: its head and its arguments, and how they are sent.
 #[derive(Clone, Copy)]
@@ -313,4 +321,33 @@ pub fn offered_of(alloc: Global, plan: PlannedCall<'_>) -> Result<Offered, Memor
             Err(memory)
         }
     }
+}
+
+/// How many bytes a chunk has room for.
+fn total_of(lengths: Option<ChunkLengths<'_>>) -> u64
+    requires few { IfSome (chunk_lengths lengths) (λ lengths. length lengths < 2 ^ 31) }
+    ensures { result ≡ total (chunk_lengths lengths.entry) }
+{
+    match lengths {
+        Some(lengths) => sum_of(lengths.as_slice()),
+        None => 0,
+    }
+}
+
+/// The room in which the payload of a reply is put together: that of a Send, of both chunks of the plan, and of an item's pad. No
+/// chunk of a plan has 2^30 bytes; of one that had, it would be out of memory.
+pub fn reply_room(alloc: Global, plan: PlannedCall<'_>) -> Result<Octets, Memory>
+    requires few { AreFew (call_plan plan) }
+    ensures { IfOk result (λ room. (length room ≡ send_max + (total (call_plan plan.entry).write + (total (call_plan plan.entry).reply + 3))) × (length room < 2 ^ 32)) }
+{
+    let write = total_of(plan.outline.write);
+    let reply = total_of(plan.outline.reply);
+    if write > CHUNK_MAX {
+        return Err(Memory);
+    }
+    if reply > CHUNK_MAX {
+        return Err(Memory);
+    }
+    let len = SEND_MAX + (write + (reply + PAD_MAX));
+    Ok(Octets::from_vec(vec![in alloc; 0u8; len as usize]?))
 }

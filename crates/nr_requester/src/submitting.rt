@@ -5,7 +5,8 @@ ghost use Rattle.nr_rpc.specs.Credential.{CanWriteCred};
 ghost use Rattle.nr_endpoint.specs.Calls.{with_state};
 ghost use Rattle.nr_endpoint.specs.Offering.{claims_of};
 ghost use Rattle.nr_endpoint.specs.LinkState.{LinkSide};
-ghost use Rattle.nr_reduce.specs.Plans.{buffers, regions_needed, call_message, lists_of};
+ghost use Rattle.nr_link.specs.Limits.{send_max};
+ghost use Rattle.nr_reduce.specs.Plans.{buffers, regions_needed, call_message, lists_of, total};
 ghost use Rattle.nr_reduce.specs.CallOutlines.{outline_plan, OutlineAnswers};
 ghost use Rattle.nr_reduce.specs.declared.call.Refused.TheVariants as refusals;
 ghost use Rattle.nr_reduce.specs.declared.call.Submission.TheVariants as submissions;
@@ -18,7 +19,7 @@ ghost use Rattle.nr_requester.specs.HeldBytes.{call_bytes, call_max, NothingOuts
 ghost use Rattle.nr_requester.specs.Standing.{StandsOn};
 
 use crate::answer::AnsweredCall;
-use crate::messages::{PlannedCall, lists_of, message_of, offered_of, regions_needed};
+use crate::messages::{PlannedCall, lists_of, message_of, offered_of, regions_needed, reply_room};
 use crate::outstanding::OutstandingCall;
 use crate::requester::Requester;
 use crate::ticket::Ticket;
@@ -38,6 +39,13 @@ const NUMBERS_END: u64 = 4294967296;
 pub struct Sent {
     pub lists: ChunkLists,
     pub claims: Claims,
+}
+
+/// The same with the room in which its reply is put together.
+#[derive(Drop)]
+pub struct SentCall {
+    pub sent: Sent,
+    pub room: Octets,
 }
 
 /// Queues the message of a plan with these lists and registers its regions; or nothing, if memory runs out.
@@ -104,6 +112,38 @@ fn send_plan(
     }
 }
 
+/// The same, after it took the room of the reply.
+fn send_with_room(
+    alloc: Global,
+    endpoint: &mut Endpoint,
+    xid: u32,
+    credit: u32,
+    plan: PlannedCall<'_>,
+) -> Result<SentCall, Memory>
+    requires live { endpoint.old.link.state.ended ≡ None }
+    requires planned { IsPlan (call_plan plan) }
+    requires stags { endpoint.old.link.state.memory.next + regions_needed (call_plan plan) ≤ 2 ^ 32 }
+    ensures link { OnOk result (endpoint.new.link ≡ with_state (submitted endpoint.old.link.state (call_message xid credit endpoint.old.link.state.memory.next (call_plan plan.entry)) (buffers endpoint.old.link.state.memory.next (call_plan plan.entry))) endpoint.old.link) }
+    ensures lists { IfOk result (λ s. s.sent.lists ≡ lists_of endpoint.old.link.state.memory.next (call_plan plan.entry)) }
+    ensures claims { IfOk result (λ s. s.sent.claims ≡ claims_of endpoint.old.link.state.memory (offered_of (call_plan plan.entry))) }
+    ensures held { IfOk result (λ s. SentHeld endpoint.old.link.state.memory endpoint.new.link.state.memory s.sent.claims) }
+    ensures offer { IfOk result (λ s. IsOfferOf s.sent.claims s.sent.lists) }
+    ensures room { IfOk result (λ s. (length s.room ≡ send_max + (total (call_plan plan.entry).write + (total (call_plan plan.entry).reply + 3))) × (length s.room < 2 ^ 32)) }
+    ensures staging { endpoint.new.staging ≡ endpoint.old.staging }
+    ensures outside { OnOk result (NothingOutside endpoint.old → NothingOutside endpoint.new) }
+    ensures outside_err { OnErr result (endpoint.new.outside ≡ endpoint.old.outside) }
+    ensures err { OnErr result (endpoint.new.link ≡ endpoint.old.link) }
+{
+    let room = reply_room(alloc, plan)?;
+    match send_plan(alloc, endpoint, xid, credit, plan) {
+        Ok(sent) => Ok(SentCall { sent, room }),
+        Err(memory) => {
+            drop(room);
+            Err(memory)
+        }
+    }
+}
+
 /// Takes the room of a call more, and of its answer.
 fn make_room(
     outstanding: &mut Vec<OutstandingCall>,
@@ -161,7 +201,10 @@ impl Requester {
         if let Err(_) = make_room(&mut self.outstanding, &mut self.answered) {
             return Err(call);
         }
-        let Sent { lists, claims } = match send_plan(
+        let SentCall {
+            sent: Sent { lists, claims },
+            room,
+        } = match send_with_room(
             self.alloc,
             &mut self.endpoint,
             xid,
@@ -182,6 +225,7 @@ impl Requester {
             is_forgotten: false,
             offered: lists,
             claims,
+            room,
         });
         Ok(xid)
     }

@@ -1,22 +1,25 @@
-use Rattle.std.proofs.Common.{◌≡◌, ℕ, ◌+◌, ◌^◌, ◌≤◌, false, List, [], ◌∷◌, ◌++◌, length, None, Some, refl, ap, ◌∙◌, arith}
+use Rattle.std.proofs.Common.{◌≡◌, ℕ, ◌+◌, ◌^◌, ◌<◌, ◌≤◌, false, List, [], ◌∷◌, ◌++◌, length, None, Some, refl, sym, ap, subst, ◌∙◌, arith}
+use Rattle.nr_link.specs.Limits.{send_max}
 use Rattle.std.proofs.lemmas.List.{length-map}
 use Rattle.nr_endpoint.specs.LinkState.{LinkSide}
 use Rattle.nr_endpoint.specs.Calls.{with_state}
 use Rattle.nr_endpoint.specs.Offering.{claims_of}
 use Rattle.nr_reduce.specs.declared.outline.Plan.{Plan}
-use Rattle.nr_reduce.specs.Plans.{regions_needed, call_message, buffers}
+use Rattle.nr_reduce.specs.Plans.{regions_needed, call_message, buffers, total}
 use Rattle.nr_requester.specs.AfterCalls.{submitted}
 use Rattle.nr_requester.specs.Sending.{IsPlan, offered_of}
 use Rattle.nr_reduce.specs.CallOutlines.{outline_plan}
 use Rattle.nr_requester.specs.declared.outstanding.OutstandingCall.{OutstandingCall}
 use Rattle.nr_requester.specs.RequesterState.{RequesterSide}
 use Rattle.nr_requester.specs.Views.{stored_view}
-use Rattle.nr_requester.proofs.HeldRegions.{sent_sound}
+use Rattle.nr_requester.proofs.HeldRegions.{own_room, sent_sound}
 use Rattle.nr_requester.proofs.Within.{sent_within}
+use Rattle.nr_requester.specs.AfterCalls.{after_submit}
+use Rattle.nr_requester.proofs.Views.{sent_view}
 use Rattle.nr_requester.proofs.requester.Requester.send_call.Goals as goal
 
-pub send_plan-requires-clause-stags : goal.send_plan-requires-clause-stags
-send_plan-requires-clause-stags c =
+pub send_with_room-requires-clause-stags : goal.send_with_room-requires-clause-stags
+send_with_room-requires-clause-stags c =
     let next = ap (λ (h : RequesterSide). h.state.side.memory.next) c.self.view_is in
     let fits = c.requires.numbers.stags in
     let same = ap (λ (args : List ℕ). regions_needed (outline_plan (c.args.head.now ++ args) c.args.outline)) c.as_slice.ensures in
@@ -30,8 +33,8 @@ invariant_of-self-2 c =
     let xid = c.requires.numbers.xid in
     let credit = c.requires.numbers.credit in
     let len = length-map c.self.inside.outstanding.items stored_view in
-    let queue : c.send_plan.new.endpoint.link.state.receive_queue ≡ c.self.inside.endpoint.link.state.receive_queue = ap (λ (l : LinkSide). l.state.receive_queue) c.in-Ok.ensures.link in
-    let o : OutstandingCall = record { xid = c.self.inside.next_xid; call = Some c.args.call; is_forgotten = false; offered = c.in-Ok.sent.lists; claims = c.in-Ok.sent.claims } in
+    let queue : c.send_with_room.new.endpoint.link.state.receive_queue ≡ c.self.inside.endpoint.link.state.receive_queue = ap (λ (l : LinkSide). l.state.receive_queue) c.in-Ok.ensures.link in
+    let o : OutstandingCall = record { xid = c.self.inside.next_xid; call = Some c.args.call; is_forgotten = false; offered = c.in-Ok.sent.sent.lists; claims = c.in-Ok.sent.sent.claims; room = c.in-Ok.sent.room } in
     let plan : Plan = outline_plan (c.args.head.now ++ c.args.call.args) c.args.outline in
     let same : outline_plan (c.args.head.now ++ c.as_slice.result.now) c.args.outline ≡ plan = ap (λ (args : List ℕ). outline_plan (c.args.head.now ++ args) c.args.outline) c.as_slice.ensures in
     let planned : IsPlan plan = c.requires.planned in
@@ -40,13 +43,26 @@ invariant_of-self-2 c =
     let fits = c.requires.numbers.stags in
     let stags : c.self.inside.endpoint.link.state.memory.next + regions_needed plan ≤ 2 ^ 32 = omega (arith, next, fits) in
     let s = c.self.inside.endpoint.link.state in
-    let link_is : c.send_plan.new.endpoint.link ≡ with_state (submitted s (call_message c.self.inside.next_xid c.self.inside.wished s.memory.next plan) (buffers s.memory.next plan)) c.self.inside.endpoint.link =
+    let link_is : c.send_with_room.new.endpoint.link ≡ with_state (submitted s (call_message c.self.inside.next_xid c.self.inside.wished s.memory.next plan) (buffers s.memory.next plan)) c.self.inside.endpoint.link =
     c.in-Ok.ensures.link ∙ ap (λ (p : Plan). with_state (submitted s (call_message c.self.inside.next_xid c.self.inside.wished s.memory.next p) (buffers s.memory.next p)) c.self.inside.endpoint.link) same in
-    let claims_are : c.in-Ok.sent.claims ≡ claims_of s.memory (offered_of plan) = c.in-Ok.ensures.claims ∙ ap (λ (p : Plan). claims_of s.memory (offered_of p)) same in (
-      sent_sound c.self.inside.endpoint.link c.send_plan.new.endpoint.link c.self.inside.next_xid c.self.inside.grant _ _ c.self.inside.outstanding.items c.push_reserved.new.self.items c.self.inside.answered.items c.make_room.new.answered.items o
-          c.self.invariant.0 c.in-Ok.ensures.held queue c.in-Ok.ensures.offer (omega (arith, xid, number)) (omega (arith, count, credit, grant, len))
+    let claims_are : c.in-Ok.sent.sent.claims ≡ claims_of s.memory (offered_of plan) = c.in-Ok.ensures.claims ∙ ap (λ (p : Plan). claims_of s.memory (offered_of p)) same in
+    let room_is = subst (λ (p : Plan). (length c.in-Ok.sent.room ≡ send_max + (total p.write + (total p.reply + 3))) × (length c.in-Ok.sent.room < 2 ^ 32)) same c.in-Ok.ensures.room in (
+      sent_sound c.self.inside.endpoint.link c.send_with_room.new.endpoint.link c.self.inside.next_xid c.self.inside.grant _ _ c.self.inside.outstanding.items c.push_reserved.new.self.items c.self.inside.answered.items c.make_room.new.answered.items o
+          c.self.invariant.0 c.in-Ok.ensures.held queue c.in-Ok.ensures.offer (own_room s.memory plan o claims_are room_is) (ap (λ (l : LinkSide). l.state.reads) c.in-Ok.ensures.link) (omega (arith, xid, number)) (omega (arith, count, credit, grant, len))
           (c.push_reserved.ensures.items ∙ ap (λ (xs : List OutstandingCall). xs ++ o ∷ []) c.make_room.ensures.outstanding) c.make_room.ensures.answered refl c.in_default.ensures.answer,
-      sent_within c.self.inside.endpoint c.send_plan.new.endpoint c.self.inside.first_xid c.self.inside.next_xid c.self.inside.next_xid c.self.inside.wished c.self.inside.outstanding.items c.push_reserved.new.self.items c.self.inside.answered.items c.make_room.new.answered.items o plan c.self.invariant.1 c.self.invariant.0.rising
-          c.send_plan.ensures.staging c.in-Ok.ensures.outside link_is planned lives stags claims_are c.requires.small refl
-          (c.push_reserved.ensures.items ∙ ap (λ (xs : List OutstandingCall). xs ++ o ∷ []) c.make_room.ensures.outstanding) c.make_room.ensures.answered,
+      (
+        sent_within c.self.inside.endpoint c.send_with_room.new.endpoint c.self.inside.first_xid c.self.inside.next_xid c.self.inside.next_xid c.self.inside.wished c.self.inside.outstanding.items c.push_reserved.new.self.items c.self.inside.answered.items c.make_room.new.answered.items o plan c.self.invariant.1.0 c.self.invariant.0.rising
+            c.send_with_room.ensures.staging c.in-Ok.ensures.outside link_is planned lives stags claims_are c.requires.small (let len = room_is.0 in omega (arith, len)) refl
+            (c.push_reserved.ensures.items ∙ ap (λ (xs : List OutstandingCall). xs ++ o ∷ []) c.make_room.ensures.outstanding) c.make_room.ensures.answered,
+        subst (λ (l : LinkSide). c.self.inside.sent ≤ l.state.send_queue.sends_left) (sym link_is) c.self.invariant.1.1,
+      ),
     )
+
+pub returns-clause-state : goal.returns-clause-state
+returns-clause-state c =
+    let plan : Plan = outline_plan (c.args.head.now ++ c.as_slice.result.now) c.args.outline in
+    let o : OutstandingCall = record { xid = c.self.inside.next_xid; call = Some c.args.call; is_forgotten = false; offered = c.in-Ok.sent.sent.lists; claims = c.in-Ok.sent.sent.claims; room = c.in-Ok.sent.room } in
+    sent_view c.args.self.now c.self.inside.endpoint.link c.send_with_room.new.endpoint.link c.self.inside.sent c.self.inside.wished c.self.inside.first_xid c.self.inside.next_xid c.self.inside.grant c.self.inside.outstanding.items c.push_reserved.new.self.items
+    c.self.inside.answered.items c.make_room.new.answered.items c.args.call plan o c.self.view_is c.in-Ok.ensures.link (c.push_reserved.ensures.items ∙ ap (λ (xs : List OutstandingCall). xs ++ o ∷ []) c.make_room.ensures.outstanding) c.make_room.ensures.answered
+    (λ i. record { xid = c.self.inside.next_xid; call = Some c.args.call; is_forgotten = false; offered = c.in-Ok.ensures.lists i; claims = c.in-Ok.ensures.claims i })
+    ∙ ap (λ (args : List ℕ). after_submit c.args.self.now c.args.call (outline_plan (c.args.head.now ++ args) c.args.outline)) c.as_slice.ensures

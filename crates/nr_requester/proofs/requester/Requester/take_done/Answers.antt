@@ -11,7 +11,7 @@ pub invariant_of-self : goal.invariant_of-self
 invariant_of-self c =
     let i = c.self.inside in (
       taken_sound i.endpoint.link i.next_xid i.grant _ _ c.args.xid i.outstanding.items i.answered.items c.take_answer.new.answered.items c.self.invariant.0 c.take_answer.ensures.left c.take_answer.ensures.capacity,
-      taken_within i.endpoint i.first_xid i.next_xid c.args.xid i.outstanding.items i.answered.items c.take_answer.new.answered.items c.self.invariant.1 c.take_answer.ensures.left,
+      (taken_within i.endpoint i.first_xid i.next_xid c.args.xid i.outstanding.items i.answered.items c.take_answer.new.answered.items c.self.invariant.1.0 c.take_answer.ensures.left, c.self.invariant.1.1),
     )
 
 pub returns-clause-found : goal.returns-clause-found

@@ -9,7 +9,7 @@ use Rattle.nr_requester.proofs.requester.Requester.try_take.Goals as goal
 pub take_done-requires : goal.take_done-requires
 take_done-requires c =
     let says = c.is_some.ensures
-    ∙ place_says c.xid.result c.self.inside.answered.items c.as_slice.result.now c.answer_place.result c.as_slice.ensures.value c.self.invariant.1.distinct c.answer_place.ensures.some c.answer_place.ensures.none
+    ∙ place_says c.xid.result c.self.inside.answered.items c.as_slice.result.now c.answer_place.result c.as_slice.ensures.value c.self.invariant.1.0.distinct c.answer_place.ensures.some c.answer_place.ensures.none
     ∙ ap (λ (h : RequesterSide). is_some (found_answer c.xid.result h.state)) c.self.view_is
     ∙ ap (λ (n : ℕ). is_some (found_answer n c.args.self.now.state)) c.xid.ensures in
     record { there = ap (λ (n : ℕ). is_some (found_answer n c.args.self.now.state)) c.xid-then-is_some.ensures ∙ sym says ∙ c.if-is_some.true }
@@ -22,7 +22,7 @@ returns-then-is_some-clause-stands c =
 pub returns-in-None-clause-taken : goal.returns-in-None-clause-taken
 returns-in-None-clause-taken c =
     let says = c.is_some.ensures
-    ∙ place_says c.xid.result c.self.inside.answered.items c.as_slice.result.now c.answer_place.result c.as_slice.ensures.value c.self.invariant.1.distinct c.answer_place.ensures.some c.answer_place.ensures.none
+    ∙ place_says c.xid.result c.self.inside.answered.items c.as_slice.result.now c.answer_place.result c.as_slice.ensures.value c.self.invariant.1.0.distinct c.answer_place.ensures.some c.answer_place.ensures.none
     ∙ ap (λ (h : RequesterSide). is_some (found_answer c.xid.result h.state)) c.self.view_is
     ∙ ap (λ (n : ℕ). is_some (found_answer n c.args.self.now.state)) c.xid.ensures in
     (refl, (none_if (found_answer c.args.ticket c.args.self.now.state) (sym says ∙ c.if-is_some.false), (sym c.end.ensures ∙ c.in-None.is, refl)))
@@ -30,7 +30,7 @@ returns-in-None-clause-taken c =
 pub returns-in-Some-clause-taken : goal.returns-in-Some-clause-taken
 returns-in-Some-clause-taken c =
     let says = c.is_some.ensures
-    ∙ place_says c.xid.result c.self.inside.answered.items c.as_slice.result.now c.answer_place.result c.as_slice.ensures.value c.self.invariant.1.distinct c.answer_place.ensures.some c.answer_place.ensures.none
+    ∙ place_says c.xid.result c.self.inside.answered.items c.as_slice.result.now c.answer_place.result c.as_slice.ensures.value c.self.invariant.1.0.distinct c.answer_place.ensures.some c.answer_place.ensures.none
     ∙ ap (λ (h : RequesterSide). is_some (found_answer c.xid.result h.state)) c.self.view_is
     ∙ ap (λ (n : ℕ). is_some (found_answer n c.args.self.now.state)) c.xid.ensures in
     (none_if (found_answer c.args.ticket c.args.self.now.state) (sym says ∙ c.if-is_some.false), (sym c.end.ensures ∙ c.in-Some.is, (c.revoke-call.ensures.call, (c.revoke-call.ensures.buffers, c.revoke-call.ensures.state))))

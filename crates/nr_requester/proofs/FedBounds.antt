@@ -1,0 +1,159 @@
+-- What a step on a piece leaves within its bounds.
+use Rattle.std.proofs.Common.{◌≡◌, ℕ, ◌≤◌, ◌⊎◌, inl, inr, Bool, true, false, cond, eqb, List, [], length, Option, None, Some, Result, Ok, Err, refl, sym, ap, subst, ◌∙◌, arith}
+use Rattle.std.specs.Prelude.{is_some}
+use Rattle.nr_regions.specs.RegisteredMemory.{RegisteredMemory, after_place}
+use Rattle.nr_wire.specs.Constants.{OPCODE_READ_RESPONSE, OPCODE_READ_REQUEST}
+use Rattle.nr_wire.specs.declared.stream.Awaited.{Awaited}
+use Rattle.nr_wire.specs.declared.stream.Awaited.TheVariants.{Hello as HelloFrom, Fpdu}
+use Rattle.nr_wire.specs.Hello.{Hello, hello_of}
+use Rattle.nr_wire.specs.Segment.{Segment, segment_of}
+use Rattle.nr_wire.specs.Segment.Segment.{Tagged, Untagged}
+use Rattle.nr_link.specs.declared.end.End.{End}
+use Rattle.nr_link.specs.declared.end.End.TheVariants as ends
+use Rattle.nr_link.specs.Frames.{Frame}
+use Rattle.nr_link.specs.ReceiveState.{ReadRequest, read_request_in}
+use Rattle.nr_endpoint.specs.EndpointState.{EndpointState}
+use Rattle.nr_endpoint.specs.SendQueue.{SendQueue, with_end}
+use Rattle.nr_endpoint.specs.LinkState.{LinkState, LinkSide, has_ended}
+use Rattle.nr_endpoint.specs.Judging.{segment_end, next_frame, with_end_of, with_frame, with_segment_by, with_fpdu, with_peer_hello, with_effect, with_read_request, with_read_response}
+use Rattle.nr_endpoint.specs.Calls.{after_call}
+use Rattle.nr_endpoint.specs.Calls.Call.{FeedOne, NextEvent, Post, Stop, OutOfMemory}
+use Rattle.nr_endpoint.proofs.AlongFrames.{feed_one_keeps}
+use Rattle.nr_requester.specs.declared.answer.AnsweredCall.{AnsweredCall}
+use Rattle.nr_requester.specs.declared.outstanding.OutstandingCall.{OutstandingCall}
+use Rattle.nr_requester.specs.HeldBytes.{QueueFits, claims_total, unsent, IsBounded}
+use Rattle.nr_requester.proofs.OutputBounds.{ended_fits}
+use Rattle.nr_requester.proofs.OutsideBounds.{same_outside}
+use Rattle.nr_requester.proofs.FrameBounds.{Fits, end_fits, fed_one_fits}
+use Rattle.nr_requester.proofs.StepLeaves.{step_leaves}
+
+-- the same Sends wait, and the same have left
+abbrev pub SameSends : SendQueue → SendQueue → Type 0
+SameSends q p = (p.sends_left ≡ q.sends_left) × (p.send_ends ≡ q.send_ends)
+
+-- ---- A frame
+
+end_sends : (q : SendQueue) (s : LinkState) (end : End) → SameSends q s.send_queue → SameSends q (with_end_of end s).send_queue
+unfolding with_end
+end_sends q s end h = h
+
+response_sends : (q : SendQueue) (s : LinkState) (last : Bool) (n : ℕ) (b : Bool) → SameSends q s.send_queue → SameSends q (cond b (with_read_response last n s) s).send_queue
+response_sends q s last n true h = h
+response_sends q s last n false h = h
+
+request_sends : (q p : SendQueue) (m : RegisteredMemory) (r : Option ReadRequest) → SameSends q p → SameSends q (with_read_request r m p)
+request_sends q p m None h = h
+request_sends q p m (Some r) h = h
+
+segment_sends : (q : SendQueue) (s : LinkState) (f : Frame) (segment : Segment) (e : Option End) → SameSends q s.send_queue → SameSends q (with_segment_by f segment e s).send_queue
+unfolding with_effect
+segment_sends q s f segment (Some end) h = end_sends q s end h
+segment_sends q s f (Tagged last opcode stag to payload) None h = response_sends q (record s { memory = after_place s.memory stag to payload }) last (length payload) (eqb opcode OPCODE_READ_RESPONSE) h
+segment_sends q s f (Untagged last opcode w queue msn offset payload) None h = request_sends q s.send_queue s.memory (cond (eqb opcode OPCODE_READ_REQUEST) (Some (read_request_in payload)) None) h
+
+fpdu_sends : (q : SendQueue) (s : LinkState) (f : Frame) (r : Result Segment ℕ) → SameSends q s.send_queue → SameSends q (with_fpdu f r s).send_queue
+unfolding with_fpdu
+fpdu_sends q s f (Ok segment) h = segment_sends q s f segment (segment_end s f segment) h
+fpdu_sends q s f (Err reason) h = end_sends q s (ends.Bad f.at reason) h
+
+hello_sends : (q : SendQueue) (s : LinkState) (f : Frame) (r : Result Hello ℕ) → SameSends q s.send_queue → SameSends q (with_peer_hello f r s).send_queue
+unfolding with_peer_hello
+hello_sends q s f (Ok hello) h = h
+hello_sends q s f (Err reason) h = end_sends q s (ends.Bad f.at reason) h
+
+frame_sends : (q : SendQueue) (a : Awaited) (s : LinkState) (frame : List ℕ) → has_ended s ≡ false → SameSends q s.send_queue → SameSends q (with_frame s a frame).send_queue
+frame_sends q (HelloFrom side) s frame live h = hello_sends q s (next_frame s frame) (hello_of side frame) h
+frame_sends q Fpdu s frame live h = fpdu_sends q s (next_frame s frame) (segment_of frame) h
+
+fed_sends : (link : LinkSide) (piece : List ℕ) → SameSends link.state.send_queue (after_call link (FeedOne piece)).state.send_queue
+fed_sends link piece = feed_one_keeps (λ a s. SameSends link.state.send_queue s.send_queue) (frame_sends link.state.send_queue) link piece (refl, refl)
+
+-- ---- Calls of an endpoint that leave its regions
+
+module _ (sent first next : ℕ) (calls : List OutstandingCall) (answers : List AnsweredCall) (e e2 : EndpointState) (staging : length e2.staging ≡ length e.staging) (outside : e2.outside ≡ e.outside) (b : IsBounded sent first next e calls answers) where
+  moved : e2.link.state.memory.next ≡ e.link.state.memory.next → Fits (claims_total calls) e2.link.state → SameSends e.link.state.send_queue e2.link.state.send_queue → IsBounded sent first next e2 calls answers
+  moved stags fits same =
+      let w = b.0 in
+      let count = ap (λ (xs : List ℕ). length xs) same.1 in
+      let left = same.0 in
+      let was = w.counts.waiting in
+      let number = w.counts.numbered in (
+        record {
+          staging = staging ∙ w.staging;
+          outside = same_outside e e2 stags outside w.outside;
+          from = w.from;
+          order = w.order;
+          link = fits.0;
+          regions = fits.1;
+          counts = record {
+            waiting = subst (λ (n : ℕ). length e2.link.state.send_queue.send_ends ≤ length (unsent first n calls)) (sym left) (omega (arith, was, count));
+            numbered = omega (arith, number, left, count);
+          };
+          each = w.each;
+          kept = w.kept;
+          distinct = w.distinct;
+        },
+        (let le = b.1 in omega (arith, le, left)),
+      )
+
+  here : Fits (claims_total calls) e.link.state
+  here = (b.0.link, b.0.regions)
+
+  pub fed_bounded : (piece : List ℕ) → e.link.state.ended ≡ None → e.link.state.receive_queue.notices ≡ [] → e.link.state.reads ≡ [] → e2.link ≡ after_call e.link (FeedOne piece) → IsBounded sent first next e2 calls answers
+  fed_bounded piece lives quiet none is =
+      moved (ap (λ (l : LinkSide). l.state.memory.next) is ∙ (step_leaves e.link piece lives quiet none).leaves.next)
+      (subst (λ (l : LinkSide). Fits (claims_total calls) l.state) (sym is) (fed_one_fits (claims_total calls) e.link piece here))
+      (subst (λ (l : LinkSide). SameSends e.link.state.send_queue l.state.send_queue) (sym is) (fed_sends e.link piece))
+
+  -- another state of the link
+  to_state : (s : LinkState) → e2.link.state ≡ s → s.memory.next ≡ e.link.state.memory.next → Fits (claims_total calls) s → SameSends e.link.state.send_queue s.send_queue → IsBounded sent first next e2 calls answers
+  to_state s is stags fits same =
+      moved (ap (λ (x : LinkState). x.memory.next) is ∙ stags) (subst (λ (x : LinkState). Fits (claims_total calls) x) (sym is) fits)
+      (subst (λ (x : LinkState). SameSends e.link.state.send_queue x.send_queue) (sym is) same)
+
+  pub same_bounded : e2.link ≡ e.link → IsBounded sent first next e2 calls answers
+  same_bounded is = to_state e.link.state (ap (λ (l : LinkSide). l.state) is) refl here (refl, refl)
+
+  pub next_bounded : e2.link ≡ after_call e.link NextEvent → IsBounded sent first next e2 calls answers
+  unfolding after_call
+  next_bounded is = to_state (after_call e.link NextEvent).state (ap (λ (l : LinkSide). l.state) is) refl (
+    record { side = b.0.link.side; receives = b.0.link.receives; receive_length = b.0.link.receive_length; hello = b.0.link.hello; queue = b.0.link.queue; responses = b.0.link.responses; regions = b.0.link.regions },
+    b.0.regions,
+  ) (refl, refl)
+
+  pub post_bounded : e2.link ≡ after_call e.link Post → IsBounded sent first next e2 calls answers
+  unfolding after_call
+  post_bounded is = to_state (after_call e.link Post).state (ap (λ (l : LinkSide). l.state) is) refl (
+    record { side = b.0.link.side; receives = b.0.link.receives; receive_length = b.0.link.receive_length; hello = b.0.link.hello; queue = b.0.link.queue; responses = b.0.link.responses; regions = b.0.link.regions },
+    b.0.regions,
+  ) (refl, refl)
+
+  going : e.link.state.ended ≡ None → has_ended e.link.state ≡ false
+  going lives = ap (λ (o : Option End). is_some o) lives
+
+  pub out_bounded : e.link.state.ended ≡ None → e2.link ≡ after_call e.link OutOfMemory → IsBounded sent first next e2 calls answers
+  unfolding after_call
+  out_bounded lives is =
+      let s : LinkState = e.link.state in
+      let after : LinkState = record s { ended = Some ends.Memory } in
+      to_state after (ap (λ (l : LinkSide). l.state) is ∙ ap (λ (o : Option End). cond (is_some o) s after) lives) refl (
+        record {
+          side = b.0.link.side;
+          receives = b.0.link.receives;
+          receive_length = b.0.link.receive_length;
+          hello = b.0.link.hello;
+          queue = ended_fits s.send_queue true (subst (λ (x : Bool). QueueFits x s.send_queue) (going lives) b.0.link.queue);
+          responses = b.0.link.responses;
+          regions = b.0.link.regions;
+        },
+        b.0.regions,
+      ) (refl, refl)
+
+  pub stop_bounded : (reason : ℕ) → e.link.state.ended ≡ None → (e2.link ≡ after_call e.link (Stop reason)) ⊎ (e2.link ≡ after_call e.link OutOfMemory) → IsBounded sent first next e2 calls answers
+  unfolding after_call
+  stop_bounded reason lives (inl is) =
+      let s : LinkState = e.link.state in
+      let after : LinkState = with_end_of (ends.Bad s.last reason) s in
+      to_state after (ap (λ (l : LinkSide). l.state) is ∙ ap (λ (o : Option End). cond (is_some o) s after) lives) refl
+      (end_fits s (ends.Bad s.last reason) (claims_total calls) (going lives) here) (end_sends s.send_queue s (ends.Bad s.last reason) (refl, refl))
+  stop_bounded reason lives (inr is) = out_bounded lives is

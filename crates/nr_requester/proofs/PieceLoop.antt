@@ -1,0 +1,280 @@
+-- A piece, step by step, for the code.
+use Rattle.std.proofs.Common.{◌≡◌, ◌≢◌, ℕ, ◌+◌, ◌-◌, ◌^◌, ◌<◌, ◌≤◌, ◌⊎◌, inl, inr, Bool, true, false, cond, List, [], ◌∷◌, ◌++◌, length, take, drop, Option, None, Some, refl, sym, ap, subst, ◌∙◌, arith}
+use Rattle.std.specs.Prelude.{is_some}
+use Rattle.std.proofs.lemmas.Bool.{cases_lt}
+use Rattle.std.proofs.lemmas.List.{length-drop, take_all, take-append-drop}
+use Rattle.std.proofs.Math.Seq.{take-add}
+use Rattle.nr_wire.specs.declared.hello.Side.TheVariants.{Initiator}
+use Rattle.nr_wire.specs.Feeding.{bytes_taken, feeding_after_step}
+use Rattle.nr_wire.specs.Stream.{is_whole, frame_len, IsPartial}
+use Rattle.nr_wire.proofs.Feedings.{feeding_after-append, feeding_after_step-whole, feeding_after_step-partial, bytes_taken_within}
+use Rattle.nr_link.specs.declared.end.End.{End}
+use Rattle.nr_link.specs.declared.end.End.TheVariants as ends
+use Rattle.nr_endpoint.specs.LinkState.{LinkState, LinkSide, has_ended}
+use Rattle.nr_endpoint.specs.ReceiveQueue.{DeliveredEvent}
+use Rattle.nr_endpoint.specs.ReceiveQueue.DeliveredEvent.{MessageReceived, ReadDone}
+use Rattle.nr_endpoint.specs.Judging.{with_frame}
+use Rattle.nr_endpoint.specs.Calls.{after_call}
+use Rattle.nr_endpoint.specs.Calls.Call.{FeedOne}
+use Rattle.nr_endpoint.proofs.OneStep.{frame_not_memory}
+use Rattle.nr_endpoint.proofs.FedBytes.{fed_one_within}
+use Rattle.nr_endpoint.proofs.Pieces.{step-taken, feeding-none, some_taken, IsBehindFrame, behind}
+use Rattle.nr_reduce.specs.ClientMessages.{ReplyVerdict}
+use Rattle.nr_reduce.specs.ClientMessages.ReplyVerdict.{EndsLink, GivesOutcome}
+use Rattle.nr_reduce.specs.KeptCalls.{kept_verdict}
+use Rattle.nr_reduce.specs.KeptClient.{bytes_under}
+use Rattle.nr_reduce.specs.declared.mark.LinkParameters.{LinkParameters}
+use Rattle.nr_reduce.specs.declared.mark.Mark.{Mark}
+use Rattle.nr_reduce.specs.declared.mark.Mark.TheVariants as marks
+use Rattle.nr_requester.specs.RequesterState.{RequesterState, RequesterSide, kept_calls}
+use Rattle.nr_requester.specs.Standing.{StandsOn, RequesterRepresents, RequesterRunsOut}
+use Rattle.nr_requester.specs.AfterPiece.{judged, noticed, unless_ended, requester_ended, after_frame, after_piece, RanOut}
+use Rattle.nr_requester.specs.Fed.{one_step, IsStep, fed_bytes, RanOutAt}
+use Rattle.nr_requester.proofs.Stepping.{link_of, told_of, step_fed, piece_rest}
+use Rattle.nr_requester.proofs.RunOut.{fed_out}
+use Rattle.nr_requester.proofs.Fed.{piece_is_a_mark}
+use Rattle.nr_requester.proofs.AllMarks.{piece_runs_out}
+
+-- ---- A step
+
+-- an event leaves the offset after the last frame
+noticed_place : (r : RequesterState) (s : LinkState) (ns : List DeliveredEvent) → (noticed r s ns).side.place ≡ s.place
+noticed_place r s [] = refl
+noticed_place r s (MessageReceived number invalidated message ∷ ns) = by (kept_verdict (kept_calls r) (bytes_under s.memory) message)
+  where
+    by : (v : ReplyVerdict) → (judged r s message v).side.place ≡ s.place
+    by (EndsLink reason) = refl
+    by (GivesOutcome xid outcome) = refl
+noticed_place r s (ReadDone ∷ ns) = refl
+
+told_place : (r : RequesterState) (s : LinkState) (e : Option End) → (unless_ended r s e).side.place ≡ s.place
+told_place r s None = noticed_place r s s.receive_queue.notices
+told_place r s (Some end) = refl
+
+-- it doesn't end a side out of memory
+noticed_end : (r : RequesterState) (s : LinkState) (ns : List DeliveredEvent) → s.ended ≡ None → (noticed r s ns).side.ended ≢ Some ends.Memory
+noticed_end r s [] e = λ m. (let wrong : None ≡ Some ends.Memory = sym e ∙ m in cc)
+noticed_end r s (MessageReceived number invalidated message ∷ ns) e = by (kept_verdict (kept_calls r) (bytes_under s.memory) message)
+  where
+    by : (v : ReplyVerdict) → (judged r s message v).side.ended ≢ Some ends.Memory
+    by (EndsLink reason) = λ m. cc
+    by (GivesOutcome xid outcome) = λ m. (let wrong : None ≡ Some ends.Memory = sym e ∙ m in cc)
+noticed_end r s (ReadDone ∷ ns) e = λ m. (let wrong : None ≡ Some ends.Memory = sym e ∙ m in cc)
+
+told_end : (r : RequesterState) (s : LinkState) (e : Option End) → s.ended ≡ e → e ≢ Some ends.Memory → (unless_ended r s e).side.ended ≢ Some ends.Memory
+told_end r s None is other = noticed_end r s s.receive_queue.notices is
+told_end r s (Some end) is other = λ m. other (sym is ∙ m)
+
+live_told : (r : RequesterState) (s : LinkState) (e : Option End) → s.ended ≡ e → (unless_ended r s e).side.ended ≡ None → s.ended ≡ None
+live_told r s None is none = is
+live_told r s (Some end) is none = none
+
+link_end : (l : LinkSide) (piece : List ℕ) → l.state.ended ≡ None → (after_call l (FeedOne piece)).state.ended ≢ Some ends.Memory
+unfolding after_call
+link_end l piece lives = by (is_whole l.awaited (l.rest ++ piece)) refl
+  where
+    going : has_ended l.state ≡ false
+    going = ap (λ (x : Option End). is_some x) lives
+
+    by : (w : Bool) → is_whole l.awaited (l.rest ++ piece) ≡ w → (feeding_after_step has_ended with_frame l piece).state.ended ≢ Some ends.Memory
+    by true e = λ m. frame_not_memory l.state l.awaited (take (frame_len l.awaited (l.rest ++ piece)) (l.rest ++ piece)) lives (sym (ap (λ (x : LinkSide). x.state.ended) (feeding_after_step-whole has_ended with_frame l piece going e)) ∙ m)
+    by false e = λ m. (let wrong : None ≡ Some ends.Memory = sym lives ∙ sym (ap (λ (x : LinkSide). x.state.ended) (feeding_after_step-partial has_ended with_frame l piece going e)) ∙ m in cc)
+
+module _ (h : RequesterSide) (piece : List ℕ) (lives : h.state.side.ended ≡ None) (quiet : h.state.side.receive_queue.notices ≡ []) (partial : IsPartial h.awaited h.rest) where
+  abbrev l : LinkSide
+  l = after_call (link_of h) (FeedOne piece)
+
+  told : one_step h piece ≡ told_of h.state l
+  told = step_fed h piece (λ e. quiet)
+
+  pub step_not_memory : (one_step h piece).state.side.ended ≢ Some ends.Memory
+  step_not_memory = λ m. told_end h.state l.state l.state.ended refl (link_end (link_of h) piece lives) (sym (ap (λ (x : RequesterSide). x.state.side.ended) told) ∙ m)
+
+  pub step_bytes : (one_step h piece).state.side.ended ≡ None → fed_bytes (one_step h piece) ≤ fed_bytes h + bytes_taken h.awaited h.rest piece
+  step_bytes none =
+      let live_link : l.state.ended ≡ None = live_told h.state l.state l.state.ended refl (sym (ap (λ (x : RequesterSide). x.state.side.ended) told) ∙ none) in
+      let place : (one_step h piece).state.side.place ≡ l.state.place = ap (λ (x : RequesterSide). x.state.side.place) told ∙ told_place h.state l.state l.state.ended in
+      let rest : length (one_step h piece).rest ≡ length l.rest = ap (λ (x : RequesterSide). length x.rest) told in
+      elim (cases_lt (bytes_taken h.awaited h.rest piece) (length piece)) [
+        | inl lt ↦
+            let b : IsBehindFrame (link_of h) l piece = behind (link_of h) l piece lives partial refl lt in
+            let at = b.place live_link in
+            let none_left = ap (λ (xs : List ℕ). length xs) b.rest in
+            omega (arith, place, rest, at, none_left)
+        | inr le ↦ (let most = fed_one_within (link_of h) piece in omega (arith, place, rest, most, le))
+      ]
+
+  going : requester_ended h.state ≡ false
+  going = ap (λ (x : Option End). is_some x) lives
+
+  -- a step is a piece of the bytes that it takes
+  pub step_piece : one_step h piece ≡ after_piece h (take (bytes_taken h.awaited h.rest piece) piece)
+  unfolding after_piece
+  step_piece = step-taken requester_ended after_frame h piece (is_whole h.awaited (h.rest ++ piece)) refl going partial
+
+  -- all of the piece, once it ended the side
+  pub step_all : (end : End) → (one_step h piece).state.side.ended ≡ Some end → (one_step h piece).rest ≡ [] → one_step h piece ≡ after_piece h piece
+  step_all end e none =
+      let after : RequesterSide = told_of h.state l in
+      let ended : requester_ended after.state ≡ true = ap (λ (x : RequesterSide). is_some x.state.side.ended) (sym told) ∙ ap (λ (x : Option End). is_some x) e in
+      told
+      ∙ (λ i. record { awaited = after.awaited; rest = (ap (λ (x : RequesterSide). x.rest) (sym told) ∙ none) i; state = after.state })
+      ∙ sym (fed_out after (drop (bytes_taken h.awaited h.rest piece) piece) ended)
+      ∙ piece_rest h piece partial (λ e. quiet)
+
+-- ---- Step by step
+
+-- how far a piece was taken: its first bytes, by which the side didn't run out of memory; or memory ran out
+pub record FedTo (old : RequesterSide) (piece : List ℕ) (now : RequesterSide) (at : ℕ) : Type 0 where
+  pub within : at ≤ length piece
+  pub far : ((now ≡ after_piece old (take at piece)) × (now.state.side.ended ≢ Some ends.Memory)) ⊎ ((n : ℕ) × (RanOutAt old piece n now × (at ≡ length piece)))
+  pub goes : at < length piece → now.state.side.ended ≡ None
+  pub fed : at < length piece → fed_bytes now + (length piece - at) ≤ 2 ^ 62
+
+pub fed_none : (old : RequesterSide) (piece : List ℕ) → old.state.side.ended ≡ None → IsPartial old.awaited old.rest → fed_bytes old + length piece ≤ 2 ^ 62 → FedTo old piece old 0
+unfolding after_piece
+fed_none old piece lives partial within = record {
+  within = omega arith;
+  far = inl (sym (feeding-none requester_ended after_frame old partial (λ e. absurd (let wrong : false ≡ true = ap (λ (x : Option End). is_some x) (sym lives) ∙ e in cc))), λ m. (let wrong : None ≡ Some ends.Memory = sym lives ∙ m in cc));
+  goes = λ lt. lives;
+  fed = λ lt. omega (arith, within);
+}
+
+-- what a step says
+pub record Stepped (now : RequesterSide) (left : List ℕ) (new : RequesterSide) (count : ℕ) : Type 0 where
+  pub step : IsStep now left new
+  pub taken : count ≡ cond (is_some new.state.side.ended) (length left) (bytes_taken now.awaited now.rest left)
+  pub partial : IsPartial now.awaited now.rest
+  pub quiet : now.state.side.receive_queue.notices ≡ []
+  pub ended : is_some new.state.side.ended ≡ true → new.rest ≡ []
+
+append_pieces : (old : RequesterSide) (x y : List ℕ) → after_piece (after_piece old x) y ≡ after_piece old (x ++ y)
+unfolding after_piece
+append_pieces old x y = feeding_after-append requester_ended after_frame old x y
+
+pub some_step : (old now new : RequesterSide) (piece left : List ℕ) (at count : ℕ) → FedTo old piece now at → at < length piece → left ≡ drop at piece → Stepped now left new count → 0 < count
+some_step old now new piece left at count f lt is s = by new.state.side.ended refl
+  where
+    some_left : 0 < length left
+    some_left = omega (arith, lt, length-drop at piece, ap (λ (xs : List ℕ). length xs) is)
+
+    by : (e : Option End) → new.state.side.ended ≡ e → 0 < count
+    by None e = (let t = s.taken ∙ ap (λ (x : Option End). cond (is_some x) (length left) (bytes_taken now.awaited now.rest left)) e in let some = some_taken now.awaited now.rest left s.partial some_left in omega (arith, t, some))
+    by (Some end) e = (let t = s.taken ∙ ap (λ (x : Option End). cond (is_some x) (length left) (bytes_taken now.awaited now.rest left)) e in omega (arith, t, some_left))
+
+pub fed_on : (old now new : RequesterSide) (piece left : List ℕ) (at count : ℕ) → FedTo old piece now at → at < length piece → left ≡ drop at piece → Stepped now left new count → FedTo old piece new (at + count)
+fed_on old now new piece left at count f lt is s = by_far f.far
+  where
+    lives : now.state.side.ended ≡ None
+    lives = f.goes lt
+
+    long : length left ≡ length piece - at
+    long = ap (λ (xs : List ℕ). length xs) is ∙ length-drop at piece
+
+    most : bytes_taken now.awaited now.rest left ≤ length left
+    most = bytes_taken_within now.awaited now.rest left (is_whole now.awaited (now.rest ++ left)) refl
+
+    taken_if : (e : Option End) → new.state.side.ended ≡ e → count ≡ cond (is_some e) (length left) (bytes_taken now.awaited now.rest left)
+    taken_if e eq = s.taken ∙ ap (λ (x : Option End). cond (is_some x) (length left) (bytes_taken now.awaited now.rest left)) eq
+
+    at_on : now ≡ after_piece old (take at piece) → FedTo old piece new (at + count)
+    at_on on = by_step s.step
+      where
+        on_step : new ≡ one_step now left → FedTo old piece new (at + count)
+        on_step same = by_end new.state.side.ended refl
+          where
+            other : new.state.side.ended ≢ Some ends.Memory
+            other = λ m. step_not_memory now left lives s.quiet s.partial (ap (λ (x : RequesterSide). x.state.side.ended) (sym same) ∙ m)
+
+            joined : (x : List ℕ) → after_piece now x ≡ after_piece old (take at piece ++ x)
+            joined x = ap (λ (h : RequesterSide). after_piece h x) on ∙ append_pieces old (take at piece) x
+
+            by_end : (e : Option End) → new.state.side.ended ≡ e → FedTo old piece new (at + count)
+            by_end (Some end) e =
+                let t : count ≡ length left = taken_if (Some end) e in
+                let full : at + count ≡ length piece = omega (arith, t, long, lt) in
+                let none : (one_step now left).rest ≡ [] = ap (λ (x : RequesterSide). x.rest) (sym same) ∙ s.ended (ap (λ (x : Option End). is_some x) e) in
+                record {
+                  within = omega (arith, full);
+                  far = inl (
+                    same ∙ step_all now left lives s.quiet s.partial end (ap (λ (x : RequesterSide). x.state.side.ended) (sym same) ∙ e) none
+                        ∙ joined left
+                        ∙ ap (λ (xs : List ℕ). after_piece old (take at piece ++ xs)) is
+                        ∙ ap (after_piece old) (take-append-drop at piece ∙ sym (take_all (at + count) piece (omega (arith, full)))),
+                    other,
+                  );
+                  goes = λ less. absurd (omega (arith, less, full));
+                  fed = λ less. absurd (omega (arith, less, full));
+                }
+            by_end None e =
+                let t : count ≡ bytes_taken now.awaited now.rest left = taken_if None e in
+                let bytes = step_bytes now left lives s.quiet s.partial (ap (λ (x : RequesterSide). x.state.side.ended) (sym same) ∙ e) in
+                let fed_new : fed_bytes new ≡ fed_bytes (one_step now left) = ap fed_bytes same in
+                let was = f.fed lt in
+                record {
+                  within = omega (arith, t, most, long, lt);
+                  far = inl (
+                    same ∙ step_piece now left lives s.quiet s.partial
+                        ∙ joined (take (bytes_taken now.awaited now.rest left) left)
+                        ∙ (λ i. after_piece old (take at piece ++ take (sym t i) (is i)))
+                        ∙ ap (after_piece old) (sym (take-add at count piece)),
+                    other,
+                  );
+                  goes = λ less. e;
+                  fed = λ less. omega (arith, bytes, fed_new, t, was, less);
+                }
+
+        by_step : IsStep now left new → FedTo old piece new (at + count)
+        by_step (inl same) = on_step same
+        by_step (inr out) =
+            let t : count ≡ length left = taken_if (Some ends.Memory) out.out.ended in
+            let full : at + count ≡ length piece = omega (arith, t, long, lt) in
+            record {
+              within = omega (arith, full);
+              far = inr (
+                at,
+                (
+                  record {
+                    within = omega (arith, lt);
+                    live = ap (λ (x : RequesterSide). x.state.side.ended) (sym on) ∙ lives;
+                    out = subst (λ (x : RequesterSide). RanOut x new) on out.out;
+                    whole = (λ i. is_whole (sym on i).awaited ((sym on i).rest ++ sym is i)) ∙ out.whole;
+                  },
+                  full,
+                ),
+              );
+              goes = λ less. absurd (omega (arith, less, full));
+              fed = λ less. absurd (omega (arith, less, full));
+            }
+
+    by_far : ((now ≡ after_piece old (take at piece)) × (now.state.side.ended ≢ Some ends.Memory)) ⊎ ((n : ℕ) × (RanOutAt old piece n now × (at ≡ length piece))) → FedTo old piece new (at + count)
+    by_far (inl on) = at_on on.0
+    by_far (inr out) = absurd (let full = out.1.1 in omega (arith, lt, full))
+
+-- ---- At the end of the piece
+
+pub all_fed : (old now : RequesterSide) (piece : List ℕ) (at : ℕ) → FedTo old piece now at → length piece ≤ at → now.state.side.ended ≢ Some ends.Memory → now ≡ after_piece old piece
+all_fed old now piece at f le other = by f.far
+  where
+    by : ((now ≡ after_piece old (take at piece)) × (now.state.side.ended ≢ Some ends.Memory)) ⊎ ((n : ℕ) × (RanOutAt old piece n now × (at ≡ length piece))) → now ≡ after_piece old piece
+    by (inl on) = on.0 ∙ ap (after_piece old) (take_all at piece le)
+    by (inr out) = absurd (other out.1.0.out.ended)
+
+pub stands_fed : (old now : RequesterSide) (piece : List ℕ) → now ≡ after_piece old piece → StandsOn old (λ link. marks.Fed link Initiator piece) now
+stands_fed old now piece is opened link run s = subst (λ (h : RequesterSide). RequesterRepresents opened link h (run ++ marks.Fed link Initiator piece ∷ [])) (sym is) (piece_is_a_mark old piece opened link run s)
+
+abbrev pub FedOut : RequesterSide → List ℕ → RequesterSide → Type 0
+FedOut old piece new = (n : ℕ) × (RanOutAt old piece n new
+    × ((opened : LinkParameters) (link : ℕ) (run : List Mark) → RequesterRepresents opened link old run →
+    RequesterRunsOut opened link new (run ++ marks.Fed link Initiator (take n piece) ∷ []) (run ++ marks.Fed link Initiator (take n piece) ∷ [])))
+
+pub out_fed : (old now : RequesterSide) (piece : List ℕ) (at : ℕ) → FedTo old piece now at → now.state.side.ended ≡ Some ends.Memory → FedOut old piece now
+out_fed old now piece at f memory = by f.far
+  where
+    by : ((now ≡ after_piece old (take at piece)) × (now.state.side.ended ≢ Some ends.Memory)) ⊎ ((n : ℕ) × (RanOutAt old piece n now × (at ≡ length piece))) → FedOut old piece now
+    by (inl on) = absurd (on.1 memory)
+    by (inr out) = (out.0, (out.1.0, λ opened link run s. piece_runs_out old now (take out.0 piece) out.1.0.live out.1.0.out opened link run s))
+
+-- a side that had ended takes nothing
+pub ended_fed : (old : RequesterSide) (piece : List ℕ) → is_some old.state.side.ended ≡ true → old.rest ≡ [] → old ≡ after_piece old piece
+ended_fed old piece e none = (λ i. record { awaited = old.awaited; rest = none i; state = old.state }) ∙ sym (fed_out old piece e)

@@ -1,0 +1,281 @@
+-- A step on a piece of the server's stream, and the event that it makes, for the code.
+use Rattle.std.proofs.Common.{◌≡◌, ◌≢◌, ℕ, ◌⊎◌, inl, inr, Bool, true, cond, List, [], ◌∷◌, ◌++◌, map, Option, None, Some, refl, sym, ap, subst, ◌∙◌}
+use Rattle.std.specs.Prelude.{is_some}
+use Rattle.nr_wire.specs.Stream.{is_whole}
+use Rattle.nr_regions.specs.RegisteredMemory.{RegisteredMemory}
+use Rattle.nr_link.specs.declared.end.End.{End}
+use Rattle.nr_link.specs.declared.end.End.TheVariants as ends
+use Rattle.nr_endpoint.specs.LinkState.{LinkState, LinkSide}
+use Rattle.nr_endpoint.specs.SendQueue.{writable}
+use Rattle.nr_endpoint.specs.ReceiveQueue.{DeliveredEvent}
+use Rattle.nr_endpoint.specs.ReceiveQueue.DeliveredEvent.{MessageReceived, ReadDone}
+use Rattle.nr_endpoint.specs.Judging.{with_end_of}
+use Rattle.nr_endpoint.specs.Calls.{after_call, makes_whole}
+use Rattle.nr_endpoint.specs.Calls.Call.{FeedOne, NextEvent, Post, Stop, OutOfMemory}
+use Rattle.nr_reduce.specs.Client.{credits_of_word}
+use Rattle.nr_reduce.specs.ClientMessages.{ReplyVerdict}
+use Rattle.nr_reduce.specs.ClientMessages.ReplyVerdict.{EndsLink, GivesOutcome}
+use Rattle.nr_reduce.specs.KeptCalls.{kept_verdict}
+use Rattle.nr_reduce.specs.KeptClient.{bytes_under, released_all}
+use Rattle.nr_xdr.specs.Fields.{word_at}
+use Rattle.nr_requester.specs.declared.answer.AnsweredCall.{AnsweredCall}
+use Rattle.nr_requester.specs.declared.outstanding.OutstandingCall.{OutstandingCall}
+use Rattle.nr_requester.specs.RequesterState.{RequesterState, RequesterSide, queue_of, kept_calls}
+use Rattle.nr_requester.specs.AfterPiece.{taken, judged, noticed, unless_ended, requester_ended, after_frame, RanOut}
+use Rattle.nr_requester.specs.Judged.{kept_views}
+use Rattle.nr_requester.specs.Fed.{OneWaits, CallsSound, IsReady, JudgesTo, noticed_side, Told, one_step, StepOut, IsStep}
+use Rattle.nr_requester.specs.Views.{IsSound, stored_view, requester_view}
+use Rattle.nr_requester.proofs.Stepping.{link_of, told_of, step_fed}
+use Rattle.nr_requester.proofs.StepLeaves.{Delivers, Leaves, StepLeaves, step_leaves, held_still}
+
+-- ---- An event
+
+ended_of : Option End → Bool
+ended_of e = is_some e
+
+module _ (link0 : LinkSide) (lives : link0.state.ended ≡ None) where
+  abbrev s : LinkState
+  s = link0.state
+
+  stop_is : (reason : ℕ) → after_call (after_call (after_call link0 NextEvent) Post) (Stop reason) ≡ record { awaited = link0.awaited; rest = []; state = with_end_of (ends.Bad s.last reason) (taken s) }
+  unfolding after_call
+  stop_is reason = ap (λ (e : Option End). record { awaited = link0.awaited; rest = []; state = cond (is_some e) (taken s) (with_end_of (ends.Bad s.last reason) (taken s)) }) lives
+
+  out_is : after_call (after_call (after_call link0 NextEvent) Post) OutOfMemory ≡ record { awaited = link0.awaited; rest = []; state = record (taken s) { ended = Some ends.Memory } }
+  unfolding after_call
+  out_is = ap (λ (e : Option End). record { awaited = link0.awaited; rest = []; state = cond (is_some e) (taken s) (record (taken s) { ended = Some ends.Memory }) }) lives
+
+  posted_is : (m : RegisteredMemory) → Rattle.nr_requester.specs.Buffers.with_memory m (after_call (after_call link0 NextEvent) Post) ≡ record { awaited = link0.awaited; rest = link0.rest; state = record (taken s) { memory = m } }
+  unfolding after_call
+  posted_is m = refl
+
+  next_memory : (after_call link0 NextEvent).state.memory ≡ s.memory
+  unfolding after_call
+  next_memory = refl
+
+pub message_told : (link0 link1 link2 : LinkSide) (sent wished first next grant grant2 number : ℕ) (items items2 : List OutstandingCall) (answers answers2 : List AnsweredCall) (message : List ℕ) → link0.state.ended ≡ None →
+    link0.state.receive_queue.notices ≡ MessageReceived number None message ∷ [] → link0.rest ≡ [] → link1 ≡ after_call link0 NextEvent →
+    JudgesTo (kept_verdict (kept_views first sent items) (bytes_under link1.state.memory) message) message link1 link2 items items2 answers answers2 grant grant2 →
+    Told (requester_view link0 sent wished first next grant items answers) (requester_view link2 sent wished first next grant2 items2 answers2)
+message_told link0 link1 link2 sent wished first next grant grant2 number items items2 answers answers2 message lives is rest event judges =
+    by (kept_verdict (kept_views first sent items) (bytes_under link0.state.memory) message) refl
+    (subst (λ (m : RegisteredMemory). JudgesTo (kept_verdict (kept_views first sent items) (bytes_under m) message) message (after_call link0 NextEvent) link2 items items2 answers answers2 grant grant2) (next_memory link0 lives)
+    (subst (λ (l : LinkSide). JudgesTo (kept_verdict (kept_views first sent items) (bytes_under l.state.memory) message) message l link2 items items2 answers answers2 grant grant2) event judges))
+  where
+    before : RequesterSide
+    before = requester_view link0 sent wished first next grant items answers
+
+    s : LinkState
+    s = link0.state
+
+    -- what is made of it, by the verdict
+    made : (v : ReplyVerdict) → kept_verdict (kept_views first sent items) (bytes_under s.memory) message ≡ v → noticed_side before ≡ record { awaited = link0.awaited; rest = link0.rest; state = judged before.state s message v }
+    made v e = (λ i. record { awaited = link0.awaited; rest = link0.rest; state = noticed before.state s (is i) }) ∙ ap (λ (x : ReplyVerdict). record { awaited = link0.awaited; rest = link0.rest; state = judged before.state s message x }) e
+
+    by : (v : ReplyVerdict) → kept_verdict (kept_views first sent items) (bytes_under s.memory) message ≡ v → JudgesTo v message (after_call link0 NextEvent) link2 items items2 answers answers2 grant grant2 → Told before (requester_view link2 sent wished first next grant2 items2 answers2)
+    by (EndsLink reason) e j = ended j.0
+      where
+        same_calls : requester_view link2 sent wished first next grant2 items2 answers2 ≡ record { awaited = link2.awaited; rest = link2.rest; state = record before.state { side = link2.state } }
+        same_calls = λ i. record { awaited = link2.awaited; rest = link2.rest; state = record { side = link2.state; sent = sent; wished = wished; first_xid = first; next_xid = next; grant = j.1.1.1 i; outstanding = j.1.0 i; answered = j.1.1.0 i } }
+
+        ended : (link2 ≡ after_call (after_call (after_call link0 NextEvent) Post) (Stop reason)) ⊎ (link2 ≡ after_call (after_call (after_call link0 NextEvent) Post) OutOfMemory) → Told before (requester_view link2 sent wished first next grant2 items2 answers2)
+        ended (inl stop) = inl (
+            same_calls
+            ∙ ap (λ (l : LinkSide). record { awaited = l.awaited; rest = l.rest; state = record before.state { side = l.state } }) (stop ∙ stop_is link0 lives reason)
+            ∙ ap (λ (xs : List ℕ). record { awaited = link0.awaited; rest = xs; state = judged before.state s message (EndsLink reason) }) (sym rest)
+            ∙ sym (made (EndsLink reason) e)
+            )
+        ended (inr out) =
+            let l : link2 ≡ record { awaited = link0.awaited; rest = []; state = record (taken s) { ended = Some ends.Memory } } = out ∙ out_is link0 lives in
+            inr (record {
+              waits = record { number = number; message = message; is = is; rest = rest };
+              reason = reason;
+              verdict = e;
+              rest = ap (λ (x : LinkSide). x.rest) l;
+              ended = ap (λ (x : LinkSide). x.state.ended) l;
+              memory = ap (λ (x : LinkSide). x.state.memory) l;
+              queue = ap (λ (x : LinkSide). x.state.send_queue) l;
+              hello = ap (λ (x : LinkSide). x.state.has_hello) l;
+              same = ap (λ (h : RequesterSide). h.state) same_calls;
+            })
+    by (GivesOutcome xid outcome) e j =
+        let l : link2 ≡ record { awaited = link0.awaited; rest = link0.rest; state = record (taken s) { memory = released_all s.memory (Rattle.nr_requester.specs.AfterCalls.stags_for (word_at 0 message) (map stored_view items)) } } =
+        j.0 ∙ ap (λ (m : RegisteredMemory). Rattle.nr_requester.specs.Buffers.with_memory (released_all m (Rattle.nr_requester.specs.AfterCalls.stags_for (word_at 0 message) (map stored_view items))) (after_call (after_call link0 NextEvent) Post)) (next_memory link0 lives)
+        ∙ posted_is link0 lives (released_all s.memory (Rattle.nr_requester.specs.AfterCalls.stags_for (word_at 0 message) (map stored_view items))) in
+        inl (
+        (λ i. record { awaited = (l i).awaited; rest = (l i).rest; state = record { side = (l i).state; sent = sent; wished = wished; first_xid = first; next_xid = next; grant = j.1.1.1 i; outstanding = j.1.0 i; answered = j.1.1.0 i } })
+        ∙ ap (λ (m : RegisteredMemory). record {
+          awaited = link0.awaited;
+          rest = link0.rest;
+          state = record before.state {
+            side = record (taken s) { memory = released_all s.memory (Rattle.nr_requester.specs.AfterCalls.stags_for (word_at 0 message) (map stored_view items)) };
+            grant = credits_of_word (word_at 8 message);
+            outstanding = Rattle.nr_requester.specs.AfterPiece.without_call (word_at 0 message) (map stored_view items);
+            answered = answers ++ Rattle.nr_requester.specs.AfterPiece.answer_to m (Rattle.nr_requester.specs.AfterPiece.call_of (word_at 0 message) (map stored_view items)) outcome;
+          };
+        }) (next_memory link0 lives)
+        ∙ sym (made (GivesOutcome xid outcome) e)
+        )
+
+-- no event
+pub none_told : (link0 link2 : LinkSide) (sent wished first next grant : ℕ) (items : List OutstandingCall) (answers : List AnsweredCall) → link0.state.receive_queue.notices ≡ [] → link2 ≡ link0 → Told (requester_view link0 sent wished first next grant items answers) (requester_view link2 sent wished first next grant items answers)
+none_told link0 link2 sent wished first next grant items answers none same = inl (
+    ap (λ (l : LinkSide). requester_view l sent wished first next grant items answers) same
+    ∙ ap (λ (ns : List DeliveredEvent). record { awaited = link0.awaited; rest = link0.rest; state = noticed (requester_view link0 sent wished first next grant items answers).state link0.state ns }) (sym none)
+    )
+
+-- ---- A step
+
+-- the side before the event doesn't matter
+noticed_as : (r : RequesterState) (s t : LinkState) (ns : List DeliveredEvent) → noticed (record r { side = t }) s ns ≡ noticed r s ns
+noticed_as r s t [] = refl
+noticed_as r s t (MessageReceived number invalidated message ∷ ns) = by (kept_verdict (kept_calls r) (bytes_under s.memory) message)
+  where
+    by : (v : ReplyVerdict) → judged (record r { side = t }) s message v ≡ judged r s message v
+    by (EndsLink reason) = refl
+    by (GivesOutcome xid outcome) = refl
+noticed_as r s t (ReadDone ∷ ns) = refl
+
+abbrev pub side_with : RequesterSide → LinkSide → RequesterSide
+side_with h l = record { awaited = l.awaited; rest = l.rest; state = record h.state { side = l.state } }
+
+module _ (h : RequesterSide) (piece : List ℕ) (lives : h.state.side.ended ≡ None) (quiet : h.state.side.receive_queue.notices ≡ []) (none : h.state.side.reads ≡ []) where
+  abbrev l : LinkSide
+  l = after_call (link_of h) (FeedOne piece)
+
+  stepped : one_step h piece ≡ told_of h.state l
+  stepped = step_fed h piece (λ e. quiet)
+
+  left : StepLeaves (link_of h) piece l
+  left = step_leaves (link_of h) piece lives quiet none
+
+  -- the step ended the side
+  pub step_ended : (after : RequesterSide) (end : End) → after ≡ side_with h l → l.state.ended ≡ Some end → IsStep h piece after
+  step_ended after end is e = inl (is ∙ ap (λ (x : Option End). record { awaited = l.awaited; rest = l.rest; state = unless_ended h.state l.state x }) (sym e) ∙ sym stepped)
+
+  -- it went on, and its event was taken
+  pub step_told : (after : RequesterSide) → l.state.ended ≡ None → Told (side_with h l) after → IsStep h piece after
+  step_told after e (inl is) = inl (
+      is
+      ∙ (λ i. record { awaited = l.awaited; rest = l.rest; state = noticed_as h.state l.state l.state l.state.receive_queue.notices i })
+      ∙ ap (λ (x : Option End). record { awaited = l.awaited; rest = l.rest; state = unless_ended h.state l.state x }) (sym e)
+      ∙ sym stepped
+      )
+  step_told after e (inr out) = inr (by (left.leaves.waits e) left.rest)
+    where
+      contra : {X : Type 0} → l.state.receive_queue.notices ≡ [] → X
+      contra e = absurd (let wrong : [] ≡ MessageReceived out.waits.number None out.waits.message ∷ [] = sym e ∙ out.waits.is in cc)
+
+      by : (l.state.receive_queue.notices ≡ []) ⊎ Delivers h.state.side l.state → (l.state.receive_queue.notices ≡ []) ⊎ ((l.rest ≡ []) × (is_whole h.awaited (h.rest ++ piece) ≡ true)) → StepOut h piece after
+      by (inl n) w = contra n
+      by (inr d) (inl n) = contra n
+      by (inr d) (inr w) = record {
+        out = record {
+          rest = out.rest;
+          ended = out.ended;
+          memory = out.memory ∙ d.memory;
+          queue = (λ i. writable (out.hello i) (out.queue i)) ∙ (λ i. writable (d.hello i) (d.queue i));
+          same = out.same;
+        };
+        whole = w.1;
+      }
+
+  -- memory ran out for the frame
+  pub step_out : (after : RequesterSide) (link2 : LinkSide) → after ≡ side_with h link2 → link2 ≡ after_call (link_of h) OutOfMemory → makes_whole (link_of h) piece ≡ true → IsStep h piece after
+  unfolding after_call
+  step_out after link2 is out whole =
+      let o : link2 ≡ record { awaited = h.awaited; rest = []; state = record h.state.side { ended = Some ends.Memory } } =
+      out ∙ ap (λ (e : Option End). record { awaited = h.awaited; rest = []; state = cond (is_some e) h.state.side (record h.state.side { ended = Some ends.Memory }) }) lives in
+      let a : after ≡ side_with h (record { awaited = h.awaited; rest = []; state = record h.state.side { ended = Some ends.Memory } }) = is ∙ ap (side_with h) o in
+      inr (record {
+        out = record {
+          rest = ap (λ (x : RequesterSide). x.rest) a;
+          ended = ap (λ (x : RequesterSide). x.state.side.ended) a;
+          memory = ap (λ (x : RequesterSide). x.state.side.memory) a;
+          queue = ap (λ (x : RequesterSide). queue_of x.state) a;
+          same = ap (λ (x : RequesterSide). x.state) is ∙ ap (λ (t : LinkState). record h.state { side = t }) (sym (ap (λ (x : RequesterSide). x.state.side) is));
+        };
+        whole = whole;
+      })
+
+  pub step_quiet : LinkSide
+  step_quiet = l
+
+-- ---- What holds of the code's values
+
+pub calls_sound : (link : LinkSide) (next grant room : ℕ) (items : List OutstandingCall) (answers : List AnsweredCall) → IsSound link next grant items answers room → CallsSound link.state.memory next items answers room
+calls_sound link next grant room items answers s = record { held = s.held; offers = s.offers; rooms = s.rooms; rising = s.rising; apart = s.apart; has_room = s.has_room }
+
+pub leaves_calls : (s t : LinkState) (next room : ℕ) (items : List OutstandingCall) (answers : List AnsweredCall) → Leaves s t → CallsSound s.memory next items answers room → CallsSound t.memory next items answers room
+leaves_calls s t next room items answers l c =
+    record { held = held_still s.memory t.memory 0 _ l.held l.next c.held; offers = c.offers; rooms = c.rooms; rising = c.rising; apart = c.apart; has_room = c.has_room }
+
+pub ready_lem : (link link2 : LinkSide) (piece : List ℕ) (next grant room : ℕ) (items : List OutstandingCall) (answers : List AnsweredCall) → IsSound link next grant items answers room → link.state.ended ≡ None → link2 ≡ after_call link (FeedOne piece) → link2.state.ended ≡ None →
+    IsReady link2 items answers room
+ready_lem link link2 piece next grant room items answers s lives is live2 =
+    let a : LinkSide = after_call link (FeedOne piece) in
+    let w : StepLeaves link piece a = step_leaves link piece lives s.none_waits s.no_reads in
+    subst (λ (x : LinkSide). IsReady x items answers room) (sym is) (record {
+      live = ap (λ (x : LinkSide). x.state.ended) (sym is) ∙ live2;
+      waits = by a w (w.leaves.waits (ap (λ (x : LinkSide). x.state.ended) (sym is) ∙ live2)) w.rest;
+      none_lent = w.leaves.lent ∙ s.none_lent;
+      no_reads = w.leaves.reads;
+      next_xid = next;
+      calls = leaves_calls link.state a.state next room items answers w.leaves (calls_sound link next grant room items answers s);
+    })
+  where
+    by : (a : LinkSide) → StepLeaves link piece a → (a.state.receive_queue.notices ≡ []) ⊎ Delivers link.state a.state → (a.state.receive_queue.notices ≡ []) ⊎ ((a.rest ≡ []) × (is_whole link.awaited (link.rest ++ piece) ≡ true)) → (a.state.receive_queue.notices ≡ []) ⊎ OneWaits a
+    by a w (inl n) r = inl n
+    by a w (inr d) (inl n) = inl n
+    by a w (inr d) (inr r) = inr (record { number = d.number; message = d.message; is = d.is; rest = r.0 })
+
+-- after the step ended the side
+pub ended_sound : (link link2 : LinkSide) (piece : List ℕ) (next grant room : ℕ) (items : List OutstandingCall) (answers : List AnsweredCall) (end : End) → IsSound link next grant items answers room → link.state.ended ≡ None → link2.state.ended ≡ Some end →
+    (end ≢ ends.Memory → link2 ≡ after_call link (FeedOne piece)) → (end ≡ ends.Memory → link2 ≡ after_call link OutOfMemory) → IsSound link2 next grant items answers room
+unfolding after_call
+ended_sound link link2 piece next grant room items answers end s lives e other memory = by end e other memory
+  where
+    after : (end : End) → link2.state.ended ≡ Some end → link2 ≡ after_call link (FeedOne piece) → IsSound link2 next grant items answers room
+    after end e is =
+        let a : LinkSide = after_call link (FeedOne piece) in
+        let w : StepLeaves link piece a = step_leaves link piece lives s.none_waits s.no_reads in
+        let c = leaves_calls link.state a.state next room items answers w.leaves (calls_sound link next grant room items answers s) in
+        subst (λ (x : LinkSide). IsSound x next grant items answers room) (sym is) (record {
+          xid = s.xid;
+          few = s.few;
+          some = s.some;
+          granted = s.granted;
+          none_waits = w.leaves.ended (ap (λ (x : LinkSide). is_some x.state.ended) (sym is) ∙ ap (λ (o : Option End). is_some o) e);
+          none_lent = w.leaves.lent ∙ s.none_lent;
+          held = c.held;
+          offers = c.offers;
+          rooms = c.rooms;
+          no_reads = w.leaves.reads;
+          rising = c.rising;
+          apart = c.apart;
+          has_room = c.has_room;
+        })
+
+    out : link2 ≡ after_call link OutOfMemory → IsSound link2 next grant items answers room
+    out is = subst (λ (x : LinkSide). IsSound x next grant items answers room) (sym (is ∙ ap (λ (o : Option End). record { awaited = link.awaited; rest = []; state = cond (is_some o) link.state (record link.state { ended = Some ends.Memory }) }) lives)) (record {
+      xid = s.xid;
+      few = s.few;
+      some = s.some;
+      granted = s.granted;
+      none_waits = s.none_waits;
+      none_lent = s.none_lent;
+      held = s.held;
+      offers = s.offers;
+      rooms = s.rooms;
+      no_reads = s.no_reads;
+      rising = s.rising;
+      apart = s.apart;
+      has_room = s.has_room;
+    })
+
+    by : (x : End) → link2.state.ended ≡ Some x → (x ≢ ends.Memory → link2 ≡ after_call link (FeedOne piece)) → (x ≡ ends.Memory → link2 ≡ after_call link OutOfMemory) → IsSound link2 next grant items answers room
+    by ends.Memory e other memory = out (memory refl)
+    by (ends.Bad at reason) e other memory = after (ends.Bad at reason) e (other (λ eq. cc))
+    by (ends.Denied stag to why) e other memory = after (ends.Denied stag to why) e (other (λ eq. cc))
+    by (ends.NoBuffer at) e other memory = after (ends.NoBuffer at) e (other (λ eq. cc))
+    by (ends.Terminated reason) e other memory = after (ends.Terminated reason) e (other (λ eq. cc))

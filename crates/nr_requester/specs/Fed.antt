@@ -1,0 +1,117 @@
+-- What a step on a piece makes of a requester, for the code.
+use Rattle.std.specs.Prelude.{◌≡◌, ℕ, ◌+◌, ◌≤◌, ◌⊎◌, true, List, [], ◌∷◌, ◌++◌, length, map, take, drop, Option, None, Some}
+use Rattle.std.specs.List.{AllByRecursion}
+use Rattle.nr_wire.specs.Feeding.{feeding_after_step}
+use Rattle.nr_wire.specs.Stream.{is_whole}
+use Rattle.nr_link.specs.declared.end.End.TheVariants as ends
+use Rattle.nr_endpoint.specs.LinkState.{LinkSide}
+use Rattle.nr_endpoint.specs.ReceiveQueue.DeliveredEvent.{MessageReceived}
+use Rattle.nr_reduce.specs.declared.call.Call.{Call}
+use Rattle.nr_reduce.specs.declared.call.Outcome.{Outcome}
+use Rattle.nr_reduce.specs.ClientMessages.{ReplyVerdict}
+use Rattle.nr_reduce.specs.ClientMessages.ReplyVerdict.{EndsLink, GivesOutcome}
+use Rattle.nr_reduce.specs.Client.{credits_of_word}
+use Rattle.nr_reduce.specs.KeptCalls.{kept_verdict}
+use Rattle.nr_reduce.specs.KeptClient.{bytes_under, released_all}
+use Rattle.nr_xdr.specs.Fields.{word_at}
+use Rattle.nr_regions.specs.RegisteredMemory.{RegisteredMemory}
+use Rattle.nr_endpoint.specs.Calls.{after_call}
+use Rattle.nr_endpoint.specs.Calls.Call.{Post, Stop, OutOfMemory}
+use Rattle.nr_requester.specs.AfterCalls.{stags_for}
+use Rattle.nr_requester.specs.Buffers.{with_memory}
+use Rattle.nr_requester.specs.declared.answer.AnsweredCall.{AnsweredCall}
+use Rattle.nr_requester.specs.declared.answer.Buffers.{Buffers}
+use Rattle.nr_requester.specs.declared.outstanding.OutstandingCall.{OutstandingCall}
+use Rattle.nr_requester.specs.RequesterState.{RequesterSide, kept_calls}
+use Rattle.nr_requester.specs.HeldClaims.{AreHeldFrom, all_claims, OffersOwn}
+use Rattle.nr_requester.specs.AfterPiece.{without_call, answer_to, call_of, noticed, requester_ended, after_frame, after_piece, RanOut}
+use Rattle.nr_requester.specs.Views.{HasRoom, AreRising, IsAnswered, stored_view}
+
+-- the answer of a call, if its owner awaits it and a message gave an outcome
+abbrev pub answer_with : ℕ → Option Call → Buffers → Option Outcome → List AnsweredCall
+answer_with xid None buffers outcome = []
+answer_with xid (Some call) buffers None = []
+answer_with xid (Some call) buffers (Some outcome) = record { xid = xid; call = call; buffers = buffers; outcome = outcome } ∷ []
+
+-- ---- An event that waits
+
+-- one message waits, whose frame ends the input so far
+pub record OneWaits (link : LinkSide) : Type 0 where
+  pub number : ℕ
+  pub message : List ℕ
+  pub is : link.state.receive_queue.notices ≡ MessageReceived number None message ∷ []
+  pub rest : link.rest ≡ []
+
+-- What holds of the calls: their regions are held, and are those that they offer; there is room for their replies and answers; their xids rise.
+pub record CallsSound (m : RegisteredMemory) (next_xid : ℕ) (outstanding : List OutstandingCall) (answered : List AnsweredCall) (room : ℕ) : Type 0 where
+  pub held : AreHeldFrom m 0 (all_claims outstanding)
+  pub offers : AllByRecursion OffersOwn outstanding
+  pub rooms : AllByRecursion HasRoom outstanding
+  pub rising : AreRising outstanding next_xid
+  pub apart : AllByRecursion (IsAnswered next_xid outstanding) answered
+  pub has_room : length answered + length outstanding ≤ room
+
+-- What holds of a requester that hasn't ended while an event may wait.
+pub record IsReady (link : LinkSide) (outstanding : List OutstandingCall) (answered : List AnsweredCall) (room : ℕ) : Type 0 where
+  pub live : link.state.ended ≡ None
+  pub waits : (link.state.receive_queue.notices ≡ []) ⊎ OneWaits link
+  pub none_lent : link.state.receive_queue.lent ≡ 0
+  pub no_reads : link.state.reads ≡ []
+  pub next_xid : ℕ
+  pub calls : CallsSound link.state.memory next_xid outstanding answered room
+
+-- ---- A message
+
+-- what a message makes, by the verdict on it: it ends the link, or memory runs out for that; or it ends its call
+abbrev pub JudgesTo : ReplyVerdict → List ℕ → (link link2 : LinkSide) → (calls calls2 : List OutstandingCall) → (answers answers2 : List AnsweredCall) → (grant grant2 : ℕ) → Type 0
+JudgesTo (EndsLink reason) message link link2 calls calls2 answers answers2 grant grant2 =
+    ((link2 ≡ after_call (after_call link Post) (Stop reason)) ⊎ (link2 ≡ after_call (after_call link Post) OutOfMemory))
+    × ((map stored_view calls2 ≡ map stored_view calls) × ((answers2 ≡ answers) × (grant2 ≡ grant)))
+JudgesTo (GivesOutcome xid outcome) message link link2 calls calls2 answers answers2 grant grant2 =
+    (link2 ≡ with_memory (released_all link.state.memory (stags_for (word_at 0 message) (map stored_view calls))) (after_call link Post))
+    × ((map stored_view calls2 ≡ without_call (word_at 0 message) (map stored_view calls))
+    × ((answers2 ≡ answers ++ answer_to link.state.memory (call_of (word_at 0 message) (map stored_view calls)) outcome) × (grant2 ≡ credits_of_word (word_at 8 message))))
+
+-- what is made of the event that waits
+abbrev pub noticed_side : RequesterSide → RequesterSide
+noticed_side h = record { awaited = h.awaited; rest = h.rest; state = noticed h.state h.state.side h.state.side.receive_queue.notices }
+
+-- or memory ran out for the Terminate of a message that ends the link
+pub record StoppedOut (before after : RequesterSide) : Type 0 where
+  pub waits : OneWaits (record { awaited = before.awaited; rest = before.rest; state = before.state.side })
+  pub reason : ℕ
+  pub verdict : kept_verdict (kept_calls before.state) (bytes_under before.state.side.memory) waits.message ≡ EndsLink reason
+  pub rest : after.rest ≡ []
+  pub ended : after.state.side.ended ≡ Some ends.Memory
+  pub memory : after.state.side.memory ≡ before.state.side.memory
+  pub queue : after.state.side.send_queue ≡ before.state.side.send_queue
+  pub hello : after.state.side.has_hello ≡ before.state.side.has_hello
+  pub same : after.state ≡ record before.state { side = after.state.side }
+
+abbrev pub Told : (before after : RequesterSide) → Type 0
+Told before after = (after ≡ noticed_side before) ⊎ StoppedOut before after
+
+-- ---- A step
+
+-- the next frame of a piece, or all of it
+abbrev pub one_step : RequesterSide → List ℕ → RequesterSide
+one_step h piece = feeding_after_step requester_ended after_frame h piece
+
+-- memory ran out for the frame that a piece completes: it would queue output
+pub record StepOut (before : RequesterSide) (piece : List ℕ) (after : RequesterSide) : Type 0 where
+  pub out : RanOut before after
+  pub whole : is_whole before.awaited (before.rest ++ piece) ≡ true
+
+abbrev pub IsStep : RequesterSide → List ℕ → RequesterSide → Type 0
+IsStep before piece after = (after ≡ one_step before piece) ⊎ StepOut before piece after
+
+-- how many bytes it was fed, of which it knows
+abbrev pub fed_bytes : RequesterSide → ℕ
+fed_bytes h = h.state.side.place + length h.rest
+
+-- It was fed the first n bytes of a piece, and hadn't ended. The bytes that follow complete the next frame, for which memory ran out.
+pub record RanOutAt (before : RequesterSide) (piece : List ℕ) (n : ℕ) (after : RequesterSide) : Type 0 where
+  pub within : n ≤ length piece
+  pub live : (after_piece before (take n piece)).state.side.ended ≡ None
+  pub out : RanOut (after_piece before (take n piece)) after
+  pub whole : is_whole (after_piece before (take n piece)).awaited ((after_piece before (take n piece)).rest ++ drop n piece) ≡ true

@@ -1,0 +1,173 @@
+//! What a requester makes of a message (RFC 8166 sections 4.2 to 4.5).
+
+ghost use Rattle.std.specs.Prelude.{◌≡◌, ℕ, ◌+◌, ◌<◌, ◌≤◌, ◌-◌, nat_lt, length, map, get_or, None, Some, Ok, MatchOption, IfOk, IfErr};
+ghost use Rattle.std.specs.List.{AllByRecursion};
+ghost use Rattle.nr_xdr.specs.Fields.{word_at};
+ghost use Rattle.nr_header.specs.WithinLimits.{StreamWithin};
+ghost use Rattle.nr_header.specs.declared.header.Header.{Header};
+ghost use Rattle.nr_header.specs.Reading.{header_of};
+ghost use Rattle.nr_link.specs.Limits.{send_max};
+ghost use Rattle.nr_reduce.specs.ClientMessages.ReplyVerdict.{GivesOutcome};
+ghost use Rattle.nr_reduce.specs.KeptCalls.{kept_body, kept_by, kept_verdict};
+ghost use Rattle.nr_reduce.specs.KeptClient.{bytes_under};
+ghost use Rattle.nr_requester.specs.HeldClaims.{AreHeldFrom, call_claims, all_claims, OffersOwn};
+ghost use Rattle.nr_requester.specs.Judged.{header_reason, Ends, SameCall, outcome_by, IsWithin, kept_view, kept_views, SameCalls, Brings};
+ghost use Rattle.nr_requester.specs.Views.{HasRoom};
+
+use crate::outstanding::OutstandingCall;
+use crate::replies::{Found, REASON_CHUNKS, long_stream, of_call, reply_found};
+use nr_header::{Body, Header, HeaderFault, read_header};
+use nr_reduce::answers_offer;
+use nr_regions::Regions;
+
+/// The reasons for which a message ends the link: it is short, it has another kind or lists that can't be read, its xid isn't that of an
+/// outstanding call whose Send has left, or it has another version.
+const REASON_SHORT: u32 = 16;
+
+const REASON_KIND: u32 = 17;
+
+const REASON_CALL: u32 = 20;
+
+const REASON_VERSION: u32 = 23;
+
+fn reason_of(fault: &HeaderFault) -> u32
+    ensures { result ≡ header_reason fault.now }
+{
+    match fault {
+        HeaderFault::Short => REASON_SHORT,
+        HeaderFault::Version { .. } => REASON_VERSION,
+        HeaderFault::Kind { .. } => REASON_KIND,
+        HeaderFault::BadChunks { .. } => REASON_KIND,
+    }
+}
+
+/// Whether the Send of a call has left, if so many have.
+fn is_sent(xid: u32, first_xid: u32, sent: u64) -> bool
+    ensures { result ≡ nat_lt (xid - first_xid) sent }
+{
+    if xid < first_xid {
+        return 0 < sent;
+    }
+    u64::from(xid - first_xid) < sent
+}
+
+/// The call that a message with this xid answers: the first with it whose Send has left.
+fn call_at(calls: &[OutstandingCall], first_xid: u32, sent: u64, xid: u32) -> Option<usize>
+    ensures { MatchOption result (kept_by (kept_views first_xid sent calls.now) xid ≡ None) (λ at. (at < length calls.now)
+        × ((d : OutstandingCall) → kept_by (kept_views first_xid sent calls.now) xid ≡ Some (kept_view first_xid sent (get_or calls.now at d)))) }
+{
+    let mut at = 0;
+    while at < calls.len() {
+        if calls[at].xid == xid && is_sent(calls[at].xid, first_xid, sent) {
+            return Some(at);
+        }
+        at += 1;
+    }
+    None
+}
+
+/// What a message with this body brings for its call, or why it ends the link. Takes no memory.
+fn found(
+    regions: &Regions,
+    call: &mut OutstandingCall,
+    body: &Body,
+    message: &[u8],
+) -> Result<Found, u32>
+    requires held { AreHeldFrom regions.now.memory 0 (call_claims call.old.claims) }
+    requires offers { OffersOwn call.old }
+    requires room { HasRoom call.old }
+    requires stream { StreamWithin body.now (length message.now) }
+    requires message { length message.now ≤ send_max }
+    ensures ok { IfOk result (λ f. (first sent : ℕ) → kept_body (kept_view first sent call.old) (bytes_under regions.now.memory) message.now body.now ≡ GivesOutcome call.old.xid (outcome_by f call.new.room)) }
+    ensures within { IfOk result (λ f. IsWithin f call.new.room) }
+    ensures err { IfErr result (λ reason. (first sent : ℕ) → Ends (kept_body (kept_view first sent call.old) (bytes_under regions.now.memory) message.now body.now) reason) }
+    ensures same { SameCall call.old call.new }
+{
+    match body {
+        Body::Msg { lists, stream_at } => {
+            if !answers_offer(false, &call.offered, lists) {
+                return Err(REASON_CHUNKS);
+            }
+            let Some(of) = of_call(call) else {
+                return Ok(Found::Nothing);
+            };
+            let (_, stream) = message.split_at(*stream_at);
+            reply_found(regions, call, &of, stream, lists.write.as_slice())
+        }
+        Body::Nomsg { lists } => {
+            if !answers_offer(true, &call.offered, lists) {
+                return Err(REASON_CHUNKS);
+            }
+            let Some(of) = of_call(call) else {
+                return Ok(Found::Nothing);
+            };
+            let stream = long_stream(regions, &call.claims.reply, &lists.reply);
+            reply_found(regions, call, &of, stream, lists.write.as_slice())
+        }
+        Body::ErrVers { low, high, .. } => Ok(Found::Version {
+            low: *low,
+            high: *high,
+        }),
+        Body::ErrChunk { .. } => Ok(Found::Chunk),
+    }
+}
+
+/// What a message with this header brings for the call that it answers, or why it ends the link.
+fn by_header(
+    regions: &Regions,
+    calls: &mut [OutstandingCall],
+    first_xid: u32,
+    sent: u64,
+    header: &Header,
+    message: &[u8],
+) -> Result<(usize, Found), u32>
+    requires header { header_of message.now ≡ Ok header.now }
+    requires held { AreHeldFrom regions.now.memory 0 (all_claims calls.old) }
+    requires offers { AllByRecursion OffersOwn calls.old }
+    requires rooms { AllByRecursion HasRoom calls.old }
+    requires stream { StreamWithin header.now.body (length message.now) }
+    requires message { length message.now ≤ send_max }
+    ensures ok { IfOk result (λ f. Brings first_xid sent calls.old calls.new (bytes_under regions.now.memory) message.now f.0 f.1) }
+    ensures err { IfErr result (λ reason. Ends (kept_verdict (kept_views first_xid sent calls.old) (bytes_under regions.now.memory) message.now) reason) }
+    ensures same { SameCalls calls.old calls.new }
+{
+    let Some(at) = call_at(calls, first_xid, sent, header.xid) else {
+        return Err(REASON_CALL);
+    };
+    match found(regions, &mut calls[at], &header.body, message) {
+        Ok(found) => Ok((at, found)),
+        Err(reason) => Err(reason),
+    }
+}
+
+/// The call that a message answers, by its place, and what the message brings for it; or why it ends the link. Takes no memory.
+pub fn verdict(
+    regions: &Regions,
+    calls: &mut Vec<OutstandingCall>,
+    first_xid: u32,
+    sent: u64,
+    message: &[u8],
+) -> Result<(usize, Found), u32>
+    requires held { AreHeldFrom regions.now.memory 0 (all_claims calls.old.items) }
+    requires offers { AllByRecursion OffersOwn calls.old.items }
+    requires rooms { AllByRecursion HasRoom calls.old.items }
+    requires message { (16 ≤ length message.now) × (length message.now ≤ send_max) }
+    ensures ok { IfOk result (λ f. Brings first_xid sent calls.old.items calls.new.items (bytes_under regions.now.memory) message.now f.0 f.1) }
+    ensures err { IfErr result (λ reason. Ends (kept_verdict (kept_views first_xid sent calls.old.items) (bytes_under regions.now.memory) message.now) reason) }
+    ensures same { SameCalls calls.old.items calls.new.items }
+{
+    let header = match read_header(message) {
+        Ok(header) => header,
+        Err(fault) => return Err(reason_of(&fault)),
+    };
+    let found = by_header(
+        regions,
+        calls.as_mut_slice(),
+        first_xid,
+        sent,
+        &header,
+        message,
+    );
+    drop(header);
+    found
+}

@@ -1,0 +1,286 @@
+//! A requester takes the server's stream.
+
+ghost use Rattle.std.specs.Prelude.{◌≡◌, ◌≢◌, ℕ, ◌+◌, ◌*◌, ◌^◌, ◌<◌, ◌≤◌, ◌++◌, ◌⊎◌, length, take, drop, get_or, remove, None, Some, Ok, Err, IfOk, is_some, true, false, List, [], ◌∷◌, if◌then◌else◌, vec_len, vec_capacity};
+ghost use Rattle.std.specs.Result.{result_err};
+ghost use Rattle.nr_wire.specs.declared.hello.Side.TheVariants.{Initiator};
+ghost use Rattle.nr_wire.specs.Feeding.{bytes_taken};
+ghost use Rattle.nr_wire.specs.Stream.{IsPartial};
+ghost use Rattle.nr_link.specs.Limits.{send_max};
+ghost use Rattle.nr_link.specs.declared.end.End.TheVariants as ends;
+ghost use Rattle.nr_endpoint.specs.Calls.{after_call, IsStopReason};
+ghost use Rattle.nr_endpoint.specs.Calls.Call.{Stop, OutOfMemory};
+ghost use Rattle.nr_reduce.specs.Client.{credits_of_word};
+ghost use Rattle.nr_reduce.specs.KeptCalls.{kept_verdict};
+ghost use Rattle.nr_reduce.specs.KeptClient.{released_all, bytes_under};
+ghost use Rattle.nr_reduce.specs.declared.mark.LinkParameters.{LinkParameters};
+ghost use Rattle.nr_reduce.specs.declared.mark.Mark.{Mark};
+ghost use Rattle.nr_reduce.specs.declared.mark.Mark.TheVariants as marks;
+ghost use Rattle.nr_requester.specs.RequesterState.{stags_of, awaited_call};
+ghost use Rattle.nr_requester.specs.HeldClaims.{AreHeldFrom, call_claims};
+ghost use Rattle.nr_requester.specs.AfterPiece.{answered_as, after_piece};
+ghost use Rattle.nr_requester.specs.Buffers.{with_memory};
+ghost use Rattle.nr_requester.specs.Judged.{outcome_by, IsWithin, kept_views};
+ghost use Rattle.nr_requester.specs.Fed.{answer_with, CallsSound, IsReady, JudgesTo, Told, IsStep, RanOutAt, fed_bytes};
+ghost use Rattle.nr_requester.specs.HeldBytes.{NothingOutside, IsBounded};
+ghost use Rattle.nr_requester.specs.Standing.{StandsOn, RequesterRepresents, RequesterRunsOut};
+ghost use Rattle.nr_requester.specs.Views.{requester_view, stored_view};
+
+use crate::answer::{AnsweredCall, Buffers};
+use crate::judging::verdict;
+use crate::outstanding::OutstandingCall;
+use crate::releasing::release_claims;
+use crate::replies::Found;
+use crate::requester::Requester;
+use nr_endpoint::{Endpoint, Event};
+use nr_header::credit_of;
+use nr_link::End;
+use nr_reduce::{Call, Outcome, first_bytes};
+use nr_xdr::Octets;
+
+/// No more credits count (RFC 8166 section 3.3).
+const CREDITS_MAX: u32 = 64;
+
+/// The credits that a credit word grants.
+fn credits_of(word: u32) -> u32
+    ensures granted { result ≡ credits_of_word word }
+    ensures some { 1 ≤ result }
+    ensures most { result ≤ 64 }
+{
+    if word == 0 {
+        return 1;
+    }
+    if CREDITS_MAX < word {
+        return CREDITS_MAX;
+    }
+    word
+}
+
+/// Keeps the answer of a call for its owner, if that awaits it.
+fn keep_answer(
+    answered: &mut Vec<AnsweredCall>,
+    xid: u32,
+    call: Option<Call>,
+    buffers: Buffers,
+    outcome: Option<Outcome>,
+)
+    requires { vec_len answered.old < vec_capacity answered.old }
+    ensures items { answered.new.items ≡ answered.old.items ++ answer_with xid call buffers outcome }
+    ensures capacity { vec_capacity answered.new ≡ vec_capacity answered.old }
+{
+    let Some(call) = call else {
+        return;
+    };
+    let Some(outcome) = outcome else {
+        return;
+    };
+    answered.push_reserved(AnsweredCall {
+        xid,
+        call,
+        buffers,
+        outcome,
+    });
+}
+
+/// The call, if its owner awaits the answer.
+fn awaited(call: Option<Call>, is_forgotten: bool) -> Option<Call>
+    ensures { result ≡ (if is_forgotten then None else call) }
+{
+    if is_forgotten {
+        return None;
+    }
+    call
+}
+
+/// What a message brings, with the room in which its payload is.
+fn outcome_in(found: Found, room: Octets) -> Option<Outcome>
+    requires { IsWithin found room }
+    ensures { result ≡ outcome_by found room }
+{
+    match found {
+        Found::Nothing => None,
+        Found::Reply { len } => Some(Outcome::Reply(first_bytes(room, len))),
+        Found::Chunk => Some(Outcome::Chunk),
+        Found::Version { low, high } => Some(Outcome::Version { low, high }),
+    }
+}
+
+/// A message ends the call at this place: its regions are released, and it isn't outstanding any more. If its owner awaits the outcome,
+/// that is kept with the call and its buffers. Takes no memory.
+fn complete(
+    endpoint: &mut Endpoint,
+    outstanding: &mut Vec<OutstandingCall>,
+    answered: &mut Vec<AnsweredCall>,
+    at: usize,
+    found: Found,
+)
+    requires at { at < length outstanding.old.items }
+    requires held { (d : OutstandingCall) → AreHeldFrom endpoint.old.link.state.memory 0 (call_claims (get_or outstanding.old.items at d).claims) }
+    requires within { (d : OutstandingCall) → IsWithin found (get_or outstanding.old.items at d).room }
+    requires room { vec_len answered.old < vec_capacity answered.old }
+    ensures link { (d : OutstandingCall) → endpoint.new.link ≡ with_memory (released_all endpoint.old.link.state.memory (stags_of (get_or outstanding.old.items at d).claims)) endpoint.old.link }
+    ensures outstanding { outstanding.new.items ≡ remove outstanding.old.items at }
+    ensures answered { (d : OutstandingCall) → answered.new.items ≡ answered.old.items
+        ++ answered_as endpoint.old.link.state.memory (stored_view (get_or outstanding.old.items at d)) (awaited_call (stored_view (get_or outstanding.old.items at d))) (outcome_by found (get_or outstanding.old.items at d).room) }
+    ensures capacity { vec_capacity answered.new ≡ vec_capacity answered.old }
+    ensures staging { endpoint.new.staging ≡ endpoint.old.staging }
+    ensures outside { NothingOutside endpoint.old → NothingOutside endpoint.new }
+{
+    let OutstandingCall {
+        xid,
+        call,
+        is_forgotten,
+        offered,
+        claims,
+        room,
+    } = outstanding.remove(at);
+    drop(offered);
+    let buffers = release_claims(endpoint, claims);
+    let outcome = outcome_in(found, room);
+    keep_answer(answered, xid, awaited(call, is_forgotten), buffers, outcome);
+}
+
+/// Ends a side for a reason that a message gives, or because memory ran out for its Terminate.
+fn stop(endpoint: &mut Endpoint, reason: u32)
+    requires live { endpoint.old.link.state.ended ≡ None }
+    requires frame { 0 < endpoint.old.link.state.place }
+    requires reason { IsStopReason reason }
+    ensures link { (endpoint.new.link ≡ after_call endpoint.old.link (Stop reason)) ⊎ (endpoint.new.link ≡ after_call endpoint.old.link OutOfMemory) }
+    ensures staging { endpoint.new.staging ≡ endpoint.old.staging }
+    ensures outside { endpoint.new.outside ≡ endpoint.old.outside }
+{
+    match endpoint.stop(reason) {
+        End::Memory => (),
+        _ => (),
+    }
+}
+
+/// Takes a message that was delivered: it ends its call, or the link. Takes memory only for a Terminate.
+fn take_message(
+    endpoint: &mut Endpoint,
+    outstanding: &mut Vec<OutstandingCall>,
+    answered: &mut Vec<AnsweredCall>,
+    grant: &mut u32,
+    first_xid: u32,
+    sent: u64,
+    buf: Octets,
+    len: usize,
+)
+    requires live { endpoint.old.link.state.ended ≡ None }
+    requires frame { 0 < endpoint.old.link.state.place }
+    requires lent { 0 < endpoint.old.link.state.receive_queue.lent }
+    requires buf { length buf ≡ send_max }
+    requires len { (16 ≤ len) × (len ≤ length buf) }
+    requires calls { (next : ℕ) × CallsSound endpoint.old.link.state.memory next outstanding.old.items answered.old.items (vec_capacity answered.old) }
+    ensures judged { JudgesTo (kept_verdict (kept_views first_xid sent outstanding.old.items) (bytes_under endpoint.old.link.state.memory) (take len buf)) (take len buf) endpoint.old.link endpoint.new.link
+        outstanding.old.items outstanding.new.items answered.old.items answered.new.items grant.old grant.new }
+    ensures sound { (next : ℕ) → CallsSound endpoint.old.link.state.memory next outstanding.old.items answered.old.items (vec_capacity answered.old) →
+        CallsSound endpoint.new.link.state.memory next outstanding.new.items answered.new.items (vec_capacity answered.new) }
+    ensures granted { (1 ≤ grant.old) × (grant.old ≤ 64) → (1 ≤ grant.new) × (grant.new ≤ 64) }
+    ensures fewer { length outstanding.new.items ≤ length outstanding.old.items }
+    ensures bounded { (next : ℕ) → IsBounded sent first_xid next endpoint.old outstanding.old.items answered.old.items → IsBounded sent first_xid next endpoint.new outstanding.new.items answered.new.items }
+{
+    let (message, _) = buf.as_slice().split_at(len);
+    let credits = credits_of(credit_of(message));
+    let found = verdict(endpoint.regions(), outstanding, first_xid, sent, message);
+    endpoint.post(buf);
+    match found {
+        Ok((at, found)) => {
+            *grant = credits;
+            complete(endpoint, outstanding, answered, at, found);
+        }
+        Err(reason) => stop(endpoint, reason),
+    }
+}
+
+/// Takes the event that waits, if one does.
+fn take_event(
+    endpoint: &mut Endpoint,
+    outstanding: &mut Vec<OutstandingCall>,
+    answered: &mut Vec<AnsweredCall>,
+    grant: &mut u32,
+    first_xid: u32,
+    sent: u64,
+)
+    requires ready { IsReady endpoint.old.link outstanding.old.items answered.old.items (vec_capacity answered.old) }
+    ensures told { (wished next : ℕ) → Told (requester_view endpoint.old.link sent wished first_xid next grant.old outstanding.old.items answered.old.items) (requester_view endpoint.new.link sent wished first_xid next grant.new outstanding.new.items answered.new.items) }
+    ensures sound { (next : ℕ) → CallsSound endpoint.old.link.state.memory next outstanding.old.items answered.old.items (vec_capacity answered.old) →
+        CallsSound endpoint.new.link.state.memory next outstanding.new.items answered.new.items (vec_capacity answered.new) }
+    ensures granted { (1 ≤ grant.old) × (grant.old ≤ 64) → (1 ≤ grant.new) × (grant.new ≤ 64) }
+    ensures fewer { length outstanding.new.items ≤ length outstanding.old.items }
+    ensures bounded { (next : ℕ) → IsBounded sent first_xid next endpoint.old outstanding.old.items answered.old.items → IsBounded sent first_xid next endpoint.new outstanding.new.items answered.new.items }
+    ensures quiet { (endpoint.new.link.state.receive_queue.notices ≡ []) × ((endpoint.new.link.state.receive_queue.lent ≡ 0) × (endpoint.new.link.state.reads ≡ [])) }
+{
+    match endpoint.next_event() {
+        None => (),
+        Some(Event::ReadDone) => (),
+        Some(Event::Message { buf, len, .. }) => take_message(
+            endpoint,
+            outstanding,
+            answered,
+            grant,
+            first_xid,
+            sent,
+            buf,
+            len,
+        ),
+    }
+}
+
+impl Requester {
+    /// Takes the next frame of a piece, or all of it, on a link that has not ended; answers how many bytes it took: all once the side
+    /// has ended.
+    fn step(&mut self, left: &[u8]) -> usize
+        requires live { self.old.state.side.ended ≡ None }
+        requires within { fed_bytes self.old + length left.now ≤ 2 ^ 62 }
+        ensures step { IsStep self.old left.now self.new }
+        ensures taken { result ≡ (if is_some self.new.state.side.ended then length left.now else bytes_taken self.old.awaited self.old.rest left.now) }
+        ensures partial { IsPartial self.old.awaited self.old.rest }
+        ensures quiet { self.old.state.side.receive_queue.notices ≡ [] }
+        ensures ended { is_some self.new.state.side.ended ≡ true → self.new.rest ≡ [] }
+    {
+        self.endpoint.facts();
+        let Ok(taken) = self.endpoint.feed_one(left) else {
+            self.endpoint.facts();
+            return left.len();
+        };
+        take_event(
+            &mut self.endpoint,
+            &mut self.outstanding,
+            &mut self.answered,
+            &mut self.grant,
+            self.first_xid,
+            self.sent,
+        );
+        self.endpoint.facts();
+        match self.endpoint.end() {
+            Some(_) => left.len(),
+            None => taken,
+        }
+    }
+
+    /// Takes a piece of the server's stream. `Err` if the side has ended, with why. It takes memory only for a frame at which it queues
+    /// something of its own: a Read Response, or what it writes last. If memory runs out, the side ends as it was before such a frame.
+    pub fn feed(&mut self, piece: &[u8]) -> Result<(), End>
+        requires { fed_bytes self.old + length piece.now ≤ 2 ^ 62 }
+        ensures ended { result_err result ≡ self.new.state.side.ended }
+        ensures state { result ≢ Err ends.Memory → self.new ≡ after_piece self.old piece.now }
+        ensures stands { result ≢ Err ends.Memory → StandsOn self.old (λ link. marks.Fed link Initiator piece.now) self.new }
+        ensures memory { result ≡ Err ends.Memory → self.old.state.side.ended ≡ None → (n : ℕ) × (RanOutAt self.old piece.now n self.new
+            × ((opened : LinkParameters) (link : ℕ) (run : List Mark) → RequesterRepresents opened link self.old run →
+            RequesterRunsOut opened link self.new (run ++ marks.Fed link Initiator (take n piece.now) ∷ []) (run ++ marks.Fed link Initiator (take n piece.now) ∷ []))) }
+        ensures kept { is_some self.old.state.side.ended ≡ true → self.new ≡ self.old }
+    {
+        self.facts();
+        if let Some(end) = self.end() {
+            return Err(end);
+        }
+        let mut at = 0;
+        'pieces: while at < piece.len() {
+            at += self.step(&piece[at..]);
+        }
+        if let Some(end) = self.end() {
+            return Err(end);
+        }
+        Ok(())
+    }
+}
