@@ -46,7 +46,16 @@ fn server(rt: &impl Abort, alloc: Global) -> Server {
 
 /// How many bytes the client sends, the sizes of the first pieces, the read and the write that fail, how the connection ends,
 /// and how many bytes the server sends.
-static ROWS: [(usize, &[usize], &[usize], &[usize], &str, usize); 7] = [
+type Row = (
+    usize,
+    &'static [usize],
+    &'static [usize],
+    &'static [usize],
+    &'static str,
+    usize,
+);
+
+static ROWS: [Row; 7] = [
     (112, &[], &[], &[], "Closed", 96),
     (112, &[1, 30, 50], &[], &[], "Closed", 96),
     (0, &[], &[], &[], "Closed", 0),
@@ -56,8 +65,8 @@ static ROWS: [(usize, &[usize], &[usize], &[usize], &str, usize); 7] = [
     (19, &[], &[], &[], "Cut { at: 19, calls: 0 }", 0),
 ];
 
-fn ends(rt: &impl Abort, alloc: Global, row: usize) {
-    let (most, sizes, reads, writes, end, sent) = ROWS[row];
+fn ends(rt: &impl Abort, alloc: Global, row: usize, case: &Row) {
+    let (most, sizes, reads, writes, end, sent) = *case;
     let sizes = sizes.to_vec(alloc).expect(rt, "memory");
     let reads = reads.to_vec(alloc).expect(rt, "memory");
     let writes = writes.to_vec(alloc).expect(rt, "memory");
@@ -78,7 +87,7 @@ fn ends(rt: &impl Abort, alloc: Global, row: usize) {
 
 #[test]
 fn ends_of_connections(rt: HostRuntime) {
-    for row in 0..7 {
-        ends(&rt, rt.alloc(), row);
+    for (row, case) in ROWS.iter().enumerate() {
+        ends(&rt, rt.alloc(), row, case);
     }
 }
