@@ -41,7 +41,7 @@ static WRITE_HEAD: [u8; 32] = [
     128, 0,
 ];
 
-/// What is called: a procedure, its arguments, and where its reply has the count of bytes.
+/// What is called: a procedure, its arguments, and the offset of the count of bytes in its reply.
 #[derive(Clone, Copy)]
 struct Work<'a> {
     proc: u32,
@@ -96,7 +96,7 @@ fn confirmed(reply: &[u8], at: usize) -> Option<u64> {
     Some(u64::from(word(reply, at)?))
 }
 
-/// Calls so many times, and gives how many bytes are confirmed.
+/// Calls this number of times, and gives how many bytes are confirmed.
 fn call_all(
     alloc: Global,
     link: &mut Link,
@@ -141,7 +141,7 @@ struct Task<'a> {
     data: &'a [u8],
 }
 
-/// Writes, then works so many times, and reads what was written.
+/// Writes, then works this number of times, and reads what was written.
 fn worked(
     alloc: Global,
     link: &mut Link,

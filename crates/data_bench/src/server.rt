@@ -43,7 +43,7 @@ fn room(alloc: Global, stream: &[u8], pos: usize, len: u32) -> Option<Octets>
     Some(Octets::from_vec(room))
 }
 
-/// The payload of a call with a read chunk of one segment: its bytes are placed where they belong.
+/// The payload of a call with a read chunk of one segment: its bytes are placed at their offset.
 fn fetched(
     alloc: Global,
     link: &mut Link,

@@ -31,7 +31,7 @@ fn items_are_written(rt: HostRuntime) {
     same(&rt, 0, writer.finish().as_slice(), ITEMS.as_slice());
 }
 
-/// The items of `ITEMS` up to the last, one behind the other, in room for all but the data of the fourth.
+/// The items of `ITEMS` up to the last, one after the other, in room for all but the data of the fourth.
 fn items_in_room(alloc: Global) -> Result<Octets, Memory> {
     let mut writer = RoomWriter::with_room(alloc, 20)?;
     writer.u32(100_003)?;

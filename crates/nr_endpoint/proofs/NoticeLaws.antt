@@ -27,7 +27,7 @@ use Rattle.nr_endpoint.specs.LinkState.{LinkState, LinkSide, has_ended}
 use Rattle.nr_endpoint.specs.Judging.{segment_end, next_frame, with_frame, with_segment_by, with_fpdu, with_peer_hello, with_effect, with_read_response}
 use Rattle.nr_endpoint.specs.Calls.{Call, after_call, after_calls}
 use Rattle.nr_endpoint.specs.Calls.Call.{Feed, FeedOne, NextEvent, Post, Stop, OutOfMemory, Send, WriteRemote, ReadRemote, Drain, Register, Release}
-use Rattle.nr_endpoint.specs.Laws.{frames_made_whole, memory_events, QueuedEvent, made_at, segment_notices, fpdu_notices, frame_notices, notices_of_frames, call_notices, notices_made, call_delivers, events_delivered, EventsAreTold, NoticesRise, EventsAreInOrder, EventsFollowAccesses, OneFrameTellsAtItsEnd}
+use Rattle.nr_endpoint.specs.Laws.{frames_made_whole, memory_events, QueuedEvent, made_at, segment_notices, fpdu_notices, frame_notices, notices_of_frames, call_notices, notices_made, call_delivers, events_delivered, EventsAreDelivered, NoticesRise, EventsAreInOrder, EventsFollowAccesses, OneFrameDeliversAtItsEnd}
 use Rattle.nr_endpoint.proofs.MemoryLaws.{memory_follows_events, events_append}
 use Rattle.nr_endpoint.proofs.PlaceOrder.{Between, calls_between}
 
@@ -216,8 +216,8 @@ calls_make link (call ∷ calls) =
 
 -- ---- The laws
 
-pub events_are_told : EventsAreTold
-events_are_told link calls = (calls_make link calls).0
+pub events_are_delivered : EventsAreDelivered
+events_are_delivered link calls = (calls_make link calls).0
 
 pub events_are_in_order : EventsAreInOrder
 events_are_in_order link calls = (calls_make link calls).1
@@ -253,9 +253,9 @@ all_at : (n : ℕ) (made : List QueuedEvent) → AtEnd n made → All (λ (m : Q
 all_at n [] at = All-nil (λ (m : QueuedEvent). m.end ≡ n)
 all_at n (m ∷ made) at = All-cons (λ (k : QueuedEvent). k.end ≡ n) m made at.0 (all_at n made at.1)
 
-pub one_frame_tells_at_its_end : OneFrameTellsAtItsEnd
+pub one_frame_delivers_at_its_end : OneFrameDeliversAtItsEnd
 unfolding after_call
-one_frame_tells_at_its_end link piece =
+one_frame_delivers_at_its_end link piece =
     let step : MakesAt link.state (call_notices link (FeedOne piece)) (after_call link (FeedOne piece)).state =
     step_makes link piece (has_ended link.state) (is_whole link.awaited (link.rest ++ piece)) refl refl in
     let at : AtEnd (after_call link (FeedOne piece)).state.place (call_notices link (FeedOne piece)) = step.1 in

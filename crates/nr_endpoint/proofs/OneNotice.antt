@@ -1,4 +1,4 @@
--- A frame makes one notice at most.
+-- A frame makes one event at most.
 use Rattle.std.proofs.Common.{◌≡◌, ℕ, ◌+◌, ◌≤◌, Bool, true, false, cond, ◌&&◌, eqb, List, [], ◌∷◌, ◌++◌, length, map, take, Option, Some, None, Result, Ok, Err, ap, arith, length-append}
 use Rattle.std.proofs.lemmas.List.{length-map}
 use Rattle.nr_wire.specs.Constants.{OPCODE_READ_RESPONSE}
@@ -15,8 +15,8 @@ use Rattle.nr_endpoint.specs.LinkState.{LinkState, has_ended}
 use Rattle.nr_endpoint.specs.Judging.{segment_end, next_frame}
 use Rattle.nr_endpoint.specs.Calls.{after_call, after_calls}
 use Rattle.nr_endpoint.specs.Calls.Call.{FeedOne}
-use Rattle.nr_endpoint.specs.Laws.{frames_made_whole, notices_of, QueuedEvent, made_at, segment_notices, fpdu_notices, frame_notices, notices_of_frames, call_notices, OneFrameTellsOnce}
-use Rattle.nr_endpoint.proofs.NoticeLaws.{events_are_told}
+use Rattle.nr_endpoint.specs.Laws.{frames_made_whole, notices_of, QueuedEvent, made_at, segment_notices, fpdu_notices, frame_notices, notices_of_frames, call_notices, OneFrameDeliversOnce}
+use Rattle.nr_endpoint.proofs.NoticeLaws.{events_are_delivered}
 
 message_few : (number : ℕ) (message : Option (List ℕ)) → length (message_notices number message) ≤ 1
 message_few number None = omega arith
@@ -52,12 +52,12 @@ first_few : (frames : List (List ℕ)) (a : Awaited) (s : LinkState) → length 
 first_few [] a s = omega arith
 first_few (frame ∷ frames) a s = unless_few (has_ended s) (frame_notices s a frame) (frame_few s a frame)
 
-pub one_frame_tells_once : OneFrameTellsOnce
+pub one_frame_delivers_once : OneFrameDeliversOnce
 unfolding after_calls
-one_frame_tells_once link piece =
+one_frame_delivers_once link piece =
     let made : List QueuedEvent = call_notices link (FeedOne piece) in
     let delivered : length (after_call link (FeedOne piece)).state.receive_queue.notices ≡ length (link.state.receive_queue.notices ++ map (λ (m : QueuedEvent). m.notice) (made ++ [])) =
-    ap (λ (list : List DeliveredEvent). length list) (events_are_told link (FeedOne piece ∷ [])) in
+    ap (λ (list : List DeliveredEvent). length list) (events_are_delivered link (FeedOne piece ∷ [])) in
     omega (
       arith,
       delivered,

@@ -1,4 +1,4 @@
--- What a receive queue keeps of its buffers, and what it delivers: when a read is done, when a message comes, when a notice
+-- What a receive queue keeps of its buffers, and what it delivers: when a read is done, when a message comes, when an event
 -- is delivered.
 use Rattle.std.proofs.Common.{◌≡◌, ℕ, zero, suc, ◌+◌, ◌-◌, ◌<◌, ◌≤◌, nat_lt, true, List, [], ◌∷◌, ◌++◌, length, take, replicate, Option, None, refl, sym, ap, ◌∙◌, arith, append_assoc, length-append}
 use Rattle.std.proofs.lemmas.List.{length-replicate, replicate_more}
@@ -12,7 +12,7 @@ use Rattle.nr_endpoint.specs.declared.receive_queue.ReceivedMessage.{ReceivedMes
 
 -- ---- What it delivers
 
--- the same reads stand before the notices of the other messages
+-- the same reads stand before the events of the other messages
 behind : (m : ReceivedMessage) (xs ys : List DeliveredEvent) (zs : List DeliveredEvent) → xs ≡ ys ++ zs →
     replicate m.reads_done ReadDone ++ MessageReceived m.number None (take m.len m.buf) ∷ xs ≡ (replicate m.reads_done ReadDone ++ MessageReceived m.number None (take m.len m.buf) ∷ ys) ++ zs
 behind m xs ys zs is =
@@ -31,13 +31,13 @@ notices_message [] reads_done number buf len = refl
 notices_message (m ∷ messages) reads_done number buf len =
     behind m (notices (messages ++ record { reads_done = reads_done; number = number; buf = buf; len = len } ∷ []) 0) (notices messages reads_done) (MessageReceived number None (take len buf) ∷ []) (notices_message messages reads_done number buf len)
 
--- the reads that are counted are among the notices
+-- the reads that are counted are among the events
 pub reads_within : (messages : List ReceivedMessage) (reads_done : ℕ) → reads_done ≤ length (notices messages reads_done)
 reads_within [] reads_done = omega (arith, length-replicate reads_done ReadDone)
 reads_within (m ∷ messages) reads_done =
     omega (arith, reads_within messages reads_done, length-append (replicate m.reads_done ReadDone) (MessageReceived m.number None (take m.len m.buf) ∷ notices messages reads_done))
 
--- how many of the notices are of messages
+-- how many of the events are of messages
 messages_in_reads : (n : ℕ) (others : List DeliveredEvent) → messages_in (replicate n ReadDone ++ others) ≡ messages_in others
 messages_in_reads zero others = refl
 messages_in_reads (suc n) others = messages_in_reads n others

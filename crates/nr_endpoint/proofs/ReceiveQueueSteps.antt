@@ -1,4 +1,4 @@
--- A receive queue after one more segment, and after a notice was delivered.
+-- A receive queue after one more segment, and after an event was delivered.
 use Rattle.std.proofs.Common.{◌≡◌, ℕ, ◌+◌, ◌-◌, Bool, true, not, if◌then◌else◌, List, [], ◌∷◌, ◌++◌, drop, None, sym, ap, arith}
 use Rattle.std.proofs.lemmas.List.{append-nil}
 use Rattle.nr_wire.specs.Segment.Segment.{Untagged}
@@ -24,7 +24,7 @@ unfolding with_segment
 with_last q payload message free m f =
     λ i. record { receives = q.receives; receive_length = q.receive_length; received = record { sends = q.received.sends + 1; begun = None; requests = q.received.requests }; free = f i; lent = q.lent; notices = q.notices ++ MessageReceived (q.received.sends + 1) None (m i) ∷ [] }
 
--- with these notices
+-- with these events
 abbrev notices_as : List DeliveredEvent → ReceiveQueue → ReceiveQueue
 notices_as list q = record { receives = q.receives; receive_length = q.receive_length; received = q.received; free = q.free; lent = q.lent; notices = list }
 

@@ -22,7 +22,7 @@ use Rattle.nr_endpoint.proofs.NoticeLaws.{frames_make, ended_notices, events_are
 use Rattle.nr_endpoint.proofs.Received.{FirstAbove, no_end, fed_partial, first_above, one_above, one_are}
 use Rattle.nr_endpoint.proofs.StreamLaws.{IsFed, call_fed, stream_fed}
 
--- each notice is made at a frame that ends after this offset
+-- each event is made at a frame that ends after this offset
 abbrev Above : ℕ → List QueuedEvent → Type 0
 Above low [] = Unit {0}
 Above low (made ∷ others) = (low < made.end) × Above low others

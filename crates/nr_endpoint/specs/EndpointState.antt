@@ -1,5 +1,5 @@
--- What contracts see of an endpoint: its side of the link; the whole staging buffer, which begins with the bytes of the frame that isn't
--- whole; the room of its regions, a number of further registrations that need no allocation; and for each STag that is held the bytes of
+-- What contracts see of an endpoint: its side of the link; the complete staging buffer, which begins with the bytes of the frame that isn't
+-- complete; the room of its regions, a number of further registrations that need no allocation; and for each STag that is held the bytes of
 -- its buffer outside its region.
 use Rattle.std.specs.Prelude.{◌≡◌, ℕ, ◌+◌, ◌*◌, min, max, List, [], ◌∷◌, ◌++◌, length, drop}
 use Rattle.nr_wire.specs.declared.stream.Awaited.{Awaited}

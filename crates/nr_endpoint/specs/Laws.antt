@@ -183,7 +183,7 @@ abbrev pub notices_of : ReceiveState → Segment → List DeliveredEvent
 notices_of received (Tagged last opcode stag to payload) = if (opcode == OPCODE_READ_RESPONSE) && last then ReadDone ∷ [] else []
 notices_of received (Untagged last opcode w queue msn offset payload) = message_notices (received.sends + 1) (message_completed received (Untagged last opcode w queue msn offset payload))
 
--- a notice, with the end of the frame that made it
+-- an event, with the end of the frame that made it
 pub record QueuedEvent : Type 0 where
   pub end : ℕ
   pub notice : DeliveredEvent
@@ -226,7 +226,7 @@ abbrev pub notices_made : LinkSide → List Call → List QueuedEvent
 notices_made link [] = []
 notices_made link (call ∷ calls) = call_notices link call ++ notices_made (after_call link call) calls
 
--- what a call delivers to the owner: `NextEvent` the first notice that waits
+-- what a call delivers to the owner: `NextEvent` the first event that waits
 abbrev pub call_delivers : LinkSide → Call → List DeliveredEvent
 call_delivers link (Feed piece) = []
 call_delivers link (FeedOne piece) = []
@@ -246,9 +246,9 @@ events_delivered link [] = []
 events_delivered link (call ∷ calls) = call_delivers link call ++ events_delivered (after_call link call) calls
 
 -- What was delivered to the owner and then what still waits is what waited before these calls and then what their frames made, in
--- order. So each notice is delivered once, and nothing else is.
-abbrev pub EventsAreTold : Type 0
-EventsAreTold = (link : LinkSide) (calls : List Call) →
+-- order. So each event is delivered once, and nothing else is.
+abbrev pub EventsAreDelivered : Type 0
+EventsAreDelivered = (link : LinkSide) (calls : List Call) →
     events_delivered link calls ++ (after_calls link calls).state.receive_queue.notices
     ≡ link.state.receive_queue.notices ++ map (λ made. made.notice) (notices_made link calls)
 
@@ -260,7 +260,7 @@ NoticesRise from (made ∷ others) until = (from < made.end) × NoticesRise made
 abbrev pub EventsAreInOrder : Type 0
 EventsAreInOrder = (link : LinkSide) (calls : List Call) → NoticesRise link.state.place (notices_made link calls) (after_calls link calls).state.place
 
--- Once a notice is made, and so when it is delivered, all tagged segments of the frames up to its own have been placed: the memory is
+-- Once an event is made, and so when it is delivered, all tagged segments of the frames up to its own have been placed: the memory is
 -- that of the events so far, and of the events of all calls only those are left whose tagged segments end after that frame.
 abbrev pub EventsFollowAccesses : Type 0
 EventsFollowAccesses = (link : LinkSide) (before after : List Call) →
@@ -269,15 +269,15 @@ EventsFollowAccesses = (link : LinkSide) (before after : List Call) →
     × ((memory_events link (before ++ after) ≡ memory_events link before ++ memory_events now after)
     × All (λ made. All (λ segment. made.end < segment.end) (tagged_segments (memory_events now after))) (notices_made link before))
 
--- A feed of one frame makes its notice at the offset that the side has reached then, so no tagged segment of a later frame has been
+-- A feed of one frame makes its event at the offset that the side has reached then, so no tagged segment of a later frame has been
 -- placed.
-abbrev pub OneFrameTellsAtItsEnd : Type 0
-OneFrameTellsAtItsEnd = (link : LinkSide) (piece : List ℕ) →
+abbrev pub OneFrameDeliversAtItsEnd : Type 0
+OneFrameDeliversAtItsEnd = (link : LinkSide) (piece : List ℕ) →
     All (λ made. made.end ≡ (after_call link (FeedOne piece)).state.place) (notices_made link (FeedOne piece ∷ []))
 
--- It makes one notice at most.
-abbrev pub OneFrameTellsOnce : Type 0
-OneFrameTellsOnce = (link : LinkSide) (piece : List ℕ) →
+-- It makes at most one event.
+abbrev pub OneFrameDeliversOnce : Type 0
+OneFrameDeliversOnce = (link : LinkSide) (piece : List ℕ) →
     length (after_call link (FeedOne piece)).state.receive_queue.notices ≤ length link.state.receive_queue.notices + 1
 
 -- ---- What the peer reads of it

@@ -56,7 +56,7 @@ with_segment segment q = record {
 abbrev pub with_read_done : ReceiveQueue → ReceiveQueue
 with_read_done q = record q { notices = q.notices ++ ReadDone ∷ [] }
 
--- the first notice was delivered to the owner: the receive of a message is lent until it is posted again
+-- the first event was delivered to the owner: the receive of a message is lent until it is posted again
 abbrev pub lent_for : List DeliveredEvent → ℕ
 lent_for [] = 0
 lent_for (MessageReceived number invalidated bytes ∷ notices) = 1
@@ -68,7 +68,7 @@ delivered q = record q { lent = q.lent + lent_for q.notices; notices = drop 1 q.
 abbrev pub posted : ReceiveQueue → ReceiveQueue
 posted q = record q { free = q.free + 1; lent = q.lent - 1 }
 
--- how many Sends are begun, and how many of the notices are of messages
+-- how many Sends are begun, and how many of the events are of messages
 abbrev pub sends_begun : Option (List ℕ) → ℕ
 sends_begun None = 0
 sends_begun (Some bytes) = 1

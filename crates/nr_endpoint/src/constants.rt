@@ -9,7 +9,7 @@ pub const SEGMENT_MAX: usize = 4096;
 /// The payload of an RDMA Write from which on it is shared and not copied, in bytes.
 pub const SHARED_MIN: usize = 1024;
 
-/// Room for what an FPDU has besides its segment's payload: the header, the pad and the CRC have at most so many bytes.
+/// The maximum number of bytes of an FPDU besides its segment's payload: of the header, the pad and the CRC.
 pub const FRAMING_MAX: usize = HEADER_MAX + TAIL_MAX;
 
 /// The maximum length of a Send in bytes.

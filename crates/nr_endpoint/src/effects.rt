@@ -19,7 +19,7 @@ use nr_wire::constants::{OPCODE_READ_REQUEST, OPCODE_READ_RESPONSE};
 use nr_xdr::Memory;
 
 impl LinkSide {
-    /// The effect of a frame's untagged segment that doesn't end the side. `Err` only for a Read Request, whose response wants memory; it changes nothing.
+    /// The effect of a frame's untagged segment that doesn't end the side. `Err` only for a Read Request, whose response takes memory; it changes nothing.
     pub fn take(&mut self, segment: &Segment, frame: &[u8]) -> Result<(), Memory>
         requires untagged { IsUntagged (plain segment.now) }
         requires supported { IsSupported (plain segment.now) }
@@ -50,7 +50,7 @@ impl LinkSide {
     }
 
     /// A tagged segment ends the side, or its payload goes into its region, which is looked up once: whether a Read Response is expected
-    /// needs no region. `Err` only where the side writes something last; it changes nothing.
+    /// needs no region. `Err` only if the side writes something last; it changes nothing.
     #[tactic(auto, unfolding(crate::specs::Judging::with_effect, crate::specs::SegmentEnds::tagged_end))]
     pub fn receive_tagged(
         &mut self,

@@ -2,7 +2,7 @@
 
 ghost use Rattle.nr_endpoint.specs.ReceivedLaws.{EventsOfReceivedBytes, ReceivedBytes};
 ghost use Rattle.nr_endpoint.specs.OutputLaws.{AllowedCallsJoin, FpdusFollowHello, OutputIsItems, SendsGoByItems, SendsWaitByItems, ResponsesGoByItems, SidesStayBounded};
-ghost use Rattle.nr_endpoint.specs.Laws.{PiecesJoin, StepsReach, StepsFeed, EndStays, KeepsLessThanFrame, EndedKeepsNothing, StreamIsKept, PlaceIsFed, MemoryFollowsEvents, PlacesAreAllowed, PlacesAreInOrder, ArrivalsRise, EventsAreTold, EventsAreInOrder, EventsFollowAccesses, OneFrameTellsAtItsEnd, OneFrameTellsOnce, ReadsAreAllowed, NothingElseIsRead, OtherFramesQueueNothing, OpenRegionHolds, ReleasedBufferHolds, ReleasedStaysDead, ClaimsStay, NoFpduBeforeHello, FramesEndForThese, GrantsEndAlike, OffersDenyAlike, NoFrameStops, OthersComeFromStop, MemoryComesFromOutOfMemory, EndedQueuesNothing, EndIsKept, StopQueuesLast, OutOfMemoryQueuesNothing};
+ghost use Rattle.nr_endpoint.specs.Laws.{PiecesJoin, StepsReach, StepsFeed, EndStays, KeepsLessThanFrame, EndedKeepsNothing, StreamIsKept, PlaceIsFed, MemoryFollowsEvents, PlacesAreAllowed, PlacesAreInOrder, ArrivalsRise, EventsAreDelivered, EventsAreInOrder, EventsFollowAccesses, OneFrameDeliversAtItsEnd, OneFrameDeliversOnce, ReadsAreAllowed, NothingElseIsRead, OtherFramesQueueNothing, OpenRegionHolds, ReleasedBufferHolds, ReleasedStaysDead, ClaimsStay, NoFpduBeforeHello, FramesEndForThese, GrantsEndAlike, OffersDenyAlike, NoFrameStops, OthersComeFromStop, MemoryComesFromOutOfMemory, EndedQueuesNothing, EndIsKept, StopQueuesLast, OutOfMemoryQueuesNothing};
 
 /// The state of a side after some bytes does not depend on how they were split: to feed two pieces is to feed both joined, and one step on a
 /// piece and then the rest of it equals a feed of the complete piece. A side that has ended doesn't change.
@@ -50,11 +50,11 @@ pub fn accesses_follow_bytes()
 /// Each message and each read that a frame completes is delivered to the owner, once and in the order of the stream. When it is delivered, all
 /// tagged segments of the frames up to that one have been placed, and the later ones end after it (RFC 5040 section 5.5).
 pub fn events_follow_accesses()
-    ensures delivered { EventsAreTold }
+    ensures delivered { EventsAreDelivered }
     ensures order { EventsAreInOrder }
     ensures follow { EventsFollowAccesses }
-    ensures one_frame { OneFrameTellsAtItsEnd }
-    ensures once { OneFrameTellsOnce }
+    ensures one_frame { OneFrameDeliversAtItsEnd }
+    ensures once { OneFrameDeliversOnce }
 {}
 
 /// A region that was registered stays registered until it is released, whatever is called between: `release` may be called with it.

@@ -1,4 +1,4 @@
-//! Endpoints that the rows of tables begin with, and bytes in words. Hellos and FPDUs have whole numbers of words.
+//! Endpoints that the rows of tables begin with, and bytes in words. The length of a hello and of an FPDU is a number of words.
 
 use crate::compare::same;
 use crate::endpoint::TestEndpoint;

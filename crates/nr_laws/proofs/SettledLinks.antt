@@ -132,9 +132,9 @@ none_both : {A : Type 0} (xs ys : List A) → xs ++ ys ≡ [] → (xs ≡ []) ×
 none_both [] ys e = (refl, e)
 none_both (x ∷ xs) ys e = absurd cc
 
-filter-append : {A : Type 0} (p : A → Bool) (xs ys : List A) → filter p (xs ++ ys) ≡ filter p xs ++ filter p ys
-filter-append p [] ys = refl
-filter-append p (x ∷ xs) ys = by (p x) (filter-append p xs ys)
+filter_append : {A : Type 0} (p : A → Bool) (xs ys : List A) → filter p (xs ++ ys) ≡ filter p xs ++ filter p ys
+filter_append p [] ys = refl
+filter_append p (x ∷ xs) ys = by (p x) (filter_append p xs ys)
   where
     by : (b : Bool) → filter p (xs ++ ys) ≡ filter p xs ++ filter p ys → cond b (x ∷ filter p (xs ++ ys)) (filter p (xs ++ ys)) ≡ cond b (x ∷ filter p xs) (filter p xs) ++ filter p ys
     by true e = ap (λ (zs : List _). x ∷ zs) e
@@ -143,7 +143,7 @@ filter-append p (x ∷ xs) ys = by (p x) (filter-append p xs ys)
 none_each : {X A : Type 0} (p : A → Bool) (f : X → List A) (xs : List X) → filter p (flat_map f xs) ≡ [] → AllByRecursion (λ (x : X). filter p (f x) ≡ []) xs
 none_each p f [] e = tt
 none_each p f (x ∷ xs) e =
-    let both = none_both (filter p (f x)) (filter p (flat_map f xs)) (sym (filter-append p (f x) (flat_map f xs)) ∙ e) in
+    let both = none_both (filter p (f x)) (filter p (flat_map f xs)) (sym (filter_append p (f x) (flat_map f xs)) ∙ e) in
     (both.0, none_each p f xs both.1)
 
 tested : (g : ℕ → Bool) (xid : ℕ) (calls : List CompletedCall) → filter (λ (c : CompletedCall). not (g c.xid)) (filter (λ (c : CompletedCall). eqb c.xid xid) calls) ≡ [] → has_outcome calls xid ≡ true → g xid ≡ true

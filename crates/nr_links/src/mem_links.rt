@@ -7,20 +7,25 @@ use nr_xdr::{Memory, Octets};
 use std::alloc::Global;
 use std::marker::Model;
 
-/// What a link in memory will be: the bytes that its source hands out, the sizes of the pieces, and the calls of the source
-/// and of the sink that fail.
+/// What a link in memory will be.
 #[derive(Drop)]
 pub struct LinkPlan {
+    /// The bytes that its source hands out.
     pub bytes: Vec<u8>,
+    /// The sizes of the pieces in which it hands them out, in bytes.
     pub sizes: Vec<usize>,
+    /// The calls of its source that fail, by their number from 0.
     pub failing_reads: Vec<usize>,
+    /// The calls of its sink that fail, by their number from 0.
     pub failing_writes: Vec<usize>,
 }
 
 /// A link in memory.
 #[derive(Drop)]
 pub struct MemLink {
+    /// What its owner reads from.
     pub source: Counted<MemSource>,
+    /// What its owner writes into.
     pub sink: Counted<MemSink>,
 }
 

@@ -62,14 +62,19 @@ impl<N> TcpAcceptor<N> {
     }
 }
 
-/// The next stream. A peer that went away before it was taken is passed over.
+/// The next stream. A peer that went away before it was taken is passed over, and so is one whose stream can't be set up: an
+/// error of one peer's stream is none of the listener.
 fn take(listener: &TcpListener) -> io::Result<(TcpSource, TcpSink)>
     ensures source { IfOk result (λ link. link.0.faults ≡ 0) }
     ensures sink { IfOk result (λ link. link.1.faults ≡ 0) }
 {
     for _ in 0..u64::MAX {
         match listener.accept() {
-            Ok((stream, _)) => return halves(stream),
+            Ok((stream, _)) => {
+                if let Ok(link) = halves(stream) {
+                    return Ok(link);
+                }
+            }
             Err(error) if error.kind() == ErrorKind::ConnectionAborted => {}
             Err(error) => return Err(error),
         }

@@ -45,6 +45,37 @@ fn bytes_in_both_directions(rt: HostRuntime) {
     dialer.hang_up(ours, to_them);
 }
 
+/// A client that goes away before it is accepted ends no acceptor: its link gives the end at once, and the next one is served.
+#[test]
+fn client_goes_away_before_it_is_accepted(rt: HostRuntime) {
+    let mut acceptor = TcpAcceptor::new(rt);
+    same(&rt, 0, acceptor.listen("127.0.0.1:0").is_ok(), true);
+    let Some(port) = acceptor.port() else {
+        panic!(rt; "no port")
+    };
+    let addr = format!(in rt.alloc(); "127.0.0.1:{port}").expect(&rt, "memory");
+    let mut dialer = TcpDialer::new(rt);
+    let Ok((gone, to_gone)) = dialer.dial(addr.as_str()) else {
+        panic!(rt; "no dial")
+    };
+    dialer.hang_up(gone, to_gone);
+    let Ok((ours, mut to_them)) = dialer.dial(addr.as_str()) else {
+        panic!(rt; "no second dial")
+    };
+    let Ok((mut first, to_first)) = acceptor.accept() else {
+        panic!(rt; "no link")
+    };
+    reads(&rt, &mut first, b"");
+    acceptor.hang_up(first, to_first);
+    let Ok((mut second, to_second)) = acceptor.accept() else {
+        panic!(rt; "no second link")
+    };
+    sends(&rt, &mut to_them, b"hello");
+    reads(&rt, &mut second, b"hello");
+    acceptor.hang_up(second, to_second);
+    dialer.hang_up(ours, to_them);
+}
+
 #[test]
 fn nobody_listens(rt: HostRuntime) {
     let mut dialer = TcpDialer::new(rt);

@@ -1,7 +1,7 @@
 //! Words of a run, and what is read of them.
 
-use nr_words::{WordsFault, read_line, read_words};
-use std::alloc::Global;
+use nr_words::{Action, Client, Command, WordsFault, read_line, read_words};
+use std::alloc::{AllocError, Global};
 use std::process::Abort;
 
 fn strings(rt: &impl Abort, alloc: Global, words: &str) -> Vec<String> {
@@ -14,6 +14,48 @@ fn strings(rt: &impl Abort, alloc: Global, words: &str) -> Vec<String> {
     strings
 }
 
+/// What a client does: its command, its path and its target, each `-` if it has none.
+fn action_words<'a>(action: &Action<&'a str>) -> (&'a str, &'a str, &'a str) {
+    match action {
+        Action::Mount => ("mount", "-", "-"),
+        Action::List { path } => ("ls", path, "-"),
+        Action::Stat { path } => ("stat", path, "-"),
+        Action::ReadLink { path } => ("readlink", path, "-"),
+        Action::MakeDirectory { path } => ("mkdir", path, "-"),
+        Action::Remove { path } => ("rm", path, "-"),
+        Action::Put { path } => ("put", path, "-"),
+        Action::Get { path } => ("get", path, "-"),
+        Action::Link { path, target } => ("ln", path, target),
+    }
+}
+
+/// The command of a client with its user and group IDs, address, export, path and target, after `line`.
+fn client_text(alloc: Global, line: &str, client: &Client<&str>) -> Result<String, AllocError> {
+    let (name, path, target) = action_words(&client.action);
+    let Client {
+        addr,
+        export,
+        uid,
+        gid,
+        action: _,
+    } = client;
+    format!(in alloc; "{line}{name} {uid} {gid} {addr} {export} {path} {target}.")
+}
+
+/// The command with its values, after `line`.
+fn command_text(alloc: Global, line: &str, command: &Command<&str>) -> Result<String, AllocError> {
+    match command {
+        Command::Serve { config } => format!(in alloc; "{line}serve {config}."),
+        Command::Client { client } => client_text(alloc, line, client),
+        Command::Drill => format!(in alloc; "{line}drill."),
+        Command::GeneratedDrill {
+            seed,
+            clients,
+            calls,
+        } => format!(in alloc; "{line}drill {seed} {clients} {calls}."),
+    }
+}
+
 /// What is read of the words, after `line` if they are one.
 fn read(rt: &impl Abort, alloc: Global, words: &str) -> String {
     let words = strings(rt, alloc, words);
@@ -23,7 +65,7 @@ fn read(rt: &impl Abort, alloc: Global, words: &str) -> String {
         ""
     };
     let text = match read_words(alloc, words.as_slice()) {
-        Ok(command) => format!(in alloc; "{line}{command:?}"),
+        Ok(command) => command_text(alloc, line, &command),
         Err(WordsFault::Asked { text }) => format!(in alloc; "{line}asked {text}"),
         Err(WordsFault::Refused { text }) => format!(in alloc; "{line}refused {text}"),
         Err(WordsFault::Bad) => format!(in alloc; "{line}bad words"),
@@ -33,19 +75,19 @@ fn read(rt: &impl Abort, alloc: Global, words: &str) -> String {
 }
 
 /// Words of a run, parted by spaces (`''` is an empty word), and how what is read of them begins.
-static ROWS: [(&str, &str); 33] = [
-    ("n drill", "line Drill"),
+static ROWS: [(&str, &str); 39] = [
+    ("n drill", "line drill."),
     (
         "n drill --seed 7 --clients 3 --calls 2000",
-        "line GeneratedDrill { seed: 7, clients: 3, calls: 2000 }",
+        "line drill 7 3 2000.",
     ),
     (
         "n drill --seed=7 --clients 3 --calls=2000",
-        "GeneratedDrill { seed: 7, clients: 3, calls: 2000 }",
+        "drill 7 3 2000.",
     ),
     (
         "n drill --calls 1 --seed 18446744073709551615 --clients 16",
-        "line GeneratedDrill { seed: 18446744073709551615, clients: 16, calls: 1 }",
+        "line drill 18446744073709551615 16 1.",
     ),
     ("n drill --seed 7", "bad words"),
     (
@@ -56,36 +98,30 @@ static ROWS: [(&str, &str); 33] = [
     ("n drill --seed 7 --clients 3 --calls 0", "refused error:"),
     (
         "n drill --seed 7 --clients 3 --calls 0001000000",
-        "GeneratedDrill { seed: 7, clients: 3, calls: 1000000 }",
+        "drill 7 3 1000000.",
     ),
-    ("n serve c.toml", "line Serve { config: \"c.toml\" }"),
+    ("n serve c.toml", "line serve c.toml."),
     ("n serve", "refused error:"),
     ("n serve ''", "bad words"),
     ("n serve -c", "refused error:"),
     ("n serve -- -c", "bad words"),
-    ("n serve -- c", "Serve { config: \"c\" }"),
-    (
-        "n mount --uid 5 a e",
-        "line Client { client: Client { addr: \"a\", export: \"e\", uid: 5, gid: 0, action: Mount } }",
-    ),
-    (
-        "n mount a e --uid +5",
-        "Client { client: Client { addr: \"a\", export: \"e\", uid: 5, gid: 0, action: Mount } }",
-    ),
+    ("n serve -- c", "serve c."),
+    ("n mount --uid 5 a e", "line mount 5 0 a e - -."),
+    ("n mount a e --uid +5", "mount 5 0 a e - -."),
     ("n mount a e --uid 5 --uid 5", "refused error:"),
     ("n mount a e --uid -5", "refused error:"),
     ("n mount a e --uid 4294967296", "refused error:"),
     ("n mount a e --uid", "refused error:"),
     ("n mount a e f", "refused error:"),
     ("n get a e p --jobs 2", "refused error:"),
-    (
-        "n get a e --uid 0 p --gid 7",
-        "line Client { client: Client { addr: \"a\", export: \"e\", uid: 0, gid: 7, action: Get { path: \"p\" } } }",
-    ),
-    (
-        "n ln a e p t",
-        "line Client { client: Client { addr: \"a\", export: \"e\", uid: 0, gid: 0, action: Link { path: \"p\", target: \"t\" } } }",
-    ),
+    ("n get a e --uid 0 p --gid 7", "line get 0 7 a e p -."),
+    ("n ln a e p t", "line ln 0 0 a e p t."),
+    ("n ls a e p", "line ls 0 0 a e p -."),
+    ("n stat a e p", "line stat 0 0 a e p -."),
+    ("n readlink a e p", "line readlink 0 0 a e p -."),
+    ("n mkdir a e p", "line mkdir 0 0 a e p -."),
+    ("n rm a e p", "line rm 0 0 a e p -."),
+    ("n put a e p", "line put 0 0 a e p -."),
     ("n ln a e p -t", "refused error:"),
     (
         "n --help",

@@ -12,8 +12,8 @@ ghost use Rattle.nr_tree.specs.Tree.{Tree};
 use nr_nfs_args::{ReadArgs, WriteArgs};
 use nr_nfs_base::Attributes;
 
-/// The sizes that FSINFO gives (RFC 1813 section 3.3.19) are those that READ and WRITE keep to: of at most so many bytes as it
-/// says, a READ gives all that it asks for and the file has, and a WRITE writes all that it brings; of more, they move that many.
+/// The sizes that FSINFO gives (RFC 1813 section 3.3.19) are those that READ and WRITE keep to: of at most that many bytes,
+/// a READ gives all that it asks for and the file has, and a WRITE writes all that it brings; of more, they move that many.
 /// The preferred sizes are the largest ones, which are multiples of the suggested multiples, and that of a listing is the limit of
 /// READDIR and READDIRPLUS. No file has more than `maxfilesize` bytes. A WRITE whose count is that of its data, a SETATTR or a CREATE
 /// is refused with FBIG for its size if and only if a byte would be past that.

@@ -41,18 +41,23 @@ plain_app = record (new_app (codes "nfsrdma")) {
 abbrev pub with_command : App → App → App
 with_command app command = with_subcommand app command.top
 
-unfoldable pub program_app : App
-program_app =
-    with_command (with_command (with_command (with_command (with_command (with_command (with_command (with_command (with_command (with_command (with_command plain_app
-    serve_app)
-    (client_app (codes "mount")))
+-- with the commands of a client that have a PATH and no TARGET
+abbrev pub with_paths : App → App
+with_paths app =
+    with_command (with_command (with_command (with_command (with_command (with_command (with_command app
     (path_app (codes "ls")))
     (path_app (codes "stat")))
     (path_app (codes "readlink")))
     (path_app (codes "mkdir")))
     (path_app (codes "rm")))
     (path_app (codes "put")))
-    (path_app (codes "get")))
+    (path_app (codes "get"))
+
+unfoldable pub program_app : App
+program_app =
+    with_command (with_command (with_paths (with_command (with_command plain_app
+    serve_app)
+    (client_app (codes "mount"))))
     link_app)
     drill_app
 
@@ -68,3 +73,11 @@ AddsTo program sub more = (app : App) → Builds app program → Builds (with_co
 -- the same of a command that may not have been made
 abbrev pub Adds : Command → Result Command AllocError → Command → Type 0
 Adds program command more = (sub : App) → IfOk command (Builds sub) → AddsTo program sub more
+
+-- the same of the commands of a client with a PATH
+abbrev pub AddsPaths : Command → Command → Type 0
+AddsPaths program more = (app : App) → Builds app program → Builds (with_paths app) more
+
+-- a command with one more argument, whatever the command was
+abbrev pub AddsRule : Command → Rule → Command → Type 0
+AddsRule command rule more = (app : App) → Builds app command → Builds (with_rule app rule) more

@@ -5,7 +5,6 @@ ghost use Rattle.std.specs.Prelude.{◌≡◌, ⊤};
 use std::alloc::AllocError;
 
 /// What a client does at its server.
-#[derive(Debug)]
 pub enum Action<T> {
     /// Print the handle of the export.
     Mount,
@@ -40,7 +39,6 @@ impl<T: Copy> Clone for Action<T> {
 impl<T: Copy> Copy for Action<T> {}
 
 /// A client, and what it does.
-#[derive(Debug)]
 pub struct Client<T> {
     /// The address of the server.
     pub addr: T,
@@ -67,7 +65,6 @@ impl<T: Copy> Clone for Client<T> {
 impl<T: Copy> Copy for Client<T> {}
 
 /// What the words of a run ask for.
-#[derive(Debug)]
 pub enum Command<T> {
     /// Serve by the configuration in this file.
     Serve { config: T },

@@ -9,7 +9,7 @@ use crate::numbers::numeral_within;
 use std::alloc::AllocError;
 
 /// The first word after the program's name.
-#[derive(Clone, Copy, PartialEq, Eq)]
+#[derive(Clone, Copy)]
 pub(crate) enum Subcommand {
     Serve,
     Mount,
@@ -25,7 +25,7 @@ pub(crate) enum Subcommand {
 }
 
 /// An option.
-#[derive(Clone, Copy, PartialEq, Eq)]
+#[derive(Clone, Copy)]
 pub(crate) enum OptionName {
     Uid,
     Gid,

@@ -1,8 +1,8 @@
 //! The program as clap knows it.
 
 ghost use Rattle.std.specs.Prelude.{◌≡◌, IfOk, false};
-ghost use Rattle.clap.specs.Words.{rule_of};
-ghost use Rattle.nr_words.specs.Program.{Adds, AddsTo, Builds, client_app, number_rule, path_app, positional_rule, plain_app, program_app, drill_app, link_app, serve_app};
+ghost use Rattle.clap.specs.Words.{new_app, rule_of};
+ghost use Rattle.nr_words.specs.Program.{Adds, AddsPaths, AddsRule, AddsTo, Builds, client_app, number_rule, path_app, positional_rule, plain_app, program_app, drill_app, link_app, serve_app};
 
 use crate::limits::{CALLS_MAX, CLIENTS_MAX, ID_MAX, SEED_MAX};
 use clap::builder::ValueParser;
@@ -25,50 +25,80 @@ fn number<'a>(alloc: Global, name: &'a str, parser: ValueParser<'a>) -> Arg<'a>
     Arg::new(alloc, name).long(name).value_parser(parser)
 }
 
+/// A command without arguments.
+fn named<'a>(alloc: Global, name: &'a str, about: &'a str) -> Command<'a>
+    ensures { Builds (new_app name.entry.now) result }
+{
+    Command::new(alloc, name).about(about)
+}
+
+/// A command with one more positional.
+fn with_positional<'a>(
+    alloc: Global,
+    command: Command<'a>,
+    name: &'a str,
+) -> Result<Command<'a>, AllocError>
+    ensures { IfOk result (AddsRule command.entry (positional_rule name.entry.now)) }
+{
+    command.arg(positional(alloc, name))
+}
+
+/// A command with one more option.
+fn with_number<'a>(
+    alloc: Global,
+    command: Command<'a>,
+    name: &'a str,
+    parser: ValueParser<'a>,
+) -> Result<Command<'a>, AllocError>
+    ensures { IfOk result (AddsRule command.entry (number_rule name.entry.now parser.entry)) }
+{
+    command.arg(number(alloc, name, parser))
+}
+
 /// A command of a client: ADDR EXPORT, `--uid`, `--gid`.
 fn client<'a>(alloc: Global, name: &'a str, about: &'a str) -> Result<Command<'a>, AllocError>
     ensures { IfOk result (Builds (client_app name.entry.now)) }
 {
-    Command::new(alloc, name)
-        .about(about)
-        .arg(positional(alloc, "ADDR"))?
-        .arg(positional(alloc, "EXPORT"))?
-        .arg(number(alloc, "uid", ValueParser::Signed(0, ID_MAX as i64)))?
-        .arg(number(alloc, "gid", ValueParser::Signed(0, ID_MAX as i64)))
+    let command = with_positional(alloc, named(alloc, name, about), "ADDR")?;
+    let command = with_positional(alloc, command, "EXPORT")?;
+    let uid = ValueParser::Signed(0, ID_MAX as i64);
+    let command = with_number(alloc, command, "uid", uid)?;
+    let gid = ValueParser::Signed(0, ID_MAX as i64);
+    with_number(alloc, command, "gid", gid)
 }
 
 /// A command of a client with a PATH.
 fn with_path<'a>(alloc: Global, name: &'a str, about: &'a str) -> Result<Command<'a>, AllocError>
     ensures { IfOk result (Builds (path_app name.entry.now)) }
 {
-    let path = positional(alloc, "PATH");
-    client(alloc, name, about)?.arg(path)
+    let command = client(alloc, name, about)?;
+    with_positional(alloc, command, "PATH")
 }
 
 fn link<'a>(alloc: Global) -> Result<Command<'a>, AllocError>
     ensures { IfOk result (Builds link_app) }
 {
-    let target = positional(alloc, "TARGET");
-    with_path(alloc, "ln", "Makes a symbolic link")?.arg(target)
+    let command = with_path(alloc, "ln", "Makes a symbolic link")?;
+    with_positional(alloc, command, "TARGET")
 }
 
 fn serve<'a>(alloc: Global) -> Result<Command<'a>, AllocError>
     ensures { IfOk result (Builds serve_app) }
 {
-    let config = positional(alloc, "CONFIG");
-    Command::new(alloc, "serve")
-        .about("Serves a tree in memory")
-        .arg(config)
+    let command = named(alloc, "serve", "Serves a tree in memory");
+    with_positional(alloc, command, "CONFIG")
 }
 
 fn drill<'a>(alloc: Global) -> Result<Command<'a>, AllocError>
     ensures { IfOk result (Builds drill_app) }
 {
-    Command::new(alloc, "drill")
-        .about("Runs a script from standard input, or one that it generates")
-        .arg(number(alloc, "seed", ValueParser::Unsigned(0, SEED_MAX)))?
-        .arg(number(alloc, "clients", ValueParser::Signed(1, CLIENTS_MAX as i64)))?
-        .arg(number(alloc, "calls", ValueParser::Signed(1, CALLS_MAX as i64)))
+    let about = "Runs a script from standard input, or one that it generates";
+    let seed = ValueParser::Unsigned(0, SEED_MAX);
+    let command = with_number(alloc, named(alloc, "drill", about), "seed", seed)?;
+    let clients = ValueParser::Signed(1, CLIENTS_MAX as i64);
+    let command = with_number(alloc, command, "clients", clients)?;
+    let calls = ValueParser::Signed(1, CALLS_MAX as i64);
+    with_number(alloc, command, "calls", calls)
 }
 
 /// The program itself, without a command.
@@ -105,13 +135,10 @@ fn add_path<'a>(
     add(program, with_path(alloc, name, about))
 }
 
-/// The program with its commands.
-pub(crate) fn program<'a>(alloc: Global) -> Result<Command<'a>, AllocError>
-    ensures { IfOk result (Builds program_app) }
+/// The program with the commands of a client with a PATH and no TARGET.
+fn add_paths<'a>(alloc: Global, program: Command<'a>) -> Result<Command<'a>, AllocError>
+    ensures { IfOk result (AddsPaths program.entry) }
 {
-    let program = add(plain(alloc), serve(alloc))?;
-    let mount = client(alloc, "mount", "Prints the handle of an export");
-    let program = add(program, mount)?;
     let program = add_path(alloc, program, "ls", "Lists a directory")?;
     let program = add_path(alloc, program, "stat", "Prints attributes")?;
     let program = add_path(
@@ -123,7 +150,17 @@ pub(crate) fn program<'a>(alloc: Global) -> Result<Command<'a>, AllocError>
     let program = add_path(alloc, program, "mkdir", "Makes a directory")?;
     let program = add_path(alloc, program, "rm", "Removes a file")?;
     let program = add_path(alloc, program, "put", "Writes standard input to a file")?;
-    let program = add_path(alloc, program, "get", "Writes a file to standard output")?;
+    add_path(alloc, program, "get", "Writes a file to standard output")
+}
+
+/// The program with its commands.
+pub(crate) fn program<'a>(alloc: Global) -> Result<Command<'a>, AllocError>
+    ensures { IfOk result (Builds program_app) }
+{
+    let program = add(plain(alloc), serve(alloc))?;
+    let mount = client(alloc, "mount", "Prints the handle of an export");
+    let program = add(program, mount)?;
+    let program = add_paths(alloc, program)?;
     let program = add(program, link(alloc))?;
     add(program, drill(alloc))
 }

@@ -30,7 +30,7 @@ fn server(alloc: Global) -> Result<Server, Memory> {
     Ok(Server::open(tree, 1 << 62, Verifier { number: 1 }, export))
 }
 
-/// Makes so many files in the root.
+/// Makes this many files in the root.
 fn fill(alloc: Global, server: &mut Server, size: u32) -> Option<()> {
     for count in 0..size {
         create(alloc, server, count)?;
@@ -59,7 +59,7 @@ fn churned(alloc: Global, server: &mut Server, size: u32, rounds: u32) -> Option
     Some(total)
 }
 
-/// Writes all of a file of so many bytes.
+/// Writes all of a file of this many bytes.
 fn write_all(alloc: Global, server: &mut Server, size: u32, data: &[u8]) -> Option<()> {
     create(alloc, server, 0)?;
     for piece in 0..size / 32_768 {

@@ -14,7 +14,7 @@ use Rattle.nr_ops_dir.specs.declared.listings.Limits.{Limits}
 abbrev pub entry_size : Entry → ℕ
 entry_size e = 24 + (length e.name + pad_len (length e.name))
 
--- the attributes and the handle of a live node, each behind a flag
+-- the attributes and the handle of a live node, each after a flag
 abbrev pub node_size : Tree → ℕ → ℕ
 node_size t n = option_map_or (λ node. 104) (get t.nodes n) 8
 

@@ -8,11 +8,5 @@ returns c =
     let s1 = c.in_ok-program.ensures _ c.serve.ensures _ c.plain.ensures in
     let s2 = c.in_ok-program-2.ensures _ c.client-mount.ensures _ s1 in
     let s3 = c.in_ok-program-3.ensures _ s2 in
-    let s4 = c.in_ok-program-4.ensures _ s3 in
-    let s5 = c.in_ok-program-5.ensures _ s4 in
-    let s6 = c.in_ok-program-6.ensures _ s5 in
-    let s7 = c.in_ok-program-7.ensures _ s6 in
-    let s8 = c.in_ok-program-8.ensures _ s7 in
-    let s9 = c.in_ok-program-9.ensures _ s8 in
-    let s10 = c.in_ok-program-10.ensures _ c.link.ensures _ s9 in
-    IfOk-weaker c.add-4.result _ _ (λ r h. h _ c.drill.ensures _ s10) c.add-4.ensures
+    let s4 = c.in_ok-program-4.ensures _ c.link.ensures _ s3 in
+    IfOk-weaker c.add-4.result _ _ (λ r h. h _ c.drill.ensures _ s4) c.add-4.ensures
