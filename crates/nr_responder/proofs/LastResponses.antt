@@ -35,7 +35,9 @@ use Rattle.nr_reduce.proofs.OwnStags.{closed_length}
 use Rattle.nr_endpoint.specs.SendQueue.{SendQueue}
 use Rattle.nr_responder.specs.ResponderState.{unsent}
 use Rattle.nr_responder.specs.Keeping.{OwnNumbers, OwnXids, OwnReady, IsReadyOf, IsServer, LinkKeeps, QueueKeeps, later_responses}
-use Rattle.nr_responder.specs.private.Reading.{SinkRegion, sink_of_region, open_if, open_sinks, is_sink, bytes_of_sink, sink_bytes, over_sinks, released, opening, with_requests}
+use Rattle.nr_responder.specs.Fetching.{SinkRegion, sink_of_region, open_if, open_sinks}
+use Rattle.nr_responder.specs.private.Reading.{is_sink, bytes_of_sink, sink_bytes, over_sinks, released, opening, with_requests}
+use Rattle.nr_responder.specs.ReadsDone.{side_after_done}
 use Rattle.nr_responder.proofs.Responses.{found_all}
 use Rattle.nr_responder.proofs.ReadEffects.{requested_has, requests_ends, opened_now}
 use Rattle.nr_responder.proofs.Sinks.{closed_all, closed_stags, closed_now, releases, released_next}
@@ -100,10 +102,6 @@ pub record TakesLast (k : ServerState) (f : Frame) (a : TaggedSegment) (rest : L
   pub queue : QueueKeeps k t.send_queue
   pub place : t.place ≡ f.end
   pub last : t.last ≡ f.at
-
--- the side after the read: sinks that are over were released, and reads opened
-abbrev pub side_after_done : LinkState → List PendingRead → List SinkRegion → LinkState
-side_after_done t reads over = record t { send_queue = with_requests reads t.send_queue; reads = t.reads ++ later_responses reads; memory = released over t.memory }
 
 pub done_link : (opened : LinkParameters) (k : ServerState) (f : Frame) (a : TaggedSegment) (rest reads : List PendingRead) (calls : List PendingCall) (ready : List ReadyCall) (kept : ℕ) (t : LinkState) → TakesLast k f a rest opened.granted t → IsServer k f.at →
     f.at ≤ f.end → a.end ≡ f.end → length calls ≡ length k.calls → kept ≤ 8 → t.reads ≡ later_responses (take kept reads) →

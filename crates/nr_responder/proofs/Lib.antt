@@ -5,11 +5,11 @@ pub mod Drained
 pub mod Ends
 pub mod Executed
 pub mod Fed
+pub mod FrameCounts
 pub mod FrameEnds
 pub mod Frames
 pub mod Handled
 pub mod Held
-pub mod Inline
 pub mod Judged
 pub mod LastResponses
 pub mod Marks
@@ -24,6 +24,7 @@ pub mod Queues
 pub mod ReadCases
 pub mod ReadEffects
 pub mod ReadPayloads
+pub mod ReadsTaken
 pub mod Removed
 pub mod Responses
 pub mod SendFrames
@@ -35,5 +36,6 @@ pub mod Stepped
 pub mod Staging
 pub mod Steps
 pub mod Supported
+pub mod Told
 pub mod Whole
 pub mod Writes

@@ -23,7 +23,7 @@ use Rattle.nr_reduce.specs.Plans.{one_if}
 use Rattle.nr_reduce.specs.OfferedRegions.{Region}
 use Rattle.nr_reduce.specs.ServerState.{PendingCall, PendingRead, ReadyCall, ServerState, is_pending}
 use Rattle.nr_reduce.proofs.MemorySteps.{holds_later, received_later, offered_later}
-use Rattle.nr_responder.specs.Keeping.{OwnNumbers, OwnXids, OwnReady, IsReadyOf, IsInline, IsServer, LinkKeeps}
+use Rattle.nr_responder.specs.Keeping.{OwnNumbers, OwnXids, OwnReady, IsReadyOf, IsInline, HasPayload, ArePayloads, IsServer, LinkKeeps}
 use Rattle.nr_responder.specs.ResponderState.{unsent}
 use Rattle.nr_responder.proofs.ServerSteps.{with_received, with_inline_call, ready_call, none_of_number, over_pushed}
 
@@ -273,13 +273,31 @@ ready_last P [] r p h = (p, tt)
 ready_last P (x ∷ ready) r p h = (h.0, ready_last P ready r p h.1)
 
 -- the payloads of those that are ready, with one more
-pub payloads_told : (calls : List PendingCall) (reads : List PendingRead) (c : PendingCall) (stream : List ℕ) (ready : List ReadyCall) → c.inline ≡ Some stream → list_any (λ d. eqb d.xid c.xid) calls ≡ false → AllByRecursion (IsReadyOf calls reads) ready →
-    AllByRecursion (IsInline calls) ready → AllByRecursion (IsInline (calls ++ c ∷ [])) (ready ++ ready_call c stream ∷ [])
-payloads_told calls reads c stream [] inline none known h = (payload_pushed c.xid stream calls c (λ _. inline) (no_payload c.xid stream calls none), tt)
-payloads_told calls reads c stream (r ∷ ready) inline none known h = (
-  payload_pushed r.xid r.payload calls c (λ e. absurd (let two : true ≡ false = sym known.0.pending ∙ (ap (λ (y : ℕ). list_any (λ d. eqb d.xid y) calls) (sym e) ∙ none) in cc)) h.0,
-  payloads_told calls reads c stream ready inline none known.1 h.1,
-)
+still_payload : (calls : List PendingCall) (reads : List PendingRead) (c : PendingCall) (r : ReadyCall) (p : Option (List ℕ)) → list_any (λ d. eqb d.xid c.xid) calls ≡ false → IsReadyOf calls reads r → HasPayload calls r p → HasPayload (calls ++ c ∷ []) r p
+still_payload calls reads c r None none known h =
+    payload_pushed r.xid r.payload calls c (λ e. absurd (let two : true ≡ false = sym known.pending ∙ (ap (λ (y : ℕ). list_any (λ d. eqb d.xid y) calls) (sym e) ∙ none) in cc)) h
+still_payload calls reads c r (Some payload) none known h = h
+
+-- with one more call that isn't ready
+pub payloads_pushed : (calls : List PendingCall) (reads : List PendingRead) (c : PendingCall) (ready : List ReadyCall) (payloads : List (Option (List ℕ))) → list_any (λ d. eqb d.xid c.xid) calls ≡ false → AllByRecursion (IsReadyOf calls reads) ready →
+    ArePayloads calls ready payloads → ArePayloads (calls ++ c ∷ []) ready payloads
+payloads_pushed calls reads c [] [] none known h = tt
+payloads_pushed calls reads c [] (p ∷ payloads) none known h = absurd h
+payloads_pushed calls reads c (r ∷ ready) [] none known h = absurd h
+payloads_pushed calls reads c (r ∷ ready) (p ∷ payloads) none known h = (still_payload calls reads c r p none known.0 h.0, payloads_pushed calls reads c ready payloads none known.1 h.1)
+
+-- with one more that is ready
+pub payloads_ready : (calls : List PendingCall) (r : ReadyCall) (p : Option (List ℕ)) (ready : List ReadyCall) (payloads : List (Option (List ℕ))) → HasPayload calls r p → ArePayloads calls ready payloads →
+    ArePayloads calls (ready ++ r ∷ []) (payloads ++ p ∷ [])
+payloads_ready calls r p [] [] has h = (has, tt)
+payloads_ready calls r p [] (q ∷ payloads) has h = absurd h
+payloads_ready calls r p (x ∷ ready) [] has h = absurd h
+payloads_ready calls r p (x ∷ ready) (q ∷ payloads) has h = (h.0, payloads_ready calls r p ready payloads has h.1)
+
+pub payloads_told : (calls : List PendingCall) (reads : List PendingRead) (c : PendingCall) (stream : List ℕ) (ready : List ReadyCall) (payloads : List (Option (List ℕ))) → c.inline ≡ Some stream → list_any (λ d. eqb d.xid c.xid) calls ≡ false → AllByRecursion (IsReadyOf calls reads) ready →
+    ArePayloads calls ready payloads → ArePayloads (calls ++ c ∷ []) (ready ++ ready_call c stream ∷ []) (payloads ++ None ∷ [])
+payloads_told calls reads c stream ready payloads inline none known h =
+    payloads_ready (calls ++ c ∷ []) (ready_call c stream) None ready payloads (payload_pushed c.xid stream calls c (λ _. inline) (no_payload c.xid stream calls none)) (payloads_pushed calls reads c ready payloads none known h)
 
 numbers_pushed : (n : ℕ) (calls : List PendingCall) (c : PendingCall) → c.number ≡ n + 1 → AllByRecursion (λ x. x.number ≤ n) calls → OwnNumbers calls → OwnNumbers (calls ++ c ∷ [])
 numbers_pushed n [] c is h own = (refl, tt)

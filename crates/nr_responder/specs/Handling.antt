@@ -1,22 +1,24 @@
 -- What a responder makes of a message that its side of the link delivered.
-use Rattle.std.specs.Prelude.{◌≡◌, ◌≢◌, ℕ, ◌+◌, ◌≤◌, List, [], ◌∷◌, ◌++◌, drop, Option, Some, Result, Ok, Err, ◌⊎◌, true, false}
+use Rattle.std.specs.Prelude.{◌≡◌, ◌≢◌, ℕ, ◌+◌, ◌≤◌, List, [], ◌∷◌, ◌++◌, drop, Option, None, Some, Result, Ok, Err, ◌⊎◌, true, false}
 use Rattle.nr_header.specs.declared.header.RdmaSegment.{RdmaSegment}
 use Rattle.nr_header.specs.declared.header.ChunkLists.{ChunkLists}
 use Rattle.nr_xdr.specs.Fields.{word_at}
 use Rattle.nr_rpc.specs.declared.head.CallHead.{CallHead}
 use Rattle.nr_rpc.specs.Reading.{call_of}
 use Rattle.nr_link.specs.Reasons.{REASON_HEAD, REASON_XID}
-use Rattle.nr_endpoint.specs.ReceiveQueue.DeliveredEvent.{MessageReceived}
+use Rattle.nr_endpoint.specs.ReceiveQueue.DeliveredEvent.{MessageReceived, ReadDone}
 use Rattle.nr_endpoint.specs.LinkState.{LinkSide}
 use Rattle.nr_endpoint.specs.Calls.{after_call}
 use Rattle.nr_endpoint.specs.Calls.Call.{NextEvent, Stop, Send, OutOfMemory}
 use Rattle.nr_reduce.specs.Holds.{chunk_error, version_error}
-use Rattle.nr_reduce.specs.ServerState.{PendingCall, ServerState, is_pending}
+use Rattle.nr_reduce.specs.ServerState.{PendingCall, PendingRead, ServerState, is_pending, next_stag}
 use Rattle.nr_reduce.specs.ServerReads.{is_read}
 use Rattle.nr_reduce.specs.ServerMessages.{verdict, call_xid}
 use Rattle.nr_reduce.specs.ServerMessages.Verdict.{EndsLink, OtherVersion, BadChunks, MakesPending}
 use Rattle.nr_reduce.specs.ServerFrames.{FrameEffect, no_effect, by_message}
+use Rattle.nr_responder.specs.Fetching.{payload_added}
 use Rattle.nr_responder.specs.ResponderState.{ResponderSide}
+use Rattle.nr_responder.specs.ReadsDone.{ReadHandled, ReadRanOut}
 use Rattle.nr_responder.specs.Views.{IsCall}
 
 -- a pending call without a read chunk
@@ -28,10 +30,10 @@ abbrev pub refused_effect : ServerState → List ℕ → FrameEffect
 refused_effect k message = record (no_effect k) { errors = message ∷ [] }
 
 abbrev pub on_link : ResponderSide → LinkSide → ResponderSide
-on_link v l = record { link = l; calls = v.calls; ready = v.ready; credits = v.credits }
+on_link v l = record { link = l; calls = v.calls; ready = v.ready; credits = v.credits; fetching = v.fetching }
 
 abbrev pub with_ready : ResponderSide → LinkSide → PendingCall → ResponderSide
-with_ready v l c = record { link = l; calls = v.calls ++ c ∷ []; ready = v.ready ++ c.xid ∷ []; credits = v.credits }
+with_ready v l c = record { link = l; calls = v.calls ++ c ∷ []; ready = v.ready ++ c.xid ∷ []; credits = v.credits; fetching = payload_added None v.fetching }
 
 -- the side that ran out of memory
 abbrev pub out : ResponderSide → ResponderSide
@@ -40,12 +42,13 @@ out v = on_link v (after_call v.link OutOfMemory)
 abbrev pub OrOut : ResponderSide → LinkSide → ResponderSide → Type 0
 OrOut v l after = (after ≡ on_link v l) ⊎ (after ≡ out v)
 
--- the server of a run whose calls a responder keeps: nothing is read for a Send that comes now, and it has no region
+-- the server of a run whose calls and reads a responder keeps: nothing is read for a Send that comes now
 pub record IsServerOf (k : ServerState) (v : ResponderSide) : Type 0 where
   pub calls : k.calls ≡ v.calls
   pub credits : k.credit ≡ v.credits
+  pub reads : k.reads ≡ v.fetching.reads
   pub new_read : is_read k.reads (k.received.sends + 1) ≡ true
-  pub no_regions : k.regions ≡ []
+  pub next : next_stag k ≡ v.link.state.memory.next
 
 -- ---- What the code made of a message with a number
 
@@ -105,9 +108,12 @@ pub data Handled (k : ServerState) (message : List ℕ) (before after : Responde
 pub record IsHandled (k : ServerState) (before after : ResponderSide) : Type 0 where
   pub none : before.link.state.receive_queue.notices ≡ [] → after ≡ before
   pub some : (number : ℕ) (invalidated : Option ℕ) (m : List ℕ) → before.link.state.receive_queue.notices ≡ MessageReceived number invalidated m ∷ [] → number ≡ k.received.sends + 1 → Handled k m before after
+  pub read : before.link.state.receive_queue.notices ≡ ReadDone ∷ [] → (r : PendingRead) (rest : List PendingRead) → before.fetching.reads ≡ r ∷ rest → ReadHandled (on_link before (after_call before.link NextEvent)) r rest after
 
 -- what the code made of it
 pub record IsTaken (before after : ResponderSide) : Type 0 where
   pub none : before.link.state.receive_queue.notices ≡ [] → after ≡ before
   pub some : (number : ℕ) (invalidated : Option ℕ) (m : List ℕ) → before.link.state.receive_queue.notices ≡ MessageReceived number invalidated m ∷ [] →
       Makes (on_link before (after_call before.link NextEvent)) number m after
+  pub read : before.link.state.receive_queue.notices ≡ ReadDone ∷ [] → (r : PendingRead) (rest : List PendingRead) → before.fetching.reads ≡ r ∷ rest →
+      ReadHandled (on_link before (after_call before.link NextEvent)) r rest after ⊎ ReadRanOut (on_link before (after_call before.link NextEvent)) r rest after

@@ -315,6 +315,7 @@ impl ServerEnd {
         ensures staging { self.new.endpoint.staging ≡ self.old.endpoint.staging }
         ensures outside { self.new.endpoint.outside ≡ self.old.endpoint.outside }
     {
+        self.endpoint.facts();
         let message = stream_of(&buf, len, 0);
         let xid = word_at(message, 0);
         let version = word_at(message, 4);
