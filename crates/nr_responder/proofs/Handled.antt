@@ -33,10 +33,10 @@ use Rattle.nr_reduce.specs.ServerFrames.{by_message}
 use Rattle.nr_reduce.specs.Holds.{chunk_error, version_error}
 use Rattle.nr_responder.specs.ResponderState.{ResponderSide}
 use Rattle.nr_responder.specs.Handling.{Handled, IsServerOf, MessageTakes, Begins, Makes, OrOut, begun_call, inline_call, refused_effect, on_link, out, with_ready}
-use Rattle.nr_responder.specs.Handling.Handled.{Stopped, Refused, Ready}
+use Rattle.nr_responder.specs.Handling.Handled.{Stopped, Refused, Ready, Fetched}
 use Rattle.nr_responder.specs.Handling.MessageTakes.{EndsFor, ErrorFor}
 use Rattle.nr_responder.specs.Handling.Begins.{NoCall, OtherXid, IsReady}
-use Rattle.nr_responder.specs.Handling.Makes.{Ends, RefusesVersion, RefusesChunks, Calls, LeavesReads}
+use Rattle.nr_responder.specs.Handling.Makes.{Ends, RefusesVersion, RefusesChunks, Calls, Fetches, LeavesReads}
 use Rattle.nr_responder.specs.Views.{IsCall}
 use Rattle.nr_responder.specs.Sound.{SameInput}
 use Rattle.nr_responder.proofs.Judged.{ends_refusal, version_refused, chunks_refused, no_call_refused, other_call_refused, plain_lists_lem}
@@ -108,6 +108,12 @@ makes_handled v after number message (RefusesChunks judged is) =
     (λ k server place. chunks_refused k message v.credits place (judged k (told_server_of k v server)) server.credits) is
 makes_handled v after number message (Calls lists stream_at judged begins) =
     begins_handled v after number message lists stream_at (λ k server. judged k (told_server_of k v server)) begins
+makes_handled v after number message (Fetches xid lists inline judged chunks is) =
+    inl (λ k server count.
+        let r = judged k (told_server_of k v server) in
+        let same : verdict k message ≡ MakesPending (record { number = number; xid = xid; lists = lists; inline = inline }) =
+        r.pending ∙ (λ i. MakesPending (record { number = sym count i; xid = xid; lists = lists; inline = inline })) in
+        Fetched (record { number = number; xid = xid; lists = lists; inline = inline }) count r.own same chunks is)
 makes_handled v after number message (LeavesReads takes is) = inr (record { is_out = is; takes = λ k server count. takes k (told_server_of k v server) })
 
 -- ---- What is left of the link

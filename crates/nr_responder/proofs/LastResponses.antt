@@ -103,14 +103,14 @@ pub record TakesLast (k : ServerState) (f : Frame) (a : TaggedSegment) (rest : L
   pub place : t.place ≡ f.end
   pub last : t.last ≡ f.at
 
-pub done_link : (opened : LinkParameters) (k : ServerState) (f : Frame) (a : TaggedSegment) (rest reads : List PendingRead) (calls : List PendingCall) (ready : List ReadyCall) (kept : ℕ) (t : LinkState) → TakesLast k f a rest opened.granted t → IsServer k f.at →
+pub done_link : (opened : LinkParameters) (k : ServerState) (f : Frame) (a : TaggedSegment) (rest reads : List PendingRead) (calls : List PendingCall) (ready : List ReadyCall) (kept : ℕ) (t : LinkState) → TakesLast k f a rest opened.granted t → AreReceived f.at k.accesses_received → AreOffered f.at k.regions →
     f.at ≤ f.end → a.end ≡ f.end → length calls ≡ length k.calls → kept ≤ 8 → t.reads ≡ later_responses (take kept reads) →
     LinkKeeps opened (after_done k a calls reads ready kept) (side_after_done t (opening kept reads) (over_sinks calls reads (open_sinks k.regions)))
-done_link opened k f a rest reads calls ready kept t h is le at same few opens =
+done_link opened k f a rest reads calls ready kept t h arrived was_offered le at same few opens =
     let over : List SinkRegion = over_sinks calls reads (open_sinks k.regions) in
     let accesses : List TaggedSegment = k.accesses_received ++ a ∷ [] in
-    let received : AreReceived f.end accesses = subst (λ (n : ℕ). AreReceived n accesses) at (received_one f.at k.accesses_received a (omega (arith, le, at)) is.accesses) in
-    let offered : AreOffered f.end k.regions = offered_later f.at f.end k.regions le is.offered in
+    let received : AreReceived f.end accesses = subst (λ (n : ℕ). AreReceived n accesses) at (received_one f.at k.accesses_received a (omega (arith, le, at)) arrived) in
+    let offered : AreOffered f.end k.regions = offered_later f.at f.end k.regions le was_offered in
     let closed : HoldsRegions (regions_closed (is_over calls reads) f.end k.regions) accesses f.end (released over t.memory) =
     holds_closed (is_over calls reads) k.regions accesses f.end f.end t.memory (released over t.memory) (omega arith) received (releases calls reads f.end k.regions accesses t.memory offered h.memory) h.memory in
     let ends : (with_requests (opening kept reads) t.send_queue).send_ends ≡ t.send_queue.send_ends = requests_ends (opening kept reads) t.send_queue in

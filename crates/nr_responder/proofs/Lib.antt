@@ -1,5 +1,6 @@
 pub mod Answered
 pub mod Begun
+pub mod CallsRead
 pub mod Counts
 pub mod Drained
 pub mod Ends
@@ -24,6 +25,8 @@ pub mod Queues
 pub mod ReadCases
 pub mod ReadEffects
 pub mod ReadPayloads
+pub mod ReadsHandled
+pub mod ReadsRefused
 pub mod ReadsTaken
 pub mod Removed
 pub mod Responses

@@ -159,10 +159,10 @@ take_count zero reads = refl
 take_count (suc m) [] = refl
 take_count (suc m) (r ∷ reads) = ap (λ (rs : List PendingRead). r ∷ rs) (take_count m reads)
 
-taken_less : (n : ℕ) (rest : List PendingRead) → n ≡ length (take 7 rest) → take n rest ≡ take 7 rest
+pub taken_less : (n : ℕ) (rest : List PendingRead) → n ≡ length (take 7 rest) → take n rest ≡ take 7 rest
 taken_less n rest is = ap (λ (m : ℕ). take m rest) is ∙ take_count 7 rest
 
-takes_last : (opened : LinkParameters) (k : ServerState) (so_far : InputState) (v : ResponderSide) (frame : List ℕ) (x : PendingRead) (rest : List PendingRead) → Keeps opened k so_far v → 0 < length frame → (r : IsResponse v.link.state frame) → k.reads ≡ x ∷ rest →
+pub takes_last : (opened : LinkParameters) (k : ServerState) (so_far : InputState) (v : ResponderSide) (frame : List ℕ) (x : PendingRead) (rest : List PendingRead) → Keeps opened k so_far v → 0 < length frame → (r : IsResponse v.link.state frame) → k.reads ≡ x ∷ rest →
     TakesLast k (next_frame v.link.state frame) (response_access v.link.state frame r.stag r.to r.payload) rest opened.granted (done_side v.link.state frame r.stag r.to r.payload)
 takes_last opened k so_far v frame x rest h long r reads = record {
   live = h.link.live;
@@ -191,7 +191,7 @@ done_with v t calls sinks reads kept xids payloads = record {
   fetching = record { reads = reads; sinks = left_sinks calls reads sinks; payloads = v.fetching.payloads ++ payloads };
 }
 
-done_takes : (opened : LinkParameters) (k : ServerState) (so_far : InputState) (v : ResponderSide) (frame : List ℕ) (x : PendingRead) (rest : List PendingRead) (ready : List ReadyCall) (payloads : List (Option (List ℕ))) → Keeps opened k so_far v → 0 < v.link.state.place → 0 < length frame →
+pub done_takes : (opened : LinkParameters) (k : ServerState) (so_far : InputState) (v : ResponderSide) (frame : List ℕ) (x : PendingRead) (rest : List PendingRead) (ready : List ReadyCall) (payloads : List (Option (List ℕ))) → Keeps opened k so_far v → 0 < v.link.state.place → 0 < length frame →
     (with_frame v.link.state Fpdu frame).ended ≡ None → (r : IsResponse v.link.state frame) → r.last ≡ true → k.reads ≡ x ∷ rest →
     frame_effect k (next_frame v.link.state frame) ≡ done_effect k k.calls rest ready (still_open x rest) → EffectHolds k k.calls rest ready → ArePayloads k.calls (k.ready ++ ready) (v.fetching.payloads ++ payloads) →
     TakesFrame opened k (behind so_far frame) (next_frame v.link.state frame) v (done_with v (done_side v.link.state frame r.stag r.to r.payload) v.calls v.fetching.sinks rest (still_open x rest) (map (λ q. q.xid) ready) payloads)
@@ -214,7 +214,7 @@ done_takes opened k so_far v frame x rest ready payloads h some long lives r is 
     let opens : t.reads ≡ later_responses (take kept rest) = last.reads ∙ ap later_responses (sym (taken_less kept rest few)) in
     let keeps : Keeps opened k' (behind so_far frame) (done_with v t k.calls (open_sinks k.regions) rest kept (map (λ q. q.xid) ready) payloads) =
     record {
-      link = done_link opened k f a rest rest k.calls ready kept t last h.server (omega arith) refl refl (omega (arith, few, length-take 7 rest)) opens;
+      link = done_link opened k f a rest rest k.calls ready kept t last h.server.accesses h.server.offered (omega arith) refl refl (omega (arith, few, length-take 7 rest)) opens;
       input = record { awaited = refl; rest = refl; place = ap (λ (n : ℕ). n + length frame) h.input.place };
       begins = begun_behind v.link after h.begins some refl (omega arith);
       server = done_server k f a k.calls rest ready kept h.server (omega arith) holds;
@@ -237,15 +237,15 @@ done_takes opened k so_far v frame x rest ready payloads h some long lives r is 
 -- ---- By what was made of the read
 
 -- what the side says of the call of the read is what the server says
-record Same (k : ServerState) (v : ResponderSide) (f : Frame) (a : TaggedSegment) (x : PendingRead) (rest : List PendingRead) (t : LinkState) (c : PendingCall) : Type 0 where
+pub record Same (k : ServerState) (v : ResponderSide) (f : Frame) (a : TaggedSegment) (x : PendingRead) (rest : List PendingRead) (t : LinkState) (c : PendingCall) : Type 0 where
   pub found : call_of_number k x.number ≡ Some c
   pub bad : is_bad_stream (heard k a) f.end c x rest ≡ has_bad_chunk (on_link v (record { awaited = Fpdu; rest = []; state = t })) c x rest
   pub payload : payload_of (heard k a) f.end c ≡ read_payload (on_link v (record { awaited = Fpdu; rest = []; state = t })) c
 
-found_same : (k : ServerState) (v : ResponderSide) (x : PendingRead) (o : Option PendingCall) → v.calls ≡ k.calls → find (λ c. eqb c.number x.number) v.calls ≡ o → call_of_number k x.number ≡ o
+pub found_same : (k : ServerState) (v : ResponderSide) (x : PendingRead) (o : Option PendingCall) → v.calls ≡ k.calls → find (λ c. eqb c.number x.number) v.calls ≡ o → call_of_number k x.number ≡ o
 found_same k v x o same is = ap (λ (cs : List PendingCall). find (λ c. eqb c.number x.number) cs) (sym same) ∙ is
 
-same_as : (opened : LinkParameters) (k : ServerState) (so_far : InputState) (v : ResponderSide) (frame : List ℕ) (x : PendingRead) (rest : List PendingRead) (c : PendingCall) → Keeps opened k so_far v → 0 < length frame → (r : IsResponse v.link.state frame) → k.reads ≡ x ∷ rest →
+pub same_as : (opened : LinkParameters) (k : ServerState) (so_far : InputState) (v : ResponderSide) (frame : List ℕ) (x : PendingRead) (rest : List PendingRead) (c : PendingCall) → Keeps opened k so_far v → 0 < length frame → (r : IsResponse v.link.state frame) → k.reads ≡ x ∷ rest →
     find (λ c. eqb c.number x.number) v.calls ≡ Some c →
     Same k v (next_frame v.link.state frame) (response_access v.link.state frame r.stag r.to r.payload) x rest (done_side v.link.state frame r.stag r.to r.payload) c
 same_as opened k so_far v frame x rest c h long r reads is =
@@ -270,7 +270,7 @@ ready_same : (k : ServerState) (x : PendingRead) (rest : List PendingRead) (q : 
 ready_same k x rest q reads = ap (λ (rs : List PendingRead). done_effect k k.calls rest (q ∷ []) (length (take 8 rs) - 1)) reads
 
 -- nothing becomes ready
-nothing_effect : (opened : LinkParameters) (k : ServerState) (so_far : InputState) (v : ResponderSide) (frame : List ℕ) (x : PendingRead) (rest : List PendingRead) → Keeps opened k so_far v → 0 < length frame → (r : IsResponse v.link.state frame) → r.last ≡ true → k.reads ≡ x ∷ rest →
+pub nothing_effect : (opened : LinkParameters) (k : ServerState) (so_far : InputState) (v : ResponderSide) (frame : List ℕ) (x : PendingRead) (rest : List PendingRead) → Keeps opened k so_far v → 0 < length frame → (r : IsResponse v.link.state frame) → r.last ≡ true → k.reads ≡ x ∷ rest →
     NothingReady (on_link v (record { awaited = Fpdu; rest = []; state = done_side v.link.state frame r.stag r.to r.payload })) x rest →
     frame_effect k (next_frame v.link.state frame) ≡ done_effect k k.calls rest [] (still_open x rest)
 unfolding frame_segment
@@ -289,7 +289,7 @@ nothing_effect opened k so_far v frame x rest h long r is reads (Waits c fine mo
 ready_call_of : {v : ResponderSide} {x : PendingRead} {rest : List PendingRead} → MakesReady v x rest → ReadyCall
 ready_call_of m = record { number = m.call.number; xid = m.call.xid; payload = m.payload }
 
-ready_effect : (opened : LinkParameters) (k : ServerState) (so_far : InputState) (v : ResponderSide) (frame : List ℕ) (x : PendingRead) (rest : List PendingRead) → Keeps opened k so_far v → 0 < length frame → (r : IsResponse v.link.state frame) → r.last ≡ true → k.reads ≡ x ∷ rest →
+pub ready_effect : (opened : LinkParameters) (k : ServerState) (so_far : InputState) (v : ResponderSide) (frame : List ℕ) (x : PendingRead) (rest : List PendingRead) → Keeps opened k so_far v → 0 < length frame → (r : IsResponse v.link.state frame) → r.last ≡ true → k.reads ≡ x ∷ rest →
     (m : MakesReady (on_link v (record { awaited = Fpdu; rest = []; state = done_side v.link.state frame r.stag r.to r.payload })) x rest) →
     frame_effect k (next_frame v.link.state frame) ≡ done_effect k k.calls rest (record { number = m.call.number; xid = m.call.xid; payload = m.payload } ∷ []) (still_open x rest)
 unfolding frame_segment
@@ -302,7 +302,7 @@ ready_effect opened k so_far v frame x rest h long r is reads m =
     ∙ ready_same k x rest q reads
 
 -- the payload ends the link
-stops_effect : (opened : LinkParameters) (k : ServerState) (so_far : InputState) (v : ResponderSide) (frame : List ℕ) (x : PendingRead) (rest : List PendingRead) (reason : ℕ) → Keeps opened k so_far v → 0 < length frame → (r : IsResponse v.link.state frame) → r.last ≡ true → k.reads ≡ x ∷ rest →
+pub stops_effect : (opened : LinkParameters) (k : ServerState) (so_far : InputState) (v : ResponderSide) (frame : List ℕ) (x : PendingRead) (rest : List PendingRead) (reason : ℕ) → Keeps opened k so_far v → 0 < length frame → (r : IsResponse v.link.state frame) → r.last ≡ true → k.reads ≡ x ∷ rest →
     EndsLink (on_link v (record { awaited = Fpdu; rest = []; state = done_side v.link.state frame r.stag r.to r.payload })) x rest reason →
     (frame_effect k (next_frame v.link.state frame)).refusal ≡ Some reason
 unfolding frame_segment
@@ -312,7 +312,7 @@ stops_effect opened k so_far v frame x rest reason h long r is reads m =
     ap (λ (e : FrameEffect). e.refusal) (last_effect k (next_frame v.link.state frame) r.stag r.to r.payload x rest (response_reads v.link.state frame r true is) reads)
     ∙ call_stops k (heard k a) (v.link.state.place + length frame) x rest m.call reason same.found (same.bad ∙ m.complete.fine.fine) m.complete.read (ap (by_payload m.call) same.payload ∙ m.judged)
 
-done_stopped : (opened : LinkParameters) (k : ServerState) (so_far later_input : InputState) (v : ResponderSide) (frame : List ℕ) (reason : ℕ) (fetching : Fetching) → Keeps opened k so_far v → 0 < v.link.state.place → 0 < length frame → (with_frame v.link.state Fpdu frame).ended ≡ None →
+pub done_stopped : (opened : LinkParameters) (k : ServerState) (so_far later_input : InputState) (v : ResponderSide) (frame : List ℕ) (reason : ℕ) (fetching : Fetching) → Keeps opened k so_far v → 0 < v.link.state.place → 0 < length frame → (with_frame v.link.state Fpdu frame).ended ≡ None →
     (r : IsResponse v.link.state frame) → (frame_effect k (next_frame v.link.state frame)).refusal ≡ Some reason → 5 ≤ reason →
     TakesFrame opened k later_input (next_frame v.link.state frame) v
     (ended_as v (record { awaited = Fpdu; rest = []; state = with_end_of (ends.Bad v.link.state.place reason) (done_side v.link.state frame r.stag r.to r.payload) }) fetching)
@@ -341,38 +341,9 @@ done_stopped opened k so_far later_input v frame reason fetching h some long liv
       output = last ∙ ap (λ (bytes : List ℕ). queued_bytes s.send_queue ++ bytes) (sym at.due);
     }
 
-no_more : (calls : List PendingCall) (ready : List ReadyCall) (payloads : List (Option (List ℕ))) → ArePayloads calls ready payloads → ArePayloads calls (ready ++ []) (payloads ++ [])
+pub no_more : (calls : List PendingCall) (ready : List ReadyCall) (payloads : List (Option (List ℕ))) → ArePayloads calls ready payloads → ArePayloads calls (ready ++ []) (payloads ++ [])
 no_more calls ready payloads h =
     subst (λ (rs : List ReadyCall). ArePayloads calls rs (payloads ++ [])) (sym (append-nil ready)) (subst (λ (ps : List (Option (List ℕ))). ArePayloads calls ready ps) (sym (append-nil payloads)) h)
-
-pub read_takes : (opened : LinkParameters) (k : ServerState) (so_far : InputState) (v after : ResponderSide) (frame : List ℕ) (x : PendingRead) (rest : List PendingRead) → Keeps opened k so_far v → 0 < v.link.state.place → 0 < length frame → (with_frame v.link.state Fpdu frame).ended ≡ None →
-    (r : IsResponse v.link.state frame) → r.last ≡ true → k.reads ≡ x ∷ rest → ReadHandled (on_link v (after_call (record { awaited = Fpdu; rest = []; state = with_frame v.link.state Fpdu frame }) NextEvent)) x rest after →
-    TakesFrame opened k (behind so_far frame) (next_frame v.link.state frame) v after
-read_takes opened k so_far v after frame x rest h some long lives r is reads handled =
-    by (subst (λ (l : LinkSide). ReadHandled (on_link v l) x rest after) (done_link_is opened k so_far v frame h lives r is) handled)
-  where
-    s : LinkState
-    s = v.link.state
-
-    t : LinkState
-    t = done_side s frame r.stag r.to r.payload
-
-    by : ReadHandled (on_link v (record { awaited = Fpdu; rest = []; state = t })) x rest after → TakesFrame opened k (behind so_far frame) (next_frame s frame) v after
-    by (GoesOn nothing is_after) =
-        subst (λ (w : ResponderSide). TakesFrame opened k (behind so_far frame) (next_frame s frame) v w) (sym is_after)
-        (done_takes opened k so_far v frame x rest [] [] h some long lives r is reads (nothing_effect opened k so_far v frame x rest h long r is reads nothing) (waits_hold k s.place x rest reads h.server)
-        (no_more k.calls k.ready v.fetching.payloads h.payloads))
-    by (Readies m is_after) =
-        let q : ReadyCall = record { number = m.call.number; xid = m.call.xid; payload = m.payload } in
-        subst (λ (w : ResponderSide). TakesFrame opened k (behind so_far frame) (next_frame s frame) v w) (sym is_after)
-        (done_takes opened k so_far v frame x rest (q ∷ []) (Some m.payload ∷ []) h some long lives r is reads (ready_effect opened k so_far v frame x rest h long r is reads m)
-        (ready_holds k s.place x rest m.call q reads (found_same k v x (Some m.call) h.calls m.complete.fine.found) m.complete.read refl refl h.server)
-        (payloads_ready k.calls q (Some m.payload) k.ready v.fetching.payloads refl h.payloads))
-    by (Stops reason other m fetching is_after) =
-        let link : after_call (record { awaited = Fpdu; rest = []; state = t }) (Stop reason) ≡ record { awaited = Fpdu; rest = []; state = with_end_of (ends.Bad s.place reason) t } =
-        stopped_is (record { awaited = Fpdu; rest = []; state = t }) t reason refl h.link.live in
-        subst (λ (w : ResponderSide). TakesFrame opened k (behind so_far frame) (next_frame s frame) v w) (sym (is_after ∙ ap (λ (l : LinkSide). ended_as v l fetching) link))
-        (done_stopped opened k so_far (behind so_far frame) v frame reason fetching h some long lives r (stops_effect opened k so_far v frame x rest reason h long r is reads m) other)
 
 -- ---- It takes memory
 

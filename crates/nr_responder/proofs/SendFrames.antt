@@ -155,7 +155,7 @@ pub regions_later : (n m : ℕ) (regions : List Region) → n ≤ m → AllByRec
 regions_later n m [] le h = tt
 regions_later n m (r ∷ regions) le h = ((let a = h.0 in omega (arith, a, le)), regions_later n m regions le h.1)
 
-calls_pushed : (n : ℕ) (calls : List PendingCall) (c : PendingCall) → c.number ≤ n → AllByRecursion (λ x. x.number ≤ n) calls → AllByRecursion (λ x. x.number ≤ n) (calls ++ c ∷ [])
+pub calls_pushed : (n : ℕ) (calls : List PendingCall) (c : PendingCall) → c.number ≤ n → AllByRecursion (λ x. x.number ≤ n) calls → AllByRecursion (λ x. x.number ≤ n) (calls ++ c ∷ [])
 calls_pushed n [] c le h = (le, tt)
 calls_pushed n (x ∷ calls) c le h = (h.0, calls_pushed n calls c le h.1)
 
@@ -199,7 +199,7 @@ some_more p (x ∷ xs) c h = by (some_more p xs c) (p x) refl h
     by others true is h = ap (λ (b : Bool). b || list_any p (xs ++ c ∷ [])) is
     by others false is h = ap (λ (b : Bool). b || list_any p (xs ++ c ∷ [])) is ∙ others h
 
-last_more : {X : Type 0} (p : X → Bool) (xs : List X) (c : X) → p c ≡ true → list_any p (xs ++ c ∷ []) ≡ true
+pub last_more : {X : Type 0} (p : X → Bool) (xs : List X) (c : X) → p c ≡ true → list_any p (xs ++ c ∷ []) ≡ true
 last_more p [] c e = ap (λ (b : Bool). b || false) e
 last_more p (x ∷ xs) c e = by (last_more p xs c e) (p x)
   where
@@ -207,7 +207,7 @@ last_more p (x ∷ xs) c e = by (last_more p xs c e) (p x)
     by others true = refl
     by others false = others
 
-xids_pushed : (calls : List PendingCall) (c : PendingCall) → list_any (λ d. eqb d.xid c.xid) calls ≡ false → OwnXids calls → OwnXids (calls ++ c ∷ [])
+pub xids_pushed : (calls : List PendingCall) (c : PendingCall) → list_any (λ d. eqb d.xid c.xid) calls ≡ false → OwnXids calls → OwnXids (calls ++ c ∷ [])
 xids_pushed [] c none own = (refl, tt)
 xids_pushed (x ∷ calls) c none own = by (λ (n : list_any (λ d. eqb d.xid c.xid) calls ≡ false). xids_pushed calls c n own.1) (eqb x.xid c.xid) refl none
   where
@@ -256,7 +256,7 @@ no_payload x payload (y ∷ calls) none = by (no_payload x payload calls) (eqb y
     by others true is h = absurd cc
     by others false is h = ((λ e. absurd (eqb-false y.xid x is e)), others h)
 
-still_ready : (calls : List PendingCall) (reads : List PendingRead) (c : PendingCall) (ready : List ReadyCall) → list_any (λ d. eqb d.xid c.xid) calls ≡ false → AllByRecursion (IsReadyOf calls reads) ready →
+pub still_ready : (calls : List PendingCall) (reads : List PendingRead) (c : PendingCall) (ready : List ReadyCall) → list_any (λ d. eqb d.xid c.xid) calls ≡ false → AllByRecursion (IsReadyOf calls reads) ready →
     AllByRecursion (IsReadyOf (calls ++ c ∷ []) reads) ready
 still_ready calls reads c [] none h = tt
 still_ready calls reads c (r ∷ ready) none h = (
@@ -299,7 +299,7 @@ pub payloads_told : (calls : List PendingCall) (reads : List PendingRead) (c : P
 payloads_told calls reads c stream ready payloads inline none known h =
     payloads_ready (calls ++ c ∷ []) (ready_call c stream) None ready payloads (payload_pushed c.xid stream calls c (λ _. inline) (no_payload c.xid stream calls none)) (payloads_pushed calls reads c ready payloads none known h)
 
-numbers_pushed : (n : ℕ) (calls : List PendingCall) (c : PendingCall) → c.number ≡ n + 1 → AllByRecursion (λ x. x.number ≤ n) calls → OwnNumbers calls → OwnNumbers (calls ++ c ∷ [])
+pub numbers_pushed : (n : ℕ) (calls : List PendingCall) (c : PendingCall) → c.number ≡ n + 1 → AllByRecursion (λ x. x.number ≤ n) calls → OwnNumbers calls → OwnNumbers (calls ++ c ∷ [])
 numbers_pushed n [] c is h own = (refl, tt)
 numbers_pushed n (x ∷ calls) c is h own =
     (none_more (λ (d : PendingCall). eqb d.number x.number) calls c own.0 (ne_eqb c.number x.number (λ e. (let le : x.number ≤ n = h.0 in omega (arith, e, is, le)))), numbers_pushed n calls c is h.1 own.1)

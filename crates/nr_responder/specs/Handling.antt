@@ -12,12 +12,13 @@ use Rattle.nr_endpoint.specs.Calls.{after_call}
 use Rattle.nr_endpoint.specs.Calls.Call.{NextEvent, Stop, Send, OutOfMemory}
 use Rattle.nr_reduce.specs.Holds.{chunk_error, version_error}
 use Rattle.nr_reduce.specs.ServerState.{PendingCall, PendingRead, ServerState, is_pending, next_stag}
-use Rattle.nr_reduce.specs.ServerReads.{is_read}
+use Rattle.nr_reduce.specs.ServerReads.{chunks_of, is_read}
 use Rattle.nr_reduce.specs.ServerMessages.{verdict, call_xid}
 use Rattle.nr_reduce.specs.ServerMessages.Verdict.{EndsLink, OtherVersion, BadChunks, MakesPending}
 use Rattle.nr_reduce.specs.ServerFrames.{FrameEffect, no_effect, by_message}
 use Rattle.nr_responder.specs.Fetching.{payload_added}
 use Rattle.nr_responder.specs.ResponderState.{ResponderSide}
+use Rattle.nr_responder.specs.CallsRead.{reading_call}
 use Rattle.nr_responder.specs.ReadsDone.{ReadHandled, ReadRanOut}
 use Rattle.nr_responder.specs.Views.{IsCall}
 
@@ -79,6 +80,11 @@ pub record HasReadChunk (k : ServerState) (message : List ℕ) : Type 0 where
   pub judged : verdict k message ≡ MakesPending call
   pub chunk : call.lists.read ≢ []
 
+-- a message with a call of which some chunk is to be read
+pub record IsReadCall (k : ServerState) (message : List ℕ) (xid : ℕ) (lists : ChunkLists) (inline : Option (List ℕ)) : Type 0 where
+  pub own : is_pending k xid ≡ false
+  pub pending : verdict k message ≡ MakesPending (record { number = k.received.sends + 1; xid = xid; lists = lists; inline = inline })
+
 -- The server has output of its own for a message, or the message makes a call with a read chunk pending: it may run out of memory.
 pub data MessageTakes (k : ServerState) (message : List ℕ) : Type 0 where
   EndsFor : (reason : ℕ) → ((place : ℕ) → (by_message k place (Some message)).refusal ≡ Some reason) → 5 ≤ reason → MessageTakes k message
@@ -92,17 +98,21 @@ pub data Makes (before : ResponderSide) (number : ℕ) (message : List ℕ) (aft
   RefusesChunks : OfServers (λ k. verdict k message ≡ BadChunks) before →
       OrOut before (after_call before.link (Send (chunk_error (word_at 0 message) before.credits))) after → Makes before number message after
   Calls : (lists : ChunkLists) (stream_at : ℕ) → OfServers (λ k. IsCall k message lists stream_at) before → Begins before after number message lists stream_at → Makes before number message after
+  Fetches : (xid : ℕ) (lists : ChunkLists) (inline : Option (List ℕ)) → OfServers (λ k. IsReadCall k message xid lists inline) before → chunks_of lists ≢ [] →
+      after ≡ reading_call before (record { number = number; xid = xid; lists = lists; inline = inline }) → Makes before number message after
   LeavesReads : OfServers (λ k. MessageTakes k message) before → after ≡ out before → Makes before number message after
 
 -- ---- What it is for a server
 
--- It stops the link for the reason of the server, queues the server's error message, or has one call more, which is ready.
+-- It stops the link for the reason of the server, queues the server's error message, or has one call more, which is ready or is read.
 pub data Handled (k : ServerState) (message : List ℕ) (before after : ResponderSide) : Type 0 where
   Stopped : (reason : ℕ) → ((place : ℕ) → (by_message k place (Some message)).refusal ≡ Some reason) → 5 ≤ reason → after ≡ on_link before (after_call (after_call before.link NextEvent) (Stop reason)) → Handled k message before after
   Refused : (answer : List ℕ) → ((place : ℕ) → by_message k place (Some message) ≡ refused_effect k answer) → after ≡ on_link before (after_call (after_call before.link NextEvent) (Send answer)) → Handled k message before after
   Ready : (xid : ℕ) (write : List (List RdmaSegment)) (reply : Option (List RdmaSegment)) (stream : List ℕ) (head : CallHead) → is_pending k xid ≡ false →
       verdict k message ≡ MakesPending (inline_call k xid write reply stream) → call_of stream ≡ Ok head → call_xid head ≡ xid →
       after ≡ with_ready before (after_call before.link NextEvent) (inline_call k xid write reply stream) → Handled k message before after
+  Fetched : (c : PendingCall) → c.number ≡ k.received.sends + 1 → is_pending k c.xid ≡ false → verdict k message ≡ MakesPending c → chunks_of c.lists ≢ [] →
+      after ≡ reading_call (on_link before (after_call before.link NextEvent)) c → Handled k message before after
 
 -- what was made of what the link delivered
 pub record IsHandled (k : ServerState) (before after : ResponderSide) : Type 0 where

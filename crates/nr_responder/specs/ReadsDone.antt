@@ -1,10 +1,13 @@
 -- What a read that is done makes of a responder (RFC 8166 section 3.4.5): its call waits for more, is ready, is refused, or ends the link.
 use Rattle.std.specs.Prelude.{◌≡◌, ◌≢◌, ℕ, ◌-◌, ◌==◌, ◌≤◌, ◌&&◌, Bool, not, true, false, List, [], ◌∷◌, ◌++◌, length, take, drop, find, Option, None, Some, ◌⊎◌}
+use Rattle.std.specs.List.{filter}
 use Rattle.nr_link.specs.Limits.{open_reads_max}
+use Rattle.nr_endpoint.specs.SendQueue.{with_send}
 use Rattle.nr_endpoint.specs.LinkState.{LinkState, LinkSide}
 use Rattle.nr_endpoint.specs.Calls.{after_call}
 use Rattle.nr_endpoint.specs.Calls.Call.{Stop, OutOfMemory}
 use Rattle.nr_reduce.specs.Chunks.{is_read_chunk_of_item, call_conveyed}
+use Rattle.nr_reduce.specs.Holds.{chunk_error}
 use Rattle.nr_reduce.specs.ServerState.{PendingCall, PendingRead}
 use Rattle.nr_reduce.specs.ServerReads.{is_read}
 use Rattle.nr_reduce.specs.ServerFrames.{is_stream_read}
@@ -18,6 +21,9 @@ use Rattle.nr_responder.specs.private.Reading.{sink_bytes, over_sinks, left_sink
 -- the side of the link once sinks that are over were released, and reads opened
 abbrev pub side_after_done : LinkState → List PendingRead → List SinkRegion → LinkState
 side_after_done t reads over = record t { send_queue = with_requests reads t.send_queue; reads = t.reads ++ later_responses reads; memory = released over t.memory }
+
+abbrev pub with_sent : LinkState → List ℕ → LinkState
+with_sent t message = record t { send_queue = with_send message t.send_queue }
 
 -- With these calls and reads, of which so many are open, and with these calls more that are ready and their payloads; `state` is the side of
 -- the link before sinks are released and reads open.
@@ -86,11 +92,21 @@ pub record RefusesCall (v : ResponderSide) (r : PendingRead) (rest : List Pendin
   pub found : call_of_read v r ≡ Some call
   pub bad : has_bad_chunk v call r rest ≡ true
 
+-- the calls without it, and the reads: its reads that wait are dropped
+abbrev pub calls_without : ℕ → List PendingCall → List PendingCall
+calls_without number calls = filter (λ other. not (other.number == number)) calls
+
+abbrev pub reads_without : ℕ → (kept : ℕ) → List PendingRead → List PendingRead
+reads_without number kept reads = take kept reads ++ filter (λ r. not (r.number == number)) (drop kept reads)
+
 -- what was made of the oldest read, which is done
 pub data ReadHandled (v : ResponderSide) (r : PendingRead) (rest : List PendingRead) (after : ResponderSide) : Type 0 where
   GoesOn : NothingReady v r rest → after ≡ reading_on v v.link.state v.calls rest (still_open r rest) [] [] → ReadHandled v r rest after
   Readies : (m : MakesReady v r rest) → after ≡ reading_on v v.link.state v.calls rest (still_open r rest) (m.call.xid ∷ []) (Some m.payload ∷ []) → ReadHandled v r rest after
   Stops : (reason : ℕ) → 5 ≤ reason → EndsLink v r rest reason → (fetching : Fetching) → after ≡ ended_as v (after_call v.link (Stop reason)) fetching → ReadHandled v r rest after
+  Refused : (c : RefusesCall v r rest) →
+      after ≡ reading_on v (with_sent v.link.state (chunk_error c.call.xid v.credits)) (calls_without c.call.number v.calls) (reads_without c.call.number (still_open r rest) rest) (still_open r rest) [] [] →
+      ReadHandled v r rest after
 
 -- the server has output of its own for the read: Read Requests, a Terminate, or an error message
 pub data ReadTakes (v : ResponderSide) (r : PendingRead) (rest : List PendingRead) : Type 0 where
