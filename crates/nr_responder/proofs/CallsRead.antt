@@ -50,7 +50,7 @@ use Rattle.nr_responder.proofs.Whole.{begun_behind, goes_on_lem, lives_on_lem, s
 
 -- ---- The regions of the call
 
-abbrev is_of : (number position : ℕ) → Region → Bool
+abbrev pub is_of : (number position : ℕ) → Region → Bool
 is_of number position r = eqb r.call number && eqb r.position position
 
 -- the STag of a sink, whatever offset the Send has in the stream
@@ -68,7 +68,7 @@ find_alike number position n place stag lists (p ∷ ps) = by (find_alike number
     by rest false = rest
 
 -- no older region is one of the call
-skip_old : (n number position : ℕ) (old new : List Region) → AllByRecursion (λ r. r.call ≤ n) old → number ≡ n + 1 → find (is_of number position) (old ++ new) ≡ find (is_of number position) new
+pub skip_old : (n number position : ℕ) (old new : List Region) → AllByRecursion (λ r. r.call ≤ n) old → number ≡ n + 1 → find (is_of number position) (old ++ new) ≡ find (is_of number position) new
 skip_old n number position [] new h is = refl
 skip_old n number position (r ∷ old) new h is =
     ap (λ (b : Bool). cond (b && eqb r.position position) (Some r) (find (is_of number position) (old ++ new))) (ne_eqb r.call number (λ e. (let le : r.call ≤ n = h.0 in omega (arith, le, e, is))))
@@ -267,7 +267,7 @@ reading_side t reads m = record t { send_queue = with_requests reads t.send_queu
 abbrev taken_received : ServerState → ReceiveState
 taken_received k = record { sends = k.received.sends + 1; begun = None; requests = k.received.requests }
 
-abbrev taken_side : LinkState → List ℕ → LinkState
+abbrev pub taken_side : LinkState → List ℕ → LinkState
 taken_side s frame = send_framed s frame (record { sends = s.receive_queue.received.sends + 1; begun = None; requests = s.receive_queue.received.requests }) (cond (not (is_begun s.receive_queue.received.begun)) (s.receive_queue.free - 1) s.receive_queue.free) (s.receive_queue.lent + 1) []
 
 are_registered : (opened : LinkParameters) (k : ServerState) (s : LinkState) (frame : List ℕ) (c : PendingCall) → LinkKeeps opened k s → IsServer k s.place → (is_begun s.receive_queue.received.begun ≡ false → 0 < s.receive_queue.free) →

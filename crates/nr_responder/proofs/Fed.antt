@@ -124,7 +124,7 @@ step_goes v after piece m live_now p step lives handled opened end so_far keeps 
     let h : Keeps opened end.state so_far v = both.1 in
     let same : input_in v.link ≡ so_far = same_input v so_far h.input in
     let own : Keeps opened end.state (input_in v.link) v = subst (λ (i : InputState). Keeps opened end.state i v) (sym same) h in
-    let server : IsServerOf end.state (on_link v m) = record { calls = sym h.calls; credits = sym h.credits; reads = sym h.reads; new_read = new_is_read end.state h.server.reads_before; next = sym h.link.next ∙ sym (step_next v.link m piece step) } in
+    let server : IsServerOf end.state (on_link v m) = record { calls = sym h.calls; credits = sym h.credits; reads = sym h.reads; new_read = new_is_read end.state h.server.reads_before; next = sym h.link.next ∙ sym (step_next v.link m piece step); place = v.link.state.place; is_server = h.server } in
     subst (λ (i : InputState). GoesOn opened end i v (received_events i x) (input_after i x) after) same (by opened end both.0 own (handled end.state server) step)
   where
     by : (opened : LinkParameters) (end : EndState ServerState) → end.ended ≡ None → Keeps opened end.state (input_in v.link) v → IsHandled end.state (on_link v m) after → StepOf v.link piece m →
@@ -188,7 +188,7 @@ ended_fed_lem v piece over opened end so_far (inr ended) =
       output = sym (append-nil (queue v)) ∙ ap (λ (bytes : List ℕ). queue v ++ bytes) (sym all.1);
     }
 
-ended_step : (v : ResponderSide) (piece : List ℕ) (m : LinkSide) (why : End) → end_of v ≡ None → IsPartial v.link.awaited v.link.rest → StepOf v.link piece m → m.state.ended ≡ Some why →
+pub ended_step : (v : ResponderSide) (piece : List ℕ) (m : LinkSide) (why : End) → end_of v ≡ None → IsPartial v.link.awaited v.link.rest → StepOf v.link piece m → m.state.ended ≡ Some why →
     FedOn v (take (bytes_taken v.link.awaited v.link.rest piece) piece) (on_link v m)
 ended_step v piece m why live_now p step ended opened end so_far keeps =
     let x : List ℕ = take (bytes_taken v.link.awaited v.link.rest piece) piece in

@@ -32,13 +32,14 @@ use Rattle.nr_reduce.specs.ServerMessages.Verdict.{MakesPending}
 use Rattle.nr_reduce.specs.ServerFrames.{by_message}
 use Rattle.nr_reduce.specs.Holds.{chunk_error, version_error}
 use Rattle.nr_responder.specs.ResponderState.{ResponderSide}
-use Rattle.nr_responder.specs.Handling.{Handled, IsServerOf, MessageTakes, Begins, Makes, OrOut, begun_call, inline_call, refused_effect, on_link, out, with_ready}
-use Rattle.nr_responder.specs.Handling.Handled.{Stopped, Refused, Ready, Fetched}
+use Rattle.nr_responder.specs.Handling.{Handled, IsServerOf, MessageTakes, Begins, Makes, OrOut, begun_call, inline_call, refused_effect, on_link, out, with_ready, IsReadCall}
+use Rattle.nr_responder.specs.Handling.Handled.{Stopped, Refused, Ready, Fetched, Completed}
 use Rattle.nr_responder.specs.Handling.MessageTakes.{EndsFor, ErrorFor}
 use Rattle.nr_responder.specs.Handling.Begins.{NoCall, OtherXid, IsReady}
-use Rattle.nr_responder.specs.Handling.Makes.{Ends, RefusesVersion, RefusesChunks, Calls, Fetches, LeavesReads}
+use Rattle.nr_responder.specs.Handling.Makes.{Ends, RefusesVersion, RefusesChunks, Calls, Fetches, Completes, EndsAtOnce, LeavesReads}
 use Rattle.nr_responder.specs.Views.{IsCall}
 use Rattle.nr_responder.specs.Sound.{SameInput}
+use Rattle.nr_responder.proofs.CallsAtOnce.{complete_refused}
 use Rattle.nr_responder.proofs.Judged.{ends_refusal, version_refused, chunks_refused, no_call_refused, other_call_refused, plain_lists_lem}
 use Rattle.nr_responder.proofs.FrameCounts.{SameCounts, frame_counts}
 use Rattle.nr_responder.proofs.Fed.{StepOf}
@@ -73,7 +74,7 @@ unfolding after_call
 told_next l = refl
 
 told_server_of : (k : ServerState) (v : ResponderSide) → IsServerOf k v → IsServerOf k (told_of v)
-told_server_of k v server = record { calls = server.calls; credits = server.credits; reads = server.reads; new_read = server.new_read; next = server.next ∙ told_next v.link }
+told_server_of k v server = record { calls = server.calls; credits = server.credits; reads = server.reads; new_read = server.new_read; next = server.next ∙ told_next v.link; place = server.place; is_server = server.is_server }
 
 judged_call : (k : ServerState) (message : List ℕ) (lists : ChunkLists) (stream_at : ℕ) → IsCall k message lists stream_at →
     verdict k message ≡ MakesPending (inline_call k (word_at 0 message) lists.write lists.reply (drop stream_at message))
@@ -97,6 +98,11 @@ begins_handled v after number message lists stream_at call (IsReady head reads o
         Ready (word_at 0 message) lists.write lists.reply (drop stream_at message) head c.own (judged_call k message lists stream_at c) reads own
         (is ∙ ap (λ (c : PendingCall). with_ready (told_of v) (after_call v.link NextEvent) c) same)
 
+-- the call has the number of its Send
+at_number : (k : ServerState) (message : List ℕ) (xid number : ℕ) (lists : ChunkLists) (inline : Option (List ℕ)) → number ≡ k.received.sends + 1 → IsReadCall k message xid lists inline →
+    verdict k message ≡ MakesPending (record { number = number; xid = xid; lists = lists; inline = inline })
+at_number k message xid number lists inline count r = r.pending ∙ (λ i. MakesPending (record { number = sym count i; xid = xid; lists = lists; inline = inline }))
+
 pub makes_handled : (v after : ResponderSide) (number : ℕ) (message : List ℕ) → Makes (told_of v) number message after → Goes v number message after ⊎ RanOutOf v number message after
 makes_handled v after number message (Ends reason other judged is) =
     ended_or_out v after number reason message other (λ k server count place. ends_refusal k message reason place (judged k (told_server_of k v server))) is
@@ -110,10 +116,18 @@ makes_handled v after number message (Calls lists stream_at judged begins) =
     begins_handled v after number message lists stream_at (λ k server. judged k (told_server_of k v server)) begins
 makes_handled v after number message (Fetches xid lists inline judged chunks is) =
     inl (λ k server count.
-        let r = judged k (told_server_of k v server) in
-        let same : verdict k message ≡ MakesPending (record { number = number; xid = xid; lists = lists; inline = inline }) =
-        r.pending ∙ (λ i. MakesPending (record { number = sym count i; xid = xid; lists = lists; inline = inline })) in
-        Fetched (record { number = number; xid = xid; lists = lists; inline = inline }) count r.own same chunks is)
+    let r = judged k (told_server_of k v server) in
+    Fetched (record { number = number; xid = xid; lists = lists; inline = inline }) count r.own (at_number k message xid number lists inline count r) chunks is)
+makes_handled v after number message (Completes xid lists inline payload judged none ready is) =
+    inl (λ k server count.
+    let r = judged k (told_server_of k v server) in
+    let c : PendingCall = record { number = number; xid = xid; lists = lists; inline = inline } in
+    Completed c payload count r.own (at_number k message xid number lists inline count r) none ready is)
+makes_handled v after number message (EndsAtOnce xid lists inline reason other judged none refuses is) =
+    ended_or_out v after number reason message other
+    (λ k server count place.
+    let c : PendingCall = record { number = number; xid = xid; lists = lists; inline = inline } in
+    complete_refused k server.place place reason message c server.is_server count (at_number k message xid number lists inline count (judged k (told_server_of k v server))) none refuses) is
 makes_handled v after number message (LeavesReads takes is) = inr (record { is_out = is; takes = λ k server count. takes k (told_server_of k v server) })
 
 -- ---- What is left of the link

@@ -215,7 +215,7 @@ found_at test place (x ∷ regions) r offered is = by (λ (e : find test regions
     by rest true e = here (let same : x ≡ r = cc in same)
     by rest false e = ap (λ (b : Bool). cond b (Some x) (region_at regions r.stag)) refl ∙ later (rest e) (eqb x.stag r.stag) refl
 
-no_zero_stag : (n : ℕ) (regions : List Region) → StagsFrom (n + 1) regions → region_at regions 0 ≡ None
+pub no_zero_stag : (n : ℕ) (regions : List Region) → StagsFrom (n + 1) regions → region_at regions 0 ≡ None
 no_zero_stag n [] h = refl
 no_zero_stag n (r ∷ regions) h =
     ap (λ (b : Bool). cond b (Some r) (region_at regions 0)) (ne_eqb r.stag 0 (λ e. (let at : r.stag ≡ n + 1 = h.0 in omega (arith, at, e)))) ∙ no_zero_stag (n + 1) regions h.1

@@ -1,11 +1,13 @@
 pub mod Answered
 pub mod Begun
+pub mod CallsAtOnce
 pub mod CallsRead
 pub mod Counts
 pub mod Drained
 pub mod Ends
 pub mod Executed
 pub mod Fed
+pub mod FirstFrames
 pub mod FrameCounts
 pub mod FrameEnds
 pub mod Frames

@@ -174,15 +174,12 @@ not_read reads none (inl never) = absurd cc
 not_read reads none (inr (inl one)) = (let e : ReadDone ∷ [] ≡ MessageReceived one.0 None one.1.0 ∷ [] = one.1.1 in cc)
 not_read reads none (inr (inr done)) = done.1 none
 
-pub step_done : (v after : ResponderSide) (piece : List ℕ) (m : LinkSide) → end_of v ≡ None → IsPartial v.link.awaited v.link.rest → m ≡ after_call v.link (FeedOne piece) → m.state.ended ≡ None → IsTaken (on_link v m) after →
+pub step_done_by : (v after : ResponderSide) (piece : List ℕ) (m : LinkSide) → end_of v ≡ None → IsPartial v.link.awaited v.link.rest → StepOf v.link piece m → m.state.ended ≡ None → IsTaken (on_link v m) after →
     Fed v (take (taken_at (end_of after) (length piece) (bytes_taken v.link.awaited v.link.rest piece)) piece) after
-step_done v after piece m live p is lives taken = by m.state.receive_queue.notices refl
+step_done_by v after piece m live p step lives taken = by m.state.receive_queue.notices refl
   where
     n : ℕ
     n = bytes_taken v.link.awaited v.link.rest piece
-
-    step : StepOf v.link piece m
-    step = step_of v.link m piece p live is
 
     goes : ((k : ServerState) → IsServerOf k (on_link v m) → IsHandled k (on_link v m) after) → FedOn v (take n piece) after
     goes handled = step_goes v after piece m live p step lives handled
@@ -235,3 +232,7 @@ step_done v after piece m live p is lives taken = by m.state.receive_queue.notic
     by (MessageReceived number invalidated bytes ∷ (x ∷ rest)) found = went_on v after piece n (end_of after) refl (never (MessageReceived number invalidated bytes ∷ (x ∷ rest)) found (not_two v.fetching.reads number invalidated bytes x rest))
     by (ReadDone ∷ []) found = read found v.fetching.reads refl
     by (ReadDone ∷ (x ∷ rest)) found = went_on v after piece n (end_of after) refl (never (ReadDone ∷ (x ∷ rest)) found (not_more v.fetching.reads x rest))
+
+pub step_done : (v after : ResponderSide) (piece : List ℕ) (m : LinkSide) → end_of v ≡ None → IsPartial v.link.awaited v.link.rest → m ≡ after_call v.link (FeedOne piece) → m.state.ended ≡ None → IsTaken (on_link v m) after →
+    Fed v (take (taken_at (end_of after) (length piece) (bytes_taken v.link.awaited v.link.rest piece)) piece) after
+step_done v after piece m live p is lives taken = step_done_by v after piece m live p (step_of v.link m piece p live is) lives taken

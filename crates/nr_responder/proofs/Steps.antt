@@ -36,13 +36,14 @@ use Rattle.nr_responder.specs.ResponderState.{ResponderSide, queued_bytes}
 use Rattle.nr_responder.specs.Keeping.{Begins, Keeps, KeepsEnd}
 use Rattle.nr_responder.specs.Keeping.Begins.{BeforeHello, AfterHello}
 use Rattle.nr_responder.specs.Handling.{Handled, IsHandled, on_link, with_ready, inline_call}
-use Rattle.nr_responder.specs.CallsRead.{reading_call}
-use Rattle.nr_responder.specs.Handling.Handled.{Stopped, Refused, Ready, Fetched}
+use Rattle.nr_responder.specs.CallsRead.{complete_call, reading_call}
+use Rattle.nr_responder.specs.Handling.Handled.{Stopped, Refused, Ready, Fetched, Completed}
 use Rattle.nr_responder.proofs.Queues.{hello_queue}
 use Rattle.nr_responder.proofs.Executed.{with_message}
 use Rattle.nr_responder.proofs.SendFrames.{frame_lives, part_framed, last_framed}
 use Rattle.nr_responder.proofs.Frames.{behind, TakesFrame, hello_link, server_later, own_hello_server}
 use Rattle.nr_responder.proofs.Whole.{part_takes, ready_takes, refused_takes, stopped_takes, told_link, told_framed, whole_message}
+use Rattle.nr_responder.proofs.CallsAtOnce.{complete_takes}
 use Rattle.nr_responder.proofs.CallsRead.{reading_takes}
 use Rattle.nr_responder.proofs.Told.{told_is_lem, sent_is, stopped_is}
 use Rattle.nr_responder.proofs.Responses.{IsSend, IsResponse, Lives, frame_is}
@@ -146,12 +147,16 @@ message_takes opened k so_far v after frame w queue_number msn offset payload h 
     let link : after_call (record { awaited = Fpdu; rest = []; state = with_frame s Fpdu frame }) NextEvent ≡ record { awaited = Fpdu; rest = []; state = told_link s frame } = told_is_lem (record { awaited = Fpdu; rest = []; state = with_frame s Fpdu frame }) refl refl in
     subst (λ (x : ResponderSide). TakesFrame opened k (behind so_far frame) (next_frame s frame) v x) (sym (is ∙ ap (λ (l : LinkSide). with_ready v l (inline_call k xid write reply stream)) link))
     (ready_takes opened k so_far v frame w queue_number msn offset payload xid write reply stream head h some long reads lives new judged call own)
-
 message_takes opened k so_far v after frame w queue_number msn offset payload h some awaited long reads lives (Fetched c own new judged chunks is) =
     let s : LinkState = v.link.state in
     let link : after_call (record { awaited = Fpdu; rest = []; state = with_frame s Fpdu frame }) NextEvent ≡ record { awaited = Fpdu; rest = []; state = told_link s frame } = told_is_lem (record { awaited = Fpdu; rest = []; state = with_frame s Fpdu frame }) refl refl in
     subst (λ (x : ResponderSide). TakesFrame opened k (behind so_far frame) (next_frame s frame) v x) (sym (is ∙ ap (λ (l : LinkSide). reading_call (on_link v l) c) link))
     (reading_takes opened k so_far v frame w queue_number msn offset payload c h some long reads lives own new judged chunks)
+message_takes opened k so_far v after frame w queue_number msn offset payload h some awaited long reads lives (Completed c whole own new judged none ready is) =
+    let s : LinkState = v.link.state in
+    let link : after_call (record { awaited = Fpdu; rest = []; state = with_frame s Fpdu frame }) NextEvent ≡ record { awaited = Fpdu; rest = []; state = told_link s frame } = told_is_lem (record { awaited = Fpdu; rest = []; state = with_frame s Fpdu frame }) refl refl in
+    subst (λ (x : ResponderSide). TakesFrame opened k (behind so_far frame) (next_frame s frame) v x) (sym (is ∙ ap (λ (l : LinkSide). complete_call (on_link v l) c whole) link))
+    (complete_takes opened k so_far v frame w queue_number msn offset payload c whole h some long reads lives own new judged none ready)
 
 send_takes : (opened : LinkParameters) (k : ServerState) (so_far : InputState) (v after : ResponderSide) (frame : List ℕ) → Keeps opened k so_far v → 0 < v.link.state.place → v.link.awaited ≡ Fpdu → 0 < length frame →
     (with_frame v.link.state Fpdu frame).ended ≡ None → IsHandled k (on_link v (record { awaited = Fpdu; rest = []; state = with_frame v.link.state Fpdu frame })) after → IsSend v.link.state frame →

@@ -1,13 +1,16 @@
 -- What a Send with a read list makes of a responder: the sinks of its call are registered, and its reads open or wait (RFC 8166 section
 -- 3.4.5).
-use Rattle.std.specs.Prelude.{ℕ, List, [], ◌∷◌, ◌++◌, length, take}
+use Rattle.std.specs.Prelude.{◌≡◌, ℕ, List, [], ◌∷◌, ◌++◌, length, take, Option, Some}
+use Rattle.std.specs.List.{AllByRecursion}
+use Rattle.nr_header.specs.declared.header.ReadSegment.{ReadSegment}
 use Rattle.nr_regions.specs.RegisteredMemory.{RegisteredMemory, after_register}
 use Rattle.nr_link.specs.Limits.{open_reads_max}
 use Rattle.nr_endpoint.specs.LinkState.{LinkState}
+use Rattle.nr_reduce.specs.Chunks.{call_conveyed}
 use Rattle.nr_reduce.specs.OfferedRegions.{Region}
 use Rattle.nr_reduce.specs.ServerState.{PendingCall, PendingRead}
 use Rattle.nr_reduce.specs.ServerReads.{chunks_of, regions_from, reads_from}
-use Rattle.nr_responder.specs.Fetching.{open_sinks}
+use Rattle.nr_responder.specs.Fetching.{open_sinks, payload_added}
 use Rattle.nr_responder.specs.ResponderState.{ResponderSide}
 use Rattle.nr_responder.specs.Keeping.{later_responses}
 use Rattle.nr_responder.specs.private.Reading.{opening, with_requests}
@@ -47,4 +50,22 @@ reading_call v c = record {
     sinks = v.fetching.sinks ++ open_sinks (sinks_of v.link.state c);
     payloads = v.fetching.payloads;
   };
+}
+
+-- ---- A call whose read list has no bytes
+
+abbrev pub HasNoBytes : List ReadSegment → Type 0
+HasNoBytes read = AllByRecursion (λ r. r.length ≡ 0) read
+
+-- its payload: each of its chunks is empty
+abbrev pub payload_at_once : PendingCall → Option (List ℕ)
+payload_at_once c = call_conveyed c.inline c.lists.read (λ position. [])
+
+abbrev pub complete_call : ResponderSide → PendingCall → List ℕ → ResponderSide
+complete_call v c payload = record {
+  link = v.link;
+  calls = v.calls ++ c ∷ [];
+  ready = v.ready ++ c.xid ∷ [];
+  credits = v.credits;
+  fetching = payload_added (Some payload) v.fetching;
 }

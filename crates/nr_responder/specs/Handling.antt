@@ -13,12 +13,14 @@ use Rattle.nr_endpoint.specs.Calls.Call.{NextEvent, Stop, Send, OutOfMemory}
 use Rattle.nr_reduce.specs.Holds.{chunk_error, version_error}
 use Rattle.nr_reduce.specs.ServerState.{PendingCall, PendingRead, ServerState, is_pending, next_stag}
 use Rattle.nr_reduce.specs.ServerReads.{chunks_of, is_read}
-use Rattle.nr_reduce.specs.ServerMessages.{verdict, call_xid}
+use Rattle.nr_reduce.specs.ServerMessages.{by_payload, verdict, call_xid}
+use Rattle.nr_reduce.specs.ServerMessages.CallVerdict.{IsReady as BecomesReady, Refuses as RefusedFor}
 use Rattle.nr_reduce.specs.ServerMessages.Verdict.{EndsLink, OtherVersion, BadChunks, MakesPending}
 use Rattle.nr_reduce.specs.ServerFrames.{FrameEffect, no_effect, by_message}
 use Rattle.nr_responder.specs.Fetching.{payload_added}
 use Rattle.nr_responder.specs.ResponderState.{ResponderSide}
-use Rattle.nr_responder.specs.CallsRead.{reading_call}
+use Rattle.nr_responder.specs.Keeping.{IsServer}
+use Rattle.nr_responder.specs.CallsRead.{HasNoBytes, complete_call, payload_at_once, reading_call}
 use Rattle.nr_responder.specs.ReadsDone.{ReadHandled, ReadRanOut}
 use Rattle.nr_responder.specs.Views.{IsCall}
 
@@ -50,6 +52,8 @@ pub record IsServerOf (k : ServerState) (v : ResponderSide) : Type 0 where
   pub reads : k.reads ≡ v.fetching.reads
   pub new_read : is_read k.reads (k.received.sends + 1) ≡ true
   pub next : next_stag k ≡ v.link.state.memory.next
+  pub place : ℕ
+  pub is_server : IsServer k place
 
 -- ---- What the code made of a message with a number
 
@@ -100,6 +104,12 @@ pub data Makes (before : ResponderSide) (number : ℕ) (message : List ℕ) (aft
   Calls : (lists : ChunkLists) (stream_at : ℕ) → OfServers (λ k. IsCall k message lists stream_at) before → Begins before after number message lists stream_at → Makes before number message after
   Fetches : (xid : ℕ) (lists : ChunkLists) (inline : Option (List ℕ)) → OfServers (λ k. IsReadCall k message xid lists inline) before → chunks_of lists ≢ [] →
       after ≡ reading_call before (record { number = number; xid = xid; lists = lists; inline = inline }) → Makes before number message after
+  Completes : (xid : ℕ) (lists : ChunkLists) (inline : Option (List ℕ)) (payload : List ℕ) → OfServers (λ k. IsReadCall k message xid lists inline) before → HasNoBytes lists.read →
+      by_payload (record { number = number; xid = xid; lists = lists; inline = inline }) (payload_at_once (record { number = number; xid = xid; lists = lists; inline = inline })) ≡ BecomesReady (record { number = number; xid = xid; payload = payload }) →
+      after ≡ complete_call before (record { number = number; xid = xid; lists = lists; inline = inline }) payload → Makes before number message after
+  EndsAtOnce : (xid : ℕ) (lists : ChunkLists) (inline : Option (List ℕ)) (reason : ℕ) → 5 ≤ reason → OfServers (λ k. IsReadCall k message xid lists inline) before → HasNoBytes lists.read →
+      by_payload (record { number = number; xid = xid; lists = lists; inline = inline }) (payload_at_once (record { number = number; xid = xid; lists = lists; inline = inline })) ≡ RefusedFor reason →
+      OrOut before (after_call before.link (Stop reason)) after → Makes before number message after
   LeavesReads : OfServers (λ k. MessageTakes k message) before → after ≡ out before → Makes before number message after
 
 -- ---- What it is for a server
@@ -113,6 +123,8 @@ pub data Handled (k : ServerState) (message : List ℕ) (before after : Responde
       after ≡ with_ready before (after_call before.link NextEvent) (inline_call k xid write reply stream) → Handled k message before after
   Fetched : (c : PendingCall) → c.number ≡ k.received.sends + 1 → is_pending k c.xid ≡ false → verdict k message ≡ MakesPending c → chunks_of c.lists ≢ [] →
       after ≡ reading_call (on_link before (after_call before.link NextEvent)) c → Handled k message before after
+  Completed : (c : PendingCall) (payload : List ℕ) → c.number ≡ k.received.sends + 1 → is_pending k c.xid ≡ false → verdict k message ≡ MakesPending c → HasNoBytes c.lists.read →
+      by_payload c (payload_at_once c) ≡ BecomesReady (record { number = c.number; xid = c.xid; payload = payload }) → after ≡ complete_call (on_link before (after_call before.link NextEvent)) c payload → Handled k message before after
 
 -- what was made of what the link delivered
 pub record IsHandled (k : ServerState) (before after : ResponderSide) : Type 0 where
