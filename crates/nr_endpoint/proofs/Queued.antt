@@ -10,7 +10,7 @@ use Rattle.nr_wire.specs.Segment.Segment.{Untagged}
 use Rattle.nr_wire.specs.Constants.{OPCODE_READ_REQUEST}
 use Rattle.nr_regions.specs.RegisteredMemory.{bytes_at}
 use Rattle.nr_link.specs.ReceiveState.{read_request_in}
-use Rattle.nr_link.specs.Output.{cut, send, segment_count, read_response, terminate_message, own_hello, refusing_hello}
+use Rattle.nr_link.specs.Output.{cut, send, segment_count, read_response, terminate_message, own_hello, refusing_hello, read_request}
 use Rattle.nr_link.specs.Ending.{final_output, rejection}
 use Rattle.nr_link.specs.declared.end.End.{End}
 use Rattle.nr_endpoint.specs.SendQueue.{SendQueue, output_len, with_hello, with_response, with_end}
@@ -48,6 +48,10 @@ send_some msn message = cut_some_lem _ message
 terminate_some : (word : ℕ) → 1 ≤ length (terminate_message word)
 unfolding terminate_message
 terminate_some word = encoding_some _
+
+pub request_some : (msn sink at size stag to : ℕ) → 1 ≤ length (read_request msn sink at size stag to)
+unfolding read_request
+request_some msn sink at size stag to = encoding_some _
 
 own_some : (side : Side) → 1 ≤ length (own_hello side)
 unfolding own_hello

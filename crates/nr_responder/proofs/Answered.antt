@@ -27,14 +27,16 @@ use Rattle.nr_reduce.specs.EndRules.{EndState, live, next_end_state_in, output_f
 use Rattle.nr_reduce.specs.Holds.{Answer}
 use Rattle.nr_reduce.specs.Server.{server_rules, server_end, server_output, server_state_after, execution_output, offer_by, offer_of, answer_of_target, answer_output}
 use Rattle.nr_reduce.specs.Served.{first_ready, next_call, IsExecuted}
-use Rattle.nr_responder.specs.Keeping.{IsReadyOf, IsInline, Begins, Keeps, KeepsEnd}
+use Rattle.nr_responder.specs.Sound.{plain_payloads}
+use Rattle.nr_responder.specs.Fetching.{payload_taken}
+use Rattle.nr_responder.specs.Keeping.{IsReadyOf, HasPayload, ArePayloads, Begins, Keeps, KeepsEnd}
 use Rattle.nr_responder.specs.Keeping.Begins.{BeforeHello, AfterHello}
 use Rattle.nr_responder.specs.Standing.{RepresentsServer, Stands}
 use Rattle.nr_responder.specs.declared.call.Sent.{Sent}
 use Rattle.nr_responder.specs.Steps.{GoesOn}
 use Rattle.nr_responder.specs.declared.call.Pending.{Pending}
 use Rattle.nr_responder.specs.Views.{call_view}
-use Rattle.nr_responder.specs.Answering.{Answers, answer_to, message_for, writes_for}
+use Rattle.nr_responder.specs.Answering.{IsPayload, Answers, answer_to, message_for, writes_for}
 use Rattle.nr_responder.proofs.Executed.{executed, with_answer, answered_keeps, answered_server, payloads_out}
 use Rattle.nr_responder.proofs.Queues.{answered_queue}
 use Rattle.nr_responder.proofs.Marks.{executed_stands, represents}
@@ -49,19 +51,19 @@ abbrev pub has : ℕ → PendingCall → Bool
 has x c = eqb c.xid x
 
 -- the call of an xid at its place
-pub record Found (x : ℕ) (payload : List ℕ) (calls : List PendingCall) (at : ℕ) (call : PendingCall) : Type 0 where
+pub record Found (x : ℕ) (P : PendingCall → Type 0) (calls : List PendingCall) (at : ℕ) (call : PendingCall) : Type 0 where
   pub kept : PendingCall
   pub same : kept ≡ call
   pub first : find (has x) calls ≡ Some kept
-  pub inline : kept.inline ≡ Some payload
+  pub holds : P kept
   pub there : list_any (has x) calls ≡ true
   pub left : remove calls at ≡ without_call x calls
 
-pub found : (x : ℕ) (payload : List ℕ) (calls : List PendingCall) (at : ℕ) (call : PendingCall) → OwnXids calls → AllByRecursion (λ c. c.xid ≡ x → c.inline ≡ Some payload) calls →
-    slice_get calls at ≡ Some call → call.xid ≡ x → Found x payload calls at call
-found x payload [] zero call own all is xid = absurd cc
-found x payload [] (suc at) call own all is xid = absurd cc
-found x payload (c ∷ calls) zero call own all is xid =
+pub found : (x : ℕ) (P : PendingCall → Type 0) (calls : List PendingCall) (at : ℕ) (call : PendingCall) → OwnXids calls → AllByRecursion (λ c. c.xid ≡ x → P c) calls →
+    slice_get calls at ≡ Some call → call.xid ≡ x → Found x P calls at call
+found x P [] zero call own all is xid = absurd cc
+found x P [] (suc at) call own all is xid = absurd cc
+found x P (c ∷ calls) zero call own all is xid =
     let same : c ≡ call = cc in
     let c_xid : c.xid ≡ x = ap (λ (d : PendingCall). d.xid) same ∙ xid in
     let yes : eqb c.xid x ≡ true = eq-eqb c.xid x c_xid in
@@ -69,13 +71,13 @@ found x payload (c ∷ calls) zero call own all is xid =
       kept = c;
       same = same;
       first = ap (λ (b : Bool). cond b (Some c) (find (has x) calls)) yes;
-      inline = all.0 c_xid;
+      holds = all.0 c_xid;
       there = ap (λ (b : Bool). b || list_any (has x) calls) yes;
       left = sym (ap (λ (b : Bool). cond (not b) (c ∷ without_call x calls) (without_call x calls)) yes ∙ none_out_lem x calls (ap (λ (y : ℕ). list_any (λ d. eqb d.xid y) calls) (sym c_xid) ∙ own.0));
     }
-found x payload (c ∷ calls) (suc at) call own all is xid = by (found x payload calls at call own.1 all.1 is xid) (eqb c.xid x) refl
+found x P (c ∷ calls) (suc at) call own all is xid = by (found x P calls at call own.1 all.1 is xid) (eqb c.xid x) refl
   where
-    by : Found x payload calls at call → (b : Bool) → eqb c.xid x ≡ b → Found x payload (c ∷ calls) (suc at) call
+    by : Found x P calls at call → (b : Bool) → eqb c.xid x ≡ b → Found x P (c ∷ calls) (suc at) call
     by f true is_x =
         let same : c.xid ≡ x = eqb-true c.xid x is_x in
         let none : list_any (has x) calls ≡ false = ap (λ (y : ℕ). list_any (λ d. eqb d.xid y) calls) (sym same) ∙ own.0 in
@@ -84,7 +86,7 @@ found x payload (c ∷ calls) (suc at) call own all is xid = by (found x payload
       kept = f.kept;
       same = f.same;
       first = ap (λ (b : Bool). cond b (Some c) (find (has x) calls)) other ∙ f.first;
-      inline = f.inline;
+      holds = f.holds;
       there = ap (λ (b : Bool). b || list_any (has x) calls) other ∙ f.there;
       left = ap (λ (cs : List PendingCall). c ∷ cs) f.left ∙ sym (ap (λ (b : Bool). cond (not b) (c ∷ without_call x calls) (without_call x calls)) other);
     }
@@ -133,6 +135,33 @@ drop_map : (ready : List ReadyCall) → drop 1 (map (λ r. r.xid) ready) ≡ map
 drop_map [] = refl
 drop_map (r ∷ ready) = refl
 
+-- ---- The payload of the first that is ready
+
+-- what a kept call has by its payload
+abbrev pub HasStream : ReadyCall → Option (List ℕ) → PendingCall → Type 0
+HasStream r None c = c.inline ≡ Some r.payload
+HasStream r (Some payload) c = payload ≡ r.payload
+
+each_has : (r : ReadyCall) (p : Option (List ℕ)) (calls : List PendingCall) → HasPayload calls r p → AllByRecursion (λ c. c.xid ≡ r.xid → HasStream r p c) calls
+each_has r None calls h = h
+each_has r (Some payload) [] h = tt
+each_has r (Some payload) (c ∷ calls) h = ((λ e. h), each_has r (Some payload) calls h)
+
+stream_is : (r : ReadyCall) (p : Option (List ℕ)) (c : PendingCall) (stream : List ℕ) → HasStream r p c → IsPayload c p stream → stream ≡ r.payload
+stream_is r None c stream has is = (let two : Some stream ≡ Some r.payload = sym is ∙ has in cc)
+stream_is r (Some payload) c stream has is = is ∙ has
+
+-- the payload of the first
+pub record FirstPayload (calls : List PendingCall) (r : ReadyCall) (ready : List ReadyCall) (payloads : List (Option (List ℕ))) : Type 0 where
+  pub first : Option (List ℕ)
+  pub is_first : slice_get payloads 0 ≡ Some first
+  pub has : HasPayload calls r first
+  pub others : ArePayloads calls ready (drop 1 payloads)
+
+pub first_payload : (calls : List PendingCall) (r : ReadyCall) (ready : List ReadyCall) (payloads : List (Option (List ℕ))) → ArePayloads calls (r ∷ ready) payloads → FirstPayload calls r ready payloads
+first_payload calls r ready [] h = absurd h
+first_payload calls r ready (p ∷ payloads) h = record { first = p; is_first = refl; has = h.0; others = h.1 }
+
 -- ---- What it keeps then
 
 not_zero : (n : ℕ) → (n ≡ 0 → ⊥) → 0 < n
@@ -149,10 +178,12 @@ answered_goes opened end so_far v after e r sent is h next xid payload a =
     let k : ServerState = end.state in
     let ready : k.ready ≡ r ∷ drop 1 k.ready = first_of_lem k.ready r next in
     let behind : 0 < v.link.state.place = not_zero v.link.state.place (λ zero_place. never_some k.ready r ready (sym h.ready ∙ (h.quiet zero_place).0)) in
-    let own : AllByRecursion (IsInline k.calls) (r ∷ drop 1 k.ready) = subst (λ (rs : List ReadyCall). AllByRecursion (IsInline k.calls) rs) ready h.payloads in
+    let own : FirstPayload k.calls r (drop 1 k.ready) v.fetching.payloads = first_payload k.calls r (drop 1 k.ready) v.fetching.payloads (subst (λ (rs : List ReadyCall). ArePayloads k.calls rs v.fetching.payloads) ready h.payloads) in
     let place : slice_get k.calls a.at ≡ Some a.call = ap (λ (cs : List PendingCall). slice_get cs a.at) (sym h.calls) ∙ a.place in
-    let f : Found r.xid r.payload k.calls a.at a.call = found r.xid r.payload k.calls a.at a.call h.server.xids own.0 place (a.own ∙ xid) in
-    let stream : a.stream ≡ e.payload = (let two : Some a.stream ≡ Some r.payload = sym a.inline ∙ ap (λ (c : PendingCall). c.inline) (sym f.same) ∙ f.inline in let one : a.stream ≡ r.payload = cc in one ∙ sym payload) in
+    let f : Found r.xid (HasStream r own.first) k.calls a.at a.call = found r.xid (HasStream r own.first) k.calls a.at a.call h.server.xids (each_has r own.first k.calls own.has) place (a.own ∙ xid) in
+    let same_first : a.payload ≡ own.first = (let two : Some a.payload ≡ Some own.first = sym a.first ∙ own.is_first in cc) in
+    let stream : a.stream ≡ e.payload =
+    stream_is r own.first a.call a.stream (subst (HasStream r own.first) f.same f.holds) (subst (λ (p : Option (List ℕ)). IsPayload a.call p a.stream) same_first a.conveyed) ∙ sym payload in
     let offer : offer_of k e.xid ≡ a.call.lists = ap (λ (x : ℕ). offer_of k x) xid ∙ (ap offer_by f.first ∙ ap (λ (c : PendingCall). c.lists) f.same) in
     let answer : Option Answer = answer_to a.call a.stream e.reply in
     let same_answer : answer_of_target a.call.lists send_max e.reply (target_of (call_of e.payload)) ≡ answer = ap (λ (bytes : List ℕ). answer_of_target a.call.lists send_max e.reply (target_of (call_of bytes))) (sym stream) in
@@ -167,8 +198,9 @@ answered_goes opened end so_far v after e r sent is h next xid payload a =
       calls = remove v.calls a.at;
       ready = drop 1 v.ready;
       credits = v.credits;
+      fetching = payload_taken v.fetching;
     } in
-    let same : after ≡ then = a.state ∙ ap (λ (l : LinkSide). record { link = l; calls = remove v.calls a.at; ready = drop 1 v.ready; credits = v.credits }) (answer_link v.link a.writes message h.link.live) in
+    let same : after ≡ then = a.state ∙ ap (λ (l : LinkSide). record { link = l; calls = remove v.calls a.at; ready = drop 1 v.ready; credits = v.credits; fetching = payload_taken v.fetching }) (answer_link v.link a.writes message h.link.live) in
     let out : List ℕ = writes ++ send (k.messages_queued + 1) message in
     let keeps : Keeps opened (executed k r.xid out) so_far then = record {
       link = answered_keeps opened k v.link.state writes message r (drop 1 k.ready) ready h.link h.server;
@@ -178,8 +210,9 @@ answered_goes opened end so_far v after e r sent is h next xid payload a =
       calls = ap (λ (cs : List PendingCall). remove cs a.at) h.calls ∙ f.left;
       ready = ap (drop 1) h.ready ∙ drop_map k.ready;
       credits = h.credits;
-      payloads = payloads_out r.xid k.calls (drop 1 k.ready) own.1;
-      no_regions = h.no_regions;
+      reads = h.reads;
+      sinks = h.sinks;
+      payloads = payloads_out r.xid k.calls (drop 1 k.ready) (drop 1 v.fetching.payloads) own.others;
       quiet = λ z. absurd (omega (arith, z, behind));
     } in
     record {
@@ -213,7 +246,7 @@ record NextKept (opened : LinkParameters) (link : ℕ) (run : List Mark) (v : Re
   pub is_next : next_call opened link run ≡ Some call
   pub own : xid ≡ call.xid
   pub ready : IsReadyOf server.calls server.reads call
-  pub payload : IsInline server.calls call
+  pub payload : FirstPayload server.calls call (drop 1 server.ready) v.fetching.payloads
 
 xid_of_first : (ready : List ReadyCall) (xid : ℕ) → slice_get (map (λ q. q.xid) ready) 0 ≡ Some xid → (r : ReadyCall) × ((slice_get ready 0 ≡ Some r) × (xid ≡ r.xid))
 xid_of_first [] xid is = absurd cc
@@ -233,25 +266,40 @@ next_kept opened link run v xid stands live_now first =
       is_next = next_is_lem opened link run v h ∙ ap (λ (o : Option End). first_ready h.end.state.ready o) both.0 ∙ f.1.0;
       own = f.1.1;
       ready = (subst (λ (rs : List ReadyCall). AllByRecursion (IsReadyOf h.end.state.calls h.end.state.reads) rs) ready both.1.server.ready).0;
-      payload = (subst (λ (rs : List ReadyCall). AllByRecursion (IsInline h.end.state.calls) rs) ready both.1.payloads).0;
+      payload = first_payload h.end.state.calls f.0 (drop 1 h.end.state.ready) v.fetching.payloads (subst (λ (rs : List ReadyCall). ArePayloads h.end.state.calls rs v.fetching.payloads) ready both.1.payloads);
     }
 
 pub payload_is_lem : (opened : LinkParameters) (link : ℕ) (run : List Mark) (v : ResponderSide) (xid : ℕ) → Stands opened link run v → end_of v ≡ None → slice_get v.ready 0 ≡ Some xid →
-    (at : ℕ) (call : PendingCall) (stream : List ℕ) → slice_get v.calls at ≡ Some call → call.xid ≡ xid → call.inline ≡ Some stream → IsExecuted opened link run xid stream
-payload_is_lem opened link run v xid h live_now first at call stream place own inline =
+    (at : ℕ) (call : PendingCall) (payload : Option (List ℕ)) (stream : List ℕ) → slice_get v.calls at ≡ Some call → call.xid ≡ xid → slice_get v.fetching.payloads 0 ≡ Some payload → IsPayload call payload stream → IsExecuted opened link run xid stream
+payload_is_lem opened link run v xid h live_now first at call payload stream place own first_is conveyed =
     let n : NextKept opened link run v xid = next_kept opened link run v xid h live_now first in
-    let f : Found n.call.xid n.call.payload n.server.calls at call = found n.call.xid n.call.payload n.server.calls at call n.xids n.payload (ap (λ (cs : List PendingCall). slice_get cs at) (sym n.calls) ∙ place) (own ∙ n.own) in
+    let p : Option (List ℕ) = n.payload.first in
+    let f : Found n.call.xid (HasStream n.call p) n.server.calls at call = found n.call.xid (HasStream n.call p) n.server.calls at call n.xids (each_has n.call p n.server.calls n.payload.has) (ap (λ (cs : List PendingCall). slice_get cs at) (sym n.calls) ∙ place) (own ∙ n.own) in
+    let same_first : payload ≡ p = (let two : Some payload ≡ Some p = sym first_is ∙ n.payload.is_first in cc) in
     record {
       call = n.call;
       is_next = n.is_next;
       own = n.own;
-      conveyed = (let two : Some stream ≡ Some n.call.payload = sym inline ∙ ap (λ (c : PendingCall). c.inline) (sym f.same) ∙ f.inline in let one : stream ≡ n.call.payload = cc in one);
+      conveyed = stream_is n.call p call stream (subst (HasStream n.call p) f.same f.holds) (subst (λ (q : Option (List ℕ)). IsPayload call q stream) same_first conveyed);
     }
 
 pub payload_there_lem : (opened : LinkParameters) (link : ℕ) (run : List Mark) (v : ResponderSide) (xid : ℕ) → Stands opened link run v → end_of v ≡ None → slice_get v.ready 0 ≡ Some xid → list_any (has xid) v.calls ≡ true
 payload_there_lem opened link run v xid h live_now first =
     let n : NextKept opened link run v xid = next_kept opened link run v xid h live_now first in
     ap (λ (cs : List PendingCall). list_any (has xid) cs) n.calls ∙ ap (λ (x : ℕ). list_any (has x) n.server.calls) n.own ∙ n.ready.pending
+
+-- the payload of the first that is ready, if nothing is read
+pub plain_first : (ready : List ℕ) → 0 < length ready → slice_get (plain_payloads ready) 0 ≡ Some None
+plain_first [] some = absurd (omega (arith, some))
+plain_first (x ∷ ready) some = refl
+
+pub plain_next : (ready : List ℕ) (xid : ℕ) → slice_get ready 0 ≡ Some xid → slice_get (plain_payloads ready) 0 ≡ Some None
+plain_next [] xid is = absurd cc
+plain_next (x ∷ ready) xid is = refl
+
+pub plain_drop : (ready : List ℕ) → plain_payloads (drop 1 ready) ≡ drop 1 (plain_payloads ready)
+plain_drop [] = refl
+plain_drop (x ∷ ready) = refl
 
 pub none_any : (x : ℕ) (calls : List Pending) → ((k : ℕ) (d : Pending) → k < length calls → (get_or calls k d).xid ≢ x) → list_any (has x) (map call_view calls) ≡ false
 none_any x [] none = refl

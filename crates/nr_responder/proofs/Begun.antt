@@ -1,5 +1,5 @@
 -- A message with a call whose stream stands in it: what the code did is what is said of it.
-use Rattle.std.proofs.Common.{◌≡◌, ℕ, List, [], ◌∷◌, ◌++◌, length, map, drop, Some, None, Result, Ok, Err, refl, ap, subst, ◌∙◌, ◌≤◌, arith, inl, inr}
+use Rattle.std.proofs.Common.{◌≡◌, ℕ, List, [], ◌∷◌, ◌++◌, length, map, drop, Option, Some, None, Result, Ok, Err, refl, ap, subst, ◌∙◌, ◌≤◌, arith, inl, inr}
 use Rattle.std.specs.Prelude.{◌⊎◌}
 use Rattle.nr_xdr.specs.Fields.{word_at}
 use Rattle.nr_rpc.specs.declared.head.CallHead.{CallHead}
@@ -23,7 +23,7 @@ use Rattle.nr_responder.specs.Handling.ReadsXid.{ReadsNoCall, ReadsOther, ReadsO
 use Rattle.nr_responder.specs.Handling.MessageTakes.{EndsFor, ErrorFor, ReadsFor}
 use Rattle.nr_responder.specs.declared.call.Pending.{Pending}
 use Rattle.nr_responder.specs.declared.server_end.ServerEnd.{ServerEnd}
-use Rattle.nr_responder.specs.Sound.{state_of}
+use Rattle.nr_responder.specs.Sound.{plain_payloads, state_of}
 use Rattle.nr_responder.specs.Views.{call_view, IsOfReads}
 use Rattle.nr_responder.specs.Views.IsOfReads.{Refused, Spent, Reads}
 use Rattle.nr_responder.proofs.Judged.{ends_refusal, chunks_refused}
@@ -51,8 +51,8 @@ some_head bytes x is = by (call_of bytes) refl
     by (Err at) e = absurd (let h : Some x ≡ None = is ∙ ap xid_of_call e in cc)
     by (Ok head) e = (let h : Some x ≡ Some (head_xid head) = is ∙ ap xid_of_call e in let same : head_xid head ≡ x = cc in record { head = head; reads = e; own = same_xid head ∙ same })
 
-pub few_stags : (k : ServerState) (v : ResponderSide) → IsServerOf k v → next_stag k ≤ 4294967296
-few_stags k v server = (let none : length k.regions ≡ 0 = ap (λ (rs : List Region). length rs) server.no_regions in omega (arith, none))
+pub few_stags : (k : ServerState) (v : ResponderSide) → IsServerOf k v → v.link.state.memory.next ≤ 4294967296 → next_stag k ≤ 4294967296
+few_stags k v server le = (let next = server.next in omega (arith, next, le))
 
 -- the side stopped, or memory ran out
 pub or_out : (v : ResponderSide) (l m : LinkSide) → (m ≡ l) ⊎ (m ≡ after_call v.link OutOfMemory) → OrOut v l (on_link v m)
@@ -66,6 +66,9 @@ reads_take k m (Spent is) = EndsFor REASON_STAGS (λ place. ends_refusal k m REA
 reads_take k m (Reads call is chunk) = ReadsFor (record { call = call; judged = is; chunk = chunk })
 
 -- with a call more, which is ready
+abbrev nothing : Option (List ℕ)
+nothing = None
+
 pub pushed_view : (r s : ServerEnd) (call : Pending) → s.endpoint ≡ r.endpoint → s.credits ≡ r.credits → s.calls.items ≡ r.calls.items ++ call ∷ [] → s.ready.items ≡ r.ready.items ++ call.xid ∷ [] →
     state_of s ≡ with_ready (state_of r) r.endpoint.link (call_view call)
 pushed_view r s call endpoint credits calls ready = λ i. record {
@@ -73,6 +76,7 @@ pushed_view r s call endpoint credits calls ready = λ i. record {
   calls = (ap (λ (cs : List Pending). map call_view cs) calls ∙ map-append call_view r.calls.items (call ∷ [])) i;
   ready = ready i;
   credits = credits i;
+  fetching = record { reads = []; sinks = []; payloads = (ap plain_payloads ready ∙ map-append (λ (x : ℕ). nothing) r.ready.items (call.xid ∷ [])) i };
 }
 
 -- ---- The xid of a call, or why the link ends

@@ -89,8 +89,9 @@ keeps_drained opened end so_far v n within (inl (is, h)) =
       calls = h.calls;
       ready = h.ready;
       credits = h.credits;
+      reads = h.reads;
+      sinks = h.sinks;
       payloads = h.payloads;
-      no_regions = h.no_regions;
       quiet = h.quiet;
     } in
     subst (λ (e : EndState ServerState). KeepsEnd opened e so_far (after_drain v n)) (sym (live_next_lem opened end.state n end.ended is)) (inl (refl, keeps))

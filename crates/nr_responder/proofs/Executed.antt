@@ -1,5 +1,5 @@
 -- What a responder keeps after a call was answered, and after its queue was written.
-use Rattle.std.proofs.Common.{◌≡◌, ◌≢◌, ℕ, ◌+◌, ◌-◌, ◌≤◌, Bool, true, false, not, ◌&&◌, ◌||◌, eqb, cond, List, [], ◌∷◌, ◌++◌, length, drop, Some, refl, sym, ap, subst, ◌∙◌, arith, length-append, is_some}
+use Rattle.std.proofs.Common.{◌≡◌, ◌≢◌, ℕ, ◌+◌, ◌-◌, ◌≤◌, Bool, true, false, not, ◌&&◌, ◌||◌, eqb, cond, List, [], ◌∷◌, ◌++◌, length, drop, Some, refl, sym, ap, subst, ◌∙◌, arith, length-append, is_some, Option, None}
 use Rattle.std.specs.List.{AllByRecursion, list_any, filter}
 use Rattle.std.proofs.lemmas.Bool.{eqb-true, eqb-false}
 use Rattle.nr_link.specs.Output.{send}
@@ -13,7 +13,7 @@ use Rattle.nr_reduce.specs.ServerState.{PendingCall, PendingRead, ReadyCall, Ser
 use Rattle.nr_reduce.specs.ServerReads.{is_read, is_read_at, is_over}
 use Rattle.nr_reduce.specs.Server.{server_state_after, execution_output}
 use Rattle.nr_responder.specs.ResponderState.{unsent, drained_posted, left_by}
-use Rattle.nr_responder.specs.Keeping.{OwnNumbers, OwnXids, OwnReady, IsReadyOf, IsInline, IsServer, LinkKeeps}
+use Rattle.nr_responder.specs.Keeping.{OwnNumbers, OwnXids, OwnReady, IsReadyOf, HasPayload, ArePayloads, IsServer, LinkKeeps}
 use Rattle.nr_responder.proofs.Ends.{ends_fewer}
 use Rattle.nr_responder.proofs.Queues.{answered_has, drained_has}
 
@@ -189,9 +189,15 @@ closed_out x m calls reads (g ∷ regions) own read h =
     (h.0 ∙ both_ways (is_over calls reads g) (is_over (without_call x calls) reads g) (still_over x calls reads g) (over_out x m calls reads g own read), closed_out x m calls reads regions own read h.1)
 
 -- the payloads of those that are still ready
-pub payloads_out : (x : ℕ) (calls : List PendingCall) (ready : List ReadyCall) → AllByRecursion (IsInline calls) ready → AllByRecursion (IsInline (without_call x calls)) ready
-payloads_out x calls [] h = tt
-payloads_out x calls (q ∷ ready) h = (all_out (λ c. c.xid ≡ q.xid → c.inline ≡ Some q.payload) x calls h.0, payloads_out x calls ready h.1)
+payload_out : (x : ℕ) (calls : List PendingCall) (q : ReadyCall) (p : Option (List ℕ)) → HasPayload calls q p → HasPayload (without_call x calls) q p
+payload_out x calls q None h = all_out (λ c. c.xid ≡ q.xid → c.inline ≡ Some q.payload) x calls h
+payload_out x calls q (Some payload) h = h
+
+pub payloads_out : (x : ℕ) (calls : List PendingCall) (ready : List ReadyCall) (payloads : List (Option (List ℕ))) → ArePayloads calls ready payloads → ArePayloads (without_call x calls) ready payloads
+payloads_out x calls [] [] h = tt
+payloads_out x calls [] (p ∷ payloads) h = absurd h
+payloads_out x calls (q ∷ ready) [] h = absurd h
+payloads_out x calls (q ∷ ready) (p ∷ payloads) h = (payload_out x calls q p h.0, payloads_out x calls ready payloads h.1)
 
 -- ---- A call was answered
 

@@ -30,6 +30,7 @@ use Rattle.nr_responder.specs.Keeping.Begins.{BeforeHello, AfterHello}
 use Rattle.nr_responder.specs.Steps.{received_events, GoesOn, FedOn}
 use Rattle.nr_responder.specs.Handling.{IsServerOf, IsHandled, on_link}
 use Rattle.nr_responder.proofs.Pieces.{fed_parts, IsOneFrame, IsNoFrame, whole_piece, partial_piece}
+use Rattle.nr_responder.proofs.FrameCounts.{frame_counts}
 use Rattle.nr_responder.proofs.Frames.{behind, TakesFrame, ended_takes}
 use Rattle.nr_responder.proofs.Steps.{frame_takes, link_behind}
 
@@ -109,6 +110,11 @@ still_begins : (l : LinkSide) (rest : List ℕ) → Begins l → Begins (record 
 still_begins l rest (BeforeHello place awaited hello none) = BeforeHello place awaited hello none
 still_begins l rest (AfterHello place awaited hello) = AfterHello place awaited hello
 
+-- the next STag is as before a step
+pub step_next : (l m : LinkSide) (piece : List ℕ) → StepOf l piece m → m.state.memory.next ≡ l.state.memory.next
+step_next l m piece (Part w is) = ap (λ (x : LinkSide). x.state.memory.next) is
+step_next l m piece (WholeFrame frame w frame_is long is) = ap (λ (x : LinkSide). x.state.memory.next) is ∙ (frame_counts l.state l.awaited frame).next
+
 -- a step that doesn't end the side
 pub step_goes : (v after : ResponderSide) (piece : List ℕ) (m : LinkSide) → end_of v ≡ None → IsPartial v.link.awaited v.link.rest → StepOf v.link piece m → m.state.ended ≡ None →
     ((k : ServerState) → IsServerOf k (on_link v m) → IsHandled k (on_link v m) after) → FedOn v (take (bytes_taken v.link.awaited v.link.rest piece) piece) after
@@ -118,7 +124,7 @@ step_goes v after piece m live_now p step lives handled opened end so_far keeps 
     let h : Keeps opened end.state so_far v = both.1 in
     let same : input_in v.link ≡ so_far = same_input v so_far h.input in
     let own : Keeps opened end.state (input_in v.link) v = subst (λ (i : InputState). Keeps opened end.state i v) (sym same) h in
-    let server : IsServerOf end.state (on_link v m) = record { calls = sym h.calls; credits = sym h.credits; new_read = new_is_read end.state h.server.reads_before; no_regions = h.no_regions } in
+    let server : IsServerOf end.state (on_link v m) = record { calls = sym h.calls; credits = sym h.credits; reads = sym h.reads; new_read = new_is_read end.state h.server.reads_before; next = sym h.link.next ∙ sym (step_next v.link m piece step); place = v.link.state.place; is_server = h.server } in
     subst (λ (i : InputState). GoesOn opened end i v (received_events i x) (input_after i x) after) same (by opened end both.0 own (handled end.state server) step)
   where
     by : (opened : LinkParameters) (end : EndState ServerState) → end.ended ≡ None → Keeps opened end.state (input_in v.link) v → IsHandled end.state (on_link v m) after → StepOf v.link piece m →
@@ -136,8 +142,9 @@ step_goes v after piece m live_now p step lives handled opened end so_far keeps 
           calls = h.calls;
           ready = h.ready;
           credits = h.credits;
+          reads = h.reads;
+          sinks = h.sinks;
           payloads = h.payloads;
-          no_regions = h.no_regions;
           quiet = h.quiet;
         } in
         let pp = partial_piece (input_in v.link) piece w in
@@ -181,7 +188,7 @@ ended_fed_lem v piece over opened end so_far (inr ended) =
       output = sym (append-nil (queue v)) ∙ ap (λ (bytes : List ℕ). queue v ++ bytes) (sym all.1);
     }
 
-ended_step : (v : ResponderSide) (piece : List ℕ) (m : LinkSide) (why : End) → end_of v ≡ None → IsPartial v.link.awaited v.link.rest → StepOf v.link piece m → m.state.ended ≡ Some why →
+pub ended_step : (v : ResponderSide) (piece : List ℕ) (m : LinkSide) (why : End) → end_of v ≡ None → IsPartial v.link.awaited v.link.rest → StepOf v.link piece m → m.state.ended ≡ Some why →
     FedOn v (take (bytes_taken v.link.awaited v.link.rest piece) piece) (on_link v m)
 ended_step v piece m why live_now p step ended opened end so_far keeps =
     let x : List ℕ = take (bytes_taken v.link.awaited v.link.rest piece) piece in

@@ -32,14 +32,16 @@ use Rattle.nr_reduce.specs.ServerMessages.Verdict.{MakesPending}
 use Rattle.nr_reduce.specs.ServerFrames.{by_message}
 use Rattle.nr_reduce.specs.Holds.{chunk_error, version_error}
 use Rattle.nr_responder.specs.ResponderState.{ResponderSide}
-use Rattle.nr_responder.specs.Handling.{Handled, IsServerOf, MessageTakes, Begins, Makes, OrOut, begun_call, inline_call, refused_effect, on_link, out, with_ready}
-use Rattle.nr_responder.specs.Handling.Handled.{Stopped, Refused, Ready}
+use Rattle.nr_responder.specs.Handling.{Handled, IsServerOf, MessageTakes, Begins, Makes, OrOut, begun_call, inline_call, refused_effect, on_link, out, with_ready, IsReadCall}
+use Rattle.nr_responder.specs.Handling.Handled.{Stopped, Refused, Ready, Fetched, Completed}
 use Rattle.nr_responder.specs.Handling.MessageTakes.{EndsFor, ErrorFor}
 use Rattle.nr_responder.specs.Handling.Begins.{NoCall, OtherXid, IsReady}
-use Rattle.nr_responder.specs.Handling.Makes.{Ends, RefusesVersion, RefusesChunks, Calls, LeavesReads}
+use Rattle.nr_responder.specs.Handling.Makes.{Ends, RefusesVersion, RefusesChunks, Calls, Fetches, Completes, EndsAtOnce, LeavesReads}
 use Rattle.nr_responder.specs.Views.{IsCall}
 use Rattle.nr_responder.specs.Sound.{SameInput}
+use Rattle.nr_responder.proofs.CallsAtOnce.{complete_refused}
 use Rattle.nr_responder.proofs.Judged.{ends_refusal, version_refused, chunks_refused, no_call_refused, other_call_refused, plain_lists_lem}
+use Rattle.nr_responder.proofs.FrameCounts.{SameCounts, frame_counts}
 use Rattle.nr_responder.proofs.Fed.{StepOf}
 use Rattle.nr_responder.proofs.Fed.StepOf.{Part, WholeFrame}
 
@@ -67,8 +69,12 @@ refused_or_out : (v after : ResponderSide) (number : ℕ) (message answer : List
 refused_or_out v after number message answer effect (inl is) = inl (λ k server count. Refused answer (effect k server) is)
 refused_or_out v after number message answer effect (inr is) = inr (record { is_out = is; takes = λ k server count. ErrorFor answer (effect k server) })
 
+told_next : (l : LinkSide) → l.state.memory.next ≡ (after_call l NextEvent).state.memory.next
+unfolding after_call
+told_next l = refl
+
 told_server_of : (k : ServerState) (v : ResponderSide) → IsServerOf k v → IsServerOf k (told_of v)
-told_server_of k v server = record { calls = server.calls; credits = server.credits; new_read = server.new_read; no_regions = server.no_regions }
+told_server_of k v server = record { calls = server.calls; credits = server.credits; reads = server.reads; new_read = server.new_read; next = server.next ∙ told_next v.link; place = server.place; is_server = server.is_server }
 
 judged_call : (k : ServerState) (message : List ℕ) (lists : ChunkLists) (stream_at : ℕ) → IsCall k message lists stream_at →
     verdict k message ≡ MakesPending (inline_call k (word_at 0 message) lists.write lists.reply (drop stream_at message))
@@ -92,6 +98,11 @@ begins_handled v after number message lists stream_at call (IsReady head reads o
         Ready (word_at 0 message) lists.write lists.reply (drop stream_at message) head c.own (judged_call k message lists stream_at c) reads own
         (is ∙ ap (λ (c : PendingCall). with_ready (told_of v) (after_call v.link NextEvent) c) same)
 
+-- the call has the number of its Send
+at_number : (k : ServerState) (message : List ℕ) (xid number : ℕ) (lists : ChunkLists) (inline : Option (List ℕ)) → number ≡ k.received.sends + 1 → IsReadCall k message xid lists inline →
+    verdict k message ≡ MakesPending (record { number = number; xid = xid; lists = lists; inline = inline })
+at_number k message xid number lists inline count r = r.pending ∙ (λ i. MakesPending (record { number = sym count i; xid = xid; lists = lists; inline = inline }))
+
 pub makes_handled : (v after : ResponderSide) (number : ℕ) (message : List ℕ) → Makes (told_of v) number message after → Goes v number message after ⊎ RanOutOf v number message after
 makes_handled v after number message (Ends reason other judged is) =
     ended_or_out v after number reason message other (λ k server count place. ends_refusal k message reason place (judged k (told_server_of k v server))) is
@@ -103,6 +114,20 @@ makes_handled v after number message (RefusesChunks judged is) =
     (λ k server place. chunks_refused k message v.credits place (judged k (told_server_of k v server)) server.credits) is
 makes_handled v after number message (Calls lists stream_at judged begins) =
     begins_handled v after number message lists stream_at (λ k server. judged k (told_server_of k v server)) begins
+makes_handled v after number message (Fetches xid lists inline judged chunks is) =
+    inl (λ k server count.
+    let r = judged k (told_server_of k v server) in
+    Fetched (record { number = number; xid = xid; lists = lists; inline = inline }) count r.own (at_number k message xid number lists inline count r) chunks is)
+makes_handled v after number message (Completes xid lists inline payload judged none ready is) =
+    inl (λ k server count.
+    let r = judged k (told_server_of k v server) in
+    let c : PendingCall = record { number = number; xid = xid; lists = lists; inline = inline } in
+    Completed c payload count r.own (at_number k message xid number lists inline count r) none ready is)
+makes_handled v after number message (EndsAtOnce xid lists inline reason other judged none refuses is) =
+    ended_or_out v after number reason message other
+    (λ k server count place.
+    let c : PendingCall = record { number = number; xid = xid; lists = lists; inline = inline } in
+    complete_refused k server.place place reason message c server.is_server count (at_number k message xid number lists inline count (judged k (told_server_of k v server))) none refuses) is
 makes_handled v after number message (LeavesReads takes is) = inr (record { is_out = is; takes = λ k server count. takes k (told_server_of k v server) })
 
 -- ---- What is left of the link
@@ -116,53 +141,8 @@ same_fed l m same = by same.rest
 
 -- ---- The link after a step
 
--- a frame leaves the counts of receives, and where the Sends end
-pub record SameCounts (s t : LinkState) : Type 0 where
-  pub lent : t.receive_queue.lent ≡ s.receive_queue.lent
-  pub receives : t.receive_queue.receives ≡ s.receive_queue.receives
-  pub ends_are : t.send_queue.send_ends ≡ s.send_queue.send_ends
-
-pub same_if : (b : Bool) (s t u : LinkState) → SameCounts s t → SameCounts s u → SameCounts s (cond b t u)
-same_if true s t u a b = a
-same_if false s t u a b = b
-
-response_counts : (s : LinkState) (last : Bool) (n : ℕ) → SameCounts s (with_read_response last n s)
-response_counts s true n = record { lent = refl; receives = refl; ends_are = refl }
-response_counts s false n = record { lent = refl; receives = refl; ends_are = refl }
-
-request_ends : (r : Option ReadRequest) (m : RegisteredMemory) (q : SendQueue) → (with_read_request r m q).send_ends ≡ q.send_ends
-request_ends None m q = refl
-request_ends (Some r) m q = refl
-
-effect_counts : (s : LinkState) (segment : Segment) → SameCounts s (with_effect segment s)
-unfolding with_effect with_segment
-effect_counts s (Tagged last opcode stag to payload) =
-    let placed : LinkState = record s { memory = after_place s.memory stag to payload } in
-    let r : SameCounts placed (with_read_response last (length payload) placed) = response_counts placed last (length payload) in
-    same_if (eqb opcode 2) s (with_read_response last (length payload) placed) placed (record { lent = r.lent; receives = r.receives; ends_are = r.ends_are }) (record { lent = refl; receives = refl; ends_are = refl })
-effect_counts s (Untagged last opcode w queue msn offset payload) = record { lent = refl; receives = refl; ends_are = request_ends (read_request_of (Untagged last opcode w queue msn offset payload)) s.memory s.send_queue }
-
-segment_counts : (s : LinkState) (f : Frame) (segment : Segment) (e : Option End) → SameCounts s (with_segment_by f segment e s)
-unfolding with_end
-segment_counts s f segment None = (let c = effect_counts s segment in record { lent = c.lent; receives = c.receives; ends_are = c.ends_are })
-segment_counts s f segment (Some end) = record { lent = refl; receives = refl; ends_are = refl }
-
-fpdu_counts : (s : LinkState) (f : Frame) (r : Result Segment ℕ) → SameCounts s (with_fpdu f r s)
-unfolding with_fpdu with_end
-fpdu_counts s f (Ok segment) = segment_counts s f segment (segment_end s f segment)
-fpdu_counts s f (Err reason) = record { lent = refl; receives = refl; ends_are = refl }
-
-hello_counts : (s : LinkState) (f : Frame) (r : Result Hello ℕ) → SameCounts s (with_peer_hello f r s)
-unfolding with_peer_hello with_end
-hello_counts s f (Ok hello) = record { lent = refl; receives = refl; ends_are = refl }
-hello_counts s f (Err reason) = record { lent = refl; receives = refl; ends_are = refl }
-
-pub frame_counts : (s : LinkState) (a : Awaited) (frame : List ℕ) → SameCounts s (with_frame s a frame)
-frame_counts s (HelloFrom side) frame = hello_counts s (next_frame s frame) (hello_of side frame)
-frame_counts s Fpdu frame = fpdu_counts s (next_frame s frame) (segment_of frame)
-
 pub step_counts : (l m : LinkSide) (piece : List ℕ) → StepOf l piece m → SameCounts l.state m.state
-step_counts l m piece (Part w is) = subst (λ (x : LinkSide). SameCounts l.state x.state) (sym is) (record { lent = refl; receives = refl; ends_are = refl })
+step_counts l m piece (Part w is) = subst (λ (x : LinkSide). SameCounts l.state x.state) (sym is) (record { next = refl; lent = refl; receives = refl; ends_are = refl })
 step_counts l m piece (WholeFrame frame w frame_is long is) = subst (λ (x : LinkSide). SameCounts l.state x.state) (sym is) (frame_counts l.state l.awaited frame)
 
 -- how far a step goes

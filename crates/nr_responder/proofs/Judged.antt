@@ -1,5 +1,5 @@
 -- The verdict on a message, one question after the other.
-use Rattle.std.proofs.Common.{◌≡◌, ◌≢◌, ℕ, ◌+◌, ◌≤◌, Bool, true, false, not, ◌||◌, eqb, cond, List, [], ◌∷◌, length, drop, map, Option, Some, None, Result, Ok, Err, refl, sym, ap, subst, ◌∙◌, arith, inl, inr}
+use Rattle.std.proofs.Common.{◌&&◌, ◌≡◌, ◌≢◌, ℕ, ◌+◌, ◌≤◌, Bool, true, false, not, ◌||◌, eqb, cond, List, [], ◌∷◌, length, drop, map, Option, Some, None, Result, Ok, Err, refl, sym, ap, subst, ◌∙◌, arith, inl, inr}
 use Rattle.std.specs.Prelude.{nat_lt, ◌⊎◌}
 use Rattle.std.specs.List.{list_any, filter}
 use Rattle.std.proofs.lemmas.Bool.{ne_eqb, eq-eqb, le-ltb}
@@ -32,7 +32,7 @@ use Rattle.nr_responder.proofs.ServerSteps.{inline_message_lem, pending_effect}
 use Rattle.nr_responder.specs.declared.call.Pending.{Pending}
 use Rattle.nr_responder.specs.declared.judging.Judged.{Judged}
 use Rattle.nr_responder.specs.declared.judging.Judged.TheVariants as judged
-use Rattle.nr_responder.specs.Views.{call_view, IsOfReads, HasStream, Judges, JudgesBody}
+use Rattle.nr_responder.specs.Views.{call_view, IsOfReads, HasStream, Judges, JudgesBody, brings_stream, fits_stream, reads_if}
 use Rattle.nr_responder.specs.Views.IsOfReads.{Refused, Spent, Reads}
 
 pub verdict_version : (k : ServerState) (m : List ℕ) → word_at 4 m ≢ 1 → verdict k m ≡ OtherVersion
@@ -113,7 +113,7 @@ stream_of_reads k m lists xid (Some stream) chunk is = by (is_read_chunk_of_item
     by true e = need_of_reads k m c chunk (is ∙ ap (λ (b : Bool). cond b (by_need k c) BadChunks) e)
     by false e = Refused (is ∙ ap (λ (b : Bool). cond b (by_need k c) BadChunks) e)
 
-reads_judged : (k : ServerState) (m : List ℕ) (h : Header) → word_at 4 m ≡ 1 → word_at 12 m ≢ 3 → word_at 12 m ≢ 4 → is_pending k (word_at 0 m) ≡ false → next_stag k ≤ 4294967296 → header_of m ≡ Ok h → JudgesBody h.body judged.Reads → IsOfReads k m
+reads_judged : (k : ServerState) (m : List ℕ) (h : Header) → word_at 4 m ≡ 1 → word_at 12 m ≢ 3 → word_at 12 m ≢ 4 → is_pending k (word_at 0 m) ≡ false → next_stag k ≤ 4294967296 → header_of m ≡ Ok h → JudgesBody m h.body judged.Reads → IsOfReads k m
 reads_judged k m h is done error new few read b = by b.1.1
   where
     verdict_is : verdict k m ≡ by_body k h.xid m h.body
@@ -129,17 +129,17 @@ reads_judged k m h is done error new few read b = by b.1.1
 
 -- what is judged of a body is judged of its message
 pub body_judged : (k : ServerState) (m : List ℕ) (h : Header) (j : Judged) → FIXED_LEN ≤ length m → word_at 4 m ≡ 1 → word_at 12 m ≢ 3 → word_at 12 m ≢ 4 → is_pending k (word_at 0 m) ≡ false →
-    next_stag k ≤ 4294967296 → header_of m ≡ Ok h → JudgesBody h.body j → Judges k m j
+    next_stag k ≤ 4294967296 → header_of m ≡ Ok h → JudgesBody m h.body j → Judges k m j
 body_judged k m h j long is done error new few read judges = by j judges
   where
     verdict_is : verdict k m ≡ by_body k h.xid m h.body
     verdict_is = header_verdict k m is done error new ∙ ap (by_header k m) read
 
-    by : (j : Judged) → JudgesBody h.body j → Judges k m j
+    by : (j : Judged) → JudgesBody m h.body j → Judges k m j
     by judged.Kind b = absurd b
     by judged.Open b = absurd b
     by judged.OtherVersion b = absurd b
-    by judged.BadChunks b = verdict_is ∙ b k h.xid m
+    by judged.BadChunks b = verdict_is ∙ b k h.xid
     by (judged.Call lists stream_at) b = record {
       no_reads = b.1;
       own = new;
@@ -194,7 +194,7 @@ pub plain_lists_lem : (k : ServerState) (xid : ℕ) (lists : ChunkLists) (stream
 plain_lists_lem k xid lists stream none = λ i. record { number = k.received.sends + 1; xid = xid; lists = record { read = none i; write = lists.write; reply = lists.reply }; inline = Some stream }
 
 -- the lists and the stream of a call that is judged by its body
-pub has_stream : (m : List ℕ) (body : Body) (j : Judged) → JudgesBody body j → StreamWithin body (length m) → CanRead body (stream_after body m) → HasStream m j
+pub has_stream : (m : List ℕ) (body : Body) (j : Judged) → JudgesBody m body j → StreamWithin body (length m) → CanRead body (stream_after body m) → HasStream m j
 has_stream m body judged.Kind b within can = tt
 has_stream m body judged.Open b within can = tt
 has_stream m body judged.OtherVersion b within can = tt
@@ -202,3 +202,29 @@ has_stream m body judged.BadChunks b within can = tt
 has_stream m body (judged.Call lists stream_at) b within can =
     (subst (λ (x : Body). StreamWithin x (length m)) b.0 within, (subst (λ (x : Body). CanRead x (stream_after x m)) b.0 can).0)
 has_stream m body judged.Reads b within can = tt
+
+-- ---- A read list that is refused
+
+refused_stream : (k : ServerState) (lists : ChunkLists) (xid : ℕ) (o : Option (List ℕ)) → fits_stream o lists.read ≡ false → by_stream k lists xid o ≡ BadChunks
+refused_stream k lists xid None is = absurd cc
+refused_stream k lists xid (Some stream) is = ap (λ (b : Bool). cond b (by_need k (record { number = k.received.sends + 1; xid = xid; lists = lists; inline = Some stream })) BadChunks) is
+
+refused_nomsg : (k : ServerState) (lists : ChunkLists) (xid : ℕ) → brings_stream lists.read ≡ false → cond (has_position lists.read) (by_stream k lists xid (no_stream lists.read)) BadChunks ≡ BadChunks
+refused_nomsg k lists xid is = by (has_position lists.read) is
+  where
+    by : (b : Bool) → (b && fits_stream (no_stream lists.read) lists.read) ≡ false → cond b (by_stream k lists xid (no_stream lists.read)) BadChunks ≡ BadChunks
+    by true e = refused_stream k lists xid (no_stream lists.read) e
+    by false e = refl
+
+-- a body by RDMA_MSG with a read list
+pub msg_judged : (message : List ℕ) (lists : ChunkLists) (stream_at : ℕ) (b : Bool) → lists.read ≢ [] → b ≡ is_read_chunk_of_item (drop stream_at message) lists.read → JudgesBody message (Msg lists stream_at) (reads_if b)
+msg_judged message lists stream_at true some is = (lists, (some, inl (stream_at, refl)))
+msg_judged message lists stream_at false some is = λ k xid. refused_stream k lists xid (Some (drop stream_at message)) (sym is)
+
+no_position : (read : List ReadSegment) → brings_stream read ≡ true → read ≢ []
+no_position read is none = (let two : false ≡ true = ap brings_stream (sym none) ∙ is in absurd cc)
+
+-- and by RDMA_NOMSG
+pub nomsg_judged : (message : List ℕ) (lists : ChunkLists) (b : Bool) → b ≡ brings_stream lists.read → JudgesBody message (Nomsg lists) (reads_if b)
+nomsg_judged message lists true is = (lists, (no_position lists.read (sym is), inr refl))
+nomsg_judged message lists false is = λ k xid. refused_nomsg k lists xid (sym is)

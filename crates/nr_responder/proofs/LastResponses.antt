@@ -35,7 +35,9 @@ use Rattle.nr_reduce.proofs.OwnStags.{closed_length}
 use Rattle.nr_endpoint.specs.SendQueue.{SendQueue}
 use Rattle.nr_responder.specs.ResponderState.{unsent}
 use Rattle.nr_responder.specs.Keeping.{OwnNumbers, OwnXids, OwnReady, IsReadyOf, IsServer, LinkKeeps, QueueKeeps, later_responses}
-use Rattle.nr_responder.specs.private.Reading.{SinkRegion, sink_of_region, open_if, open_sinks, is_sink, bytes_of_sink, sink_bytes, over_sinks, released, opening, with_requests}
+use Rattle.nr_responder.specs.Fetching.{SinkRegion, sink_of_region, open_if, open_sinks}
+use Rattle.nr_responder.specs.private.Reading.{is_sink, bytes_of_sink, sink_bytes, over_sinks, released, opening, with_requests}
+use Rattle.nr_responder.specs.ReadsDone.{side_after_done}
 use Rattle.nr_responder.proofs.Responses.{found_all}
 use Rattle.nr_responder.proofs.ReadEffects.{requested_has, requests_ends, opened_now}
 use Rattle.nr_responder.proofs.Sinks.{closed_all, closed_stags, closed_now, releases, released_next}
@@ -101,18 +103,14 @@ pub record TakesLast (k : ServerState) (f : Frame) (a : TaggedSegment) (rest : L
   pub place : t.place ≡ f.end
   pub last : t.last ≡ f.at
 
--- the side after the read: sinks that are over were released, and reads opened
-abbrev pub side_after_done : LinkState → List PendingRead → List SinkRegion → LinkState
-side_after_done t reads over = record t { send_queue = with_requests reads t.send_queue; reads = t.reads ++ later_responses reads; memory = released over t.memory }
-
-pub done_link : (opened : LinkParameters) (k : ServerState) (f : Frame) (a : TaggedSegment) (rest reads : List PendingRead) (calls : List PendingCall) (ready : List ReadyCall) (kept : ℕ) (t : LinkState) → TakesLast k f a rest opened.granted t → IsServer k f.at →
+pub done_link : (opened : LinkParameters) (k : ServerState) (f : Frame) (a : TaggedSegment) (rest reads : List PendingRead) (calls : List PendingCall) (ready : List ReadyCall) (kept : ℕ) (t : LinkState) → TakesLast k f a rest opened.granted t → AreReceived f.at k.accesses_received → AreOffered f.at k.regions →
     f.at ≤ f.end → a.end ≡ f.end → length calls ≡ length k.calls → kept ≤ 8 → t.reads ≡ later_responses (take kept reads) →
     LinkKeeps opened (after_done k a calls reads ready kept) (side_after_done t (opening kept reads) (over_sinks calls reads (open_sinks k.regions)))
-done_link opened k f a rest reads calls ready kept t h is le at same few opens =
+done_link opened k f a rest reads calls ready kept t h arrived was_offered le at same few opens =
     let over : List SinkRegion = over_sinks calls reads (open_sinks k.regions) in
     let accesses : List TaggedSegment = k.accesses_received ++ a ∷ [] in
-    let received : AreReceived f.end accesses = subst (λ (n : ℕ). AreReceived n accesses) at (received_one f.at k.accesses_received a (omega (arith, le, at)) is.accesses) in
-    let offered : AreOffered f.end k.regions = offered_later f.at f.end k.regions le is.offered in
+    let received : AreReceived f.end accesses = subst (λ (n : ℕ). AreReceived n accesses) at (received_one f.at k.accesses_received a (omega (arith, le, at)) arrived) in
+    let offered : AreOffered f.end k.regions = offered_later f.at f.end k.regions le was_offered in
     let closed : HoldsRegions (regions_closed (is_over calls reads) f.end k.regions) accesses f.end (released over t.memory) =
     holds_closed (is_over calls reads) k.regions accesses f.end f.end t.memory (released over t.memory) (omega arith) received (releases calls reads f.end k.regions accesses t.memory offered h.memory) h.memory in
     let ends : (with_requests (opening kept reads) t.send_queue).send_ends ≡ t.send_queue.send_ends = requests_ends (opening kept reads) t.send_queue in
@@ -217,7 +215,7 @@ found_at test place (x ∷ regions) r offered is = by (λ (e : find test regions
     by rest true e = here (let same : x ≡ r = cc in same)
     by rest false e = ap (λ (b : Bool). cond b (Some x) (region_at regions r.stag)) refl ∙ later (rest e) (eqb x.stag r.stag) refl
 
-no_zero_stag : (n : ℕ) (regions : List Region) → StagsFrom (n + 1) regions → region_at regions 0 ≡ None
+pub no_zero_stag : (n : ℕ) (regions : List Region) → StagsFrom (n + 1) regions → region_at regions 0 ≡ None
 no_zero_stag n [] h = refl
 no_zero_stag n (r ∷ regions) h =
     ap (λ (b : Bool). cond b (Some r) (region_at regions 0)) (ne_eqb r.stag 0 (λ e. (let at : r.stag ≡ n + 1 = h.0 in omega (arith, at, e)))) ∙ no_zero_stag (n + 1) regions h.1

@@ -1,15 +1,18 @@
 pub mod Answered
 pub mod Begun
+pub mod CallsAtOnce
+pub mod CallsRead
 pub mod Counts
 pub mod Drained
 pub mod Ends
 pub mod Executed
 pub mod Fed
+pub mod FirstFrames
+pub mod FrameCounts
 pub mod FrameEnds
 pub mod Frames
 pub mod Handled
 pub mod Held
-pub mod Inline
 pub mod Judged
 pub mod LastResponses
 pub mod Marks
@@ -24,6 +27,9 @@ pub mod Queues
 pub mod ReadCases
 pub mod ReadEffects
 pub mod ReadPayloads
+pub mod ReadsHandled
+pub mod ReadsRefused
+pub mod ReadsTaken
 pub mod Removed
 pub mod Responses
 pub mod SendFrames
@@ -35,5 +41,6 @@ pub mod Stepped
 pub mod Staging
 pub mod Steps
 pub mod Supported
+pub mod Told
 pub mod Whole
 pub mod Writes

@@ -12,6 +12,7 @@ use Rattle.nr_reduce.specs.Server.{initial_server}
 use Rattle.nr_reduce.specs.OfferedMemory.{HoldsRegions}
 use Rattle.nr_reduce.specs.Standing.{ServerRepresents}
 use Rattle.nr_reduce.proofs.Standing.{server_begins_lem}
+use Rattle.nr_responder.specs.Fetching.{nothing_fetched}
 use Rattle.nr_responder.specs.ResponderState.{ResponderSide, queue}
 use Rattle.nr_responder.specs.Keeping.{IsServer, LinkKeeps, Keeps}
 use Rattle.nr_responder.specs.Keeping.Begins.{BeforeHello}
@@ -19,7 +20,7 @@ use Rattle.nr_responder.specs.Standing.{RepresentsServer, Stands}
 use Rattle.nr_responder.proofs.Ends.{ends_none}
 
 abbrev pub opened_state : ℕ → LinkSide → ResponderSide
-opened_state credits link = record { link = link; calls = []; ready = []; credits = credits }
+opened_state credits link = record { link = link; calls = []; ready = []; credits = credits; fetching = nothing_fetched }
 
 no_regions_lem : HoldsRegions [] [] 0 (initial_memory 1)
 unfolding live_region held_region initial_memory
@@ -74,8 +75,9 @@ keeps_first opened = record {
   calls = refl;
   ready = refl;
   credits = refl;
+  reads = refl;
+  sinks = refl;
   payloads = tt;
-  no_regions = refl;
   quiet = λ e. (refl, refl);
 }
 

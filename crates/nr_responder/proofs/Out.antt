@@ -6,10 +6,10 @@ use Rattle.std.proofs.lemmas.List.{append-nil}
 use Rattle.nr_wire.specs.declared.hello.Side.TheVariants.{Initiator, Responder}
 use Rattle.nr_wire.specs.declared.stream.Awaited.{Awaited}
 use Rattle.nr_wire.specs.declared.stream.Awaited.TheVariants.{Fpdu}
-use Rattle.nr_wire.specs.Constants.{OPCODE_SEND}
+use Rattle.nr_wire.specs.Constants.{OPCODE_SEND, OPCODE_READ_RESPONSE}
 use Rattle.nr_wire.specs.Hello.{hello_of}
 use Rattle.nr_wire.specs.Segment.{Segment, segment_of}
-use Rattle.nr_wire.specs.Segment.Segment.{Untagged}
+use Rattle.nr_wire.specs.Segment.Segment.{Tagged, Untagged}
 use Rattle.nr_wire.specs.Stream.{is_whole, IsPartial}
 use Rattle.nr_link.specs.declared.end.End.{End}
 use Rattle.nr_link.specs.declared.end.End.TheVariants as ends
@@ -19,7 +19,7 @@ use Rattle.nr_link.specs.Input.{InputState}
 use Rattle.nr_link.specs.Output.{send, terminate_message}
 use Rattle.nr_link.specs.ReceiveState.{ReceiveState, begun_bytes}
 use Rattle.nr_endpoint.specs.ReceiveQueue.{DeliveredEvent}
-use Rattle.nr_endpoint.specs.ReceiveQueue.DeliveredEvent.{MessageReceived}
+use Rattle.nr_endpoint.specs.ReceiveQueue.DeliveredEvent.{MessageReceived, ReadDone}
 use Rattle.nr_endpoint.specs.SendQueue.{SendQueue, with_end, output_len}
 use Rattle.nr_endpoint.specs.SegmentEnds.{SendIsFine}
 use Rattle.nr_endpoint.specs.LinkState.{LinkState, LinkSide}
@@ -31,7 +31,7 @@ use Rattle.nr_endpoint.proofs.Queued.{send_some, terminate_queues}
 use Rattle.nr_reduce.specs.declared.mark.LinkParameters.{LinkParameters}
 use Rattle.nr_reduce.specs.Events.RunEvent.{FrameReceived}
 use Rattle.nr_reduce.specs.EndRules.{EndState, live, output_for}
-use Rattle.nr_reduce.specs.ServerState.{ServerState}
+use Rattle.nr_reduce.specs.ServerState.{PendingRead, ServerState}
 use Rattle.nr_reduce.specs.ServerFrames.{by_message, frame_effect}
 use Rattle.nr_reduce.specs.Server.{server_rules}
 use Rattle.nr_responder.specs.ResponderState.{ResponderSide, queue, queued_bytes, end_of}
@@ -41,11 +41,14 @@ use Rattle.nr_responder.specs.Steps.{TakesMemory, RanOutAt, Fed, frame_by}
 use Rattle.nr_responder.specs.Steps.Fed.{RanOut}
 use Rattle.nr_responder.specs.Handling.{IsServerOf, MessageTakes, refused_effect, on_link}
 use Rattle.nr_responder.specs.Handling.MessageTakes.{EndsFor, ErrorFor, ReadsFor}
-use Rattle.nr_responder.proofs.Fed.{StepOf, step_of, not_ended_lem, empty_fed}
+use Rattle.nr_responder.specs.ReadsDone.{ReadRanOut, ReadTakes}
+use Rattle.nr_responder.proofs.Fed.{StepOf, step_of, step_next, not_ended_lem, empty_fed}
 use Rattle.nr_responder.proofs.Fed.StepOf.{Part, WholeFrame}
 use Rattle.nr_responder.proofs.Frames.{behind, TakesFrame, later_frame, ended_takes}
 use Rattle.nr_responder.proofs.Handled.{RanOutOf}
-use Rattle.nr_responder.proofs.Inline.{IsSend, only_sends}
+use Rattle.nr_responder.proofs.Queues.{last_some}
+use Rattle.nr_responder.proofs.Responses.{IsSend, IsResponse, Lives, frame_is, part_link}
+use Rattle.nr_responder.proofs.ReadsTaken.{done_link_is, last_link, read_outputs, response_notices, response_reads, response_told, some_reads}
 use Rattle.nr_responder.proofs.Posted.{memory_ends, told_link_lem}
 use Rattle.nr_responder.proofs.SendFrames.{frame_lives, part_framed, last_framed}
 use Rattle.nr_responder.proofs.ServerSteps.{effect_is, new_is_read}
@@ -53,21 +56,6 @@ use Rattle.nr_responder.proofs.Steps.{link_behind, hello_takes, hello_notices}
 use Rattle.nr_responder.proofs.Whole.{goes_on_lem, lives_on_lem, refuses, refused_output, same_message, whole_message}
 
 -- ---- What has bytes
-
-abbrev empty_queue : SendQueue
-empty_queue = record { hello = []; fpdus = []; send_ends = []; response_ends = []; sends_left = 0; last_send = 0; last_request = 0 }
-
-terminates : (at reason : ℕ) → 5 ≤ reason → final_output (ends.Bad at reason) ≡ terminate_message reason
-unfolding final_output
-terminates at reason le = ap (λ (b : Bool). cond b [] (terminate_message reason)) (le-ltb reason 5 le)
-
-last_some : (at reason : ℕ) → 5 ≤ reason → last_output Responder (ends.Bad at reason) ≢ []
-unfolding with_end
-last_some at reason le none =
-    let end : End = ends.Bad at reason in
-    let queued : 0 < length (rejection Responder end) + length (final_output end) = terminate_queues Responder end reason empty_queue (terminates at reason le) in
-    let len : length (last_output Responder (ends.Bad at reason)) ≡ 0 = ap (λ (xs : List ℕ). length xs) none in
-    absurd (omega (arith, queued, len, length-append (rejection Responder (ends.Bad at reason)) (final_output (ends.Bad at reason))))
 
 queue_len : (q : SendQueue) → length (queued_bytes q) ≡ output_len q
 queue_len q = length-append q.hello q.fpdus
@@ -157,6 +145,15 @@ frame_message opened k so_far v frame number invalidated message rest h some liv
           message_takes opened k so_far v frame send.w send.queue_number send.msn send.offset send.payload h place some reads lives_on (subst (λ (m : List ℕ). MessageTakes k m) (sym own) taken),
         )
 
+    no_message : (b : Bool) → response_told b ≡ MessageReceived number invalidated message ∷ rest → ⊥
+    no_message true is = (let two : ReadDone ∷ [] ≡ MessageReceived number invalidated message ∷ rest = is in cc)
+    no_message false is = (let two : [] ≡ MessageReceived number invalidated message ∷ rest = is in cc)
+
+    either : 0 < s.place → (with_frame s Fpdu frame).ended ≡ None → (with_frame s Fpdu frame).receive_queue.notices ≡ MessageReceived number invalidated message ∷ rest → Lives s frame →
+        ((with_frame s Fpdu frame).send_queue ≡ s.send_queue) × TakesMemory opened k (next_frame s frame)
+    either place lives_on told (inl send) = fpdu place lives_on told send send.last refl
+    either place lives_on told (inr r) = absurd (no_message r.last (sym (response_notices opened k so_far v frame h lives_on r r.last refl) ∙ told))
+
     by : Begins v.link → ((with_frame s v.link.awaited frame).send_queue ≡ s.send_queue) × TakesMemory opened k (next_frame s frame)
     by (BeforeHello place awaited hello none) =
         let as_hello : with_frame s v.link.awaited frame ≡ with_peer_hello (next_frame s frame) (hello_of Initiator frame) s = ap (λ (a : Awaited). with_frame s a frame) awaited in
@@ -164,8 +161,7 @@ frame_message opened k so_far v frame number invalidated message rest h some liv
     by (AfterHello place awaited hello) =
         let lives_on : (with_frame s Fpdu frame).ended ≡ None = subst (λ (a : Awaited). (with_frame s a frame).ended ≡ None) awaited lives in
         let told_on = subst (λ (a : Awaited). (with_frame s a frame).receive_queue.notices ≡ MessageReceived number invalidated message ∷ rest) awaited one in
-        let send : IsSend s frame = only_sends opened k s frame h.link h.no_regions lives_on in
-        subst (λ (a : Awaited). ((with_frame s a frame).send_queue ≡ s.send_queue) × TakesMemory opened k (next_frame s frame)) (sym awaited) (fpdu place lives_on told_on send send.last refl)
+        subst (λ (a : Awaited). ((with_frame s a frame).send_queue ≡ s.send_queue) × TakesMemory opened k (next_frame s frame)) (sym awaited) (either place lives_on told_on (frame_is opened k s frame h.link h.server lives_on))
 
 -- ---- A step
 
@@ -197,7 +193,7 @@ out_by_message v after piece m number invalidated message rest live_now p step l
     needs opened end so_far keeps same (WholeFrame frame w frame_is long link) =
         let both = not_ended_lem opened end so_far v live_now keeps in
         let h : Keeps opened end.state so_far v = both.1 in
-        let server : IsServerOf end.state (on_link v m) = record { calls = sym h.calls; credits = sym h.credits; new_read = new_is_read end.state h.server.reads_before; no_regions = h.no_regions } in
+        let server : IsServerOf end.state (on_link v m) = record { calls = sym h.calls; credits = sym h.credits; reads = sym h.reads; new_read = new_is_read end.state h.server.reads_before; next = sym h.link.next ∙ sym (step_next v.link m piece (WholeFrame frame w frame_is long link)); place = v.link.state.place; is_server = h.server } in
         let lives_on : (with_frame v.link.state v.link.awaited frame).ended ≡ None = sym (ap (λ (l : LinkSide). l.state.ended) link) ∙ lives in
         let told_on : (with_frame v.link.state v.link.awaited frame).receive_queue.notices ≡ MessageReceived number invalidated message ∷ rest = sym (ap (λ (l : LinkSide). l.state.receive_queue.notices) link) ∙ one in
         let found = frame_message opened end.state so_far v frame number invalidated message rest h long lives_on told_on (ran.takes end.state server) in (
@@ -216,6 +212,99 @@ sent_same s frame send lives true is =
     let reads : segment_of frame ≡ Ok (Untagged true OPCODE_SEND send.w send.queue_number send.msn send.offset send.payload) = send.reads ∙ ap (λ (b : Bool). Ok (Untagged b OPCODE_SEND send.w send.queue_number send.msn send.offset send.payload)) is in
     ap (λ (t : LinkState). t.send_queue) ((frame_lives s frame (Untagged true OPCODE_SEND send.w send.queue_number send.msn send.offset send.payload) reads lives).1 ∙ last_framed s frame send.w send.queue_number send.msn send.offset send.payload)
 
+response_same : (s : LinkState) (frame : List ℕ) (r : IsResponse s frame) → (with_frame s Fpdu frame).ended ≡ None → (b : Bool) → r.last ≡ b → (with_frame s Fpdu frame).send_queue ≡ s.send_queue
+response_same s frame r lives true is =
+    ap (λ (t : LinkState). t.send_queue) ((frame_lives s frame (Tagged true OPCODE_READ_RESPONSE r.stag r.to r.payload) (response_reads s frame r true is) lives).1 ∙ last_link s frame r.stag r.to r.payload)
+response_same s frame r lives false is =
+    ap (λ (t : LinkState). t.send_queue) ((frame_lives s frame (Tagged false OPCODE_READ_RESPONSE r.stag r.to r.payload) (response_reads s frame r false is) lives).1 ∙ part_link s frame r.stag r.to r.payload)
+
+lives_same : (s : LinkState) (frame : List ℕ) → Lives s frame → (with_frame s Fpdu frame).ended ≡ None → (with_frame s Fpdu frame).send_queue ≡ s.send_queue
+lives_same s frame (inl send) lives = sent_same s frame send lives send.last refl
+lives_same s frame (inr r) lives = response_same s frame r lives r.last refl
+
+-- it ran out of memory as a read was done
+read_needs : (opened : LinkParameters) (k : ServerState) (so_far : InputState) (v : ResponderSide) (frame : List ℕ) (x : PendingRead) (rest : List PendingRead) → Keeps opened k so_far v → 0 < length frame → (with_frame v.link.state v.link.awaited frame).ended ≡ None →
+    (with_frame v.link.state v.link.awaited frame).receive_queue.notices ≡ ReadDone ∷ [] → v.fetching.reads ≡ x ∷ rest → ReadTakes (on_link v (after_call (record { awaited = Fpdu; rest = []; state = with_frame v.link.state v.link.awaited frame }) NextEvent)) x rest →
+    ((with_frame v.link.state v.link.awaited frame).send_queue ≡ v.link.state.send_queue) × TakesMemory opened k (next_frame v.link.state frame)
+read_needs opened k so_far v frame x rest h some lives one reads takes = by h.begins
+  where
+    s : LinkState
+    s = v.link.state
+
+    none_told : (notices : List DeliveredEvent) → notices ≡ [] → notices ≡ ReadDone ∷ [] → ⊥
+    none_told notices none is = (let two : [] ≡ ReadDone ∷ [] = sym none ∙ is in cc)
+
+    one_told : (number : ℕ) (invalidated : Option ℕ) (message : List ℕ) (notices : List DeliveredEvent) → notices ≡ MessageReceived number invalidated message ∷ [] → notices ≡ ReadDone ∷ [] → ⊥
+    one_told number invalidated message notices m is = (let two : MessageReceived number invalidated message ∷ [] ≡ ReadDone ∷ [] = sym m ∙ is in cc)
+
+    sent : (with_frame s Fpdu frame).ended ≡ None → (with_frame s Fpdu frame).receive_queue.notices ≡ ReadDone ∷ [] → (send : IsSend s frame) → (b : Bool) → send.last ≡ b → ⊥
+    sent lives_on told send false is =
+        let read : segment_of frame ≡ Ok (Untagged false OPCODE_SEND send.w send.queue_number send.msn send.offset send.payload) = send.reads ∙ ap (λ (b : Bool). Ok (Untagged b OPCODE_SEND send.w send.queue_number send.msn send.offset send.payload)) is in
+        let state = (frame_lives s frame (Untagged false OPCODE_SEND send.w send.queue_number send.msn send.offset send.payload) read lives_on).1 ∙ part_framed s frame send.w send.queue_number send.msn send.offset send.payload in
+        none_told (with_frame s Fpdu frame).receive_queue.notices (ap (λ (t : LinkState). t.receive_queue.notices) state ∙ append-nil s.receive_queue.notices ∙ h.link.told) told
+    sent lives_on told send true is =
+        let read : segment_of frame ≡ Ok (Untagged true OPCODE_SEND send.w send.queue_number send.msn send.offset send.payload) = send.reads ∙ ap (λ (b : Bool). Ok (Untagged b OPCODE_SEND send.w send.queue_number send.msn send.offset send.payload)) is in
+        let state = (frame_lives s frame (Untagged true OPCODE_SEND send.w send.queue_number send.msn send.offset send.payload) read lives_on).1 ∙ last_framed s frame send.w send.queue_number send.msn send.offset send.payload in
+        one_told (s.receive_queue.received.sends + 1) None (whole_message s send.payload) (with_frame s Fpdu frame).receive_queue.notices
+        (ap (λ (t : LinkState). t.receive_queue.notices) state ∙ ap (λ (notices : List DeliveredEvent). notices ++ MessageReceived (s.receive_queue.received.sends + 1) None (whole_message s send.payload) ∷ []) h.link.told) told
+
+    done : 0 < s.place → (with_frame s Fpdu frame).ended ≡ None → ReadTakes (on_link v (after_call (record { awaited = Fpdu; rest = []; state = with_frame s Fpdu frame }) NextEvent)) x rest → (r : IsResponse s frame) → r.last ≡ true → TakesMemory opened k (next_frame s frame)
+    done place lives_on memory r is =
+        inl (read_outputs opened k so_far v frame x rest h place some lives_on r is (sym h.reads ∙ reads) (subst (λ (l : LinkSide). ReadTakes (on_link v l) x rest) (done_link_is opened k so_far v frame h lives_on r is) memory))
+
+    last : (with_frame s Fpdu frame).ended ≡ None → (with_frame s Fpdu frame).receive_queue.notices ≡ ReadDone ∷ [] → (r : IsResponse s frame) → (b : Bool) → r.last ≡ b → r.last ≡ true
+    last lives_on told r true is = is
+    last lives_on told r false is = absurd (none_told (with_frame s Fpdu frame).receive_queue.notices (response_notices opened k so_far v frame h lives_on r false is) told)
+
+    either : 0 < s.place → (with_frame s Fpdu frame).ended ≡ None → (with_frame s Fpdu frame).receive_queue.notices ≡ ReadDone ∷ [] → ReadTakes (on_link v (after_call (record { awaited = Fpdu; rest = []; state = with_frame s Fpdu frame }) NextEvent)) x rest → Lives s frame →
+        ((with_frame s Fpdu frame).send_queue ≡ s.send_queue) × TakesMemory opened k (next_frame s frame)
+    either place lives_on told memory (inl send) = absurd (sent lives_on told send send.last refl)
+    either place lives_on told memory (inr r) = (response_same s frame r lives_on r.last refl, done place lives_on memory r (last lives_on told r r.last refl))
+
+    by : Begins v.link → ((with_frame s v.link.awaited frame).send_queue ≡ s.send_queue) × TakesMemory opened k (next_frame s frame)
+    by (BeforeHello place awaited hello none) =
+        let as_hello : with_frame s v.link.awaited frame ≡ with_peer_hello (next_frame s frame) (hello_of Initiator frame) s = ap (λ (a : Awaited). with_frame s a frame) awaited in
+        absurd (none_told (with_frame s v.link.awaited frame).receive_queue.notices (ap (λ (t : LinkState). t.receive_queue.notices) as_hello ∙ hello_notices s (next_frame s frame) (hello_of Initiator frame) ∙ h.link.told) one)
+    by (AfterHello place awaited hello) =
+        let lives_on : (with_frame s Fpdu frame).ended ≡ None = subst (λ (a : Awaited). (with_frame s a frame).ended ≡ None) awaited lives in
+        let told_on = subst (λ (a : Awaited). (with_frame s a frame).receive_queue.notices ≡ ReadDone ∷ []) awaited one in
+        let memory = subst (λ (a : Awaited). ReadTakes (on_link v (after_call (record { awaited = Fpdu; rest = []; state = with_frame s a frame }) NextEvent)) x rest) awaited takes in
+        subst (λ (a : Awaited). ((with_frame s a frame).send_queue ≡ s.send_queue) × TakesMemory opened k (next_frame s frame)) (sym awaited) (either place lives_on told_on memory (frame_is opened k s frame h.link h.server lives_on))
+
+pub out_by_read : (v after : ResponderSide) (piece : List ℕ) (m : LinkSide) (x : PendingRead) (rest : List PendingRead) → end_of v ≡ None → IsPartial v.link.awaited v.link.rest → StepOf v.link piece m → m.state.ended ≡ None →
+    m.state.receive_queue.notices ≡ ReadDone ∷ [] → v.fetching.reads ≡ x ∷ rest → ReadRanOut (on_link v (after_call m NextEvent)) x rest after → RanOutAt v piece 0 after
+out_by_read v after piece m x rest live_now p step lives one reads ran =
+    let t = told_link_lem m (after_call m NextEvent) refl in
+    let ended = memory_ends (after_call m NextEvent) (after_call (after_call m NextEvent) OutOfMemory) (t.live ∙ lives) refl in
+    record {
+      stopped = v;
+      fed = empty_fed v p;
+      live = live_now;
+      ended = ap end_of ran.is_out ∙ ended.0;
+      same = record { calls = ap (λ (x : ResponderSide). x.calls) ran.is_out; ready = ap (λ (x : ResponderSide). x.ready) ran.is_out; credits = ap (λ (x : ResponderSide). x.credits) ran.is_out };
+      needs = λ opened end so_far keeps. needs opened end so_far keeps (ap (λ (x : ResponderSide). x.link.state.send_queue) ran.is_out ∙ ended.1) step;
+    }
+  where
+    needs : (opened : LinkParameters) (end : EndState ServerState) (so_far : InputState) → KeepsEnd opened end so_far v → after.link.state.send_queue ≡ (after_call m NextEvent).state.send_queue → StepOf v.link piece m →
+        (is_whole v.link.awaited (v.link.rest ++ piece) ≡ true) × ((after.link.state.send_queue ≡ v.link.state.send_queue) × TakesMemory opened end.state (frame_by v.link piece))
+    needs opened end so_far keeps same (Part w link) =
+        let h = (not_ended_lem opened end so_far v live_now keeps).1 in
+        let none : m.state.receive_queue.notices ≡ [] = ap (λ (l : LinkSide). l.state.receive_queue.notices) link ∙ h.link.told in
+        absurd (let two : [] ≡ ReadDone ∷ [] = sym none ∙ one in cc)
+    needs opened end so_far keeps same (WholeFrame frame w frame_is long link) =
+        let both = not_ended_lem opened end so_far v live_now keeps in
+        let h : Keeps opened end.state so_far v = both.1 in
+        let lives_on : (with_frame v.link.state v.link.awaited frame).ended ≡ None = sym (ap (λ (l : LinkSide). l.state.ended) link) ∙ lives in
+        let told_on : (with_frame v.link.state v.link.awaited frame).receive_queue.notices ≡ ReadDone ∷ [] = sym (ap (λ (l : LinkSide). l.state.receive_queue.notices) link) ∙ one in
+        let takes = subst (λ (l : LinkSide). ReadTakes (on_link v (after_call l NextEvent)) x rest) link ran.takes in
+        let found = read_needs opened end.state so_far v frame x rest h long lives_on told_on reads takes in (
+          w,
+          (
+            same ∙ told_same m ∙ ap (λ (l : LinkSide). l.state.send_queue) link ∙ found.0,
+            subst (λ (bytes : List ℕ). TakesMemory opened end.state (next_frame v.link.state bytes)) frame_is found.1,
+          ),
+        )
+
 out_frame : (v : ResponderSide) (opened : LinkParameters) (k : ServerState) (so_far : InputState) (frame : List ℕ) → Keeps opened k so_far v → 0 < length frame → output_len v.link.state.send_queue < output_len (with_frame v.link.state v.link.awaited frame).send_queue →
     (o : Option End) → (with_frame v.link.state v.link.awaited frame).ended ≡ o → Begins v.link → output_for (server_rules opened) (live k) (FrameReceived (next_frame v.link.state frame)) ≢ []
 out_frame v opened k so_far frame h long more (Some why) e begins =
@@ -225,8 +314,7 @@ out_frame v opened k so_far frame h long more None e (BeforeHello place awaited 
 out_frame v opened k so_far frame h long more None e (AfterHello place awaited hello) =
     let lives_on : (with_frame v.link.state Fpdu frame).ended ≡ None = subst (λ (a : Awaited). (with_frame v.link.state a frame).ended ≡ None) awaited e in
     let still : output_len v.link.state.send_queue < output_len (with_frame v.link.state Fpdu frame).send_queue = subst (λ (a : Awaited). output_len v.link.state.send_queue < output_len (with_frame v.link.state a frame).send_queue) awaited more in
-    let send : IsSend v.link.state frame = only_sends opened k v.link.state frame h.link h.no_regions lives_on in
-    absurd (let same = sent_same v.link.state frame send lives_on send.last refl in omega (arith, still, ap output_len same))
+    absurd (let same = lives_same v.link.state frame (frame_is opened k v.link.state frame h.link h.server lives_on) lives_on in omega (arith, still, ap output_len same))
 
 -- it ran out of memory in its side of the link
 pub out_by_link : (v after : ResponderSide) (piece : List ℕ) → end_of v ≡ None → IsPartial v.link.awaited v.link.rest → after ≡ on_link v (after_call v.link OutOfMemory) → makes_whole v.link piece ≡ true → QueuesOutput v.link piece → Fed v piece after

@@ -57,7 +57,7 @@ over_unread calls c reads new g ne h =
 -- ---- A chunk with bytes is read
 
 -- the total of a position with an entry that has no bytes before the others
-total_more : (r : ReadSegment) (read : List ReadSegment) (p : ℕ) → r.length ≡ 0 → total_at p read ≡ 0 → total_at p (r ∷ read) ≡ 0
+pub total_more : (r : ReadSegment) (read : List ReadSegment) (p : ℕ) → r.length ≡ 0 → total_at p read ≡ 0 → total_at p (r ∷ read) ≡ 0
 unfolding total_at
 total_more r read p none total = by (eqb r.position p)
   where

@@ -1,7 +1,7 @@
 -- What a responder's side of the link queues is what is due of the server of a run.
-use Rattle.std.proofs.Common.{◌≡◌, ℕ, ◌+◌, ◌-◌, ◌<◌, ◌≤◌, ◌^◌, Bool, true, false, eqb, cond, List, [], ◌∷◌, ◌++◌, length, drop, refl, sym, ap, ◌∙◌, arith, append_assoc, subst, length-append, length-drop}
+use Rattle.std.proofs.Common.{◌≡◌, ◌≢◌, ℕ, ◌+◌, ◌-◌, ◌<◌, ◌≤◌, ◌^◌, Bool, true, false, eqb, cond, List, [], ◌∷◌, ◌++◌, length, drop, refl, sym, ap, ◌∙◌, arith, append_assoc, subst, length-append, length-drop}
 use Rattle.std.specs.List.{AllByRecursion}
-use Rattle.std.proofs.lemmas.Bool.{eqb-true}
+use Rattle.std.proofs.lemmas.Bool.{eqb-true, le-ltb}
 use Rattle.std.proofs.lemmas.List.{append-nil, drop_all}
 use Rattle.std.proofs.Math.Nat.{mod-add-mod, mod-mod}
 use Rattle.nr_wire.specs.declared.hello.Side.TheVariants.{Responder}
@@ -9,12 +9,12 @@ use Rattle.nr_wire.specs.Constants.{REASON_FLAGS}
 use Rattle.nr_wire.specs.Segment.Segment.{Untagged}
 use Rattle.nr_link.specs.declared.end.End.{End}
 use Rattle.nr_link.specs.declared.end.End.TheVariants as ends
-use Rattle.nr_link.specs.Output.{cut, msn_word, send, refusing_hello}
+use Rattle.nr_link.specs.Output.{cut, msn_word, send, refusing_hello, terminate_message}
 use Rattle.nr_link.specs.Ending.{final_output, last_output, rejection}
 use Rattle.nr_endpoint.specs.SendQueue.{SendQueue, writable, next_number, with_hello, with_send, with_fpdus, with_end, written, output_len, send_output, ends_left}
 use Rattle.nr_responder.specs.ResponderState.{queued_bytes}
 use Rattle.nr_responder.specs.Keeping.{QueueHas, IsEnd, ends_queued}
-use Rattle.nr_endpoint.proofs.Queued.{send_some}
+use Rattle.nr_endpoint.proofs.Queued.{send_some, terminate_queues}
 use Rattle.nr_responder.proofs.Ends.{ends_none, ends_more, each_more, ends_drained, each_drained}
 
 -- ---- Numbers count modulo 2 ^ 32
@@ -175,3 +175,20 @@ greeted_has w d m r ends bytes q none h =
       requests_are = h.requests_are;
       responses = h.responses;
     }
+
+-- ---- What is written last has bytes
+
+abbrev empty_queue : SendQueue
+empty_queue = record { hello = []; fpdus = []; send_ends = []; response_ends = []; sends_left = 0; last_send = 0; last_request = 0 }
+
+terminates : (at reason : ℕ) → 5 ≤ reason → final_output (ends.Bad at reason) ≡ terminate_message reason
+unfolding final_output
+terminates at reason le = ap (λ (b : Bool). cond b [] (terminate_message reason)) (le-ltb reason 5 le)
+
+pub last_some : (at reason : ℕ) → 5 ≤ reason → last_output Responder (ends.Bad at reason) ≢ []
+unfolding with_end
+last_some at reason le none =
+    let end : End = ends.Bad at reason in
+    let queued : 0 < length (rejection Responder end) + length (final_output end) = terminate_queues Responder end reason empty_queue (terminates at reason le) in
+    let len : length (last_output Responder (ends.Bad at reason)) ≡ 0 = ap (λ (xs : List ℕ). length xs) none in
+    absurd (omega (arith, queued, len, length-append (rejection Responder (ends.Bad at reason)) (final_output (ends.Bad at reason))))

@@ -80,7 +80,7 @@ pub open_zero : (reads : List PendingRead) → open_responses 0 reads ≡ later_
 open_zero [] = refl
 open_zero (r ∷ reads) = λ i. record { sink = r.sink; at = (let e : r.at + 0 ≡ r.at = omega arith in e) i; left = (let e : r.size - 0 ≡ r.size = omega arith in e) i } ∷ later_responses reads
 
-later_append : (xs ys : List PendingRead) → later_responses (xs ++ ys) ≡ later_responses xs ++ later_responses ys
+pub later_append : (xs ys : List PendingRead) → later_responses (xs ++ ys) ≡ later_responses xs ++ later_responses ys
 later_append [] ys = refl
 later_append (x ∷ xs) ys = ap (λ (rs : List ExpectedResponse). open_response x ∷ rs) (later_append xs ys)
 

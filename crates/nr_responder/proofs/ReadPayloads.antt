@@ -13,7 +13,8 @@ use Rattle.nr_reduce.specs.ServerReads.{is_over, is_read, is_read_at}
 use Rattle.nr_reduce.specs.ServerMessages.{chunk_bytes, payload_of}
 use Rattle.nr_reduce.specs.ServerFrames.{call_of_number}
 use Rattle.nr_responder.specs.Keeping.{IsServer}
-use Rattle.nr_responder.specs.private.Reading.{open_sinks, sink_bytes}
+use Rattle.nr_responder.specs.Fetching.{open_sinks}
+use Rattle.nr_responder.specs.private.Reading.{sink_bytes}
 use Rattle.nr_responder.proofs.LastResponses.{sink_holds}
 use Rattle.nr_responder.proofs.ReadCases.{heard, found_number}
 

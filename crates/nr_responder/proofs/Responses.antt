@@ -285,7 +285,7 @@ response_part_keeps opened k s bytes stag to payload h is some none = record {
   queue = h.queue;
 }
 
-none_expected : (k : ServerState) (s : LinkState) (last : Bool) (stag to n : ℕ) → s.reads ≡ open_responses k.response_bytes (open_reads k) → is_expected (expected_response s.reads) last stag to n ≡ true → k.reads ≢ []
+pub none_expected : (k : ServerState) (s : LinkState) (last : Bool) (stag to n : ℕ) → s.reads ≡ open_responses k.response_bytes (open_reads k) → is_expected (expected_response s.reads) last stag to n ≡ true → k.reads ≢ []
 none_expected k s last stag to n reads is none =
     let nothing : s.reads ≡ [] = reads ∙ ap (λ (xs : List PendingRead). open_responses k.response_bytes (take 8 xs)) none in
     absurd (let two : false ≡ true = ap (λ (xs : List ExpectedResponse). is_expected (expected_response xs) last stag to n) (sym nothing) ∙ is in cc)

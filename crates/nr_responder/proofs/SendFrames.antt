@@ -23,7 +23,7 @@ use Rattle.nr_reduce.specs.Plans.{one_if}
 use Rattle.nr_reduce.specs.OfferedRegions.{Region}
 use Rattle.nr_reduce.specs.ServerState.{PendingCall, PendingRead, ReadyCall, ServerState, is_pending}
 use Rattle.nr_reduce.proofs.MemorySteps.{holds_later, received_later, offered_later}
-use Rattle.nr_responder.specs.Keeping.{OwnNumbers, OwnXids, OwnReady, IsReadyOf, IsInline, IsServer, LinkKeeps}
+use Rattle.nr_responder.specs.Keeping.{OwnNumbers, OwnXids, OwnReady, IsReadyOf, IsInline, HasPayload, ArePayloads, IsServer, LinkKeeps}
 use Rattle.nr_responder.specs.ResponderState.{unsent}
 use Rattle.nr_responder.proofs.ServerSteps.{with_received, with_inline_call, ready_call, none_of_number, over_pushed}
 
@@ -155,7 +155,7 @@ pub regions_later : (n m : ℕ) (regions : List Region) → n ≤ m → AllByRec
 regions_later n m [] le h = tt
 regions_later n m (r ∷ regions) le h = ((let a = h.0 in omega (arith, a, le)), regions_later n m regions le h.1)
 
-calls_pushed : (n : ℕ) (calls : List PendingCall) (c : PendingCall) → c.number ≤ n → AllByRecursion (λ x. x.number ≤ n) calls → AllByRecursion (λ x. x.number ≤ n) (calls ++ c ∷ [])
+pub calls_pushed : (n : ℕ) (calls : List PendingCall) (c : PendingCall) → c.number ≤ n → AllByRecursion (λ x. x.number ≤ n) calls → AllByRecursion (λ x. x.number ≤ n) (calls ++ c ∷ [])
 calls_pushed n [] c le h = (le, tt)
 calls_pushed n (x ∷ calls) c le h = (h.0, calls_pushed n calls c le h.1)
 
@@ -199,7 +199,7 @@ some_more p (x ∷ xs) c h = by (some_more p xs c) (p x) refl h
     by others true is h = ap (λ (b : Bool). b || list_any p (xs ++ c ∷ [])) is
     by others false is h = ap (λ (b : Bool). b || list_any p (xs ++ c ∷ [])) is ∙ others h
 
-last_more : {X : Type 0} (p : X → Bool) (xs : List X) (c : X) → p c ≡ true → list_any p (xs ++ c ∷ []) ≡ true
+pub last_more : {X : Type 0} (p : X → Bool) (xs : List X) (c : X) → p c ≡ true → list_any p (xs ++ c ∷ []) ≡ true
 last_more p [] c e = ap (λ (b : Bool). b || false) e
 last_more p (x ∷ xs) c e = by (last_more p xs c e) (p x)
   where
@@ -207,7 +207,7 @@ last_more p (x ∷ xs) c e = by (last_more p xs c e) (p x)
     by others true = refl
     by others false = others
 
-xids_pushed : (calls : List PendingCall) (c : PendingCall) → list_any (λ d. eqb d.xid c.xid) calls ≡ false → OwnXids calls → OwnXids (calls ++ c ∷ [])
+pub xids_pushed : (calls : List PendingCall) (c : PendingCall) → list_any (λ d. eqb d.xid c.xid) calls ≡ false → OwnXids calls → OwnXids (calls ++ c ∷ [])
 xids_pushed [] c none own = (refl, tt)
 xids_pushed (x ∷ calls) c none own = by (λ (n : list_any (λ d. eqb d.xid c.xid) calls ≡ false). xids_pushed calls c n own.1) (eqb x.xid c.xid) refl none
   where
@@ -256,7 +256,7 @@ no_payload x payload (y ∷ calls) none = by (no_payload x payload calls) (eqb y
     by others true is h = absurd cc
     by others false is h = ((λ e. absurd (eqb-false y.xid x is e)), others h)
 
-still_ready : (calls : List PendingCall) (reads : List PendingRead) (c : PendingCall) (ready : List ReadyCall) → list_any (λ d. eqb d.xid c.xid) calls ≡ false → AllByRecursion (IsReadyOf calls reads) ready →
+pub still_ready : (calls : List PendingCall) (reads : List PendingRead) (c : PendingCall) (ready : List ReadyCall) → list_any (λ d. eqb d.xid c.xid) calls ≡ false → AllByRecursion (IsReadyOf calls reads) ready →
     AllByRecursion (IsReadyOf (calls ++ c ∷ []) reads) ready
 still_ready calls reads c [] none h = tt
 still_ready calls reads c (r ∷ ready) none h = (
@@ -273,15 +273,33 @@ ready_last P [] r p h = (p, tt)
 ready_last P (x ∷ ready) r p h = (h.0, ready_last P ready r p h.1)
 
 -- the payloads of those that are ready, with one more
-pub payloads_told : (calls : List PendingCall) (reads : List PendingRead) (c : PendingCall) (stream : List ℕ) (ready : List ReadyCall) → c.inline ≡ Some stream → list_any (λ d. eqb d.xid c.xid) calls ≡ false → AllByRecursion (IsReadyOf calls reads) ready →
-    AllByRecursion (IsInline calls) ready → AllByRecursion (IsInline (calls ++ c ∷ [])) (ready ++ ready_call c stream ∷ [])
-payloads_told calls reads c stream [] inline none known h = (payload_pushed c.xid stream calls c (λ _. inline) (no_payload c.xid stream calls none), tt)
-payloads_told calls reads c stream (r ∷ ready) inline none known h = (
-  payload_pushed r.xid r.payload calls c (λ e. absurd (let two : true ≡ false = sym known.0.pending ∙ (ap (λ (y : ℕ). list_any (λ d. eqb d.xid y) calls) (sym e) ∙ none) in cc)) h.0,
-  payloads_told calls reads c stream ready inline none known.1 h.1,
-)
+still_payload : (calls : List PendingCall) (reads : List PendingRead) (c : PendingCall) (r : ReadyCall) (p : Option (List ℕ)) → list_any (λ d. eqb d.xid c.xid) calls ≡ false → IsReadyOf calls reads r → HasPayload calls r p → HasPayload (calls ++ c ∷ []) r p
+still_payload calls reads c r None none known h =
+    payload_pushed r.xid r.payload calls c (λ e. absurd (let two : true ≡ false = sym known.pending ∙ (ap (λ (y : ℕ). list_any (λ d. eqb d.xid y) calls) (sym e) ∙ none) in cc)) h
+still_payload calls reads c r (Some payload) none known h = h
 
-numbers_pushed : (n : ℕ) (calls : List PendingCall) (c : PendingCall) → c.number ≡ n + 1 → AllByRecursion (λ x. x.number ≤ n) calls → OwnNumbers calls → OwnNumbers (calls ++ c ∷ [])
+-- with one more call that isn't ready
+pub payloads_pushed : (calls : List PendingCall) (reads : List PendingRead) (c : PendingCall) (ready : List ReadyCall) (payloads : List (Option (List ℕ))) → list_any (λ d. eqb d.xid c.xid) calls ≡ false → AllByRecursion (IsReadyOf calls reads) ready →
+    ArePayloads calls ready payloads → ArePayloads (calls ++ c ∷ []) ready payloads
+payloads_pushed calls reads c [] [] none known h = tt
+payloads_pushed calls reads c [] (p ∷ payloads) none known h = absurd h
+payloads_pushed calls reads c (r ∷ ready) [] none known h = absurd h
+payloads_pushed calls reads c (r ∷ ready) (p ∷ payloads) none known h = (still_payload calls reads c r p none known.0 h.0, payloads_pushed calls reads c ready payloads none known.1 h.1)
+
+-- with one more that is ready
+pub payloads_ready : (calls : List PendingCall) (r : ReadyCall) (p : Option (List ℕ)) (ready : List ReadyCall) (payloads : List (Option (List ℕ))) → HasPayload calls r p → ArePayloads calls ready payloads →
+    ArePayloads calls (ready ++ r ∷ []) (payloads ++ p ∷ [])
+payloads_ready calls r p [] [] has h = (has, tt)
+payloads_ready calls r p [] (q ∷ payloads) has h = absurd h
+payloads_ready calls r p (x ∷ ready) [] has h = absurd h
+payloads_ready calls r p (x ∷ ready) (q ∷ payloads) has h = (h.0, payloads_ready calls r p ready payloads has h.1)
+
+pub payloads_told : (calls : List PendingCall) (reads : List PendingRead) (c : PendingCall) (stream : List ℕ) (ready : List ReadyCall) (payloads : List (Option (List ℕ))) → c.inline ≡ Some stream → list_any (λ d. eqb d.xid c.xid) calls ≡ false → AllByRecursion (IsReadyOf calls reads) ready →
+    ArePayloads calls ready payloads → ArePayloads (calls ++ c ∷ []) (ready ++ ready_call c stream ∷ []) (payloads ++ None ∷ [])
+payloads_told calls reads c stream ready payloads inline none known h =
+    payloads_ready (calls ++ c ∷ []) (ready_call c stream) None ready payloads (payload_pushed c.xid stream calls c (λ _. inline) (no_payload c.xid stream calls none)) (payloads_pushed calls reads c ready payloads none known h)
+
+pub numbers_pushed : (n : ℕ) (calls : List PendingCall) (c : PendingCall) → c.number ≡ n + 1 → AllByRecursion (λ x. x.number ≤ n) calls → OwnNumbers calls → OwnNumbers (calls ++ c ∷ [])
 numbers_pushed n [] c is h own = (refl, tt)
 numbers_pushed n (x ∷ calls) c is h own =
     (none_more (λ (d : PendingCall). eqb d.number x.number) calls c own.0 (ne_eqb c.number x.number (λ e. (let le : x.number ≤ n = h.0 in omega (arith, e, is, le)))), numbers_pushed n calls c is h.1 own.1)

@@ -9,10 +9,7 @@ use Rattle.nr_reduce.specs.OfferedMemory.{AreOffered, AreReceived, HoldsRegions,
 use Rattle.nr_reduce.specs.StandingLaws.{StagsFrom}
 use Rattle.nr_reduce.specs.ServerReads.{regions_from}
 use Rattle.nr_reduce.proofs.MemorySteps.{holds_registered, offered_registered}
-
-abbrev pub registered : List Region → RegisteredMemory → RegisteredMemory
-registered [] m = m
-registered (r ∷ regions) m = registered regions (after_register m r.right r.bytes)
+use Rattle.nr_responder.specs.CallsRead.{registered}
 
 -- regions that begin now
 abbrev pub BeginAt : ℕ → List Region → Type 0

@@ -10,7 +10,8 @@ use Rattle.nr_reduce.specs.OfferedMemory.{AreOffered, region_at, registered_regi
 use Rattle.nr_reduce.specs.StandingLaws.{StagsFrom}
 use Rattle.nr_reduce.specs.ServerState.{PendingCall, PendingRead}
 use Rattle.nr_reduce.specs.ServerReads.{is_over}
-use Rattle.nr_responder.specs.private.Reading.{SinkRegion, sink_of_region, open_if, open_sinks, is_sink_over, over_sinks, left_sinks, released}
+use Rattle.nr_responder.specs.Fetching.{SinkRegion, sink_of_region, open_if, open_sinks}
+use Rattle.nr_responder.specs.private.Reading.{is_sink_over, over_sinks, left_sinks, released}
 
 -- ---- The sinks that are left
 

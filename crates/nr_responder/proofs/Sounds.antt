@@ -14,7 +14,7 @@ use Rattle.nr_responder.specs.declared.call.Pending.{Pending}
 use Rattle.nr_responder.specs.ResponderState.{unsent, drained_posted, left_by}
 use Rattle.nr_responder.specs.Sound.{InBuffer, AreSound}
 use Rattle.nr_responder.proofs.Executed.{with_answer, fewer_wait}
-use Rattle.nr_responder.proofs.Handled.{SameCounts}
+use Rattle.nr_responder.proofs.FrameCounts.{SameCounts}
 use Rattle.nr_responder.proofs.Posted.{ended_as, sent_link, told_link_lem}
 use Rattle.nr_responder.proofs.Removed.{length_removed, all_removed, all_pushed_lem}
 

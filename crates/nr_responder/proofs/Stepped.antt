@@ -19,9 +19,9 @@ use Rattle.nr_endpoint.specs.ReceiveQueue.DeliveredEvent.{MessageReceived, ReadD
 use Rattle.nr_endpoint.specs.LinkState.{LinkState, LinkSide}
 use Rattle.nr_endpoint.specs.Judging.{next_frame, with_frame, with_peer_hello}
 use Rattle.nr_endpoint.specs.Calls.{after_call, makes_whole, QueuesOutput}
-use Rattle.nr_endpoint.specs.Calls.Call.{FeedOne, OutOfMemory}
+use Rattle.nr_endpoint.specs.Calls.Call.{FeedOne, NextEvent, OutOfMemory}
 use Rattle.nr_reduce.specs.declared.mark.LinkParameters.{LinkParameters}
-use Rattle.nr_reduce.specs.ServerState.{ServerState}
+use Rattle.nr_reduce.specs.ServerState.{PendingRead, ServerState}
 use Rattle.nr_responder.specs.ResponderState.{ResponderSide, end_of}
 use Rattle.nr_responder.specs.Keeping.{Begins, Keeps}
 use Rattle.nr_responder.specs.Keeping.Begins.{BeforeHello, AfterHello}
@@ -37,8 +37,10 @@ use Rattle.nr_responder.specs.Sound.{AreSound}
 use Rattle.nr_responder.proofs.Handled.{Goes, RanOutOf, makes_handled, step_counts, same_fed}
 use Rattle.nr_responder.proofs.Posted.{memory_as}
 use Rattle.nr_responder.proofs.Sounds.{sound_step, sound_ended}
-use Rattle.nr_responder.proofs.Inline.{IsSend, only_sends}
-use Rattle.nr_responder.proofs.Out.{out_by_link, out_by_message}
+use Rattle.nr_responder.specs.ReadsDone.{ReadHandled, ReadRanOut}
+use Rattle.nr_responder.proofs.Responses.{IsSend, IsResponse, Lives, frame_is, none_expected}
+use Rattle.nr_responder.proofs.ReadsTaken.{response_notices}
+use Rattle.nr_responder.proofs.Out.{out_by_link, out_by_message, out_by_read}
 use Rattle.nr_responder.proofs.Pieces.{fed_parts}
 use Rattle.nr_responder.proofs.SendFrames.{frame_lives, part_framed, last_framed}
 use Rattle.nr_responder.proofs.Steps.{hello_notices}
@@ -85,12 +87,12 @@ failed_within l m piece end fed out = by end fed out
 
 -- ---- What a step delivers
 
--- nothing, or one message
-abbrev pub FewNotices : List DeliveredEvent → Type 0
-FewNotices notices = (notices ≡ []) ⊎ ((number : ℕ) × ((message : List ℕ) × (notices ≡ MessageReceived number None message ∷ [])))
+-- nothing, one message, or a read that is done
+abbrev pub FewNotices : List PendingRead → List DeliveredEvent → Type 0
+FewNotices reads notices = (notices ≡ []) ⊎ (((number : ℕ) × ((message : List ℕ) × (notices ≡ MessageReceived number None message ∷ []))) ⊎ ((notices ≡ ReadDone ∷ []) × (reads ≢ [])))
 
 send_notices : (opened : LinkParameters) (k : ServerState) (so_far : InputState) (v : ResponderSide) (frame : List ℕ) → Keeps opened k so_far v → (with_frame v.link.state Fpdu frame).ended ≡ None → (send : IsSend v.link.state frame) → (b : Bool) → send.last ≡ b →
-    FewNotices (with_frame v.link.state Fpdu frame).receive_queue.notices
+    FewNotices v.fetching.reads (with_frame v.link.state Fpdu frame).receive_queue.notices
 send_notices opened k so_far v frame h lives send false is =
     let s : LinkState = v.link.state in
     let reads : segment_of frame ≡ Ok (Untagged false OPCODE_SEND send.w send.queue_number send.msn send.offset send.payload) = send.reads ∙ ap (λ (b : Bool). Ok (Untagged b OPCODE_SEND send.w send.queue_number send.msn send.offset send.payload)) is in
@@ -101,28 +103,38 @@ send_notices opened k so_far v frame h lives send true is =
     let reads : segment_of frame ≡ Ok (Untagged true OPCODE_SEND send.w send.queue_number send.msn send.offset send.payload) = send.reads ∙ ap (λ (b : Bool). Ok (Untagged b OPCODE_SEND send.w send.queue_number send.msn send.offset send.payload)) is in
     let state = (frame_lives s frame (Untagged true OPCODE_SEND send.w send.queue_number send.msn send.offset send.payload) reads lives).1 ∙ last_framed s frame send.w send.queue_number send.msn send.offset send.payload in
     let whole : List ℕ = whole_message s send.payload in
-    inr (
+    inr (inl (
       s.receive_queue.received.sends + 1,
       (
         whole,
         ap (λ (t : LinkState). t.receive_queue.notices) state ∙ ap (λ (notices : List DeliveredEvent). notices ++ MessageReceived (s.receive_queue.received.sends + 1) None whole ∷ []) h.link.told,
       ),
-    )
+    ))
+
+read_notices : (opened : LinkParameters) (k : ServerState) (so_far : InputState) (v : ResponderSide) (frame : List ℕ) → Keeps opened k so_far v → (with_frame v.link.state Fpdu frame).ended ≡ None → (r : IsResponse v.link.state frame) → (b : Bool) → r.last ≡ b →
+    FewNotices v.fetching.reads (with_frame v.link.state Fpdu frame).receive_queue.notices
+read_notices opened k so_far v frame h lives r false is = inl (response_notices opened k so_far v frame h lives r false is)
+read_notices opened k so_far v frame h lives r true is =
+    inr (inr (response_notices opened k so_far v frame h lives r true is, (λ none. none_expected k v.link.state r.last r.stag r.to (length r.payload) h.link.reads r.expected (sym h.reads ∙ none))))
+
+fpdu_notices : (opened : LinkParameters) (k : ServerState) (so_far : InputState) (v : ResponderSide) (frame : List ℕ) → Keeps opened k so_far v → (with_frame v.link.state Fpdu frame).ended ≡ None → Lives v.link.state frame →
+    FewNotices v.fetching.reads (with_frame v.link.state Fpdu frame).receive_queue.notices
+fpdu_notices opened k so_far v frame h lives (inl send) = send_notices opened k so_far v frame h lives send send.last refl
+fpdu_notices opened k so_far v frame h lives (inr r) = read_notices opened k so_far v frame h lives r r.last refl
 
 frame_notices : (opened : LinkParameters) (k : ServerState) (so_far : InputState) (v : ResponderSide) (frame : List ℕ) → Keeps opened k so_far v → (with_frame v.link.state v.link.awaited frame).ended ≡ None → Begins v.link →
-    FewNotices (with_frame v.link.state v.link.awaited frame).receive_queue.notices
+    FewNotices v.fetching.reads (with_frame v.link.state v.link.awaited frame).receive_queue.notices
 frame_notices opened k so_far v frame h lives (BeforeHello place awaited hello none) =
     let as_hello : with_frame v.link.state v.link.awaited frame ≡ with_peer_hello (next_frame v.link.state frame) (hello_of Initiator frame) v.link.state = ap (λ (a : Awaited). with_frame v.link.state a frame) awaited in
     inl (ap (λ (t : LinkState). t.receive_queue.notices) as_hello ∙ hello_notices v.link.state (next_frame v.link.state frame) (hello_of Initiator frame) ∙ h.link.told)
 frame_notices opened k so_far v frame h lives (AfterHello place awaited hello) =
     let lives_on : (with_frame v.link.state Fpdu frame).ended ≡ None = subst (λ (a : Awaited). (with_frame v.link.state a frame).ended ≡ None) awaited lives in
-    let send : IsSend v.link.state frame = only_sends opened k v.link.state frame h.link h.no_regions lives_on in
-    subst (λ (a : Awaited). FewNotices (with_frame v.link.state a frame).receive_queue.notices) (sym awaited) (send_notices opened k so_far v frame h lives_on send send.last refl)
+    subst (λ (a : Awaited). FewNotices v.fetching.reads (with_frame v.link.state a frame).receive_queue.notices) (sym awaited) (fpdu_notices opened k so_far v frame h lives_on (frame_is opened k v.link.state frame h.link h.server lives_on))
 
-few_notices : (opened : LinkParameters) (k : ServerState) (so_far : InputState) (v : ResponderSide) (piece : List ℕ) (m : LinkSide) → Keeps opened k so_far v → m.state.ended ≡ None → StepOf v.link piece m → FewNotices m.state.receive_queue.notices
+few_notices : (opened : LinkParameters) (k : ServerState) (so_far : InputState) (v : ResponderSide) (piece : List ℕ) (m : LinkSide) → Keeps opened k so_far v → m.state.ended ≡ None → StepOf v.link piece m → FewNotices v.fetching.reads m.state.receive_queue.notices
 few_notices opened k so_far v piece m h lives (Part w link) = inl (ap (λ (l : LinkSide). l.state.receive_queue.notices) link ∙ h.link.told)
 few_notices opened k so_far v piece m h lives (WholeFrame frame w frame_is long link) =
-    subst (λ (l : LinkSide). FewNotices l.state.receive_queue.notices) (sym link) (frame_notices opened k so_far v frame h (sym (ap (λ (l : LinkSide). l.state.ended) link) ∙ lives) h.begins)
+    subst (λ (l : LinkSide). FewNotices v.fetching.reads l.state.receive_queue.notices) (sym link) (frame_notices opened k so_far v frame h (sym (ap (λ (l : LinkSide). l.state.ended) link) ∙ lives) h.begins)
 
 -- ---- A step after which something was delivered
 
@@ -147,30 +159,34 @@ went_on v after piece n (Some end) is fed =
 pub same_message : (a b : ℕ) (i j : Option ℕ) (x y : List ℕ) (rest others : List DeliveredEvent) → MessageReceived a i x ∷ rest ≡ MessageReceived b j y ∷ others → (a ≡ b) × (x ≡ y)
 same_message a b i j x y rest others is = ((let h : a ≡ b = cc in h), (let h : x ≡ y = cc in h))
 
-not_two : (number : ℕ) (invalidated : Option ℕ) (bytes : List ℕ) (x : DeliveredEvent) (rest : List DeliveredEvent) → FewNotices (MessageReceived number invalidated bytes ∷ (x ∷ rest)) → ⊥
-not_two number invalidated bytes x rest (inl none) = absurd cc
-not_two number invalidated bytes x rest (inr one) = (let e : MessageReceived number invalidated bytes ∷ (x ∷ rest) ≡ MessageReceived one.0 None one.1.0 ∷ [] = one.1.1 in cc)
+not_two : (reads : List PendingRead) (number : ℕ) (invalidated : Option ℕ) (bytes : List ℕ) (x : DeliveredEvent) (rest : List DeliveredEvent) → FewNotices reads (MessageReceived number invalidated bytes ∷ (x ∷ rest)) → ⊥
+not_two reads number invalidated bytes x rest (inl none) = absurd cc
+not_two reads number invalidated bytes x rest (inr (inl one)) = (let e : MessageReceived number invalidated bytes ∷ (x ∷ rest) ≡ MessageReceived one.0 None one.1.0 ∷ [] = one.1.1 in cc)
+not_two reads number invalidated bytes x rest (inr (inr done)) = (let e : MessageReceived number invalidated bytes ∷ (x ∷ rest) ≡ ReadDone ∷ [] = done.0 in cc)
 
-not_read : (rest : List DeliveredEvent) → FewNotices (ReadDone ∷ rest) → ⊥
-not_read rest (inl none) = absurd cc
-not_read rest (inr one) = (let e : ReadDone ∷ rest ≡ MessageReceived one.0 None one.1.0 ∷ [] = one.1.1 in cc)
+not_more : (reads : List PendingRead) (x : DeliveredEvent) (rest : List DeliveredEvent) → FewNotices reads (ReadDone ∷ (x ∷ rest)) → ⊥
+not_more reads x rest (inl none) = absurd cc
+not_more reads x rest (inr (inl one)) = (let e : ReadDone ∷ (x ∷ rest) ≡ MessageReceived one.0 None one.1.0 ∷ [] = one.1.1 in cc)
+not_more reads x rest (inr (inr done)) = (let e : ReadDone ∷ (x ∷ rest) ≡ ReadDone ∷ [] = done.0 in cc)
 
-pub step_done : (v after : ResponderSide) (piece : List ℕ) (m : LinkSide) → end_of v ≡ None → IsPartial v.link.awaited v.link.rest → m ≡ after_call v.link (FeedOne piece) → m.state.ended ≡ None → IsTaken (on_link v m) after →
+not_read : (reads : List PendingRead) → reads ≡ [] → FewNotices reads (ReadDone ∷ []) → ⊥
+not_read reads none (inl never) = absurd cc
+not_read reads none (inr (inl one)) = (let e : ReadDone ∷ [] ≡ MessageReceived one.0 None one.1.0 ∷ [] = one.1.1 in cc)
+not_read reads none (inr (inr done)) = done.1 none
+
+pub step_done_by : (v after : ResponderSide) (piece : List ℕ) (m : LinkSide) → end_of v ≡ None → IsPartial v.link.awaited v.link.rest → StepOf v.link piece m → m.state.ended ≡ None → IsTaken (on_link v m) after →
     Fed v (take (taken_at (end_of after) (length piece) (bytes_taken v.link.awaited v.link.rest piece)) piece) after
-step_done v after piece m live p is lives taken = by m.state.receive_queue.notices refl
+step_done_by v after piece m live p step lives taken = by m.state.receive_queue.notices refl
   where
     n : ℕ
     n = bytes_taken v.link.awaited v.link.rest piece
 
-    step : StepOf v.link piece m
-    step = step_of v.link m piece p live is
-
     goes : ((k : ServerState) → IsServerOf k (on_link v m) → IsHandled k (on_link v m) after) → FedOn v (take n piece) after
     goes handled = step_goes v after piece m live p step lives handled
 
-    never : (notices : List DeliveredEvent) → m.state.receive_queue.notices ≡ notices → (FewNotices notices → ⊥) → FedOn v (take n piece) after
+    never : (notices : List DeliveredEvent) → m.state.receive_queue.notices ≡ notices → (FewNotices v.fetching.reads notices → ⊥) → FedOn v (take n piece) after
     never notices found wrong opened end so_far keeps =
-        absurd (wrong (subst FewNotices found (few_notices opened end.state so_far v piece m (not_ended_lem opened end so_far v live keeps).1 lives step)))
+        absurd (wrong (subst (FewNotices v.fetching.reads) found (few_notices opened end.state so_far v piece m (not_ended_lem opened end so_far v live keeps).1 lives step)))
 
     message : (number : ℕ) (invalidated : Option ℕ) (bytes : List ℕ) → m.state.receive_queue.notices ≡ MessageReceived number invalidated bytes ∷ [] → Goes (on_link v m) number bytes after ⊎ RanOutOf (on_link v m) number bytes after →
         Fed v (take (taken_at (end_of after) (length piece) n) piece) after
@@ -180,14 +196,43 @@ step_done v after piece m live p is lives taken = by m.state.receive_queue.notic
           some = λ other j x found count.
               let same = same_message other number j invalidated x bytes [] [] (sym found ∙ one) in
               subst (λ (b : List ℕ). Handled k b (on_link v m) after) (sym same.1) (handled k server (sym same.0 ∙ count));
+          read = λ done x rest reads. absurd (let two : ReadDone ∷ [] ≡ MessageReceived number invalidated bytes ∷ [] = sym done ∙ one in cc);
         }))
     message number invalidated bytes one (inr ran) =
         let out = out_by_message v after piece m number invalidated bytes [] live p step lives one ran in
         subst (λ (o : Option End). Fed v (take (taken_at o (length piece) n) piece) after) (sym out.ended) (subst (λ (bytes : List ℕ). Fed v bytes after) (sym (take_all (length piece) piece (omega arith))) (RanOut 0 out))
 
+    same_reads : (x y : PendingRead) (rest others : List PendingRead) → v.fetching.reads ≡ x ∷ rest → v.fetching.reads ≡ y ∷ others → x ∷ rest ≡ y ∷ others
+    same_reads x y rest others this that = sym this ∙ that
+
+    done : (x : PendingRead) (rest : List PendingRead) → m.state.receive_queue.notices ≡ ReadDone ∷ [] → v.fetching.reads ≡ x ∷ rest → ReadHandled (on_link v (after_call m NextEvent)) x rest after ⊎ ReadRanOut (on_link v (after_call m NextEvent)) x rest after →
+        Fed v (take (taken_at (end_of after) (length piece) n) piece) after
+    done x rest one reads (inl handled) =
+        went_on v after piece n (end_of after) refl (goes (λ k server. record {
+          none = λ none. absurd (let two : [] ≡ ReadDone ∷ [] = sym none ∙ one in cc);
+          some = λ number j b found count. absurd (let two : ReadDone ∷ [] ≡ MessageReceived number j b ∷ [] = sym one ∙ found in cc);
+          read = λ told y others found.
+              let both : x ∷ rest ≡ y ∷ others = same_reads x y rest others reads found in
+              let first : x ≡ y = cc in
+              let others_are : rest ≡ others = cc in
+              subst (λ (r : PendingRead). ReadHandled (on_link v (after_call m NextEvent)) r others after) first (subst (λ (rs : List PendingRead). ReadHandled (on_link v (after_call m NextEvent)) x rs after) others_are handled);
+        }))
+    done x rest one reads (inr ran) =
+        let out = out_by_read v after piece m x rest live p step lives one reads ran in
+        subst (λ (o : Option End). Fed v (take (taken_at o (length piece) n) piece) after) (sym out.ended) (subst (λ (bytes : List ℕ). Fed v bytes after) (sym (take_all (length piece) piece (omega arith))) (RanOut 0 out))
+
+    read : m.state.receive_queue.notices ≡ ReadDone ∷ [] → (reads : List PendingRead) → v.fetching.reads ≡ reads → Fed v (take (taken_at (end_of after) (length piece) n) piece) after
+    read one [] none = went_on v after piece n (end_of after) refl (never (ReadDone ∷ []) one (not_read v.fetching.reads none))
+    read one (x ∷ rest) is = done x rest one is (taken.read one x rest is)
+
     by : (notices : List DeliveredEvent) → m.state.receive_queue.notices ≡ notices → Fed v (take (taken_at (end_of after) (length piece) n) piece) after
     by [] none =
-        went_on v after piece n (end_of after) refl (goes (λ k server. record { none = λ e. taken.none none; some = λ number j x found count. absurd (let two : [] ≡ MessageReceived number j x ∷ [] = sym none ∙ found in cc) }))
+        went_on v after piece n (end_of after) refl (goes (λ k server. record { none = λ e. taken.none none; some = λ number j x found count. absurd (let two : [] ≡ MessageReceived number j x ∷ [] = sym none ∙ found in cc); read = λ done x rest reads. absurd (let two : [] ≡ ReadDone ∷ [] = sym none ∙ done in cc) }))
     by (MessageReceived number invalidated bytes ∷ []) one = message number invalidated bytes one (makes_handled (on_link v m) after number bytes (taken.some number invalidated bytes one))
-    by (MessageReceived number invalidated bytes ∷ (x ∷ rest)) found = went_on v after piece n (end_of after) refl (never (MessageReceived number invalidated bytes ∷ (x ∷ rest)) found (not_two number invalidated bytes x rest))
-    by (ReadDone ∷ rest) found = went_on v after piece n (end_of after) refl (never (ReadDone ∷ rest) found (not_read rest))
+    by (MessageReceived number invalidated bytes ∷ (x ∷ rest)) found = went_on v after piece n (end_of after) refl (never (MessageReceived number invalidated bytes ∷ (x ∷ rest)) found (not_two v.fetching.reads number invalidated bytes x rest))
+    by (ReadDone ∷ []) found = read found v.fetching.reads refl
+    by (ReadDone ∷ (x ∷ rest)) found = went_on v after piece n (end_of after) refl (never (ReadDone ∷ (x ∷ rest)) found (not_more v.fetching.reads x rest))
+
+pub step_done : (v after : ResponderSide) (piece : List ℕ) (m : LinkSide) → end_of v ≡ None → IsPartial v.link.awaited v.link.rest → m ≡ after_call v.link (FeedOne piece) → m.state.ended ≡ None → IsTaken (on_link v m) after →
+    Fed v (take (taken_at (end_of after) (length piece) (bytes_taken v.link.awaited v.link.rest piece)) piece) after
+step_done v after piece m live p is lives taken = step_done_by v after piece m live p (step_of v.link m piece p live is) lives taken

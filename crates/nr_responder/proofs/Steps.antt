@@ -1,5 +1,5 @@
 -- One step of a responder on a piece of the client's stream.
-use Rattle.std.proofs.Common.{◌≡◌, ◌≢◌, ℕ, ◌+◌, ◌<◌, Bool, true, false, cond, List, [], ◌∷◌, ◌++◌, length, Option, None, Result, Ok, Err, refl, sym, ap, subst, ◌∙◌, arith, inl}
+use Rattle.std.proofs.Common.{◌≡◌, ◌≢◌, ℕ, ◌+◌, ◌<◌, Bool, true, false, cond, List, [], ◌∷◌, ◌++◌, length, Option, None, Result, Ok, Err, refl, sym, ap, subst, ◌∙◌, arith, inl, inr}
 use Rattle.std.proofs.lemmas.List.{append-nil}
 use Rattle.std.proofs.lemmas.Bool.{eq-eqb}
 use Rattle.nr_wire.specs.declared.hello.Side.{Side}
@@ -36,13 +36,19 @@ use Rattle.nr_responder.specs.ResponderState.{ResponderSide, queued_bytes}
 use Rattle.nr_responder.specs.Keeping.{Begins, Keeps, KeepsEnd}
 use Rattle.nr_responder.specs.Keeping.Begins.{BeforeHello, AfterHello}
 use Rattle.nr_responder.specs.Handling.{Handled, IsHandled, on_link, with_ready, inline_call}
-use Rattle.nr_responder.specs.Handling.Handled.{Stopped, Refused, Ready}
+use Rattle.nr_responder.specs.CallsRead.{complete_call, reading_call}
+use Rattle.nr_responder.specs.Handling.Handled.{Stopped, Refused, Ready, Fetched, Completed}
 use Rattle.nr_responder.proofs.Queues.{hello_queue}
 use Rattle.nr_responder.proofs.Executed.{with_message}
 use Rattle.nr_responder.proofs.SendFrames.{frame_lives, part_framed, last_framed}
 use Rattle.nr_responder.proofs.Frames.{behind, TakesFrame, hello_link, server_later, own_hello_server}
 use Rattle.nr_responder.proofs.Whole.{part_takes, ready_takes, refused_takes, stopped_takes, told_link, told_framed, whole_message}
-use Rattle.nr_responder.proofs.Inline.{IsSend, only_sends}
+use Rattle.nr_responder.proofs.CallsAtOnce.{complete_takes}
+use Rattle.nr_responder.proofs.CallsRead.{reading_takes}
+use Rattle.nr_responder.proofs.Told.{told_is_lem, sent_is, stopped_is}
+use Rattle.nr_responder.proofs.Responses.{IsSend, IsResponse, Lives, frame_is}
+use Rattle.nr_responder.proofs.ReadsHandled.{read_takes}
+use Rattle.nr_responder.proofs.ReadsTaken.{response_part_takes, response_notices, some_reads}
 
 -- ---- The hello
 
@@ -74,8 +80,9 @@ greeted opened k so_far v frame hello h place none some reads =
       calls = h.calls;
       ready = h.ready;
       credits = h.credits;
+      reads = h.reads;
+      sinks = h.sinks;
       payloads = h.payloads;
-      no_regions = h.no_regions;
       quiet = λ e. absurd (omega (arith, e, some));
     } in
     record {
@@ -114,22 +121,6 @@ hello_takes opened k so_far v frame h place awaited none some lives = by (hello_
 abbrev pub link_behind : LinkSide → List ℕ → LinkSide
 link_behind l frame = record { awaited = Fpdu; rest = []; state = with_frame l.state l.awaited frame }
 
-told_is_lem : (l : LinkSide) → l.awaited ≡ Fpdu → l.rest ≡ [] → after_call l NextEvent ≡ record { awaited = Fpdu; rest = []; state = record l.state { receive_queue = delivered l.state.receive_queue } }
-unfolding after_call
-told_is_lem l a r = λ i. record { awaited = a i; rest = r i; state = record l.state { receive_queue = delivered l.state.receive_queue } }
-
-sent_is : (l : LinkSide) (s : LinkState) (message : List ℕ) → l ≡ record { awaited = Fpdu; rest = []; state = s } → s.ended ≡ None → after_call l (Send message) ≡ record { awaited = Fpdu; rest = []; state = with_message s message }
-unfolding after_call
-sent_is l s message is live =
-    ap (λ (x : LinkSide). after_call x (Send message)) is
-    ∙ ap (λ (t : LinkState). record { awaited = Fpdu; rest = []; state = t }) (live_state s (with_message s message) live)
-
-stopped_is : (l : LinkSide) (s : LinkState) (reason : ℕ) → l ≡ record { awaited = Fpdu; rest = []; state = s } → s.ended ≡ None → after_call l (Stop reason) ≡ record { awaited = Fpdu; rest = []; state = with_end_of (ends.Bad s.last reason) s }
-unfolding after_call
-stopped_is l s reason is live =
-    ap (λ (x : LinkSide). after_call x (Stop reason)) is
-    ∙ ap (λ (t : LinkState). record { awaited = Fpdu; rest = []; state = t }) (live_state s (with_end_of (ends.Bad s.last reason) s) live)
-
 message_takes : (opened : LinkParameters) (k : ServerState) (so_far : InputState) (v after : ResponderSide) (frame : List ℕ) (w queue_number msn offset : ℕ) (payload : List ℕ) → Keeps opened k so_far v → 0 < v.link.state.place → v.link.awaited ≡ Fpdu → 0 < length frame →
     segment_of frame ≡ Ok (Untagged true OPCODE_SEND w queue_number msn offset payload) → (with_frame v.link.state Fpdu frame).ended ≡ None →
     Handled k (whole_message v.link.state payload) (on_link v (record { awaited = Fpdu; rest = []; state = with_frame v.link.state Fpdu frame })) after →
@@ -156,11 +147,21 @@ message_takes opened k so_far v after frame w queue_number msn offset payload h 
     let link : after_call (record { awaited = Fpdu; rest = []; state = with_frame s Fpdu frame }) NextEvent ≡ record { awaited = Fpdu; rest = []; state = told_link s frame } = told_is_lem (record { awaited = Fpdu; rest = []; state = with_frame s Fpdu frame }) refl refl in
     subst (λ (x : ResponderSide). TakesFrame opened k (behind so_far frame) (next_frame s frame) v x) (sym (is ∙ ap (λ (l : LinkSide). with_ready v l (inline_call k xid write reply stream)) link))
     (ready_takes opened k so_far v frame w queue_number msn offset payload xid write reply stream head h some long reads lives new judged call own)
+message_takes opened k so_far v after frame w queue_number msn offset payload h some awaited long reads lives (Fetched c own new judged chunks is) =
+    let s : LinkState = v.link.state in
+    let link : after_call (record { awaited = Fpdu; rest = []; state = with_frame s Fpdu frame }) NextEvent ≡ record { awaited = Fpdu; rest = []; state = told_link s frame } = told_is_lem (record { awaited = Fpdu; rest = []; state = with_frame s Fpdu frame }) refl refl in
+    subst (λ (x : ResponderSide). TakesFrame opened k (behind so_far frame) (next_frame s frame) v x) (sym (is ∙ ap (λ (l : LinkSide). reading_call (on_link v l) c) link))
+    (reading_takes opened k so_far v frame w queue_number msn offset payload c h some long reads lives own new judged chunks)
+message_takes opened k so_far v after frame w queue_number msn offset payload h some awaited long reads lives (Completed c whole own new judged none ready is) =
+    let s : LinkState = v.link.state in
+    let link : after_call (record { awaited = Fpdu; rest = []; state = with_frame s Fpdu frame }) NextEvent ≡ record { awaited = Fpdu; rest = []; state = told_link s frame } = told_is_lem (record { awaited = Fpdu; rest = []; state = with_frame s Fpdu frame }) refl refl in
+    subst (λ (x : ResponderSide). TakesFrame opened k (behind so_far frame) (next_frame s frame) v x) (sym (is ∙ ap (λ (l : LinkSide). complete_call (on_link v l) c whole) link))
+    (complete_takes opened k so_far v frame w queue_number msn offset payload c whole h some long reads lives own new judged none ready)
 
-fpdu_takes : (opened : LinkParameters) (k : ServerState) (so_far : InputState) (v after : ResponderSide) (frame : List ℕ) → Keeps opened k so_far v → 0 < v.link.state.place → v.link.awaited ≡ Fpdu → 0 < length frame →
+send_takes : (opened : LinkParameters) (k : ServerState) (so_far : InputState) (v after : ResponderSide) (frame : List ℕ) → Keeps opened k so_far v → 0 < v.link.state.place → v.link.awaited ≡ Fpdu → 0 < length frame →
     (with_frame v.link.state Fpdu frame).ended ≡ None → IsHandled k (on_link v (record { awaited = Fpdu; rest = []; state = with_frame v.link.state Fpdu frame })) after → IsSend v.link.state frame →
     TakesFrame opened k (behind so_far frame) (next_frame v.link.state frame) v after
-fpdu_takes opened k so_far v after frame h some awaited long lives handled send = by send.last refl
+send_takes opened k so_far v after frame h some awaited long lives handled send = by send.last refl
   where
     s : LinkState
     s = v.link.state
@@ -178,6 +179,24 @@ fpdu_takes opened k so_far v after frame h some awaited long lives handled send 
         let one : (with_frame s Fpdu frame).receive_queue.notices ≡ MessageReceived (s.receive_queue.received.sends + 1) None (whole_message s send.payload) ∷ [] =
         ap (λ (t : LinkState). t.receive_queue.notices) state ∙ ap (λ (notices : List DeliveredEvent). notices ++ MessageReceived (s.receive_queue.received.sends + 1) None (whole_message s send.payload) ∷ []) h.link.told in
         message_takes opened k so_far v after frame send.w send.queue_number send.msn send.offset send.payload h some awaited long reads lives (handled.some (s.receive_queue.received.sends + 1) None (whole_message s send.payload) one (ap (λ (r : ReceiveState). r.sends + 1) h.link.received))
+
+-- a segment of the awaited Read Response
+response_takes : (opened : LinkParameters) (k : ServerState) (so_far : InputState) (v after : ResponderSide) (frame : List ℕ) → Keeps opened k so_far v → 0 < v.link.state.place → 0 < length frame →
+    (with_frame v.link.state Fpdu frame).ended ≡ None → IsHandled k (on_link v (record { awaited = Fpdu; rest = []; state = with_frame v.link.state Fpdu frame })) after → (r : IsResponse v.link.state frame) → (b : Bool) → r.last ≡ b →
+    TakesFrame opened k (behind so_far frame) (next_frame v.link.state frame) v after
+response_takes opened k so_far v after frame h some long lives handled r false is =
+    subst (λ (x : ResponderSide). TakesFrame opened k (behind so_far frame) (next_frame v.link.state frame) v x) (sym (handled.none (response_notices opened k so_far v frame h lives r false is)))
+    (response_part_takes opened k so_far v frame h some long lives r is)
+response_takes opened k so_far v after frame h some long lives handled r true is =
+    let reads = some_reads opened k so_far v frame h r in
+    read_takes opened k so_far v after frame reads.0 reads.1.0 h some long lives r is reads.1.1
+    (handled.read (response_notices opened k so_far v frame h lives r true is) reads.0 reads.1.0 (h.reads ∙ reads.1.1))
+
+fpdu_takes : (opened : LinkParameters) (k : ServerState) (so_far : InputState) (v after : ResponderSide) (frame : List ℕ) → Keeps opened k so_far v → 0 < v.link.state.place → v.link.awaited ≡ Fpdu → 0 < length frame →
+    (with_frame v.link.state Fpdu frame).ended ≡ None → IsHandled k (on_link v (record { awaited = Fpdu; rest = []; state = with_frame v.link.state Fpdu frame })) after → Lives v.link.state frame →
+    TakesFrame opened k (behind so_far frame) (next_frame v.link.state frame) v after
+fpdu_takes opened k so_far v after frame h some awaited long lives handled (inl send) = send_takes opened k so_far v after frame h some awaited long lives handled send
+fpdu_takes opened k so_far v after frame h some awaited long lives handled (inr r) = response_takes opened k so_far v after frame h some long lives handled r r.last refl
 
 pub hello_notices : (s : LinkState) (f : Frame) (r : Result Hello ℕ) → (with_peer_hello f r s).receive_queue.notices ≡ s.receive_queue.notices
 unfolding with_peer_hello
@@ -202,4 +221,4 @@ frame_takes opened k so_far v after frame h long lives handled = by h.begins
         let lives_on : (with_frame v.link.state Fpdu frame).ended ≡ None = subst (λ (a : Awaited). (with_frame v.link.state a frame).ended ≡ None) awaited lives in
         let handled_on : IsHandled k (on_link v (record { awaited = Fpdu; rest = []; state = with_frame v.link.state Fpdu frame })) after =
         subst (λ (a : Awaited). IsHandled k (on_link v (record { awaited = Fpdu; rest = []; state = with_frame v.link.state a frame })) after) awaited handled in
-        fpdu_takes opened k so_far v after frame h place awaited long lives_on handled_on (only_sends opened k v.link.state frame h.link h.no_regions lives_on)
+        fpdu_takes opened k so_far v after frame h place awaited long lives_on handled_on (frame_is opened k v.link.state frame h.link h.server lives_on)

@@ -93,7 +93,7 @@ pub lives_on_lem : (opened : LinkParameters) (k : ServerState) (input : InputSta
     frame_end (readiness opened k) (region_grants (v.link.state.place + length frame) k.regions) (next_frame v.link.state frame) ≡ None
 lives_on_lem opened k input v frame h behind_hello some lives = sym (frame_ends opened k v.link.state frame h.link h.server some) ∙ lives
 
-begun_behind : (l : LinkSide) (s : LinkState) → Begins l → 0 < l.state.place → s.has_hello ≡ l.state.has_hello → 0 < s.place → Begins (record { awaited = Fpdu; rest = []; state = s })
+pub begun_behind : (l : LinkSide) (s : LinkState) → Begins l → 0 < l.state.place → s.has_hello ≡ l.state.has_hello → 0 < s.place → Begins (record { awaited = Fpdu; rest = []; state = s })
 begun_behind l s (BeforeHello place awaited hello none) some same later = absurd (omega (arith, place, some))
 begun_behind l s (AfterHello place awaited hello) some same later = AfterHello later refl (same ∙ hello)
 
@@ -124,8 +124,9 @@ part_takes opened k input v frame w queue_number msn offset payload h behind_hel
       calls = h.calls;
       ready = h.ready;
       credits = h.credits;
+      reads = h.reads;
+      sinks = h.sinks;
       payloads = h.payloads;
-      no_regions = h.no_regions;
       quiet = λ e. absurd (omega (arith, e, behind_hello));
     } in
     let kept_now : Keeps opened (with_received (send_continued k.received false payload) k) (behind input frame) (on_link v (record { awaited = Fpdu; rest = []; state = with_frame s Fpdu frame })) =
@@ -203,8 +204,9 @@ ready_takes opened k input v frame w queue_number msn offset payload xid write r
       calls = ap (λ (cs : List PendingCall). cs ++ c ∷ []) h.calls;
       ready = ap (λ (xs : List ℕ). xs ++ c.xid ∷ []) h.ready ∙ sym (map-append (λ (r : ReadyCall). r.xid) k.ready (ready_call c stream ∷ []));
       credits = h.credits;
-      payloads = payloads_told k.calls k.reads c stream k.ready refl new h.server.ready h.payloads;
-      no_regions = h.no_regions;
+      reads = h.reads;
+      sinks = h.sinks;
+      payloads = payloads_told k.calls k.reads c stream k.ready v.fetching.payloads refl new h.server.ready h.payloads;
       quiet = λ e. absurd (omega (arith, e, behind_hello));
     } in
     let kept_now : Keeps opened k' (behind input frame) (with_ready v (record { awaited = Fpdu; rest = []; state = told_link s frame }) c) =
@@ -322,8 +324,9 @@ refused_takes opened k input v frame w queue_number msn offset payload message h
       calls = h.calls;
       ready = h.ready;
       credits = h.credits;
+      reads = h.reads;
+      sinks = h.sinks;
       payloads = h.payloads;
-      no_regions = h.no_regions;
       quiet = λ e. absurd (omega (arith, e, behind_hello));
     } in
     let kept_now : Keeps opened k' (behind input frame) (on_link v (record { awaited = Fpdu; rest = []; state = with_message (told_link s frame) message })) =
@@ -348,7 +351,7 @@ refuses opened k f s reason later lives effect fine =
       due = ap (λ (e : Option End). output_for_by (server_rules opened) k (FrameReceived f) e) why;
     }
 
-greeted_link : (l : LinkSide) (s : LinkState) → Begins l → 0 < l.state.place → s.has_hello ≡ l.state.has_hello → s.has_hello ≡ true
+pub greeted_link : (l : LinkSide) (s : LinkState) → Begins l → 0 < l.state.place → s.has_hello ≡ l.state.has_hello → s.has_hello ≡ true
 greeted_link l s (BeforeHello place awaited hello none) some same = absurd (omega (arith, place, some))
 greeted_link l s (AfterHello place awaited hello) some same = same ∙ hello
 

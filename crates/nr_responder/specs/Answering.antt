@@ -13,6 +13,7 @@ use Rattle.nr_reduce.specs.ServerState.{PendingCall}
 use Rattle.nr_reduce.specs.Server.{answer_of_target}
 use Rattle.nr_responder.specs.declared.call.Sent.{Sent}
 use Rattle.nr_responder.specs.declared.call.Sent.TheVariants as sents
+use Rattle.nr_responder.specs.Fetching.{payload_taken}
 use Rattle.nr_responder.specs.ResponderState.{ResponderSide}
 
 -- the message of an answer, and the bytes of its RDMA Writes: ERR_CHUNK if the offer doesn't hold the reply
@@ -47,7 +48,13 @@ answered_by at writes message v = record {
   calls = remove v.calls at;
   ready = drop 1 v.ready;
   credits = v.credits;
+  fetching = payload_taken v.fetching;
 }
+
+-- the payload of a call that is ready: the stream of its Send, or what was read
+abbrev pub IsPayload : PendingCall → Option (List ℕ) → List ℕ → Type 0
+IsPayload call None stream = call.inline ≡ Some stream
+IsPayload call (Some payload) stream = stream ≡ payload
 
 pub record Answers (before after : ResponderSide) (xid : ℕ) (reply : List ℕ) (sent : Sent) : Type 0 where
   pub at : ℕ
@@ -55,7 +62,9 @@ pub record Answers (before after : ResponderSide) (xid : ℕ) (reply : List ℕ)
   pub place : slice_get before.calls at ≡ Some call
   pub own : call.xid ≡ xid
   pub stream : List ℕ
-  pub inline : call.inline ≡ Some stream
+  pub payload : Option (List ℕ)
+  pub first : slice_get before.fetching.payloads 0 ≡ Some payload
+  pub conveyed : IsPayload call payload stream
   pub writes : List RemoteWrite
   pub written : writes_output writes ≡ writes_for call.lists (answer_to call stream reply)
   pub state : after ≡ answered_by at writes (message_for xid before.credits call.lists (answer_to call stream reply)) before

@@ -1,22 +1,27 @@
 -- What a responder makes of a message that its side of the link delivered.
-use Rattle.std.specs.Prelude.{◌≡◌, ◌≢◌, ℕ, ◌+◌, ◌≤◌, List, [], ◌∷◌, ◌++◌, drop, Option, Some, Result, Ok, Err, ◌⊎◌, true, false}
+use Rattle.std.specs.Prelude.{◌≡◌, ◌≢◌, ℕ, ◌+◌, ◌≤◌, List, [], ◌∷◌, ◌++◌, drop, Option, None, Some, Result, Ok, Err, ◌⊎◌, true, false}
 use Rattle.nr_header.specs.declared.header.RdmaSegment.{RdmaSegment}
 use Rattle.nr_header.specs.declared.header.ChunkLists.{ChunkLists}
 use Rattle.nr_xdr.specs.Fields.{word_at}
 use Rattle.nr_rpc.specs.declared.head.CallHead.{CallHead}
 use Rattle.nr_rpc.specs.Reading.{call_of}
 use Rattle.nr_link.specs.Reasons.{REASON_HEAD, REASON_XID}
-use Rattle.nr_endpoint.specs.ReceiveQueue.DeliveredEvent.{MessageReceived}
+use Rattle.nr_endpoint.specs.ReceiveQueue.DeliveredEvent.{MessageReceived, ReadDone}
 use Rattle.nr_endpoint.specs.LinkState.{LinkSide}
 use Rattle.nr_endpoint.specs.Calls.{after_call}
 use Rattle.nr_endpoint.specs.Calls.Call.{NextEvent, Stop, Send, OutOfMemory}
 use Rattle.nr_reduce.specs.Holds.{chunk_error, version_error}
-use Rattle.nr_reduce.specs.ServerState.{PendingCall, ServerState, is_pending}
-use Rattle.nr_reduce.specs.ServerReads.{is_read}
-use Rattle.nr_reduce.specs.ServerMessages.{verdict, call_xid}
+use Rattle.nr_reduce.specs.ServerState.{PendingCall, PendingRead, ServerState, is_pending, next_stag}
+use Rattle.nr_reduce.specs.ServerReads.{chunks_of, is_read}
+use Rattle.nr_reduce.specs.ServerMessages.{by_payload, verdict, call_xid}
+use Rattle.nr_reduce.specs.ServerMessages.CallVerdict.{IsReady as BecomesReady, Refuses as RefusedFor}
 use Rattle.nr_reduce.specs.ServerMessages.Verdict.{EndsLink, OtherVersion, BadChunks, MakesPending}
 use Rattle.nr_reduce.specs.ServerFrames.{FrameEffect, no_effect, by_message}
+use Rattle.nr_responder.specs.Fetching.{payload_added}
 use Rattle.nr_responder.specs.ResponderState.{ResponderSide}
+use Rattle.nr_responder.specs.Keeping.{IsServer}
+use Rattle.nr_responder.specs.CallsRead.{HasNoBytes, complete_call, payload_at_once, reading_call}
+use Rattle.nr_responder.specs.ReadsDone.{ReadHandled, ReadRanOut}
 use Rattle.nr_responder.specs.Views.{IsCall}
 
 -- a pending call without a read chunk
@@ -28,10 +33,10 @@ abbrev pub refused_effect : ServerState → List ℕ → FrameEffect
 refused_effect k message = record (no_effect k) { errors = message ∷ [] }
 
 abbrev pub on_link : ResponderSide → LinkSide → ResponderSide
-on_link v l = record { link = l; calls = v.calls; ready = v.ready; credits = v.credits }
+on_link v l = record { link = l; calls = v.calls; ready = v.ready; credits = v.credits; fetching = v.fetching }
 
 abbrev pub with_ready : ResponderSide → LinkSide → PendingCall → ResponderSide
-with_ready v l c = record { link = l; calls = v.calls ++ c ∷ []; ready = v.ready ++ c.xid ∷ []; credits = v.credits }
+with_ready v l c = record { link = l; calls = v.calls ++ c ∷ []; ready = v.ready ++ c.xid ∷ []; credits = v.credits; fetching = payload_added None v.fetching }
 
 -- the side that ran out of memory
 abbrev pub out : ResponderSide → ResponderSide
@@ -40,12 +45,15 @@ out v = on_link v (after_call v.link OutOfMemory)
 abbrev pub OrOut : ResponderSide → LinkSide → ResponderSide → Type 0
 OrOut v l after = (after ≡ on_link v l) ⊎ (after ≡ out v)
 
--- the server of a run whose calls a responder keeps: nothing is read for a Send that comes now, and it has no region
+-- the server of a run whose calls and reads a responder keeps: nothing is read for a Send that comes now
 pub record IsServerOf (k : ServerState) (v : ResponderSide) : Type 0 where
   pub calls : k.calls ≡ v.calls
   pub credits : k.credit ≡ v.credits
+  pub reads : k.reads ≡ v.fetching.reads
   pub new_read : is_read k.reads (k.received.sends + 1) ≡ true
-  pub no_regions : k.regions ≡ []
+  pub next : next_stag k ≡ v.link.state.memory.next
+  pub place : ℕ
+  pub is_server : IsServer k place
 
 -- ---- What the code made of a message with a number
 
@@ -76,6 +84,11 @@ pub record HasReadChunk (k : ServerState) (message : List ℕ) : Type 0 where
   pub judged : verdict k message ≡ MakesPending call
   pub chunk : call.lists.read ≢ []
 
+-- a message with a call of which some chunk is to be read
+pub record IsReadCall (k : ServerState) (message : List ℕ) (xid : ℕ) (lists : ChunkLists) (inline : Option (List ℕ)) : Type 0 where
+  pub own : is_pending k xid ≡ false
+  pub pending : verdict k message ≡ MakesPending (record { number = k.received.sends + 1; xid = xid; lists = lists; inline = inline })
+
 -- The server has output of its own for a message, or the message makes a call with a read chunk pending: it may run out of memory.
 pub data MessageTakes (k : ServerState) (message : List ℕ) : Type 0 where
   EndsFor : (reason : ℕ) → ((place : ℕ) → (by_message k place (Some message)).refusal ≡ Some reason) → 5 ≤ reason → MessageTakes k message
@@ -89,25 +102,40 @@ pub data Makes (before : ResponderSide) (number : ℕ) (message : List ℕ) (aft
   RefusesChunks : OfServers (λ k. verdict k message ≡ BadChunks) before →
       OrOut before (after_call before.link (Send (chunk_error (word_at 0 message) before.credits))) after → Makes before number message after
   Calls : (lists : ChunkLists) (stream_at : ℕ) → OfServers (λ k. IsCall k message lists stream_at) before → Begins before after number message lists stream_at → Makes before number message after
+  Fetches : (xid : ℕ) (lists : ChunkLists) (inline : Option (List ℕ)) → OfServers (λ k. IsReadCall k message xid lists inline) before → chunks_of lists ≢ [] →
+      after ≡ reading_call before (record { number = number; xid = xid; lists = lists; inline = inline }) → Makes before number message after
+  Completes : (xid : ℕ) (lists : ChunkLists) (inline : Option (List ℕ)) (payload : List ℕ) → OfServers (λ k. IsReadCall k message xid lists inline) before → HasNoBytes lists.read →
+      by_payload (record { number = number; xid = xid; lists = lists; inline = inline }) (payload_at_once (record { number = number; xid = xid; lists = lists; inline = inline })) ≡ BecomesReady (record { number = number; xid = xid; payload = payload }) →
+      after ≡ complete_call before (record { number = number; xid = xid; lists = lists; inline = inline }) payload → Makes before number message after
+  EndsAtOnce : (xid : ℕ) (lists : ChunkLists) (inline : Option (List ℕ)) (reason : ℕ) → 5 ≤ reason → OfServers (λ k. IsReadCall k message xid lists inline) before → HasNoBytes lists.read →
+      by_payload (record { number = number; xid = xid; lists = lists; inline = inline }) (payload_at_once (record { number = number; xid = xid; lists = lists; inline = inline })) ≡ RefusedFor reason →
+      OrOut before (after_call before.link (Stop reason)) after → Makes before number message after
   LeavesReads : OfServers (λ k. MessageTakes k message) before → after ≡ out before → Makes before number message after
 
 -- ---- What it is for a server
 
--- It stops the link for the reason of the server, queues the server's error message, or has one call more, which is ready.
+-- It stops the link for the reason of the server, queues the server's error message, or has one call more, which is ready or is read.
 pub data Handled (k : ServerState) (message : List ℕ) (before after : ResponderSide) : Type 0 where
   Stopped : (reason : ℕ) → ((place : ℕ) → (by_message k place (Some message)).refusal ≡ Some reason) → 5 ≤ reason → after ≡ on_link before (after_call (after_call before.link NextEvent) (Stop reason)) → Handled k message before after
   Refused : (answer : List ℕ) → ((place : ℕ) → by_message k place (Some message) ≡ refused_effect k answer) → after ≡ on_link before (after_call (after_call before.link NextEvent) (Send answer)) → Handled k message before after
   Ready : (xid : ℕ) (write : List (List RdmaSegment)) (reply : Option (List RdmaSegment)) (stream : List ℕ) (head : CallHead) → is_pending k xid ≡ false →
       verdict k message ≡ MakesPending (inline_call k xid write reply stream) → call_of stream ≡ Ok head → call_xid head ≡ xid →
       after ≡ with_ready before (after_call before.link NextEvent) (inline_call k xid write reply stream) → Handled k message before after
+  Fetched : (c : PendingCall) → c.number ≡ k.received.sends + 1 → is_pending k c.xid ≡ false → verdict k message ≡ MakesPending c → chunks_of c.lists ≢ [] →
+      after ≡ reading_call (on_link before (after_call before.link NextEvent)) c → Handled k message before after
+  Completed : (c : PendingCall) (payload : List ℕ) → c.number ≡ k.received.sends + 1 → is_pending k c.xid ≡ false → verdict k message ≡ MakesPending c → HasNoBytes c.lists.read →
+      by_payload c (payload_at_once c) ≡ BecomesReady (record { number = c.number; xid = c.xid; payload = payload }) → after ≡ complete_call (on_link before (after_call before.link NextEvent)) c payload → Handled k message before after
 
 -- what was made of what the link delivered
 pub record IsHandled (k : ServerState) (before after : ResponderSide) : Type 0 where
   pub none : before.link.state.receive_queue.notices ≡ [] → after ≡ before
   pub some : (number : ℕ) (invalidated : Option ℕ) (m : List ℕ) → before.link.state.receive_queue.notices ≡ MessageReceived number invalidated m ∷ [] → number ≡ k.received.sends + 1 → Handled k m before after
+  pub read : before.link.state.receive_queue.notices ≡ ReadDone ∷ [] → (r : PendingRead) (rest : List PendingRead) → before.fetching.reads ≡ r ∷ rest → ReadHandled (on_link before (after_call before.link NextEvent)) r rest after
 
 -- what the code made of it
 pub record IsTaken (before after : ResponderSide) : Type 0 where
   pub none : before.link.state.receive_queue.notices ≡ [] → after ≡ before
   pub some : (number : ℕ) (invalidated : Option ℕ) (m : List ℕ) → before.link.state.receive_queue.notices ≡ MessageReceived number invalidated m ∷ [] →
       Makes (on_link before (after_call before.link NextEvent)) number m after
+  pub read : before.link.state.receive_queue.notices ≡ ReadDone ∷ [] → (r : PendingRead) (rest : List PendingRead) → before.fetching.reads ≡ r ∷ rest →
+      ReadHandled (on_link before (after_call before.link NextEvent)) r rest after ⊎ ReadRanOut (on_link before (after_call before.link NextEvent)) r rest after

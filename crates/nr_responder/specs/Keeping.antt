@@ -1,5 +1,5 @@
 -- What a responder keeps of the state of a server of a run.
-use Rattle.std.specs.Prelude.{◌≡◌, ℕ, ◌+◌, ◌-◌, ◌<◌, ◌≤◌, ◌==◌, nat_lt, true, false, List, [], ◌∷◌, length, map, None, Some, is_some, ◌⊎◌}
+use Rattle.std.specs.Prelude.{◌≡◌, ℕ, ◌+◌, ◌-◌, ◌<◌, ◌≤◌, ◌==◌, nat_lt, true, false, List, [], ◌∷◌, length, map, Option, None, Some, is_some, ◌⊎◌}
 use Rattle.std.specs.List.{AllByRecursion, list_any, filter}
 use Rattle.nr_wire.specs.declared.hello.Side.TheVariants.{Initiator, Responder}
 use Rattle.nr_wire.specs.declared.stream.Awaited.TheVariants.{Hello as HelloFrom, Fpdu}
@@ -19,6 +19,7 @@ use Rattle.nr_reduce.specs.EndRules.{EndState}
 use Rattle.nr_reduce.specs.ServerState.{PendingCall, PendingRead, ReadyCall, ServerState, next_stag}
 use Rattle.nr_reduce.specs.ServerReads.{open_reads, is_read, is_over}
 use Rattle.nr_reduce.specs.StandingLaws.{StagsFrom}
+use Rattle.nr_responder.specs.Fetching.{open_sinks}
 use Rattle.nr_responder.specs.ResponderState.{ResponderSide, unsent, end_of, queue, may_write}
 
 -- no two pending calls have one number, or one xid, nor have two calls that are ready one xid
@@ -43,6 +44,17 @@ pub record IsReadyOf (calls : List PendingCall) (reads : List PendingRead) (r : 
 -- its payload is the stream of its Send
 abbrev pub IsInline : List PendingCall → ReadyCall → Type 0
 IsInline calls r = AllByRecursion (λ c. c.xid ≡ r.xid → c.inline ≡ Some r.payload) calls
+
+-- or it was read with its chunks
+abbrev pub HasPayload : List PendingCall → ReadyCall → Option (List ℕ) → Type 0
+HasPayload calls r None = IsInline calls r
+HasPayload calls r (Some payload) = payload ≡ r.payload
+
+abbrev pub ArePayloads : List PendingCall → List ReadyCall → List (Option (List ℕ)) → Type 0
+ArePayloads calls [] [] = Unit {0}
+ArePayloads calls [] (p ∷ payloads) = ⊥
+ArePayloads calls (r ∷ ready) [] = ⊥
+ArePayloads calls (r ∷ ready) (p ∷ payloads) = HasPayload calls r p × ArePayloads calls ready payloads
 
 -- The state of a server, as it comes along a run where so many bytes were received: its regions are sinks under the STags from 1 on,
 -- those that are over are closed and no others, and nothing has the number of a Send that hasn't come.
@@ -116,7 +128,7 @@ pub record LinkKeeps (opened : LinkParameters) (k : ServerState) (s : LinkState)
   pub next : s.memory.next ≡ next_stag k
   pub queue : QueueKeeps k s.send_queue
 
--- No call that is pending has a read chunk.
+-- What a responder keeps of a server's state.
 pub record Keeps (opened : LinkParameters) (k : ServerState) (input_now : InputState) (v : ResponderSide) : Type 0 where
   pub link : LinkKeeps opened k v.link.state
   pub input : KeepsInput v.link input_now
@@ -125,8 +137,9 @@ pub record Keeps (opened : LinkParameters) (k : ServerState) (input_now : InputS
   pub calls : v.calls ≡ k.calls
   pub ready : v.ready ≡ map (λ r. r.xid) k.ready
   pub credits : v.credits ≡ k.credit
-  pub payloads : AllByRecursion (IsInline k.calls) k.ready
-  pub no_regions : k.regions ≡ []
+  pub reads : v.fetching.reads ≡ k.reads
+  pub sinks : v.fetching.sinks ≡ open_sinks k.regions
+  pub payloads : ArePayloads k.calls k.ready v.fetching.payloads
   pub quiet : v.link.state.place ≡ 0 → (v.ready ≡ []) × (k.message_ends ≡ [])
 
 -- One that has ended keeps why, and the calls and the credits of the server as it ended. All of its queue may be written.

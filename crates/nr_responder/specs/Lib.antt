@@ -1,9 +1,12 @@
 pub mod Answering
 pub mod Codes
 pub mod Draining
+pub mod CallsRead
+pub mod ReadsDone
 pub mod Handling
 pub mod Keeping
 pub mod Laws
+pub mod Fetching
 pub mod ResponderState
 pub mod Sound
 pub mod Standing

@@ -1,6 +1,6 @@
 -- What contracts see of a responder: its side of the link; the calls that it has not answered, in the order of their Sends; the xids of
--- those that wait to be executed, in the order in which they became ready; its credits; and the whole staging buffer, which begins with
--- the bytes of the frame that isn't complete.
+-- those that wait to be executed, in the order in which they became ready; its credits; what it fetches; and the whole staging buffer, which
+-- begins with the bytes of the frame that isn't complete.
 use Rattle.std.specs.Prelude.{◌≡◌, ℕ, ◌+◌, ◌-◌, ◌*◌, max, List, [], ◌++◌, length, drop, Option}
 use Rattle.nr_wire.specs.declared.hello.Side.TheVariants.{Responder}
 use Rattle.nr_link.specs.declared.end.End.{End}
@@ -9,12 +9,14 @@ use Rattle.nr_endpoint.specs.LinkState.{LinkState, LinkSide, initial_link}
 use Rattle.nr_endpoint.specs.EndpointState.{bytes_of, cut_frame_len}
 use Rattle.nr_link.specs.Limits.{send_max}
 use Rattle.nr_reduce.specs.ServerState.{PendingCall}
+use Rattle.nr_responder.specs.Fetching.{Fetching, nothing_fetched}
 
 pub record ResponderSide : Type 0 where
   pub link : LinkSide
   pub calls : List PendingCall
   pub ready : List ℕ
   pub credits : ℕ
+  pub fetching : Fetching
 
 pub record ResponderState : Type 0 where
   pub side : ResponderSide
@@ -22,7 +24,7 @@ pub record ResponderState : Type 0 where
 
 -- the side as it is opened with so many credits: its first region gets the STag 1
 abbrev pub opened_side : ℕ → ResponderSide
-opened_side credits = record { link = initial_link Responder credits 1; calls = []; ready = []; credits = credits }
+opened_side credits = record { link = initial_link Responder credits 1; calls = []; ready = []; credits = credits; fetching = nothing_fetched }
 
 -- A feed changes the staging buffer only in two prefixes: that of the bytes which are staged after it, and that of the frame which the
 -- bytes staged before it begin, as far as it was fed.
@@ -81,4 +83,5 @@ after_drain v n = record {
   calls = v.calls;
   ready = v.ready;
   credits = v.credits;
+  fetching = v.fetching;
 }

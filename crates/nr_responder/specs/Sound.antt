@@ -1,5 +1,5 @@
 -- What a responder keeps of its own, whatever the marks.
-use Rattle.std.specs.Prelude.{◌≡◌, ◌⊎◌, ℕ, ◌+◌, ◌≤◌, List, [], length, map, Some, All, slice_get, vec_capacity}
+use Rattle.std.specs.Prelude.{◌≡◌, ◌⊎◌, ℕ, ◌+◌, ◌≤◌, List, [], length, map, Option, None, Some, All, slice_get, vec_capacity}
 use Rattle.std.specs.VecDeque.{deque_capacity}
 use Rattle.std.specs.FinMap.{empty}
 use Rattle.nr_header.specs.WithinLimits.{ListsWithin}
@@ -8,11 +8,19 @@ use Rattle.nr_endpoint.specs.LinkState.{LinkState, LinkSide}
 use Rattle.nr_link.specs.Limits.{send_max}
 use Rattle.nr_responder.specs.declared.call.Pending.{Pending}
 use Rattle.nr_responder.specs.declared.server_end.ServerEnd.{ServerEnd}
+use Rattle.nr_responder.specs.Fetching.{Fetching}
 use Rattle.nr_responder.specs.ResponderState.{ResponderSide, ResponderState, unsent}
 use Rattle.nr_responder.specs.Views.{call_view}
 
+-- nothing is read: the payload of each call is the stream of its Send
+abbrev pub plain_payloads : List ℕ → List (Option (List ℕ))
+plain_payloads ready = map (λ _. None) ready
+
+abbrev pub plain_fetching : List ℕ → Fetching
+plain_fetching ready = record { reads = []; sinks = []; payloads = plain_payloads ready }
+
 abbrev pub state_of : ServerEnd → ResponderSide
-state_of r = record { link = r.endpoint.link; calls = map call_view r.calls.items; ready = r.ready.items; credits = r.credits }
+state_of r = record { link = r.endpoint.link; calls = map call_view r.calls.items; ready = r.ready.items; credits = r.credits; fetching = plain_fetching r.ready.items }
 
 abbrev pub with_staging : ServerEnd → ResponderState
 with_staging r = record { side = state_of r; staging = r.endpoint.staging }

@@ -1,5 +1,5 @@
 -- What the code keeps, as the definitions of a run see it.
-use Rattle.std.specs.Prelude.{◌≡◌, ◌≢◌, ℕ, ◌+◌, ◌≤◌, false, List, [], length, take, drop, Some, ◌⊎◌}
+use Rattle.std.specs.Prelude.{◌≡◌, ◌≢◌, ℕ, ◌+◌, ◌≤◌, ◌&&◌, Bool, true, false, List, [], length, take, drop, Option, None, Some, ◌⊎◌}
 use Rattle.nr_header.specs.declared.header.ChunkLists.{ChunkLists}
 use Rattle.nr_header.specs.declared.header.Body.{Body}
 use Rattle.nr_header.specs.declared.header.Body.TheVariants.{Msg, Nomsg}
@@ -7,7 +7,9 @@ use Rattle.nr_header.specs.WithinLimits.{ListsWithin}
 use Rattle.nr_link.specs.Reasons.{REASON_KIND, REASON_CALL, REASON_STAGS}
 use Rattle.nr_xdr.specs.Fields.{word_at}
 use Rattle.nr_reduce.specs.ServerState.{PendingCall, ServerState, is_pending}
-use Rattle.nr_reduce.specs.ServerMessages.{verdict, by_body}
+use Rattle.nr_header.specs.declared.header.ReadSegment.{ReadSegment}
+use Rattle.nr_reduce.specs.Chunks.{is_read_chunk_of_item}
+use Rattle.nr_reduce.specs.ServerMessages.{verdict, by_body, has_position, no_stream}
 use Rattle.nr_reduce.specs.ServerMessages.Verdict.{EndsLink, OtherVersion, BadChunks, MakesPending}
 use Rattle.nr_responder.specs.declared.call.Pending.{Pending}
 use Rattle.nr_responder.specs.declared.judging.Judged.{Judged}
@@ -45,11 +47,23 @@ HasStream message judged.BadChunks = Unit {0}
 HasStream message (judged.Call lists stream_at) = (stream_at ≤ length message) × ListsWithin lists
 HasStream message judged.Reads = Unit {0}
 
--- what is made of a body whose xid isn't pending
-abbrev pub JudgesBody : Body → Judged → Type 0
-JudgesBody body judged.Kind = ⊥
-JudgesBody body judged.Open = ⊥
-JudgesBody body judged.OtherVersion = ⊥
-JudgesBody body judged.BadChunks = (k : ServerState) (xid : ℕ) (message : List ℕ) → by_body k xid message body ≡ BadChunks
-JudgesBody body (judged.Call lists stream_at) = (body ≡ Msg lists stream_at) × (lists.read ≡ [])
-JudgesBody body judged.Reads = (lists : ChunkLists) × ((lists.read ≢ []) × (((stream_at : ℕ) × (body ≡ Msg lists stream_at)) ⊎ (body ≡ Nomsg lists)))
+-- whether the read chunk of a list is that of the item of a stream, if that is known; and whether a list can bring a stream
+abbrev pub fits_stream : Option (List ℕ) → List ReadSegment → Bool
+fits_stream None read = true
+fits_stream (Some stream) read = is_read_chunk_of_item stream read
+
+abbrev pub brings_stream : List ReadSegment → Bool
+brings_stream read = has_position read && fits_stream (no_stream read) read
+
+abbrev pub reads_if : Bool → Judged
+reads_if true = judged.Reads
+reads_if false = judged.BadChunks
+
+-- what is made of the body of a message whose xid isn't pending
+abbrev pub JudgesBody : List ℕ → Body → Judged → Type 0
+JudgesBody message body judged.Kind = ⊥
+JudgesBody message body judged.Open = ⊥
+JudgesBody message body judged.OtherVersion = ⊥
+JudgesBody message body judged.BadChunks = (k : ServerState) (xid : ℕ) → by_body k xid message body ≡ BadChunks
+JudgesBody message body (judged.Call lists stream_at) = (body ≡ Msg lists stream_at) × (lists.read ≡ [])
+JudgesBody message body judged.Reads = (lists : ChunkLists) × ((lists.read ≢ []) × (((stream_at : ℕ) × (body ≡ Msg lists stream_at)) ⊎ (body ≡ Nomsg lists)))

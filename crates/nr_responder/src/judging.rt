@@ -4,10 +4,12 @@ ghost use Rattle.std.specs.Prelude.{◌≡◌, ℕ, ◌+◌, ◌≤◌, ◌^◌,
 ghost use Rattle.nr_header.specs.Constants.{FIXED_LEN};
 ghost use Rattle.nr_header.specs.WithinLimits.{CanRead, StreamWithin, stream_after};
 ghost use Rattle.nr_reduce.specs.ServerState.{ServerState, next_stag};
-ghost use Rattle.nr_responder.specs.Views.{call_view, HasStream, Judges, JudgesBody};
+ghost use Rattle.nr_reduce.specs.ServerMessages.{has_position};
+ghost use Rattle.nr_responder.specs.Views.{brings_stream, call_view, reads_if, HasStream, Judges, JudgesBody};
 
 use crate::call::{Pending, has_xid};
-use nr_header::{Body, ChunkLists, DONE, ERROR, FIXED_LEN, VERSION, read_header};
+use nr_header::{Body, ChunkLists, DONE, ERROR, FIXED_LEN, ReadSegment, VERSION, read_header};
+use nr_reduce::{is_read_chunk_of_item, total_at};
 use nr_xdr::word_at;
 
 /// What a responder makes of a message: it ends the link, by its kind or by its xid; ERR_VERS; ERR_CHUNK; a call without a read list,
@@ -22,26 +24,56 @@ pub enum Judged {
     Reads,
 }
 
-/// Judges a body.
-fn judge_body(body: Body) -> Judged
-    ensures { JudgesBody body result }
+/// Whether some entry of a read list has position 0.
+fn has_position(read: &[ReadSegment]) -> bool
+    ensures { result ≡ has_position read.now }
+{
+    read.iter().any(|r| r.position == 0)
+}
+
+/// Whether a read list can bring the stream of a call by RDMA_NOMSG (RFC 8166 section 3.5.3): it has an entry at position 0, and if those
+/// have no bytes, no other.
+fn brings_stream(read: &[ReadSegment]) -> bool
+    ensures { result ≡ brings_stream read.now }
+{
+    if !has_position(read) {
+        return false;
+    }
+    if total_at(0, read) != 0 {
+        return true;
+    }
+    is_read_chunk_of_item(&[], read)
+}
+
+/// A call with a read list, or ERR_CHUNK.
+fn reads_if(fits: bool) -> Judged
+    ensures { result ≡ reads_if fits }
+{
+    if fits {
+        return Judged::Reads;
+    }
+    Judged::BadChunks
+}
+
+/// Judges the body of a message.
+fn judge_body(message: &[u8], body: Body) -> Judged
+    requires { StreamWithin body (length message.now) }
+    ensures { JudgesBody message.now body result }
 {
     match body {
         Body::Msg { lists, stream_at } => {
             if lists.read.is_empty() {
                 return Judged::Call { lists, stream_at };
             }
+            let (_, stream) = message.split_at(stream_at);
+            let fits = is_read_chunk_of_item(stream, lists.read.as_slice());
             drop(lists);
-            Judged::Reads
+            reads_if(fits)
         }
         Body::Nomsg { lists } => {
-            let none = lists.read.is_empty();
+            let fits = brings_stream(lists.read.as_slice());
             drop(lists);
-            if none {
-                Judged::BadChunks
-            } else {
-                Judged::Reads
-            }
+            reads_if(fits)
         }
         Body::ErrVers { .. } => Judged::BadChunks,
         Body::ErrChunk { .. } => Judged::BadChunks,
@@ -68,7 +100,7 @@ pub(crate) fn judge(message: &[u8], calls: &[Pending]) -> Judged
         return Judged::Open;
     }
     match read_header(message) {
-        Ok(header) => judge_body(header.body),
+        Ok(header) => judge_body(message, header.body),
         Err(_) => Judged::BadChunks,
     }
 }

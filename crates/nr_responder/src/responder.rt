@@ -94,6 +94,8 @@ impl Responder {
         ensures ended { result_err result ≡ end_of self.new.side }
         ensures taken { IfOk result (λ n. n ≡ bytes_taken self.old.side.link.awaited self.old.side.link.rest piece.now) }
         ensures goes { Fed self.old.side (taken_of result piece.now) self.new.side }
+        // If the side ends, it does so in the first frame.
+        ensures first { Fed self.old.side (take (bytes_taken self.old.side.link.awaited self.old.side.link.rest piece.now) piece.now) self.new.side }
         ensures stands { (opened : LinkParameters) (link : ℕ) (run : List Mark) → Stands opened link run self.old.side →
             Stands opened link (run ++ marks.Fed link ResponderSide (taken_of result piece.now) ∷ []) self.new.side }
         ensures kept { is_some (end_of self.old.side) ≡ true → self.new ≡ self.old }

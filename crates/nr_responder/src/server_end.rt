@@ -197,6 +197,8 @@ impl ServerEnd {
         ensures ended { result_err result ≡ end_of (state_of self.new) }
         ensures taken { IfOk result (λ n. n ≡ bytes_taken self.old.endpoint.link.awaited self.old.endpoint.link.rest piece.now) }
         ensures goes { Fed (state_of self.old) (taken_of result piece.now) (state_of self.new) }
+        // If the side ends, it does so in the first frame.
+        ensures first { Fed (state_of self.old) (take (bytes_taken self.old.endpoint.link.awaited self.old.endpoint.link.rest piece.now) piece.now) (state_of self.new) }
         ensures stands { (opened : LinkParameters) (link : ℕ) (run : List Mark) → Stands opened link run (state_of self.old) →
             Stands opened link (run ++ marks.Fed link ResponderSide (taken_of result piece.now) ∷ []) (state_of self.new) }
         ensures kept { is_some (end_of (state_of self.old)) ≡ true → (state_of self.new ≡ state_of self.old) × (self.new.endpoint.staging ≡ self.old.endpoint.staging) }
@@ -257,6 +259,7 @@ impl ServerEnd {
         ensures most { result ≤ length piece.now }
         ensures some { 0 < length piece.now → 0 < result }
         ensures goes { Fed (state_of self.old) (take result piece.now) (state_of self.new) }
+        ensures first { Fed (state_of self.old) (take (bytes_taken self.old.endpoint.link.awaited self.old.endpoint.link.rest piece.now) piece.now) (state_of self.new) }
         ensures staging { self.old.endpoint.link.state.receive_queue.notices ≡ [] → KeepsStaging (with_staging self.old) (with_staging self.new) piece.now }
         ensures outside { self.new.endpoint.outside ≡ self.old.endpoint.outside }
         ensures rest { (self.new.endpoint.link.rest ≡ []) ⊎ (result ≡ length piece.now) }
@@ -315,6 +318,7 @@ impl ServerEnd {
         ensures staging { self.new.endpoint.staging ≡ self.old.endpoint.staging }
         ensures outside { self.new.endpoint.outside ≡ self.old.endpoint.outside }
     {
+        self.endpoint.facts();
         let message = stream_of(&buf, len, 0);
         let xid = word_at(message, 0);
         let version = word_at(message, 4);

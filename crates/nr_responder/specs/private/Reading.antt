@@ -4,28 +4,9 @@ use Rattle.std.specs.List.{filter, list_any}
 use Rattle.nr_regions.specs.RegisteredMemory.{RegisteredMemory, bytes_in, held_region, after_release}
 use Rattle.nr_link.specs.Limits.{open_reads_max}
 use Rattle.nr_endpoint.specs.SendQueue.{SendQueue, with_request}
-use Rattle.nr_reduce.specs.OfferedRegions.{Region}
 use Rattle.nr_reduce.specs.ServerState.{PendingCall, PendingRead}
+use Rattle.nr_responder.specs.Fetching.{SinkRegion}
 use Rattle.nr_reduce.specs.ServerReads.{is_read, is_read_at}
-
--- an open sink region: of the call whose Send has this number, for the entries of its read list at this position
-pub record SinkRegion : Type 0 where
-  pub number : ℕ
-  pub position : ℕ
-  pub stag : ℕ
-  pub len : ℕ
-
-abbrev pub sink_of_region : Region → SinkRegion
-sink_of_region r = record { number = r.call; position = r.position; stag = r.stag; len = length r.bytes }
-
-abbrev pub open_if : Option ℕ → SinkRegion → List SinkRegion → List SinkRegion
-open_if None s sinks = s ∷ sinks
-open_if (Some until) s sinks = sinks
-
--- the sinks that are open
-abbrev pub open_sinks : List Region → List SinkRegion
-open_sinks [] = []
-open_sinks (r ∷ regions) = open_if r.until (sink_of_region r) (open_sinks regions)
 
 -- the bytes of the sink of a call at a position, or none
 abbrev pub is_sink : (number position : ℕ) → SinkRegion → Bool

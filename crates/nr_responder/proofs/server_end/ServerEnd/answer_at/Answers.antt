@@ -1,4 +1,4 @@
-use Rattle.std.proofs.Common.{rules, ◌≡◌, ℕ, List, drop, take, refl, sym, ap, subst, ◌∙◌}
+use Rattle.std.proofs.Common.{rules, ◌≡◌, ℕ, None, [], List, drop, take, refl, sym, ap, subst, ◌∙◌}
 use Rattle.std.specs.Prelude.{map}
 use Rattle.nr_endpoint.specs.LinkState.{LinkSide}
 use Rattle.nr_endpoint.specs.Calls.{after_calls}
@@ -6,8 +6,8 @@ use Rattle.nr_endpoint.specs.Offering.{answer_calls, writes_output}
 use Rattle.nr_responder.specs.declared.call.Pending.{Pending}
 use Rattle.nr_responder.specs.Answering.{answer_to, message_for}
 use Rattle.nr_responder.specs.Views.{call_view}
-use Rattle.nr_responder.specs.Sound.{InBuffer}
-use Rattle.nr_responder.proofs.Answered.{answer_link, answered_fed, get_view}
+use Rattle.nr_responder.specs.Sound.{InBuffer, plain_payloads}
+use Rattle.nr_responder.proofs.Answered.{answer_link, answered_fed, get_view, plain_drop, plain_first}
 use Rattle.nr_responder.proofs.Removed.{map_removed}
 use Rattle.nr_responder.proofs.Sounds.{sound_answered}
 use Rattle.nr_responder.proofs.server_end.ServerEnd.answer_at.Goals as goal
@@ -27,10 +27,12 @@ returns-clause-answers c =
       place = get_view c.args.self.now.calls.items c.args.at p c.requires.at c.index.ensures;
       own = own;
       stream = stream;
-      inline = refl;
+      payload = None;
+      first = plain_first c.args.self.now.ready.items c.requires.next;
+      conveyed = refl;
       writes = q.writes;
       written = q.written;
-      state = λ i. record { link = link i; calls = calls i; ready = ready i; credits = c.args.self.now.credits };
+      state = λ i. record { link = link i; calls = calls i; ready = ready i; credits = c.args.self.now.credits; fetching = record { reads = []; sinks = []; payloads = (ap plain_payloads ready ∙ plain_drop c.args.self.now.ready.items) i } };
       sent_is = q.sent_is;
     }
 

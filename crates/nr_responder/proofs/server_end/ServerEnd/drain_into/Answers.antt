@@ -36,7 +36,7 @@ returns-clause-taken g c =
     omega (arith, c.sends_waiting-left.ensures, ap (λ (x : SendQueue). length x.send_ends) q.1, c.requires.sound.unsent_is) in
     let link = c.post_until.ensures.posted ∙ drained_link c.args.self.now.endpoint.link m t.0 (length c.args.self.now.used.items - c.sends_waiting-left.result) t.3
     ∙ ap (λ (k : ℕ). record { awaited = v.link.awaited; rest = v.link.rest; state = drained_posted v.link.state t.0 k }) posts in
-    let state : record { link = c.post_until.new.endpoint.link; calls = v.calls; ready = v.ready; credits = v.credits } ≡ after_drain v t.0 = λ i. record { link = link i; calls = v.calls; ready = v.ready; credits = v.credits } in (
+    let state : record { link = c.post_until.new.endpoint.link; calls = v.calls; ready = v.ready; credits = v.credits; fetching = v.fetching } ≡ after_drain v t.0 = λ i. record { link = link i; calls = v.calls; ready = v.ready; credits = v.credits; fetching = v.fetching } in (
       t.0,
       (
         record {

@@ -5,6 +5,7 @@ use Rattle.nr_wire.specs.Feeding.{bytes_taken}
 use Rattle.nr_responder.specs.Sound.{state_of, with_staging}
 use Rattle.nr_responder.specs.Steps.{Fed}
 use Rattle.nr_responder.specs.Steps.Fed.{WentOn}
+use Rattle.nr_responder.proofs.FirstFrames.{first_ended}
 use Rattle.nr_responder.proofs.Fed.{ended_fed_lem}
 use Rattle.nr_responder.proofs.Marks.{ended_stands, fed_stands_lem, not_live}
 use Rattle.nr_responder.proofs.Staging.{unchanged, nothing_told}
@@ -51,3 +52,12 @@ returns-in-Some-end-clause-staging c = λ opened link run h. c.step-taken.ensure
 
 pub returns-clause-staging : goal.returns-clause-staging
 returns-clause-staging c = λ opened link run h. c.step-taken.ensures.staging (nothing_told opened link run (state_of c.args.self.now) (sym c.end.ensures ∙ c.in_default.is) h)
+
+pub returns-in-Some-clause-first : goal.returns-in-Some-clause-first
+returns-in-Some-clause-first c = first_ended (state_of c.args.self.now) c.args.piece.now (ap (λ (o : Option End). is_some o) (sym c.end.ensures ∙ c.in-Some.is))
+
+pub returns-in-Some-end-clause-first : goal.returns-in-Some-end-clause-first
+returns-in-Some-end-clause-first c = c.step-taken.ensures.first
+
+pub returns-clause-first : goal.returns-clause-first
+returns-clause-first c = c.step-taken.ensures.first

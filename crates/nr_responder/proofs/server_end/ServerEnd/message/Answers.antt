@@ -15,7 +15,7 @@ use Rattle.nr_responder.proofs.server_end.ServerEnd.message.Goals as goal
 pub returns-in-Kind-clause-made : goal.returns-in-Kind-clause-made
 returns-in-Kind-clause-made c =
     Ends 17 (omega arith)
-    (λ k server. subst (λ (m : List ℕ). verdict k m ≡ EndsLink 17) c.stream_of-message.ensures (c.in-Kind.ensures.judged k (server.calls ∙ ap (λ (cs : List Pending). map call_view cs) (sym c.as_slice.ensures.value)) (few_stags k (state_of c.args.self.now) server)))
+    (λ k server. subst (λ (m : List ℕ). verdict k m ≡ EndsLink 17) c.stream_of-message.ensures (c.in-Kind.ensures.judged k (server.calls ∙ ap (λ (cs : List Pending). map call_view cs) (sym c.as_slice.ensures.value)) (few_stags k (state_of c.args.self.now) server c.facts.ensures.stags)))
     (or_out (state_of c.args.self.now) _ c.stop.new.endpoint.link c.stop.ensures.link)
 
 pub returns-in-Kind-clause-sound : goal.returns-in-Kind-clause-sound
@@ -27,7 +27,7 @@ returns-in-Kind-clause-input c = (ended_as c.args.self.now.endpoint.link c.stop.
 pub returns-in-Open-clause-made : goal.returns-in-Open-clause-made
 returns-in-Open-clause-made c =
     Ends 20 (omega arith)
-    (λ k server. subst (λ (m : List ℕ). verdict k m ≡ EndsLink 20) c.stream_of-message.ensures (c.in-Open.ensures.judged k (server.calls ∙ ap (λ (cs : List Pending). map call_view cs) (sym c.as_slice.ensures.value)) (few_stags k (state_of c.args.self.now) server)))
+    (λ k server. subst (λ (m : List ℕ). verdict k m ≡ EndsLink 20) c.stream_of-message.ensures (c.in-Open.ensures.judged k (server.calls ∙ ap (λ (cs : List Pending). map call_view cs) (sym c.as_slice.ensures.value)) (few_stags k (state_of c.args.self.now) server c.facts.ensures.stags)))
     (or_out (state_of c.args.self.now) _ c.stop-in-Open.new.endpoint.link c.stop-in-Open.ensures.link)
 
 pub returns-in-Open-clause-sound : goal.returns-in-Open-clause-sound
@@ -45,13 +45,13 @@ returns-in-BadChunks-clause-input c = refused_input _ c.args.self.now.endpoint.l
 pub returns-in-Call-clause-made : goal.returns-in-Call-clause-made
 returns-in-Call-clause-made c =
     Calls c.in-Call.lists c.in-Call.stream_at
-    (λ k server. subst (λ (m : List ℕ). IsCall k m c.in-Call.lists c.in-Call.stream_at) c.stream_of-message.ensures (c.in-Call.ensures.judged k (server.calls ∙ ap (λ (cs : List Pending). map call_view cs) (sym c.as_slice.ensures.value)) (few_stags k (state_of c.args.self.now) server)))
+    (λ k server. subst (λ (m : List ℕ). IsCall k m c.in-Call.lists c.in-Call.stream_at) c.stream_of-message.ensures (c.in-Call.ensures.judged k (server.calls ∙ ap (λ (cs : List Pending). map call_view cs) (sym c.as_slice.ensures.value)) (few_stags k (state_of c.args.self.now) server c.facts.ensures.stags)))
     c.begin.ensures.begun
 
 pub returns-in-Reads-clause-made : goal.returns-in-Reads-clause-made
 returns-in-Reads-clause-made c =
     LeavesReads
-    (λ k server. reads_take k _ (subst (λ (m : List ℕ). IsOfReads k m) c.stream_of-message.ensures (c.in-Reads.ensures.judged k (server.calls ∙ ap (λ (cs : List Pending). map call_view cs) (sym c.as_slice.ensures.value)) (few_stags k (state_of c.args.self.now) server))))
+    (λ k server. reads_take k _ (subst (λ (m : List ℕ). IsOfReads k m) c.stream_of-message.ensures (c.in-Reads.ensures.judged k (server.calls ∙ ap (λ (cs : List Pending). map call_view cs) (sym c.as_slice.ensures.value)) (few_stags k (state_of c.args.self.now) server c.facts.ensures.stags))))
     (ap (λ (l : LinkSide). on_link (state_of c.args.self.now) l) c.run_out.ensures.state)
 
 pub returns-in-Reads-clause-sound : goal.returns-in-Reads-clause-sound

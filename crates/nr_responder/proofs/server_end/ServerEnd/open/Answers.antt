@@ -4,6 +4,7 @@ use Rattle.nr_responder.specs.ResponderState.{ResponderSide}
 use Rattle.nr_responder.specs.Standing.{Stands}
 use Rattle.nr_responder.specs.declared.call.Pending.{Pending}
 use Rattle.nr_responder.specs.Views.{call_view}
+use Rattle.nr_responder.specs.Sound.{plain_fetching}
 use Rattle.nr_endpoint.proofs.FedBytes.{open_fed}
 use Rattle.nr_wire.specs.declared.hello.Side.TheVariants.{Responder}
 use Rattle.nr_responder.proofs.Opened.{opened_stands_lem, opened_lives, opened_queues}
@@ -34,6 +35,7 @@ returns-clause-stands c = λ opened link same.
       calls = map call_view (sym c.in_ok-calls.ensures.items i);
       ready = sym c.in_ok-ready.ensures.items i;
       credits = c.args.credits;
+      fetching = plain_fetching (sym c.in_ok-ready.ensures.items i);
     })
     (opened_stands_lem opened link c.args.credits c.in_ok-endpoint.endpoint.link same c.in_ok-endpoint.ensures.state)
 
@@ -43,6 +45,7 @@ returns-clause-state c = λ i. record {
   calls = map call_view (c.in_ok-calls.ensures.items i);
   ready = c.in_ok-ready.ensures.items i;
   credits = c.args.credits;
+  fetching = plain_fetching (c.in_ok-ready.ensures.items i);
 }
 
 pub returns-clause-live : goal.returns-clause-live

@@ -1,10 +1,10 @@
-use Rattle.std.proofs.Common.{◌≡◌, ◌≢◌, ℕ, ◌<◌, List, length, drop, take, get_or, refl, sym, ap, subst, ◌∙◌, true, false}
+use Rattle.std.proofs.Common.{◌≡◌, ◌≢◌, ℕ, ◌<◌, List, length, drop, take, get_or, refl, sym, ap, subst, ◌∙◌, None, true, false}
 use Rattle.std.specs.List.{list_any}
 use Rattle.nr_responder.specs.declared.call.Pending.{Pending}
 use Rattle.nr_responder.specs.Views.{call_view}
 use Rattle.nr_responder.specs.Sound.{state_of}
 use Rattle.nr_reduce.specs.Served.{IsExecuted}
-use Rattle.nr_responder.proofs.Answered.{has, payload_is_lem, payload_there_lem, none_any, get_view}
+use Rattle.nr_responder.proofs.Answered.{has, payload_is_lem, payload_there_lem, plain_next, none_any, get_view}
 use Rattle.nr_responder.proofs.server_end.ServerEnd.payload.Goals as goal
 
 pub returns-in-Some : goal.returns-in-Some
@@ -16,8 +16,8 @@ returns-in-Some c = record {
       let found : (get_or c.args.self.now.calls.items c.in-Some.at p).xid ≡ c.args.xid = subst (λ (xs : List Pending). (get_or xs c.in-Some.at p).xid ≡ c.args.xid) c.as_slice.ensures.value (c.in-Some.ensures.some.1 p) in
       let own : p.xid ≡ c.args.xid = ap (λ (x : Pending). x.xid) is ∙ found in
       subst (λ (bytes : List ℕ). IsExecuted opened link run c.args.xid bytes) (sym c.stream_of.ensures)
-      (payload_is_lem opened link run (state_of c.args.self.now) c.args.xid h c.requires.live c.requires.next c.in-Some.at (call_view p) (drop p.stream_at (take p.len p.buf))
-      (get_view c.args.self.now.calls.items c.in-Some.at p place is) own refl);
+      (payload_is_lem opened link run (state_of c.args.self.now) c.args.xid h c.requires.live c.requires.next c.in-Some.at (call_view p) None (drop p.stream_at (take p.len p.buf))
+      (get_view c.args.self.now.calls.items c.in-Some.at p place is) own (plain_next c.args.self.now.ready.items c.args.xid c.requires.next) refl);
 }
 
 pub returns-in-None : goal.returns-in-None

@@ -9,6 +9,7 @@ use Rattle.nr_endpoint.proofs.Pieces.{some_taken}
 use Rattle.nr_responder.specs.Sound.{state_of, with_staging}
 use Rattle.nr_responder.specs.Steps.{Fed}
 use Rattle.nr_responder.specs.Handling.{on_link}
+use Rattle.nr_responder.proofs.FirstFrames.{first_done, first_failed}
 use Rattle.nr_responder.proofs.Fed.{step_of}
 use Rattle.nr_responder.proofs.Handled.{step_counts, step_within}
 use Rattle.nr_responder.proofs.Sounds.{sound_step}
@@ -82,3 +83,12 @@ returns-in-Ok-clause-rest c =
 
 pub returns-in-Err-clause-rest : goal.returns-in-Err-clause-rest
 returns-in-Err-clause-rest c = inr refl
+
+pub returns-in-Ok-clause-first : goal.returns-in-Ok-clause-first
+returns-in-Ok-clause-first c =
+    first_done (state_of c.args.self.now) (state_of c.take_event.new.self) c.args.piece.now c.feed_one.new.self.link c.requires.live c.facts.ensures.partial (c.in-Ok.ensures.state (λ e. absurd cc)) (sym c.in-Ok.ensures.ended) c.take_event.ensures.taken
+
+pub returns-in-Err-clause-first : goal.returns-in-Err-clause-first
+returns-in-Err-clause-first c =
+    first_failed (state_of c.args.self.now) c.args.piece.now c.feed_one.new.self.link c.in-Err.end c.requires.live c.facts.ensures.partial (λ other. c.in-Err.ensures.state (λ e. other (let h : c.in-Err.end ≡ ends.Memory = cc in h)))
+    (λ is. (c.in-Err.ensures.memory (ap (λ (e : End). Err e) is), c.in-Err.ensures.frame (ap (λ (e : End). Err e) is) (ap (λ (o : Option End). is_some o) c.requires.live))) (sym c.in-Err.ensures.ended)

@@ -1,4 +1,4 @@
-use Rattle.std.proofs.Common.{ℕ, List, [], ◌∷◌, length, take, sym, ap, subst, ◌∙◌, arith, inl}
+use Rattle.std.proofs.Common.{◌≡◌, ℕ, List, [], ◌∷◌, length, take, sym, ap, subst, ◌∙◌, arith, inl}
 use Rattle.nr_endpoint.specs.declared.event.Event.{Event}
 use Rattle.nr_endpoint.specs.LinkState.{LinkSide}
 use Rattle.nr_endpoint.specs.Calls.{after_call}
@@ -35,6 +35,7 @@ returns-in-Some-Message-clause-taken c =
           let same = same_message c.in-Some-Message.number number _ invalidated bytes m c.next_event.new.self.link.state.receive_queue.notices [] (sym one ∙ only) in
           subst (λ (n : ℕ). Makes (on_link v (after_call v.link NextEvent)) n m after) same.0 (subst (λ (x : List ℕ). Makes (on_link v (after_call v.link NextEvent)) c.in-Some-Message.number x after) same.1
           (subst (λ (l : LinkSide). Makes (on_link v l) c.in-Some-Message.number bytes after) c.in-Some-Message.ensures.state made));
+      read = λ done r rest reads. absurd (let two : [] ≡ r ∷ rest = reads in cc);
     }
 
 pub returns-in-Some-Message-clause-fed : goal.returns-in-Some-Message-clause-fed
