@@ -213,6 +213,10 @@ PieceKeepsLaw = (opened : LinkParameters) (link : ℕ) (run : List Mark) (piece 
 abbrev pub DrainKeepsGrant : Type 0
 DrainKeepsGrant = (opened : LinkParameters) (link : ℕ) (run : List Mark) (bytes : List ℕ) → KeepsGrant opened link run → KeepsGrant opened link (run ++ marks.Wrote link Initiator bytes ∷ [])
 
+-- The buffers of a call that is outstanding and was not revoked hold what a revoke hands back by the marks, also if the call was forgotten.
+abbrev pub BuffersArePlaced : Type 0
+BuffersArePlaced = (opened : LinkParameters) (link : ℕ) (h : RequesterSide) (run : List Mark) (xid : ℕ) → RequesterRepresents opened link h run → IsOutstanding xid h.state → bytes_of_buffers (buffers_of xid h.state) ≡ revoked_bytes opened link run xid
+
 -- A revoke of a call that is outstanding and was neither revoked nor forgotten keeps the law if it hands back what the call's regions hold, while
 -- the call's outcome is awaited, also after an End.
 abbrev pub RevokeKeepsLaw : Type 0

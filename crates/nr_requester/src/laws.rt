@@ -1,6 +1,6 @@
 //! Laws of a requester.
 
-ghost use Rattle.nr_requester.specs.Laws.{Begins, AnswersAsClient, CountsAsClient, SubmitIsAMark, PieceIsAMark, PieceRunsOut, DrainIsAMark, RevokeIsAMark, RevokeStaysOut, ForgetIsAMark, DoneIsAMark, AnswersAreDue, AnswersOut, EndAsClient, FirstIsDueFirst, FirstOut, OthersLeaveIt, MemoryAsClient, MemoryOut, CountsOut, RefusesOut, PieceStaysOut, OthersStayOut, LawBegins, OthersKeepLaw, RevokeKeepsLaw, RevokedOut, SubmitKeepsLaw, DrainKeepsLaw, DrainOutKeepsLaw, QueueIsAllDue, RefusedKeepsLaw, PieceKeepsLaw, DrainKeepsGrant, OpenIsAwaited, OpenOut, AwaitedIsOpen, AwaitedOut, ForgetKeepsLaw, ForgetOutKeepsLaw, DoneKeepsLaw, DoneOutKeepsLaw, LostKeepsLaw};
+ghost use Rattle.nr_requester.specs.Laws.{Begins, AnswersAsClient, CountsAsClient, SubmitIsAMark, PieceIsAMark, PieceRunsOut, DrainIsAMark, RevokeIsAMark, RevokeStaysOut, ForgetIsAMark, DoneIsAMark, AnswersAreDue, AnswersOut, EndAsClient, FirstIsDueFirst, FirstOut, OthersLeaveIt, MemoryAsClient, MemoryOut, CountsOut, RefusesOut, PieceStaysOut, OthersStayOut, LawBegins, OthersKeepLaw, RevokeKeepsLaw, BuffersArePlaced, RevokedOut, SubmitKeepsLaw, DrainKeepsLaw, DrainOutKeepsLaw, QueueIsAllDue, RefusedKeepsLaw, PieceKeepsLaw, DrainKeepsGrant, OpenIsAwaited, OpenOut, AwaitedIsOpen, AwaitedOut, ForgetKeepsLaw, ForgetOutKeepsLaw, DoneKeepsLaw, DoneOutKeepsLaw, LostKeepsLaw};
 
 /// A requester stands for the marks of its link, from its opening on: what it keeps is what the client of the run asks for, and what it may
 /// write is what is due and not yet written. It answers a call as that client does, and knows how many calls are outstanding
@@ -45,6 +45,7 @@ pub fn requesters_keep_their_law()
     ensures piece { PieceKeepsLaw }
     ensures drain_grant { DrainKeepsGrant }
     ensures revoke { RevokeKeepsLaw }
+    ensures buffers { BuffersArePlaced }
     ensures revoked_out { RevokedOut }
     ensures awaited { OpenIsAwaited }
     ensures awaited_out { OpenOut }
