@@ -35,6 +35,7 @@ use Rattle.nr_requester.proofs.Marks.{lives_as, own_events, drain_stands, drain_
 use Rattle.nr_requester.proofs.Accepting.{submit_client}
 use Rattle.nr_requester.proofs.AnswerSteps.{all_as, all_append, AreNoFrames, IsQuiet, back_more, asked_more, some_asked, quiet_more, quiet_mark, quiet_outcomes, by_events, due_same, forgets, revokes, GivesUp, given_state, given_mark, forget_gives, revoke_gives, done_gives}
 use Rattle.nr_requester.proofs.Fed.{fed_client, fed_answers}
+use Rattle.nr_requester.proofs.Tickets.{submit_stays, submit_own}
 
 no_frames_if : (b : Bool) (es : List RunEvent) → AreNoFrames es → AreNoFrames (if_own b es)
 no_frames_if true es h = h
@@ -46,7 +47,7 @@ pub begins : Begins
 unfolding opened_as events completed_calls accepted_calls
 begins opened link = record {
   keeps = begins_client opened link;
-  answers = record { outcomes = refl; hands_back = tt; calls = tt; awaited = tt; submitted = tt; to_come = λ xid le. refl; regions = record { before = tt; calls = tt } };
+  answers = record { outcomes = refl; hands_back = tt; calls = tt; awaited = tt; submitted = tt; tickets = tt; to_come = λ xid le. refl; regions = record { before = tt; calls = tt } };
 }
 
 -- ---- An accepted call
@@ -73,6 +74,8 @@ submit_answers opened link h run call form plan s k =
       calls = all_as h.state.answered (λ (x : AnsweredCall) g. asked_more asked (a ∷ []) x.xid x.call g) k.calls;
       awaited = all_append _ h.state.outstanding (c ∷ []) (all_as h.state.outstanding (λ (x : StoredCall) g. g ∙ sym (same x.xid)) k.awaited) (sym (same h.state.next_xid ∙ k.to_come h.state.next_xid (omega arith)), tt);
       submitted = all_append _ h.state.outstanding (c ∷ []) (all_as h.state.outstanding (λ (x : StoredCall) g. some_asked asked (a ∷ []) x.xid x.call g) k.submitted) ((form, Contains-push asked a), tt);
+      tickets = all_append _ asked (a ∷ []) (all_as asked (λ (x : AcceptedCall) g d. submit_stays x.xid h.state.outstanding c h.state.answered refl (g (sym (same x.xid) ∙ d))) k.tickets)
+          (λ d. submit_own (is_due link run) h.state.outstanding c h.state.answered refl (k.to_come h.state.next_xid (omega arith)) k.awaited, tt);
       to_come = λ xid at. same xid ∙ k.to_come xid (omega (arith, at));
       regions = subst (λ (x : EndState ClientState). Offers opened x.state) (sym (end_state_after_append (client_rules opened) (initial_client opened) es (event ∷ []))) regions;
     } in
@@ -145,7 +148,7 @@ same_answers opened es due asked r r2 k answered outstanding next =
     subst (λ (xs : List RunEvent). KeepsAnswers opened xs due asked r2) (append-nil es)
     (subst (λ (xs : List AcceptedCall). KeepsAnswers opened (es ++ []) due xs r2) (append-nil asked)
     (quiet_more opened es [] due due asked [] r r2 k (ap (λ (xs : List RunEvent). (client_by opened xs).state.outcomes) (append-nil es)) (subst (λ (xs : List RunEvent). Offers opened (client_by opened xs).state) (sym (append-nil es)) k.regions)
-    (λ x. refl) answered outstanding (omega (arith, next))))
+    (λ x. refl) answered outstanding (omega (arith, next)) refl))
 
 pub piece_runs_out : PieceRunsOut
 piece_runs_out h after piece lives out opened link run s =

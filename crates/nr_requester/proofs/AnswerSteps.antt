@@ -1,18 +1,20 @@
 -- The answers that a requester keeps, from mark to mark.
-use Rattle.std.proofs.Common.{◌≡◌, ℕ, ◌<◌, ◌≤◌, Bool, true, false, cond, not, ◌&&◌, ◌||◌, eqb, List, [], ◌∷◌, ◌++◌, map, Option, None, Some, refl, sym, ap, subst, ◌∙◌, arith, append_assoc}
+use Rattle.std.proofs.Common.{◌≡◌, ◌≢◌, ℕ, ◌<◌, ◌≤◌, Bool, true, false, cond, not, ◌&&◌, ◌||◌, eqb, List, [], ◌∷◌, ◌++◌, length, map, Option, None, Some, refl, sym, ap, subst, ◌∙◌, arith, append_assoc}
 use Rattle.std.specs.Prelude.{is_some, IfSome}
-use Rattle.std.specs.List.{AllByRecursion, filter, list_any}
+use Rattle.std.specs.List.{AllByRecursion, filter, find, list_any}
 use Rattle.std.proofs.lemmas.List.Elements.{Contains-append_left}
 use Rattle.std.proofs.lemmas.Bool.{eqb-true, eq-eqb}
 use Rattle.nr_link.specs.declared.end.End.{End}
 use Rattle.nr_wire.specs.declared.hello.Side.TheVariants.{Initiator}
 use Rattle.nr_reduce.specs.declared.call.Call.{Call}
+use Rattle.nr_reduce.specs.declared.call.Submission.{Submission}
+use Rattle.nr_reduce.specs.declared.call.Submission.TheVariants as submissions
 use Rattle.nr_reduce.specs.declared.call.Outcome.{Outcome}
 use Rattle.nr_reduce.specs.declared.mark.LinkParameters.{LinkParameters}
 use Rattle.nr_reduce.specs.declared.mark.Mark.{Mark}
 use Rattle.nr_reduce.specs.declared.mark.Mark.TheVariants as marks
-use Rattle.nr_reduce.specs.History.{AcceptedCall, CompletedCall, abandons, is_abandoned, completed_at, completed_calls, accepted_at, accepted_calls}
-use Rattle.nr_reduce.specs.Events.{RunEvent, events_at, events}
+use Rattle.nr_reduce.specs.History.{AcceptedCall, CompletedCall, abandons, is_abandoned, completed_at, completed_calls, accepted_at, accepted_calls, bytes_received}
+use Rattle.nr_reduce.specs.Events.{RunEvent, if_own, events_at, events}
 use Rattle.nr_reduce.specs.Events.RunEvent.{FrameReceived, CallSubmitted, MemoryRevoked, CallExecuted, QueueWritten}
 use Rattle.nr_reduce.specs.EndRules.{EndState, next_end_state, next_end_state_by, next_end_state_in, end_state_after}
 use Rattle.nr_reduce.specs.ClientState.{ClientState}
@@ -26,7 +28,9 @@ use Rattle.nr_requester.specs.KeptAnswers.{is_due, client_by, completed_of, Hand
 use Rattle.nr_requester.specs.Standing.{AnswersAfter}
 use Rattle.nr_requester.specs.AfterCalls.{without_answer, revoked_if, forgotten_if}
 use Rattle.nr_requester.specs.Laws.{gives_up, GivesUpNothing}
+use Rattle.nr_requester.specs.OpenCalls.{call_with}
 use Rattle.nr_requester.proofs.CallRegions.{SubmitNothing, Offers, all_offer}
+use Rattle.nr_requester.proofs.Tickets.{other_found, others_changed, stored_xid, answer_xid}
 
 -- ---- Lists
 
@@ -175,17 +179,22 @@ pub some_asked : (asked more : List AcceptedCall) (xid : ℕ) (call : Option Cal
 some_asked asked more xid None h = tt
 some_asked asked more xid (Some call) h = asked_more asked more xid call h
 
+none_all : {X : Type 0} (P : X → Type 0) (xs : List X) → xs ≡ [] → AllByRecursion P xs
+none_all P xs none = subst (λ ys. AllByRecursion P ys) (sym none) tt
+
 -- What a requester keeps of the answers after events that give no outcome.
 pub quiet_more : (opened : LinkParameters) (es more : List RunEvent) (due due2 : ℕ → Bool) (asked added : List AcceptedCall) (r r2 : RequesterState) → KeepsAnswers opened es due asked r →
     (client_by opened (es ++ more)).state.outcomes ≡ (client_by opened es).state.outcomes → Offers opened (client_by opened (es ++ more)).state → ((xid : ℕ) → due2 xid ≡ due xid) →
-    r2.answered ≡ r.answered → r2.outstanding ≡ r.outstanding → r.next_xid ≤ r2.next_xid → KeepsAnswers opened (es ++ more) due2 (asked ++ added) r2
-quiet_more opened es more due due2 asked added r r2 k outcomes regions same answered outstanding le = record {
+    r2.answered ≡ r.answered → r2.outstanding ≡ r.outstanding → r.next_xid ≤ r2.next_xid → added ≡ [] → KeepsAnswers opened (es ++ more) due2 (asked ++ added) r2
+quiet_more opened es more due due2 asked added r r2 k outcomes regions same answered outstanding le none = record {
   outcomes = ap (λ (xs : List AnsweredCall). map completed_of xs) answered ∙ k.outcomes ∙ sym (filter_same (λ c. due2 c.xid) (λ c. due c.xid) (client_by opened es).state.outcomes (λ c. same c.xid))
       ∙ ap (λ (cs : List CompletedCall). filter (λ c. due2 c.xid) cs) (sym outcomes);
   hands_back = subst (λ (xs : List AnsweredCall). AllByRecursion (HandsBack opened (es ++ more)) xs) (sym answered) (all_as r.answered (back_more opened es more) k.hands_back);
   calls = subst (λ (xs : List AnsweredCall). AllByRecursion (λ (a : AnsweredCall). IsAsked (asked ++ added) a.xid a.call) xs) (sym answered) (all_as r.answered (λ a h. asked_more asked added a.xid a.call h) k.calls);
   awaited = subst (λ (xs : List StoredCall). AllByRecursion (λ (c : StoredCall). is_some (awaited_call c) ≡ due2 c.xid) xs) (sym outstanding) (all_as r.outstanding (λ c h. h ∙ sym (same c.xid)) k.awaited);
   submitted = subst (λ (xs : List StoredCall). AllByRecursion (λ (c : StoredCall). IfSome c.call (IsAsked (asked ++ added) c.xid)) xs) (sym outstanding) (all_as r.outstanding (λ c h. some_asked asked added c.xid c.call h) k.submitted);
+  tickets = all_append _ asked added
+      (all_as asked (λ (a : AcceptedCall) g e. (λ i. is_some (call_with (find (λ (c : StoredCall). eqb c.xid a.xid) (outstanding i)) (find (λ (b : AnsweredCall). eqb b.xid a.xid) (answered i)))) ∙ g (sym (same a.xid) ∙ e)) k.tickets) (none_all _ added none);
   to_come = λ xid at. same xid ∙ k.to_come xid (omega (arith, at, le));
   regions = regions;
 }
@@ -215,6 +224,34 @@ quiet_regions : (opened : LinkParameters) (es more : List RunEvent) → SubmitNo
 quiet_regions opened es more none h =
     subst (λ (e : EndState ClientState). Offers opened e.state) (sym (end_state_after_append (client_rules opened) (initial_client opened) es more)) (all_offer opened (client_by opened es) more none h)
 
+none_else : (b : Bool) → ◌≡◌ {A = List AcceptedCall} (cond b [] []) []
+none_else true = refl
+none_else false = refl
+
+-- such a mark accepts no call
+none_accepted : (link : ℕ) (run : List Mark) (mark : Mark) → SubmitNothing (events_at link Initiator run mark) → accepted_at link mark ≡ []
+none_accepted link run (marks.Submit l call form answer) none = by answer none
+  where
+    by : (answer : Submission) → SubmitNothing (events_at link Initiator run (marks.Submit l call form answer)) → accepted_at link (marks.Submit l call form answer) ≡ []
+    by (submissions.Accepted xid) h = own (eqb l link) h
+      where
+        a : AcceptedCall
+        a = record { xid = xid; call = call; form = form }
+
+        own : (b : Bool) → SubmitNothing (if_own (b && true) (CallSubmitted (length (bytes_received link Initiator run)) a ∷ [])) → cond b (a ∷ []) [] ≡ []
+        own true g = absurd g.0
+        own false g = refl
+    by (submissions.Refused why) h = none_else (eqb l link)
+    by submissions.Dropped h = none_else (eqb l link)
+none_accepted link run (marks.Wrote l side bytes) none = refl
+none_accepted link run (marks.Fed l side bytes) none = refl
+none_accepted link run (marks.Execute l xid moment payload place reply) none = refl
+none_accepted link run (marks.Done l xid outcome) none = refl
+none_accepted link run (marks.Lost l xid) none = refl
+none_accepted link run (marks.Forget l xid) none = refl
+none_accepted link run (marks.Revoke l xid bytes) none = refl
+none_accepted link run (marks.Drop l) none = refl
+
 -- a mark that gives up nothing, and has no frame
 pub quiet_mark : (opened : LinkParameters) (link : ℕ) (h h2 : RequesterSide) (run : List Mark) (mark : Mark) → IsQuiet link run mark → GivesUpNothing link mark → AnswersAfter opened link h run →
     h2.state.answered ≡ h.state.answered → h2.state.outstanding ≡ h.state.outstanding → h2.state.next_xid ≡ h.state.next_xid → AnswersAfter opened link h2 (run ++ mark ∷ [])
@@ -222,7 +259,7 @@ quiet_mark opened link h h2 run mark quiet none k answered outstanding next =
     by_events opened link run mark h2.state
     (quiet_more opened (events link Initiator run) (events_at link Initiator run mark) (is_due link run) (is_due link (run ++ mark ∷ [])) (accepted_calls link run) (accepted_at link mark) h.state h2.state k
     (quiet_outcomes opened (events link Initiator run) (events_at link Initiator run mark) quiet.0) (quiet_regions opened (events link Initiator run) (events_at link Initiator run mark) quiet.1 k.regions)
-    (due_same link run mark none) answered outstanding (omega (arith, next)))
+    (due_same link run mark none) answered outstanding (omega (arith, next)) (none_accepted link run mark quiet.1))
 
 -- ---- A mark that gives up a call, or hands over its outcome
 
@@ -281,6 +318,11 @@ given_submitted given_if xid asked more (c ∷ cs) g h =
       given_submitted given_if xid asked more cs g h.1,
     )
 
+and_parts : (a b : Bool) → (a && not b) ≡ true → (a ≡ true) × (b ≡ false)
+and_parts true true e = absurd cc
+and_parts true false e = (refl, refl)
+and_parts false b e = absurd cc
+
 -- the mark gives up the call of this xid, and no other
 abbrev pub GivesUp : ℕ → Mark → ℕ → Type 0
 GivesUp link mark xid = (x : ℕ) → gives_up link x mark ≡ eqb x xid
@@ -316,6 +358,13 @@ given_mark given_if opened link h h2 run mark xid g quiet gives lt k is =
           (all_filter _ (λ (a : AnsweredCall). not (eqb a.xid xid)) h.state.answered (all_as h.state.answered (λ a x. asked_more asked added a.xid a.call x) k.calls));
       awaited = subst (λ (xs : List StoredCall). AllByRecursion (λ (c : StoredCall). is_some (awaited_call c) ≡ due2 c.xid) xs) (sym is.1.0) (given_awaited given_if xid due due2 h.state.outstanding g less k.awaited);
       submitted = subst (λ (xs : List StoredCall). AllByRecursion (λ (c : StoredCall). IfSome c.call (IsAsked (asked ++ added) c.xid)) xs) (sym is.1.0) (given_submitted given_if xid asked added h.state.outstanding g k.submitted);
+      tickets = all_append _ asked added (all_as asked (λ (a : AcceptedCall) t e. (
+          let both = and_parts (due a.xid) (eqb a.xid xid) (sym (less a.xid) ∙ e) in
+          let differs : a.xid ≢ xid = λ same. (let wrong : true ≡ false = sym (eq-eqb a.xid xid same) ∙ both.1 in absurd cc) in
+          (λ i. is_some (call_with (find (λ (c : StoredCall). eqb c.xid a.xid) (is.1.0 i)) (find (λ (b : AnsweredCall). eqb b.xid a.xid) (is.0 i))))
+          ∙ (λ i. is_some (call_with (others_changed stored_xid given_if a.xid xid h.state.outstanding g.xid g.same differs i) (other_found answer_xid a.xid xid h.state.answered differs i)))
+          ∙ t both.0
+          )) k.tickets) (none_all _ added (none_accepted link run mark quiet.1));
       to_come = λ x at. (let next = is.1.1 in less x ∙ (λ i. k.to_come x (omega (arith, at, next)) i && not (differs x xid (omega (arith, at, next, lt)) i)));
       regions = quiet_regions opened es more quiet.1 k.regions;
     })

@@ -5,10 +5,13 @@ use Rattle.std.proofs.lemmas.List.Elements.{Contains-append_left, Contains-appen
 use Rattle.nr_reduce.specs.History.{AcceptedCall, CompletedCall, accepted_calls}
 use Rattle.nr_reduce.specs.OutcomesDue.{outcomes_of_call, outcomes_due}
 use Rattle.nr_reduce.specs.Run.{client}
+use Rattle.nr_reduce.specs.declared.mark.LinkParameters.{LinkParameters}
+use Rattle.nr_reduce.specs.declared.mark.Mark.{Mark}
 use Rattle.nr_requester.specs.declared.answer.AnsweredCall.{AnsweredCall}
+use Rattle.nr_requester.specs.RequesterState.{RequesterSide}
 use Rattle.nr_requester.specs.KeptAnswers.{is_due, completed_of, IsAsked}
 use Rattle.nr_requester.specs.Standing.{AnswersAfter}
-use Rattle.nr_requester.specs.Laws.{AnswersAreDue}
+use Rattle.nr_requester.specs.Laws.{AnswersAreDue, AnswersOut}
 use Rattle.nr_reduce.proofs.Standing.{itself}
 
 -- ---- Elements
@@ -99,13 +102,11 @@ answer_asked asked c (a ∷ answers) h (inl e) =
     record { call = record { xid = a.xid; call = a.call; form = h.0.0 }; there = to_among _ asked h.0.1; own = ap (λ (x : CompletedCall). x.xid) (sym e) }
 answer_asked asked c (a ∷ answers) h (inr is) = answer_asked asked c answers h.1 is
 
-pub answers_are_due : AnswersAreDue
+due_answers : (opened : LinkParameters) (link : ℕ) (h : RequesterSide) (run : List Mark) (c : CompletedCall) → AnswersAfter opened link h run →
+    (Contains (map completed_of h.state.answered) c → Contains (outcomes_due opened link run) c) × (Contains (outcomes_due opened link run) c → Contains (map completed_of h.state.answered) c)
 unfolding outcomes_due client
-answers_are_due opened link h run c s = (to_due, from_due)
+due_answers opened link h run c k = (to_due, from_due)
   where
-    k : AnswersAfter opened link h run
-    k = s.answers
-
     outs : List CompletedCall
     outs = (client opened link run).state.outcomes
 
@@ -123,3 +124,9 @@ answers_are_due opened link h run c s = (to_due, from_due)
         of_filter (λ (x : CompletedCall). is_due link run x.xid) c (flat_map (outcomes_of_call outs) (accepted_calls link run)) (to_among c (outcomes_due opened link run) is) in
         from_among c (map completed_of h.state.answered)
         (subst (λ (cs : List CompletedCall). Among c cs) (sym k.outcomes) (in_filter (λ (x : CompletedCall). is_due link run x.xid) c outs (of_calls outs c (accepted_calls link run) there.0) there.1))
+
+pub answers_are_due : AnswersAreDue
+answers_are_due opened link h run c s = due_answers opened link h run c s.answers
+
+pub answers_out : AnswersOut
+answers_out opened link h stopped run c out = due_answers opened link h run c out.answers

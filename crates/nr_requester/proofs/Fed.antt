@@ -36,7 +36,7 @@ use Rattle.nr_requester.specs.KeptAnswers.{is_due, client_by, KeepsAnswers}
 use Rattle.nr_requester.specs.AfterPiece.{requester_ended, after_frame, after_piece}
 use Rattle.nr_requester.specs.Laws.{PieceIsAMark}
 use Rattle.nr_requester.proofs.Marks.{state_of, lives_as, due_is, own_events}
-use Rattle.nr_requester.proofs.Frames.{Kept, KeptEnd}
+use Rattle.nr_requester.proofs.FrameMoves.{Kept, KeptEnd}
 use Rattle.nr_requester.proofs.CallRegions.{none_if, none_in_frames}
 use Rattle.nr_requester.proofs.AnswerSteps.{due_same, by_events}
 use Rattle.nr_requester.proofs.FrameAnswers.{ended_answers}

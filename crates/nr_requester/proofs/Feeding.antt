@@ -24,7 +24,8 @@ use Rattle.nr_reduce.proofs.Releasing.{kept_stays}
 use Rattle.nr_reduce.proofs.Steps.{ended_stays}
 use Rattle.nr_requester.specs.RequesterState.{RequesterState, queue_of, kept_client}
 use Rattle.nr_requester.specs.AfterPiece.{requester_ended, after_frame}
-use Rattle.nr_requester.proofs.Frames.{Kept, KeptEnd, FrameTaken, fpdu_taken}
+use Rattle.nr_requester.proofs.FrameMoves.{Kept, KeptEnd, FrameTaken}
+use Rattle.nr_requester.proofs.Frames.{fpdu_taken}
 use Rattle.nr_requester.proofs.Greeting.{hello_taken}
 use Rattle.nr_requester.specs.KeptAnswers.{client_by, KeepsAnswers}
 use Rattle.nr_requester.proofs.CallRegions.{none_in_frames}

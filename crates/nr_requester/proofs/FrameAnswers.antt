@@ -1,7 +1,7 @@
 -- A frame of the server's stream: the answers that a requester keeps after it.
 use Rattle.std.proofs.Common.{◌≡◌, ℕ, ◌≤◌, inl, inr, Bool, true, false, cond, not, eqb, List, [], ◌∷◌, ◌++◌, map, Option, None, Some, refl, sym, ap, subst, ◌∙◌, arith, append-nil}
 use Rattle.std.specs.Prelude.{is_some, IfSome}
-use Rattle.std.specs.List.{AllByRecursion, filter}
+use Rattle.std.specs.List.{AllByRecursion, filter, find}
 use Rattle.std.proofs.lemmas.List.{map-append}
 use Rattle.nr_xdr.specs.Fields.{word_at}
 use Rattle.nr_regions.specs.RegisteredMemory.{RegisteredMemory, Claim}
@@ -33,7 +33,9 @@ use Rattle.nr_requester.specs.AfterPiece.{buffer_under, buffers_under, answered_
 use Rattle.nr_requester.proofs.CallRegions.{SubmitNothing, Offers, all_offer}
 use Rattle.nr_requester.proofs.FoundCalls.{found_one, found_xid, stags_in_state, IsOfCall, verdict_call}
 use Rattle.nr_requester.proofs.AnswerSteps.{all_as, all_append, all_filter, filter_append, back_more, quiet_more}
-use Rattle.nr_requester.proofs.Frames.{Kept, Quiet, Completes, Moves, FrameTaken}
+use Rattle.nr_requester.specs.OpenCalls.{call_with}
+use Rattle.nr_requester.proofs.Tickets.{moved_open, due_calls, gives_some}
+use Rattle.nr_requester.proofs.FrameMoves.{Kept, Quiet, Completes, Moves, FrameTaken}
 
 -- one event more
 pub one_more_event : (opened : LinkParameters) (e : EndState ClientState) (f : Frame) (past : List RunEvent) → e ≡ client_by opened past → next_end_state (client_rules opened) e (FrameReceived f) ≡ client_by opened (past ++ FrameReceived f ∷ [])
@@ -111,7 +113,7 @@ module _ (opened : LinkParameters) (r after : RequesterState) (k : ClientState) 
       same_asked opened es due asked after
       (quiet_more opened past (FrameReceived f ∷ []) due due asked [] r after h
       (ap (λ (e : EndState ClientState). e.state.outcomes) (sym next_is) ∙ q.outcomes ∙ ap (λ (e : EndState ClientState). e.state.outcomes) is)
-      regions_next (λ x. refl) q.answered q.outstanding (omega (arith, next)))
+      regions_next (λ x. refl) q.answered q.outstanding (omega (arith, next)) refl)
 
   completed : Completes opened r after k (next_end_state (client_rules opened) (live k) (FrameReceived f)).state f → after.next_xid ≡ r.next_xid → KeepsAnswers opened es due asked after
   completed c next = record {
@@ -123,6 +125,12 @@ module _ (opened : LinkParameters) (r after : RequesterState) (k : ClientState) 
     calls = subst (λ (xs : List AnsweredCall). AllByRecursion (λ (a : AnsweredCall). IsAsked asked a.xid a.call) xs) (sym answered) (all_append _ r.answered (answered_as r.side.memory d o c.outcome) h.calls (own o refl c.outcome));
     awaited = subst (λ (xs : List StoredCall). AllByRecursion (λ (x : StoredCall). is_some (awaited_call x) ≡ due x.xid) xs) (sym c.outstanding) (all_filter _ (λ (x : StoredCall). not (eqb x.xid xid)) r.outstanding h.awaited);
     submitted = subst (λ (xs : List StoredCall). AllByRecursion (λ (x : StoredCall). IfSome x.call (IsAsked asked x.xid)) xs) (sym c.outstanding) (all_filter _ (λ (x : StoredCall). not (eqb x.xid xid)) r.outstanding h.submitted);
+    tickets = all_as asked (λ (a : AcceptedCall) t e. (
+        (λ i. is_some (call_with (find (λ (x : StoredCall). eqb x.xid a.xid) (c.outstanding i)) (find (λ (b : AnsweredCall). eqb b.xid a.xid) (answered i))))
+        ∙ moved_open r.side.memory xid a.xid d r.outstanding r.answered c.outcome of.found
+        (λ same awaited. gives_some r.first_xid r.sent r.outstanding (bytes_under r.side.memory) c.message c.xid c.outcome c.verdict (due_calls due xid r.outstanding (ap due (sym same) ∙ e) h.awaited))
+        (t e)
+        )) h.tickets;
     to_come = λ x at. h.to_come x (omega (arith, at, next));
     regions = regions_next;
   }
@@ -206,4 +214,4 @@ ended_answers opened r k end past more due asked none is h =
     let same : client_by opened (past ++ more) ≡ client_by opened past =
     end_state_after_append (client_rules opened) (initial_client opened) past more ∙ ap (λ (e : EndState ClientState). end_state_after (client_rules opened) e more) (sym is) ∙ (ended_stays (client_rules opened) k end more).0 ∙ is in
     same_asked opened (past ++ more) due asked r
-    (quiet_more opened past more due due asked [] r r h (ap (λ (e : EndState ClientState). e.state.outcomes) same) (regions_more opened past more none h.regions) (λ x. refl) refl refl (omega arith))
+    (quiet_more opened past more due due asked [] r r h (ap (λ (e : EndState ClientState). e.state.outcomes) same) (regions_more opened past more none h.regions) (λ x. refl) refl refl (omega arith) refl)

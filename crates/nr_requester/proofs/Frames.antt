@@ -1,11 +1,10 @@
 -- A frame of the server's stream: a requester that keeps its client keeps it after the frame, and queues what is due.
-use Rattle.std.proofs.Common.{◌≡◌, ◌≢◌, ℕ, ◌+◌, ◌<◌, ◌≤◌, ◌⊎◌, inl, inr, Bool, true, false, cond, not, eqb, ltb, List, [], ◌∷◌, ◌++◌, length, map, Option, None, Some, Result, Ok, Err, refl, sym, ap, subst, ◌∙◌, arith, append_assoc, length-append}
+use Rattle.std.proofs.Common.{◌≡◌, ◌≢◌, ℕ, ◌+◌, ◌<◌, ◌≤◌, inl, inr, Bool, true, false, cond, List, [], ◌∷◌, ◌++◌, length, Option, None, Some, refl, sym, ap, subst, ◌∙◌, arith}
 use Rattle.std.specs.Prelude.{IfSome}
-use Rattle.std.proofs.lemmas.List.{append-nil, length-map}
-use Rattle.std.proofs.lemmas.Bool.{ne_eqb, ltb-false}
+use Rattle.std.proofs.lemmas.List.{append-nil}
+use Rattle.std.proofs.lemmas.Bool.{ne_eqb}
 use Rattle.nr_xdr.specs.Fields.{word_at}
-use Rattle.nr_wire.specs.declared.hello.Side.{Side}
-use Rattle.nr_wire.specs.declared.hello.Side.TheVariants.{Initiator, Responder}
+use Rattle.nr_wire.specs.declared.hello.Side.TheVariants.{Responder}
 use Rattle.nr_wire.specs.declared.stream.Awaited.TheVariants.{Fpdu}
 use Rattle.nr_wire.specs.Hello.{hello_of}
 use Rattle.nr_wire.specs.Segment.{Segment, segment_of}
@@ -18,302 +17,35 @@ use Rattle.nr_regions.specs.Events.MemoryEvent.{Arrive}
 use Rattle.nr_link.specs.declared.end.End.{End}
 use Rattle.nr_link.specs.declared.end.End.TheVariants as ends
 use Rattle.nr_link.specs.Limits.{send_max}
-use Rattle.nr_link.specs.Reasons.{REASON_MSN, REASON_OFFSET, REASON_FORM, REASON_REQUESTS, REASON_SHORT, REASON_LONG}
 use Rattle.nr_link.specs.Frames.{Frame, is_hello}
-use Rattle.nr_link.specs.ReceiveState.{ReadRequest, is_send, message_completed, read_request_of}
+use Rattle.nr_link.specs.ReceiveState.{ReadRequest, message_completed, read_request_of}
 use Rattle.nr_link.specs.KeptSends.{received_within}
-use Rattle.nr_link.specs.SegmentFaults.{Readiness, SegmentReason, segment_reason, first_fault, missing_fault, reason_if, next_msn, next_offset, no_buffer, is_malformed, is_too_many, message_length_is, terminate_fault}
-use Rattle.nr_link.specs.Ending.{kind_of, frame_segment, frame_end, frame_end_by, hello_end, missing_access, final_output, end_of_fault}
+use Rattle.nr_link.specs.Ending.{kind_of, frame_segment, frame_end, hello_end, final_output}
 use Rattle.nr_endpoint.specs.LinkState.{LinkState}
 use Rattle.nr_endpoint.specs.ReceiveQueue.{DeliveredEvent, message_notices, with_segment as received_segment}
 use Rattle.nr_endpoint.specs.ReceiveQueue.DeliveredEvent.{MessageReceived}
-use Rattle.nr_endpoint.specs.SendQueue.{SendQueue, writable, with_end}
-use Rattle.nr_endpoint.specs.Judging.{with_frame, with_fpdu, with_segment_by, with_effect, with_end_of, after_frame, segment_end, next_frame, with_read_request, with_read_response, fetch_access}
-use Rattle.nr_endpoint.proofs.EndLaws.{effect_ended}
+use Rattle.nr_endpoint.specs.SendQueue.{SendQueue, writable}
+use Rattle.nr_endpoint.specs.Judging.{with_frame, with_effect, with_end_of, after_frame, segment_end, next_frame, with_read_request, with_read_response, fetch_access}
 use Rattle.nr_reduce.specs.declared.mark.LinkParameters.{LinkParameters}
-use Rattle.nr_reduce.specs.declared.call.Outcome.{Outcome}
 use Rattle.nr_reduce.specs.OfferedRegions.{region_grants}
 use Rattle.nr_reduce.specs.Events.RunEvent.{FrameReceived}
-use Rattle.nr_reduce.specs.EndRules.{EndState, next_end_state, next_end_state_by, output_for, output_for_by, live}
+use Rattle.nr_reduce.specs.EndRules.{next_end_state, live}
 use Rattle.nr_reduce.specs.ClientState.{ClientState}
 use Rattle.nr_reduce.specs.ClientMessages.{ReplyVerdict, reply_verdict}
 use Rattle.nr_reduce.specs.ClientMessages.ReplyVerdict.{EndsLink, GivesOutcome}
-use Rattle.nr_reduce.specs.Client.{client_rules, client_end, client_output, client_state_after, client_readiness, end_of_verdict, client_message_end, segment_message, or_message_end, with_segment, with_message, with_request, with_hello, due_with_response, response_output, segment_request, calls_output, credits_of_word, outcomes_of}
-use Rattle.nr_reduce.specs.KeptCalls.{KeptCall, kept_verdict}
-use Rattle.nr_reduce.specs.KeptClient.{KeptClient, ClientKeeps, bytes_under, released_all, without, kept_completed, kept_placed, kept_received, kept_by_message, stags_for as kept_stags}
-use Rattle.nr_reduce.proofs.Touches.{AreNone, all_none, no_flaw}
-use Rattle.nr_reduce.proofs.WholeWrotes.{client_due}
+use Rattle.nr_reduce.specs.Client.{client_rules, client_end, client_output, client_readiness, end_of_verdict, client_message_end, or_message_end, response_output, outcomes_of}
+use Rattle.nr_reduce.specs.KeptCalls.{kept_verdict}
+use Rattle.nr_reduce.specs.KeptClient.{KeptClient, ClientKeeps, bytes_under, released_all, kept_completed, kept_placed, kept_received, kept_by_message}
 use Rattle.nr_reduce.proofs.Keeping.{kept_judges, kept_responds}
-use Rattle.nr_reduce.proofs.Releasing.{kept_stays}
-use Rattle.nr_reduce.proofs.Taking.{kept_takes, kept_ends}
-use Rattle.nr_requester.specs.RequesterState.{StoredCall, RequesterState, kept_call, kept_calls, queue_of, kept_client}
+use Rattle.nr_reduce.proofs.Taking.{kept_takes}
+use Rattle.nr_requester.specs.RequesterState.{RequesterState, kept_calls, queue_of, kept_client}
 use Rattle.nr_requester.specs.Standing.{LinkKeeps}
 use Rattle.nr_requester.specs.AfterCalls.{stags_for}
-use Rattle.nr_requester.specs.AfterPiece.{without_call, answer_to, call_of, judged, noticed, unless_ended, after_fpdu}
-use Rattle.nr_requester.proofs.KeptCalls.{stags_alike}
+use Rattle.nr_requester.specs.AfterPiece.{judged, noticed, unless_ended, after_fpdu}
 use Rattle.nr_requester.proofs.Faults.{ends_alike}
 use Rattle.nr_requester.proofs.OneReceive.{MessageAt, message_at}
 use Rattle.nr_requester.proofs.FrameSides.{has_greeted, TaggedFine, tagged_fine, link_tagged, RequestFine, request_fine, queue_request, link_untagged, link_message}
-
--- A requester that hasn't ended keeps this client, after so many bytes were received.
-pub record Kept (opened : LinkParameters) (r : RequesterState) (k : ClientState) (count : ℕ) : Type 0 where
-  pub client : ClientKeeps opened (kept_client r) (live k) count
-  pub side : LinkKeeps opened r.side k
-  pub sent : r.sent ≡ r.side.send_queue.sends_left
-  pub first : r.first_xid ≡ opened.first_xid
-  pub wished : r.wished ≡ opened.wished
-  pub due : k.due ≡ k.written + length (queue_of r)
-
--- it keeps an end of a client
-pub record KeptEnd (opened : LinkParameters) (r : RequesterState) (e : EndState ClientState) (count : ℕ) : Type 0 where
-  pub client : ClientKeeps opened (kept_client r) e count
-  pub first : r.first_xid ≡ opened.first_xid
-  pub wished : r.wished ≡ opened.wished
-  pub live_one : e.ended ≡ None → Kept opened r e.state count
-
--- What a frame makes of the answers: it leaves them, or it completes the message of a call.
-pub record Quiet (r after : RequesterState) (k next : ClientState) : Type 0 where
-  pub answered : after.answered ≡ r.answered
-  pub outstanding : after.outstanding ≡ r.outstanding
-  pub outcomes : next.outcomes ≡ k.outcomes
-
-pub record Completes (opened : LinkParameters) (r after : RequesterState) (k next : ClientState) (f : Frame) : Type 0 where
-  pub segment : Segment
-  pub message : List ℕ
-  pub xid : ℕ
-  pub outcome : Option Outcome
-  pub stays : client_end k (FrameReceived f) ≡ None
-  pub after_hello : is_hello f ≡ false
-  pub is_segment : frame_segment f ≡ Ok segment
-  pub completes : message_completed k.received segment ≡ Some message
-  pub verdict : kept_verdict (kept_calls r) (bytes_under r.side.memory) message ≡ GivesOutcome xid outcome
-  pub judged_alike : reply_verdict k f.end message ≡ GivesOutcome xid outcome
-  pub answered : after.answered ≡ r.answered ++ answer_to r.side.memory (call_of (word_at 0 message) r.outstanding) outcome
-  pub outstanding : after.outstanding ≡ without_call (word_at 0 message) r.outstanding
-  pub outcomes : next.outcomes ≡ k.outcomes ++ outcomes_of (GivesOutcome xid outcome)
-
-abbrev pub Moves : LinkParameters → (r after : RequesterState) → (k next : ClientState) → Frame → Type 0
-Moves opened r after k next f = Quiet r after k next ⊎ Completes opened r after k next f
-
--- after a frame
-pub record FrameTaken (opened : LinkParameters) (r : RequesterState) (k : ClientState) (f : Frame) (after : RequesterState) : Type 0 where
-  pub keeps : KeptEnd opened after (next_end_state (client_rules opened) (live k) (FrameReceived f)) f.end
-  pub queue : queue_of after ≡ queue_of r ++ output_for (client_rules opened) (live k) (FrameReceived f)
-  pub place : after.side.ended ≡ None → after.side.place ≡ f.end
-  pub next_xid : after.next_xid ≡ r.next_xid
-  pub moves : Moves opened r after k (next_end_state (client_rules opened) (live k) (FrameReceived f)).state f
-
--- ---- A frame that ends the client, and one that doesn't
-
-pub taken_ended : (opened : LinkParameters) (r : RequesterState) (k : ClientState) (count : ℕ) (f : Frame) (after : RequesterState) (end : End) → Kept opened r k count → client_end k (FrameReceived f) ≡ Some end →
-    kept_client after ≡ record (kept_client r) { ended = Some end } → after.first_xid ≡ r.first_xid → after.wished ≡ r.wished → count ≤ f.end → queue_of after ≡ queue_of r ++ final_output end →
-    after.next_xid ≡ r.next_xid → after.answered ≡ r.answered → after.outstanding ≡ r.outstanding → FrameTaken opened r k f after
-taken_ended opened r k count f after end keeps is kept first wished le queue next answered outstanding =
-    let e : EndState ClientState = next_end_state (client_rules opened) (live k) (FrameReceived f) in
-    let ended : e.ended ≡ Some end = ap (λ (x : Option End). (next_end_state_by (client_rules opened) k (FrameReceived f) x).ended) is in
-    let side_ended : after.side.ended ≡ Some end = ap (λ (x : KeptClient). x.ended) kept in
-    record {
-      keeps = record {
-        client = subst (λ (x : KeptClient). ClientKeeps opened x e f.end) (sym kept)
-            (kept_stays opened (record (kept_client r) { ended = Some end }) e count f.end (kept_ends opened (kept_client r) k end count (FrameReceived f) keeps.client is) le);
-        first = first ∙ keeps.first;
-        wished = wished ∙ keeps.wished;
-        live_one = λ none. absurd (let wrong : Some end ≡ None = sym ended ∙ none in cc);
-      };
-      queue = queue ∙ ap (λ (e : Option End). queue_of r ++ output_for_by (client_rules opened) k (FrameReceived f) e) (sym is);
-      place = λ none. absurd (let wrong : Some end ≡ None = sym side_ended ∙ none in cc);
-      next_xid = next;
-      moves = inl (record { answered = answered; outstanding = outstanding; outcomes = ap (λ (x : Option End). (next_end_state_by (client_rules opened) k (FrameReceived f) x).state.outcomes) is });
-    }
-
--- a frame writes nothing
-written_still : (opened : LinkParameters) (k : ClientState) (f : Frame) → (client_state_after opened k (FrameReceived f)).written ≡ k.written
-unfolding client_state_after
-written_still opened k f = by (is_hello f)
-  where
-    by_message : (m : Option (List ℕ)) (due : ℕ) (q : Option ReadRequest) → (with_request (with_message k f.end m) due q).written ≡ k.written
-    by_message None due None = refl
-    by_message None due (Some q) = refl
-    by_message (Some m) due None = refl
-    by_message (Some m) due (Some q) = refl
-
-    by_segment : (r : Result Segment ℕ) → (with_segment k f r).written ≡ k.written
-    by_segment (Err reason) = refl
-    by_segment (Ok segment) = by_message (message_completed k.received segment) (due_with_response k f segment) (read_request_of segment)
-
-    by : (b : Bool) → (cond b (with_hello opened k) (with_segment k f (frame_segment f))).written ≡ k.written
-    by true = refl
-    by false = by_segment (frame_segment f)
-
-pub taken_live : (opened : LinkParameters) (r : RequesterState) (k : ClientState) (count : ℕ) (f : Frame) (after : RequesterState) → Kept opened r k count → client_end k (FrameReceived f) ≡ None →
-    ClientKeeps opened (kept_client after) (next_end_state (client_rules opened) (live k) (FrameReceived f)) f.end → LinkKeeps opened after.side (client_state_after opened k (FrameReceived f)) → after.sent ≡ r.sent → after.side.send_queue.sends_left ≡ r.side.send_queue.sends_left →
-    after.first_xid ≡ r.first_xid → after.wished ≡ r.wished →
-    queue_of after ≡ queue_of r ++ client_output opened k (FrameReceived f) → after.side.place ≡ f.end → after.next_xid ≡ r.next_xid → Moves opened r after k (client_state_after opened k (FrameReceived f)) f → FrameTaken opened r k f after
-taken_live opened r k count f after keeps is client side sent left first wished queue place next_xid moves =
-    let e : EndState ClientState = next_end_state (client_rules opened) (live k) (FrameReceived f) in
-    let e_is : e ≡ live (client_state_after opened k (FrameReceived f)) = ap (λ (x : Option End). next_end_state_by (client_rules opened) k (FrameReceived f) x) is in
-    let due = client_due opened k (FrameReceived f) in
-    let still = written_still opened k f in
-    let was = keeps.due in
-    let long : length (queue_of after) ≡ length (queue_of r) + length (client_output opened k (FrameReceived f)) = ap (λ (xs : List ℕ). length xs) queue ∙ length-append (queue_of r) (client_output opened k (FrameReceived f)) in
-    let next : Kept opened after (client_state_after opened k (FrameReceived f)) f.end = record {
-      client = subst (λ (x : EndState ClientState). ClientKeeps opened (kept_client after) x f.end) e_is client;
-      side = side;
-      sent = sent ∙ keeps.sent ∙ sym left;
-      first = first ∙ keeps.first;
-      wished = wished ∙ keeps.wished;
-      due = omega (arith, due, still, was, long);
-    } in
-    record {
-      keeps = record {
-        client = client;
-        first = first ∙ keeps.first;
-        wished = wished ∙ keeps.wished;
-        live_one = λ none. subst (λ (x : ClientState). Kept opened after x f.end) (sym (ap (λ (x : EndState ClientState). x.state) e_is)) next;
-      };
-      queue = queue ∙ ap (λ (x : Option End). queue_of r ++ output_for_by (client_rules opened) k (FrameReceived f) x) (sym is);
-      place = λ none. place;
-      next_xid = next_xid;
-      moves = subst (λ (x : ClientState). Moves opened r after k x f) (sym (ap (λ (x : EndState ClientState). x.state) e_is)) moves;
-    }
-
--- ---- What ends the side
-
-pub queue_ended : (h : Bool) (side : Side) (end : End) (q : SendQueue) → h ≡ true → side ≡ Initiator → writable h (with_end side end q) ≡ writable h q ++ final_output end
-unfolding with_end
-queue_ended h side end q greeted initiator =
-    (λ i. writable (greeted i) (with_end (initiator i) end q))
-    ∙ (λ i. append-nil q.hello i ++ (q.fpdus ++ final_output end))
-    ∙ sym (append_assoc q.hello q.fpdus (final_output end))
-    ∙ ap (λ (x : Bool). writable x q ++ final_output end) (sym greeted)
-
-some_ended : (s : LinkState) (f : Frame) (segment : Segment) (e : Option End) (end : End) → s.ended ≡ None → (with_segment_by f segment e s).ended ≡ Some end → with_segment_by f segment e s ≡ with_end_of end s
-some_ended s f segment None end lives is = absurd (let wrong : None ≡ Some end = sym (effect_ended s segment ∙ lives) ∙ is in cc)
-some_ended s f segment (Some x) end lives is = (let same : x ≡ end = cc in ap (λ (e : End). with_end_of e s) same)
-
-ended_shape : (s : LinkState) (f : Frame) (r : Result Segment ℕ) (end : End) → s.ended ≡ None → (with_fpdu f r s).ended ≡ Some end → with_fpdu f r s ≡ with_end_of end s
-unfolding with_fpdu
-ended_shape s f (Ok segment) end lives is = some_ended s f segment (segment_end s f segment) end lives is
-ended_shape s f (Err reason) end lives is = (let same : ends.Bad f.at reason ≡ end = cc in ap (λ (e : End). with_end_of e s) same)
-
--- what doesn't end it
-pub record Lives (s : LinkState) (f : Frame) (frame : List ℕ) : Type 0 where
-  pub segment : Segment
-  pub is_segment : segment_of frame ≡ Ok segment
-  pub none : segment_end s f segment ≡ None
-  pub shape : with_fpdu f (segment_of frame) s ≡ after_frame f (with_effect segment s)
-
-none_ended : (s : LinkState) (f : Frame) (segment : Segment) (e : Option End) → (with_segment_by f segment e s).ended ≡ None → e ≡ None
-none_ended s f segment None is = refl
-none_ended s f segment (Some end) is = absurd cc
-
-lives_by_lem : (s : LinkState) (f : Frame) (frame : List ℕ) (r : Result Segment ℕ) → segment_of frame ≡ r → (with_fpdu f r s).ended ≡ None → Lives s f frame
-unfolding with_fpdu
-lives_by_lem s f frame (Ok segment) is none =
-    let e : segment_end s f segment ≡ None = none_ended s f segment (segment_end s f segment) none in
-    record {
-      segment = segment;
-      is_segment = is;
-      none = e;
-      shape = ap (λ (r : Result Segment ℕ). with_fpdu f r s) is ∙ ap (λ (x : Option End). with_segment_by f segment x s) e;
-    }
-lives_by_lem s f frame (Err reason) is none = absurd cc
-
--- ---- What the client makes of a segment that doesn't end it
-
-pub record Reads (opened : LinkParameters) (k : ClientState) (f : Frame) (segment : Segment) : Type 0 where
-  pub later : is_hello f ≡ false
-  pub is_segment : frame_segment f ≡ Ok segment
-  pub end : client_end k (FrameReceived f) ≡ client_message_end k f (message_completed k.received segment)
-  pub output : client_output opened k (FrameReceived f) ≡ response_output k f.end (read_request_of segment)
-  pub state : client_state_after opened k (FrameReceived f) ≡ with_segment k f (Ok segment)
-
-reads : (opened : LinkParameters) (k : ClientState) (f : Frame) (segment : Segment) → is_hello f ≡ false → frame_segment f ≡ Ok segment → frame_end (client_readiness k) (region_grants f.end k.regions) f ≡ None → Reads opened k f segment
-unfolding client_end client_output client_state_after
-reads opened k f segment later is none = record {
-  later = later;
-  is_segment = is;
-  end = (λ i. cond (later i) (hello_end (hello_of Responder f.bytes)) (or_message_end k f (none i)))
-      ∙ ap (λ (r : Result Segment ℕ). client_message_end k f (segment_message k r)) is;
-  output = (λ i. cond (later i) (calls_output opened 1 k.outstanding) (response_output k f.end (segment_request (is i))));
-  state = (λ i. cond (later i) (with_hello opened k) (with_segment k f (is i)));
-}
-
--- a segment that completes no message leaves the outcomes
-quiet_segment : (k : ClientState) (f : Frame) (segment : Segment) → message_completed k.received segment ≡ None → (with_segment k f (Ok segment)).outcomes ≡ k.outcomes
-quiet_segment k f segment none =
-    ap (λ (m : Option (List ℕ)). (with_request (with_message k f.end m) (due_with_response k f segment) (read_request_of segment)).outcomes) none
-    ∙ by (read_request_of segment)
-  where
-    by : (q : Option ReadRequest) → (with_request k (due_with_response k f segment) q).outcomes ≡ k.outcomes
-    by None = refl
-    by (Some q) = refl
-
--- one that completes a message adds its outcome
-message_segment : (k : ClientState) (f : Frame) (segment : Segment) (message : List ℕ) → message_completed k.received segment ≡ Some message → (with_segment k f (Ok segment)).outcomes ≡ k.outcomes ++ outcomes_of (reply_verdict k f.end message)
-message_segment k f segment message whole =
-    ap (λ (m : Option (List ℕ)). (with_request (with_message k f.end m) (due_with_response k f segment) (read_request_of segment)).outcomes) whole
-    ∙ by (read_request_of segment)
-  where
-    by : (q : Option ReadRequest) → (with_request (with_message k f.end (Some message)) (due_with_response k f segment) q).outcomes ≡ k.outcomes ++ outcomes_of (reply_verdict k f.end message)
-    by None = refl
-    by (Some q) = refl
-
--- a message is no longer than its receive
-not_long : (k : ClientState) (f : Frame) (last : Bool) (opcode w queue msn offset : ℕ) (payload message : List ℕ) → frame_segment f ≡ Ok (Untagged last opcode w queue msn offset payload) →
-    frame_end (client_readiness k) (region_grants f.end k.regions) f ≡ None → message_completed k.received (Untagged last opcode w queue msn offset payload) ≡ Some message → length message ≤ k.down_max
-unfolding frame_end segment_reason
-not_long k f last opcode w queue msn offset payload message is none whole =
-    let segment : Segment = Untagged last opcode w queue msn offset payload in
-    let r : Readiness Denied = client_readiness k (missing_access (region_grants f.end k.regions) f segment) in
-    let long : Option (SegmentReason Denied) = reason_if REASON_LONG (message_length_is (λ n. ltb r.message_max n) (message_completed k.received segment)) in
-    let faults : List (Option (SegmentReason Denied)) =
-    reason_if REASON_MSN (not (eqb msn (next_msn r.received queue)))
-    ∷ reason_if REASON_OFFSET (not (eqb offset (next_offset r.received queue)))
-    ∷ no_buffer r (is_send opcode) msn
-    ∷ reason_if REASON_FORM (is_malformed opcode last payload)
-    ∷ missing_fault r.missing
-    ∷ reason_if REASON_REQUESTS (is_too_many r opcode)
-    ∷ long
-    ∷ reason_if REASON_SHORT (message_length_is (λ n. ltb n 16) (message_completed k.received segment))
-    ∷ terminate_fault opcode payload
-    ∷ [] in
-    let by_segment : end_of_fault f segment (first_fault faults) ≡ None = ap (λ (x : Result Segment ℕ). frame_end_by (client_readiness k) (region_grants f.end k.regions) f x) (sym is) ∙ none in
-    let all : AreNone faults = all_none faults (no_flaw f segment (first_fault faults) by_segment) in
-    ltb-false k.down_max (length message) (by (ltb k.down_max (length message)) (ap (λ (m : Option (List ℕ)). reason_if {D = Denied} REASON_LONG (message_length_is (λ n. ltb k.down_max n) m)) (sym whole) ∙ all.1.1.1.1.1.1.0))
-  where
-    by : (b : Bool) → reason_if {D = Denied} REASON_LONG b ≡ None → b ≡ false
-    by true e = absurd cc
-    by false e = refl
-
--- ---- What is kept once a message completed its call
-
-without_alike : (first sent xid : ℕ) (cs : List StoredCall) → without xid (map (kept_call first sent) cs) ≡ map (kept_call first sent) (without_call xid cs)
-without_alike first sent xid [] = refl
-without_alike first sent xid (c ∷ cs) = by (eqb c.xid xid) (without_alike first sent xid cs)
-  where
-    by : (b : Bool) → without xid (map (kept_call first sent) cs) ≡ map (kept_call first sent) (without_call xid cs) →
-        cond (not b) (kept_call first sent c ∷ without xid (map (kept_call first sent) cs)) (without xid (map (kept_call first sent) cs)) ≡ map (kept_call first sent) (cond (not b) (c ∷ without_call xid cs) (without_call xid cs))
-    by true rest = rest
-    by false rest = ap (λ (xs : List KeptCall). kept_call first sent c ∷ xs) rest
-
-completed_is : (r : RequesterState) (message : List ℕ) (xid : ℕ) (outcome : Option Outcome) (s : LinkState) → s.ended ≡ r.side.ended → s.memory ≡ r.side.memory → kept_completed (kept_client r) message ≡ kept_client (judged r s message (GivesOutcome xid outcome))
-unfolding kept_completed
-completed_is r message xid outcome s ended memory =
-    let x : ℕ = word_at 0 message in
-    let calls = without_alike r.first_xid r.sent x r.outstanding in
-    let count : length (without x (kept_calls r)) ≡ length (without_call x r.outstanding) = ap (λ (xs : List KeptCall). length xs) calls ∙ length-map (without_call x r.outstanding) (kept_call r.first_xid r.sent) in
-    let stags : released_all r.side.memory (kept_stags x (kept_calls r)) ≡ released_all s.memory (stags_for x r.outstanding) = (λ i. released_all (sym memory i) (stags_alike r.first_xid r.sent x r.outstanding i)) in
-    λ i. record {
-      ended = sym ended i;
-      next_xid = r.next_xid;
-      grant = credits_of_word (word_at 8 message);
-      outstanding = count i;
-      calls = calls i;
-      memory = stags i;
-      up_max = send_max;
-      down_max = send_max;
-    }
+use Rattle.nr_requester.proofs.FrameMoves.{Kept, FrameTaken, taken_ended, taken_live, queue_ended, ended_shape, Lives, lives_by_lem, Reads, reads, quiet_segment, message_segment, not_long, completed_is}
 
 -- ---- A frame that doesn't end the side of the link
 

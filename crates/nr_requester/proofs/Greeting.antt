@@ -27,7 +27,7 @@ use Rattle.nr_reduce.proofs.Releasing.{kept_stays}
 use Rattle.nr_reduce.proofs.Submits.{kept_greets}
 use Rattle.nr_requester.specs.RequesterState.{RequesterState, queue_of, kept_client}
 use Rattle.nr_requester.specs.Standing.{HasEnds, sends_ends, LinkKeeps}
-use Rattle.nr_requester.proofs.Frames.{Kept, FrameTaken, taken_live, taken_ended}
+use Rattle.nr_requester.proofs.FrameMoves.{Kept, FrameTaken, taken_live, taken_ended}
 
 -- the requester after it
 abbrev pub after_hello : RequesterState → List ℕ → RequesterState

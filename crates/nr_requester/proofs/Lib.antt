@@ -12,6 +12,7 @@ pub mod OneMessage
 pub mod OneReceive
 pub mod Faults
 pub mod FrameSides
+pub mod FrameMoves
 pub mod Frames
 pub mod Greeting
 pub mod Feeding
@@ -43,6 +44,8 @@ pub mod HeldBounds
 pub mod Lost
 pub mod OpenTickets
 pub mod Tickets
+pub mod FirstDue
+pub mod HandedBack
 pub mod CameBack
 pub mod ReplyParts
 pub mod Completing

@@ -1,24 +1,24 @@
 -- A ticket that is open is that of an awaited call; and the law of a requester's side with the marks of an answer that is taken or given up.
-use Rattle.std.proofs.Common.{◌≡◌, ◌≢◌, ℕ, inl, inr, Bool, true, false, cond, not, ◌||◌, eqb, List, [], ◌∷◌, map, Option, None, Some, is_some, IfSome, refl, sym, ap, subst, ◌∙◌}
+use Rattle.std.proofs.Common.{◌≡◌, ◌≢◌, ℕ, inl, inr, Bool, true, false, cond, not, ◌||◌, eqb, List, [], ◌∷◌, ◌++◌, map, Option, None, Some, is_some, IfSome, refl, sym, ap, subst, ◌∙◌}
 use Rattle.std.specs.List.{AllByRecursion, filter, find, list_any}
 use Rattle.std.proofs.lemmas.Bool.{eq-eqb, ne_eqb}
 use Rattle.nr_reduce.specs.declared.call.Call.{Call}
 use Rattle.nr_reduce.specs.declared.mark.LinkParameters.{LinkParameters}
 use Rattle.nr_reduce.specs.declared.mark.Mark.{Mark}
 use Rattle.nr_reduce.specs.declared.mark.Mark.TheVariants as marks
-use Rattle.nr_reduce.specs.History.{CompletedCall, accepted_calls, completed_calls, is_abandoned}
+use Rattle.nr_reduce.specs.History.{AcceptedCall, CompletedCall, accepted_calls, completed_calls, is_abandoned}
 use Rattle.nr_reduce.specs.OutcomesDue.{is_completed}
 use Rattle.nr_reduce.specs.Run.{client}
 use Rattle.nr_reduce.specs.Matched.{IsPrefixOf}
-use Rattle.nr_reduce.specs.Asked.{AskedMark, IsAwaited, IsCompleted, IsLost}
-use Rattle.nr_reduce.specs.Credits.{WithinGrant}
+use Rattle.nr_reduce.specs.Asked.{AskedMark, AskedSoFar, IsAwaited, IsCompleted, IsLost}
+use Rattle.nr_reduce.specs.Credits.{WithinGrant, KeepsGrant}
 use Rattle.nr_reduce.proofs.Standing.{AtEachMark_more}
 use Rattle.nr_requester.specs.declared.answer.AnsweredCall.{AnsweredCall}
 use Rattle.nr_requester.specs.RequesterState.{StoredCall, RequesterSide, awaited_call}
 use Rattle.nr_requester.specs.KeptAnswers.{is_due, completed_of, IsAsked}
 use Rattle.nr_requester.specs.Standing.{AnswersAfter}
 use Rattle.nr_requester.specs.OpenCalls.{call_with, open_call, found_call, found_answer}
-use Rattle.nr_requester.specs.Laws.{OpenIsAwaited, OpenOut, ForgetKeepsLaw, DoneKeepsLaw, LostKeepsLaw}
+use Rattle.nr_requester.specs.Laws.{OpenIsAwaited, OpenOut, AwaitedIsOpen, AwaitedOut, ForgetKeepsLaw, ForgetOutKeepsLaw, DoneKeepsLaw, DoneOutKeepsLaw, LostKeepsLaw}
 use Rattle.nr_requester.proofs.DueAnswers.{Among, from_among, to_among, in_filter, of_filter}
 use Rattle.nr_requester.proofs.FoundAnswers.{found_own}
 use Rattle.nr_requester.proofs.FoundCalls.{found_one, found_xid}
@@ -123,16 +123,49 @@ open_is_awaited opened link h run xid s is_open = open_awaits opened link h run 
 pub open_out : OpenOut
 open_out opened link h stopped run xid out is_open = open_awaits opened link h run xid out.answers is_open
 
+any_none : (xid : ℕ) (cs : List CompletedCall) → ((c : CompletedCall) → Among c cs → c.xid ≢ xid) → list_any (λ c. eqb c.xid xid) cs ≡ false
+any_none xid [] f = refl
+any_none xid (x ∷ cs) f = λ i. ne_eqb x.xid xid (f x (inl refl)) i || any_none xid cs (λ c there. f c (inr there)) i
+
+due_by : (link : ℕ) (run : List Mark) (xid : ℕ) → IsAwaited link run xid → is_due link run xid ≡ true
+due_by link run xid w =
+    let completed : is_completed link xid run ≡ false = any_none xid (completed_calls link run) (λ c there. w.first c (from_among c (completed_calls link run) there)) in
+    λ i. not (w.kept i || completed i)
+
+-- the ticket of an awaited call is open
+all_among : (P : AcceptedCall → Type 0) (a : AcceptedCall) (asked : List AcceptedCall) → AllByRecursion P asked → Among a asked → P a
+all_among P a [] h there = absurd there
+all_among P a (b ∷ asked) h (inl same) = subst P same h.0
+all_among P a (b ∷ asked) h (inr there) = all_among P a asked h.1 there
+
+awaits_open : (opened : LinkParameters) (link : ℕ) (h : RequesterSide) (run : List Mark) (xid : ℕ) → AnswersAfter opened link h run → IsAwaited link run xid → is_some (open_call xid h.state) ≡ true
+awaits_open opened link h run xid k w =
+    let open_own = all_among (λ (a : AcceptedCall). is_due link run a.xid ≡ true → is_some (open_call a.xid h.state) ≡ true) w.asked (accepted_calls link run) k.tickets (to_among w.asked (accepted_calls link run) w.is_asked) in
+    subst (λ (x : ℕ). is_some (open_call x h.state) ≡ true) w.own (open_own (ap (λ (x : ℕ). is_due link run x) w.own ∙ due_by link run xid w))
+
+pub awaited_is_open : AwaitedIsOpen
+awaited_is_open opened link h run xid s w = awaits_open opened link h run xid s.answers w
+
+pub awaited_out : AwaitedOut
+awaited_out opened link h stopped run xid out w = awaits_open opened link h run xid out.answers w
+
 -- ---- The law of its side
 
-pub forget_keeps_law : ForgetKeepsLaw
-forget_keeps_law opened link h run xid s is_open asked grant =
+forget_keeps : (opened : LinkParameters) (link : ℕ) (h : RequesterSide) (run : List Mark) (xid : ℕ) → AnswersAfter opened link h run → is_some (open_call xid h.state) ≡ true → AskedSoFar opened link run → KeepsGrant opened link run →
+    AskedSoFar opened link (run ++ marks.Forget link xid ∷ []) × KeepsGrant opened link (run ++ marks.Forget link xid ∷ [])
+forget_keeps opened link h run xid k is_open asked grant =
     let mark : Mark = marks.Forget link xid in
-    (AtEachMark_more (AskedMark IsPrefixOf opened link) [] run mark asked (λ same. open_is_awaited opened link h run xid s is_open), AtEachMark_more (WithinGrant opened link) [] run mark grant tt)
+    (AtEachMark_more (AskedMark IsPrefixOf opened link) [] run mark asked (λ same. open_awaits opened link h run xid k is_open), AtEachMark_more (WithinGrant opened link) [] run mark grant tt)
 
-pub done_keeps_law : DoneKeepsLaw
-done_keeps_law opened link h run xid a s answer asked grant =
-    let k : AnswersAfter opened link h run = s.answers in
+pub forget_keeps_law : ForgetKeepsLaw
+forget_keeps_law opened link h run xid s is_open asked grant = forget_keeps opened link h run xid s.answers is_open asked grant
+
+pub forget_out_keeps_law : ForgetOutKeepsLaw
+forget_out_keeps_law opened link h stopped run xid out is_open asked grant = forget_keeps opened link h run xid out.answers is_open asked grant
+
+done_keeps : (opened : LinkParameters) (link : ℕ) (h : RequesterSide) (run : List Mark) (xid : ℕ) (a : AnsweredCall) → AnswersAfter opened link h run → found_answer xid h.state ≡ Some a → AskedSoFar opened link run → KeepsGrant opened link run →
+    AskedSoFar opened link (run ++ marks.Done link xid a.outcome ∷ []) × KeepsGrant opened link (run ++ marks.Done link xid a.outcome ∷ [])
+done_keeps opened link h run xid a k answer asked grant =
     let mark : Mark = marks.Done link xid a.outcome in
     let due = answer_one (λ (a : AnsweredCall). (is_due link run a.xid ≡ true) × Among (completed_of a) (client opened link run).state.outcomes) xid a h.state.answered (answers_due opened link h run k) answer in
     let given = answer_one (λ (a : AnsweredCall). IsAsked (accepted_calls link run) a.xid a.call) xid a h.state.answered k.calls answer in
@@ -142,6 +175,12 @@ done_keeps_law opened link h run xid a s answer asked grant =
       is_received = from_among (completed_of a) (client opened link run).state.outcomes due.1;
     }) in
     (AtEachMark_more (AskedMark IsPrefixOf opened link) [] run mark asked (λ same. is), AtEachMark_more (WithinGrant opened link) [] run mark grant tt)
+
+pub done_keeps_law : DoneKeepsLaw
+done_keeps_law opened link h run xid a s answer asked grant = done_keeps opened link h run xid a s.answers answer asked grant
+
+pub done_out_keeps_law : DoneOutKeepsLaw
+done_out_keeps_law opened link h stopped run xid a out answer asked grant = done_keeps opened link h run xid a out.answers answer asked grant
 
 -- an outcome that is due is that of an answer
 of_answer : (xid : ℕ) (c : CompletedCall) (answers : List AnsweredCall) → Among c (map completed_of answers) → c.xid ≡ xid → find (λ (a : AnsweredCall). eqb a.xid xid) answers ≢ None
@@ -153,15 +192,6 @@ of_answer xid c (a ∷ answers) there own e = by (eqb a.xid xid) refl (λ g f. o
     by true is rest g f = absurd (let wrong : some_of a ≡ none_of a = f in cc)
     by false is rest (inl same) f = absurd (let wrong : true ≡ false = sym (eq-eqb a.xid xid (ap (λ (y : CompletedCall). y.xid) same ∙ own)) ∙ is in cc)
     by false is rest (inr g) f = rest g f
-
-any_none : (xid : ℕ) (cs : List CompletedCall) → ((c : CompletedCall) → Among c cs → c.xid ≢ xid) → list_any (λ c. eqb c.xid xid) cs ≡ false
-any_none xid [] f = refl
-any_none xid (x ∷ cs) f = λ i. ne_eqb x.xid xid (f x (inl refl)) i || any_none xid cs (λ c there. f c (inr there)) i
-
-due_by : (link : ℕ) (run : List Mark) (xid : ℕ) → IsAwaited link run xid → is_due link run xid ≡ true
-due_by link run xid w =
-    let completed : is_completed link xid run ≡ false = any_none xid (completed_calls link run) (λ c there. w.first c (from_among c (completed_calls link run) there)) in
-    λ i. not (w.kept i || completed i)
 
 pub lost_keeps_law : LostKeepsLaw
 unfolding client

@@ -22,7 +22,7 @@ use Rattle.nr_reduce.specs.KeptCalls.{KeptCall, stags_unless}
 use Rattle.nr_reduce.specs.KeptClient.{bytes_under, IsWaiting, HasRegionsOf}
 use Rattle.nr_reduce.proofs.Standing.{AtEachMark_more}
 use Rattle.nr_requester.specs.RequesterState.{StoredCall, RequesterSide, stags_of, kept_call}
-use Rattle.nr_requester.specs.Laws.{HoldsPlaced, RevokeKeepsLaw, RevokedOut}
+use Rattle.nr_requester.specs.Laws.{HoldsPlaced, BuffersArePlaced, RevokeKeepsLaw, RevokedOut}
 use Rattle.nr_requester.specs.declared.answer.AnsweredCall.{AnsweredCall}
 use Rattle.nr_requester.specs.Buffers.{bytes_of_buffers}
 use Rattle.nr_requester.specs.OpenCalls.{IsOutstanding, buffers_with, buffers_of}
@@ -117,13 +117,16 @@ buffers_are opened link h run xid holds offers waits is =
     ∙ joined_buffers h.state.side.memory is.call.claims
     ∙ bytes_are_lem opened link h run xid is.call holds offers waits is.there is.has
 
+pub buffers_are_placed : BuffersArePlaced
+buffers_are_placed opened link h run xid s there = buffers_are opened link h run xid (memory_as_client opened link h run s) (offers_after opened link h run s.answers) s.keeps.kept.keeps.waits there
+
 pub revoke_keeps_law : RevokeKeepsLaw
 revoke_keeps_law opened link h run xid s there awaited asked grant =
     let bytes : List ℕ = bytes_of_buffers (buffers_of xid h.state) in
     let mark : Mark = marks.Revoke link xid bytes in
     let is : IsRevoked opened link run xid bytes = record {
       awaited = awaited;
-      bytes_are = buffers_are opened link h run xid (memory_as_client opened link h run s) (offers_after opened link h run s.answers) s.keeps.kept.keeps.waits there;
+      bytes_are = buffers_are_placed opened link h run xid s there;
     } in
     (AtEachMark_more (AskedMark IsPrefixOf opened link) [] run mark asked (λ same. is), AtEachMark_more (WithinGrant opened link) [] run mark grant tt)
 

@@ -33,14 +33,14 @@ use Rattle.nr_reduce.specs.KeptClient.{bytes_under}
 use Rattle.nr_requester.specs.declared.answer.AnsweredCall.{AnsweredCall}
 use Rattle.nr_requester.specs.declared.outstanding.OutstandingCall.{OutstandingCall}
 use Rattle.nr_requester.specs.RequesterState.{RequesterState, RequesterSide, StoredCall, awaited_call, kept_call, kept_calls}
-use Rattle.nr_requester.specs.AfterCalls.{without_answer, revoked_if, revoked_call, forgotten_if, forgotten_call, stored_call, after_submit, after_drain, after_revoke, after_forget}
-use Rattle.nr_requester.specs.AfterPiece.{buffers_under, without_call, answered_as, answer_to, call_of, judged, noticed, unless_ended}
+use Rattle.nr_requester.specs.AfterCalls.{revoked_if, revoked_call, forgotten_if, forgotten_call, stored_call, after_submit, after_drain, after_revoke, after_forget}
+use Rattle.nr_requester.specs.AfterPiece.{buffers_under, without_call, answered_as, answer_to, judged, noticed, unless_ended}
 use Rattle.nr_requester.specs.OpenCalls.{call_with, open_call, found_call, found_answer, IsFresh, KeepsTickets, OpensTicket, ClosesTicket}
 use Rattle.nr_requester.specs.Answers.{WasSent}
 use Rattle.nr_requester.specs.Fed.{IsStep, fed_bytes}
 use Rattle.nr_requester.specs.Views.{AreRising, IsAnswered, stored_view}
 use Rattle.nr_requester.proofs.FoundCalls.{header_xid, IsOfCall, verdict_call, found_xid}
-use Rattle.nr_requester.proofs.Stepping.{link_of, told_of, step_fed}
+use Rattle.nr_requester.proofs.Stepping.{link_of, step_fed}
 
 -- ---- The element with a key
 
@@ -67,7 +67,7 @@ module _ {X : Type 0} (key : X → ℕ) where
   abbrev without_key : ℕ → List X → List X
   without_key w cs = filter (λ (c : X). not (eqb (key c) w)) cs
 
-  other_found : (x w : ℕ) (cs : List X) → x ≢ w → by_key x (without_key w cs) ≡ by_key x cs
+  pub other_found : (x w : ℕ) (cs : List X) → x ≢ w → by_key x (without_key w cs) ≡ by_key x cs
   other_found x w [] differs = refl
   other_found x w (c ∷ cs) differs = by (eqb (key c) w) refl (eqb (key c) x) refl (other_found x w cs differs)
     where
@@ -77,7 +77,7 @@ module _ {X : Type 0} (key : X → ℕ) where
       by true own true is rest = absurd (differs (sym (eqb-true (key c) x is) ∙ eqb-true (key c) w own))
       by true own false is rest = rest
 
-  own_gone : (w : ℕ) (cs : List X) → by_key w (without_key w cs) ≡ None
+  pub own_gone : (w : ℕ) (cs : List X) → by_key w (without_key w cs) ≡ None
   own_gone w [] = refl
   own_gone w (c ∷ cs) = by (eqb (key c) w) refl (own_gone w cs)
     where
@@ -86,7 +86,7 @@ module _ {X : Type 0} (key : X → ℕ) where
       by false own rest = (λ i. cond (own i) (Some c) (by_key w (without_key w cs))) ∙ rest
 
   -- a change of those with a key leaves the others
-  others_changed : (f : Bool → X → X) (x w : ℕ) (cs : List X) → ((b : Bool) (c : X) → key (f b c) ≡ key c) → ((c : X) → f false c ≡ c) → x ≢ w → by_key x (map (λ (c : X). f (eqb (key c) w) c) cs) ≡ by_key x cs
+  pub others_changed : (f : Bool → X → X) (x w : ℕ) (cs : List X) → ((b : Bool) (c : X) → key (f b c) ≡ key c) → ((c : X) → f false c ≡ c) → x ≢ w → by_key x (map (λ (c : X). f (eqb (key c) w) c) cs) ≡ by_key x cs
   others_changed f x w [] own same differs = refl
   others_changed f x w (c ∷ cs) own same differs =
       ap (λ (n : ℕ). cond (eqb n x) (Some (f (eqb (key c) w) c)) (by_key x (map (λ (c : X). f (eqb (key c) w) c) cs))) (own (eqb (key c) w) c)
@@ -98,10 +98,10 @@ module _ {X : Type 0} (key : X → ℕ) where
       by true is true e rest = absurd (differs (sym (eqb-true (key c) x is) ∙ eqb-true (key c) w e))
       by true is false e rest = ap (λ (d : X). Some d) (same c)
 
-abbrev stored_xid : StoredCall → ℕ
+abbrev pub stored_xid : StoredCall → ℕ
 stored_xid c = c.xid
 
-abbrev answer_xid : AnsweredCall → ℕ
+abbrev pub answer_xid : AnsweredCall → ℕ
 answer_xid a = a.xid
 
 -- ---- A call that is given up
@@ -309,16 +309,73 @@ moved_keeps m w x d cs answers outcome there none gives = by (eqb x w) refl
         λ i. call_with (other_found stored_xid x w cs differs i)
         ((find_append (λ (a : AnsweredCall). eqb a.xid x) answers more ∙ ap (λ (o : Option AnsweredCall). first_of (find (λ (a : AnsweredCall). eqb a.xid x) answers) o) none_more ∙ first_none (find (λ (a : AnsweredCall). eqb a.xid x) answers)) i)
 
+awaited_has : (b : Bool) (call : Option Call) → is_some (cond b no_call call) ≡ true → is_some call ≡ true
+awaited_has true call e = absurd cc
+awaited_has false call e = e
+
+-- The ticket of a call that was awaited stays open, whatever else has its xid.
+pub moved_open : (m : RegisteredMemory) (w x : ℕ) (d : StoredCall) (cs : List StoredCall) (answers : List AnsweredCall) (outcome : Option Outcome) → find (λ (c : StoredCall). eqb c.xid w) cs ≡ Some d →
+    (x ≡ w → is_some (awaited_call d) ≡ true → is_some outcome ≡ true) → is_some (call_with (find (λ (c : StoredCall). eqb c.xid x) cs) (find (λ (a : AnsweredCall). eqb a.xid x) answers)) ≡ true →
+    is_some (call_with (find (λ (c : StoredCall). eqb c.xid x) (without_call w cs)) (find (λ (a : AnsweredCall). eqb a.xid x) (answers ++ answered_as m d (awaited_call d) outcome))) ≡ true
+moved_open m w x d cs answers outcome there gives was = by (eqb x w) refl
+  where
+    more : List AnsweredCall
+    more = answered_as m d (awaited_call d) outcome
+
+    own : d.xid ≡ w
+    own = found_xid w d cs there
+
+    by_answer : x ≡ w → (o : Option AnsweredCall) → find (λ (a : AnsweredCall). eqb a.xid w) answers ≡ o → is_some (call_with None (first_of o (find (λ (a : AnsweredCall). eqb a.xid w) more))) ≡ true
+    by_answer same (Some a) e = refl
+    by_answer same None e =
+        let awaits : is_some (awaited_call d) ≡ true = (λ i. is_some (call_with (sym there i) (find (λ (a : AnsweredCall). eqb a.xid w) answers))) ∙ subst (λ (n : ℕ). is_some (call_with (find (λ (c : StoredCall). eqb c.xid n) cs) (find (λ (a : AnsweredCall). eqb a.xid n) answers)) ≡ true) same was in
+        ap (λ (o : Option Call). is_some o) (own_answer m w d (awaited_call d) outcome own (gives same)) ∙ awaits
+
+    by : (b : Bool) → eqb x w ≡ b → is_some (call_with (find (λ (c : StoredCall). eqb c.xid x) (without_call w cs)) (find (λ (a : AnsweredCall). eqb a.xid x) (answers ++ more))) ≡ true
+    by true e =
+        let same : x ≡ w = eqb-true x w e in
+        subst (λ (n : ℕ). is_some (call_with (find (λ (c : StoredCall). eqb c.xid n) (without_call w cs)) (find (λ (a : AnsweredCall). eqb a.xid n) (answers ++ more))) ≡ true) (sym same)
+        ((λ i. is_some (call_with (own_gone stored_xid w cs i) (find_append (λ (a : AnsweredCall). eqb a.xid w) answers more i))) ∙ by_answer same (find (λ (a : AnsweredCall). eqb a.xid w) answers) refl)
+    by false e =
+        let differs : x ≢ w = λ same. (let wrong : true ≡ false = sym (eq-eqb x w same) ∙ e in absurd cc) in
+        let none_more = other_answer m x d (awaited_call d) outcome (λ same. differs (sym same ∙ own)) in
+        (λ i. is_some (call_with (other_found stored_xid x w cs differs i)
+        ((find_append (λ (a : AnsweredCall). eqb a.xid x) answers more ∙ ap (λ (o : Option AnsweredCall). first_of (find (λ (a : AnsweredCall). eqb a.xid x) answers) o) none_more ∙ first_none (find (λ (a : AnsweredCall). eqb a.xid x) answers)) i)))
+        ∙ was
+
+-- if the outcomes of an xid are due, its calls have their memory
+pub due_calls : (due : ℕ → Bool) (w : ℕ) (cs : List StoredCall) → due w ≡ true → AllByRecursion (λ (c : StoredCall). is_some (awaited_call c) ≡ due c.xid) cs → HasCalls w cs
+due_calls due w [] e h = tt
+due_calls due w (c ∷ cs) e h = (λ same. awaited_has c.is_forgotten c.call (h.0 ∙ ap due same ∙ e), due_calls due w cs e h.1)
+
+-- with one call more
+pub submit_stays : (x : ℕ) (cs : List StoredCall) (c : StoredCall) (answers : List AnsweredCall) → is_some (awaited_call c) ≡ true → is_some (call_with (find (λ (d : StoredCall). eqb d.xid x) cs) (find (λ (a : AnsweredCall). eqb a.xid x) answers)) ≡ true →
+    is_some (call_with (find (λ (d : StoredCall). eqb d.xid x) (cs ++ c ∷ [])) (find (λ (a : AnsweredCall). eqb a.xid x) answers)) ≡ true
+submit_stays x cs c answers awaits was =
+    (λ i. is_some (call_with (find_append (λ (d : StoredCall). eqb d.xid x) cs (c ∷ []) i) (find (λ (a : AnsweredCall). eqb a.xid x) answers)))
+    ∙ by (find (λ (d : StoredCall). eqb d.xid x) cs) (eqb c.xid x) was
+  where
+    by : (o : Option StoredCall) (b : Bool) → is_some (call_with o (find (λ (a : AnsweredCall). eqb a.xid x) answers)) ≡ true → is_some (call_with (first_of o (cond b (Some c) None)) (find (λ (a : AnsweredCall). eqb a.xid x) answers)) ≡ true
+    by (Some d) b e = e
+    by None true e = awaits
+    by None false e = e
+
+pub submit_own : (due : ℕ → Bool) (cs : List StoredCall) (c : StoredCall) (answers : List AnsweredCall) → is_some (awaited_call c) ≡ true → due c.xid ≡ true → AllByRecursion (λ (d : StoredCall). is_some (awaited_call d) ≡ due d.xid) cs →
+    is_some (call_with (find (λ (d : StoredCall). eqb d.xid c.xid) (cs ++ c ∷ [])) (find (λ (a : AnsweredCall). eqb a.xid c.xid) answers)) ≡ true
+submit_own due [] c answers awaits is h = ap (λ (b : Bool). is_some (call_with (cond b (Some c) None) (find (λ (a : AnsweredCall). eqb a.xid c.xid) answers))) (eq-eqb c.xid c.xid refl) ∙ awaits
+submit_own due (d ∷ cs) c answers awaits is h = by (eqb d.xid c.xid) refl (submit_own due cs c answers awaits is h.1)
+  where
+    by : (b : Bool) → eqb d.xid c.xid ≡ b → is_some (call_with (find (λ (d : StoredCall). eqb d.xid c.xid) (cs ++ c ∷ [])) (find (λ (a : AnsweredCall). eqb a.xid c.xid) answers)) ≡ true →
+        is_some (call_with (cond b (Some d) (find (λ (d : StoredCall). eqb d.xid c.xid) (cs ++ c ∷ []))) (find (λ (a : AnsweredCall). eqb a.xid c.xid) answers)) ≡ true
+    by true e rest = h.0 ∙ ap due (eqb-true d.xid c.xid e) ∙ is
+    by false e rest = rest
+
 -- ---- A frame
 
 -- An outstanding call has no answer yet; and if one of an xid wasn't revoked, none of that xid was.
 pub record AreApart (r : RequesterState) : Type 0 where
   pub calls : (w : ℕ) (d : StoredCall) → found_call w r ≡ Some d → is_some d.call ≡ true → HasCalls w r.outstanding
   pub answers : (w : ℕ) (d : StoredCall) → found_call w r ≡ Some d → found_answer w r ≡ None
-
-awaited_has : (b : Bool) (call : Option Call) → is_some (cond b no_call call) ≡ true → is_some call ≡ true
-awaited_has true call e = absurd cc
-awaited_has false call e = e
 
 noticed_keeps : (r : RequesterState) (s : LinkState) (ns : List DeliveredEvent) → AreApart r → KeepsTickets r (noticed r s ns)
 noticed_keeps r s [] k = λ x. refl

@@ -24,6 +24,7 @@ use Rattle.nr_requester.specs.declared.answer.AnsweredCall.{AnsweredCall}
 use Rattle.nr_requester.specs.declared.answer.Buffers.{Buffers}
 use Rattle.nr_requester.specs.RequesterState.{RequesterState, awaited_call}
 use Rattle.nr_requester.specs.CallRegions.{CallsOffer}
+use Rattle.nr_requester.specs.OpenCalls.{open_call}
 
 -- whether the outcome of a call wasn't handed over, and the call wasn't given up
 abbrev pub is_due : ℕ → List Mark → ℕ → Bool
@@ -69,13 +70,14 @@ abbrev pub IsAsked : List AcceptedCall → ℕ → Call → Type 0
 IsAsked asked xid call = (form : Form) × Contains asked (record { xid = xid; call = call; form = form })
 
 -- After these events, with these calls accepted: the answered calls have the outcomes that are due, in the order in which messages brought them, each
--- with its call, as it was submitted, and its buffers; and an outstanding call is awaited if its outcome will be due. The outcome of a call
--- that is still to come will be due.
+-- with its call, as it was submitted, and its buffers; and an outstanding call is awaited if its outcome will be due. The ticket of each
+-- accepted call whose outcome is or will be due is open. The outcome of a call that is still to come will be due.
 pub record KeepsAnswers (opened : LinkParameters) (es : List RunEvent) (due : ℕ → Bool) (asked : List AcceptedCall) (r : RequesterState) : Type 0 where
   pub outcomes : map completed_of r.answered ≡ filter (λ c. due c.xid) (client_by opened es).state.outcomes
   pub hands_back : AllByRecursion (HandsBack opened es) r.answered
   pub calls : AllByRecursion (λ a. IsAsked asked a.xid a.call) r.answered
   pub awaited : AllByRecursion (λ c. is_some (awaited_call c) ≡ due c.xid) r.outstanding
   pub submitted : AllByRecursion (λ c. IfSome c.call (IsAsked asked c.xid)) r.outstanding
+  pub tickets : AllByRecursion (λ (a : AcceptedCall). due a.xid ≡ true → is_some (open_call a.xid r) ≡ true) asked
   pub to_come : (xid : ℕ) → r.next_xid ≤ xid → due xid ≡ true
   pub regions : CallsOffer (next_xid opened (client_by opened es).state) (client_by opened es).state

@@ -17,7 +17,7 @@ use Rattle.nr_reduce.specs.declared.mark.Mark.TheVariants as marks
 use Rattle.nr_reduce.specs.declared.outline.Plan.{Plan}
 use Rattle.nr_reduce.specs.Events.{events_at}
 use Rattle.nr_rpc.specs.Credential.{CanWriteCred}
-use Rattle.nr_reduce.specs.History.{CompletedCall, bytes_sent, written_at, fed_at, completed_at, abandons}
+use Rattle.nr_reduce.specs.History.{AcceptedCall, CompletedCall, accepted_calls, bytes_sent, written_at, fed_at, completed_at, abandons}
 use Rattle.nr_reduce.specs.OutcomesDue.{outcomes_due}
 use Rattle.nr_reduce.specs.Run.{client, output_due, placed_bytes}
 use Rattle.nr_reduce.specs.Opening.{IsOpened}
@@ -46,6 +46,10 @@ AnswersAsClient = (opened : LinkParameters) (link : ℕ) (h : RequesterSide) (ru
 abbrev pub CountsAsClient : Type 0
 CountsAsClient = (opened : LinkParameters) (link : ℕ) (h : RequesterSide) (run : List Mark) → RequesterRepresents opened link h run →
     (length h.state.outstanding ≡ calls_outstanding opened link run) × (h.state.grant ≡ credits_granted opened link run)
+
+-- Its end is the client's end.
+abbrev pub EndAsClient : Type 0
+EndAsClient = (opened : LinkParameters) (link : ℕ) (h : RequesterSide) (run : List Mark) → RequesterRepresents opened link h run → h.state.side.ended ≡ (client opened link run).ended
 
 -- An accepted call,
 abbrev pub SubmitIsAMark : Type 0
@@ -98,6 +102,24 @@ OthersLeaveIt = (opened : LinkParameters) (link : ℕ) (h : RequesterSide) (run 
 abbrev pub AnswersAreDue : Type 0
 AnswersAreDue = (opened : LinkParameters) (link : ℕ) (h : RequesterSide) (run : List Mark) (c : CompletedCall) → RequesterRepresents opened link h run →
     (Contains (map completed_of h.state.answered) c → Contains (outcomes_due opened link run) c) × (Contains (outcomes_due opened link run) c → Contains (map completed_of h.state.answered) c)
+
+-- Also if it ran out of memory.
+abbrev pub AnswersOut : Type 0
+AnswersOut = (opened : LinkParameters) (link : ℕ) (h : RequesterSide) (stopped run : List Mark) (c : CompletedCall) → RequesterRunsOut opened link h stopped run →
+    (Contains (map completed_of h.state.answered) c → Contains (outcomes_due opened link run) c) × (Contains (outcomes_due opened link run) c → Contains (map completed_of h.state.answered) c)
+
+-- Of the calls whose answers wait, the one that was submitted first has the outcome that is due first; if no answer waits, none is due.
+abbrev pub DueFirst : LinkParameters → ℕ → RequesterSide → List Mark → Type 0
+DueFirst opened link h run =
+    ((before after : List AcceptedCall) (call : AcceptedCall) (a : AnsweredCall) → accepted_calls link run ≡ before ++ call ∷ after → AllByRecursion (λ (c : AcceptedCall). found_answer c.xid h.state ≡ None) before →
+    found_answer call.xid h.state ≡ Some a → (rest : List CompletedCall) × (outcomes_due opened link run ≡ completed_of a ∷ rest))
+    × (AllByRecursion (λ (c : AcceptedCall). found_answer c.xid h.state ≡ None) (accepted_calls link run) → outcomes_due opened link run ≡ [])
+
+abbrev pub FirstIsDueFirst : Type 0
+FirstIsDueFirst = (opened : LinkParameters) (link : ℕ) (h : RequesterSide) (run : List Mark) → RequesterRepresents opened link h run → DueFirst opened link h run
+
+abbrev pub FirstOut : Type 0
+FirstOut = (opened : LinkParameters) (link : ℕ) (h : RequesterSide) (stopped run : List Mark) → RequesterRunsOut opened link h stopped run → DueFirst opened link h run
 
 -- ---- What its memory holds
 
@@ -191,6 +213,10 @@ PieceKeepsLaw = (opened : LinkParameters) (link : ℕ) (run : List Mark) (piece 
 abbrev pub DrainKeepsGrant : Type 0
 DrainKeepsGrant = (opened : LinkParameters) (link : ℕ) (run : List Mark) (bytes : List ℕ) → KeepsGrant opened link run → KeepsGrant opened link (run ++ marks.Wrote link Initiator bytes ∷ [])
 
+-- The buffers of a call that is outstanding and was not revoked hold what a revoke hands back by the marks, also if the call was forgotten.
+abbrev pub BuffersArePlaced : Type 0
+BuffersArePlaced = (opened : LinkParameters) (link : ℕ) (h : RequesterSide) (run : List Mark) (xid : ℕ) → RequesterRepresents opened link h run → IsOutstanding xid h.state → bytes_of_buffers (buffers_of xid h.state) ≡ revoked_bytes opened link run xid
+
 -- A revoke of a call that is outstanding and was neither revoked nor forgotten keeps the law if it hands back what the call's regions hold, while
 -- the call's outcome is awaited, also after an End.
 abbrev pub RevokeKeepsLaw : Type 0
@@ -212,6 +238,13 @@ OpenIsAwaited = (opened : LinkParameters) (link : ℕ) (h : RequesterSide) (run 
 abbrev pub OpenOut : Type 0
 OpenOut = (opened : LinkParameters) (link : ℕ) (h : RequesterSide) (stopped run : List Mark) (xid : ℕ) → RequesterRunsOut opened link h stopped run → is_some (open_call xid h.state) ≡ true → IsAwaited link run xid
 
+-- The ticket of each awaited call is open, also if it ran out of memory.
+abbrev pub AwaitedIsOpen : Type 0
+AwaitedIsOpen = (opened : LinkParameters) (link : ℕ) (h : RequesterSide) (run : List Mark) (xid : ℕ) → RequesterRepresents opened link h run → IsAwaited link run xid → is_some (open_call xid h.state) ≡ true
+
+abbrev pub AwaitedOut : Type 0
+AwaitedOut = (opened : LinkParameters) (link : ℕ) (h : RequesterSide) (stopped run : List Mark) (xid : ℕ) → RequesterRunsOut opened link h stopped run → IsAwaited link run xid → is_some (open_call xid h.state) ≡ true
+
 -- So the law is kept by a call whose ticket is open and that is forgotten, by the outcome of an answer that is handed over,
 abbrev pub ForgetKeepsLaw : Type 0
 ForgetKeepsLaw = (opened : LinkParameters) (link : ℕ) (h : RequesterSide) (run : List Mark) (xid : ℕ) → RequesterRepresents opened link h run → is_some (open_call xid h.state) ≡ true → AskedSoFar opened link run → KeepsGrant opened link run →
@@ -219,6 +252,15 @@ ForgetKeepsLaw = (opened : LinkParameters) (link : ℕ) (h : RequesterSide) (run
 
 abbrev pub DoneKeepsLaw : Type 0
 DoneKeepsLaw = (opened : LinkParameters) (link : ℕ) (h : RequesterSide) (run : List Mark) (xid : ℕ) (a : AnsweredCall) → RequesterRepresents opened link h run → found_answer xid h.state ≡ Some a → AskedSoFar opened link run → KeepsGrant opened link run →
+    AskedSoFar opened link (run ++ marks.Done link xid a.outcome ∷ []) × KeepsGrant opened link (run ++ marks.Done link xid a.outcome ∷ [])
+
+-- also if it ran out of memory,
+abbrev pub ForgetOutKeepsLaw : Type 0
+ForgetOutKeepsLaw = (opened : LinkParameters) (link : ℕ) (h : RequesterSide) (stopped run : List Mark) (xid : ℕ) → RequesterRunsOut opened link h stopped run → is_some (open_call xid h.state) ≡ true → AskedSoFar opened link run → KeepsGrant opened link run →
+    AskedSoFar opened link (run ++ marks.Forget link xid ∷ []) × KeepsGrant opened link (run ++ marks.Forget link xid ∷ [])
+
+abbrev pub DoneOutKeepsLaw : Type 0
+DoneOutKeepsLaw = (opened : LinkParameters) (link : ℕ) (h : RequesterSide) (stopped run : List Mark) (xid : ℕ) (a : AnsweredCall) → RequesterRunsOut opened link h stopped run → found_answer xid h.state ≡ Some a → AskedSoFar opened link run → KeepsGrant opened link run →
     AskedSoFar opened link (run ++ marks.Done link xid a.outcome ∷ []) × KeepsGrant opened link (run ++ marks.Done link xid a.outcome ∷ [])
 
 -- and by a call that is lost: its link has ended, and it has no answer.

@@ -9,6 +9,7 @@ pub mod Sending
 pub mod HeldClaims
 pub mod Buffers
 pub mod OpenCalls
+pub mod Remaining
 pub mod HeldBytes
 pub mod Views
 pub mod Laws

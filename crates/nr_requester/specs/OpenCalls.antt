@@ -23,6 +23,15 @@ call_with None None = None
 abbrev pub open_call : ℕ → RequesterState → Option Call
 open_call xid r = call_with (found_call xid r) (found_answer xid r)
 
+-- the call of an xid that was neither handed over nor revoked, also one that was forgotten
+abbrev pub remains_with : Option StoredCall → Option AnsweredCall → Option Call
+remains_with (Some c) answer = c.call
+remains_with None (Some a) = Some a.call
+remains_with None None = None
+
+abbrev pub remaining_call : ℕ → RequesterState → Option Call
+remaining_call xid r = remains_with (found_call xid r) (found_answer xid r)
+
 -- no buffers
 abbrev pub no_buffers : Buffers
 no_buffers = record { read = None; write = None; reply = None }

@@ -15,20 +15,11 @@ ghost use Rattle.nr_requester.specs.Judged.{header_reason, Ends, SameCall, outco
 ghost use Rattle.nr_requester.specs.Views.{HasRoom};
 
 use crate::outstanding::OutstandingCall;
-use crate::replies::{Found, REASON_CHUNKS, long_stream, of_call, reply_found};
+use crate::replies::{Found, long_stream, of_call, reply_found};
 use nr_header::{Body, Header, HeaderFault, read_header};
+use nr_link::constants::{REASON_CALL, REASON_CHUNKS, REASON_KIND, REASON_SHORT, REASON_VERSION};
 use nr_reduce::answers_offer;
 use nr_regions::Regions;
-
-/// The reasons for which a message ends the link: it is short, it has another kind or lists that can't be read, its xid isn't that of an
-/// outstanding call whose Send has left, or it has another version.
-const REASON_SHORT: u32 = 16;
-
-const REASON_KIND: u32 = 17;
-
-const REASON_CALL: u32 = 20;
-
-const REASON_VERSION: u32 = 23;
 
 fn reason_of(fault: &HeaderFault) -> u32
     ensures { result ≡ header_reason fault.now }

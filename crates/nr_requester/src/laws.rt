@@ -1,6 +1,6 @@
 //! Laws of a requester.
 
-ghost use Rattle.nr_requester.specs.Laws.{Begins, AnswersAsClient, CountsAsClient, SubmitIsAMark, PieceIsAMark, PieceRunsOut, DrainIsAMark, RevokeIsAMark, RevokeStaysOut, ForgetIsAMark, DoneIsAMark, AnswersAreDue, OthersLeaveIt, MemoryAsClient, MemoryOut, CountsOut, RefusesOut, PieceStaysOut, OthersStayOut, LawBegins, OthersKeepLaw, RevokeKeepsLaw, RevokedOut, SubmitKeepsLaw, DrainKeepsLaw, DrainOutKeepsLaw, QueueIsAllDue, RefusedKeepsLaw, PieceKeepsLaw, DrainKeepsGrant, OpenIsAwaited, OpenOut, ForgetKeepsLaw, DoneKeepsLaw, LostKeepsLaw};
+ghost use Rattle.nr_requester.specs.Laws.{Begins, AnswersAsClient, CountsAsClient, SubmitIsAMark, PieceIsAMark, PieceRunsOut, DrainIsAMark, RevokeIsAMark, RevokeStaysOut, ForgetIsAMark, DoneIsAMark, AnswersAreDue, AnswersOut, EndAsClient, FirstIsDueFirst, FirstOut, OthersLeaveIt, MemoryAsClient, MemoryOut, CountsOut, RefusesOut, PieceStaysOut, OthersStayOut, LawBegins, OthersKeepLaw, RevokeKeepsLaw, BuffersArePlaced, RevokedOut, SubmitKeepsLaw, DrainKeepsLaw, DrainOutKeepsLaw, QueueIsAllDue, RefusedKeepsLaw, PieceKeepsLaw, DrainKeepsGrant, OpenIsAwaited, OpenOut, AwaitedIsOpen, AwaitedOut, ForgetKeepsLaw, ForgetOutKeepsLaw, DoneKeepsLaw, DoneOutKeepsLaw, LostKeepsLaw};
 
 /// A requester stands for the marks of its link, from its opening on: what it keeps is what the client of the run asks for, and what it may
 /// write is what is due and not yet written. It answers a call as that client does, and knows how many calls are outstanding
@@ -10,6 +10,7 @@ pub fn requesters_stand_for_marks()
     ensures begins { Begins }
     ensures answer { AnswersAsClient }
     ensures counts { CountsAsClient }
+    ensures end { EndAsClient }
     ensures submit { SubmitIsAMark }
     ensures piece { PieceIsAMark }
     ensures piece_out { PieceRunsOut }
@@ -19,6 +20,9 @@ pub fn requesters_stand_for_marks()
     ensures forget { ForgetIsAMark }
     ensures done { DoneIsAMark }
     ensures answers { AnswersAreDue }
+    ensures answers_out { AnswersOut }
+    ensures first { FirstIsDueFirst }
+    ensures first_out { FirstOut }
     ensures others { OthersLeaveIt }
     ensures memory { MemoryAsClient }
     ensures memory_out { MemoryOut }
@@ -41,10 +45,15 @@ pub fn requesters_keep_their_law()
     ensures piece { PieceKeepsLaw }
     ensures drain_grant { DrainKeepsGrant }
     ensures revoke { RevokeKeepsLaw }
+    ensures buffers { BuffersArePlaced }
     ensures revoked_out { RevokedOut }
     ensures awaited { OpenIsAwaited }
     ensures awaited_out { OpenOut }
+    ensures open { AwaitedIsOpen }
+    ensures open_out { AwaitedOut }
     ensures forget { ForgetKeepsLaw }
+    ensures forget_out { ForgetOutKeepsLaw }
     ensures done { DoneKeepsLaw }
+    ensures done_out { DoneOutKeepsLaw }
     ensures lost { LostKeepsLaw }
 {}

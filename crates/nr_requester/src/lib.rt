@@ -2,6 +2,7 @@
 #![tactic(auto)]
 
 mod answer;
+mod dismantling;
 mod holding;
 mod judging;
 mod laws;
@@ -17,6 +18,7 @@ mod taking;
 mod ticket;
 
 pub use answer::{AnsweredCall, Buffers};
+pub use dismantling::Remains;
 pub use laws::{requesters_keep_their_law, requesters_stand_for_marks};
 pub use requester::Requester;
 pub use taking::{Done, Take};

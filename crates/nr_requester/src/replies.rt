@@ -13,17 +13,11 @@ ghost use Rattle.nr_requester.specs.Judged.{ComesBack, WriteComesBack, ReplyCome
 
 use crate::outstanding::OutstandingCall;
 use nr_header::{Chunk, RdmaSegment};
+use nr_link::constants::{REASON_CHUNKS, REASON_HEAD, REASON_XID};
 use nr_reduce::{Of, item_of, rebuild_item_into};
 use nr_regions::{Regions, Registration};
 use nr_rpc::{ReplyHead, read_reply};
 use nr_xdr::Octets;
-
-/// The reasons for which a reply ends the link: no reply head, another xid in it, and chunks that don't belong to it.
-const REASON_HEAD: u32 = 18;
-
-const REASON_XID: u32 = 19;
-
-pub const REASON_CHUNKS: u32 = 21;
 
 /// What a message brings for its call: nothing, if the call's memory was revoked; a reply, whose payload is the first bytes of the
 /// call's room; or an error message (RFC 8166 section 4.5).

@@ -19,6 +19,7 @@ ghost use Rattle.nr_requester.specs.AfterCalls.{opened_as, after_drain, sent_unl
 
 use crate::answer::AnsweredCall;
 use crate::outstanding::OutstandingCall;
+use crate::pieces::CREDITS_MAX;
 use nr_endpoint::{DrainFault, Endpoint};
 use nr_link::End;
 use nr_outside::Sink;
@@ -26,9 +27,6 @@ use nr_wire::Side;
 use nr_xdr::Memory;
 use std::alloc::Global;
 use std::marker::Model;
-
-/// The most calls that are outstanding: no more credits count.
-const CALLS_MAX: usize = 64;
 
 /// The client end of a link.
 #[derive(Drop)]
@@ -111,7 +109,7 @@ impl Requester {
             first_xid,
             next_xid: u64::from(first_xid),
             grant: 1,
-            outstanding: Vec::with_capacity(alloc, CALLS_MAX)?,
+            outstanding: Vec::with_capacity(alloc, CREDITS_MAX as usize)?,
             answered: Vec::new(alloc),
         })
     }

@@ -10,7 +10,7 @@ ghost use Rattle.nr_requester.specs.Buffers.{bytes_of_buffers, with_memory};
 ghost use Rattle.nr_requester.specs.HeldBytes.{NothingOutside};
 ghost use Rattle.nr_requester.specs.HeldClaims.{AreHeldFrom, all_claims};
 ghost use Rattle.nr_requester.specs.Fed.{fed_bytes};
-ghost use Rattle.nr_requester.specs.OpenCalls.{open_call, buffers_of, ClosesTicket};
+ghost use Rattle.nr_requester.specs.OpenCalls.{open_call, remaining_call, buffers_of, ClosesTicket};
 ghost use Rattle.nr_requester.specs.Standing.{StandsOn, StopsRevoked};
 ghost use Rattle.nr_requester.specs.Views.{given_up};
 
@@ -89,9 +89,9 @@ impl Requester {
     }
 
     /// Takes the call of an xid, and its buffers.
-    fn revoke_xid(&mut self, xid: u32) -> (Call, Buffers)
-        requires open { is_some (open_call xid self.old.state) ≡ true }
-        ensures call { open_call xid self.old.state ≡ Some result.0 }
+    pub(crate) fn revoke_xid(&mut self, xid: u32) -> (Call, Buffers)
+        requires there { is_some (remaining_call xid self.old.state) ≡ true }
+        ensures call { remaining_call xid self.old.state ≡ Some result.0 }
         ensures buffers { result.1 ≡ buffers_of xid self.old.state }
         ensures state { self.new ≡ after_revoke self.old xid }
         ensures number { xid < self.old.state.next_xid }

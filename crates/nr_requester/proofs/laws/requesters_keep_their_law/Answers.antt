@@ -1,6 +1,6 @@
 use Rattle.nr_requester.proofs.OwnLaw.{law_begins, others_keep_law, submit_keeps_law, drain_keeps_law, drain_out_keeps_law, queue_is_all_due, refused_keeps_law, piece_keeps_law, drain_keeps_grant}
-use Rattle.nr_requester.proofs.RevokedBytes.{revoke_keeps_law, revoked_out_lem}
-use Rattle.nr_requester.proofs.OpenTickets.{open_is_awaited, open_out, forget_keeps_law, done_keeps_law, lost_keeps_law}
+use Rattle.nr_requester.proofs.RevokedBytes.{buffers_are_placed, revoke_keeps_law, revoked_out_lem}
+use Rattle.nr_requester.proofs.OpenTickets.{open_is_awaited, open_out, awaited_is_open, awaited_out, forget_keeps_law, forget_out_keeps_law, done_keeps_law, done_out_keeps_law, lost_keeps_law}
 use Rattle.nr_requester.proofs.laws.requesters_keep_their_law.Goals as goal
 
 pub returns-clause-submit : goal.returns-clause-submit
@@ -50,3 +50,18 @@ returns-clause-done c = done_keeps_law
 
 pub returns-clause-lost : goal.returns-clause-lost
 returns-clause-lost c = lost_keeps_law
+
+pub returns-clause-open : goal.returns-clause-open
+returns-clause-open c = awaited_is_open
+
+pub returns-clause-open_out : goal.returns-clause-open_out
+returns-clause-open_out c = awaited_out
+
+pub returns-clause-forget_out : goal.returns-clause-forget_out
+returns-clause-forget_out c = forget_out_keeps_law
+
+pub returns-clause-done_out : goal.returns-clause-done_out
+returns-clause-done_out c = done_out_keeps_law
+
+pub returns-clause-buffers : goal.returns-clause-buffers
+returns-clause-buffers c = buffers_are_placed

@@ -1,8 +1,9 @@
 use Rattle.nr_requester.proofs.AllMarks.{begins, submit_is_a_mark, drain_is_a_mark, piece_runs_out, revoke_is_a_mark, revoke_stays_out, forget_is_a_mark, done_is_a_mark, others_leave_it, others_stay_out}
-use Rattle.nr_requester.proofs.Accepting.{answers_as_client, counts_as_client}
+use Rattle.nr_requester.proofs.Accepting.{answers_as_client, counts_as_client, end_as_client}
 use Rattle.nr_requester.proofs.Fed.{piece_is_a_mark}
 use Rattle.nr_requester.proofs.RunOut.{memory_as_client, memory_out_lem, counts_out_lem, refuses_out, piece_stays_out_lem}
-use Rattle.nr_requester.proofs.DueAnswers.{answers_are_due}
+use Rattle.nr_requester.proofs.DueAnswers.{answers_are_due, answers_out}
+use Rattle.nr_requester.proofs.FirstDue.{first_is_due_first, first_out}
 use Rattle.nr_requester.proofs.laws.requesters_stand_for_marks.Goals as goal
 
 pub returns-clause-begins : goal.returns-clause-begins
@@ -61,3 +62,15 @@ returns-clause-done c = done_is_a_mark
 
 pub returns-clause-answers : goal.returns-clause-answers
 returns-clause-answers c = answers_are_due
+
+pub returns-clause-first : goal.returns-clause-first
+returns-clause-first c = first_is_due_first
+
+pub returns-clause-first_out : goal.returns-clause-first_out
+returns-clause-first_out c = first_out
+
+pub returns-clause-answers_out : goal.returns-clause-answers_out
+returns-clause-answers_out c = answers_out
+
+pub returns-clause-end : goal.returns-clause-end
+returns-clause-end c = end_as_client

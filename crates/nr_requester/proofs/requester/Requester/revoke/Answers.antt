@@ -1,9 +1,18 @@
-use Rattle.std.proofs.Common.{ℕ, ◌<◌, ap, subst, ◌∙◌}
+use Rattle.std.proofs.Common.{ℕ, ◌<◌, is_some, ap, sym, subst, ◌∙◌}
+use Rattle.nr_requester.specs.OpenCalls.{open_call, remaining_call}
+use Rattle.nr_requester.proofs.HandedBack.{open_remains, open_remaining}
 use Rattle.nr_requester.specs.AfterCalls.{after_revoke}
 use Rattle.nr_requester.proofs.GivenUp.{revoked_stands, revoked_stays_out}
 use Rattle.nr_requester.specs.Fed.{fed_bytes}
 use Rattle.nr_requester.proofs.Tickets.{closed_as, revoke_closes, fed_revoked}
 use Rattle.nr_requester.proofs.requester.Requester.revoke.Goals as goal
+
+pub revoke_xid-requires : goal.revoke_xid-requires
+revoke_xid-requires c = record { there = open_remains c.args.self.now.state c.xid.result (ap (λ (n : ℕ). is_some (open_call n c.args.self.now.state)) c.xid.ensures ∙ c.requires.open) }
+
+pub returns-clause-call : goal.returns-clause-call
+returns-clause-call c =
+    open_remaining c.args.self.now.state c.args.ticket c.requires.open ∙ ap (λ (n : ℕ). remaining_call n c.args.self.now.state) (sym c.xid.ensures) ∙ c.revoke_xid.ensures.call
 
 pub returns-clause-stands : goal.returns-clause-stands
 returns-clause-stands c =

@@ -3,13 +3,13 @@ use Rattle.nr_endpoint.specs.LinkState.{LinkSide}
 use Rattle.nr_reduce.specs.declared.call.Call.{Call}
 use Rattle.nr_requester.specs.declared.answer.AnsweredCall.{AnsweredCall}
 use Rattle.nr_requester.specs.declared.outstanding.OutstandingCall.{OutstandingCall}
-use Rattle.nr_requester.specs.RequesterState.{RequesterSide, awaited_call}
+use Rattle.nr_requester.specs.RequesterState.{RequesterSide}
 use Rattle.nr_requester.specs.AfterCalls.{after_revoke}
-use Rattle.nr_requester.specs.OpenCalls.{open_call, call_with, buffers_with, buffers_of}
-use Rattle.nr_requester.specs.Views.{stored_view}
+use Rattle.nr_requester.specs.OpenCalls.{remains_with, remaining_call, buffers_with, buffers_of}
 use Rattle.nr_requester.proofs.ChangedCalls.{IsFound, is_found, below_next}
 use Rattle.nr_requester.proofs.FoundAnswers.{answered_below}
-use Rattle.nr_requester.proofs.GivenUp.{given, awaited_is, open_answered, call_is, buffers_of_one, call_answered, buffers_answered, given_up_view, given_up_sound, given_up_within, revoked_view, taken_sound, taken_within}
+use Rattle.nr_requester.proofs.HandedBack.{remaining_is, remaining_answered, remains_answered}
+use Rattle.nr_requester.proofs.GivenUp.{given, buffers_of_one, buffers_answered, given_up_view, given_up_sound, given_up_within, revoked_view, taken_sound, taken_within}
 use Rattle.nr_requester.proofs.requester.Requester.revoke_xid.Goals as goal
 
 pub unreachable-requires : goal.unreachable-requires
@@ -18,11 +18,10 @@ unreachable-requires c =
     let f : IsFound i.outstanding.items c.args.xid c.in-Some.at =
     is_found i.outstanding.items c.as_slice.result.now c.args.xid c.args.xid c.in-Some.at c.as_slice.ensures.value refl c.in-Some.ensures.some.0 c.in-Some.ensures.some.1 in
     let d : OutstandingCall = given i.outstanding.items c.in-Some.at in
-    let is = call_is i.endpoint.link i.sent i.wished i.first_xid i.next_xid i.grant c.args.xid c.in-Some.at i.outstanding.items i.answered.items d c.self.invariant.0.rising f.within (f.own d) in
-    let found : open_call c.args.xid c.args.self.now.state ≡ awaited_call (stored_view (get_or i.outstanding.items c.in-Some.at d)) = ap (λ (h : RequesterSide). open_call c.args.xid h.state) (sym c.self.view_is) ∙ is in
-    let own = awaited_is (stored_view (get_or i.outstanding.items c.in-Some.at d)) (sym (ap (λ (o : Option Call). is_some o) found) ∙ c.requires.open) in
-    let none : open_call c.args.xid c.args.self.now.state ≡ None = found ∙ own ∙ sym (c.revoke_at-call.ensures.call d) ∙ c.in-None.is in
-    absurd (let wrong : false ≡ true = sym (ap (λ (o : Option Call). is_some o) none) ∙ c.requires.open in cc)
+    let is = remaining_is i.endpoint.link i.sent i.wished i.first_xid i.next_xid i.grant c.args.xid c.in-Some.at i.outstanding.items i.answered.items d c.self.invariant.0.rising f.within (f.own d) in
+    let found : remaining_call c.args.xid c.args.self.now.state ≡ (get_or i.outstanding.items c.in-Some.at d).call = ap (λ (h : RequesterSide). remaining_call c.args.xid h.state) (sym c.self.view_is) ∙ is in
+    let none : remaining_call c.args.xid c.args.self.now.state ≡ None = found ∙ sym (c.revoke_at-call.ensures.call d) ∙ c.in-None.is in
+    absurd (let wrong : false ≡ true = sym (ap (λ (o : Option Call). is_some o) none) ∙ c.requires.there in cc)
 
 pub invariant_of-self : goal.invariant_of-self
 invariant_of-self c =
@@ -44,10 +43,9 @@ returns-in-Some-clause-call c =
     let f : IsFound i.outstanding.items c.args.xid c.in-Some.at =
     is_found i.outstanding.items c.as_slice.result.now c.args.xid c.args.xid c.in-Some.at c.as_slice.ensures.value refl c.in-Some.ensures.some.0 c.in-Some.ensures.some.1 in
     let d : OutstandingCall = given i.outstanding.items c.in-Some.at in
-    let is = call_is i.endpoint.link i.sent i.wished i.first_xid i.next_xid i.grant c.args.xid c.in-Some.at i.outstanding.items i.answered.items d c.self.invariant.0.rising f.within (f.own d) in
-    let found : open_call c.args.xid c.args.self.now.state ≡ awaited_call (stored_view (get_or i.outstanding.items c.in-Some.at d)) = ap (λ (h : RequesterSide). open_call c.args.xid h.state) (sym c.self.view_is) ∙ is in
-    let own = awaited_is (stored_view (get_or i.outstanding.items c.in-Some.at d)) (sym (ap (λ (o : Option Call). is_some o) found) ∙ c.requires.open) in
-    found ∙ own ∙ sym (c.revoke_at-call.ensures.call d) ∙ c.in-Some-call.is
+    let is = remaining_is i.endpoint.link i.sent i.wished i.first_xid i.next_xid i.grant c.args.xid c.in-Some.at i.outstanding.items i.answered.items d c.self.invariant.0.rising f.within (f.own d) in
+    let found : remaining_call c.args.xid c.args.self.now.state ≡ (get_or i.outstanding.items c.in-Some.at d).call = ap (λ (h : RequesterSide). remaining_call c.args.xid h.state) (sym c.self.view_is) ∙ is in
+    found ∙ sym (c.revoke_at-call.ensures.call d) ∙ c.in-Some-call.is
 
 pub returns-in-Some-clause-buffers : goal.returns-in-Some-clause-buffers
 returns-in-Some-clause-buffers c =
@@ -85,9 +83,9 @@ unreachable-requires-in-None-take_answer c =
     let none : (k : ℕ) (d : OutstandingCall) → k < length i.outstanding.items → (get_or i.outstanding.items k d).xid ≢ c.args.xid =
     λ k d lt e. c.place_of.ensures.none c.in_default.is k d (subst (λ (cs : List OutstandingCall). k < length cs) (sym c.as_slice.ensures.value) lt) (ap (λ (cs : List OutstandingCall). (get_or cs k d).xid) c.as_slice.ensures.value ∙ e ∙ sym refl) in
     let answer : Option AnsweredCall = c.take_answer.result in
-    let found : open_call c.args.xid c.args.self.now.state ≡ call_with None answer =
-    ap (λ (h : RequesterSide). open_call c.args.xid h.state) (sym c.self.view_is) ∙ call_answered i.endpoint.link i.sent i.wished i.first_xid i.next_xid i.grant c.args.xid i.outstanding.items i.answered.items answer none (sym c.take_answer.ensures.found) in
-    let there : is_some answer ≡ true = open_answered answer (sym (ap (λ (o : Option Call). is_some o) found) ∙ c.requires.open) in
+    let found : remaining_call c.args.xid c.args.self.now.state ≡ remains_with None answer =
+    ap (λ (h : RequesterSide). remaining_call c.args.xid h.state) (sym c.self.view_is) ∙ remaining_answered i.endpoint.link i.sent i.wished i.first_xid i.next_xid i.grant c.args.xid i.outstanding.items i.answered.items answer none (sym c.take_answer.ensures.found) in
+    let there : is_some answer ≡ true = remains_answered answer (sym (ap (λ (o : Option Call). is_some o) found) ∙ c.requires.there) in
     absurd (let wrong : false ≡ true = sym (ap (λ (o : Option AnsweredCall). is_some o) c.in-None-take_answer.is) ∙ there in cc)
 
 pub invariant_of-self-2 : goal.invariant_of-self-2
@@ -103,10 +101,10 @@ returns-clause-call c =
     let none : (k : ℕ) (d : OutstandingCall) → k < length i.outstanding.items → (get_or i.outstanding.items k d).xid ≢ c.args.xid =
     λ k d lt e. c.place_of.ensures.none c.in_default.is k d (subst (λ (cs : List OutstandingCall). k < length cs) (sym c.as_slice.ensures.value) lt) (ap (λ (cs : List OutstandingCall). (get_or cs k d).xid) c.as_slice.ensures.value ∙ e ∙ sym refl) in
     let answer : Option AnsweredCall = c.take_answer.result in
-    let found : open_call c.args.xid c.args.self.now.state ≡ call_with None answer =
-    ap (λ (h : RequesterSide). open_call c.args.xid h.state) (sym c.self.view_is) ∙ call_answered i.endpoint.link i.sent i.wished i.first_xid i.next_xid i.grant c.args.xid i.outstanding.items i.answered.items answer none (sym c.take_answer.ensures.found) in
-    let there : is_some answer ≡ true = open_answered answer (sym (ap (λ (o : Option Call). is_some o) found) ∙ c.requires.open) in
-    found ∙ ap (λ (o : Option AnsweredCall). call_with None o) c.in-Some-take_answer.is ∙ ap (λ (call : Call). Some call) (sym c.into_call.ensures.0)
+    let found : remaining_call c.args.xid c.args.self.now.state ≡ remains_with None answer =
+    ap (λ (h : RequesterSide). remaining_call c.args.xid h.state) (sym c.self.view_is) ∙ remaining_answered i.endpoint.link i.sent i.wished i.first_xid i.next_xid i.grant c.args.xid i.outstanding.items i.answered.items answer none (sym c.take_answer.ensures.found) in
+    let there : is_some answer ≡ true = remains_answered answer (sym (ap (λ (o : Option Call). is_some o) found) ∙ c.requires.there) in
+    found ∙ ap (λ (o : Option AnsweredCall). remains_with None o) c.in-Some-take_answer.is ∙ ap (λ (call : Call). Some call) (sym c.into_call.ensures.0)
 
 pub returns-clause-buffers : goal.returns-clause-buffers
 returns-clause-buffers c =
@@ -114,9 +112,9 @@ returns-clause-buffers c =
     let none : (k : ℕ) (d : OutstandingCall) → k < length i.outstanding.items → (get_or i.outstanding.items k d).xid ≢ c.args.xid =
     λ k d lt e. c.place_of.ensures.none c.in_default.is k d (subst (λ (cs : List OutstandingCall). k < length cs) (sym c.as_slice.ensures.value) lt) (ap (λ (cs : List OutstandingCall). (get_or cs k d).xid) c.as_slice.ensures.value ∙ e ∙ sym refl) in
     let answer : Option AnsweredCall = c.take_answer.result in
-    let found : open_call c.args.xid c.args.self.now.state ≡ call_with None answer =
-    ap (λ (h : RequesterSide). open_call c.args.xid h.state) (sym c.self.view_is) ∙ call_answered i.endpoint.link i.sent i.wished i.first_xid i.next_xid i.grant c.args.xid i.outstanding.items i.answered.items answer none (sym c.take_answer.ensures.found) in
-    let there : is_some answer ≡ true = open_answered answer (sym (ap (λ (o : Option Call). is_some o) found) ∙ c.requires.open) in
+    let found : remaining_call c.args.xid c.args.self.now.state ≡ remains_with None answer =
+    ap (λ (h : RequesterSide). remaining_call c.args.xid h.state) (sym c.self.view_is) ∙ remaining_answered i.endpoint.link i.sent i.wished i.first_xid i.next_xid i.grant c.args.xid i.outstanding.items i.answered.items answer none (sym c.take_answer.ensures.found) in
+    let there : is_some answer ≡ true = remains_answered answer (sym (ap (λ (o : Option Call). is_some o) found) ∙ c.requires.there) in
     let are = buffers_answered i.endpoint.link i.sent i.wished i.first_xid i.next_xid i.grant c.args.xid i.outstanding.items i.answered.items answer none (sym c.take_answer.ensures.found) in
     c.into_call.ensures.1 ∙ sym (ap (λ (o : Option AnsweredCall). buffers_with i.endpoint.link.state.memory None o) c.in-Some-take_answer.is) ∙ sym are ∙ ap (λ (h : RequesterSide). buffers_of c.args.xid h.state) c.self.view_is
 
@@ -126,9 +124,9 @@ returns-clause-state c =
     let none : (k : ℕ) (d : OutstandingCall) → k < length i.outstanding.items → (get_or i.outstanding.items k d).xid ≢ c.args.xid =
     λ k d lt e. c.place_of.ensures.none c.in_default.is k d (subst (λ (cs : List OutstandingCall). k < length cs) (sym c.as_slice.ensures.value) lt) (ap (λ (cs : List OutstandingCall). (get_or cs k d).xid) c.as_slice.ensures.value ∙ e ∙ sym refl) in
     let answer : Option AnsweredCall = c.take_answer.result in
-    let found : open_call c.args.xid c.args.self.now.state ≡ call_with None answer =
-    ap (λ (h : RequesterSide). open_call c.args.xid h.state) (sym c.self.view_is) ∙ call_answered i.endpoint.link i.sent i.wished i.first_xid i.next_xid i.grant c.args.xid i.outstanding.items i.answered.items answer none (sym c.take_answer.ensures.found) in
-    let there : is_some answer ≡ true = open_answered answer (sym (ap (λ (o : Option Call). is_some o) found) ∙ c.requires.open) in
+    let found : remaining_call c.args.xid c.args.self.now.state ≡ remains_with None answer =
+    ap (λ (h : RequesterSide). remaining_call c.args.xid h.state) (sym c.self.view_is) ∙ remaining_answered i.endpoint.link i.sent i.wished i.first_xid i.next_xid i.grant c.args.xid i.outstanding.items i.answered.items answer none (sym c.take_answer.ensures.found) in
+    let there : is_some answer ≡ true = remains_answered answer (sym (ap (λ (o : Option Call). is_some o) found) ∙ c.requires.there) in
     revoked_view i.endpoint.link i.sent i.wished i.first_xid i.next_xid i.grant c.args.xid i.outstanding.items i.answered.items c.take_answer.new.answered.items none c.take_answer.ensures.left
     ∙ ap (λ (h : RequesterSide). after_revoke h c.args.xid) c.self.view_is
 
@@ -138,9 +136,9 @@ returns-clause-number c =
     let none : (k : ℕ) (d : OutstandingCall) → k < length i.outstanding.items → (get_or i.outstanding.items k d).xid ≢ c.args.xid =
     λ k d lt e. c.place_of.ensures.none c.in_default.is k d (subst (λ (cs : List OutstandingCall). k < length cs) (sym c.as_slice.ensures.value) lt) (ap (λ (cs : List OutstandingCall). (get_or cs k d).xid) c.as_slice.ensures.value ∙ e ∙ sym refl) in
     let answer : Option AnsweredCall = c.take_answer.result in
-    let found : open_call c.args.xid c.args.self.now.state ≡ call_with None answer =
-    ap (λ (h : RequesterSide). open_call c.args.xid h.state) (sym c.self.view_is) ∙ call_answered i.endpoint.link i.sent i.wished i.first_xid i.next_xid i.grant c.args.xid i.outstanding.items i.answered.items answer none (sym c.take_answer.ensures.found) in
-    let there : is_some answer ≡ true = open_answered answer (sym (ap (λ (o : Option Call). is_some o) found) ∙ c.requires.open) in
+    let found : remaining_call c.args.xid c.args.self.now.state ≡ remains_with None answer =
+    ap (λ (h : RequesterSide). remaining_call c.args.xid h.state) (sym c.self.view_is) ∙ remaining_answered i.endpoint.link i.sent i.wished i.first_xid i.next_xid i.grant c.args.xid i.outstanding.items i.answered.items answer none (sym c.take_answer.ensures.found) in
+    let there : is_some answer ≡ true = remains_answered answer (sym (ap (λ (o : Option Call). is_some o) found) ∙ c.requires.there) in
     let next = ap (λ (h : RequesterSide). h.state.next_xid) c.self.view_is in
     let lt = answered_below i.next_xid c.args.xid i.outstanding.items i.answered.items c.self.invariant.0.apart (sym (ap (λ (o : Option AnsweredCall). is_some o) c.take_answer.ensures.found) ∙ there) in
     omega (arith, next, lt)

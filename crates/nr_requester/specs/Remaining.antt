@@ -1,0 +1,33 @@
+-- The calls that a requester hands back once it is taken apart.
+use Rattle.std.specs.Prelude.{◌≡◌, ◌≢◌, ℕ, ◌<◌, ◌≤◌, true, List, get_or, Option, None, Some, is_some}
+use Rattle.nr_reduce.specs.declared.call.Call.{Call}
+use Rattle.nr_requester.specs.declared.answer.AnsweredCall.{AnsweredCall}
+use Rattle.nr_requester.specs.declared.answer.Buffers.{Buffers}
+use Rattle.nr_requester.specs.declared.outstanding.OutstandingCall.{OutstandingCall}
+use Rattle.nr_requester.specs.RequesterState.{RequesterSide}
+use Rattle.nr_requester.specs.AfterCalls.{after_revoke}
+use Rattle.nr_requester.specs.OpenCalls.{remaining_call, buffers_of}
+
+-- The call with the least xid goes back, with its buffers. It isn't left then, and all others are as they were.
+pub record GoesBack (before : RequesterSide) (call : Call) (buffers : Buffers) (after : RequesterSide) : Type 0 where
+  pub xid : ℕ
+  pub own : remaining_call xid before.state ≡ Some call
+  pub least : (x : ℕ) → x < xid → remaining_call x before.state ≡ None
+  pub held : buffers ≡ buffers_of xid before.state
+  pub after_is : after ≡ after_revoke before xid
+  pub gone : remaining_call xid after.state ≡ None
+  pub others : (x : ℕ) → x ≢ xid → remaining_call x after.state ≡ remaining_call x before.state
+
+-- ---- For the code
+
+-- one of the first n calls has this xid, and its memory was not revoked
+abbrev pub HasKept : List OutstandingCall → ℕ → ℕ → Type 0
+HasKept calls n xid = (at : ℕ) × ((at < n) × ((d : OutstandingCall) → ((get_or calls at d).xid ≡ xid) × (is_some (get_or calls at d).call ≡ true)))
+
+-- one of the first n answers has this xid
+abbrev pub HasXid : List AnsweredCall → ℕ → ℕ → Type 0
+HasXid answers n xid = (at : ℕ) × ((at < n) × ((d : AnsweredCall) → (get_or answers at d).xid ≡ xid))
+
+abbrev pub IsLeast : Option ℕ → ℕ → Type 0
+IsLeast None xid = ⊥
+IsLeast (Some least) xid = least ≤ xid
