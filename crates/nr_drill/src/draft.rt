@@ -287,11 +287,7 @@ impl Draft {
                 payload.as_slice(),
                 reply.as_slice(),
             ),
-            Mark::Done { link, xid, outcome } => {
-                let state = self.state_done(alloc, *link, *xid, outcome)?;
-                self.end(*link, *xid, state);
-                Ok(())
-            }
+            Mark::Done { link, xid, outcome } => self.complete(alloc, *link, *xid, outcome),
             Mark::Lost { link, xid } => {
                 self.end(*link, *xid, CallState::Lost);
                 Ok(())
@@ -303,6 +299,21 @@ impl Draft {
             Mark::Revoke { link, xid, bytes } => self.revoke(alloc, *link, *xid, bytes.as_slice()),
             Mark::Wrote { .. } | Mark::Fed { .. } | Mark::Drop { .. } => Ok(()),
         }
+    }
+
+    /// Notes that the outcome of a call was handed over.
+    fn complete(
+        &mut self,
+        alloc: Global,
+        link: u32,
+        xid: u32,
+        outcome: &Outcome,
+    ) -> Result<(), Memory>
+        ensures { OnOk result (Ended link xid (state_done link xid outcome.now self.old) self.old self.new) }
+    {
+        let state = self.state_done(alloc, link, xid, outcome)?;
+        self.end(link, xid, state);
+        Ok(())
     }
 
     /// Notes that the memory of a call was taken back, which held these bytes.
