@@ -23,3 +23,8 @@ pub mod LessRounds
 pub mod LessPlain
 pub mod OneRun
 pub mod Told
+pub mod Lookups
+pub mod Executions
+pub mod DraftSteps
+pub mod Numbering
+pub mod TellingMarks

@@ -9,3 +9,5 @@ pub mod Drains
 pub mod InBytes
 pub mod DrillSetup
 pub mod Laws
+pub mod LinkEnds
+pub mod private

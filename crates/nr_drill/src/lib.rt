@@ -1,13 +1,16 @@
 //! What a drill is: the marks that a script makes on both ends of each link and on a plain server, and what is reported of them.
 #![tactic(auto)]
 
+mod draft;
 mod laws;
 mod printing;
 mod report;
+mod reporting;
 
 pub use laws::{drains_end, drill_is_run, reports_tell_runs, runs};
 pub use printing::{shown, summary};
 pub use report::{
-    CallReport, CallReports, CallState, Journal, LinkLog, LinkReport, LinkReports, LinkState, Logs,
-    Report,
+    CallReport, CallReports, CallState, Journal, LinkEnds, LinkLog, LinkReport, LinkReports,
+    LinkState, Logs, Report,
 };
+pub use reporting::report_of;

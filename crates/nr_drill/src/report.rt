@@ -109,3 +109,14 @@ pub struct Report {
     /// What crossed each link.
     pub logs: Logs,
 }
+
+/// What a link came to: why each of its sides takes no more input, if it has ended, and whether the link was dropped.
+#[derive(Clone, Copy)]
+pub struct LinkEnds {
+    /// Why the client ended, if it did.
+    pub client: Option<End>,
+    /// Why the server ended, if it did.
+    pub server: Option<End>,
+    /// Whether the link was dropped.
+    pub dropped: bool,
+}

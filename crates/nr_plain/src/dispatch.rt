@@ -22,7 +22,7 @@ use nr_xdr::{Memory, Octets};
 use std::alloc::Global;
 
 /// Whether the procedure changes no tree.
-fn only_reads(p: NfsProcedure) -> bool
+pub(crate) fn only_reads(p: NfsProcedure) -> bool
     ensures { result ≡ is_read_only p }
 {
     match p {

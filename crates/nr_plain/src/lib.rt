@@ -21,6 +21,7 @@ mod caller;
 mod changing;
 mod dispatch;
 mod encoding;
+mod entry;
 mod fault;
 mod journal_laws;
 mod laws;
@@ -29,6 +30,7 @@ mod procedure;
 mod reading;
 mod server;
 
+pub use entry::entry_of_call;
 pub use fault::Fault;
 pub use journal_laws::{
     failures_leave_the_tree, replies_are_those_of_answers, replies_stay, replies_tell_entries,

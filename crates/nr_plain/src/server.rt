@@ -336,7 +336,7 @@ fn entry_cost(arguments: &[u8]) -> u64
 }
 
 /// The bytes from an offset on.
-fn rest(payload: &[u8], at: usize) -> &[u8]
+pub(crate) fn rest(payload: &[u8], at: usize) -> &[u8]
     requires { at ≤ length payload.now }
     ensures { result.now ≡ drop at payload.now }
 {
@@ -345,7 +345,7 @@ fn rest(payload: &[u8], at: usize) -> &[u8]
 }
 
 /// Why a credential is refused, if it is (RFC 5531 section 9, `auth_stat`).
-fn cred_status(cred: &Cred) -> Option<u32>
+pub(crate) fn cred_status(cred: &Cred) -> Option<u32>
     ensures { result ≡ cred_refusal cred.now }
 {
     match cred {

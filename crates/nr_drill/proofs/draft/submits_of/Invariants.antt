@@ -1,0 +1,7 @@
+use Rattle.std.proofs.Common.{◌≡◌, ◌≤◌, take}
+use Rattle.std.specs.Prelude.{count_by}
+use Rattle.nr_drill.specs.private.Drafts.{is_submit_of}
+use Rattle.nr_drill.proofs.draft.submits_of.Given as goal
+
+abbrev pub invariant-loop-mark : goal.invariant-loop-mark
+invariant-loop-mark l = (l.count ≡ count_by (is_submit_of l.link) (take l.mark-index l.marks)) × (l.count ≤ l.mark-index)

@@ -1,0 +1,30 @@
+-- What links came to, by the marks of a run, and a report that is made of that.
+use Rattle.std.specs.Prelude.{◌≡◌, ℕ, List, map}
+use Rattle.nr_wire.specs.declared.hello.Side.TheVariants.{Initiator, Responder}
+use Rattle.nr_reduce.specs.declared.mark.Mark.{Mark}
+use Rattle.nr_reduce.specs.History.{is_dropped}
+use Rattle.nr_reduce.specs.Run.{end_of_side}
+use Rattle.nr_plain.specs.Added.{entries_of_call}
+use Rattle.nr_script.specs.Script.{ScriptLines, IsScript}
+use Rattle.nr_drill.specs.declared.report.LinkEnds.{LinkEnds}
+use Rattle.nr_drill.specs.declared.report.Report.{Report}
+use Rattle.nr_drill.specs.Drill.{SerialServer, Setting, links_of}
+use Rattle.nr_drill.specs.Follows.{setting_of}
+use Rattle.nr_drill.specs.Headline.{IsDrillRun, Reports}
+
+abbrev pub ends_of : Setting → List Mark → ℕ → LinkEnds
+ends_of s run link = record {
+  client = end_of_side (s.opened link) link Initiator run;
+  server = end_of_side (s.opened link) link Responder run;
+  dropped = is_dropped link run;
+}
+
+-- what the links of this many clients came to, in order
+abbrev pub AreEnds : Setting → ℕ → List Mark → List LinkEnds → Type 0
+AreEnds s clients run ends = ends ≡ map (ends_of s run) (links_of clients)
+
+-- Whatever the script, and whatever the server replies: if it adds to the journal what a plain server adds, and if the marks are the run of
+-- a drill whose links came to these ends, then the report is that of the run.
+abbrev pub TellsRuns : List Mark → List LinkEnds → Report → Type 0
+TellsRuns run ends report = (server : SerialServer) (script : ScriptLines) → IsScript script → IsDrillRun server script run → server.adds ≡ entries_of_call →
+    AreEnds (setting_of server script.opening) script.opening.clients run ends → Reports server script report

@@ -1,0 +1,240 @@
+//! The report of a run, by its marks and by what its links came to.
+
+ghost use Rattle.std.specs.Prelude.{◌≡◌, ℕ, ◌+◌, ◌-◌, ◌≤◌, ◌++◌, [], length, map, IfOk, OnOk, slice_get};
+ghost use Rattle.nr_script.specs.Limits.{most_clients};
+ghost use Rattle.nr_drill.specs.Drill.{links_of};
+ghost use Rattle.nr_drill.specs.Headline.{log_of};
+ghost use Rattle.nr_drill.specs.LinkEnds.{TellsRuns};
+ghost use Rattle.nr_drill.specs.Reports.{side_report};
+ghost use Rattle.nr_drill.specs.private.Drafts.{AddsToLog, AreCalls, AreNumbered, at_last_by, gone_by, is_open, link_report_by, link_reports_from};
+
+use crate::draft::{Draft, draft_of, index};
+use crate::report::{CallReport, CallState, LinkEnds, LinkLog, LinkReport, LinkState, Report};
+use nr_link::End;
+use nr_reduce::{Entry, Mark, Marks, Sequence};
+use nr_wire::Side;
+use nr_xdr::{Memory, Octets};
+use std::alloc::Global;
+
+/// A side of a link that ended.
+fn push_side(
+    reports: &mut Vec<LinkReport>,
+    link: u32,
+    side: Side,
+    end: Option<End>,
+) -> Result<(), Memory>
+    ensures { OnOk result (reports.new.items ≡ reports.old.items ++ side_report link side end) }
+{
+    match end {
+        None => Ok(()),
+        Some(end) => {
+            reports.push(LinkReport {
+                client: link,
+                state: LinkState::Ended { side, end },
+            })?;
+            Ok(())
+        }
+    }
+}
+
+/// What is reported of a link.
+fn push_link(reports: &mut Vec<LinkReport>, link: u32, ends: LinkEnds) -> Result<(), Memory>
+    ensures { OnOk result (reports.new.items ≡ reports.old.items ++ link_report_by link ends) }
+{
+    if ends.dropped {
+        reports.push(LinkReport {
+            client: link,
+            state: LinkState::Dropped,
+        })?;
+        return Ok(());
+    }
+    push_side(reports, link, Side::Initiator, ends.client)?;
+    push_side(reports, link, Side::Responder, ends.server)
+}
+
+/// What is reported of links, the first of which is that of client 1.
+fn link_reports(alloc: Global, ends: &[LinkEnds]) -> Result<Vec<LinkReport>, Memory>
+    requires { length ends.now ≤ most_clients }
+    ensures { IfOk result (λ reports. reports.items ≡ link_reports_from 1 ends.now) }
+{
+    let mut reports = Vec::new(alloc);
+    for (i, ends) in ends.iter().enumerate() {
+        push_link(&mut reports, i as u32 + 1, *ends)?;
+    }
+    Ok(reports)
+}
+
+/// Whether a link was dropped, or its client ended.
+fn is_gone(ends: &[LinkEnds], link: u32) -> bool
+    ensures { result ≡ gone_by (slice_get ends.now (link - 1)) }
+{
+    match ends.get(index(link)) {
+        Some(ends) => ends.dropped || ends.client.is_some(),
+        None => false,
+    }
+}
+
+/// Whether a call is open.
+fn is_open(state: &CallState) -> bool
+    ensures { result ≡ is_open state.now }
+{
+    match state {
+        CallState::Open { .. } => true,
+        _ => false,
+    }
+}
+
+/// Reports a call as lost that is open on a link that was dropped, or whose client ended.
+fn settle_one(report: &mut CallReport, ends: &[LinkEnds])
+    ensures { report.new ≡ at_last_by ends.now report.old }
+{
+    if is_gone(ends, report.client) && is_open(&report.state) {
+        report.state = CallState::Lost;
+    }
+}
+
+/// Reports all calls as lost that are.
+fn settle(calls: &mut [CallReport], ends: &[LinkEnds])
+    ensures { calls.new ≡ map (at_last_by ends.now) calls.old }
+{
+    for report in calls.iter_mut() {
+        settle_one(report, ends);
+    }
+}
+
+/// Adds a mark's bytes to the log of a link.
+fn add_to_log(log: &mut LinkLog, link: u32, mark: &Mark) -> Result<(), Memory>
+    ensures { OnOk result (AddsToLog link mark.now log.old log.new) }
+{
+    match mark {
+        Mark::Wrote {
+            link: own,
+            side,
+            bytes,
+        } => {
+            if *own != link {
+                return Ok(());
+            }
+            match side {
+                Side::Initiator => log.client_wrote.extend_from_slice(bytes.as_slice()),
+                Side::Responder => log.server_wrote.extend_from_slice(bytes.as_slice()),
+            }
+        }
+        Mark::Fed {
+            link: own,
+            side,
+            bytes,
+        } => {
+            if *own != link {
+                return Ok(());
+            }
+            match side {
+                Side::Initiator => log.client_was_fed.extend_from_slice(bytes.as_slice()),
+                Side::Responder => log.server_was_fed.extend_from_slice(bytes.as_slice()),
+            }
+        }
+        _ => Ok(()),
+    }
+}
+
+/// The log of a link.
+fn log_of(alloc: Global, marks: &[Mark], link: u32) -> Result<LinkLog, Memory>
+    ensures { IfOk result (λ log. log ≡ log_of marks.now link) }
+{
+    let mut log = LinkLog {
+        client_wrote: Octets::new(alloc),
+        server_wrote: Octets::new(alloc),
+        client_was_fed: Octets::new(alloc),
+        server_was_fed: Octets::new(alloc),
+    };
+    for mark in marks {
+        add_to_log(&mut log, link, mark)?;
+    }
+    Ok(log)
+}
+
+/// The logs of this many links.
+fn logs(alloc: Global, marks: &[Mark], links: u32) -> Result<Vec<LinkLog>, Memory>
+    ensures { IfOk result (λ logs. logs.items ≡ map (log_of marks.now) (links_of links)) }
+{
+    let mut logs = Vec::new(alloc);
+    for i in 0..links {
+        logs.push(log_of(alloc, marks, i + 1)?)?;
+    }
+    Ok(logs)
+}
+
+/// What a report says beside its marks.
+#[derive(Drop)]
+struct ReportParts {
+    journal: Vec<Entry>,
+    calls: Vec<CallReport>,
+    links: Vec<LinkReport>,
+    logs: Vec<LinkLog>,
+}
+
+/// The call lines, and the entries of the journal.
+fn calls_of(
+    alloc: Global,
+    marks: &[Mark],
+    ends: &[LinkEnds],
+) -> Result<(Vec<CallReport>, Vec<Entry>), Memory>
+    requires { length ends.now ≤ most_clients }
+    ensures { IfOk result (λ told. AreNumbered (length ends.now) marks.now → AreCalls marks.now ends.now told.0.items told.1.items) }
+{
+    let Draft {
+        mut calls,
+        journal,
+        ..
+    } = draft_of(alloc, ends.len() as u32, marks)?;
+    settle(calls.as_mut_slice(), ends);
+    Ok((calls, journal))
+}
+
+/// What a report says beside its marks.
+fn report_parts(alloc: Global, marks: &[Mark], ends: &[LinkEnds]) -> Result<ReportParts, Memory>
+    requires { length ends.now ≤ most_clients }
+    ensures calls { IfOk result (λ told. AreNumbered (length ends.now) marks.now → AreCalls marks.now ends.now told.calls.items told.journal.items) }
+    ensures links { IfOk result (λ told. told.links.items ≡ link_reports_from 1 ends.now) }
+    ensures logs { IfOk result (λ told. told.logs.items ≡ map (log_of marks.now) (links_of (length ends.now))) }
+{
+    let (calls, journal) = calls_of(alloc, marks, ends)?;
+    let links = link_reports(alloc, ends)?;
+    let logs = logs(alloc, marks, ends.len() as u32)?;
+    Ok(ReportParts {
+        journal,
+        calls,
+        links,
+        logs,
+    })
+}
+
+/// The report of a run, by its marks and by what its links came to, in order.
+///
+/// # Errors
+///
+/// [`Memory`] if memory ran out.
+pub fn report_of(alloc: Global, marks: Marks, ends: &[LinkEnds]) -> Result<Report, Memory>
+    requires { length ends.now ≤ most_clients }
+    ensures marks { IfOk result (λ report. report.marks ≡ marks) }
+    // Of the run of a drill whose links came to that it says what its marks say.
+    ensures reports { IfOk result (λ report. TellsRuns marks ends.now report) }
+{
+    match report_parts(alloc, marks.as_slice(), ends) {
+        Ok(
+            ReportParts {
+                journal,
+                calls,
+                links,
+                logs,
+            },
+        ) => Ok(Report {
+            marks,
+            journal: Sequence::from_vec(journal),
+            calls: Sequence::from_vec(calls),
+            links: Sequence::from_vec(links),
+            logs: Sequence::from_vec(logs),
+        }),
+        Err(e) => Err(e),
+    }
+}
