@@ -24,8 +24,13 @@ def declared_in(text: str) -> set[str]:
 
 def public_text(text: str, types: set[str]) -> str:
     """The parts of a source file that a user reads: signatures and clauses of pub items, models of these public types, traits."""
-    out, keep = [], False
+    out, keep, in_trait = [], False, False
     for line in text.split("\n"):
+        # each method of a public trait is public, to the end of the trait
+        if re.match(r"\s*pub trait", line):
+            in_trait = True
+        elif line == "}":
+            in_trait = False
         if re.match(r"\s*ghost use|\s*use |\s*//", line):
             continue
         model = re.match(r"\s*impl(?:<.*>)? Model for (\w+)", line)
@@ -33,7 +38,7 @@ def public_text(text: str, types: set[str]) -> str:
             keep = False
         elif re.match(r"\s*(pub |impl Model|impl<.*> Model|pub trait|impl .* for )", line) and not re.match(r"\s*pub\((crate|super)\)", line):
             keep = True
-        elif re.match(r"\s*(pub\((crate|super)\) )?(const )?fn ", line) and not re.match(r"\s*pub ", line):
+        elif re.match(r"\s*(pub\((crate|super)\) )?(const )?fn ", line) and not re.match(r"\s*pub ", line) and not in_trait:
             keep = False
         if keep:
             out.append(line)

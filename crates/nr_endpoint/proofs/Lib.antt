@@ -28,6 +28,7 @@ pub mod ClaimLaws
 pub mod StreamLaws
 pub mod GrantLaws
 pub mod WholeCalls
+pub mod Requested
 pub mod ItemEnds
 pub mod OutputItems
 pub mod QueuedItems

@@ -1,5 +1,5 @@
 -- Several calls at once: from the side's new state to the list of calls.
-use Rattle.std.proofs.Common.{◌≡◌, ℕ, ◌+◌, ◌<◌, Bool, true, false, cond, List, [], ◌∷◌, ◌++◌, length, drop, get_or, Option, None, Some, IfSome, Result, Ok, Err, refl, sym, ap, subst, ◌∙◌, append_assoc}
+use Rattle.std.proofs.Common.{◌≡◌, ℕ, ◌+◌, ◌<◌, Bool, true, false, cond, List, [], ◌∷◌, ◌++◌, length, drop, get_or, map, Option, None, Some, IfSome, Result, Ok, Err, refl, sym, ap, subst, ◌∙◌, append_assoc}
 use Rattle.std.specs.Prelude.{IfOk, OnOk}
 use Rattle.std.proofs.lemmas.List.{append-nil, drop_more}
 use Rattle.nr_regions.specs.declared.right.Right.{Right}
@@ -22,7 +22,7 @@ use Rattle.nr_endpoint.specs.Carriers.{cut_room, writes_room}
 use Rattle.nr_endpoint.specs.EndpointState.{EndpointState}
 use Rattle.nr_endpoint.specs.Calls.{Call, after_call, after_calls, with_state, unless_ended}
 use Rattle.nr_endpoint.specs.Calls.Call.{Send}
-use Rattle.nr_endpoint.specs.Offering.{offer_calls, register_call, with_buffer, claim_if, with_read, with_write_buffer, with_offered, claims_of, AreHeld, after_offer, write_call, answer_calls, writes_output, after_answer, shared_output}
+use Rattle.nr_endpoint.specs.Offering.{offer_calls, register_call, with_buffer, claim_if, with_read, with_write_buffer, with_offered, claims_of, AreHeld, after_offer, write_call, answer_calls, writes_output, after_answer, shared_call, shared_calls, shared_output, after_shared}
 
 -- what holds of the fields holds of the value
 pub seen_all : {room : ℕ} {outside : FinMap nat_cmp Outside} (before : LinkSide) (staging : List ℕ) (now : EndpointState) (after : LinkSide) (calls : List Call) → record { link = before; staging = staging; room = room; outside = outside } ≡ now →
@@ -151,6 +151,26 @@ answered_state l t writes message is = ap (λ (s : LinkState). with_state s l) i
     by : (b : Bool) → has_ended l.state ≡ b → with_state (cond (has_ended l.state) l.state after) l ≡ after_calls l (answer_calls writes message)
     by true over = ap (λ (b : Bool). with_state (cond b l.state after) l) over ∙ answered_ended writes l message over
     by false live = ap (λ (b : Bool). with_state (cond b l.state after) l) live ∙ answered_live writes l message live
+
+-- ---- RDMA Writes of shared bytes: those of the same bytes, wherever they are
+
+abbrev plain : SharedWrite → RemoteWrite
+plain w = record { stag = w.stag; to = w.to; bytes = record { ref_ptr = (0, 0); now = w.bytes } }
+
+plain_output : (writes : List SharedWrite) → shared_output writes ≡ writes_output (map plain writes)
+plain_output [] = refl
+plain_output (w ∷ writes) = ap (λ (bytes : List ℕ). write w.stag w.to w.bytes ++ bytes) (plain_output writes)
+
+plain_calls : (writes : List SharedWrite) (message : List ℕ) → answer_calls (map plain writes) message ≡ shared_calls writes message
+plain_calls [] message = refl
+plain_calls (w ∷ writes) message = ap (λ (calls : List Call). shared_call w ∷ calls) (plain_calls writes message)
+
+pub shared_state : (l : LinkSide) (t : LinkState) (writes : List SharedWrite) (message : List ℕ) → t ≡ after_shared writes message l.state →
+    with_state t l ≡ after_calls l (shared_calls writes message)
+shared_state l t writes message is =
+    answered_state l t (map plain writes) message
+    (is ∙ ap (λ (bytes : List ℕ). cond (has_ended l.state) l.state (queued l.state (with_send message (with_fpdus bytes l.state.send_queue)))) (plain_output writes))
+    ∙ ap (λ (calls : List Call). after_calls l calls) (plain_calls writes message)
 
 -- ---- RDMA Writes, one at a time
 

@@ -79,12 +79,8 @@ after_offer message o s = record s {
 abbrev pub FitsRegion : RemoteWrite → Type 0
 FitsRegion w = w.to + length w.bytes.now ≤ 2 ^ 64
 
--- a Write of shared bytes is one of those bytes, wherever they are
-abbrev pub plain_write : SharedWrite → RemoteWrite
-plain_write w = record { stag = w.stag; to = w.to; bytes = record { ref_ptr = (0, 0); now = w.bytes } }
-
 abbrev pub FitsSharedRegion : SharedWrite → Type 0
-FitsSharedRegion w = FitsRegion (plain_write w)
+FitsSharedRegion w = w.to + length w.bytes ≤ 2 ^ 64
 
 abbrev pub write_call : RemoteWrite → Call
 write_call w = WriteRemote w.stag w.to w.bytes.now
@@ -99,6 +95,17 @@ writes_output (w ∷ writes) = write w.stag w.to w.bytes.now ++ writes_output wr
 abbrev pub after_answer : List RemoteWrite → List ℕ → LinkState → LinkState
 after_answer writes message s = unless_ended s (record s { send_queue = with_send message (with_fpdus (writes_output writes) s.send_queue) })
 
--- the output of Writes of shared bytes
+-- ---- RDMA Writes of shared bytes and a Send
+
+abbrev pub shared_call : SharedWrite → Call
+shared_call w = WriteRemote w.stag w.to w.bytes
+
+abbrev pub shared_calls : List SharedWrite → List ℕ → List Call
+shared_calls writes message = map shared_call writes ++ Send message ∷ []
+
 abbrev pub shared_output : List SharedWrite → List ℕ
-shared_output writes = writes_output (map plain_write writes)
+shared_output [] = []
+shared_output (w ∷ writes) = write w.stag w.to w.bytes ++ shared_output writes
+
+abbrev pub after_shared : List SharedWrite → List ℕ → LinkState → LinkState
+after_shared writes message s = unless_ended s (record s { send_queue = with_send message (with_fpdus (shared_output writes) s.send_queue) })

@@ -122,6 +122,8 @@ impl Endpoint {
         // An FPDU is awaited only after the peer's hello was accepted.
         ensures awaits { self.now.link.state.ended ≡ None → self.now.link.awaited ≡ Awaited.Fpdu → self.now.link.state.has_hello ≡ true }
         ensures reads { length self.now.link.state.reads ≤ open_reads_max }
+        // STags are numbers of four bytes.
+        ensures stags { self.now.link.state.memory.next ≤ 2 ^ 32 }
     {
         let _ = &self.staged;
         self.link.facts();

@@ -70,7 +70,7 @@ pub fn segment(carrier: Operation, last: bool, offset: usize, payload: &[u8]) ->
 }
 
 /// Puts a segment at the end, for which there is room.
-fn append_segment(out: &mut Output, segment: &Segment)
+pub fn append_segment(out: &mut Output, segment: &Segment)
     requires writable { IsWritable (plain segment.now) }
     requires room { length (payload_in (plain segment.now)) + FRAMING_MAX ≤ out.old.spare }
     ensures bytes { out.new.items ≡ out.old.items ++ encoding (plain segment.now) }
@@ -110,7 +110,7 @@ fn segment_payload(bytes: &[u8], i: usize) -> &[u8]
 }
 
 /// Puts the segments of some bytes at the end, for which there is room.
-fn append_segments(out: &mut Output, carrier: Operation, bytes: &[u8])
+pub fn append_segments(out: &mut Output, carrier: Operation, bytes: &[u8])
     requires fits { FitsCarrier carrier (length bytes.now) }
     requires room { cut_room FRAMING_MAX bytes.now ≤ out.old.spare }
     ensures bytes { out.new.items ≡ out.old.items ++ cut (operation_segment carrier) bytes.now }
@@ -127,7 +127,7 @@ fn append_segments(out: &mut Output, carrier: Operation, bytes: &[u8])
 }
 
 /// The room that the segments of some bytes take.
-fn cut_room(bytes: &[u8]) -> usize
+pub fn cut_room(bytes: &[u8]) -> usize
     ensures { result ≡ cut_room FRAMING_MAX bytes.now }
 {
     bytes.len() + FRAMING_MAX * segment_count(bytes)

@@ -27,8 +27,10 @@ mod link;
 mod offering;
 mod operations;
 mod output;
+mod reading;
 mod reads;
 mod receive_queue;
+mod requests;
 mod send_queue;
 mod sharing;
 mod staging;
@@ -43,4 +45,5 @@ pub use laws::{
     sides_stay_bounded, stream_is_kept,
 };
 pub use offering::{Claims, Offered};
+pub use requests::RemoteRead;
 pub use sharing::SharedWrite;

@@ -1,10 +1,10 @@
 //! Several calls of an owner at once, all or none.
 
-ghost use Rattle.std.specs.Prelude.{◌≡◌, ◌+◌, ◌^◌, ◌<◌, ◌≤◌, ◌++◌, length, map, false, if◌then◌else◌, All, OnOk, OnErr, IfOk, IfErr};
+ghost use Rattle.std.specs.Prelude.{◌≡◌, ◌+◌, ◌^◌, ◌<◌, ◌≤◌, ◌++◌, length, false, if◌then◌else◌, All, OnOk, OnErr, IfOk, IfErr};
 ghost use Rattle.nr_endpoint.specs.LinkState.{has_ended};
 ghost use Rattle.nr_endpoint.specs.SendQueue.{with_send};
 ghost use Rattle.nr_endpoint.specs.Calls.{after_calls, StandsOnAll};
-ghost use Rattle.nr_endpoint.specs.Offering.{one_of, offered_count, offer_calls, with_buffer, claim_if, with_offered, outside_buffer, outside_offered, claims_of, AreHeld, after_offer, plain_write, FitsRegion, FitsSharedRegion, answer_calls, after_answer};
+ghost use Rattle.nr_endpoint.specs.Offering.{one_of, offered_count, offer_calls, with_buffer, claim_if, with_offered, outside_buffer, outside_offered, claims_of, AreHeld, after_offer, FitsRegion, FitsSharedRegion, answer_calls, after_answer, shared_calls, after_shared};
 
 use crate::endpoint::Endpoint;
 use crate::framing::RemoteWrite;
@@ -148,7 +148,7 @@ impl LinkSide {
     ) -> Result<(), Memory>
         requires size { length front.now + length stream.now < 2 ^ 32 }
         requires fits { All FitsSharedRegion writes.now }
-        ensures ok { OnOk result (self.new.state ≡ after_answer (map plain_write writes.now) (front.now ++ stream.now) self.old.state) }
+        ensures ok { OnOk result (self.new.state ≡ after_shared writes.now (front.now ++ stream.now) self.old.state) }
         ensures err { OnErr result (self.new.state ≡ self.old.state) }
         ensures live { OnErr result (has_ended self.old.state ≡ false) }
         ensures room { self.new.room ≡ self.old.room }
@@ -254,8 +254,8 @@ impl Endpoint {
     ) -> Result<(), Memory>
         requires size { length front.now + length stream.now < 2 ^ 32 }
         requires fits { All FitsSharedRegion writes.now }
-        ensures state { OnOk result (self.new.link ≡ after_calls self.old.link (answer_calls (map plain_write writes.now) (front.now ++ stream.now))) }
-        ensures stands { OnOk result (StandsOnAll self.old.link (answer_calls (map plain_write writes.now) (front.now ++ stream.now)) self.new.link) }
+        ensures state { OnOk result (self.new.link ≡ after_calls self.old.link (shared_calls writes.now (front.now ++ stream.now))) }
+        ensures stands { OnOk result (StandsOnAll self.old.link (shared_calls writes.now (front.now ++ stream.now)) self.new.link) }
         ensures err { OnErr result (self.new.link ≡ self.old.link) }
         ensures live { OnErr result (has_ended self.old.link.state ≡ false) }
         ensures room { self.new.room ≡ self.old.room }

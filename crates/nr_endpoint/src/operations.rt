@@ -21,6 +21,7 @@ use crate::event::Event;
 use crate::fault::ReadRefused;
 use crate::link::LinkSide;
 use crate::reads::OpenRead;
+use crate::requests::RemoteRead;
 use nr_link::End;
 use nr_outside::{Failed, Sink};
 use nr_regions::{Registration, Right, Why};
@@ -40,8 +41,10 @@ impl LinkSide {
         ensures waiting { length self.now.state.receive_queue.notices ≤ self.now.state.place }
         ensures greeted { self.now.state.has_hello ≡ true → 0 < self.now.state.place }
         ensures reads { length self.now.state.reads ≤ open_reads_max }
+        ensures stags { self.now.state.memory.next ≤ 2 ^ 32 }
     {
         let _open = self.reads.as_slice();
+        let _left = self.regions.stags_left();
         self.receive_queue.sum();
     }
 
@@ -159,7 +162,13 @@ impl LinkSide {
             return Ok(());
         }
         let sink = registration.stag();
-        self.send_queue.request(sink, at, len as u32, stag, to)?;
+        self.send_queue.request(&RemoteRead {
+            sink,
+            at,
+            len: len as u32,
+            stag,
+            to,
+        })?;
         self.reads.push(OpenRead {
             sink,
             at,

@@ -144,6 +144,9 @@ impl Pieces {
         ensures err_run { OnErr result (run.new ≡ run.old) }
     {
         let len = run.len();
+        if len == 0 {
+            return Ok(());
+        }
         if len > PIECES_MAX - self.len {
             return Err(Memory);
         }

@@ -1,11 +1,13 @@
 //! The Read Requests that are open.
 
-ghost use Rattle.std.specs.Prelude.{◌≡◌, ◌+◌, ◌-◌, ◌^◌, ◌<◌, ◌≤◌, true, false, length, map};
+ghost use Rattle.std.specs.Prelude.{◌≡◌, ◌+◌, ◌-◌, ◌^◌, ◌<◌, ◌≤◌, ◌++◌, true, false, All, length, map};
 ghost use Rattle.nr_link.specs.SegmentFaults.{is_expected};
 ghost use Rattle.nr_endpoint.specs.Judging.{expected_response, reads_after};
 ghost use Rattle.nr_endpoint.specs.Views.{expected};
+ghost use Rattle.nr_endpoint.specs.Requesting.{FitsSink, response_of};
 
 use crate::constants::OPEN_READS_MAX;
+use crate::requests::RemoteRead;
 use arrayvec::ArrayVec;
 
 /// A Read Request that is open: its response continues at byte `at` of the own region `sink`, and ends before byte
@@ -47,5 +49,20 @@ pub fn advance(reads: &mut Reads, last: bool, stag: u32, to: u64, n: u64)
     } else {
         let read = reads.as_slice()[0];
         reads.as_mut_slice()[0].at = read.at + n;
+    }
+}
+
+/// Read Requests that are sent now, after those that are open. There is room for them.
+pub fn open_all(reads: &mut Reads, more: &[RemoteRead])
+    requires room { length reads.old.items + length more.now ≤ OPEN_READS_MAX }
+    requires fits { All FitsSink more.now }
+    ensures { map expected reads.new.items ≡ map expected reads.old.items ++ map response_of more.now }
+{
+    for read in more {
+        reads.push(OpenRead {
+            sink: read.sink,
+            at: read.at,
+            end: read.at + read.len as u64,
+        });
     }
 }

@@ -3,32 +3,31 @@
 ghost use Rattle.std.specs.Prelude.{◌≡◌, ℕ, ◌+◌, ◌-◌, ◌^◌, ◌<◌, ◌≤◌, [], ◌++◌, if◌then◌else◌, length, take, drop, All, IfOk, OnOk, OnErr, MatchResult, min};
 ghost use Rattle.std.specs.Bool.{OnTrue};
 ghost use Rattle.std.specs.Io.KnownBytes.{Appends};
-ghost use Rattle.nr_xdr.specs.Item.{word, hyper};
 ghost use Rattle.nr_wire.specs.Hello.{hello_encoding};
 ghost use Rattle.nr_link.specs.Output.{refusing_hello};
 ghost use Rattle.nr_link.specs.Ending.{final_output, rejection};
 ghost use Rattle.nr_endpoint.specs.Judging.{reply_hello};
 ghost use Rattle.nr_outside.specs.Faults.{Rises};
+ghost use Rattle.nr_endpoint.specs.Requesting.{with_read_requests};
 ghost use Rattle.nr_endpoint.specs.Offering.{FitsRegion, FitsSharedRegion, shared_output, writes_output};
 ghost use Rattle.nr_endpoint.specs.SendQueue.{initial_queue, output_len, with_hello, with_fpdus, with_send, with_write, with_request, with_response, with_end, terminate_by, writable, written, ends_left, ends_passed};
 
-use crate::constants::SEGMENT_MAX;
+use crate::constants::{OPEN_READS_MAX, SEGMENT_MAX};
 use crate::framing::{
-    Operation, RemoteWrite, joined, push_answer, push_cut, push_long_answer, push_segment,
-    push_send, push_terminate,
+    Operation, RemoteWrite, append_segments, cut_room, joined, push_answer, push_cut,
+    push_long_answer, push_send, push_terminate,
 };
 use crate::output::{Output, write_run};
+use crate::requests::{REQUEST_ROOM, RemoteRead, append_request, append_requests};
 use crate::sharing::{SharedWrite, push_shared_answer};
 use bytes::BytesMut;
 use nr_link::End;
 use nr_link::constants::{WORD_BOUNDS, WORD_NO_BUFFER, WORD_NO_STAG, WORD_RIGHT};
 use nr_outside::{Failed, Sink};
 use nr_regions::Denied;
-use nr_wire::constants::{
-    FLAG_REJECT, OPCODE_READ_REQUEST, QUEUE_READ_REQUEST, REASON_FLAGS, REASON_PRIVATE,
-};
-use nr_wire::{Hello, Segment, Side, write_hello};
-use nr_xdr::{Memory, Octets, Writer};
+use nr_wire::constants::{FLAG_REJECT, REASON_FLAGS, REASON_PRIVATE};
+use nr_wire::{Hello, Side, write_hello};
+use nr_xdr::Memory;
 use std::alloc::Global;
 use std::collections::VecDeque;
 use std::marker::Model;
@@ -72,33 +71,6 @@ fn push_hello(out: &mut BytesMut, alloc: Global, side: Side, flags: u8) -> Resul
     )?;
     out.extend_from_slice(hello.as_slice())?;
     Ok(())
-}
-
-/// Writes an address in a region: its STag and an offset.
-fn write_place(writer: &mut Writer, stag: u32, to: u64) -> Result<(), Memory>
-    ensures { OnOk result (writer.new ≡ writer.old ++ (word stag ++ hyper to)) }
-{
-    writer.u32(stag)?;
-    writer.u64(to)
-}
-
-/// The payload of a Read Request (RFC 5040 section 4.4): `len` bytes of the peer's region `stag`, from `to` on, into the own region
-/// `sink`, from `at` on.
-fn request_payload(
-    alloc: Global,
-    sink: u32,
-    at: u64,
-    len: u32,
-    stag: u32,
-    to: u64,
-) -> Result<Octets, Memory>
-    ensures { IfOk result (λ o. o ≡ word sink ++ (hyper at ++ (word len ++ (word stag ++ hyper to)))) }
-{
-    let mut writer = Writer::new(alloc);
-    write_place(&mut writer, sink, at)?;
-    writer.u32(len)?;
-    write_place(&mut writer, stag, to)?;
-    Ok(writer.finish())
 }
 
 /// The word of the Terminate that a side writes last, if it writes one (RFC 5040 section 4.8; the words are own).
@@ -358,31 +330,48 @@ impl SendQueue {
     }
 
     /// A Read Request. An `Err` changes nothing.
-    #[tactic(auto, unfolding(nr_link::specs::Output::read_request))]
-    pub fn request(
-        &mut self,
-        sink: u32,
-        at: u64,
-        len: u32,
-        stag: u32,
-        to: u64,
-    ) -> Result<(), Memory>
-        ensures ok { OnOk result (self.new ≡ with_request sink at len stag to self.old) }
+    pub fn request(&mut self, read: &RemoteRead) -> Result<(), Memory>
+        ensures ok { OnOk result (self.new ≡ with_request read.now.sink read.now.at read.now.len read.now.stag read.now.to self.old) }
         ensures err { OnErr result (self.new ≡ self.old) }
     {
+        self.fpdus.reserve(REQUEST_ROOM)?;
         let msn = self.last_request.wrapping_add(1);
-        let payload = request_payload(self.alloc, sink, at, len, stag, to)?;
-        let segment = Segment::Untagged {
-            last: true,
-            opcode: OPCODE_READ_REQUEST,
-            word: 0,
-            queue: QUEUE_READ_REQUEST,
-            msn,
-            offset: 0,
-            payload: payload.as_slice(),
-        };
-        push_segment(&mut self.fpdus, &segment)?;
+        append_request(&mut self.fpdus, msn, read);
         self.last_request = msn;
+        Ok(())
+    }
+
+    /// Read Requests. An `Err` changes nothing.
+    pub fn request_all(&mut self, reads: &[RemoteRead]) -> Result<(), Memory>
+        requires count { length reads.now ≤ OPEN_READS_MAX }
+        ensures ok { OnOk result (self.new ≡ with_read_requests reads.now self.old) }
+        ensures err { OnErr result (self.new ≡ self.old) }
+    {
+        self.fpdus.reserve(REQUEST_ROOM * reads.len())?;
+        self.last_request = append_requests(&mut self.fpdus, self.last_request, reads);
+        Ok(())
+    }
+
+    /// A Send, and then Read Requests. An `Err` changes nothing.
+    #[tactic(auto, using(crate::proofs::Cuts::carried_send))]
+    pub fn send_and_request_all(
+        &mut self,
+        message: &[u8],
+        reads: &[RemoteRead],
+    ) -> Result<(), Memory>
+        requires size { length message.now < 2 ^ 32 }
+        requires count { length reads.now ≤ OPEN_READS_MAX }
+        ensures ok { OnOk result (self.new ≡ with_read_requests reads.now (with_send message.now self.old)) }
+        ensures err { OnErr result (self.new ≡ self.old) }
+    {
+        let msn = self.last_send.wrapping_add(1);
+        self.send_ends.reserve(1)?;
+        self.fpdus
+            .reserve(cut_room(message) + REQUEST_ROOM * reads.len())?;
+        append_segments(&mut self.fpdus, Operation::Send { msn }, message);
+        self.send_ends.push_back_reserved(self.fpdus.len());
+        self.last_send = msn;
+        self.last_request = append_requests(&mut self.fpdus, self.last_request, reads);
         Ok(())
     }
 

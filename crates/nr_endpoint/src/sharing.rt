@@ -36,7 +36,7 @@ fn segment_bytes(bytes: &Bytes, i: usize) -> Result<Bytes, Memory>
     Ok(bytes.slice(from..to)?)
 }
 
-/// Puts a segment at the end, without a copy of its payload.
+/// Puts a segment at the end, without a copy of its payload. There is room for its framing.
 fn push_shared_segment(
     out: &mut Output,
     carrier: Operation,
@@ -46,24 +46,26 @@ fn push_shared_segment(
 ) -> Result<(), Memory>
     requires offset { FitsAt carrier offset }
     requires len { length payload ≤ SEGMENT_MAX }
-    ensures { OnOk result (out.new.items ≡ out.old.items ++ encoding (operation_segment carrier last offset payload)) }
+    requires room { FRAMING_MAX ≤ out.old.spare }
+    ensures items { OnOk result (out.new.items ≡ out.old.items ++ encoding (operation_segment carrier last offset payload)) }
+    ensures spare { OnOk result (out.old.spare ≤ out.new.spare + FRAMING_MAX) }
 {
     let framed = segment(carrier, last, offset, payload.as_slice());
     let header = segment_header(&framed);
     let size = ulpdu_size(&framed);
-    out.reserve(FRAMING_MAX)?;
     out.append(header.as_slice());
     out.push(payload)?;
     out.append(segment_tail(size));
     Ok(())
 }
 
-/// Puts the segments of some bytes at the end, without a copy of them.
+/// Puts the segments of some bytes at the end, without a copy of them. The room for their framing is taken once.
 fn push_shared(out: &mut Output, carrier: Operation, bytes: &Bytes) -> Result<(), Memory>
     requires { FitsCarrier carrier (length bytes.now) }
     ensures { OnOk result (out.new.items ≡ out.old.items ++ cut (operation_segment carrier) bytes.now) }
 {
     let count = segment_count(bytes.as_slice());
+    out.reserve(FRAMING_MAX * count)?;
     for i in 0..count {
         let payload = segment_bytes(bytes, i)?;
         push_shared_segment(out, carrier, i + 1 == count, SEGMENT_MAX * i, payload)?;

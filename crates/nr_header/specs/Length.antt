@@ -4,11 +4,11 @@ use Rattle.nr_header.specs.Constants.{HEADER_LEN_MIN, SEGMENT_LEN, READ_SEGMENT_
 use Rattle.nr_header.specs.declared.header.RdmaSegment.{RdmaSegment}
 use Rattle.nr_header.specs.declared.header.ChunkLists.{ChunkLists}
 
--- the bytes that so many entries of a read list take
+-- the bytes that n entries of a read list take
 abbrev pub read_list_len : ℕ → ℕ
 read_list_len entries = READ_SEGMENT_LEN * entries
 
--- the bytes that a chunk of so many segments takes in a write list: the word 1, their number, and they (RFC 8166 section 4.3.2)
+-- the bytes that a chunk of n segments takes in a write list: the word 1, their number, and they (RFC 8166 section 4.3.2)
 abbrev pub write_chunk_len : ℕ → ℕ
 write_chunk_len segments = 8 + SEGMENT_LEN * segments
 

@@ -134,11 +134,13 @@ pub enum TransportError {
     Chunk,
 }
 
-/// A transport header (RFC 8166 section 4.2). `credit` is the number of credits that a requester asks for or a responder grants.
+/// A transport header (RFC 8166 section 4.2).
 #[derive(Drop)]
 pub struct Header {
     /// The transaction ID, that of the RPC message.
     pub xid: u32,
+    /// The number of credits that a requester asks for or a responder grants.
     pub credit: u32,
+    /// The chunks of a message, or an error.
     pub body: Body,
 }

@@ -7,7 +7,7 @@ ghost use Rattle.nr_header.specs.Length.{read_list_len, write_chunk_len, reply_c
 use crate::constants::{HEADER_LEN_MIN, READ_SEGMENT_LEN, SEGMENT_LEN};
 use crate::header::{Chunk, ChunkLists};
 
-/// The bytes that so many entries of a read list take in a header (RFC 8166 section 4.3.1).
+/// The bytes that this many entries of a read list take in a header (RFC 8166 section 4.3.1).
 pub fn read_list_len(entries: usize) -> u128
     ensures is { result ≡ read_list_len entries }
     ensures small { result < 2 ^ 100 }
@@ -15,7 +15,7 @@ pub fn read_list_len(entries: usize) -> u128
     READ_SEGMENT_LEN as u128 * entries as u128
 }
 
-/// The bytes that a chunk of so many segments takes in the write list of a header (RFC 8166 section 4.3.2).
+/// The bytes that a chunk of this many segments takes in the write list of a header (RFC 8166 section 4.3.2).
 pub fn write_chunk_len(segments: usize) -> u128
     ensures is { result ≡ write_chunk_len segments }
     ensures small { result < 2 ^ 100 }
@@ -23,7 +23,7 @@ pub fn write_chunk_len(segments: usize) -> u128
     8 + SEGMENT_LEN as u128 * segments as u128
 }
 
-/// The bytes that a reply chunk of so many segments adds to a header without one (RFC 8166 section 4.3.3).
+/// The bytes that a reply chunk of this many segments adds to a header without one (RFC 8166 section 4.3.3).
 pub fn reply_chunk_len(segments: usize) -> u128
     ensures is { result ≡ reply_chunk_len segments }
     ensures small { result < 2 ^ 100 }

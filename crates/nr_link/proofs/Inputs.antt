@@ -14,9 +14,9 @@ after_append : (a : Awaited) (xs ys : List (List ℕ)) → awaited_after a (xs +
 after_append a [] ys = refl
 after_append a (x ∷ xs) ys = sym (awaited_after_Fpdu ys)
 
-concat-append : (xs ys : List (List ℕ)) → concat (xs ++ ys) ≡ concat xs ++ concat ys
-concat-append [] ys = refl
-concat-append (x ∷ xs) ys = ap (λ (zs : List ℕ). x ++ zs) (concat-append xs ys) ∙ sym (append_assoc x (concat xs) (concat ys))
+concat_append : (xs ys : List (List ℕ)) → concat (xs ++ ys) ≡ concat xs ++ concat ys
+concat_append [] ys = refl
+concat_append (x ∷ xs) ys = ap (λ (zs : List ℕ). x ++ zs) (concat_append xs ys) ∙ sym (append_assoc x (concat xs) (concat ys))
 
 beyond_input : (peer : Side) (fs : List (List ℕ)) (later : Split) →
     input_of_split peer (frames_then fs later)
@@ -24,7 +24,7 @@ beyond_input : (peer : Side) (fs : List (List ℕ)) (later : Split) →
 beyond_input peer fs later = λ i. record {
   awaited = after_append (HelloFrom peer) fs later.frames i;
   rest = later.rest;
-  place = (ap (λ (xs : List ℕ). length xs) (concat-append fs later.frames) ∙ length-append (concat fs) (concat later.frames)) i;
+  place = (ap (λ (xs : List ℕ). length xs) (concat_append fs later.frames) ∙ length-append (concat fs) (concat later.frames)) i;
 }
 
 pub input_of_append : (peer : Side) (x y : List ℕ) → input_of peer (x ++ y) ≡ input_after (input_of peer x) y

@@ -10,7 +10,7 @@ use Rattle.nr_link.specs.Output.{msn_word}
 use Rattle.nr_link.specs.ReceiveState.{ReceiveState, is_send, begun_bytes, message_completed, read_request_in}
 use Rattle.nr_xdr.specs.Fields.{word_at}
 
--- where the oldest open Read Request continues: its sink, the next offset in it, and the number of bytes left
+-- how the oldest open Read Request continues: its sink, the next offset in it, and the number of bytes left
 pub record ExpectedResponse : Type 0 where
   pub sink : ℕ
   pub at : ℕ

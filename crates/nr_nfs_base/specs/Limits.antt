@@ -1,5 +1,5 @@
--- Sizes of transfers and listings, each by its one name. They are this implementation's own; FSINFO reports the first two to a
--- client (RFC 1813 section 3.3.19).
+-- Sizes, each by its one name. Those of transfers, listings and links are this implementation's own; FSINFO reports the first two
+-- to a client (RFC 1813 section 3.3.19).
 use Rattle.std.specs.Prelude.{ℕ}
 
 -- the maximum number of bytes that one READ or WRITE moves
@@ -13,3 +13,7 @@ listing_max = 32768
 -- the maximum length of the target of a symbolic link in bytes
 abbrev pub link_target_max : ℕ
 link_target_max = 1024
+
+-- the maximum length of a path to mount in bytes (RFC 1813 section 5.1.4, MNTPATHLEN)
+abbrev pub mount_path_max : ℕ
+mount_path_max = 1024

@@ -3,6 +3,7 @@
 use Rattle.std.specs.Prelude.{ℕ, List}
 use Rattle.nr_nfs_base.specs.Codec.{Codec, Lawful, opaque}
 use Rattle.nr_nfs_base.specs.Laws.{opaque_lawful}
+use Rattle.nr_nfs_base.specs.Limits.{mount_path_max}
 
 -- a file handle, of at most 64 bytes (RFC 1813 section 2.4, NFS3_FHSIZE; section 2.5, nfs_fh3)
 abbrev pub handle_codec : Codec (List ℕ)
@@ -19,9 +20,9 @@ text_codec = opaque 4294967295
 pub text_lawful : Lawful text_codec
 text_lawful = opaque_lawful 4294967295
 
--- a path to mount, of at most 1024 bytes (RFC 1813 section 5.1.4, MNTPATHLEN; section 5.1.5, dirpath)
+-- a path to mount (RFC 1813 section 5.1.5, dirpath)
 abbrev pub mount_path_codec : Codec (List ℕ)
-mount_path_codec = opaque 1024
+mount_path_codec = opaque mount_path_max
 
 pub mount_path_lawful : Lawful mount_path_codec
-mount_path_lawful = opaque_lawful 1024
+mount_path_lawful = opaque_lawful mount_path_max

@@ -42,7 +42,7 @@ abbrev pub replacement_rule : Tree → ℕ → ℕ → ℕ → Option ℕ → Op
 replacement_rule t d d_to n target = if is_same_node target n then None else first (target_rule t n target ∷ move_rule t d d_to n ∷ [])
 
 -- what is asked of the node n that moves: INVAL if it is a directory and the target's directory is it or lies below it.
--- In a sane tree is_within says exactly that (the clauses below and apart of Tree::is_within)
+-- In a sane tree is_within says exactly that (the law walks_find_ancestors; the clauses below and apart of Tree::is_within)
 abbrev pub rename_of : Tree → Space → RenameArgs → ℕ → List (Option Status)
 rename_of t space args n =
     ((is_dir_at t n && is_within (skeleton t) (number_of_handle args.to_dir) n) ⇒ Inval) ∷

@@ -257,7 +257,9 @@ fn renamed(tree: &mut Tree, now: Time, args: RenameArgs, step: Move) -> Result<R
 }
 
 /// Gives a node another name, in the same directory or in another one (RFC 1813 section 3.3.14). A target that may be
-/// replaced is taken out. After an `Err` the tree is as before.
+/// replaced is taken out. A directory that would move into itself or below is refused: the rules find that by a walk, which
+/// finds a directory if and only if a path leads up to it ([`nr_tree::walks_find_ancestors`]). After an `Err` the tree is as
+/// before.
 pub fn rename(
     tree: &mut Tree,
     now: Time,

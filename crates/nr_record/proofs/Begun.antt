@@ -9,7 +9,7 @@ use Rattle.nr_record.specs.declared.fault.RecordFault.TheVariants.{Bad, Memory}
 use Rattle.nr_record.specs.Constants.{RECORD_MAX, HEADER_LEN}
 use Rattle.nr_record.specs.Records.{header, fragment, fragments, Cut, IsShort, Fits, contents, encodings, IsBegun, RecordsEncode}
 use Rattle.nr_record.specs.Kept.{Kept, IsWithin, InHeader, InFragment, IsLess, IsAbove, IsState, StandsFor, read_in, rest_in}
-use Rattle.nr_record.proofs.Lists.{fragments_end, all-end}
+use Rattle.nr_record.proofs.Lists.{fragments_end, all_end}
 use Rattle.nr_record.proofs.Standing.{halves, bytes_end}
 use Rattle.nr_record.proofs.Unique.{one_list}
 
@@ -36,7 +36,7 @@ begun_with true begun payload front missing all short some e = record {
 }
 begun_with false begun payload front missing all short some e = record {
   cut = record { before = begun ++ payload ∷ []; last = [] };
-  fits = (all-end IsShort begun payload all short, omega arith);
+  fits = (all_end IsShort begun payload all short, omega arith);
   missing = missing ++ fragment true [];
   some = omega (arith, some, length-append missing (fragment true []));
   encoded =

@@ -30,14 +30,14 @@ waiting_length at [] = refl
 waiting_length at (c ∷ cuts) = ap suc (waiting_length (at + length (encoding c)) cuts)
 
 module _ {A : Type 0} where
-  pub drop-end : (n : ℕ) (xs : List A) (x : A) → n ≤ length xs → drop n (xs ++ x ∷ []) ≡ drop n xs ++ x ∷ []
-  drop-end zero xs x le = refl
-  drop-end (suc n) [] x le = absurd (omega arith)
-  drop-end (suc n) (y ∷ ys) x le = drop-end n ys x (omega arith)
+  pub drop_end : (n : ℕ) (xs : List A) (x : A) → n ≤ length xs → drop n (xs ++ x ∷ []) ≡ drop n xs ++ x ∷ []
+  drop_end zero xs x le = refl
+  drop_end (suc n) [] x le = absurd (omega arith)
+  drop_end (suc n) (y ∷ ys) x le = drop_end n ys x (omega arith)
 
-  pub all-end : (P : A → Type 0) (xs : List A) (x : A) → AllByRecursion P xs → P x → AllByRecursion P (xs ++ x ∷ [])
-  all-end P [] x all is = (is, tt)
-  all-end P (y ∷ ys) x all is = (all.0, all-end P ys x all.1 is)
+  pub all_end : (P : A → Type 0) (xs : List A) (x : A) → AllByRecursion P xs → P x → AllByRecursion P (xs ++ x ∷ [])
+  all_end P [] x all is = (is, tt)
+  all_end P (y ∷ ys) x all is = (all.0, all_end P ys x all.1 is)
 
   -- bytes that are read go to the part that is begun
   pub read_more : (e f p more stream : List A) → stream ≡ e ++ (f ++ p) → stream ++ more ≡ (e ++ (f ++ (p ++ more))) ++ []

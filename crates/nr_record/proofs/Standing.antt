@@ -13,7 +13,7 @@ use Rattle.nr_record.specs.Constants.{RECORD_MAX, HEADER_LEN, REASON_RECORD}
 use Rattle.nr_record.specs.Records.{header, fragment, fragments, Cut, content, encodings}
 use Rattle.nr_record.specs.Kept.{Kept, IsWithin, waiting_from, InHeader, InFragment, IsState, Stands, StandsFor}
 use Rattle.nr_record.specs.private.Step.{with_record, ended, with_header, with_byte, with_payload, with_fault}
-use Rattle.nr_record.proofs.Lists.{encodings_end, fragments_end, concat_end, waiting_end, waiting_length, drop-end, all-end, read_more, count_more}
+use Rattle.nr_record.proofs.Lists.{encodings_end, fragments_end, concat_end, waiting_end, waiting_length, drop_end, all_end, read_more, count_more}
 
 abbrev pub State : Type 1
 State = List (List ℕ) → List ℕ → List ℕ → ℕ → Type 0
@@ -160,7 +160,7 @@ ended_stands k stream taken none s = either_stands (eqb k.left 0 && k.last) (wit
           ap (λ (l : List WaitingRecord). l ++ record { at = k.start; bytes = k.payload } ∷ []) s.waiting_is
           ∙ (ap (λ (n : ℕ). drop taken old ++ record { at = n; bytes = k.payload } ∷ []) place
           ∙ (ap (λ (l : List ℕ). drop taken old ++ record { at = 0 + length e; bytes = l } ∷ []) m.payload_is
-          ∙ (sym (drop-end taken old (record { at = 0 + length e; bytes = content cut }) (omega (arith, s.taken_some, waiting_length 0 s.cuts)))
+          ∙ (sym (drop_end taken old (record { at = 0 + length e; bytes = content cut }) (omega (arith, s.taken_some, waiting_length 0 s.cuts)))
           ∙ ap (drop taken) (sym (waiting_end 0 s.cuts cut)))))
 
       ends : k.left ≡ 0 → k.last ≡ true → StandsFor (with_record k) stream taken
@@ -169,7 +169,7 @@ ended_stands k stream taken none s = either_stands (eqb k.left 0 && k.last) (wit
         begun = [];
         partial = [];
         unread = [];
-        within = all-end IsWithin s.cuts cut s.within (omega (arith, m.within, ap length m.payload_is));
+        within = all_end IsWithin s.cuts cut s.within (omega (arith, m.within, ap length m.payload_is));
         begun_within = omega arith;
         stream_is = flat_again (encodings (s.cuts ++ cut ∷ [])) [] stream (is ∙ whole_record a b);
         taken_some = omega (arith, s.taken_some, length-append s.cuts (cut ∷ []));

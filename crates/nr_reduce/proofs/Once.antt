@@ -112,9 +112,9 @@ if_le : (b : Bool) (x y : FrameEffect) (P : FrameEffect → Type 0) → P x → 
 if_le true x y P p q = p
 if_le false x y P p q = q
 
-not-true : (b : Bool) → not b ≡ true → b ≡ false
-not-true true e = absurd cc
-not-true false e = refl
+not_true : (b : Bool) → not b ≡ true → b ≡ false
+not_true true e = absurd cc
+not_true false e = refl
 
 -- a call becomes ready once, when nothing of it is left to be read
 pub ready_times_ready : (n number : ℕ) (o : CallVerdict) (s : FrameEffect) → s.ready ≡ [] → ((r : ReadyCall) → o ≡ IsReady r → r.number ≡ number) → times_ready n (with_verdict o s).ready ≤ one_if (eqb number n)
@@ -163,7 +163,7 @@ whole_adds k place c s n e = by (eqb c.number n) refl (is_read s.reads c.number)
     by true is false whole = (let a = small (read_for n s.reads) in omega (arith, a, idle))
     by false is false whole = omega (arith, idle)
     by true is true whole =
-        let none_left : read_for n s.reads ≡ false = ap (λ (m : ℕ). read_for m s.reads) (sym (eqb-true c.number n is)) ∙ not-true (read_for c.number s.reads) whole in
+        let none_left : read_for n s.reads ≡ false = ap (λ (m : ℕ). read_for m s.reads) (sym (eqb-true c.number n is)) ∙ not_true (read_for c.number s.reads) whole in
         let a = ap one_if (kept ∙ none_left) in
         let b = ap one_if is in
         omega (arith, one, a, b)

@@ -7,17 +7,20 @@ use Rattle.nr_xdr.specs.Sequencing.{◌>>=◌, number_at}
 use Rattle.nr_rpc.specs.declared.head.CallTarget.{CallTarget}
 use Rattle.nr_rpc.specs.Reading.{call_of, target_of}
 use Rattle.nr_nfs_base.specs.Codec.{Codec}
-use Rattle.nr_nfs_base.specs.Procedures.{mount_program, mount_version}
+use Rattle.nr_nfs_base.specs.Procedures.{mount_procedure_number, mount_program, mount_version, nfs_procedure_number}
+use Rattle.nr_nfs_base.specs.declared.procedure.MountProcedure.TheVariants as mount
+use Rattle.nr_nfs_base.specs.declared.procedure.NfsProcedure.{NfsProcedure}
+use Rattle.nr_nfs_base.specs.declared.procedure.NfsProcedure.TheVariants as nfs
 use Rattle.nr_nfs_base.specs.Fronts.{read_args_front, readdir_args_front, readdirplus_args_front}
-use Rattle.nr_nfs_base.specs.Limits.{listing_max, transfer_max}
+use Rattle.nr_nfs_base.specs.Limits.{link_target_max, listing_max, transfer_max}
 use Rattle.nr_reduce.specs.Items.{READ, is_nfs, from_place}
 
 -- the procedures that list directories, and MOUNT's that gives a handle (RFC 1813 sections 3.3.16, 3.3.17, 5.2.1)
 abbrev pub READDIR : ℕ
-READDIR = 16
+READDIR = nfs_procedure_number nfs.Readdir
 
 abbrev pub READDIRPLUS : ℕ
-READDIRPLUS = 17
+READDIRPLUS = nfs_procedure_number nfs.Readdirplus
 
 abbrev pub MOUNT_PROGRAM : ℕ
 MOUNT_PROGRAM = mount_program
@@ -26,7 +29,7 @@ abbrev pub MOUNT_VERSION : ℕ
 MOUNT_VERSION = mount_version
 
 abbrev pub MNT : ℕ
-MNT = 1
+MNT = mount_procedure_number mount.Mnt
 
 -- the number after the fields before it
 abbrev pub count_of : Result (ℕ × Cursor) ℕ → Option ℕ
@@ -61,9 +64,16 @@ abbrev pub readdir_reply_max : ℕ → ℕ
 readdir_reply_max count = max 116 (28 + min count listing_max)
 
 -- the procedures whose replies have one limit
+abbrev pub with_limit : NfsProcedure → ℕ → ℕ × ℕ
+with_limit procedure limit = (nfs_procedure_number procedure, limit)
+
 abbrev pub reply_limits : List (ℕ × ℕ)
-reply_limits = (1, 112) ∷ (2, 144) ∷ (3, 272) ∷ (4, 120) ∷ (5, 1144) ∷ (7, 160) ∷ (8, 304) ∷ (9, 304) ∷ (10, 304) ∷ (11, 304)
-    ∷ (12, 144) ∷ (13, 144) ∷ (14, 260) ∷ (15, 232) ∷ (18, 168) ∷ (19, 164) ∷ (20, 140) ∷ (21, 152) ∷ []
+reply_limits =
+    with_limit nfs.Getattr 112 ∷ with_limit nfs.Setattr 144 ∷ with_limit nfs.Lookup 272 ∷ with_limit nfs.Access 120
+    ∷ with_limit nfs.Readlink (120 + link_target_max) ∷ with_limit nfs.Write 160
+    ∷ with_limit nfs.Create 304 ∷ with_limit nfs.Mkdir 304 ∷ with_limit nfs.Symlink 304 ∷ with_limit nfs.Mknod 304
+    ∷ with_limit nfs.Remove 144 ∷ with_limit nfs.Rmdir 144 ∷ with_limit nfs.Rename 260 ∷ with_limit nfs.Link 232
+    ∷ with_limit nfs.Fsstat 168 ∷ with_limit nfs.Fsinfo 164 ∷ with_limit nfs.Pathconf 140 ∷ with_limit nfs.Commit 152 ∷ []
 
 unfoldable pub limit_of : ℕ → ℕ
 limit_of proc = unwrap_or (option_map (λ row. row.1) (find (λ row. row.0 == proc) reply_limits)) reply_limit_min

@@ -38,7 +38,7 @@ plan_by payload Long w r =
 abbrev pub plan_of_sizes : List ℕ → PlanSizes → Plan
 plan_of_sizes payload o = plan_by payload o.kind o.write o.reply
 
--- the item lies within so many bytes
+-- the item lies within this many bytes
 abbrev pub ItemFits : ℕ → Option Item → Type 0
 ItemFits len item = IfSome item (λ (i : Item). i.pos + i.len ≤ len)
 
@@ -47,7 +47,7 @@ KindFits len Short = Unit {0}
 KindFits len (Chunked i) = i.pos + i.len ≤ len
 KindFits len Long = Unit {0}
 
--- ---- The sizes of a plan of a payload of so many bytes
+-- ---- The sizes of a plan of a payload of this many bytes
 
 abbrev pub entries_of : MessageKind → ℕ
 entries_of Short = 0
@@ -73,7 +73,7 @@ auto_offer_sizes facts down = if nat_le (HEADER_LEN_MIN + facts.largest) down th
 abbrev pub sizes_by : MessageKind → Option ℕ → Option ℕ → PlanSizes
 sizes_by kind w r = record { kind = kind; write = w; reply = r }
 
--- the first kind of message whose Send has at most so many bytes
+-- the first kind of message whose Send has at most this many bytes
 abbrev pub item_kind_within : (len up : ℕ) → (w r : Option ℕ) → Option Item → MessageKind
 item_kind_within len up w r None = Long
 item_kind_within len up w r (Some i) = if nat_le (send_size len (sizes_by (Chunked i) w r)) up then Chunked i else Long

@@ -83,6 +83,7 @@ pub enum Refused {
 pub enum Submission {
     /// The call is sent under this xid.
     Accepted { xid: u32 },
+    /// The call is refused.
     Refused(Refused),
     /// The link was dropped: the call is refused as one on a link that has ended, and there is no [`End`] to report.
     Dropped,

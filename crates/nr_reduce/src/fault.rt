@@ -34,10 +34,12 @@ pub enum PayloadFault {
     Memory,
 }
 
-/// A call needs `need` bytes where there is room for `room`.
+/// A call needs more bytes than there is room for.
 #[derive(Clone, Copy)]
 pub struct TooLarge {
+    /// How many bytes it needs.
     pub need: u128,
+    /// How many bytes there is room for.
     pub room: u32,
 }
 

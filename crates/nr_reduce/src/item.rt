@@ -29,13 +29,16 @@ pub struct Item {
 /// Whose payload it is: that of a call, or that of a reply to a call of this program, version and procedure.
 #[derive(Clone, Copy)]
 pub enum Of {
+    /// That of a call.
     Call,
+    /// That of a reply.
     Reply { prog: u32, vers: u32, proc: u32 },
 }
 
 /// A payload that was cut: its item, the stream that is left without the item's bytes and pad, and the item's bytes.
 #[derive(Drop)]
 pub struct Cut {
+    /// The item in the payload.
     pub item: Item,
     /// The payload without the item's bytes and pad.
     pub stream: Octets,
@@ -176,6 +179,7 @@ pub fn reply_item(prog: u32, vers: u32, proc: u32, payload: &[u8]) -> Option<Ite
 /// A reply, or its stream, with its head, which was read (RFC 5531 section 9).
 #[derive(Clone, Copy)]
 pub struct ReplyParts<'a> {
+    /// The head.
     pub head: ReplyHead,
     /// All of the bytes, from the head on.
     pub payload: &'a [u8],

@@ -37,7 +37,9 @@ pub struct Plan {
 /// The lengths, in bytes, of the segments of a chunk: of its one segment, or those that an offer gives.
 #[derive(Clone, Copy)]
 pub enum ChunkLengths<'a> {
+    /// Of its one segment.
     One([u32; 1]),
+    /// Those that an offer gives.
     Given(&'a [u32]),
 }
 
@@ -53,21 +55,25 @@ impl<'a> ChunkLengths<'a> {
     }
 }
 
-/// The read chunk of a call: its position in the payload, the lengths of its segments, and how many bytes its region has: those
-/// of the payload from the position on, and zeros after them.
+/// The read chunk of a call.
 #[derive(Clone, Copy)]
 pub struct ReadOutline<'a> {
+    /// Its position in the payload in bytes.
     pub position: u32,
+    /// The lengths of its segments in bytes.
     pub lengths: ChunkLengths<'a>,
+    /// The number of bytes of its region: those of the payload from the position on, and zeros after them.
     pub len: u32,
 }
 
-/// A [`Plan`] that owns no bytes (RFC 8166 section 3.5): the read chunk, the write chunk and the reply chunk that a call offers.
-/// The bytes before the position of the read chunk go inline, without one all.
+/// A [`Plan`] that owns no bytes (RFC 8166 section 3.5): what a call offers.
 #[derive(Clone, Copy)]
 pub struct Outline<'a> {
+    /// The read chunk. The bytes before its position go inline, without one all.
     pub read: Option<ReadOutline<'a>>,
+    /// The lengths of the segments of the write chunk in bytes.
     pub write: Option<ChunkLengths<'a>>,
+    /// The lengths of the segments of the reply chunk in bytes.
     pub reply: Option<ChunkLengths<'a>>,
 }
 

@@ -20,12 +20,14 @@ use crate::two_slices::from_offset;
 use nr_rpc::{CallTarget, Cred, call_target, cred_fits};
 use nr_xdr::{Reader, pad_len};
 
-/// A call of RPC version 2 as its head and its arguments (RFC 5531 section 9): `head` is the payload up to the arguments, `args`
-/// the rest, and `target` is what the head asks for; its `args_at` is the length of the head.
+/// A call of RPC version 2 as its head and its arguments (RFC 5531 section 9).
 #[derive(Clone, Copy)]
 pub struct CallParts<'a> {
+    /// What the head asks for. Its `args_at` is the length of the head.
     pub target: CallTarget,
+    /// The payload up to the arguments.
     pub head: &'a [u8],
+    /// The rest of the payload.
     pub args: &'a [u8],
 }
 

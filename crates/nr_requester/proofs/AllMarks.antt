@@ -3,6 +3,7 @@ use Rattle.std.proofs.Common.{◌≡◌, ℕ, ◌+◌, ◌<◌, Bool, true, fals
 use Rattle.std.specs.List.{AllByRecursion, Contains, find}
 use Rattle.std.proofs.lemmas.List.Elements.{Contains-push}
 use Rattle.nr_wire.specs.declared.hello.Side.TheVariants.{Initiator}
+use Rattle.nr_endpoint.specs.SendQueue.{writable}
 use Rattle.nr_reduce.specs.declared.call.Call.{Call}
 use Rattle.nr_reduce.specs.declared.call.Form.{Form}
 use Rattle.nr_reduce.specs.declared.call.Submission.TheVariants as submissions
@@ -154,7 +155,7 @@ piece_runs_out h after piece lives out opened link run s =
     let c : KeepsClient opened link before all = fed_client opened link h run piece s.keeps in
     let k : AnswersAfter opened link before all = fed_answers opened link h run piece s.keeps s.answers in
     let is_live : (client opened link all).ended ≡ None = sym c.kept.keeps.ended ∙ lives in
-    let queued : bytes_sent link Initiator all ++ queue_of after.state ≡ output_due opened link Initiator all = ap (λ (xs : List ℕ). bytes_sent link Initiator all ++ xs) out.queue ∙ c.kept.output in
+    let queued : bytes_sent link Initiator all ++ queue_of after.state ≡ output_due opened link Initiator all = (λ i. bytes_sent link Initiator all ++ writable (out.hello i) (out.queue i)) ∙ c.kept.output in
     record {
       out = record {
         ended = out.ended;

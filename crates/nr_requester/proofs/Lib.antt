@@ -42,6 +42,7 @@ pub mod OutsideBounds
 pub mod HeldBounds
 pub mod Lost
 pub mod OpenTickets
+pub mod Tickets
 pub mod CameBack
 pub mod ReplyParts
 pub mod Completing

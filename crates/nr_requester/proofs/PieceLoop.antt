@@ -27,9 +27,10 @@ use Rattle.nr_reduce.specs.declared.mark.LinkParameters.{LinkParameters}
 use Rattle.nr_reduce.specs.declared.mark.Mark.{Mark}
 use Rattle.nr_reduce.specs.declared.mark.Mark.TheVariants as marks
 use Rattle.nr_requester.specs.RequesterState.{RequesterState, RequesterSide, kept_calls}
+use Rattle.nr_requester.specs.OpenCalls.{KeepsTickets}
 use Rattle.nr_requester.specs.Standing.{StandsOn, RequesterRepresents, RequesterRunsOut}
 use Rattle.nr_requester.specs.AfterPiece.{judged, noticed, unless_ended, requester_ended, after_frame, after_piece, RanOut}
-use Rattle.nr_requester.specs.Fed.{one_step, IsStep, fed_bytes, RanOutAt}
+use Rattle.nr_requester.specs.Fed.{one_step, IsStep, QueuesOutput, fed_bytes, RanOutAt}
 use Rattle.nr_requester.proofs.Stepping.{link_of, told_of, step_fed, piece_rest}
 use Rattle.nr_requester.proofs.RunOut.{fed_out}
 use Rattle.nr_requester.proofs.Fed.{piece_is_a_mark}
@@ -90,6 +91,13 @@ module _ (h : RequesterSide) (piece : List ℕ) (lives : h.state.side.ended ≡ 
   pub step_not_memory : (one_step h piece).state.side.ended ≢ Some ends.Memory
   step_not_memory = λ m. told_end h.state l.state l.state.ended refl (link_end (link_of h) piece lives) (sym (ap (λ (x : RequesterSide). x.state.side.ended) told) ∙ m)
 
+  pub step_within : fed_bytes (one_step h piece) ≤ fed_bytes h + length piece
+  step_within =
+      let place : (one_step h piece).state.side.place ≡ l.state.place = ap (λ (x : RequesterSide). x.state.side.place) told ∙ told_place h.state l.state l.state.ended in
+      let rest : length (one_step h piece).rest ≡ length l.rest = ap (λ (x : RequesterSide). length x.rest) told in
+      let most = fed_one_within (link_of h) piece in
+      omega (arith, place, rest, most)
+
   pub step_bytes : (one_step h piece).state.side.ended ≡ None → fed_bytes (one_step h piece) ≤ fed_bytes h + bytes_taken h.awaited h.rest piece
   step_bytes none =
       let live_link : l.state.ended ≡ None = live_told h.state l.state l.state.ended refl (sym (ap (λ (x : RequesterSide). x.state.side.ended) told) ∙ none) in
@@ -130,6 +138,8 @@ pub record FedTo (old : RequesterSide) (piece : List ℕ) (now : RequesterSide) 
   pub far : ((now ≡ after_piece old (take at piece)) × (now.state.side.ended ≢ Some ends.Memory)) ⊎ ((n : ℕ) × (RanOutAt old piece n now × (at ≡ length piece)))
   pub goes : at < length piece → now.state.side.ended ≡ None
   pub fed : at < length piece → fed_bytes now + (length piece - at) ≤ 2 ^ 62
+  pub bytes : fed_bytes now ≤ fed_bytes old + at
+  pub tickets : KeepsTickets old.state now.state
 
 pub fed_none : (old : RequesterSide) (piece : List ℕ) → old.state.side.ended ≡ None → IsPartial old.awaited old.rest → fed_bytes old + length piece ≤ 2 ^ 62 → FedTo old piece old 0
 unfolding after_piece
@@ -138,6 +148,8 @@ fed_none old piece lives partial within = record {
   far = inl (sym (feeding-none requester_ended after_frame old partial (λ e. absurd (let wrong : false ≡ true = ap (λ (x : Option End). is_some x) (sym lives) ∙ e in cc))), λ m. (let wrong : None ≡ Some ends.Memory = sym lives ∙ m in cc));
   goes = λ lt. lives;
   fed = λ lt. omega (arith, within);
+  bytes = omega arith;
+  tickets = λ x. refl;
 }
 
 -- what a step says
@@ -147,6 +159,7 @@ pub record Stepped (now : RequesterSide) (left : List ℕ) (new : RequesterSide)
   pub partial : IsPartial now.awaited now.rest
   pub quiet : now.state.side.receive_queue.notices ≡ []
   pub ended : is_some new.state.side.ended ≡ true → new.rest ≡ []
+  pub tickets : KeepsTickets now.state new.state
 
 append_pieces : (old : RequesterSide) (x y : List ℕ) → after_piece (after_piece old x) y ≡ after_piece old (x ++ y)
 unfolding after_piece
@@ -205,6 +218,8 @@ fed_on old now new piece left at count f lt is s = by_far f.far
                   );
                   goes = λ less. absurd (omega (arith, less, full));
                   fed = λ less. absurd (omega (arith, less, full));
+                  bytes = (let w = step_within now left lives s.quiet s.partial in let was = f.bytes in let fed_new : fed_bytes new ≡ fed_bytes (one_step now left) = ap fed_bytes same in omega (arith, w, was, fed_new, t));
+                  tickets = λ x. s.tickets x ∙ f.tickets x;
                 }
             by_end None e =
                 let t : count ≡ bytes_taken now.awaited now.rest left = taken_if None e in
@@ -222,6 +237,8 @@ fed_on old now new piece left at count f lt is s = by_far f.far
                   );
                   goes = λ less. e;
                   fed = λ less. omega (arith, bytes, fed_new, t, was, less);
+                  bytes = (let before = f.bytes in omega (arith, bytes, fed_new, t, before));
+                  tickets = λ x. s.tickets x ∙ f.tickets x;
                 }
 
         by_step : IsStep now left new → FedTo old piece new (at + count)
@@ -239,12 +256,15 @@ fed_on old now new piece left at count f lt is s = by_far f.far
                     live = ap (λ (x : RequesterSide). x.state.side.ended) (sym on) ∙ lives;
                     out = subst (λ (x : RequesterSide). RanOut x new) on out.out;
                     whole = (λ i. is_whole (sym on i).awaited ((sym on i).rest ++ sym is i)) ∙ out.whole;
+                    queues = subst (λ (x : RequesterSide). QueuesOutput x (drop at piece)) on (subst (λ (xs : List ℕ). QueuesOutput now xs) is out.queues);
                   },
                   full,
                 ),
               );
               goes = λ less. absurd (omega (arith, less, full));
               fed = λ less. absurd (omega (arith, less, full));
+              bytes = (let w = out.fed in let was = f.bytes in omega (arith, w, was, t));
+              tickets = λ x. s.tickets x ∙ f.tickets x;
             }
 
     by_far : ((now ≡ after_piece old (take at piece)) × (now.state.side.ended ≢ Some ends.Memory)) ⊎ ((n : ℕ) × (RanOutAt old piece n now × (at ≡ length piece))) → FedTo old piece new (at + count)

@@ -6,7 +6,7 @@ use Rattle.std.proofs.lemmas.List.{length-drop, take-append-drop}
 use Rattle.nr_link.specs.declared.end.End.{End}
 use Rattle.nr_link.specs.declared.end.End.TheVariants as ends
 use Rattle.nr_endpoint.specs.LinkState.{LinkSide}
-use Rattle.nr_endpoint.specs.Calls.{after_call, makes_whole}
+use Rattle.nr_endpoint.specs.Calls.{after_call, makes_whole, QueuesOutput}
 use Rattle.nr_endpoint.specs.Calls.Call.{FeedOne, OutOfMemory}
 use Rattle.nr_requester.specs.declared.answer.AnsweredCall.{AnsweredCall}
 use Rattle.nr_requester.specs.declared.outstanding.OutstandingCall.{OutstandingCall}
@@ -33,6 +33,7 @@ pub record FedOne (link link2 : LinkSide) (piece : List ℕ) (e : Result ℕ End
   pub state : e ≢ the_error ends.Memory → link2 ≡ after_call link (FeedOne piece)
   pub memory : e ≡ the_error ends.Memory → link2 ≡ after_call link OutOfMemory
   pub whole : e ≡ the_error ends.Memory → is_some link.state.ended ≡ false → makes_whole link piece ≡ true
+  pub queues : e ≡ the_error ends.Memory → is_some link.state.ended ≡ false → QueuesOutput link piece
 
 -- the step of one that answered Ok
 pub ok_state : (link link2 : LinkSide) (piece : List ℕ) (n : ℕ) → FedOne link link2 piece (Ok n) → (link2 ≡ after_call link (FeedOne piece)) × (link2.state.ended ≡ None)
@@ -51,10 +52,13 @@ module _ (link link2 : LinkSide) (piece : List ℕ) (e : Result ℕ End) (f : Fe
   pub by_whole : end ≡ ends.Memory → is_some link.state.ended ≡ false → makes_whole link piece ≡ true
   by_whole m lives = f.whole (same_error ∙ ap the_error m) lives
 
+  pub by_queues : end ≡ ends.Memory → is_some link.state.ended ≡ false → QueuesOutput link piece
+  by_queues m lives = f.queues (same_error ∙ ap the_error m) lives
+
 -- the side ended by the frame
 pub err_step : (link link2 : LinkSide) (sent wished first next grant room : ℕ) (items : List OutstandingCall) (answers : List AnsweredCall) (piece : List ℕ) (e : Result ℕ End) (end : End) → FedOne link link2 piece e → link2.state.ended ≡ Some end → link.state.ended ≡ None →
     IsSound link next grant items answers room → IsStep (requester_view link sent wished first next grant items answers) piece (requester_view link2 sent wished first next grant items answers)
-err_step link link2 sent wished first next grant room items answers piece e end f is lives s = by end is (by_other link link2 piece e f end is) (by_memory link link2 piece e f end is) (λ m. by_whole link link2 piece e f end is m (ap (λ (x : Option End). is_some x) lives))
+err_step link link2 sent wished first next grant room items answers piece e end f is lives s = by end is (by_other link link2 piece e f end is) (by_memory link link2 piece e f end is) (λ m. by_whole link link2 piece e f end is m (ap (λ (x : Option End). is_some x) lives)) (λ m. by_queues link link2 piece e f end is m (ap (λ (x : Option End). is_some x) lives))
   where
     h : RequesterSide
     h = requester_view link sent wished first next grant items answers
@@ -65,12 +69,12 @@ err_step link link2 sent wished first next grant room items answers piece e end 
     on : (x : End) → link2.state.ended ≡ Some x → link2 ≡ after_call link (FeedOne piece) → IsStep h piece after
     on x ended same = step_ended h piece lives s.none_waits s.no_reads after x (ap (λ (l : LinkSide). requester_view l sent wished first next grant items answers) same) (ap (λ (l : LinkSide). l.state.ended) (sym same) ∙ ended)
 
-    by : (x : End) → link2.state.ended ≡ Some x → (x ≢ ends.Memory → link2 ≡ after_call link (FeedOne piece)) → (x ≡ ends.Memory → link2 ≡ after_call link OutOfMemory) → (x ≡ ends.Memory → makes_whole link piece ≡ true) → IsStep h piece after
-    by ends.Memory ended other memory whole = step_out h piece lives s.none_waits s.no_reads after link2 refl (memory refl) (whole refl)
-    by (ends.Bad at reason) ended other memory whole = on (ends.Bad at reason) ended (other (λ eq. cc))
-    by (ends.Denied stag to why) ended other memory whole = on (ends.Denied stag to why) ended (other (λ eq. cc))
-    by (ends.NoBuffer at) ended other memory whole = on (ends.NoBuffer at) ended (other (λ eq. cc))
-    by (ends.Terminated reason) ended other memory whole = on (ends.Terminated reason) ended (other (λ eq. cc))
+    by : (x : End) → link2.state.ended ≡ Some x → (x ≢ ends.Memory → link2 ≡ after_call link (FeedOne piece)) → (x ≡ ends.Memory → link2 ≡ after_call link OutOfMemory) → (x ≡ ends.Memory → makes_whole link piece ≡ true) → (x ≡ ends.Memory → QueuesOutput link piece) → IsStep h piece after
+    by ends.Memory ended other memory whole queues = step_out h piece lives s.none_waits s.no_reads after link2 refl (memory refl) (whole refl) (queues refl)
+    by (ends.Bad at reason) ended other memory whole queues = on (ends.Bad at reason) ended (other (λ eq. cc))
+    by (ends.Denied stag to why) ended other memory whole queues = on (ends.Denied stag to why) ended (other (λ eq. cc))
+    by (ends.NoBuffer at) ended other memory whole queues = on (ends.NoBuffer at) ended (other (λ eq. cc))
+    by (ends.Terminated reason) ended other memory whole queues = on (ends.Terminated reason) ended (other (λ eq. cc))
 
 pub err_sound : (link link2 : LinkSide) (next grant room : ℕ) (items : List OutstandingCall) (answers : List AnsweredCall) (piece : List ℕ) (e : Result ℕ End) (end : End) → FedOne link link2 piece e → link2.state.ended ≡ Some end → link.state.ended ≡ None → IsSound link next grant items answers room → IsSound link2 next grant items answers room
 err_sound link link2 next grant room items answers piece e end f is lives s = ended_sound link link2 piece next grant room items answers end s lives is (by_other link link2 piece e f end is) (by_memory link link2 piece e f end is)

@@ -1,16 +1,22 @@
 -- A step on a piece of the server's stream, and the event that it makes, for the code.
-use Rattle.std.proofs.Common.{◌≡◌, ◌≢◌, ℕ, ◌⊎◌, inl, inr, Bool, true, cond, List, [], ◌∷◌, ◌++◌, map, Option, None, Some, refl, sym, ap, subst, ◌∙◌}
+use Rattle.std.proofs.Common.{◌≡◌, ◌≢◌, ℕ, ◌<◌, ◌≤◌, ◌⊎◌, inl, inr, Bool, true, cond, List, [], ◌∷◌, ◌++◌, length, length-append, map, Option, None, Some, refl, sym, ap, subst, ◌∙◌, arith}
+use Rattle.std.proofs.lemmas.Bool.{le-ltb}
 use Rattle.std.specs.Prelude.{is_some}
 use Rattle.nr_wire.specs.Stream.{is_whole}
 use Rattle.nr_regions.specs.RegisteredMemory.{RegisteredMemory}
 use Rattle.nr_link.specs.declared.end.End.{End}
 use Rattle.nr_link.specs.declared.end.End.TheVariants as ends
+use Rattle.nr_link.specs.Ending.{final_output, rejection}
+use Rattle.nr_link.specs.Output.{terminate_message}
+use Rattle.nr_wire.specs.declared.hello.Side.{Side}
 use Rattle.nr_endpoint.specs.LinkState.{LinkState, LinkSide}
-use Rattle.nr_endpoint.specs.SendQueue.{writable}
+use Rattle.nr_endpoint.specs.SendQueue.{SendQueue, output_len, with_end}
 use Rattle.nr_endpoint.specs.ReceiveQueue.{DeliveredEvent}
 use Rattle.nr_endpoint.specs.ReceiveQueue.DeliveredEvent.{MessageReceived, ReadDone}
 use Rattle.nr_endpoint.specs.Judging.{with_end_of}
-use Rattle.nr_endpoint.specs.Calls.{after_call, makes_whole}
+use Rattle.nr_endpoint.specs.Calls.{after_call, makes_whole, IsStopReason}
+use Rattle.nr_endpoint.proofs.FedBytes.{fed_one_within}
+use Rattle.nr_endpoint.proofs.Queued.{terminate_queues}
 use Rattle.nr_endpoint.specs.Calls.Call.{FeedOne, NextEvent, Post, Stop, OutOfMemory}
 use Rattle.nr_reduce.specs.Client.{credits_of_word}
 use Rattle.nr_reduce.specs.ClientMessages.{ReplyVerdict}
@@ -20,7 +26,7 @@ use Rattle.nr_reduce.specs.KeptClient.{bytes_under, released_all}
 use Rattle.nr_xdr.specs.Fields.{word_at}
 use Rattle.nr_requester.specs.declared.answer.AnsweredCall.{AnsweredCall}
 use Rattle.nr_requester.specs.declared.outstanding.OutstandingCall.{OutstandingCall}
-use Rattle.nr_requester.specs.RequesterState.{RequesterState, RequesterSide, queue_of, kept_calls}
+use Rattle.nr_requester.specs.RequesterState.{RequesterState, RequesterSide, kept_calls}
 use Rattle.nr_requester.specs.AfterPiece.{taken, judged, noticed, unless_ended, requester_ended, after_frame, RanOut}
 use Rattle.nr_requester.specs.Judged.{kept_views}
 use Rattle.nr_requester.specs.Fed.{OneWaits, CallsSound, IsReady, JudgesTo, noticed_side, Told, one_step, StepOut, IsStep}
@@ -76,7 +82,7 @@ message_told link0 link1 link2 sent wished first next grant grant2 number items 
     by (EndsLink reason) e j = ended j.0
       where
         same_calls : requester_view link2 sent wished first next grant2 items2 answers2 ≡ record { awaited = link2.awaited; rest = link2.rest; state = record before.state { side = link2.state } }
-        same_calls = λ i. record { awaited = link2.awaited; rest = link2.rest; state = record { side = link2.state; sent = sent; wished = wished; first_xid = first; next_xid = next; grant = j.1.1.1 i; outstanding = j.1.0 i; answered = j.1.1.0 i } }
+        same_calls = λ i. record { awaited = link2.awaited; rest = link2.rest; state = record { side = link2.state; sent = sent; wished = wished; first_xid = first; next_xid = next; grant = j.1.1.1.0 i; outstanding = j.1.0 i; answered = j.1.1.0 i } }
 
         ended : (link2 ≡ after_call (after_call (after_call link0 NextEvent) Post) (Stop reason)) ⊎ (link2 ≡ after_call (after_call (after_call link0 NextEvent) Post) OutOfMemory) → Told before (requester_view link2 sent wished first next grant2 items2 answers2)
         ended (inl stop) = inl (
@@ -90,12 +96,14 @@ message_told link0 link1 link2 sent wished first next grant grant2 number items 
             inr (record {
               waits = record { number = number; message = message; is = is; rest = rest };
               reason = reason;
+              stops = j.1.1.1.1;
               verdict = e;
               rest = ap (λ (x : LinkSide). x.rest) l;
               ended = ap (λ (x : LinkSide). x.state.ended) l;
               memory = ap (λ (x : LinkSide). x.state.memory) l;
               queue = ap (λ (x : LinkSide). x.state.send_queue) l;
               hello = ap (λ (x : LinkSide). x.state.has_hello) l;
+              place = ap (λ (x : LinkSide). x.state.place) l;
               same = ap (λ (h : RequesterSide). h.state) same_calls;
             })
     by (GivesOutcome xid outcome) e j =
@@ -125,6 +133,41 @@ none_told link0 link2 sent wished first next grant items answers none same = inl
     )
 
 -- ---- A step
+
+-- an event takes nothing from the queue
+end_longer : (side : Side) (end : End) (q : SendQueue) → output_len q ≤ output_len (with_end side end q)
+unfolding with_end
+end_longer side end q = omega (arith, length-append q.hello (rejection side end), length-append q.fpdus (final_output end))
+
+noticed_longer : (r : RequesterState) (s : LinkState) (ns : List DeliveredEvent) → output_len s.send_queue ≤ output_len (noticed r s ns).side.send_queue
+noticed_longer r s [] = omega arith
+noticed_longer r s (MessageReceived number invalidated message ∷ ns) = by (kept_verdict (kept_calls r) (bytes_under s.memory) message)
+  where
+    by : (v : ReplyVerdict) → output_len s.send_queue ≤ output_len (judged r s message v).side.send_queue
+    by (EndsLink reason) = end_longer s.side (ends.Bad s.last reason) s.send_queue
+    by (GivesOutcome xid outcome) = omega arith
+noticed_longer r s (ReadDone ∷ ns) = omega arith
+
+told_longer : (r : RequesterState) (s : LinkState) (e : Option End) → output_len s.send_queue ≤ output_len (unless_ended r s e).side.send_queue
+told_longer r s None = noticed_longer r s s.receive_queue.notices
+told_longer r s (Some end) = omega arith
+
+-- a side that is stopped for a reason of the layer above writes a Terminate
+reason_ends : (at reason : ℕ) → 5 ≤ reason → final_output (ends.Bad at reason) ≡ terminate_message reason
+unfolding final_output
+reason_ends at reason le = ap (λ (b : Bool). cond b [] (terminate_message reason)) (le-ltb reason 5 le)
+
+stop_reason_from : (reason : ℕ) → IsStopReason reason → 5 ≤ reason
+stop_reason_from reason (inl e) = omega (arith, e)
+stop_reason_from reason (inr (inl e)) = omega (arith, e)
+stop_reason_from reason (inr (inr (inl e))) = omega (arith, e)
+stop_reason_from reason (inr (inr (inr (inl e)))) = omega (arith, e)
+stop_reason_from reason (inr (inr (inr (inr (inl e))))) = omega (arith, e)
+stop_reason_from reason (inr (inr (inr (inr (inr (inl e)))))) = omega (arith, e)
+stop_reason_from reason (inr (inr (inr (inr (inr (inr e)))))) = omega (arith, e)
+
+stopped_longer : (side : Side) (at reason : ℕ) (q : SendQueue) → IsStopReason reason → output_len q < output_len (with_end side (ends.Bad at reason) q)
+stopped_longer side at reason q stops = terminate_queues side (ends.Bad at reason) reason q (reason_ends at reason (stop_reason_from reason stops))
 
 -- the side before the event doesn't matter
 noticed_as : (r : RequesterState) (s t : LinkState) (ns : List DeliveredEvent) → noticed (record r { side = t }) s ns ≡ noticed r s ns
@@ -174,16 +217,33 @@ module _ (h : RequesterSide) (piece : List ℕ) (lives : h.state.side.ended ≡ 
           rest = out.rest;
           ended = out.ended;
           memory = out.memory ∙ d.memory;
-          queue = (λ i. writable (out.hello i) (out.queue i)) ∙ (λ i. writable (d.hello i) (d.queue i));
+          queue = out.queue ∙ d.queue;
+          hello = out.hello ∙ d.hello;
           same = out.same;
         };
         whole = w.1;
+        queues =
+            let message : List ℕ = out.waits.message in
+            let made : one_step h piece ≡ record { awaited = l.awaited; rest = l.rest; state = judged h.state l.state message (EndsLink out.reason) } =
+            stepped
+            ∙ ap (λ (x : Option End). record { awaited = l.awaited; rest = l.rest; state = unless_ended h.state l.state x }) e
+            ∙ ap (λ (ns : List DeliveredEvent). record { awaited = l.awaited; rest = l.rest; state = noticed h.state l.state ns }) out.waits.is
+            ∙ ap (λ (v : ReplyVerdict). record { awaited = l.awaited; rest = l.rest; state = judged h.state l.state message v }) out.verdict in
+            let more = stopped_longer l.state.side l.state.last out.reason l.state.send_queue out.stops in
+            let len = ap (λ (x : RequesterSide). output_len x.state.side.send_queue) made in
+            let was = ap output_len d.queue in
+            omega (arith, more, len, was);
+        fed =
+            let most = fed_one_within (link_of h) piece in
+            let place = out.place in
+            let none = ap (λ (xs : List ℕ). length xs) out.rest in
+            omega (arith, most, place, none);
       }
 
   -- memory ran out for the frame
-  pub step_out : (after : RequesterSide) (link2 : LinkSide) → after ≡ side_with h link2 → link2 ≡ after_call (link_of h) OutOfMemory → makes_whole (link_of h) piece ≡ true → IsStep h piece after
+  pub step_out : (after : RequesterSide) (link2 : LinkSide) → after ≡ side_with h link2 → link2 ≡ after_call (link_of h) OutOfMemory → makes_whole (link_of h) piece ≡ true → Rattle.nr_endpoint.specs.Calls.QueuesOutput (link_of h) piece → IsStep h piece after
   unfolding after_call
-  step_out after link2 is out whole =
+  step_out after link2 is out whole queues =
       let o : link2 ≡ record { awaited = h.awaited; rest = []; state = record h.state.side { ended = Some ends.Memory } } =
       out ∙ ap (λ (e : Option End). record { awaited = h.awaited; rest = []; state = cond (is_some e) h.state.side (record h.state.side { ended = Some ends.Memory }) }) lives in
       let a : after ≡ side_with h (record { awaited = h.awaited; rest = []; state = record h.state.side { ended = Some ends.Memory } }) = is ∙ ap (side_with h) o in
@@ -192,10 +252,19 @@ module _ (h : RequesterSide) (piece : List ℕ) (lives : h.state.side.ended ≡ 
           rest = ap (λ (x : RequesterSide). x.rest) a;
           ended = ap (λ (x : RequesterSide). x.state.side.ended) a;
           memory = ap (λ (x : RequesterSide). x.state.side.memory) a;
-          queue = ap (λ (x : RequesterSide). queue_of x.state) a;
+          queue = ap (λ (x : RequesterSide). x.state.side.send_queue) a;
+          hello = ap (λ (x : RequesterSide). x.state.side.has_hello) a;
           same = ap (λ (x : RequesterSide). x.state) is ∙ ap (λ (t : LinkState). record h.state { side = t }) (sym (ap (λ (x : RequesterSide). x.state.side) is));
         };
         whole = whole;
+        queues =
+            let more = told_longer h.state l.state l.state.ended in
+            let len = ap (λ (x : RequesterSide). output_len x.state.side.send_queue) stepped in
+            omega (arith, queues, more, len);
+        fed =
+            let place = ap (λ (x : RequesterSide). x.state.side.place) a in
+            let none = ap (λ (x : RequesterSide). length x.rest) a in
+            omega (arith, place, none);
       })
 
   pub step_quiet : LinkSide

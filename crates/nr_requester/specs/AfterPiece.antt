@@ -22,7 +22,7 @@ use Rattle.nr_reduce.specs.KeptCalls.{kept_verdict}
 use Rattle.nr_reduce.specs.KeptClient.{bytes_under, released_all}
 use Rattle.nr_requester.specs.declared.answer.AnsweredCall.{AnsweredCall}
 use Rattle.nr_requester.specs.declared.answer.Buffers.{Buffers}
-use Rattle.nr_requester.specs.RequesterState.{StoredCall, RequesterState, RequesterSide, awaited_call, kept_calls, queue_of}
+use Rattle.nr_requester.specs.RequesterState.{StoredCall, RequesterState, RequesterSide, awaited_call, kept_calls}
 use Rattle.nr_requester.specs.AfterCalls.{stags_for}
 
 -- the message was delivered, and its receive is posted again
@@ -95,5 +95,6 @@ pub record RanOut (before after : RequesterSide) : Type 0 where
   pub rest : after.rest ≡ []
   pub ended : after.state.side.ended ≡ Some ends.Memory
   pub memory : after.state.side.memory ≡ before.state.side.memory
-  pub queue : queue_of after.state ≡ queue_of before.state
+  pub queue : after.state.side.send_queue ≡ before.state.side.send_queue
+  pub hello : after.state.side.has_hello ≡ before.state.side.has_hello
   pub same : after.state ≡ record before.state { side = after.state.side }

@@ -1,5 +1,5 @@
 -- What a step on a piece makes of a requester, for the code.
-use Rattle.std.specs.Prelude.{◌≡◌, ℕ, ◌+◌, ◌≤◌, ◌⊎◌, true, List, [], ◌∷◌, ◌++◌, length, map, take, drop, Option, None, Some}
+use Rattle.std.specs.Prelude.{◌≡◌, ℕ, ◌+◌, ◌<◌, ◌≤◌, ◌⊎◌, true, List, [], ◌∷◌, ◌++◌, length, map, take, drop, Option, None, Some}
 use Rattle.std.specs.List.{AllByRecursion}
 use Rattle.nr_wire.specs.Feeding.{feeding_after_step}
 use Rattle.nr_wire.specs.Stream.{is_whole}
@@ -15,7 +15,8 @@ use Rattle.nr_reduce.specs.KeptCalls.{kept_verdict}
 use Rattle.nr_reduce.specs.KeptClient.{bytes_under, released_all}
 use Rattle.nr_xdr.specs.Fields.{word_at}
 use Rattle.nr_regions.specs.RegisteredMemory.{RegisteredMemory}
-use Rattle.nr_endpoint.specs.Calls.{after_call}
+use Rattle.nr_endpoint.specs.Calls.{after_call, IsStopReason}
+use Rattle.nr_endpoint.specs.SendQueue.{output_len}
 use Rattle.nr_endpoint.specs.Calls.Call.{Post, Stop, OutOfMemory}
 use Rattle.nr_requester.specs.AfterCalls.{stags_for}
 use Rattle.nr_requester.specs.Buffers.{with_memory}
@@ -66,7 +67,7 @@ pub record IsReady (link : LinkSide) (outstanding : List OutstandingCall) (answe
 abbrev pub JudgesTo : ReplyVerdict → List ℕ → (link link2 : LinkSide) → (calls calls2 : List OutstandingCall) → (answers answers2 : List AnsweredCall) → (grant grant2 : ℕ) → Type 0
 JudgesTo (EndsLink reason) message link link2 calls calls2 answers answers2 grant grant2 =
     ((link2 ≡ after_call (after_call link Post) (Stop reason)) ⊎ (link2 ≡ after_call (after_call link Post) OutOfMemory))
-    × ((map stored_view calls2 ≡ map stored_view calls) × ((answers2 ≡ answers) × (grant2 ≡ grant)))
+    × ((map stored_view calls2 ≡ map stored_view calls) × ((answers2 ≡ answers) × ((grant2 ≡ grant) × IsStopReason reason)))
 JudgesTo (GivesOutcome xid outcome) message link link2 calls calls2 answers answers2 grant grant2 =
     (link2 ≡ with_memory (released_all link.state.memory (stags_for (word_at 0 message) (map stored_view calls))) (after_call link Post))
     × ((map stored_view calls2 ≡ without_call (word_at 0 message) (map stored_view calls))
@@ -80,12 +81,14 @@ noticed_side h = record { awaited = h.awaited; rest = h.rest; state = noticed h.
 pub record StoppedOut (before after : RequesterSide) : Type 0 where
   pub waits : OneWaits (record { awaited = before.awaited; rest = before.rest; state = before.state.side })
   pub reason : ℕ
+  pub stops : IsStopReason reason
   pub verdict : kept_verdict (kept_calls before.state) (bytes_under before.state.side.memory) waits.message ≡ EndsLink reason
   pub rest : after.rest ≡ []
   pub ended : after.state.side.ended ≡ Some ends.Memory
   pub memory : after.state.side.memory ≡ before.state.side.memory
   pub queue : after.state.side.send_queue ≡ before.state.side.send_queue
   pub hello : after.state.side.has_hello ≡ before.state.side.has_hello
+  pub place : after.state.side.place ≡ before.state.side.place
   pub same : after.state ≡ record before.state { side = after.state.side }
 
 abbrev pub Told : (before after : RequesterSide) → Type 0
@@ -97,21 +100,29 @@ Told before after = (after ≡ noticed_side before) ⊎ StoppedOut before after
 abbrev pub one_step : RequesterSide → List ℕ → RequesterSide
 one_step h piece = feeding_after_step requester_ended after_frame h piece
 
--- memory ran out for the frame that a piece completes: it would queue output
-pub record StepOut (before : RequesterSide) (piece : List ℕ) (after : RequesterSide) : Type 0 where
-  pub out : RanOut before after
-  pub whole : is_whole before.awaited (before.rest ++ piece) ≡ true
-
-abbrev pub IsStep : RequesterSide → List ℕ → RequesterSide → Type 0
-IsStep before piece after = (after ≡ one_step before piece) ⊎ StepOut before piece after
-
 -- how many bytes it was fed, of which it knows
 abbrev pub fed_bytes : RequesterSide → ℕ
 fed_bytes h = h.state.side.place + length h.rest
 
--- It was fed the first n bytes of a piece, and hadn't ended. The bytes that follow complete the next frame, for which memory ran out.
+-- With memory, the frame that these bytes complete would queue output: a Read Response, or the Terminate that is written last.
+abbrev pub QueuesOutput : RequesterSide → List ℕ → Type 0
+QueuesOutput h bytes = output_len h.state.side.send_queue < output_len (one_step h bytes).state.side.send_queue
+
+-- memory ran out for the output of the frame that a piece completes
+pub record StepOut (before : RequesterSide) (piece : List ℕ) (after : RequesterSide) : Type 0 where
+  pub out : RanOut before after
+  pub whole : is_whole before.awaited (before.rest ++ piece) ≡ true
+  pub queues : QueuesOutput before piece
+  pub fed : fed_bytes after ≤ fed_bytes before + length piece
+
+abbrev pub IsStep : RequesterSide → List ℕ → RequesterSide → Type 0
+IsStep before piece after = (after ≡ one_step before piece) ⊎ StepOut before piece after
+
+-- It was fed the first n bytes of a piece, and hadn't ended. The bytes that follow complete the next frame, which would queue output, and memory
+-- ran out for that.
 pub record RanOutAt (before : RequesterSide) (piece : List ℕ) (n : ℕ) (after : RequesterSide) : Type 0 where
   pub within : n ≤ length piece
   pub live : (after_piece before (take n piece)).state.side.ended ≡ None
   pub out : RanOut (after_piece before (take n piece)) after
   pub whole : is_whole (after_piece before (take n piece)).awaited ((after_piece before (take n piece)).rest ++ drop n piece) ≡ true
+  pub queues : QueuesOutput (after_piece before (take n piece)) (drop n piece)

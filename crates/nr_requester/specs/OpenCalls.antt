@@ -1,5 +1,5 @@
 -- A call whose ticket is open, and what its owner gets back with it.
-use Rattle.std.specs.Prelude.{◌≡◌, ℕ, true, ◌==◌, Option, None, Some, is_some}
+use Rattle.std.specs.Prelude.{◌≡◌, ◌≢◌, ℕ, true, ◌==◌, Option, None, Some, is_some}
 use Rattle.std.specs.List.{find}
 use Rattle.nr_regions.specs.RegisteredMemory.{RegisteredMemory}
 use Rattle.nr_reduce.specs.declared.call.Call.{Call}
@@ -35,6 +35,29 @@ buffers_with m None None = no_buffers
 
 abbrev pub buffers_of : ℕ → RequesterState → Buffers
 buffers_of xid r = buffers_with r.side.memory (found_call xid r) (found_answer xid r)
+
+-- ---- Which xids have a call
+
+-- no call has this xid
+abbrev pub IsFresh : RequesterState → ℕ → Type 0
+IsFresh r xid = (found_call xid r ≡ None) × (found_answer xid r ≡ None)
+
+-- ---- Which tickets are open
+
+-- every ticket is as it was
+abbrev pub KeepsTickets : RequesterState → RequesterState → Type 0
+KeepsTickets before after = (xid : ℕ) → open_call xid after ≡ open_call xid before
+
+-- the ticket of this call is open, and none was under its xid; all others are as they were
+pub record OpensTicket (xid : ℕ) (call : Call) (before after : RequesterState) : Type 0 where
+  pub fresh : open_call xid before ≡ None
+  pub own : open_call xid after ≡ Some call
+  pub others : (x : ℕ) → x ≢ xid → open_call x after ≡ open_call x before
+
+-- the ticket of an xid is closed; all others are as they were
+pub record ClosesTicket (xid : ℕ) (before after : RequesterState) : Type 0 where
+  pub own : open_call xid after ≡ None
+  pub others : (x : ℕ) → x ≢ xid → open_call x after ≡ open_call x before
 
 -- it is outstanding, and wasn't revoked
 pub record IsOutstanding (xid : ℕ) (r : RequesterState) : Type 0 where

@@ -7,18 +7,24 @@ use Rattle.nr_requester.specs.declared.taking.Take.TheVariants as takes
 use Rattle.nr_requester.specs.RequesterState.{RequesterSide}
 use Rattle.nr_requester.specs.AfterCalls.{after_revoke, after_forget}
 use Rattle.nr_requester.specs.Buffers.{bytes_of_buffers}
-use Rattle.nr_requester.specs.OpenCalls.{found_answer, open_call, buffers_of}
+use Rattle.nr_requester.specs.OpenCalls.{found_answer, open_call, buffers_of, KeepsTickets, ClosesTicket}
 use Rattle.nr_requester.specs.Standing.{StandsOn, StaysOut, StopsRevoked}
 
 -- Done if and only if a message brought an outcome: the call, its buffers and the outcome go to the owner. Else Failed if and only if the link has
 -- ended: the call goes back with its buffers, and its regions are released. Else NotYet, and nothing changes.
 abbrev pub IsTaken : RequesterSide → ℕ → Take → RequesterSide → Type 0
 IsTaken before xid (takes.Done done) after =
-    (found_answer xid before.state ≡ Some (record { xid = xid; call = done.call; buffers = done.buffers; outcome = done.outcome })) × (after ≡ after_forget before xid)
+    (found_answer xid before.state ≡ Some (record { xid = xid; call = done.call; buffers = done.buffers; outcome = done.outcome })) × ((open_call xid before.state ≡ Some done.call) × (after ≡ after_forget before xid))
 IsTaken before xid (takes.NotYet ticket) after = (ticket ≡ xid) × ((found_answer xid before.state ≡ None) × ((before.state.side.ended ≡ None) × (after ≡ before)))
 IsTaken before xid (takes.Failed call buffers end) after =
     (found_answer xid before.state ≡ None)
     × ((before.state.side.ended ≡ Some end) × ((open_call xid before.state ≡ Some call) × ((buffers ≡ buffers_of xid before.state) × (after ≡ after_revoke before xid))))
+
+-- Its ticket is closed, unless it is given back; all others are as they were.
+abbrev pub TakeCloses : RequesterSide → ℕ → Take → RequesterSide → Type 0
+TakeCloses before xid (takes.Done done) after = ClosesTicket xid before.state after.state
+TakeCloses before xid (takes.NotYet ticket) after = KeepsTickets before.state after.state
+TakeCloses before xid (takes.Failed call buffers end) after = ClosesTicket xid before.state after.state
 
 -- It stands on by a Done of the outcome, or by a Lost; and one that ran out of memory, whose client didn't end, by a Revoke.
 abbrev pub TakeStands : RequesterSide → ℕ → Take → RequesterSide → Type 0

@@ -22,6 +22,7 @@ ghost use Rattle.nr_requester.specs.Buffers.{with_memory};
 ghost use Rattle.nr_requester.specs.Judged.{outcome_by, IsWithin, kept_views};
 ghost use Rattle.nr_requester.specs.Fed.{answer_with, CallsSound, IsReady, JudgesTo, Told, IsStep, RanOutAt, fed_bytes};
 ghost use Rattle.nr_requester.specs.HeldBytes.{NothingOutside, IsBounded};
+ghost use Rattle.nr_requester.specs.OpenCalls.{KeepsTickets};
 ghost use Rattle.nr_requester.specs.Standing.{StandsOn, RequesterRepresents, RequesterRunsOut};
 ghost use Rattle.nr_requester.specs.Views.{requester_view, stored_view};
 
@@ -236,6 +237,7 @@ impl Requester {
         ensures taken { result ≡ (if is_some self.new.state.side.ended then length left.now else bytes_taken self.old.awaited self.old.rest left.now) }
         ensures partial { IsPartial self.old.awaited self.old.rest }
         ensures quiet { self.old.state.side.receive_queue.notices ≡ [] }
+        ensures tickets { KeepsTickets self.old.state self.new.state }
         ensures ended { is_some self.new.state.side.ended ≡ true → self.new.rest ≡ [] }
     {
         self.endpoint.facts();
@@ -269,6 +271,8 @@ impl Requester {
             × ((opened : LinkParameters) (link : ℕ) (run : List Mark) → RequesterRepresents opened link self.old run →
             RequesterRunsOut opened link self.new (run ++ marks.Fed link Initiator (take n piece.now) ∷ []) (run ++ marks.Fed link Initiator (take n piece.now) ∷ []))) }
         ensures kept { is_some self.old.state.side.ended ≡ true → self.new ≡ self.old }
+        ensures tickets { KeepsTickets self.old.state self.new.state }
+        ensures within { fed_bytes self.new ≤ fed_bytes self.old + length piece.now }
     {
         self.facts();
         if let Some(end) = self.end() {

@@ -12,6 +12,8 @@ ghost use Rattle.nr_reduce.specs.declared.mark.LinkParameters.{LinkParameters};
 ghost use Rattle.nr_reduce.specs.declared.mark.Mark.TheVariants as marks;
 ghost use Rattle.nr_requester.specs.RequesterState.{queue_of};
 ghost use Rattle.nr_requester.specs.Standing.{RequesterRepresents, StandsOn, StaysOut};
+ghost use Rattle.nr_requester.specs.Fed.{fed_bytes};
+ghost use Rattle.nr_requester.specs.OpenCalls.{found_call, found_answer, IsFresh, KeepsTickets};
 ghost use Rattle.nr_endpoint.specs.LinkState.{has_ended};
 ghost use Rattle.nr_requester.specs.AfterCalls.{opened_as, after_drain, sent_unless};
 
@@ -74,6 +76,7 @@ impl Requester {
     ) -> Result<Requester, Memory>
         requires { 0 < first_stag }
         ensures state { IfOk result (λ r. r ≡ opened_as first_xid first_stag credits) }
+        ensures fed { IfOk result (λ r. fed_bytes r ≡ 0) }
         ensures stands { IfOk result (λ r. (opened : LinkParameters) (link : ℕ) → opened.first_xid ≡ first_xid → opened.first_stag ≡ first_stag → opened.wished ≡ credits → RequesterRepresents opened link r []) }
     {
         Requester::new(alloc, first_xid, first_stag, credits)
@@ -82,6 +85,7 @@ impl Requester {
     /// A client end whose first xid and first STag are 1.
     pub fn open(alloc: Global, credits: u32) -> Result<Requester, Memory>
         ensures state { IfOk result (λ r. r ≡ opened_as 1 1 credits) }
+        ensures fed { IfOk result (λ r. fed_bytes r ≡ 0) }
         ensures stands { IfOk result (λ r. (opened : LinkParameters) (link : ℕ) → opened.first_xid ≡ 1 → opened.first_stag ≡ 1 → opened.wished ≡ credits → RequesterRepresents opened link r []) }
     {
         Requester::open_at(alloc, 1, 1, credits)
@@ -95,7 +99,8 @@ impl Requester {
         credits: u32,
     ) -> Result<Requester, Memory>
         requires { 0 < first_stag }
-        ensures { IfOk result (λ r. r ≡ opened_as first_xid first_stag credits) }
+        ensures state { IfOk result (λ r. r ≡ opened_as first_xid first_stag credits) }
+        ensures fed { IfOk result (λ r. fed_bytes r ≡ 0) }
     {
         let endpoint = Endpoint::open(alloc, Side::Initiator, 1, first_stag)?;
         Ok(Requester {
@@ -157,6 +162,9 @@ impl Requester {
         // What is kept of the stream is less than a frame, and nothing once the side has ended.
         ensures partial { IsPartial self.now.awaited self.now.rest }
         ensures ended { is_some self.now.state.side.ended ≡ true → self.now.rest ≡ [] }
+        // An outstanding call has no answer yet. No call has an xid that was not given yet.
+        ensures apart { (xid : ℕ) → is_some (found_call xid self.now.state) ≡ true → found_answer xid self.now.state ≡ None }
+        ensures fresh { (xid : ℕ) → self.now.state.next_xid ≤ xid → IsFresh self.now.state xid }
     {
         let _ = &self.grant;
         self.endpoint.facts();
@@ -171,6 +179,8 @@ impl Requester {
             × StandsOn self.old (λ link. marks.Wrote link Initiator (take n (queue_of self.old.state))) self.new
             × StaysOut self.old (λ link. marks.Wrote link Initiator (take n (queue_of self.old.state))) self.new
             × OnOk result (n ≡ length (queue_of self.old.state)) }
+        ensures tickets { KeepsTickets self.old.state self.new.state }
+        ensures fed { fed_bytes self.new ≡ fed_bytes self.old }
         ensures counted { MatchResult result
             (λ _. K.faults sink.new ≡ K.faults sink.old) (λ e. (e ≡ drains.LinkWrite) × Rises (K.faults sink.old) (K.faults sink.new)) }
         ensures never_falls { K.faults sink.old ≤ K.faults sink.new }

@@ -9,7 +9,8 @@ ghost use Rattle.nr_requester.specs.AfterPiece.{buffers_under};
 ghost use Rattle.nr_requester.specs.Buffers.{bytes_of_buffers, with_memory};
 ghost use Rattle.nr_requester.specs.HeldBytes.{NothingOutside};
 ghost use Rattle.nr_requester.specs.HeldClaims.{AreHeldFrom, all_claims};
-ghost use Rattle.nr_requester.specs.OpenCalls.{open_call, buffers_of};
+ghost use Rattle.nr_requester.specs.Fed.{fed_bytes};
+ghost use Rattle.nr_requester.specs.OpenCalls.{open_call, buffers_of, ClosesTicket};
 ghost use Rattle.nr_requester.specs.Standing.{StandsOn, StopsRevoked};
 ghost use Rattle.nr_requester.specs.Views.{given_up};
 
@@ -81,6 +82,8 @@ impl Requester {
         ensures number { ticket < self.old.state.next_xid }
         ensures stands { StandsOn self.old (λ link. marks.Revoke link ticket (bytes_of_buffers result.1)) self.new }
         ensures out { StopsRevoked self.old ticket (bytes_of_buffers result.1) self.new }
+        ensures tickets { ClosesTicket ticket self.old.state self.new.state }
+        ensures fed { fed_bytes self.new ≡ fed_bytes self.old }
     {
         self.revoke_xid(ticket.xid())
     }

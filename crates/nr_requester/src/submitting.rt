@@ -17,6 +17,8 @@ ghost use Rattle.nr_requester.specs.Sending.{IsPlan, HasNumbers, answer_for, off
 ghost use Rattle.nr_requester.specs.HeldClaims.{SentHeld, IsOfferOf};
 ghost use Rattle.nr_requester.specs.HeldBytes.{call_bytes, call_max, NothingOutside};
 ghost use Rattle.nr_requester.specs.Standing.{StandsOn};
+ghost use Rattle.nr_requester.specs.Fed.{fed_bytes};
+ghost use Rattle.nr_requester.specs.OpenCalls.{OpensTicket};
 
 use crate::answer::AnsweredCall;
 use crate::messages::{PlannedCall, lists_of, message_of, offered_of, regions_needed, reply_room};
@@ -356,7 +358,10 @@ impl Requester {
         ensures returned { IfErr result (λ e. e.0 ≡ call) }
         ensures err { OnErr result (self.new ≡ self.old) }
         ensures stands { IfOk result (λ xid. StandsOn self.old (λ link. marks.Submit link call form (submissions.Accepted xid)) self.new) }
+        ensures tickets { IfOk result (λ xid. OpensTicket xid call self.old.state self.new.state) }
+        ensures fed { fed_bytes self.new ≡ fed_bytes self.old }
     {
+        self.facts();
         match self.submit_as(call, &form) {
             Ok(xid) => Ok(Ticket::new(xid)),
             Err(refused) => Err(refused),

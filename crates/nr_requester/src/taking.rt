@@ -4,9 +4,10 @@ ghost use Rattle.std.specs.Prelude.{◌≡◌, ◌≢◌, ℕ, ◌<◌, List, tr
 ghost use Rattle.nr_reduce.specs.declared.mark.Mark.TheVariants as marks;
 ghost use Rattle.nr_requester.specs.AfterCalls.{without_answer, after_forget};
 ghost use Rattle.nr_requester.specs.HeldBytes.{AreDistinct};
-ghost use Rattle.nr_requester.specs.OpenCalls.{open_call, found_answer};
+ghost use Rattle.nr_requester.specs.Fed.{fed_bytes};
+ghost use Rattle.nr_requester.specs.OpenCalls.{open_call, found_answer, ClosesTicket};
 ghost use Rattle.nr_requester.specs.Standing.{StandsOn, StaysOut};
-ghost use Rattle.nr_requester.specs.Takes.{IsTaken, TakeStands};
+ghost use Rattle.nr_requester.specs.Takes.{IsTaken, TakeCloses, TakeStands};
 ghost use Rattle.nr_requester.specs.Views.{forgot};
 
 use crate::answer::{AnsweredCall, Buffers};
@@ -90,6 +91,8 @@ impl Requester {
         requires open { is_some (open_call ticket self.old.state) ≡ true }
         ensures taken { IsTaken self.old ticket result self.new }
         ensures stands { TakeStands self.old ticket result self.new }
+        ensures tickets { TakeCloses self.old ticket result self.new }
+        ensures fed { fed_bytes self.new ≡ fed_bytes self.old }
     {
         if answer_place(self.answered.as_slice(), ticket.xid()).is_some() {
             return Take::Done(self.take_done(ticket.xid()));
@@ -107,6 +110,7 @@ impl Requester {
     fn take_done(&mut self, xid: u32) -> Done
         requires there { is_some (found_answer xid self.old.state) ≡ true }
         ensures found { found_answer xid self.old.state ≡ Some (record { xid = xid; call = result.call; buffers = result.buffers; outcome = result.outcome }) }
+        ensures call { open_call xid self.old.state ≡ Some result.call }
         ensures state { self.new ≡ after_forget self.old xid }
         ensures number { xid < self.old.state.next_xid }
     {
@@ -133,6 +137,8 @@ impl Requester {
         ensures state { self.new ≡ after_forget self.old ticket }
         ensures stands { StandsOn self.old (λ link. marks.Forget link ticket) self.new }
         ensures out { StaysOut self.old (λ link. marks.Forget link ticket) self.new }
+        ensures tickets { ClosesTicket ticket self.old.state self.new.state }
+        ensures fed { fed_bytes self.new ≡ fed_bytes self.old }
     {
         let xid = ticket.xid();
         if let Some(at) = place_of(self.outstanding.as_slice(), xid) {

@@ -79,6 +79,12 @@ one_left low high lt = omega (arith, lt)
 pub fewer_low : (low high : ℕ) → low < high → 2 * (high - (low + (high - low) / 2 + 1)) ≤ high - low
 fewer_low low high lt = omega (arith, lt)
 
+pub half_low : (low high : ℕ) → low < high → (high - low) + 2 ≤ 2 * (high - (low + (high - low) / 2 + 1) + 2)
+half_low low high lt = omega (arith, lt)
+
+pub half_high : (low high : ℕ) → low < high → (high - low) + 2 ≤ 2 * (low + (high - low) / 2 - low + 2)
+half_high low high lt = omega (arith, lt)
+
 pub fewer_high : (low high : ℕ) → low < high → 2 * (low + (high - low) / 2 - low) ≤ high - low
 fewer_high low high lt = omega (arith, lt)
 
@@ -94,19 +100,21 @@ compared cookie (Some e) b at = (e.cookie, refl, cc)
 
 -- ===== how many steps halving takes
 
--- after some steps, of n entries at most left may have the place
+-- after some steps, of n entries at most left may have the place; each step halves them, and no halving is without a step
 pub record IsHalved (n before now left : ℕ) : Type 0 where
   pub rises : before ≤ now
   pub halved : 2 ^ (now - before) * left ≤ n
   pub few : 2 ^ (now - before) ≤ 2 * n + 1
+  pub many : n + 2 ≤ 2 ^ (now - before) * (left + 2)
 
-pub halving_begins : (n steps left : ℕ) → left ≤ n → IsHalved n steps steps left
-halving_begins n steps left le =
+pub halving_begins : (n steps left : ℕ) → left ≡ n → IsHalved n steps steps left
+halving_begins n steps left same =
     let none : steps - steps ≡ 0 = omega arith in
     record {
       rises = omega arith;
-      halved = subst (λ (k : ℕ). 2 ^ k * left ≤ n) (sym none) (omega (arith, le));
+      halved = subst (λ (k : ℕ). 2 ^ k * left ≤ n) (sym none) (omega (arith, same));
       few = subst (λ (k : ℕ). 2 ^ k ≤ 2 * n + 1) (sym none) (omega arith);
+      many = subst (λ (k : ℕ). n + 2 ≤ 2 ^ k * (left + 2)) (sym none) (omega (arith, same));
     }
 
 -- twice the power, over half of what was left
@@ -118,15 +126,28 @@ halved_power k left fewer n half le =
 left_power : (p left n : ℕ) → 1 ≤ left → p * left ≤ n → p ≤ n
 left_power p left n one le = omega (arith, le, mul-le p 1 p left (omega arith) one, mul-one p)
 
-pub halving_goes_on : (n before now then left fewer : ℕ) → IsHalved n before now left → then ≡ now + 1 → 1 ≤ left → 2 * fewer ≤ left → IsHalved n before then fewer
-halving_goes_on n before now then left fewer h next one half =
+-- and half of what was left and two, over twice the power
+rising_power : (k left fewer n : ℕ) → left + 2 ≤ 2 * (fewer + 2) → n + 2 ≤ 2 ^ k * (left + 2) → n + 2 ≤ 2 ^ suc k * (fewer + 2)
+rising_power k left fewer n half le =
+    let twice : 2 ^ suc k * (fewer + 2) ≡ 2 ^ k * (2 * (fewer + 2)) = ap (λ (p : ℕ). p * (fewer + 2)) (pow-suc 2 k) ∙ mul_assoc (2 ^ k) 2 (fewer + 2) in
+    omega (arith, twice, mul-le (2 ^ k) (left + 2) (2 ^ k) (2 * (fewer + 2)) (omega arith) half, le)
+
+pub halving_goes_on : (n before now then left fewer : ℕ) → IsHalved n before now left → then ≡ now + 1 → 1 ≤ left → 2 * fewer ≤ left → left + 2 ≤ 2 * (fewer + 2) → IsHalved n before then fewer
+halving_goes_on n before now then left fewer h next one half at_least =
     let more : then - before ≡ suc (now - before) = omega (arith, next, h.rises) in
     let few : 2 ^ (now - before) ≤ n = left_power (2 ^ (now - before)) left n one h.halved in
     record {
       rises = omega (arith, next, h.rises);
       halved = subst (λ (k : ℕ). 2 ^ k * fewer ≤ n) (sym more) (halved_power (now - before) left fewer n half h.halved);
       few = subst (λ (k : ℕ). 2 ^ k ≤ 2 * n + 1) (sym more) (omega (arith, pow-suc 2 (now - before), few));
+      many = subst (λ (k : ℕ). n + 2 ≤ 2 ^ k * (fewer + 2)) (sym more) (rising_power (now - before) left fewer n at_least h.many);
     }
+
+-- if none is left, the steps are as many as that
+pub halving_ends : (n before now low high : ℕ) → low ≡ high → IsHalved n before now (high - low) → n + 2 ≤ 2 * 2 ^ (now - before)
+halving_ends n before now low high same h =
+    let none : high - low ≡ 0 = omega (arith, same) in
+    omega (arith, subst (λ (k : ℕ). n + 2 ≤ 2 ^ (now - before) * (k + 2)) none h.many)
 
 -- ===== the place is how many entries have a cookie that is at most the given one
 

@@ -211,6 +211,7 @@ impl Node {
         ensures directory { is_some result ≡ is_directory_node self.now }
         ensures place { IfSome result (λ place. place ≡ count_until cookie (entries_in self.now)) }
         ensures cost { 2 ^ (steps.new - steps.old) ≤ 2 * length (entries_in self.now) + 1 }
+        ensures counted { length (entries_in self.now) + 2 ≤ 2 * 2 ^ (steps.new - steps.old) }
     {
         match &self.content {
             Content::Directory(entries) => Some(entries.place_counted(cookie, steps)),

@@ -82,6 +82,7 @@ impl Tree {
         ensures directory { is_some result ≡ is_dir_at self.now number }
         ensures place { IfSome result (λ place. place ≡ count_until cookie (entries_at self.now number)) }
         ensures cost { 2 ^ (steps.new - steps.old) ≤ 2 * length (entries_at self.now number) + 1 }
+        ensures counted { length (entries_at self.now number) + 2 ≤ 2 * 2 ^ (steps.new - steps.old) }
     {
         match self.get(number) {
             Some(node) => node.place_after(cookie, steps),

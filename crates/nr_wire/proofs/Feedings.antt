@@ -19,84 +19,84 @@ module _ {S : Type 0} (ended : S → Bool) (advanced : S → Awaited → List �
   abbrev kept : Awaited → S → Feeding S
   kept a state = record { awaited = a; rest = []; state = state }
 
-  feeding_in-ended : (a : Awaited) (rest : List ℕ) (state : S) → ended state ≡ true → feeding_in ended advanced a rest state ≡ kept a state
-  feeding_in-ended a rest state e = ap (λ (w : Bool). record { awaited = a; rest = cond w [] rest; state = state }) e
+  feeding_in_ended : (a : Awaited) (rest : List ℕ) (state : S) → ended state ≡ true → feeding_in ended advanced a rest state ≡ kept a state
+  feeding_in_ended a rest state e = ap (λ (w : Bool). record { awaited = a; rest = cond w [] rest; state = state }) e
 
-  feeding_in-going : (a : Awaited) (rest : List ℕ) (state : S) → ended state ≡ false → feeding_in ended advanced a rest state ≡ record { awaited = a; rest = rest; state = state }
-  feeding_in-going a rest state e = ap (λ (w : Bool). record { awaited = a; rest = cond w [] rest; state = state }) e
+  feeding_in_going : (a : Awaited) (rest : List ℕ) (state : S) → ended state ≡ false → feeding_in ended advanced a rest state ≡ record { awaited = a; rest = rest; state = state }
+  feeding_in_going a rest state e = ap (λ (w : Bool). record { awaited = a; rest = cond w [] rest; state = state }) e
 
   -- an ended state is left as it is
-  frames-ended : (frames : List (List ℕ)) (rest : List ℕ) (a : Awaited) (state : S) → ended state ≡ true → feeding_after_frames ended advanced frames rest a state ≡ kept a state
-  frames-ended [] rest a state e = feeding_in-ended a rest state e
-  frames-ended (frame ∷ frames) rest a state e =
+  frames_ended : (frames : List (List ℕ)) (rest : List ℕ) (a : Awaited) (state : S) → ended state ≡ true → feeding_after_frames ended advanced frames rest a state ≡ kept a state
+  frames_ended [] rest a state e = feeding_in_ended a rest state e
+  frames_ended (frame ∷ frames) rest a state e =
       ap (λ (w : Bool). cond w (feeding_in ended advanced a [] state) (feeding_after_frames ended advanced frames rest Fpdu (advanced state a frame))) e
-      ∙ feeding_in-ended a [] state e
+      ∙ feeding_in_ended a [] state e
 
-  frames-going : (frame : List ℕ) (frames : List (List ℕ)) (rest : List ℕ) (a : Awaited) (state : S) → ended state ≡ false → feeding_after_frames ended advanced (frame ∷ frames) rest a state ≡ feeding_after_frames ended advanced frames rest Fpdu (advanced state a frame)
-  frames-going frame frames rest a state e =
+  frames_going : (frame : List ℕ) (frames : List (List ℕ)) (rest : List ℕ) (a : Awaited) (state : S) → ended state ≡ false → feeding_after_frames ended advanced (frame ∷ frames) rest a state ≡ feeding_after_frames ended advanced frames rest Fpdu (advanced state a frame)
+  frames_going frame frames rest a state e =
       ap (λ (w : Bool). cond w (feeding_in ended advanced a [] state) (feeding_after_frames ended advanced frames rest Fpdu (advanced state a frame))) e
 
   pub feeding_after-ended : (f : Feeding S) (bytes : List ℕ) → ended f.state ≡ true → feeding_after ended advanced f bytes ≡ kept f.awaited f.state
   unfolding feeding_after
   feeding_after-ended f bytes e =
       let s = split f.awaited (f.rest ++ bytes) in
-      frames-ended s.frames s.rest f.awaited f.state e
+      frames_ended s.frames s.rest f.awaited f.state e
 
   -- some more bytes after frames
-  frames-fed : (frames : List (List ℕ)) (rest more : List ℕ) (a : Awaited) (state : S) (w : Bool) → ended state ≡ w → feeding_after ended advanced (feeding_after_frames ended advanced frames rest a state) more
+  frames_fed : (frames : List (List ℕ)) (rest more : List ℕ) (a : Awaited) (state : S) (w : Bool) → ended state ≡ w → feeding_after ended advanced (feeding_after_frames ended advanced frames rest a state) more
       ≡ feeding_after_frames ended advanced (frames ++ (split (awaited_after a frames) (rest ++ more)).frames) (split (awaited_after a frames) (rest ++ more)).rest a state
   unfolding feeding_after
-  frames-fed [] rest more a state true e =
+  frames_fed [] rest more a state true e =
       let s = split a (rest ++ more) in
-      ap (λ (f : Feeding S). feeding_after ended advanced f more) (feeding_in-ended a rest state e)
+      ap (λ (f : Feeding S). feeding_after ended advanced f more) (feeding_in_ended a rest state e)
       ∙ feeding_after-ended (kept a state) more e
-      ∙ sym (frames-ended s.frames s.rest a state e)
-  frames-fed [] rest more a state false e = ap (λ (f : Feeding S). feeding_after ended advanced f more) (feeding_in-going a rest state e)
-  frames-fed (frame ∷ frames) rest more a state true e =
+      ∙ sym (frames_ended s.frames s.rest a state e)
+  frames_fed [] rest more a state false e = ap (λ (f : Feeding S). feeding_after ended advanced f more) (feeding_in_going a rest state e)
+  frames_fed (frame ∷ frames) rest more a state true e =
       let s = split (awaited_after a (frame ∷ frames)) (rest ++ more) in
-      ap (λ (f : Feeding S). feeding_after ended advanced f more) (frames-ended (frame ∷ frames) rest a state e)
+      ap (λ (f : Feeding S). feeding_after ended advanced f more) (frames_ended (frame ∷ frames) rest a state e)
       ∙ feeding_after-ended (kept a state) more e
-      ∙ sym (frames-ended ((frame ∷ frames) ++ s.frames) s.rest a state e)
-  frames-fed (frame ∷ frames) rest more a state false e =
+      ∙ sym (frames_ended ((frame ∷ frames) ++ s.frames) s.rest a state e)
+  frames_fed (frame ∷ frames) rest more a state false e =
       let next = advanced state a frame in
       let s = split Fpdu (rest ++ more) in
-      ap (λ (f : Feeding S). feeding_after ended advanced f more) (frames-going frame frames rest a state e)
-      ∙ frames-fed frames rest more Fpdu next (ended next) refl
+      ap (λ (f : Feeding S). feeding_after ended advanced f more) (frames_going frame frames rest a state e)
+      ∙ frames_fed frames rest more Fpdu next (ended next) refl
       ∙ ap (λ (b : Awaited). feeding_after_frames ended advanced (frames ++ (split b (rest ++ more)).frames) (split b (rest ++ more)).rest Fpdu next) (awaited_after_Fpdu frames)
-      ∙ sym (frames-going frame (frames ++ s.frames) s.rest a state e)
+      ∙ sym (frames_going frame (frames ++ s.frames) s.rest a state e)
 
   pub feeding_after-append : (f : Feeding S) (x y : List ℕ) → feeding_after ended advanced (feeding_after ended advanced f x) y ≡ feeding_after ended advanced f (x ++ y)
   unfolding feeding_after
   feeding_after-append f x y =
       let s = split f.awaited (f.rest ++ x) in
-      frames-fed s.frames s.rest y f.awaited f.state (ended f.state) refl
+      frames_fed s.frames s.rest y f.awaited f.state (ended f.state) refl
       ∙ ap (λ (t : Split). feeding_after_frames ended advanced t.frames t.rest f.awaited f.state)
       (sym (ap (split f.awaited) (sym (append_assoc f.rest x y)) ∙ split_append f.awaited (f.rest ++ x) y))
 
   -- what is kept is less than a frame
-  frames-partial : (frames : List (List ℕ)) (rest : List ℕ) (a : Awaited) (state : S) (w : Bool) → ended state ≡ w → IsPartial (awaited_after a frames) rest
+  frames_partial : (frames : List (List ℕ)) (rest : List ℕ) (a : Awaited) (state : S) (w : Bool) → ended state ≡ w → IsPartial (awaited_after a frames) rest
       → IsPartial (feeding_after_frames ended advanced frames rest a state).awaited (feeding_after_frames ended advanced frames rest a state).rest
-  frames-partial frames rest a state true e p =
-      subst (λ (f : Feeding S). IsPartial f.awaited f.rest) (sym (frames-ended frames rest a state e)) (partial_nil a)
-  frames-partial [] rest a state false e p =
-      subst (λ (f : Feeding S). IsPartial f.awaited f.rest) (sym (feeding_in-going a rest state e)) p
-  frames-partial (frame ∷ frames) rest a state false e p =
+  frames_partial frames rest a state true e p =
+      subst (λ (f : Feeding S). IsPartial f.awaited f.rest) (sym (frames_ended frames rest a state e)) (partial_nil a)
+  frames_partial [] rest a state false e p =
+      subst (λ (f : Feeding S). IsPartial f.awaited f.rest) (sym (feeding_in_going a rest state e)) p
+  frames_partial (frame ∷ frames) rest a state false e p =
       let next = advanced state a frame in
-      subst (λ (f : Feeding S). IsPartial f.awaited f.rest) (sym (frames-going frame frames rest a state e))
-      (frames-partial frames rest Fpdu next (ended next) refl (subst (λ (b : Awaited). IsPartial b rest) (sym (awaited_after_Fpdu frames)) p))
+      subst (λ (f : Feeding S). IsPartial f.awaited f.rest) (sym (frames_going frame frames rest a state e))
+      (frames_partial frames rest Fpdu next (ended next) refl (subst (λ (b : Awaited). IsPartial b rest) (sym (awaited_after_Fpdu frames)) p))
 
   pub feeding_after-partial : (f : Feeding S) (bytes : List ℕ) → IsPartial (feeding_after ended advanced f bytes).awaited (feeding_after ended advanced f bytes).rest
   unfolding feeding_after
   feeding_after-partial f bytes =
       let s = split f.awaited (f.rest ++ bytes) in
-      frames-partial s.frames s.rest f.awaited f.state (ended f.state) refl (split_Splits f.awaited (f.rest ++ bytes)).partial
+      frames_partial s.frames s.rest f.awaited f.state (ended f.state) refl (split_Splits f.awaited (f.rest ++ bytes)).partial
 
   -- one step: the state has ended, or else the awaited frame is complete, or it isn't
   pub feeding_after_step-ended : (f : Feeding S) (piece : List ℕ) → ended f.state ≡ true → feeding_after_step ended advanced f piece ≡ kept f.awaited f.state
   unfolding feeding_after_step
   feeding_after_step-ended f piece e =
       ap (λ (w : Bool). cond w (feeding_in ended advanced f.awaited [] f.state) (feeding_step ended advanced f (f.rest ++ piece))) e
-      ∙ feeding_in-ended f.awaited [] f.state e
+      ∙ feeding_in_ended f.awaited [] f.state e
 
   feeding_after_step-going : (f : Feeding S) (piece : List ℕ) → ended f.state ≡ false → feeding_after_step ended advanced f piece ≡ feeding_step ended advanced f (f.rest ++ piece)
   unfolding feeding_after_step
@@ -129,10 +129,10 @@ bytes_taken_within a rest piece true e = rw (bytes_taken_whole a rest piece e) (
 bytes_taken_within a rest piece false e = rw (bytes_taken_partial a rest piece e) (omega arith)
 
 module _ {S : Type 0} (ended : S → Bool) (advanced : S → Awaited → List ℕ → S) where
-  step-whole : (f : Feeding S) (piece : List ℕ) → IsPartial f.awaited f.rest → ended f.state ≡ false → is_whole f.awaited (f.rest ++ piece) ≡ true
+  step_whole : (f : Feeding S) (piece : List ℕ) → IsPartial f.awaited f.rest → ended f.state ≡ false → is_whole f.awaited (f.rest ++ piece) ≡ true
       → feeding_after ended advanced (feeding_after_step ended advanced f piece) (drop (bytes_taken f.awaited f.rest piece) piece) ≡ feeding_after ended advanced f piece
   unfolding feeding_after
-  step-whole f piece p going e =
+  step_whole f piece p going e =
       let bytes = f.rest ++ piece in
       let n = frame_len f.awaited bytes in
       let next = advanced f.state f.awaited (take n bytes) in
@@ -142,13 +142,13 @@ module _ {S : Type 0} (ended : S → Bool) (advanced : S → Awaited → List �
       let s = split Fpdu (drop n bytes) in
       ap (λ (g : Feeding S). feeding_after ended advanced g (drop (bytes_taken f.awaited f.rest piece) piece)) (feeding_after_step-whole ended advanced f piece going e)
       ∙ ap (feeding_after ended advanced (record { awaited = Fpdu; rest = []; state = next })) left
-      ∙ sym (frames-going ended advanced (take n bytes) s.frames s.rest f.awaited f.state going)
+      ∙ sym (frames_going ended advanced (take n bytes) s.frames s.rest f.awaited f.state going)
       ∙ ap (λ (t : Split). feeding_after_frames ended advanced t.frames t.rest f.awaited f.state) (sym (split_whole f.awaited bytes e))
 
-  step-partial : (f : Feeding S) (piece : List ℕ) → ended f.state ≡ false → is_whole f.awaited (f.rest ++ piece) ≡ false
+  step_partial : (f : Feeding S) (piece : List ℕ) → ended f.state ≡ false → is_whole f.awaited (f.rest ++ piece) ≡ false
       → feeding_after ended advanced (feeding_after_step ended advanced f piece) (drop (bytes_taken f.awaited f.rest piece) piece) ≡ feeding_after ended advanced f piece
   unfolding feeding_after
-  step-partial f piece going e =
+  step_partial f piece going e =
       let left : drop (bytes_taken f.awaited f.rest piece) piece ≡ [] =
       ap (λ (k : ℕ). drop k piece) (bytes_taken_partial f.awaited f.rest piece e) ∙ drop_all (length piece) piece (omega arith) in
       ap (λ (g : Feeding S). feeding_after ended advanced g (drop (bytes_taken f.awaited f.rest piece) piece)) (feeding_after_step-partial ended advanced f piece going e)
@@ -157,8 +157,8 @@ module _ {S : Type 0} (ended : S → Bool) (advanced : S → Awaited → List �
 
   step_by : (f : Feeding S) (piece : List ℕ) (w : Bool) → is_whole f.awaited (f.rest ++ piece) ≡ w → IsPartial f.awaited f.rest → ended f.state ≡ false
       → feeding_after ended advanced (feeding_after_step ended advanced f piece) (drop (bytes_taken f.awaited f.rest piece) piece) ≡ feeding_after ended advanced f piece
-  step_by f piece true e p going = step-whole f piece p going e
-  step_by f piece false e p going = step-partial f piece going e
+  step_by f piece true e p going = step_whole f piece p going e
+  step_by f piece false e p going = step_partial f piece going e
 
   rest_by : (f : Feeding S) (piece : List ℕ) (w : Bool) → ended f.state ≡ w → IsPartial f.awaited f.rest
       → feeding_after ended advanced (feeding_after_step ended advanced f piece) (drop (bytes_taken f.awaited f.rest piece) piece) ≡ feeding_after ended advanced f piece

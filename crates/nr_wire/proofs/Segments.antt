@@ -8,6 +8,7 @@ use Rattle.nr_xdr.specs.Item.{IsBytes, word, hyper}
 use Rattle.nr_xdr.proofs.WordBytes.{IsBytes_take, IsBytes_drop, word_word_of, word_of_word, word_of_below, hyper_hyper_of, hyper_of_hyper, hyper_of_below}
 use Rattle.nr_wire.specs.declared.stream.Awaited.TheVariants.{Fpdu}
 use Rattle.nr_xdr.specs.Fields.{word_at}
+use Rattle.nr_wire.specs.Constants.{ULPDU_MAX}
 use Rattle.nr_wire.specs.Fields.{half_word, hyper_at}
 use Rattle.nr_wire.specs.Hello.{value_unless}
 use Rattle.nr_wire.specs.Segment.{Segment, Fits, IsSupported, Reads, flaw_by, frame_reason, segment_of, segment_by_form, is_tagged, is_last, ddp_version, rdmap_version, opcode_of, queue_of, queue_for, ulpdu_len, ulpdu_size, payload_of, header, fpdu_with, tail_len, fpdu_size, fpdu_len, is_tagged_opcode, is_untagged_opcode, is_supported, is_of_other_form, is_of_other_queue, header_len, encoding}
@@ -334,7 +335,7 @@ segment_bad bytes reason =
     let frame = take (fpdu_len bytes) bytes in
     rw (segment_in_answer bytes) (bad_iff (is_whole Fpdu bytes) (frame_reason frame) (segment_by_form (is_tagged frame) frame) (fpdu_len bytes) reason)
 
-encoded_reads : (segment : Segment) → Fits segment → ulpdu_size segment ≤ 65535 → Reads segment (encoding segment)
+encoded_reads : (segment : Segment) → Fits segment → ulpdu_size segment ≤ ULPDU_MAX → Reads segment (encoding segment)
 unfolding encoding
 encoded_reads segment fits size = record {
   fits = fits;
@@ -349,7 +350,7 @@ encoded_reads segment fits size = record {
 }
 
 -- what was encoded is read again
-pub encoding_again : (segment : Segment) (more : List ℕ) → IsSupported segment → Fits segment → ulpdu_size segment ≤ 65535 → segment_in (encoding segment ++ more) ≡ Whole segment (length (encoding segment))
+pub encoding_again : (segment : Segment) (more : List ℕ) → IsSupported segment → Fits segment → ulpdu_size segment ≤ ULPDU_MAX → segment_in (encoding segment ++ more) ≡ Whole segment (length (encoding segment))
 encoding_again segment more through fits size = segment_again segment (encoding segment) more through (encoded_reads segment fits size)
 
 abbrev done : Segment → Result Segment ℕ

@@ -202,7 +202,7 @@ fn push_segment(out: &mut Vec<u8>, segment: &Segment) -> Result<(), Memory>
 }
 
 /// The bytes of a segment, with zeros for its reserved bits, pad and CRC. Its opcode is below 16, and its header and payload
-/// have at most 65535 bytes together.
+/// have at most [`ULPDU_MAX`](crate::ULPDU_MAX) bytes together.
 pub fn write_segment(alloc: Global, segment: &Segment) -> Result<Octets, Memory>
     requires { IsWritable (plain segment.now) }
     ensures { IfOk result (λ bytes. bytes ≡ encoding (plain segment.now)) }

@@ -5,3 +5,4 @@ pub mod Programs
 pub mod Requests
 pub mod Faults
 pub mod Rows
+pub mod Possible

@@ -8,7 +8,7 @@ use Rattle.nr_words.specs.declared.commands.Command.{Command}
 use Rattle.nr_words.specs.declared.words.WordsFault.{WordsFault}
 use Rattle.nr_words.specs.declared.words.WordsFault.TheVariants as faults
 use Rattle.nr_words.specs.Lines.{line_of}
-use Rattle.nr_words.specs.Reads.{Reads, ReadsBy, ReadsOther, asks, refuses}
+use Rattle.nr_words.specs.Reads.{IsAsked, Reads, ReadsBy, ReadsOther, asks, refuses}
 use Rattle.clap.proofs.OnLiterals.{clap_on_literals}
 use Rattle.nr_words.specs.Program.{program_app}
 
@@ -37,11 +37,6 @@ unfolding clap_on_literals program_app
 bare name = refl
 
 -- words that ask for help, or for the version, get it, unless memory runs out
-abbrev pub IsAsked : Result (Command (Bor Text)) WordsFault → Type 0
-IsAsked (Err (faults.Asked text)) = Unit {0}
-IsAsked (Err faults.Memory) = Unit {0}
-IsAsked _ = ⊥
-
 asked_other : (words : List Text) (result : Result (Command (Bor Text)) WordsFault) → (list_any refuses (fault_of program_app words) ≡ false)
     → (list_any asks (fault_of program_app words) ≡ true) → ReadsOther words result → IsAsked result
 asked_other words (Ok command) never asks_it r = absurd (false≢true (sym (ap (list_any asks) r.0) ∙ asks_it))

@@ -2,6 +2,7 @@
 use Rattle.std.specs.Prelude.{ℕ, ◌==◌, Bool, true, false, not, if◌then◌else◌, List, [], ◌∷◌, codes, Option, Some, None, is_some, option_map, option_and_then, unwrap_or}
 use Rattle.std.specs.Borrow.{Bor}
 use Rattle.std.specs.Str.{bytes_eq}
+use Rattle.nr_words.specs.Limits.{calls_max, clients_max, id_max, seed_max}
 use Rattle.nr_words.specs.Numbers.{numeral_within}
 use Rattle.nr_words.specs.declared.commands.Command.{Command}
 use Rattle.nr_words.specs.declared.commands.Command.TheVariants as commands
@@ -75,11 +76,11 @@ once None (Some value) with = Some (with value)
 once _ _ with = None
 
 abbrev pub with_value : Options → OptionName → Text → Option Options
-with_value o option_names.Uid word = once o.uid (numeral_within 0 4294967295 word) (λ n. record o { uid = Some n })
-with_value o option_names.Gid word = once o.gid (numeral_within 0 4294967295 word) (λ n. record o { gid = Some n })
-with_value o option_names.Seed word = once o.seed (numeral_within 0 18446744073709551615 word) (λ n. record o { seed = Some n })
-with_value o option_names.Clients word = once o.clients (numeral_within 1 16 word) (λ n. record o { clients = Some n })
-with_value o option_names.Calls word = once o.calls (numeral_within 1 1000000 word) (λ n. record o { calls = Some n })
+with_value o option_names.Uid word = once o.uid (numeral_within 0 id_max word) (λ n. record o { uid = Some n })
+with_value o option_names.Gid word = once o.gid (numeral_within 0 id_max word) (λ n. record o { gid = Some n })
+with_value o option_names.Seed word = once o.seed (numeral_within 0 seed_max word) (λ n. record o { seed = Some n })
+with_value o option_names.Clients word = once o.clients (numeral_within 1 clients_max word) (λ n. record o { clients = Some n })
+with_value o option_names.Calls word = once o.calls (numeral_within 1 calls_max word) (λ n. record o { calls = Some n })
 
 -- a positional is not empty, and does not begin with '-'
 abbrev pub is_positional : Text → Bool

@@ -1,10 +1,12 @@
 -- The program as clap knows it.
-use Rattle.std.specs.Prelude.{◌≡◌, pos, true, false, codes, Some}
+use Rattle.std.specs.Prelude.{◌≡◌, pos, true, false, codes, Some, Result, IfOk}
+use Rattle.std.specs.declared.alloc.AllocError.{AllocError}
 use Rattle.clap.specs.Words.{App, Rule, Text, app_of, new_app, new_rule, with_rule, with_subcommand}
 use Rattle.clap.specs.declared.builder.command.Command.TheViews.{out-Command}
 use Rattle.clap.specs.declared.builder.command.Command.{Command}
 use Rattle.clap.specs.declared.builder.value_parser.ValueParser.{ValueParser}
 use Rattle.clap.specs.declared.builder.value_parser.ValueParser.TheVariants as parsers
+use Rattle.nr_words.specs.Limits.{calls_max, clients_max, id_max, seed_max}
 
 abbrev pub positional_rule : Text → Rule
 positional_rule name = record (new_rule name) { required = true }
@@ -15,7 +17,7 @@ number_rule name parser = record (new_rule name) { long = Some name; parser = So
 abbrev pub client_app : Text → App
 client_app name =
     with_rule (with_rule (with_rule (with_rule (new_app name) (positional_rule (codes "ADDR"))) (positional_rule (codes "EXPORT")))
-    (number_rule (codes "uid") (parsers.Signed (pos 0) (pos 4294967295)))) (number_rule (codes "gid") (parsers.Signed (pos 0) (pos 4294967295)))
+    (number_rule (codes "uid") (parsers.Signed (pos 0) (pos id_max)))) (number_rule (codes "gid") (parsers.Signed (pos 0) (pos id_max)))
 
 abbrev pub path_app : Text → App
 path_app name = with_rule (client_app name) (positional_rule (codes "PATH"))
@@ -28,8 +30,8 @@ serve_app = with_rule (new_app (codes "serve")) (positional_rule (codes "CONFIG"
 
 abbrev pub drill_app : App
 drill_app =
-    with_rule (with_rule (with_rule (new_app (codes "drill")) (number_rule (codes "seed") (parsers.Unsigned 0 18446744073709551615)))
-    (number_rule (codes "clients") (parsers.Signed (pos 1) (pos 16)))) (number_rule (codes "calls") (parsers.Signed (pos 1) (pos 1000000)))
+    with_rule (with_rule (with_rule (new_app (codes "drill")) (number_rule (codes "seed") (parsers.Unsigned 0 seed_max)))
+    (number_rule (codes "clients") (parsers.Signed (pos 1) (pos clients_max)))) (number_rule (codes "calls") (parsers.Signed (pos 1) (pos calls_max)))
 
 abbrev pub plain_app : App
 plain_app = record (new_app (codes "nfsrdma")) {
@@ -58,3 +60,11 @@ program_app =
 pub record Builds (app : App) (command : Command) : Type 0 where
   pub same : app_of command ≡ app
   pub local : (out-Command command).has_globals ≡ false
+
+-- a program with one command more, whatever the program was
+abbrev pub AddsTo : Command → App → Command → Type 0
+AddsTo program sub more = (app : App) → Builds app program → Builds (with_command app sub) more
+
+-- the same of a command that may not have been made
+abbrev pub Adds : Command → Result Command AllocError → Command → Type 0
+Adds program command more = (sub : App) → IfOk command (Builds sub) → AddsTo program sub more

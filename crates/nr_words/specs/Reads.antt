@@ -1,5 +1,5 @@
 -- What is read of the words of a run.
-use Rattle.std.specs.Prelude.{◌≡◌, ⊤, ◌&&◌, Bool, true, false, nat_le, List, [], Option, Some, None, Result, Ok, Err}
+use Rattle.std.specs.Prelude.{◌≡◌, ⊤, ◌&&◌, Bool, true, false, nat_le, List, [], ◌∷◌, Option, Some, None, Result, Ok, Err}
 use Rattle.std.specs.Borrow.{Bor}
 use Rattle.std.specs.List.{list_any}
 use Rattle.clap.specs.Words.{fault_of, subcommand_of}
@@ -11,6 +11,7 @@ use Rattle.nr_words.specs.declared.commands.Action.{Action}
 use Rattle.nr_words.specs.declared.commands.Action.TheVariants as actions
 use Rattle.nr_words.specs.declared.words.WordsFault.{WordsFault}
 use Rattle.nr_words.specs.declared.words.WordsFault.TheVariants as faults
+use Rattle.nr_words.specs.Limits.{calls_max, clients_max}
 use Rattle.nr_words.specs.Lines.{Text, is_positional, line_of, plain_command}
 use Rattle.nr_words.specs.Spelled.{spelled}
 use Rattle.nr_words.specs.Program.{program_app}
@@ -31,7 +32,7 @@ abbrev pub is_command : Command Text → Bool
 is_command (commands.Serve config) = is_positional config
 is_command (commands.Client c) = is_positional c.addr && is_positional c.export && is_action c.action
 is_command commands.Drill = true
-is_command (commands.GeneratedDrill seed clients calls) = nat_le 1 clients && nat_le clients 16 && nat_le 1 calls && nat_le calls 1000000
+is_command (commands.GeneratedDrill seed clients calls) = nat_le 1 clients && nat_le clients clients_max && nat_le 1 calls && nat_le calls calls_max
 
 abbrev pub is_some_command : Option (Command Text) → Bool
 is_some_command None = false
@@ -73,3 +74,17 @@ ReadsBy None words result = ReadsOther words result
 
 abbrev pub Reads : List Text → Result (Command (Bor Text)) WordsFault → Type 0
 Reads words result = ReadsBy (line_of words) words result
+
+-- the text of help or of the version is given, unless memory ran out
+abbrev pub IsAsked : Result (Command (Bor Text)) WordsFault → Type 0
+IsAsked (Err (faults.Asked text)) = ⊤
+IsAsked (Err faults.Memory) = ⊤
+IsAsked _ = ⊥
+
+-- any answer to the program's name and this word
+abbrev pub Asks : Text → Type 0
+Asks word = (name : Text) (result : Result (Command (Bor Text)) WordsFault) → Reads (name ∷ word ∷ []) result → IsAsked result
+
+-- every command that a line gives is one that a line can ask for
+abbrev pub LinesArePossible : Type 0
+LinesArePossible = (words : List Text) (command : Command Text) → line_of words ≡ Some command → is_command command ≡ true

@@ -8,6 +8,7 @@ use Rattle.toml.specs.Data.{Members, no_members, member, get_member, as_str, as_
 use Rattle.toml.specs.Parse.{parse_document}
 use Rattle.nr_words.specs.declared.settings.Settings.{Settings}
 use Rattle.nr_words.specs.declared.settings.Config.{Config}
+use Rattle.nr_words.specs.Limits.{capacity_max, connections_max, credits_max, export_max}
 use Rattle.nr_words.specs.Lines.{Text}
 
 -- the number of members
@@ -35,9 +36,9 @@ number_at low high key members = option_and_then (in_range low high) (integer_at
 abbrev pub verifier_at : Text → Members → Option (List ℕ)
 verifier_at key members = option_and_then (λ text. result_ok (decode_sized text 8)) (text_at key members)
 
--- a path of 1 to 1024 bytes
+-- a path of at least one byte
 abbrev pub path : Text → Option Text
-path text = if nat_le 1 (length text) && nat_le (length text) 1024 then Some text else None
+path text = if nat_le 1 (length text) && nat_le (length text) export_max then Some text else None
 
 abbrev pub path_at : Text → Members → Option Text
 path_at key members = option_and_then path (text_at key members)
@@ -53,9 +54,9 @@ settings_of members =
     option_and_then (λ connections.
     option_map (λ verifier. record { listen = listen; export = export; credits = credits; capacity = capacity; connections = connections; write_verifier = verifier })
     (verifier_at (codes "write_verifier") members))
-    (number_at 1 4294967295 (codes "connections") members))
-    (number_at 0 9223372036854775807 (codes "capacity") members))
-    (number_at 1 64 (codes "credits") members))
+    (number_at 1 connections_max (codes "connections") members))
+    (number_at 0 capacity_max (codes "capacity") members))
+    (number_at 1 credits_max (codes "credits") members))
     (path_at (codes "export") members))
     (text_at (codes "listen") members)
     else None

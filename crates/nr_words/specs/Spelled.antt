@@ -6,6 +6,7 @@ use Rattle.nr_words.specs.declared.lines.Subcommand.{Subcommand}
 use Rattle.nr_words.specs.declared.lines.Subcommand.TheVariants as subcommands
 use Rattle.nr_words.specs.declared.lines.Options.{Options}
 use Rattle.nr_words.specs.declared.lines.Positionals.{Positionals}
+use Rattle.nr_words.specs.Limits.{calls_max, clients_max, id_max, seed_max}
 use Rattle.nr_words.specs.Numbers.{number_within}
 use Rattle.nr_words.specs.Lines.{Text, command_of, subcommand_named, arity}
 
@@ -20,17 +21,18 @@ without_sign (byte ∷ bytes) = if byte == 43 || byte == 45 then bytes else byte
 abbrev pub number_of : ℕ → ℕ → Text → List Row → Option ℕ
 number_of low high id rows = option_and_then (λ text. number_within low high (without_sign text)) (first_of id rows)
 
+-- a number that fits a word of 32 bits
 abbrev pub narrow : Option ℕ → Option ℕ
 narrow None = None
 narrow (Some value) = if nat_le value 4294967295 then Some value else None
 
 abbrev pub options_of : List Row → Options
 options_of rows = record {
-  uid = narrow (number_of 0 4294967295 (codes "uid") rows);
-  gid = narrow (number_of 0 4294967295 (codes "gid") rows);
-  seed = number_of 0 18446744073709551615 (codes "seed") rows;
-  clients = narrow (number_of 1 16 (codes "clients") rows);
-  calls = narrow (number_of 1 1000000 (codes "calls") rows);
+  uid = narrow (number_of 0 id_max (codes "uid") rows);
+  gid = narrow (number_of 0 id_max (codes "gid") rows);
+  seed = number_of 0 seed_max (codes "seed") rows;
+  clients = narrow (number_of 1 clients_max (codes "clients") rows);
+  calls = narrow (number_of 1 calls_max (codes "calls") rows);
 }
 
 abbrev pub first_text : Subcommand → List Row → Text

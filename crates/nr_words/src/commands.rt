@@ -1,7 +1,11 @@
 //! The commands.
 
+ghost use Rattle.std.specs.Prelude.{◌≡◌, ⊤};
+
+use std::alloc::AllocError;
+
 /// What a client does at its server.
-#[derive(Clone, Copy, Debug)]
+#[derive(Debug)]
 pub enum Action<T> {
     /// Print the handle of the export.
     Mount,
@@ -11,6 +15,7 @@ pub enum Action<T> {
     Stat { path: T },
     /// Print the path of a symbolic link.
     ReadLink { path: T },
+    /// Make a directory.
     MakeDirectory { path: T },
     /// Remove what is no directory.
     Remove { path: T },
@@ -22,24 +27,67 @@ pub enum Action<T> {
     Link { path: T, target: T },
 }
 
+impl<T: Copy> Clone for Action<T> {
+    ghost is_clone = { λ x y. y ≡ x };
+
+    ghost is_infallible = { λ _. ⊤ };
+
+    fn clone(&self) -> Result<Action<T>, AllocError> {
+        Ok(*self)
+    }
+}
+
+impl<T: Copy> Copy for Action<T> {}
+
 /// A client, and what it does.
-#[derive(Clone, Copy, Debug)]
+#[derive(Debug)]
 pub struct Client<T> {
+    /// The address of the server.
     pub addr: T,
+    /// The path of the export.
     pub export: T,
+    /// The user ID of its calls: 0 unless the line has another.
     pub uid: u32,
+    /// The group ID of its calls: 0 unless the line has another.
     pub gid: u32,
+    /// What it does.
     pub action: Action<T>,
 }
 
+impl<T: Copy> Clone for Client<T> {
+    ghost is_clone = { λ x y. y ≡ x };
+
+    ghost is_infallible = { λ _. ⊤ };
+
+    fn clone(&self) -> Result<Client<T>, AllocError> {
+        Ok(*self)
+    }
+}
+
+impl<T: Copy> Copy for Client<T> {}
+
 /// What the words of a run ask for.
-#[derive(Clone, Copy, Debug)]
+#[derive(Debug)]
 pub enum Command<T> {
     /// Serve by the configuration in this file.
     Serve { config: T },
+    /// Run a client.
     Client { client: Client<T> },
     /// Run a script from standard input.
     Drill,
-    /// Run a script of 1 to 16 clients and 1 to 1000000 calls that is generated from this seed.
+    /// Run a script that is generated from this seed, of 1 to [`CLIENTS_MAX`](crate::CLIENTS_MAX) clients and 1 to
+    /// [`CALLS_MAX`](crate::CALLS_MAX) calls.
     GeneratedDrill { seed: u64, clients: u32, calls: u32 },
 }
+
+impl<T: Copy> Clone for Command<T> {
+    ghost is_clone = { λ x y. y ≡ x };
+
+    ghost is_infallible = { λ _. ⊤ };
+
+    fn clone(&self) -> Result<Command<T>, AllocError> {
+        Ok(*self)
+    }
+}
+
+impl<T: Copy> Copy for Command<T> {}

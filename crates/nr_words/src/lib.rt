@@ -9,6 +9,8 @@
 #![tactic(auto)]
 
 mod commands;
+mod laws;
+mod limits;
 mod lines;
 mod numbers;
 mod program;
@@ -16,6 +18,11 @@ mod settings;
 mod words;
 
 pub use commands::{Action, Client, Command};
+pub use laws::{lines_are_possible, options_that_ask};
+pub use limits::{
+    CALLS_MAX, CAPACITY_MAX, CLIENTS_MAX, CONNECTIONS_MAX, CREDITS_MAX, EXPORT_MAX, ID_MAX,
+    SEED_MAX,
+};
 pub use lines::read_line;
 pub use settings::{Config, ConfigFault, Settings, read_config};
 pub use words::{WordsFault, read_words};

@@ -1,10 +1,12 @@
 //! The lines of the program: words in the one spelling that is never refused.
 
-ghost use Rattle.std.specs.Prelude.{◌≡◌, map, option_map, string_bytes};
+ghost use Rattle.std.specs.Prelude.{◌≡◌, ⊤, map, option_map, string_bytes};
 ghost use Rattle.nr_words.specs.Lines.{option_named, takes, with_value, with_positional, is_positional, step, steps, start, arity, drill_of, subcommand_named, command_of, finished, line_of, plain_state, plain_positionals, plain_command, plain_client};
 
 use crate::commands::{Action, Client, Command};
+use crate::limits::{CALLS_MAX, CLIENTS_MAX, ID_MAX, SEED_MAX};
 use crate::numbers::numeral_within;
+use std::alloc::AllocError;
 
 /// The first word after the program's name.
 #[derive(Clone, Copy, PartialEq, Eq)]
@@ -43,7 +45,6 @@ pub(crate) struct Options {
 }
 
 /// The positionals, of which `count` are given.
-#[derive(Clone, Copy)]
 pub(crate) struct Positionals<T> {
     pub(crate) count: usize,
     pub(crate) first: T,
@@ -52,42 +53,54 @@ pub(crate) struct Positionals<T> {
     pub(crate) fourth: T,
 }
 
+impl<T: Copy> Clone for Positionals<T> {
+    ghost is_clone = { λ x y. y ≡ x };
+
+    ghost is_infallible = { λ _. ⊤ };
+
+    fn clone(&self) -> Result<Positionals<T>, AllocError> {
+        Ok(*self)
+    }
+}
+
+impl<T: Copy> Copy for Positionals<T> {}
+
 /// What the words so far give. After the name of an option its value is waited for.
-#[derive(Clone, Copy)]
 struct State<T> {
     waiting: Option<OptionName>,
     options: Options,
     positionals: Positionals<T>,
 }
 
+impl<T: Copy> Clone for State<T> {
+    ghost is_clone = { λ x y. y ≡ x };
+
+    ghost is_infallible = { λ _. ⊤ };
+
+    fn clone(&self) -> Result<State<T>, AllocError> {
+        Ok(*self)
+    }
+}
+
+impl<T: Copy> Copy for State<T> {}
+
 /// The command that a word names.
 pub(crate) fn subcommand_named(word: &str) -> Option<Subcommand>
     ensures { result ≡ subcommand_named word.now }
 {
-    if word == "serve" {
-        Some(Subcommand::Serve)
-    } else if word == "mount" {
-        Some(Subcommand::Mount)
-    } else if word == "ls" {
-        Some(Subcommand::List)
-    } else if word == "stat" {
-        Some(Subcommand::Stat)
-    } else if word == "readlink" {
-        Some(Subcommand::ReadLink)
-    } else if word == "mkdir" {
-        Some(Subcommand::MakeDirectory)
-    } else if word == "rm" {
-        Some(Subcommand::Remove)
-    } else if word == "put" {
-        Some(Subcommand::Put)
-    } else if word == "get" {
-        Some(Subcommand::Get)
-    } else if word == "ln" {
-        Some(Subcommand::Link)
-    } else if word == "drill" {
-        Some(Subcommand::Drill)
-    } else {
-        None
+    match word {
+        "serve" => Some(Subcommand::Serve),
+        "mount" => Some(Subcommand::Mount),
+        "ls" => Some(Subcommand::List),
+        "stat" => Some(Subcommand::Stat),
+        "readlink" => Some(Subcommand::ReadLink),
+        "mkdir" => Some(Subcommand::MakeDirectory),
+        "rm" => Some(Subcommand::Remove),
+        "put" => Some(Subcommand::Put),
+        "get" => Some(Subcommand::Get),
+        "ln" => Some(Subcommand::Link),
+        "drill" => Some(Subcommand::Drill),
+        _ => None,
     }
 }
 
@@ -95,18 +108,13 @@ pub(crate) fn subcommand_named(word: &str) -> Option<Subcommand>
 fn option_named(word: &str) -> Option<OptionName>
     ensures { result ≡ option_named word.now }
 {
-    if word == "--uid" {
-        Some(OptionName::Uid)
-    } else if word == "--gid" {
-        Some(OptionName::Gid)
-    } else if word == "--seed" {
-        Some(OptionName::Seed)
-    } else if word == "--clients" {
-        Some(OptionName::Clients)
-    } else if word == "--calls" {
-        Some(OptionName::Calls)
-    } else {
-        None
+    match word {
+        "--uid" => Some(OptionName::Uid),
+        "--gid" => Some(OptionName::Gid),
+        "--seed" => Some(OptionName::Seed),
+        "--clients" => Some(OptionName::Clients),
+        "--calls" => Some(OptionName::Calls),
+        _ => None,
     }
 }
 
@@ -142,35 +150,38 @@ fn with_value(options: Options, name: OptionName, word: &str) -> Option<Options>
     ensures { result ≡ with_value options name word.now }
 {
     match name {
-        OptionName::Uid => match (options.uid, numeral_within(0, 4294967295, word.as_bytes())) {
+        OptionName::Uid => match (options.uid, numeral_within(0, ID_MAX, word.as_bytes())) {
             (None, Some(value)) => Some(Options {
                 uid: Some(value as u32),
                 ..options
             }),
             _ => None,
         },
-        OptionName::Gid => match (options.gid, numeral_within(0, 4294967295, word.as_bytes())) {
+        OptionName::Gid => match (options.gid, numeral_within(0, ID_MAX, word.as_bytes())) {
             (None, Some(value)) => Some(Options {
                 gid: Some(value as u32),
                 ..options
             }),
             _ => None,
         },
-        OptionName::Seed => match (options.seed, numeral_within(0, u64::MAX, word.as_bytes())) {
+        OptionName::Seed => match (options.seed, numeral_within(0, SEED_MAX, word.as_bytes())) {
             (None, Some(value)) => Some(Options {
                 seed: Some(value),
                 ..options
             }),
             _ => None,
         },
-        OptionName::Clients => match (options.clients, numeral_within(1, 16, word.as_bytes())) {
+        OptionName::Clients => match (
+            options.clients,
+            numeral_within(1, CLIENTS_MAX, word.as_bytes()),
+        ) {
             (None, Some(value)) => Some(Options {
                 clients: Some(value as u32),
                 ..options
             }),
             _ => None,
         },
-        OptionName::Calls => match (options.calls, numeral_within(1, 1000000, word.as_bytes())) {
+        OptionName::Calls => match (options.calls, numeral_within(1, CALLS_MAX, word.as_bytes())) {
             (None, Some(value)) => Some(Options {
                 calls: Some(value as u32),
                 ..options

@@ -2,8 +2,9 @@
 
 ghost use Rattle.std.specs.Prelude.{◌≡◌, IfOk, false};
 ghost use Rattle.clap.specs.Words.{rule_of};
-ghost use Rattle.nr_words.specs.Program.{Builds, client_app, number_rule, path_app, positional_rule, plain_app, program_app, drill_app, link_app, serve_app};
+ghost use Rattle.nr_words.specs.Program.{Adds, AddsTo, Builds, client_app, number_rule, path_app, positional_rule, plain_app, program_app, drill_app, link_app, serve_app};
 
+use crate::limits::{CALLS_MAX, CLIENTS_MAX, ID_MAX, SEED_MAX};
 use clap::builder::ValueParser;
 use clap::{Arg, Command};
 use std::alloc::{AllocError, Global};
@@ -28,16 +29,12 @@ fn number<'a>(alloc: Global, name: &'a str, parser: ValueParser<'a>) -> Arg<'a>
 fn client<'a>(alloc: Global, name: &'a str, about: &'a str) -> Result<Command<'a>, AllocError>
     ensures { IfOk result (Builds (client_app name.entry.now)) }
 {
-    let addr = positional(alloc, "ADDR");
-    let export = positional(alloc, "EXPORT");
-    let uid = number(alloc, "uid", ValueParser::Signed(0, 4294967295));
-    let gid = number(alloc, "gid", ValueParser::Signed(0, 4294967295));
     Command::new(alloc, name)
         .about(about)
-        .arg(addr)?
-        .arg(export)?
-        .arg(uid)?
-        .arg(gid)
+        .arg(positional(alloc, "ADDR"))?
+        .arg(positional(alloc, "EXPORT"))?
+        .arg(number(alloc, "uid", ValueParser::Signed(0, ID_MAX as i64)))?
+        .arg(number(alloc, "gid", ValueParser::Signed(0, ID_MAX as i64)))
 }
 
 /// A command of a client with a PATH.
@@ -67,18 +64,11 @@ fn serve<'a>(alloc: Global) -> Result<Command<'a>, AllocError>
 fn drill<'a>(alloc: Global) -> Result<Command<'a>, AllocError>
     ensures { IfOk result (Builds drill_app) }
 {
-    let seed = number(
-        alloc,
-        "seed",
-        ValueParser::Unsigned(0, 18446744073709551615),
-    );
-    let clients = number(alloc, "clients", ValueParser::Signed(1, 16));
-    let calls = number(alloc, "calls", ValueParser::Signed(1, 1000000));
     Command::new(alloc, "drill")
         .about("Runs a script from standard input, or one that it generates")
-        .arg(seed)?
-        .arg(clients)?
-        .arg(calls)
+        .arg(number(alloc, "seed", ValueParser::Unsigned(0, SEED_MAX)))?
+        .arg(number(alloc, "clients", ValueParser::Signed(1, CLIENTS_MAX as i64)))?
+        .arg(number(alloc, "calls", ValueParser::Signed(1, CALLS_MAX as i64)))
 }
 
 /// The program itself, without a command.
@@ -92,20 +82,48 @@ fn plain<'a>(alloc: Global) -> Command<'a>
         .disable_help_subcommand(true)
 }
 
+/// The program with one more command, if that was made.
+fn add<'a>(
+    program: Command<'a>,
+    command: Result<Command<'a>, AllocError>,
+) -> Result<Command<'a>, AllocError>
+    ensures { IfOk result (Adds program.entry command.entry) }
+{
+    let command = command?;
+    program.subcommand(command)
+}
+
+/// The program with one more command of a client with a PATH.
+fn add_path<'a>(
+    alloc: Global,
+    program: Command<'a>,
+    name: &'a str,
+    about: &'a str,
+) -> Result<Command<'a>, AllocError>
+    ensures { IfOk result (AddsTo program.entry (path_app name.entry.now)) }
+{
+    add(program, with_path(alloc, name, about))
+}
+
 /// The program with its commands.
 pub(crate) fn program<'a>(alloc: Global) -> Result<Command<'a>, AllocError>
     ensures { IfOk result (Builds program_app) }
 {
-    plain(alloc)
-        .subcommand(serve(alloc)?)?
-        .subcommand(client(alloc, "mount", "Prints the handle of an export")?)?
-        .subcommand(with_path(alloc, "ls", "Lists a directory")?)?
-        .subcommand(with_path(alloc, "stat", "Prints attributes")?)?
-        .subcommand(with_path(alloc, "readlink", "Prints the path of a symbolic link")?)?
-        .subcommand(with_path(alloc, "mkdir", "Makes a directory")?)?
-        .subcommand(with_path(alloc, "rm", "Removes a file")?)?
-        .subcommand(with_path(alloc, "put", "Writes standard input to a file")?)?
-        .subcommand(with_path(alloc, "get", "Writes a file to standard output")?)?
-        .subcommand(link(alloc)?)?
-        .subcommand(drill(alloc)?)
+    let program = add(plain(alloc), serve(alloc))?;
+    let mount = client(alloc, "mount", "Prints the handle of an export");
+    let program = add(program, mount)?;
+    let program = add_path(alloc, program, "ls", "Lists a directory")?;
+    let program = add_path(alloc, program, "stat", "Prints attributes")?;
+    let program = add_path(
+        alloc,
+        program,
+        "readlink",
+        "Prints the path of a symbolic link",
+    )?;
+    let program = add_path(alloc, program, "mkdir", "Makes a directory")?;
+    let program = add_path(alloc, program, "rm", "Removes a file")?;
+    let program = add_path(alloc, program, "put", "Writes standard input to a file")?;
+    let program = add_path(alloc, program, "get", "Writes a file to standard output")?;
+    let program = add(program, link(alloc))?;
+    add(program, drill(alloc))
 }

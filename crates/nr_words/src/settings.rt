@@ -1,33 +1,57 @@
 //! The configuration of a server, a TOML document.
 
-ghost use Rattle.std.specs.Prelude.{◌≡◌, ◌==◌, IfErr, IfOk, None, Some, option_map};
+ghost use Rattle.std.specs.Prelude.{◌≡◌, ◌==◌, ⊤, IfErr, IfOk, None, Some, option_map};
 ghost use Rattle.toml.specs.View.{table_view};
 ghost use Rattle.nr_words.specs.Settings.{config_of, count, in_range, integer_at, plain_settings, path_at, number_at, config_settings, settings_of, text_at, verifier_at};
 ghost use Rattle.nr_words.specs.declared.settings.ConfigFault.TheVariants.{Bad};
 
+use crate::limits::{CAPACITY_MAX, CONNECTIONS_MAX, CREDITS_MAX, EXPORT_MAX};
 use hex::FromHex;
 use std::alloc::{AllocError, Global};
 use toml::Table;
 
 /// What the configuration of a server says.
-#[derive(Clone, Copy)]
 pub struct Settings<T> {
+    /// The address at which it listens.
     pub listen: T,
+    /// The path of its export.
     pub export: T,
+    /// The maximum number of credits that it grants to a connection.
     pub credits: u64,
+    /// The maximum of what its journal may cost, in bytes.
     pub capacity: u64,
+    /// The number of connections that it serves before it ends.
     pub connections: u64,
+    /// The verifier of WRITE and COMMIT (RFC 1813 section 3.3.7).
     pub write_verifier: [u8; 8],
 }
+
+impl<T: Copy> Clone for Settings<T> {
+    ghost is_clone = { λ x y. y ≡ x };
+
+    ghost is_infallible = { λ _. ⊤ };
+
+    fn clone(&self) -> Result<Settings<T>, AllocError> {
+        Ok(*self)
+    }
+}
+
+impl<T: Copy> Copy for Settings<T> {}
 
 /// The configuration of a server.
 #[derive(Drop)]
 pub struct Config {
+    /// The address at which it listens.
     pub listen: String,
+    /// The path of its export.
     pub export: String,
+    /// The maximum number of credits that it grants to a connection.
     pub credits: u64,
+    /// The maximum of what its journal may cost, in bytes.
     pub capacity: u64,
+    /// The number of connections that it serves before it ends.
     pub connections: u64,
+    /// The verifier of WRITE and COMMIT (RFC 1813 section 3.3.7).
     pub write_verifier: [u8; 8],
 }
 
@@ -95,7 +119,7 @@ fn number_at(table: &Table, key: &str, low: u64, high: u64) -> Option<u64>
     in_range(low, high, value)
 }
 
-/// The path at a key, of 1 to 1024 bytes.
+/// The path at a key, of at least one byte and at most [`EXPORT_MAX`].
 fn path_at<'a>(table: &'a Table, key: &str) -> Option<&'a str>
     ensures { option_map (λ s. s.now) result ≡ path_at key.now (table_view table.now) }
 {
@@ -103,7 +127,7 @@ fn path_at<'a>(table: &'a Table, key: &str) -> Option<&'a str>
     if path.is_empty() {
         return None;
     }
-    if path.len() > 1024 {
+    if path.len() > EXPORT_MAX {
         return None;
     }
     Some(path)
@@ -133,9 +157,9 @@ fn settings_of(table: &Table) -> Option<Settings<&str>>
     }
     let listen = text_at(table, "listen")?;
     let export = path_at(table, "export")?;
-    let credits = number_at(table, "credits", 1, 64)?;
-    let capacity = number_at(table, "capacity", 0, 9223372036854775807)?;
-    let connections = number_at(table, "connections", 1, 4294967295)?;
+    let credits = number_at(table, "credits", 1, CREDITS_MAX)?;
+    let capacity = number_at(table, "capacity", 0, CAPACITY_MAX)?;
+    let connections = number_at(table, "connections", 1, CONNECTIONS_MAX)?;
     let write_verifier = verifier_at(table, "write_verifier")?;
     Some(Settings {
         listen,

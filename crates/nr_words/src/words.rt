@@ -1,12 +1,13 @@
 //! The words of a run, read.
 
-ghost use Rattle.std.specs.Prelude.{◌≡◌, None, Some, map, option_map, string_bytes};
+ghost use Rattle.std.specs.Prelude.{◌≡◌, IfOk, None, Some, map, true, option_map, string_bytes};
 ghost use Rattle.clap.specs.Words.{found_of, kind_of, rows_of, subcommand_rows_of};
 ghost use Rattle.nr_words.specs.Spelled.{narrow, number_of, options_of, positionals_of, spelled, text_of, without_sign};
 ghost use Rattle.nr_words.specs.Reads.{Reads, ReadsOther, IsFaultOf, is_command, is_action};
 ghost use Rattle.nr_words.specs.Lines.{plain_command, plain_action, plain_positionals};
 
 use crate::commands::{Action, Command};
+use crate::limits::{CALLS_MAX, CLIENTS_MAX, ID_MAX, SEED_MAX};
 use crate::lines::{
     Options, Positionals, Subcommand, arity, command_of, is_positional, read_line, subcommand_named,
 };
@@ -89,7 +90,10 @@ fn is_command(command: &Command<&str>) -> bool
             seed: _,
             clients,
             calls,
-        } => 1 <= *clients && *clients <= 16 && 1 <= *calls && *calls <= 1000000,
+        } => 1 <= *clients
+            && u64::from(*clients) <= CLIENTS_MAX
+            && 1 <= *calls
+            && u64::from(*calls) <= CALLS_MAX,
     }
 }
 
@@ -132,11 +136,11 @@ fn options_of(given: &ArgMatches<'_>) -> Options
     ensures { result ≡ options_of (rows_of (found_of given.now)) }
 {
     Options {
-        uid: narrow(number_of(given, "uid", 0, 4294967295)),
-        gid: narrow(number_of(given, "gid", 0, 4294967295)),
-        seed: number_of(given, "seed", 0, 18446744073709551615),
-        clients: narrow(number_of(given, "clients", 1, 16)),
-        calls: narrow(number_of(given, "calls", 1, 1000000)),
+        uid: narrow(number_of(given, "uid", 0, ID_MAX)),
+        gid: narrow(number_of(given, "gid", 0, ID_MAX)),
+        seed: number_of(given, "seed", 0, SEED_MAX),
+        clients: narrow(number_of(given, "clients", 1, CLIENTS_MAX)),
+        calls: narrow(number_of(given, "calls", 1, CALLS_MAX)),
     }
 }
 
@@ -146,7 +150,7 @@ fn narrow(value: Option<u64>) -> Option<u32>
 {
     match value {
         Some(value) => {
-            if value > 4294967295 {
+            if value > u64::from(u32::MAX) {
                 None
             } else {
                 Some(value as u32)
@@ -209,7 +213,8 @@ fn read_other<'a>(alloc: Global, words: &'a [String]) -> Result<Command<&'a str>
 /// Reads the words of a run. A line gives its command, and takes no memory. Other words that clap takes give the command
 /// that they spell, which is always one that a line can ask for.
 pub fn read_words<'a>(alloc: Global, words: &'a [String]) -> Result<Command<&'a str>, WordsFault>
-    ensures { Reads (map string_bytes words.entry.now) result }
+    ensures is { Reads (map string_bytes words.entry.now) result }
+    ensures possible { IfOk result (λ command. is_command (plain_command command) ≡ true) }
 {
     match read_line(words) {
         Some(command) => Ok(command),

@@ -1,9 +1,9 @@
--- A number behind the fields before it.
+-- A number after the fields before it.
 use Rattle.std.specs.Prelude.{ℕ, Option, None, Some, Result, Ok, Err}
 use Rattle.nr_xdr.specs.declared.fault.ItemFault.{ItemFault}
 use Rattle.nr_xdr.specs.Reading.{Cursor, unsigned_at}
 
--- one step behind another
+-- one step after another
 abbrev pub and_then : {A : Type 0} → Option Cursor → (Cursor → Option A) → Option A
 and_then None f = None
 and_then (Some c) f = f c

@@ -71,7 +71,7 @@ returns-in-Err-clause-judged c =
     let front : c.split_at.result.0.now ≡ take c.args.len c.args.buf = c.split_at.ensures.front ∙ ap (λ (xs : List ℕ). take c.args.len xs) c.as_slice.ensures in
     let verdict = (λ i. kept_verdict (kept_views c.args.first_xid c.args.sent c.args.outstanding.now.items) (bytes_under (sym c.regions.ensures i)) (sym front i)) ∙ c.in-Err.ensures.err.0 in
     subst (λ (v : ReplyVerdict). JudgesTo v (take c.args.len c.args.buf) c.args.endpoint.now.link c.stop.new.endpoint.link c.args.outstanding.now.items c.verdict-found.new.calls.items c.args.answered.now.items c.args.answered.now.items c.args.grant.now c.args.grant.now) (sym verdict)
-    (stop_on (after_call c.args.endpoint.now.link Post) c.post.new.self.link c.stop.new.endpoint.link c.in-Err.reason c.post.ensures.state c.stop.ensures.link, (same_views c.args.outstanding.now.items c.verdict-found.new.calls.items c.verdict-found.ensures.same, (refl, refl)))
+    (stop_on (after_call c.args.endpoint.now.link Post) c.post.new.self.link c.stop.new.endpoint.link c.in-Err.reason c.post.ensures.state c.stop.ensures.link, (same_views c.args.outstanding.now.items c.verdict-found.new.calls.items c.verdict-found.ensures.same, (refl, (refl, c.in-Err.ensures.err.1))))
 
 pub returns-in-Err-clause-sound : goal.returns-in-Err-clause-sound
 returns-in-Err-clause-sound c = λ next s.

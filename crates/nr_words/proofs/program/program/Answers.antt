@@ -1,19 +1,18 @@
 use Rattle.std.proofs.lemmas.Result.{IfOk-weaker}
 use Rattle.nr_words.specs.Program.{program_app}
-use Rattle.nr_words.proofs.Programs.{one_more}
 use Rattle.nr_words.proofs.program.program.Goals as goal
 
 pub returns : goal.returns
 unfolding program_app
 returns c =
-    let s1 = one_more c.plain.ensures c.in_ok-serve.ensures c.in_ok-subcommand.ensures in
-    let s2 = one_more s1 c.in_ok-client.ensures c.in_ok-subcommand-2.ensures in
-    let s3 = one_more s2 c.in_ok-with_path.ensures c.in_ok-subcommand-3.ensures in
-    let s4 = one_more s3 c.in_ok-with_path-2.ensures c.in_ok-subcommand-4.ensures in
-    let s5 = one_more s4 c.in_ok-with_path-3.ensures c.in_ok-subcommand-5.ensures in
-    let s6 = one_more s5 c.in_ok-with_path-4.ensures c.in_ok-subcommand-6.ensures in
-    let s7 = one_more s6 c.in_ok-with_path-5.ensures c.in_ok-subcommand-7.ensures in
-    let s8 = one_more s7 c.in_ok-with_path-6.ensures c.in_ok-subcommand-8.ensures in
-    let s9 = one_more s8 c.in_ok-with_path-7.ensures c.in_ok-subcommand-9.ensures in
-    let s10 = one_more s9 c.in_ok-link.ensures c.in_ok-subcommand-10.ensures in
-    IfOk-weaker c.subcommand-11.result _ _ (λ r h. one_more s10 c.in_ok-drill.ensures h) c.subcommand-11.ensures
+    let s1 = c.in_ok-program.ensures _ c.serve.ensures _ c.plain.ensures in
+    let s2 = c.in_ok-program-2.ensures _ c.client-mount.ensures _ s1 in
+    let s3 = c.in_ok-program-3.ensures _ s2 in
+    let s4 = c.in_ok-program-4.ensures _ s3 in
+    let s5 = c.in_ok-program-5.ensures _ s4 in
+    let s6 = c.in_ok-program-6.ensures _ s5 in
+    let s7 = c.in_ok-program-7.ensures _ s6 in
+    let s8 = c.in_ok-program-8.ensures _ s7 in
+    let s9 = c.in_ok-program-9.ensures _ s8 in
+    let s10 = c.in_ok-program-10.ensures _ c.link.ensures _ s9 in
+    IfOk-weaker c.add-4.result _ _ (λ r h. h _ c.drill.ensures _ s10) c.add-4.ensures

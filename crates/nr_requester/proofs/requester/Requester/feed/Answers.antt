@@ -41,13 +41,13 @@ pieces-init c = fed_none c.args.self.now c.args.piece.now (sym c.end.ensures ∙
 pub pieces-preserved : goal.pieces-preserved
 pieces-preserved c =
     fed_on c.args.self.now c.pieces.self c.step-at.new.self c.args.piece.now (left_at c.args.piece.now c.pieces.at) c.pieces.at c.step-at.result c.pieces.invariant (grind (arith, common_steps, c.pieces-test.true)) (left_is c.args.piece.now c.pieces.at)
-    (record { step = c.step-at.ensures.step; taken = c.step-at.ensures.taken; partial = c.step-at.ensures.partial; quiet = c.step-at.ensures.quiet; ended = c.step-at.ensures.ended })
+    (record { step = c.step-at.ensures.step; taken = c.step-at.ensures.taken; partial = c.step-at.ensures.partial; quiet = c.step-at.ensures.quiet; ended = c.step-at.ensures.ended; tickets = c.step-at.ensures.tickets })
 
 pub overflow_add-at : goal.overflow_add-at
 overflow_add-at c =
     let f : FedTo c.args.self.now c.args.piece.now c.step-at.new.self (c.pieces.at + c.step-at.result) =
     fed_on c.args.self.now c.pieces.self c.step-at.new.self c.args.piece.now (left_at c.args.piece.now c.pieces.at) c.pieces.at c.step-at.result c.pieces.invariant (grind (arith, common_steps, c.pieces-test.true)) (left_is c.args.piece.now c.pieces.at)
-    (record { step = c.step-at.ensures.step; taken = c.step-at.ensures.taken; partial = c.step-at.ensures.partial; quiet = c.step-at.ensures.quiet; ended = c.step-at.ensures.ended }) in
+    (record { step = c.step-at.ensures.step; taken = c.step-at.ensures.taken; partial = c.step-at.ensures.partial; quiet = c.step-at.ensures.quiet; ended = c.step-at.ensures.ended; tickets = c.step-at.ensures.tickets }) in
     let within = f.within in
     let few = c.requires in
     omega (arith, within, few)
@@ -57,10 +57,10 @@ pieces-smaller c =
     let lt : c.pieces.at < length c.args.piece.now = grind (arith, common_steps, c.pieces-test.true) in
     let f : FedTo c.args.self.now c.args.piece.now c.step-at.new.self (c.pieces.at + c.step-at.result) =
     fed_on c.args.self.now c.pieces.self c.step-at.new.self c.args.piece.now (left_at c.args.piece.now c.pieces.at) c.pieces.at c.step-at.result c.pieces.invariant lt (left_is c.args.piece.now c.pieces.at)
-    (record { step = c.step-at.ensures.step; taken = c.step-at.ensures.taken; partial = c.step-at.ensures.partial; quiet = c.step-at.ensures.quiet; ended = c.step-at.ensures.ended }) in
+    (record { step = c.step-at.ensures.step; taken = c.step-at.ensures.taken; partial = c.step-at.ensures.partial; quiet = c.step-at.ensures.quiet; ended = c.step-at.ensures.ended; tickets = c.step-at.ensures.tickets }) in
     less_left (length c.args.piece.now) c.pieces.at c.step-at.result lt
     (some_step c.args.self.now c.pieces.self c.step-at.new.self c.args.piece.now (left_at c.args.piece.now c.pieces.at) c.pieces.at c.step-at.result c.pieces.invariant lt (left_is c.args.piece.now c.pieces.at)
-    (record { step = c.step-at.ensures.step; taken = c.step-at.ensures.taken; partial = c.step-at.ensures.partial; quiet = c.step-at.ensures.quiet; ended = c.step-at.ensures.ended }))
+    (record { step = c.step-at.ensures.step; taken = c.step-at.ensures.taken; partial = c.step-at.ensures.partial; quiet = c.step-at.ensures.quiet; ended = c.step-at.ensures.ended; tickets = c.step-at.ensures.tickets }))
     f.within
 
 pub returns-in-Some-end-clause-stands : goal.returns-in-Some-end-clause-stands
@@ -79,3 +79,15 @@ returns-clause-stands c = λ other.
     let le : length c.args.piece.now ≤ c.pieces.at = grind (arith, common_steps, c.pieces-test.false) in
     let ended : c.pieces.self.state.side.ended ≡ None = sym c.end-2.ensures ∙ c.in_default-end.is in
     stands_fed c.args.self.now c.pieces.self c.args.piece.now (all_fed c.args.self.now c.pieces.self c.args.piece.now c.pieces.at c.pieces.invariant le (λ memory. absurd (let h : None ≡ Some ends.Memory = sym ended ∙ memory in cc)))
+
+pub returns-in-Some-end-clause-tickets : goal.returns-in-Some-end-clause-tickets
+returns-in-Some-end-clause-tickets c = c.pieces.invariant.tickets
+
+pub returns-clause-tickets : goal.returns-clause-tickets
+returns-clause-tickets c = c.pieces.invariant.tickets
+
+pub returns-in-Some-end-clause-within : goal.returns-in-Some-end-clause-within
+returns-in-Some-end-clause-within c = (let bytes = c.pieces.invariant.bytes in let at = c.pieces.invariant.within in omega (arith, bytes, at))
+
+pub returns-clause-within : goal.returns-clause-within
+returns-clause-within c = (let bytes = c.pieces.invariant.bytes in let at = c.pieces.invariant.within in omega (arith, bytes, at))

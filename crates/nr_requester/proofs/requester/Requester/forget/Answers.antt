@@ -9,6 +9,8 @@ use Rattle.nr_requester.proofs.ChangedCalls.{IsFound, is_found, below_next}
 use Rattle.nr_requester.proofs.FoundAnswers.{answered_below}
 use Rattle.nr_requester.proofs.GivenUp.{open_answered, call_answered, forgot_view, forgot_sound, forgot_within, taken_view, taken_sound, taken_within, forgot_stands, forgot_stays_out}
 use Rattle.nr_requester.proofs.FoundAnswers.{left_as}
+use Rattle.nr_requester.specs.Fed.{fed_bytes}
+use Rattle.nr_requester.proofs.Tickets.{closed_as, forget_closes, fed_forgotten}
 use Rattle.nr_requester.proofs.requester.Requester.forget.Goals as goal
 
 pub invariant_of-self : goal.invariant_of-self
@@ -90,3 +92,15 @@ returns-clause-out c =
     let lt = answered_below i.next_xid c.args.ticket i.outstanding.items i.answered.items c.self.invariant.0.apart (ap (λ (h : RequesterSide). is_some (found_answer c.args.ticket h.state)) c.self.view_is ∙ there) in
     let next = ap (λ (h : RequesterSide). h.state.next_xid) c.self.view_is in
     forgot_stays_out c.args.self.now _ c.args.ticket (omega (arith, lt, next)) (returns-clause-state c)
+
+pub returns-in-Some-clause-tickets : goal.returns-in-Some-clause-tickets
+returns-in-Some-clause-tickets c = closed_as c.args.self.now _ _ c.args.ticket c.args.ticket (returns-in-Some-clause-state c) refl (forget_closes c.args.self.now c.args.ticket)
+
+pub returns-clause-tickets : goal.returns-clause-tickets
+returns-clause-tickets c = closed_as c.args.self.now _ _ c.args.ticket c.args.ticket (returns-clause-state c) refl (forget_closes c.args.self.now c.args.ticket)
+
+pub returns-in-Some-clause-fed : goal.returns-in-Some-clause-fed
+returns-in-Some-clause-fed c = ap fed_bytes (returns-in-Some-clause-state c) ∙ fed_forgotten c.args.self.now c.args.ticket
+
+pub returns-clause-fed : goal.returns-clause-fed
+returns-clause-fed c = ap fed_bytes (returns-clause-state c) ∙ fed_forgotten c.args.self.now c.args.ticket

@@ -1,10 +1,12 @@
-use Rattle.std.proofs.Common.{ap, sym, ◌∙◌, arith}
+use Rattle.std.proofs.Common.{refl, ap, sym, ◌∙◌, arith}
 use Rattle.std.specs.Prelude.{is_some}
 use Rattle.nr_requester.specs.RequesterState.{RequesterSide}
 use Rattle.nr_requester.specs.AfterCalls.{after_forget}
-use Rattle.nr_requester.specs.OpenCalls.{found_answer}
+use Rattle.nr_requester.specs.OpenCalls.{open_call, found_answer}
 use Rattle.nr_requester.proofs.FoundAnswers.{answer_is, answered_below, not_outstanding}
 use Rattle.nr_requester.proofs.GivenUp.{taken_sound, taken_within, taken_view}
+use Rattle.nr_requester.specs.Views.{requester_view}
+use Rattle.nr_requester.proofs.Tickets.{are_apart, answered_open}
 use Rattle.nr_requester.proofs.requester.Requester.take_done.Goals as goal
 
 pub invariant_of-self : goal.invariant_of-self
@@ -34,3 +36,10 @@ returns-clause-number c =
     let next = ap (λ (h : RequesterSide). h.state.next_xid) c.self.view_is in
     let lt = answered_below i.next_xid c.args.xid i.outstanding.items i.answered.items c.self.invariant.0.apart there in
     omega (arith, next, lt)
+
+pub returns-clause-call : goal.returns-clause-call
+returns-clause-call c =
+    let i = c.self.inside in
+    let view : RequesterSide = requester_view i.endpoint.link i.sent i.wished i.first_xid i.next_xid i.grant i.outstanding.items i.answered.items in
+    ap (λ (h : RequesterSide). open_call c.args.xid h.state) (sym c.self.view_is)
+    ∙ answered_open view.state c.args.xid c.in-Some.answer (are_apart view.state i.next_xid i.outstanding.items refl c.self.invariant.0.rising c.self.invariant.0.apart) (sym (sym c.in-Some.is ∙ c.take_answer.ensures.found))

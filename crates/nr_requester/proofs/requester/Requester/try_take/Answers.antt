@@ -4,6 +4,8 @@ use Rattle.nr_requester.specs.AfterCalls.{after_forget}
 use Rattle.nr_requester.specs.OpenCalls.{found_answer}
 use Rattle.nr_requester.proofs.FoundAnswers.{place_says, none_if}
 use Rattle.nr_requester.proofs.GivenUp.{done_stands, lost_stands}
+use Rattle.nr_requester.specs.Fed.{fed_bytes}
+use Rattle.nr_requester.proofs.Tickets.{closed_as, forget_closes, fed_forgotten}
 use Rattle.nr_requester.proofs.requester.Requester.try_take.Goals as goal
 
 pub take_done-requires : goal.take_done-requires
@@ -38,3 +40,10 @@ returns-in-Some-clause-taken c =
 pub returns-in-Some-clause-stands : goal.returns-in-Some-clause-stands
 returns-in-Some-clause-stands c =
     (lost_stands c.args.self.now c.revoke-call.new.self c.args.ticket c.in-Some.end (sym c.end.ensures ∙ c.in-Some.is) c.revoke-call.ensures.number c.revoke-call.ensures.state, c.revoke-call.ensures.out)
+
+pub returns-then-is_some-clause-tickets : goal.returns-then-is_some-clause-tickets
+returns-then-is_some-clause-tickets c =
+    closed_as c.args.self.now c.take_done.new.self _ c.args.ticket c.xid-then-is_some.result c.take_done.ensures.state c.xid-then-is_some.ensures (forget_closes c.args.self.now c.xid-then-is_some.result)
+
+pub returns-then-is_some-clause-fed : goal.returns-then-is_some-clause-fed
+returns-then-is_some-clause-fed c = ap fed_bytes c.take_done.ensures.state ∙ fed_forgotten c.args.self.now c.xid-then-is_some.result

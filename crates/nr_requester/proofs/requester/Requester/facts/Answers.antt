@@ -1,0 +1,18 @@
+use Rattle.std.proofs.Common.{refl, ap, subst, arith}
+use Rattle.nr_requester.specs.RequesterState.{RequesterSide}
+use Rattle.nr_requester.specs.OpenCalls.{IsFresh}
+use Rattle.nr_requester.specs.Views.{requester_view}
+use Rattle.nr_requester.proofs.Tickets.{AreApart, are_apart, are_fresh, apart_found}
+use Rattle.nr_requester.proofs.requester.Requester.facts.Goals as goal
+
+pub returns-clause-apart : goal.returns-clause-apart
+returns-clause-apart c = λ xid has.
+    let i = c.self.inside in
+    let view : RequesterSide = requester_view i.endpoint.link i.sent i.wished i.first_xid i.next_xid i.grant i.outstanding.items i.answered.items in
+    apart_found c.args.self.now.state xid (subst (λ (h : RequesterSide). AreApart h.state) c.self.view_is (are_apart view.state i.next_xid i.outstanding.items refl c.self.invariant.0.rising c.self.invariant.0.apart)) has
+
+pub returns-clause-fresh : goal.returns-clause-fresh
+returns-clause-fresh c = λ xid le.
+    let i = c.self.inside in
+    let next = ap (λ (h : RequesterSide). h.state.next_xid) c.self.view_is in
+    subst (λ (h : RequesterSide). IsFresh h.state xid) c.self.view_is (are_fresh i.next_xid xid i.outstanding.items i.answered.items c.self.invariant.0.rising c.self.invariant.0.apart (omega (arith, le, next)))

@@ -1,0 +1,189 @@
+-- The command of a line is one that a line can ask for: its positionals are positionals, its numbers in their ranges.
+use Rattle.std.proofs.Common.{◌≡◌, ℕ, ◌<◌, ◌≤◌, Bool, true, false, cond, eqb, List, [], ◌∷◌, Option, Some, None, option_map, refl, subst, arith}
+use Rattle.std.specs.Prelude.{◌&&◌, nat_le, is_some, option_and_then}
+use Rattle.std.proofs.lemmas.Bool.Decides.{nat_tests}
+use Rattle.std.proofs.lemmas.Bool.{eqb-true}
+use Rattle.std.proofs.lemmas.Option.{option_and_then_some, same_Some, none-some, cond_some}
+use Rattle.nr_words.specs.declared.commands.Command.{Command}
+use Rattle.nr_words.specs.declared.commands.Action.{Action}
+use Rattle.nr_words.specs.declared.lines.Subcommand.{Subcommand}
+use Rattle.nr_words.specs.declared.lines.Subcommand.TheVariants as subcommands
+use Rattle.nr_words.specs.declared.lines.OptionName.{OptionName}
+use Rattle.nr_words.specs.declared.lines.OptionName.TheVariants as option_names
+use Rattle.nr_words.specs.declared.lines.Options.{Options}
+use Rattle.nr_words.specs.declared.lines.Positionals.{Positionals}
+use Rattle.nr_words.specs.declared.lines.State.{State}
+use Rattle.nr_words.specs.Limits.{calls_max, clients_max}
+use Rattle.nr_words.specs.Numbers.{has_leading_zero, number_within, numeral_within, value_after, within}
+use Rattle.nr_words.specs.Lines.{Text, after_free_word, after_word, arity, client, complete, drill_of, finished, is_positional, line_of, once, option_named, start, step, steps, subcommand_named, takes, with_positional, with_value}
+use Rattle.nr_words.specs.Reads.{is_action, is_command}
+
+-- ---- Numbers in their ranges
+
+abbrev InRange : ℕ → Option ℕ → Type 0
+InRange high None = Unit {0}
+InRange high (Some n) = (1 ≤ n) × (n ≤ high)
+
+within_fits : (high : ℕ) (value : Option ℕ) → InRange high (within 1 high value)
+within_fits high None = tt
+within_fits high (Some n) = by (nat_le 1 n) (nat_le n high) refl refl
+  where
+    by : (a b : Bool) → nat_le 1 n ≡ a → nat_le n high ≡ b → InRange high (cond (a && b) (Some n) None)
+    by true true p q = grind (arith, nat_tests, p, q)
+    by true false p q = tt
+    by false b p q = tt
+
+number_fits : (high : ℕ) (text : Text) → InRange high (number_within 1 high text)
+number_fits high [] = tt
+number_fits high (byte ∷ bytes) = within_fits high (value_after 0 (byte ∷ bytes))
+
+numeral_fits : (high : ℕ) (text : Text) → InRange high (numeral_within 1 high text)
+numeral_fits high text = by (has_leading_zero text)
+  where
+    by : (b : Bool) → InRange high (cond b None (number_within 1 high text))
+    by true = tt
+    by false = number_fits high text
+
+record OptionsFit (o : Options) : Type 0 where
+  clients : InRange clients_max o.clients
+  calls : InRange calls_max o.calls
+
+once_fits : (old value : Option ℕ) (with_number : ℕ → Options) (o : Options) → once old value with_number ≡ Some o → ((n : ℕ) → value ≡ Some n → OptionsFit (with_number n)) → OptionsFit o
+once_fits None (Some n) with_number o e f = subst OptionsFit (same_Some _ _ e) (f n refl)
+once_fits None None with_number o e f = absurd (none-some _ e)
+once_fits (Some m) value with_number o e f = absurd (none-some _ e)
+
+value_fits : (o : Options) (name : OptionName) (word : Text) (t : Options) → OptionsFit o → with_value o name word ≡ Some t → OptionsFit t
+value_fits o option_names.Uid word t fits e = once_fits o.uid _ _ t e (λ n is. record { clients = fits.clients; calls = fits.calls })
+value_fits o option_names.Gid word t fits e = once_fits o.gid _ _ t e (λ n is. record { clients = fits.clients; calls = fits.calls })
+value_fits o option_names.Seed word t fits e = once_fits o.seed _ _ t e (λ n is. record { clients = fits.clients; calls = fits.calls })
+value_fits o option_names.Clients word t fits e = once_fits o.clients _ _ t e (λ n is. record { clients = subst (InRange clients_max) is (numeral_fits clients_max word); calls = fits.calls })
+value_fits o option_names.Calls word t fits e = once_fits o.calls _ _ t e (λ n is. record { clients = fits.clients; calls = subst (InRange calls_max) is (numeral_fits calls_max word) })
+
+-- ---- Positionals
+
+record PositionalsFit (p : Positionals Text) : Type 0 where
+  first : 0 < p.count → is_positional p.first ≡ true
+  second : 1 < p.count → is_positional p.second ≡ true
+  third : 2 < p.count → is_positional p.third ≡ true
+  fourth : 3 < p.count → is_positional p.fourth ≡ true
+
+positional_fits : (p : Positionals Text) (word : Text) (t : Positionals Text) → PositionalsFit p → is_positional word ≡ true → with_positional p word ≡ Some t → PositionalsFit t
+positional_fits p word t fits good e = by (eqb p.count 0) (eqb p.count 1) (eqb p.count 2) (eqb p.count 3) refl refl refl e
+  where
+    by : (a b c d : Bool) → eqb p.count 1 ≡ b → eqb p.count 2 ≡ c → eqb p.count 3 ≡ d
+        → cond a (Some (record p { count = 1; first = word })) (cond b (Some (record p { count = 2; second = word })) (cond c (Some (record p { count = 3; third = word })) (cond d (Some (record p { count = 4; fourth = word })) None))) ≡ Some t → PositionalsFit t
+    by true b c d is1 is2 is3 e = subst PositionalsFit (same_Some _ _ e) (record {
+      first = λ lt. good;
+      second = λ lt. absurd (omega (arith, lt));
+      third = λ lt. absurd (omega (arith, lt));
+      fourth = λ lt. absurd (omega (arith, lt));
+    })
+    by false true c d is1 is2 is3 e = let n : p.count ≡ 1 = eqb-true p.count 1 is1 in subst PositionalsFit (same_Some _ _ e) (record {
+      first = λ lt. fits.first (omega (arith, n));
+      second = λ lt. good;
+      third = λ lt. absurd (omega (arith, lt));
+      fourth = λ lt. absurd (omega (arith, lt));
+    })
+    by false false true d is1 is2 is3 e = let n : p.count ≡ 2 = eqb-true p.count 2 is2 in subst PositionalsFit (same_Some _ _ e) (record {
+      first = λ lt. fits.first (omega (arith, n));
+      second = λ lt. fits.second (omega (arith, n));
+      third = λ lt. good;
+      fourth = λ lt. absurd (omega (arith, lt));
+    })
+    by false false false true is1 is2 is3 e = let n : p.count ≡ 3 = eqb-true p.count 3 is3 in subst PositionalsFit (same_Some _ _ e) (record {
+      first = λ lt. fits.first (omega (arith, n));
+      second = λ lt. fits.second (omega (arith, n));
+      third = λ lt. fits.third (omega (arith, n));
+      fourth = λ lt. good;
+    })
+    by false false false false is1 is2 is3 e = absurd (none-some _ e)
+
+-- ---- Word by word
+
+record StateFits (s : State Text) : Type 0 where
+  options : OptionsFit s.options
+  positionals : PositionalsFit s.positionals
+
+mapped : {A B : Type 0} (f : A → B) (o : Option A) (y : B) (P : B → Type 0) → option_map f o ≡ Some y → ((x : A) → o ≡ Some x → P (f x)) → P y
+mapped f None y P e k = absurd (none-some y e)
+mapped f (Some x) y P e k = subst P (same_Some (f x) y e) (k x refl)
+
+free_word_fits : (subcommand : Subcommand) (s : State Text) (name : Option OptionName) (word : Text) (t : State Text) → StateFits s → after_free_word subcommand s name word ≡ Some t → StateFits t
+free_word_fits subcommand s (Some name) word t fits e = subst StateFits ((cond_some (takes subcommand name) _ t e).1) (record { options = fits.options; positionals = fits.positionals })
+free_word_fits subcommand s None word t fits e = by (is_positional word) refl e
+  where
+    by : (b : Bool) → is_positional word ≡ b → cond b (option_map (λ (p : Positionals Text). record s { positionals = p }) (with_positional s.positionals word)) None ≡ Some t → StateFits t
+    by true good e = mapped _ (with_positional s.positionals word) t StateFits e (λ p is. record { options = fits.options; positionals = positional_fits s.positionals word p fits.positionals good is })
+    by false good e = absurd (none-some t e)
+
+word_fits : (subcommand : Subcommand) (s : State Text) (waiting : Option OptionName) (word : Text) (t : State Text) → StateFits s → after_word subcommand s waiting word ≡ Some t → StateFits t
+word_fits subcommand s (Some name) word t fits e = mapped _ (with_value s.options name word) t StateFits e (λ o is. record { options = value_fits s.options name word o fits.options is; positionals = fits.positionals })
+word_fits subcommand s None word t fits e = free_word_fits subcommand s (option_named word) word t fits e
+
+steps_fit : (subcommand : Subcommand) (s : State Text) (words : List Text) (t : State Text) → StateFits s → steps subcommand s words ≡ Some t → StateFits t
+unfolding steps
+steps_fit subcommand s [] t fits e = subst StateFits (same_Some s t e) fits
+steps_fit subcommand s (word ∷ words) t fits e =
+    option_and_then_some (λ (s' : State Text). steps subcommand s' words) (step subcommand s word) t e
+    (λ s' is more. steps_fit subcommand s' words t (word_fits subcommand s s.waiting word s' fits is) more)
+
+start_fits : StateFits start
+start_fits = record {
+  options = record { clients = tt; calls = tt };
+  positionals = record {
+    first = λ lt. absurd (omega (arith, lt));
+    second = λ lt. absurd (omega (arith, lt));
+    third = λ lt. absurd (omega (arith, lt));
+    fourth = λ lt. absurd (omega (arith, lt));
+  };
+}
+
+-- ---- The command
+
+drill_possible : (seed clients calls : Option ℕ) (c : Command Text) → InRange clients_max clients → InRange calls_max calls → drill_of seed clients calls ≡ Some c → is_command c ≡ true
+drill_possible None None None c a b e = subst (λ (x : Command Text). is_command x ≡ true) (same_Some _ c e) refl
+drill_possible (Some seed) (Some n) (Some m) c a b e =
+    subst (λ (x : Command Text). is_command x ≡ true) (same_Some _ c e) (grind (arith, nat_tests, a.0, a.1, b.0, b.1))
+drill_possible None None (Some m) c a b e = absurd (none-some c e)
+drill_possible None (Some n) calls c a b e = absurd (none-some c e)
+drill_possible (Some seed) None calls c a b e = absurd (none-some c e)
+drill_possible (Some seed) (Some n) None c a b e = absurd (none-some c e)
+
+client_possible : (o : Options) (p : Positionals Text) (action : Action Text) (c : Command Text) → PositionalsFit p → 2 ≤ p.count → is_action action ≡ true → client o p action ≡ Some c → is_command c ≡ true
+client_possible o p action c fits two good e =
+    let one = fits.first (omega (arith, two)) in
+    let other = fits.second (omega (arith, two)) in
+    subst (λ (x : Command Text). is_command x ≡ true) (same_Some _ c e) (rw (one, other, good) refl)
+
+complete_possible : (subcommand : Subcommand) (o : Options) (p : Positionals Text) (c : Command Text) → OptionsFit o → PositionalsFit p → p.count ≡ arity subcommand → complete subcommand o p ≡ Some c → is_command c ≡ true
+complete_possible subcommands.Serve o p c opt fits n e = subst (λ (x : Command Text). is_command x ≡ true) (same_Some _ c e) (fits.first (omega (arith, n)))
+complete_possible subcommands.Mount o p c opt fits n e = client_possible o p _ c fits (omega (arith, n)) refl e
+complete_possible subcommands.List o p c opt fits n e = client_possible o p _ c fits (omega (arith, n)) (fits.third (omega (arith, n))) e
+complete_possible subcommands.Stat o p c opt fits n e = client_possible o p _ c fits (omega (arith, n)) (fits.third (omega (arith, n))) e
+complete_possible subcommands.ReadLink o p c opt fits n e = client_possible o p _ c fits (omega (arith, n)) (fits.third (omega (arith, n))) e
+complete_possible subcommands.MakeDirectory o p c opt fits n e = client_possible o p _ c fits (omega (arith, n)) (fits.third (omega (arith, n))) e
+complete_possible subcommands.Remove o p c opt fits n e = client_possible o p _ c fits (omega (arith, n)) (fits.third (omega (arith, n))) e
+complete_possible subcommands.Put o p c opt fits n e = client_possible o p _ c fits (omega (arith, n)) (fits.third (omega (arith, n))) e
+complete_possible subcommands.Get o p c opt fits n e = client_possible o p _ c fits (omega (arith, n)) (fits.third (omega (arith, n))) e
+complete_possible subcommands.Link o p c opt fits n e =
+    let path = fits.third (omega (arith, n)) in
+    let target = fits.fourth (omega (arith, n)) in
+    client_possible o p _ c fits (omega (arith, n)) (rw (path, target) refl) e
+complete_possible subcommands.Drill o p c opt fits n e = drill_possible o.seed o.clients o.calls c opt.clients opt.calls e
+
+command_possible : (subcommand : Subcommand) (s : State Text) (c : Command Text) → StateFits s → finished subcommand s ≡ Some c → is_command c ≡ true
+command_possible subcommand s c fits e = by (is_some s.waiting) (eqb s.positionals.count (arity subcommand)) refl e
+  where
+    by : (a b : Bool) → eqb s.positionals.count (arity subcommand) ≡ b → cond a None (cond b (complete subcommand s.options s.positionals) None) ≡ Some c → is_command c ≡ true
+    by true b is e = absurd (none-some c e)
+    by false false is e = absurd (none-some c e)
+    by false true is e = complete_possible subcommand s.options s.positionals c fits.options fits.positionals (eqb-true _ _ is) e
+
+pub line_possible : (words : List Text) (c : Command Text) → line_of words ≡ Some c → is_command c ≡ true
+line_possible [] c e = absurd (none-some c e)
+line_possible (name ∷ []) c e = absurd (none-some c e)
+line_possible (name ∷ word ∷ words) c e =
+    option_and_then_some (λ (subcommand : Subcommand). option_and_then (finished subcommand) (steps subcommand start words)) (subcommand_named word) c e
+    (λ subcommand named done. option_and_then_some (finished subcommand) (steps subcommand start words) c done
+    (λ s walked end. command_possible subcommand s c (steps_fit subcommand start words s start_fits walked) end))

@@ -1,0 +1,30 @@
+-- The limits of what words and configurations may say, each by its one name. All are own, but for that of an export.
+use Rattle.std.specs.Prelude.{ℕ}
+
+-- the maximum of a user or a group ID, and of a seed
+abbrev pub id_max : ℕ
+id_max = 4294967295
+
+abbrev pub seed_max : ℕ
+seed_max = 18446744073709551615
+
+-- the maximum number of clients and of calls of a script that is generated
+abbrev pub clients_max : ℕ
+clients_max = 16
+
+abbrev pub calls_max : ℕ
+calls_max = 1000000
+
+-- the maximum length of the path of an export in bytes (RFC 1813 section 5.1.4, MNTPATHLEN)
+abbrev pub export_max : ℕ
+export_max = 1024
+
+-- the maximum number of credits of a server, of what its journal may cost in bytes, and of its connections
+abbrev pub credits_max : ℕ
+credits_max = 64
+
+abbrev pub capacity_max : ℕ
+capacity_max = 9223372036854775807
+
+abbrev pub connections_max : ℕ
+connections_max = 4294967295
