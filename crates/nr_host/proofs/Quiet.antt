@@ -126,10 +126,13 @@ ended_written opened link run v v' taken taken' n end d all (inl h) why other = 
   where
     known : (v.link.state.has_hello ≡ true) ⊎ (v.link.state.send_queue.fpdus ≡ [])
     known = may_all v.link.state.has_hello v.link.state.send_queue (all_may_be_written opened link v run h)
+
     none : queue v' ≡ []
     none = ap queue d.state ∙ nothing_left v.link.state.has_hello v.link.state.send_queue n known all
+
     later : List Mark
     later = run ++ marks.Wrote link Responder (take n (may_write v)) ∷ []
+
     by : Stands opened link later v' → HasWritten opened link Responder later
     by (inl s) = sym (append-nil (bytes_sent link Responder later)) ∙ ap (λ (l : List ℕ). bytes_sent link Responder later ++ l) (sym none) ∙ s.stands.output
     by (inr out) = absurd (other (same_Some end ends.Memory (sym (ap end_of d.state ∙ why) ∙ out.output.0)))

@@ -1,6 +1,6 @@
 //! A server of several connections.
 
-ghost use Rattle.std.specs.Prelude.{◌≡◌, ◌<◌, List, length, IfOk, IfErr, OnErr, MatchResult};
+ghost use Rattle.std.specs.Prelude.{◌≡◌, ◌<◌, List, [], ◌∷◌, ◌++◌, length, IfOk, IfErr, OnOk, OnErr, MatchResult};
 ghost use Rattle.nr_outside.specs.Faults.{Rises};
 ghost use Rattle.nr_host.specs.declared.conn_end.ConnEnd.{ConnEnd};
 ghost use Rattle.nr_host.specs.Serving.{AcceptorCount, ServesAll, ServesLink, between};
@@ -52,13 +52,41 @@ fn serve_next<A: Acceptor, C: Clock>(
     ensures asked { A.asked acceptor.new ≡ A.asked acceptor.old }
     ensures listens { A.listens acceptor.new ≡ A.listens acceptor.old }
 {
-    let (mut source, mut sink) = match acceptor.accept() {
-        Ok(link) => link,
-        Err(failed) => return Err(failed),
+    let Ok((mut source, mut sink)) = acceptor.accept() else {
+        return Err(Failed);
     };
     let end = serve_connection(alloc, &mut source, &mut sink, server, clock, credits);
     acceptor.hang_up(source, sink);
     Ok(end)
+}
+
+/// Serves one link more, and notes its end. There is room for that first, so that no link is accepted in vain.
+fn serve_one<A: Acceptor, C: Clock>(
+    alloc: Global,
+    acceptor: &mut A,
+    server: &mut Server,
+    clock: &mut C,
+    credits: u32,
+    ends: &mut Vec<ConnEnd>,
+) -> Result<(), ServeFault>
+    ensures served { OnOk result ((end : ConnEnd) × (ends.new.items ≡ ends.old.items ++ end ∷ []) × ServesLink credits
+        (between (A.ended acceptor.old) (A.lost acceptor.old) (C.gave clock.old) server.old)
+        (between (A.ended acceptor.new) (A.lost acceptor.new) (C.gave clock.new) server.new) end) }
+    ensures err { OnErr result (between (A.ended acceptor.new) (A.lost acceptor.new) (C.gave clock.new) server.new
+        ≡ between (A.ended acceptor.old) (A.lost acceptor.old) (C.gave clock.old) server.old) }
+    ensures counted { MatchResult result
+        (λ _. A.faults acceptor.new ≡ A.faults acceptor.old) (λ fault. AcceptorCount fault (A.faults acceptor.old) (A.faults acceptor.new)) }
+    ensures asked { A.asked acceptor.new ≡ A.asked acceptor.old }
+    ensures listens { A.listens acceptor.new ≡ A.listens acceptor.old }
+{
+    if ends.reserve(1).is_err() {
+        return Err(ServeFault::Memory);
+    }
+    let Ok(end) = serve_next(alloc, acceptor, server, clock, credits) else {
+        return Err(ServeFault::AcceptFault);
+    };
+    ends.push_reserved(end);
+    Ok(())
 }
 
 /// Accepts so many connections and serves each to its end, one after another, whatever its end is. Each is granted `credits`
@@ -90,12 +118,9 @@ pub fn serve<A: Acceptor, C: Clock>(
 {
     let mut ends = Vec::new(alloc);
     'links: while (ends.len() as u64) < u64::from(connections) {
-        if ends.reserve(1).is_err() {
-            return Err(ServeFault::Memory);
-        }
-        match serve_next(alloc, acceptor, server, clock, credits) {
-            Ok(end) => ends.push_reserved(end),
-            Err(_) => return Err(ServeFault::AcceptFault),
+        match serve_one(alloc, acceptor, server, clock, credits, &mut ends) {
+            Ok(()) => {}
+            Err(fault) => return Err(fault),
         }
     }
     Ok(Ran {
