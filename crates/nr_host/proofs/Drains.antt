@@ -13,7 +13,7 @@ use Rattle.nr_host.specs.declared.conn_end.ConnEnd.TheVariants as ends
 use Rattle.nr_host.specs.Connections.{Terms, Outside}
 use Rattle.nr_host.specs.Steps.{IsLive, AllQuiet, EndsAt, EndsWith, GoesOn, GoesQuietly, RunsOut, outside}
 use Rattle.nr_host.proofs.Marks.{wrote}
-use Rattle.nr_host.proofs.Quiet.{drained_due, drained_all, ended_server, quiet}
+use Rattle.nr_host.proofs.Quiet.{drained_due, drained_all, ended_server, ended_written, quiet}
 
 pub drained : (terms : Terms) (link : ℕ) (before : Outside) (left given taken taken' : Option (List ℕ)) (gave : Option (List Moment)) (kept : PlainServerState)
     (ahead : List ℕ) (run : List Mark) (v v' : ResponderSide) (n : ℕ) → Drains v v' taken taken' n
@@ -95,15 +95,17 @@ stop_write taken taken' v v' n d terms link before left given gave kept run live
   cause = λ opened granted. tt;
 }
 
-pub stop_protocol : (taken taken' : Option (List ℕ)) (v v' : ResponderSide) (n : ℕ) (end : End) → Drains v v' taken taken' n → end_of v ≡ Some end → (end ≡ link_ends.Memory → ⊥)
+pub stop_protocol : (taken taken' : Option (List ℕ)) (v v' : ResponderSide) (n : ℕ) (end : End) → Drains v v' taken taken' n → n ≡ length (may_write v) → end_of v ≡ Some end → (end ≡ link_ends.Memory → ⊥)
     → EndsAt (ends.Protocol end) taken taken' v
-stop_protocol taken taken' v v' n end d why other terms link before left given gave kept run live = record {
+stop_protocol taken taken' v v' n end d all why other terms link before left given gave kept run live = record {
   run = run ++ marks.Wrote link Responder (take n (may_write v)) ∷ [];
   ahead = [];
   more = [];
   runs = (drained terms link before left given taken taken' gave kept [] run v v' n d live).runs;
   ahead_is = refl;
   more_is = refl;
-  cause = λ opened granted. ended_server opened link (run ++ marks.Wrote link Responder (take n (may_write v)) ∷ []) v' end
-      (d.stands opened link run (live.stands opened granted)) (ap end_of d.state ∙ why) other;
+  cause = λ opened granted. (
+    ended_server opened link (run ++ marks.Wrote link Responder (take n (may_write v)) ∷ []) v' end (d.stands opened link run (live.stands opened granted)) (ap end_of d.state ∙ why) other,
+    ended_written opened link run v v' taken taken' n end d all (live.stands opened granted) why other,
+  );
 }

@@ -3,6 +3,7 @@ pub mod Drains
 pub mod Executions
 pub mod Feeds
 pub mod Idle
+pub mod Links
 pub mod Marks
 pub mod Quiet
 pub mod Taken

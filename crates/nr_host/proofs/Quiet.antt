@@ -1,6 +1,6 @@
 -- What a drain writes, and what is due after it.
-use Rattle.std.proofs.Common.{◌≡◌, ℕ, ◌+◌, ◌-◌, Bool, true, false, List, [], ◌∷◌, ◌++◌, length, take, drop, map, Some, None, inl, inr, ◌⊎◌, arith, refl, sym, ap, subst, ◌∙◌, append_assoc, append-nil, take-append-drop}
-use Rattle.std.proofs.lemmas.List.{drop_all, length-append}
+use Rattle.std.proofs.Common.{◌≡◌, ℕ, ◌+◌, ◌-◌, Bool, true, false, List, [], ◌∷◌, ◌++◌, length, take, drop, map, Option, Some, None, inl, inr, ◌⊎◌, arith, refl, sym, ap, subst, ◌∙◌, append_assoc, append-nil, take-append-drop}
+use Rattle.std.proofs.lemmas.List.{append_cancel_left, drop_all, length-append}
 use Rattle.std.proofs.lemmas.Option.{none-some, same_Some}
 use Rattle.nr_wire.specs.declared.hello.Side.TheVariants.{Responder}
 use Rattle.nr_link.specs.declared.end.End.{End}
@@ -8,17 +8,20 @@ use Rattle.nr_link.specs.declared.end.End.TheVariants as ends
 use Rattle.nr_endpoint.specs.SendQueue.{SendQueue, writable, written}
 use Rattle.nr_endpoint.specs.LinkState.{LinkSide}
 use Rattle.nr_reduce.specs.declared.mark.Mark.{Mark}
+use Rattle.nr_reduce.specs.declared.mark.Mark.TheVariants as marks
 use Rattle.nr_reduce.specs.declared.mark.LinkParameters.{LinkParameters}
 use Rattle.nr_reduce.specs.EndRules.{EndState}
 use Rattle.nr_reduce.specs.ServerState.{ReadyCall, ServerState}
 use Rattle.nr_reduce.specs.History.{bytes_sent}
 use Rattle.nr_reduce.specs.Matched.{IsPrefixOf}
-use Rattle.nr_reduce.specs.Run.{server, output_due}
+use Rattle.nr_reduce.specs.Run.{HasWritten, server, output_due}
 use Rattle.nr_reduce.specs.Served.{next_call}
 use Rattle.nr_responder.specs.Keeping.{Begins, Keeps, KeepsEnd}
 use Rattle.nr_responder.specs.Keeping.Begins.{BeforeHello, AfterHello}
 use Rattle.nr_responder.specs.ResponderState.{ResponderSide, queue, queued_bytes, may_write, after_drain, end_of}
+use Rattle.nr_responder.specs.Draining.{Drains}
 use Rattle.nr_responder.specs.Standing.{Stands}
+use Rattle.nr_responder.proofs.OwnLaw.{all_may_be_written}
 use Rattle.nr_responder.proofs.Fed.{not_ended_lem}
 use Rattle.nr_host.specs.Connections.{IsQuiet}
 
@@ -109,3 +112,27 @@ ended_server opened link run v end (inr out) why other = absurd (other (same_end
   where
     same_end : Some end ≡ Some ends.Memory → end ≡ ends.Memory
     same_end e = same_Some end ends.Memory e
+
+may_all : (has_hello : Bool) (q : SendQueue) → writable has_hello q ≡ queued_bytes q → (has_hello ≡ true) ⊎ (q.fpdus ≡ [])
+may_all true q all = inl refl
+may_all false q all = inr (sym (append_cancel_left q.hello [] q.fpdus all))
+
+-- All that is due is written once a side that ended for another reason than memory was drained.
+pub ended_written : (opened : LinkParameters) (link : ℕ) (run : List Mark) (v v' : ResponderSide) (taken taken' : Option (List ℕ)) (n : ℕ) (end : End) → Drains v v' taken taken' n
+    → n ≡ length (may_write v) → Stands opened link run v → end_of v ≡ Some end → (end ≡ ends.Memory → ⊥)
+    → HasWritten opened link Responder (run ++ marks.Wrote link Responder (take n (may_write v)) ∷ [])
+ended_written opened link run v v' taken taken' n end d all (inr out) why other = absurd (other (same_Some end ends.Memory (sym why ∙ out.output.0)))
+ended_written opened link run v v' taken taken' n end d all (inl h) why other = by (d.stands opened link run (inl h))
+  where
+    known : (v.link.state.has_hello ≡ true) ⊎ (v.link.state.send_queue.fpdus ≡ [])
+    known = may_all v.link.state.has_hello v.link.state.send_queue (all_may_be_written opened link v run h)
+
+    none : queue v' ≡ []
+    none = ap queue d.state ∙ nothing_left v.link.state.has_hello v.link.state.send_queue n known all
+
+    later : List Mark
+    later = run ++ marks.Wrote link Responder (take n (may_write v)) ∷ []
+
+    by : Stands opened link later v' → HasWritten opened link Responder later
+    by (inl s) = sym (append-nil (bytes_sent link Responder later)) ∙ ap (λ (l : List ℕ). bytes_sent link Responder later ++ l) (sym none) ∙ s.stands.output
+    by (inr out) = absurd (other (same_Some end ends.Memory (sym (ap end_of d.state ∙ why) ∙ out.output.0)))

@@ -8,7 +8,7 @@ use Rattle.nr_link.specs.Input.{input_of}
 use Rattle.nr_reduce.specs.declared.mark.Mark.{Mark}
 use Rattle.nr_reduce.specs.declared.mark.LinkParameters.{LinkParameters}
 use Rattle.nr_reduce.specs.History.{bytes_received}
-use Rattle.nr_reduce.specs.Run.{server}
+use Rattle.nr_reduce.specs.Run.{HasWritten, server}
 use Rattle.nr_host.specs.Connections.{Terms, Outside, Runs, IsQuiet}
 use Rattle.nr_host.specs.declared.conn_end.ConnEnd.{ConnEnd}
 use Rattle.nr_host.specs.declared.conn_end.ConnEnd.TheVariants as ends
@@ -41,7 +41,7 @@ IsCause opened link run left (ends.Cut at calls) =
     × ((0 < begun_bytes link run) ⊎ (0 < open_calls opened link run)))))
 IsCause opened link run left ends.LinkRead = IsIdle opened link run
 IsCause opened link run left ends.LinkWrite = ⊤
-IsCause opened link run left (ends.Protocol end) = (server opened link run).ended ≡ Some end
+IsCause opened link run left (ends.Protocol end) = ((server opened link run).ended ≡ Some end) × HasWritten opened link Responder run
 IsCause opened link run left (ends.Budget read) =
     IsIdle opened link run × ((read ≡ read_max) × (length (bytes_received link Responder run) ≡ read_max))
 IsCause opened link run left ends.Memory = ⊤

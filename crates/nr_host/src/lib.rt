@@ -6,6 +6,8 @@ mod connection;
 mod executing;
 mod feeding;
 mod limits;
+mod serving;
 
 pub use conn_end::ConnEnd;
 pub use connection::serve_connection;
+pub use serving::{Ends, Ran, ServeFault, serve};

@@ -1,8 +1,8 @@
 //! One connection with a NULL call, cut and failing at several offsets.
 
 use crate::compare::same;
-use nr_host::serve_connection;
-use nr_links::MemClock;
+use nr_host::{serve, serve_connection};
+use nr_links::{Acceptor, LinkPlan, MemAcceptor, MemClock};
 use nr_nfs_base::{Time, Verifier};
 use nr_outside::{MemSink, MemSource, Moment};
 use nr_plain::Server;
@@ -90,4 +90,49 @@ fn ends_of_connections(rt: HostRuntime) {
     for (row, case) in ROWS.iter().enumerate() {
         ends(&rt, rt.alloc(), row, case);
     }
+}
+
+/// A link over which the client sends its hello and a NULL call.
+fn plan(rt: &impl Abort, alloc: Global) -> LinkPlan {
+    LinkPlan {
+        bytes: bytes(rt, alloc, &SENT, 112),
+        sizes: Vec::new(alloc),
+        failing_reads: Vec::new(alloc),
+        failing_writes: Vec::new(alloc),
+    }
+}
+
+/// Two connections, one after the other, and a third that does not come.
+#[test]
+fn two_connections(rt: HostRuntime) {
+    let alloc = rt.alloc();
+    let mut plans = Vec::new(alloc);
+    plans.push(plan(&rt, alloc)).expect(&rt, "memory");
+    plans.push(plan(&rt, alloc)).expect(&rt, "memory");
+    let mut acceptor = MemAcceptor::new(alloc, plans, Vec::new(alloc));
+    same(&rt, 0, acceptor.listen("here").is_ok(), true);
+    let mut server = server(&rt, alloc);
+    let moments = [Moment {
+        seconds: 1,
+        nanos: 0,
+    }];
+    let mut clock = MemClock::new(&moments);
+    let Ok(ran) = serve(alloc, &mut acceptor, &mut server, &mut clock, 16, 2) else {
+        panic!(rt; "not served")
+    };
+    same(&rt, 1, ran.started, 0);
+    let text = format!(in alloc; "{:?}", ran.ends.as_slice()).expect(&rt, "memory");
+    same(&rt, 2, text.as_str() == "[Closed, Closed]", true);
+    let want = bytes(&rt, alloc, &ANSWERED, 96);
+    for (row, link) in acceptor.ended().iter().enumerate() {
+        same(
+            &rt,
+            3 + row,
+            link.sink.inner().bytes() == want.as_slice(),
+            true,
+        );
+    }
+    same(&rt, 5, acceptor.ended().len(), 2);
+    let none = serve(alloc, &mut acceptor, &mut server, &mut clock, 16, 1);
+    same(&rt, 6, none.is_err(), true);
 }

@@ -11,7 +11,7 @@ pub returns-in-Ok : goal.returns-in-Ok
 returns-in-Ok g c =
     let e = c.in-Ok.ensures.taken in
     record {
-      ends = stop_protocol (g.O.Sink.taken c.args.sink.now) (g.O.Sink.taken c.drain_into-drained.new.sink) c.args.responder.now.side c.drain_into-drained.new.self.side e.0 c.args.end e.1.0
+      ends = stop_protocol (g.O.Sink.taken c.args.sink.now) (g.O.Sink.taken c.drain_into-drained.new.sink) c.args.responder.now.side c.drain_into-drained.new.self.side e.0 c.args.end e.1.0 e.1.1
           c.requires c.in_default.not-Memory;
       counted = c.in-Ok.ensures.counted;
       source = λ count. refl;
