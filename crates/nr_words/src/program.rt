@@ -33,7 +33,7 @@ fn named<'a>(alloc: Global, name: &'a str, about: &'a str) -> Command<'a>
 }
 
 /// A command with one more positional.
-fn with_positional<'a>(
+fn add_positional<'a>(
     alloc: Global,
     command: Command<'a>,
     name: &'a str,
@@ -44,7 +44,7 @@ fn with_positional<'a>(
 }
 
 /// A command with one more option.
-fn with_number<'a>(
+fn add_number<'a>(
     alloc: Global,
     command: Command<'a>,
     name: &'a str,
@@ -59,12 +59,12 @@ fn with_number<'a>(
 fn client<'a>(alloc: Global, name: &'a str, about: &'a str) -> Result<Command<'a>, AllocError>
     ensures { IfOk result (Builds (client_app name.entry.now)) }
 {
-    let command = with_positional(alloc, named(alloc, name, about), "ADDR")?;
-    let command = with_positional(alloc, command, "EXPORT")?;
+    let command = add_positional(alloc, named(alloc, name, about), "ADDR")?;
+    let command = add_positional(alloc, command, "EXPORT")?;
     let uid = ValueParser::Signed(0, ID_MAX as i64);
-    let command = with_number(alloc, command, "uid", uid)?;
+    let command = add_number(alloc, command, "uid", uid)?;
     let gid = ValueParser::Signed(0, ID_MAX as i64);
-    with_number(alloc, command, "gid", gid)
+    add_number(alloc, command, "gid", gid)
 }
 
 /// A command of a client with a PATH.
@@ -72,21 +72,21 @@ fn with_path<'a>(alloc: Global, name: &'a str, about: &'a str) -> Result<Command
     ensures { IfOk result (Builds (path_app name.entry.now)) }
 {
     let command = client(alloc, name, about)?;
-    with_positional(alloc, command, "PATH")
+    add_positional(alloc, command, "PATH")
 }
 
 fn link<'a>(alloc: Global) -> Result<Command<'a>, AllocError>
     ensures { IfOk result (Builds link_app) }
 {
     let command = with_path(alloc, "ln", "Makes a symbolic link")?;
-    with_positional(alloc, command, "TARGET")
+    add_positional(alloc, command, "TARGET")
 }
 
 fn serve<'a>(alloc: Global) -> Result<Command<'a>, AllocError>
     ensures { IfOk result (Builds serve_app) }
 {
     let command = named(alloc, "serve", "Serves a tree in memory");
-    with_positional(alloc, command, "CONFIG")
+    add_positional(alloc, command, "CONFIG")
 }
 
 fn drill<'a>(alloc: Global) -> Result<Command<'a>, AllocError>
@@ -94,11 +94,11 @@ fn drill<'a>(alloc: Global) -> Result<Command<'a>, AllocError>
 {
     let about = "Runs a script from standard input, or one that it generates";
     let seed = ValueParser::Unsigned(0, SEED_MAX);
-    let command = with_number(alloc, named(alloc, "drill", about), "seed", seed)?;
+    let command = add_number(alloc, named(alloc, "drill", about), "seed", seed)?;
     let clients = ValueParser::Signed(1, CLIENTS_MAX as i64);
-    let command = with_number(alloc, command, "clients", clients)?;
+    let command = add_number(alloc, command, "clients", clients)?;
     let calls = ValueParser::Signed(1, CALLS_MAX as i64);
-    with_number(alloc, command, "calls", calls)
+    add_number(alloc, command, "calls", calls)
 }
 
 /// The program itself, without a command.

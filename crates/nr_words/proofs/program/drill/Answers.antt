@@ -5,4 +5,4 @@ pub returns : goal.returns
 returns c =
     let s1 = c.in_ok-command.ensures _ c.named.ensures in
     let s2 = c.in_ok-command-2.ensures _ s1 in
-    IfOk-weaker c.with_number-3.result _ _ (λ more adds. adds _ s2) c.with_number-3.ensures
+    IfOk-weaker c.add_number-3.result _ _ (λ more adds. adds _ s2) c.add_number-3.ensures

@@ -1,6 +1,6 @@
 use Rattle.std.proofs.lemmas.Result.{IfOk-weaker}
 use Rattle.nr_words.proofs.Programs.{one_rule}
-use Rattle.nr_words.proofs.program.with_positional.Goals as goal
+use Rattle.nr_words.proofs.program.add_positional.Goals as goal
 
 pub returns : goal.returns
 returns c = IfOk-weaker c.arg.result _ _ (λ more adds app a. one_rule a c.positional.ensures.rule c.positional.ensures.local adds) c.arg.ensures
