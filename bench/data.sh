@@ -1,12 +1,14 @@
 #!/bin/sh
 # One WRITE and one READ of 32 KiB in form Auto through both sides of a link and the plain server: in microseconds, in copies of 32 KiB of
-# the same run, and, if there is a C compiler, in bytes that are copied and cleared by the C library. Run by hand, at the top of the
-# repository, once `(cd crates/data_bench && rt run -- write 2)` has built the program; or with the program's path as $1.
+# the same run (by processor time, and by cycles if perf is there), and, if there is a C compiler, in bytes that are copied and cleared by
+# the C library. Run by hand, at the top of the repository, once `(cd crates/data_bench && rt run -- write 2)` has built the program; or
+# with the program's path as $1.
 exec python3 - "${1:-crates/data_bench/out/data_bench}" <<'END'
 import os, resource, shutil, subprocess, sys, tempfile
 
 PROGRAM = sys.argv[1]
 FEW, MANY = 1_000, 21_000
+KINDS = ('copy', 'write', 'read')
 
 def seconds(what, rounds):
     """The processor time of a run."""
@@ -15,15 +17,25 @@ def seconds(what, rounds):
     after = resource.getrusage(resource.RUSAGE_CHILDREN)
     return after.ru_utime + after.ru_stime - before.ru_utime - before.ru_stime
 
-def least(times=9):
-    """The microseconds of one round of each kind, beyond the start of the program: the least of several runs, which take turns."""
+def cycles(what, rounds):
+    """The processor cycles of a run outside the kernel, by perf; nothing without it."""
+    if shutil.which('perf') is None:
+        return None
+    done = subprocess.run(['perf', 'stat', '-x,', '-e', 'cycles:u', PROGRAM, what, str(rounds)], capture_output=True, text=True)
+    counts = [line.split(',')[0] for line in done.stderr.splitlines() if ',cycles' in line]
+    return int(counts[0]) if done.returncode == 0 and counts and counts[0].isdigit() else None
+
+def least(measure, times):
+    """What one round of each kind takes, beyond the start of the program: the least of several runs, which take turns."""
     best = {}
     for _ in range(times):
-        for what in ('copy', 'write', 'read'):
+        for what in KINDS:
             for rounds in (FEW, MANY):
-                used = seconds(what, rounds)
+                used = measure(what, rounds)
+                if used is None:
+                    return None
                 best[what, rounds] = min(used, best.get((what, rounds), used))
-    return {what: (best[what, MANY] - best[what, FEW]) / (MANY - FEW) * 1e6 for what in ('copy', 'write', 'read')}
+    return {what: (best[what, MANY] - best[what, FEW]) / (MANY - FEW) for what in KINDS}
 
 # Counts calls and bytes, in pieces of less than 2,048 bytes and in others.
 COUNTER = r'''
@@ -69,11 +81,15 @@ def counts():
             return [int(word) for word in done.stderr.split()]
         return {what: [(many - few) / 100 for few, many in zip(run(what, 10), run(what, 110))] for what in ('write', 'read')}
 
-each = least()
-print(f"copying 32768 bytes: {each['copy']:.2f} microseconds")
+each = {what: used * 1e6 for what, used in least(seconds, 9).items()}
+by_cycles = least(cycles, 5)
 counted = counts()
+print(f"copying 32768 bytes: {each['copy']:.2f} microseconds")
 for what in ('write', 'read'):
-    print(f"a {what.upper()} of 32768 bytes: {each[what]:.2f} microseconds, {each[what] / each['copy']:.1f} copies (target 6)")
+    line = f"a {what.upper()} of 32768 bytes: {each[what]:.2f} microseconds, {each[what] / each['copy']:.1f} copies (target 6)"
+    if by_cycles is not None:
+        line += f"; {by_cycles[what]:.0f} cycles, {by_cycles[what] / by_cycles['copy']:.1f} copies"
+    print(line)
     if what in counted:
         kinds = zip(('small copies', 'large copies', 'small clearings', 'large clearings'), counted[what][::2], counted[what][1::2])
         print('  ' + ', '.join(f'{calls:.0f} {kind} of {size:.0f} bytes' for kind, calls, size in kinds))

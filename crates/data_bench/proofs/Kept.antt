@@ -1,10 +1,10 @@
 -- What a side is known to be after a call of its owner.
-use Rattle.std.proofs.Common.{◌≡◌, ◌≢◌, ℕ, ◌+◌, ◌≤◌, List, [], ◌∷◌, ◌++◌, length, Option, None, Some, refl, sym, ap, subst, arith}
-use Rattle.std.specs.Prelude.{IfSome}
+use Rattle.std.proofs.Common.{◌≡◌, ◌≢◌, ℕ, ◌+◌, ◌≤◌, ◌-◌, ◌^◌, List, [], ◌∷◌, ◌++◌, length, Option, None, Some, Result, Ok, Err, refl, sym, ap, subst, arith}
+use Rattle.std.specs.Prelude.{IfSome, OnOk, OnErr}
 use Rattle.std.proofs.lemmas.List.Elements.{All-nil, All-cons}
 use Rattle.nr_regions.specs.declared.right.Right.{Right}
 use Rattle.nr_regions.specs.declared.right.Right.TheVariants.{Fetch, Fill}
-use Rattle.nr_regions.specs.RegisteredMemory.{Claim, IsHeld}
+use Rattle.nr_regions.specs.RegisteredMemory.{RegisteredMemory, Claim, IsHeld}
 use Rattle.nr_endpoint.specs.declared.offering.Offered.{Offered}
 use Rattle.nr_endpoint.specs.declared.framing.RemoteWrite.{RemoteWrite}
 use Rattle.nr_endpoint.specs.FedBytes.{fed_bytes}
@@ -15,9 +15,9 @@ use Rattle.nr_endpoint.specs.Calls.Call.{Feed, FeedOne, NextEvent, Post, Stop, O
 use Rattle.nr_endpoint.proofs.FedBytes.{fed_within, send_fed, write_fed_lem, read_fed, event_fed, post_fed, drain_fed}
 use Rattle.nr_endpoint.proofs.ClaimLaws.{claims_stay_lem}
 
--- a side that was fed at most this many bytes, and holds this region
-abbrev pub SoundAt : LinkSide → ℕ → Option Claim → Type 0
-SoundAt l fed claim = (fed_bytes l ≤ fed) × IfSome claim (IsHeld l.state.memory)
+-- a side that was fed at most this many bytes, if that is known, and holds this region
+abbrev pub SoundAt : LinkSide → Option ℕ → Option Claim → Type 0
+SoundAt l fed claim = IfSome fed (λ n. fed_bytes l ≤ n) × IfSome claim (IsHeld l.state.memory)
 
 -- a call that feeds nothing, doesn't end the side, and releases nothing
 abbrev pub IsQuiet : Call → Type 0
@@ -65,30 +65,45 @@ input_kept l (Drain count) quiet = drain_fed l count
 input_kept l (Register buf right) quiet = refl
 input_kept l (Release stag) quiet = absurd quiet
 
-after_quiet : (l : LinkSide) (fed : ℕ) (claim : Option Claim) (call : Call) → IsQuiet call → SoundAt l fed claim → SoundAt (after_call l call) fed claim
-after_quiet l fed claim call quiet s =
-    (omega (arith, input_kept l call quiet, s.0), held_kept l claim call (λ stag e. subst IsQuiet e quiet) s.1)
+fed_kept : (l m : LinkSide) (fed : Option ℕ) → fed_bytes m ≡ fed_bytes l → IfSome fed (λ n. fed_bytes l ≤ n) → IfSome fed (λ n. fed_bytes m ≤ n)
+fed_kept l m None same le = tt
+fed_kept l m (Some n) same le = omega (arith, same, le)
 
-pub kept : (l m : LinkSide) (fed : ℕ) (claim : Option Claim) (call : Call) → IsQuiet call → m ≡ after_call l call → SoundAt l fed claim → SoundAt m fed claim
+after_quiet : (l : LinkSide) (fed : Option ℕ) (claim : Option Claim) (call : Call) → IsQuiet call → SoundAt l fed claim → SoundAt (after_call l call) fed claim
+after_quiet l fed claim call quiet s =
+    (fed_kept l (after_call l call) fed (input_kept l call quiet) s.0, held_kept l claim call (λ stag e. subst IsQuiet e quiet) s.1)
+
+pub kept : (l m : LinkSide) (fed : Option ℕ) (claim : Option Claim) (call : Call) → IsQuiet call → m ≡ after_call l call → SoundAt l fed claim → SoundAt m fed claim
 kept l m fed claim call quiet is s = subst (λ (x : LinkSide). SoundAt x fed claim) (sym is) (after_quiet l fed claim call quiet s)
 
-pub fed : (l m : LinkSide) (count : ℕ) (claim : Option Claim) (piece : List ℕ) → m ≡ after_call l (Feed piece) → SoundAt l count claim → SoundAt m (count + length piece) claim
-fed l m count claim piece is s =
-    subst (λ (x : LinkSide). SoundAt x (count + length piece) claim) (sym is)
-    (omega (arith, fed_within l piece, s.0), held_kept l claim (Feed piece) (λ stag e. subst IsNoRelease e tt) s.1)
+pub fed : (l m : LinkSide) (old : Option ℕ) (count : ℕ) (claim : Option Claim) (piece : List ℕ) → m ≡ after_call l (Feed piece) → old ≡ Some (count - length piece)
+    → length piece ≤ count → SoundAt l old claim → SoundAt m (Some count) claim
+fed l m old count claim piece is some le s =
+    let before : fed_bytes l ≤ count - length piece = subst (λ (x : Option ℕ). IfSome x (λ n. fed_bytes l ≤ n)) some s.0 in
+    subst (λ (x : LinkSide). SoundAt x (Some count) claim) (sym is)
+    (omega (arith, fed_within l piece, before, le), held_kept l claim (Feed piece) (λ stag e. subst IsNoRelease e tt) s.1)
 
-pub released : (l m : LinkSide) (count stag : ℕ) → m ≡ after_call l (Release stag) → fed_bytes l ≤ count → fed_bytes m ≤ count
+-- one that may be fed, may take the piece
+pub may_feed : (l : LinkSide) (old : Option ℕ) (count len : ℕ) → old ≡ Some (count - len) → len ≤ count → count ≤ 2 ^ 62 → IfSome old (λ n. fed_bytes l ≤ n) → fed_bytes l + len ≤ 2 ^ 62
+may_feed l old count len some le most s =
+    let before : fed_bytes l ≤ count - len = subst (λ (x : Option ℕ). IfSome x (λ n. fed_bytes l ≤ n)) some s in
+    omega (arith, before, le, most)
+
+pub released : (l m : LinkSide) (fed : Option ℕ) (stag : ℕ) → m ≡ after_call l (Release stag) → IfSome fed (λ n. fed_bytes l ≤ n) → IfSome fed (λ n. fed_bytes m ≤ n)
 unfolding after_call
-released l m count stag is le = omega (arith, le, ap fed_bytes is)
+released l m fed stag is le = fed_kept l m fed (ap fed_bytes is) le
+
+pub none_held : (claim : Option Claim) (m : RegisteredMemory) → claim ≡ None → IfSome claim (IsHeld m)
+none_held claim m e = subst (λ (c : Option Claim). IfSome c (IsHeld m)) (sym e) tt
 
 -- ---- Several calls
 
-after_all : (l : LinkSide) (fed : ℕ) (claim : Option Claim) (calls : List Call) → AreQuiet calls → SoundAt l fed claim → SoundAt (after_calls l calls) fed claim
+after_all : (l : LinkSide) (fed : Option ℕ) (claim : Option Claim) (calls : List Call) → AreQuiet calls → SoundAt l fed claim → SoundAt (after_calls l calls) fed claim
 unfolding after_calls
 after_all l fed claim [] quiet s = s
 after_all l fed claim (call ∷ calls) quiet s = after_all (after_call l call) fed claim calls quiet.1 (after_quiet l fed claim call quiet.0 s)
 
-kept_all : (l m : LinkSide) (fed : ℕ) (claim : Option Claim) (calls : List Call) → AreQuiet calls → m ≡ after_calls l calls → SoundAt l fed claim → SoundAt m fed claim
+kept_all : (l m : LinkSide) (fed : Option ℕ) (claim : Option Claim) (calls : List Call) → AreQuiet calls → m ≡ after_calls l calls → SoundAt l fed claim → SoundAt m fed claim
 kept_all l m fed claim calls quiet is s = subst (λ (x : LinkSide). SoundAt x fed claim) (sym is) (after_all l fed claim calls quiet s)
 
 register_quiet : (right : Right) (buf : Option (List ℕ)) (calls : List Call) → AreQuiet calls → AreQuiet (register_call right buf ++ calls)
@@ -103,12 +118,24 @@ answer_quiet : (writes : List RemoteWrite) (message : List ℕ) → AreQuiet (an
 answer_quiet [] message = (tt, tt)
 answer_quiet (write ∷ writes) message = (tt, answer_quiet writes message)
 
-pub offered : (l m : LinkSide) (fed : ℕ) (claim : Option Claim) (message : List ℕ) (o : Offered) → m ≡ after_calls l (offer_calls message o) → SoundAt l fed claim → SoundAt m fed claim
+-- what a call leaves, whether it does all of them or nothing
+all_or_none : {T E : Type 0} (r : Result T E) (l m : LinkSide) (fed : Option ℕ) (claim : Option Claim) (calls : List Call) → AreQuiet calls →
+    OnOk r (m ≡ after_calls l calls) → OnErr r (m ≡ l) → SoundAt l fed claim → SoundAt m fed claim
+all_or_none (Ok x) l m fed claim calls quiet ok err s = kept_all l m fed claim calls quiet ok s
+all_or_none (Err e) l m fed claim calls quiet ok err s = subst (λ (x : LinkSide). SoundAt x fed claim) (sym err) s
+
+pub one_or_none : {T E : Type 0} (r : Result T E) (l m : LinkSide) (fed : Option ℕ) (claim : Option Claim) (call : Call) → IsQuiet call →
+    OnOk r (m ≡ after_call l call) → OnErr r (m ≡ l) → SoundAt l fed claim → SoundAt m fed claim
+one_or_none (Ok x) l m fed claim call quiet ok err s = kept l m fed claim call quiet ok s
+one_or_none (Err e) l m fed claim call quiet ok err s = subst (λ (x : LinkSide). SoundAt x fed claim) (sym err) s
+
+pub offered : (l m : LinkSide) (fed : Option ℕ) (claim : Option Claim) (message : List ℕ) (o : Offered) → m ≡ after_calls l (offer_calls message o) → SoundAt l fed claim → SoundAt m fed claim
 offered l m fed claim message o =
     kept_all l m fed claim (offer_calls message o) (tt, register_quiet Fetch o.read _ (register_quiet Fill o.write _ (last_quiet Fill o.reply)))
 
-pub answered : (l m : LinkSide) (fed : ℕ) (claim : Option Claim) (writes : List RemoteWrite) (message : List ℕ) → m ≡ after_calls l (answer_calls writes message) → SoundAt l fed claim → SoundAt m fed claim
-answered l m fed claim writes message = kept_all l m fed claim (answer_calls writes message) (answer_quiet writes message)
+pub answered : {T E : Type 0} (r : Result T E) (l m : LinkSide) (fed : Option ℕ) (claim : Option Claim) (writes : List RemoteWrite) (message : List ℕ) →
+    OnOk r (m ≡ after_calls l (answer_calls writes message)) → OnErr r (m ≡ l) → SoundAt l fed claim → SoundAt m fed claim
+answered r l m fed claim writes message = all_or_none r l m fed claim (answer_calls writes message) (answer_quiet writes message)
 
 one_most : (buf : Option (List ℕ)) → one_of buf ≤ 1
 one_most None = omega arith
@@ -116,9 +143,3 @@ one_most (Some buf) = omega arith
 
 pub three_most : (o : Offered) → offered_count o ≤ 3
 three_most o = omega (arith, one_most o.read, one_most o.write, one_most o.reply)
-
--- ---- Whatever an answer is
-
-pub in_any : {A : Type 0} (o : Option A) (P : Type 0) → P → IfSome o (λ x. P)
-in_any None P p = tt
-in_any (Some x) P p = p

@@ -1,8 +1,8 @@
 //! What a client does for a call.
 
 ghost use Rattle.std.specs.Prelude.{◌≡◌, ◌^◌, ◌<◌, length, All, IfSome};
+ghost use Rattle.nr_rpc.specs.Call.{call_head, call_of_target};
 ghost use Rattle.nr_rpc.specs.Credential.{CanWriteCred};
-ghost use Rattle.data_bench.specs.Sound.{IsSound};
 
 use crate::peer::Peer;
 use nr_endpoint::Offered;
@@ -12,7 +12,7 @@ use nr_header::{
 use nr_link::constants::SEND_MAX;
 use nr_nfs_base::{NFS_PROGRAM, NFS_VERSION};
 use nr_reduce::{
-    Form, Of, Outline, ReadOutline, outline_of, rebuild_item, reply_item_of, reply_parts,
+    Form, Of, Outline, ReadOutline, outline_of, rebuild_item_into, reply_item_of, reply_parts,
     written_parts,
 };
 use nr_rpc::{CallTarget, Cred, write_call_head};
@@ -56,50 +56,66 @@ fn with_lists(alloc: Global, xid: u32, read: &[ReadSegment], write: &[Chunk]) ->
     write_with_slices(alloc, xid, 1, false, ListSlices::new(read, write, &None)).ok()
 }
 
-/// The header of a call whose region gets this STag.
+/// The header of a call whose region gets this STag: it has a read chunk or a write chunk.
 fn header(alloc: Global, xid: u32, stag: u32, outline: &Outline<'_>) -> Option<Octets> {
     if let Some(read) = outline.read {
         return with_lists(alloc, xid, &[entry(stag, read)], &[]);
     }
-    match write_len(outline) {
-        Some(len) => with_lists(alloc, xid, &[], &[chunk(alloc, stag, len)?]),
-        None => with_lists(alloc, xid, &[], &[]),
+    let chunk = chunk(alloc, stag, write_len(outline)?)?;
+    with_lists(alloc, xid, &[], &[chunk])
+}
+
+/// A buffer that the server may read.
+fn to_read(region: Octets) -> Offered {
+    Offered {
+        read: Some(region),
+        write: None,
+        reply: None,
     }
 }
 
-/// The bytes of the read chunk.
-fn read_region(
+/// A buffer that the server may fill by a write chunk.
+fn to_fill(region: Octets) -> Offered {
+    Offered {
+        read: None,
+        write: Some(region),
+        reply: None,
+    }
+}
+
+/// The buffer of a call's region: the bytes of the read chunk, or room for those of the write chunk.
+fn offered(
+    client: &mut Peer,
     alloc: Global,
     outline: &Outline<'_>,
     head: &[u8],
     args: &[u8],
-) -> Option<Option<Octets>> {
-    match outline.read {
-        Some(_) => Some(Some(outline.region(alloc, head, args).ok()?)),
-        None => Some(None),
+) -> Option<Offered> {
+    if outline.read.is_some() {
+        return match outline.region(alloc, head, args) {
+            Ok(region) => Some(to_read(region)),
+            Err(_) => None,
+        };
+    }
+    match client.room(alloc, write_len(outline)? as usize) {
+        Some(region) => Some(to_fill(region)),
+        None => None,
     }
 }
 
-/// A buffer for the write chunk.
-fn write_region(alloc: Global, outline: &Outline<'_>) -> Option<Option<Octets>> {
-    match write_len(outline) {
-        Some(len) => {
-            let zeros = vec![in alloc; 0u8; len as usize].ok()?;
-            Some(Some(Octets::from_vec(zeros)))
-        }
-        None => Some(None),
+/// The header of a call whose region gets this STag, and after it some bytes of the stream.
+fn front(
+    alloc: Global,
+    xid: u32,
+    stag: u32,
+    outline: &Outline<'_>,
+    first: &[u8],
+) -> Option<Octets> {
+    let mut front = header(alloc, xid, stag, outline)?;
+    match front.extend_from_slice(first) {
+        Ok(()) => Some(front),
+        Err(_) => None,
     }
-}
-
-/// The buffers of both chunks.
-fn offered(alloc: Global, outline: &Outline<'_>, head: &[u8], args: &[u8]) -> Option<Offered> {
-    let read = read_region(alloc, outline, head, args)?;
-    let write = write_region(alloc, outline)?;
-    Some(Offered {
-        read,
-        write,
-        reply: None,
-    })
 }
 
 /// Sends a call by its outline.
@@ -110,46 +126,35 @@ fn send(
     outline: &Outline<'_>,
     head: &[u8],
     args: &[u8],
-) -> Option<()>
-    requires { IsSound client.old }
-    ensures { IfSome result (λ _. IsSound client.new) }
-{
-    let mut front = header(alloc, xid, client.next_stag()?, outline)?;
+) -> Option<()> {
+    let stag = client.next_stag()?;
     let (first, second) = outline.inline(head, args);
-    front.extend_from_slice(first).ok()?;
-    client.offer(
-        front.as_slice(),
-        second,
-        offered(alloc, outline, head, args)?,
-    )
+    let front = front(alloc, xid, stag, outline, first)?;
+    match offered(client, alloc, outline, head, args) {
+        Some(offered) => client.offer(front.as_slice(), second, offered),
+        None => None,
+    }
 }
 
-/// Sends a call with this credential and these arguments, in a form.
-fn ask_as(
+/// Sends a call whose head is written, in form Auto.
+fn ask_with(
     client: &mut Peer,
     alloc: Global,
     target: CallTarget,
     cred: &Cred,
-    form: &Form,
+    head: &[u8],
     args: &[u8],
 ) -> Option<()>
-    requires client { IsSound client.old }
     requires cred { CanWriteCred cred.now }
-    ensures { IfSome result (λ _. IsSound client.new) }
+    requires head { head.now ≡ call_head (call_of_target target cred.now) }
 {
-    let Ok(head) = write_call_head(alloc, target, cred) else {
-        return None;
-    };
-    let parts = written_parts(target, cred, head.as_slice(), args);
-    let outline = outline_of(parts, form, SEND_MAX, SEND_MAX).ok()?;
-    send(client, alloc, target.xid, &outline, head.as_slice(), args)
+    let parts = written_parts(target, cred, head, args);
+    let outline = outline_of(parts, &Form::Auto, SEND_MAX, SEND_MAX).ok()?;
+    send(client, alloc, target.xid, &outline, head, args)
 }
 
 /// Sends a call of a procedure of NFS with these arguments, in form Auto.
-pub fn ask(client: &mut Peer, alloc: Global, xid: u32, proc: u32, args: &[u8]) -> Option<()>
-    requires { IsSound client.old }
-    ensures { IfSome result (λ _. IsSound client.new) }
-{
+pub fn ask(client: &mut Peer, alloc: Global, xid: u32, proc: u32, args: &[u8]) -> Option<()> {
     let target = CallTarget {
         xid,
         prog: NFS_PROGRAM,
@@ -157,7 +162,9 @@ pub fn ask(client: &mut Peer, alloc: Global, xid: u32, proc: u32, args: &[u8]) -
         proc,
         args_at: 0,
     };
-    ask_as(client, alloc, target, &Cred::None, &Form::Auto, args)
+    let cred = Cred::None;
+    let head = write_call_head(alloc, target, &cred).ok()?;
+    ask_with(client, alloc, target, &cred, head.as_slice(), args)
 }
 
 /// The stream of a message with this body.
@@ -170,35 +177,48 @@ fn stream_of<'a>(body: &Body, message: &'a [u8]) -> Option<&'a [u8]> {
 
 /// The stream of a message.
 fn stream(message: &[u8]) -> Option<&[u8]> {
-    match &read_header(message) {
-        Ok(header) => stream_of(&header.body, message),
-        Err(_) => None,
-    }
+    let Ok(header) = read_header(message) else {
+        return None;
+    };
+    let stream = stream_of(&header.body, message);
+    drop(header);
+    stream
 }
 
-/// The payload of a reply, whose item stands in the region if it has one.
-fn payload(alloc: Global, proc: u32, message: &[u8], region: &[u8]) -> Option<Octets> {
-    let stream = stream(message)?;
+/// Puts the payload of a reply, whose item stands in the region if it has one, into a room, and gives its length.
+fn payload(room: &mut Octets, proc: u32, stream: &[u8], region: &[u8]) -> Option<usize> {
+    let parts = reply_parts(stream)?;
+    let item = reply_item_of(NFS_PROGRAM, NFS_VERSION, proc, parts);
+    let moved = match item {
+        Some(item) => region.get(..item.len as usize)?,
+        None => &[],
+    };
+    if stream.len() > room.len() || moved.len() + 3 > room.len() - stream.len() {
+        return None;
+    }
+    let Some(found) = item else {
+        room.overwrite(0, stream);
+        return Some(stream.len());
+    };
     let of = Of::Reply {
         prog: NFS_PROGRAM,
         vers: NFS_VERSION,
         proc,
     };
-    let parts = reply_parts(stream)?;
-    let Some(item) = reply_item_of(NFS_PROGRAM, NFS_VERSION, proc, parts) else {
-        return Octets::from_slice(alloc, stream).ok();
-    };
-    let moved = region.get(..item.len as usize)?;
-    let pos = u32::try_from(item.pos).ok()?;
-    rebuild_item(alloc, &of, Some(item), stream, pos, moved).ok()
+    let pos = u32::try_from(found.pos).ok()?;
+    rebuild_item_into(room, &of, item, stream, pos, moved).ok()
 }
 
-/// The payload of the reply.
-pub fn take_reply(client: &mut Peer, alloc: Global, proc: u32) -> Option<Octets>
-    requires { IsSound client.old }
-    ensures { IfSome result (λ _. IsSound client.new) }
-{
-    let message = client.next(alloc)?;
+/// Puts the payload of the reply into a room, and gives its length.
+pub fn take_reply(
+    client: &mut Peer,
+    proc: u32,
+    message: &mut Vec<u8>,
+    room: &mut Octets,
+) -> Option<usize> {
+    client.next(message)?;
     let region = client.take_back()?;
-    payload(alloc, proc, message.as_slice(), region.as_slice())
+    let len = payload(room, proc, stream(message.as_slice())?, region.as_slice());
+    client.keep(region);
+    len
 }

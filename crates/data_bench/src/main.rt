@@ -3,9 +3,6 @@
 //! arguments are `write` or `read`, or `copy` for copies of 32 KiB alone, and their number.
 #![tactic(auto)]
 
-ghost use Rattle.std.specs.Prelude.{IfSome};
-ghost use Rattle.data_bench.specs.Sound.{AreSound};
-
 mod client;
 mod link;
 mod peer;
@@ -13,6 +10,7 @@ mod server;
 
 use client::{ask, take_reply};
 use link::Link;
+use nr_link::constants::SEND_MAX;
 use nr_nfs_base::Verifier;
 use nr_plain::Server;
 use nr_tree::Tree;
@@ -24,6 +22,12 @@ use std::process::ExitCode;
 
 /// How many bytes are written or read.
 const SIZE: usize = 32_768;
+
+/// More than the payload of a reply has.
+const REPLY_MAX: usize = 34_816;
+
+/// The offset of the data in the reply to a READ.
+const DATA_AT: usize = 128;
 
 /// The numbers of READ and WRITE (RFC 1813 sections 3.3.6, 3.3.7).
 const READ: u32 = 6;
@@ -41,7 +45,7 @@ static WRITE_HEAD: [u8; 32] = [
     128, 0,
 ];
 
-/// What is called: a procedure, its arguments, and the offset of the count of bytes in its reply.
+/// What is called: a procedure, its arguments, and where its reply has the count of bytes.
 #[derive(Clone, Copy)]
 struct Work<'a> {
     proc: u32,
@@ -58,27 +62,37 @@ fn write_args(alloc: Global, data: &[u8]) -> Option<Octets> {
 
 /// A server of the drill's tree.
 fn plain(alloc: Global) -> Result<Server, Memory> {
-    let tree = Tree::drill(alloc)?;
     let export = Octets::from_slice(alloc, b"/")?;
+    let tree = Tree::drill(alloc)?;
     Ok(Server::open(tree, 1 << 62, Verifier { number: 1 }, export))
 }
 
-/// Calls, and gives the payload of the reply.
+/// The message that came last, and room for the payload of a reply.
+#[derive(Drop)]
+struct Rooms {
+    message: Vec<u8>,
+    reply: Octets,
+}
+
+/// Calls, puts the payload of the reply into its room, and gives its length.
 fn call(
     alloc: Global,
     link: &mut Link,
     plain: &mut Server,
+    rooms: &mut Rooms,
     xid: u32,
     work: Work<'_>,
-) -> Option<Octets>
-    requires { AreSound link.old }
-    ensures { IfSome result (λ _. AreSound link.new) }
-{
+) -> Option<usize> {
     ask(&mut link.client, alloc, xid, work.proc, work.args)?;
     link.up()?;
-    serve(alloc, link, plain)?;
+    serve(alloc, link, plain, &mut rooms.message)?;
     link.down()?;
-    take_reply(&mut link.client, alloc, work.proc)
+    take_reply(
+        &mut link.client,
+        work.proc,
+        &mut rooms.message,
+        &mut rooms.reply,
+    )
 }
 
 fn word(bytes: &[u8], at: usize) -> Option<u32> {
@@ -96,41 +110,21 @@ fn confirmed(reply: &[u8], at: usize) -> Option<u64> {
     Some(u64::from(word(reply, at)?))
 }
 
-/// Calls this number of times, and gives how many bytes are confirmed.
+/// Calls so many times, and gives how many bytes are confirmed.
 fn call_all(
     alloc: Global,
     link: &mut Link,
     plain: &mut Server,
+    rooms: &mut Rooms,
     work: Work<'_>,
     rounds: u32,
-) -> Option<u64>
-    requires { AreSound link.old }
-    ensures { IfSome result (λ _. AreSound link.new) }
-{
+) -> Option<u64> {
     let mut total: u64 = 0;
     for xid in 0..rounds {
-        let reply = call(alloc, link, plain, xid, work)?;
-        total = total.saturating_add(confirmed(reply.as_slice(), work.count_at)?);
+        let _ = call(alloc, link, plain, rooms, xid, work)?;
+        total = total.saturating_add(confirmed(rooms.reply.as_slice(), work.count_at)?);
     }
     Some(total)
-}
-
-/// Whether the reply to a READ ends with this data.
-fn is_data(reply: &[u8], data: &[u8]) -> bool {
-    match reply.get(128..) {
-        Some(found) => found == data,
-        None => false,
-    }
-}
-
-/// Whether a READ gives this data.
-fn reads(alloc: Global, link: &mut Link, plain: &mut Server, work: Work<'_>, data: &[u8]) -> bool
-    requires { AreSound link.old }
-{
-    match call(alloc, link, plain, u32::MAX, work) {
-        Some(reply) => is_data(reply.as_slice(), data),
-        None => false,
-    }
 }
 
 /// What is measured: WRITEs or READs, how many, and the data.
@@ -141,16 +135,46 @@ struct Task<'a> {
     data: &'a [u8],
 }
 
-/// Writes, then works this number of times, and reads what was written.
+/// Lets the sides greet each other, and writes.
+fn written(
+    alloc: Global,
+    link: &mut Link,
+    plain: &mut Server,
+    rooms: &mut Rooms,
+    write: Work<'_>,
+) -> Option<usize> {
+    link.up()?;
+    link.down()?;
+    call(alloc, link, plain, rooms, u32::MAX, write)
+}
+
+/// Whether a READ gives this data, which its reply has at the end.
+fn reads(
+    alloc: Global,
+    link: &mut Link,
+    plain: &mut Server,
+    rooms: &mut Rooms,
+    read: Work<'_>,
+    data: &[u8],
+) -> bool {
+    let Some(len) = call(alloc, link, plain, rooms, u32::MAX, read) else {
+        return false;
+    };
+    match rooms.reply.as_slice().get(DATA_AT..len) {
+        Some(found) => found == data,
+        None => false,
+    }
+}
+
+/// Writes, then works so many times, and reads what was written.
 fn worked(
     alloc: Global,
     link: &mut Link,
     plain: &mut Server,
+    rooms: &mut Rooms,
     task: Task<'_>,
     args: &[u8],
-) -> Option<u64>
-    requires { AreSound link.old }
-{
+) -> Option<u64> {
     // WRITE's count stands after the attributes of before and after, READ's after those alone.
     let write = Work {
         proc: WRITE,
@@ -162,41 +186,57 @@ fn worked(
         args: &READ_ARGS,
         count_at: 116,
     };
-    let _ = call(alloc, link, plain, u32::MAX, write)?;
+    let _ = written(alloc, link, plain, rooms, write)?;
     let work = if task.is_write { write } else { read };
-    let total = call_all(alloc, link, plain, work, task.rounds)?;
-    if reads(alloc, link, plain, read, task.data) {
+    let total = call_all(alloc, link, plain, rooms, work, task.rounds)?;
+    if reads(alloc, link, plain, rooms, read, task.data) {
         Some(total)
     } else {
         None
     }
 }
 
-/// Lets the sides greet each other, and works.
-fn served(alloc: Global, link: &mut Link, plain: &mut Server, task: Task<'_>) -> Option<u64>
-    requires { AreSound link.old }
-{
-    link.up()?;
-    link.down()?;
-    let args = write_args(alloc, task.data)?;
-    worked(alloc, link, plain, task, args.as_slice())
+/// Works over a link.
+fn linked(
+    alloc: Global,
+    plain: &mut Server,
+    rooms: &mut Rooms,
+    task: Task<'_>,
+    args: &[u8],
+) -> Option<u64> {
+    let mut link = Link::open(alloc)?;
+    let total = worked(alloc, &mut link, plain, rooms, task, args);
+    drop(link);
+    total
 }
 
 /// Works with a server.
-fn linked(alloc: Global, link: &mut Link, task: Task<'_>) -> Option<u64>
-    requires { AreSound link.old }
-{
+fn served(alloc: Global, rooms: &mut Rooms, task: Task<'_>, args: &[u8]) -> Option<u64> {
     let mut plain = plain(alloc).ok()?;
-    let total = served(alloc, link, &mut plain, task);
+    let total = linked(alloc, &mut plain, rooms, task, args);
     drop(plain);
     total
 }
 
-/// Works over a link.
-fn measured(alloc: Global, task: Task<'_>) -> Option<u64> {
-    let mut link = Link::open(alloc)?;
-    let total = linked(alloc, &mut link, task);
-    drop(link);
+impl Rooms {
+    /// Room for any message and reply.
+    fn open(alloc: Global) -> Option<Rooms> {
+        let message = Vec::with_capacity(alloc, SEND_MAX as usize).ok()?;
+        match vec![in alloc; 0u8; REPLY_MAX] {
+            Ok(reply) => Some(Rooms {
+                message,
+                reply: Octets::from_vec(reply),
+            }),
+            Err(_) => None,
+        }
+    }
+}
+
+/// Works with the arguments of a WRITE.
+fn measured(alloc: Global, task: Task<'_>, args: &[u8]) -> Option<u64> {
+    let mut rooms = Rooms::open(alloc)?;
+    let total = served(alloc, &mut rooms, task, args);
+    drop(rooms);
     total
 }
 
@@ -234,7 +274,8 @@ fn total(alloc: Global, what: &str, rounds: u32) -> Option<u64> {
         rounds,
         data: data.as_slice(),
     };
-    measured(alloc, task)
+    let args = write_args(alloc, task.data)?;
+    measured(alloc, task, args.as_slice())
 }
 
 fn number(word: Option<String>) -> Option<u32> {

@@ -1,9 +1,10 @@
 //! What a server does for a call.
 
-ghost use Rattle.std.specs.Prelude.{◌≤◌, length, IfSome};
+ghost use Rattle.std.specs.Prelude.{◌≡◌, IfSome};
 ghost use Rattle.nr_header.specs.WithinLimits.{ListsWithin, CanRead, stream_after};
+ghost use Rattle.nr_reduce.specs.Items.{item_of};
+ghost use Rattle.nr_reduce.specs.declared.item.Of.TheVariants.{Call};
 ghost use Rattle.nr_endpoint.specs.Offering.{FitsRegion};
-ghost use Rattle.data_bench.specs.Sound.{IsSound, AreSound};
 
 use crate::link::Link;
 use crate::peer::Peer;
@@ -13,7 +14,8 @@ use nr_link::constants::SEND_MAX;
 use nr_outside::Moment;
 use nr_plain::Server;
 use nr_reduce::{
-    Answer, Item, answer_for, answer_header, call_item_of, call_parts, is_read_chunk_of,
+    Answer, Item, Of, answer_for, answer_header, call_item_of, call_parts, is_read_chunk_of,
+    rebuild_in_place,
 };
 use nr_rpc::CallTarget;
 use nr_xdr::Octets;
@@ -24,65 +26,68 @@ const NOW: Moment = Moment {
     nanos: 0,
 };
 
-/// Fills a buffer with the stream and room for the bytes of its item.
-fn fill(room: &mut Vec<u8>, stream: &[u8], pos: usize, len: u32) -> Option<()>
-    requires { pos ≤ length stream.now }
-{
-    let (front, rest) = stream.split_at(pos);
-    room.extend_from_slice(front).ok()?;
-    room.resize(pos + len as usize, 0).ok()?;
-    room.extend_from_slice(rest).ok()
-}
+/// The most bytes of a pad.
+const PAD_MAX: usize = 3;
 
-/// The stream with room for the bytes of its item.
-fn room(alloc: Global, stream: &[u8], pos: usize, len: u32) -> Option<Octets>
-    requires { pos ≤ length stream.now }
-{
-    let mut room = Vec::with_capacity(alloc, stream.len() + len as usize).ok()?;
-    fill(&mut room, stream, pos, len)?;
-    Some(Octets::from_vec(room))
-}
-
-/// The payload of a call with a read chunk of one segment: its bytes are placed at their offset.
+/// A buffer in which the bytes of a read chunk were placed where they belong, with room for a stream of this length around them.
 fn fetched(
     alloc: Global,
     link: &mut Link,
-    stream: &[u8],
-    pos: usize,
+    stream_len: usize,
     segment: ReadSegment,
-) -> Option<Octets>
-    requires { AreSound link.old }
-    ensures { IfSome result (λ _. AreSound link.new) }
-{
-    if pos > stream.len() {
-        return None;
-    }
-    let room = room(alloc, stream, pos, segment.length)?;
-    link.server.read(room, pos, segment)?;
+) -> Option<Octets> {
+    let len = (segment.length as usize)
+        .checked_add(stream_len)?
+        .checked_add(PAD_MAX)?;
+    let room = link.server.room(alloc, len)?;
+    link.server.read(room, segment.position as usize, segment)?;
     link.down()?;
     link.up()?;
-    let _ = link.server.next(alloc)?;
+    link.server.read_done()?;
     link.server.take_back()
 }
 
-/// The payload of a call.
-fn payload(
-    alloc: Global,
-    link: &mut Link,
-    stream: &[u8],
+/// Completes the payload of a call around the bytes of its read chunk, and gives its length.
+fn completed(
+    room: &mut Octets,
     item: Option<Item>,
-    read: &[ReadSegment],
-) -> Option<Octets>
-    requires { AreSound link.old }
-    ensures { IfSome result (λ _. AreSound link.new) }
+    stream: &[u8],
+    segment: ReadSegment,
+) -> Option<usize>
+    requires { item ≡ item_of Call stream.now }
 {
-    if !is_read_chunk_of(item, read) {
+    let (pos, len) = (segment.position as usize, segment.length as usize);
+    let left = room.len().checked_sub(len)?;
+    if pos > left || left < PAD_MAX || stream.len() > left - PAD_MAX {
         return None;
     }
-    match read {
-        [] => Octets::from_slice(alloc, stream).ok(),
-        [segment, ..] => fetched(alloc, link, stream, segment.position as usize, *segment),
-    }
+    rebuild_in_place(room, &Of::Call, item, stream, segment.position, len).ok()
+}
+
+/// Executes the call whose payload these first bytes of a buffer are, and gives the payload of its reply.
+fn executed(alloc: Global, plain: &mut Server, room: &[u8], len: usize) -> Option<Octets> {
+    let payload = room.get(..len)?;
+    Some(plain.execute(alloc, NOW, payload).ok()?.payload)
+}
+
+/// Executes a call with a read chunk of one segment.
+fn executed_fetched(
+    alloc: Global,
+    link: &mut Link,
+    plain: &mut Server,
+    item: Option<Item>,
+    stream: &[u8],
+    segment: ReadSegment,
+) -> Option<Octets>
+    requires { item ≡ item_of Call stream.now }
+{
+    let mut room = fetched(alloc, link, stream.len(), segment)?;
+    let reply = match completed(&mut room, item, stream, segment) {
+        Some(len) => executed(alloc, plain, room.as_slice(), len),
+        None => None,
+    };
+    link.server.keep(room);
+    reply
 }
 
 /// The RDMA Write of what moves, if a write chunk is offered.
@@ -100,19 +105,12 @@ fn write_of<'a>(lists: &ChunkLists, moved: &'a [u8]) -> Option<RemoteWrite<'a>>
     })
 }
 
-/// What of an answer goes inline.
-fn inline(answer: Answer<'_>) -> &[u8] {
-    if answer.long { &[] } else { answer.stream }
-}
-
 /// Sends what moves, if a write chunk is offered, and a message.
-fn send(server: &mut Peer, lists: &ChunkLists, answer: Answer<'_>, header: &[u8]) -> Option<()>
-    requires { IsSound server.old }
-    ensures { IfSome result (λ _. IsSound server.new) }
-{
+fn send(server: &mut Peer, lists: &ChunkLists, answer: Answer<'_>, header: &[u8]) -> Option<()> {
+    let inline: &[u8] = if answer.long { &[] } else { answer.stream };
     match write_of(lists, answer.moved) {
-        Some(write) => server.answer(&[write], header, inline(answer)),
-        None => server.answer(&[], header, inline(answer)),
+        Some(write) => server.answer(&[write], header, inline),
+        None => server.answer(&[], header, inline),
     }
 }
 
@@ -124,9 +122,7 @@ fn answer(
     lists: &ChunkLists,
     reply: &[u8],
 ) -> Option<()>
-    requires sound { IsSound server.old }
-    requires lists { ListsWithin lists.now }
-    ensures { IfSome result (λ _. IsSound server.new) }
+    requires { ListsWithin lists.now }
 {
     let CallTarget {
         xid,
@@ -140,11 +136,6 @@ fn answer(
     send(server, lists, answer, header.as_slice())
 }
 
-/// Executes a call, and gives the payload of its reply.
-fn executed(alloc: Global, plain: &mut Server, payload: &[u8]) -> Option<Octets> {
-    Some(plain.execute(alloc, NOW, payload).ok()?.payload)
-}
-
 /// Executes a call with these lists and this stream, and answers it.
 fn serve_call(
     alloc: Global,
@@ -153,26 +144,27 @@ fn serve_call(
     lists: &ChunkLists,
     stream: &[u8],
 ) -> Option<()>
-    requires link { AreSound link.old }
-    requires lists { ListsWithin lists.now }
-    ensures { IfSome result (λ _. AreSound link.new) }
+    requires { ListsWithin lists.now }
 {
     let parts = call_parts(stream)?;
-    let payload = payload(
-        alloc,
-        link,
-        stream,
-        call_item_of(parts),
-        lists.read.as_slice(),
-    )?;
-    let reply = executed(alloc, plain, payload.as_slice())?;
-    answer(
-        &mut link.server,
-        alloc,
-        parts.target,
-        lists,
-        reply.as_slice(),
-    )
+    let item = call_item_of(parts);
+    if !is_read_chunk_of(item, lists.read.as_slice()) {
+        return None;
+    }
+    let reply = match lists.read.as_slice() {
+        [] => executed(alloc, plain, stream, stream.len()),
+        [segment, ..] => executed_fetched(alloc, link, plain, item, stream, *segment),
+    };
+    match reply {
+        Some(reply) => answer(
+            &mut link.server,
+            alloc,
+            parts.target,
+            lists,
+            reply.as_slice(),
+        ),
+        None => None,
+    }
 }
 
 /// Executes the call of a message with this body, and answers it.
@@ -183,9 +175,7 @@ fn serve_body(
     body: &Body,
     message: &[u8],
 ) -> Option<()>
-    requires link { AreSound link.old }
-    requires lists { CanRead body.now (stream_after body.now message.now) }
-    ensures { IfSome result (λ _. AreSound link.new) }
+    requires { CanRead body.now (stream_after body.now message.now) }
 {
     match body {
         Body::Msg { lists, stream_at } => {
@@ -195,22 +185,18 @@ fn serve_body(
     }
 }
 
-/// Executes the call of a message, and answers it.
-fn serve_message(alloc: Global, link: &mut Link, plain: &mut Server, message: &[u8]) -> Option<()>
-    requires { AreSound link.old }
-    ensures { IfSome result (λ _. AreSound link.new) }
-{
-    match &read_header(message) {
-        Ok(header) => serve_body(alloc, link, plain, &header.body, message),
-        Err(_) => None,
-    }
-}
-
 /// Takes the call that came, executes it and answers it.
-pub fn serve(alloc: Global, link: &mut Link, plain: &mut Server) -> Option<()>
-    requires { AreSound link.old }
-    ensures { IfSome result (λ _. AreSound link.new) }
-{
-    let message = link.server.next(alloc)?;
-    serve_message(alloc, link, plain, message.as_slice())
+pub fn serve(
+    alloc: Global,
+    link: &mut Link,
+    plain: &mut Server,
+    message: &mut Vec<u8>,
+) -> Option<()> {
+    link.server.next(message)?;
+    let Ok(header) = read_header(message.as_slice()) else {
+        return None;
+    };
+    let served = serve_body(alloc, link, plain, &header.body, message.as_slice());
+    drop(header);
+    served
 }

@@ -100,6 +100,27 @@ impl<'a> ReadOkRef<'a> {
         }
     }
 
+    /// `file_attributes`: the attributes of the file.
+    pub fn attributes(&self) -> Option<Attributes>
+        ensures { result ≡ self.now.attributes }
+    {
+        self.attributes
+    }
+
+    /// How many bytes were read.
+    pub fn count(&self) -> u32
+        ensures { result ≡ self.now.count }
+    {
+        self.count
+    }
+
+    /// Whether the data reaches the end of the file.
+    pub fn eof(&self) -> bool
+        ensures { result ≡ self.now.eof }
+    {
+        self.eof
+    }
+
     /// The data.
     pub fn bytes(&self) -> &'a [u8]
         ensures { result.now ≡ self.now.bytes }

@@ -14,4 +14,4 @@ pub use generator::{MOST_CALLS, make_script};
 pub use lines::{DEFAULT_CAPACITY, MOST_CAPACITY, MOST_CLIENTS, MOST_CREDITS};
 pub use reading::{SCRIPT_MAX, read_script};
 pub use script::{Line, Opening, Script, ScriptFault};
-pub use words::MOST_NUMBER;
+pub use words::{MOST_NUMBER, number_within};

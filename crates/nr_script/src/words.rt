@@ -96,9 +96,10 @@ fn numeral(word: &[u8]) -> Option<u64>
     }
 }
 
-/// A number from `low` to `high`.
+/// The number that a word spells in decimal digits, without a sign and without leading zeros, if it is one from `low` to
+/// `high`.
 #[tactic(auto, unfolding(crate::specs::Words::number_within))]
-pub(crate) fn number_within(low: u64, high: u64, word: &[u8]) -> Option<u64>
+pub fn number_within(low: u64, high: u64, word: &[u8]) -> Option<u64>
     ensures is { result ≡ number_within low high word.now }
     ensures within { IfSome result (λ value. (low ≤ value) × (value ≤ high)) }
 {
