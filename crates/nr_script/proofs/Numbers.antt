@@ -53,8 +53,8 @@ parsed {E = E} word text r o same numeral p e =
     by : (s : Result ℕ E) → OkIff s ((0 < length word) × (v < 2 ^ 64)) v → result_ok s ≡ cond (ltb v 18446744073709551616) (Some v) None
     by (Ok x) h = ap (λ n. Some n) h.1 ∙ sym (ap (λ (b : Bool). cond b (Some v) None) (lt-ltb v 18446744073709551616 h.0.1))
     by (Err x) h =
-        sym (ap (λ (b : Bool). cond b (Some v) None) (not-below (ltb v 18446744073709551616) refl))
+        sym (ap (λ (b : Bool). cond b (Some v) None) (not_below (ltb v 18446744073709551616) refl))
       where
-        not-below : (b : Bool) → ltb v 18446744073709551616 ≡ b → ltb v 18446744073709551616 ≡ false
-        not-below true is = absurd (h ((digits_of word numeral).1, ltb-true v 18446744073709551616 is))
-        not-below false is = is
+        not_below : (b : Bool) → ltb v 18446744073709551616 ≡ b → ltb v 18446744073709551616 ≡ false
+        not_below true is = absurd (h ((digits_of word numeral).1, ltb-true v 18446744073709551616 is))
+        not_below false is = is

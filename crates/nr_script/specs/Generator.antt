@@ -56,7 +56,7 @@ unfoldable pub proc_drawn : ℕ → ℕ
 proc_drawn kind =
     if kind == 0 then 0 else (if kind == 1 then 1 else (if kind == 2 then 6 else (if kind == 3 then 7 else (if kind == 4 then 16 else 5))))
 
--- what the numbers that are drawn stay below, and the count of a READDIR
+-- what the numbers that are drawn stay below (offsets, counts, the bytes of a move), and the count of a READDIR
 abbrev pub offsets_end : ℕ
 offsets_end = 8192
 
@@ -68,6 +68,9 @@ write_counts_end = 2048
 
 abbrev pub listing_count : ℕ
 listing_count = 4096
+
+abbrev pub pieces_end : ℕ
+pieces_end = 3000
 
 unfoldable pub args_drawn : ℕ → ℕ → List ℕ
 args_drawn kind state =
@@ -86,9 +89,9 @@ after_args kind state = if kind == 2 || kind == 3 then next (next state) else st
 unfoldable pub move_lines : ℕ → ℕ → ℕ → List Line
 move_lines client kind state =
     if kind == 0 then []
-    else (if kind == 1 then lines.Up client (below 3000 (next state)) ∷ []
+    else (if kind == 1 then lines.Up client (below pieces_end (next state)) ∷ []
     else (if kind == 2 then lines.Work client ∷ []
-    else (if kind == 3 then lines.Down client (below 3000 (next state)) ∷ [] else lines.Drain ∷ [])))
+    else (if kind == 3 then lines.Down client (below pieces_end (next state)) ∷ [] else lines.Drain ∷ [])))
 
 abbrev pub after_move : ℕ → ℕ → ℕ
 after_move kind state = if kind == 1 || kind == 3 then next state else state

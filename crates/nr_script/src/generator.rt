@@ -15,6 +15,18 @@ use std::alloc::Global;
 /// The most calls of a script that is made from a seed.
 pub const MOST_CALLS: u64 = 1_000_000;
 
+// What the numbers that are drawn stay below (offsets, counts, the bytes of a move), and the count of a READDIR.
+
+const OFFSETS_END: u32 = 8192;
+
+const READ_COUNTS_END: u32 = 4096;
+
+const WRITE_COUNTS_END: u32 = 2048;
+
+const LISTING_COUNT: u32 = 4096;
+
+const PIECES_END: u32 = 3000;
+
 /// The state of the generator after a draw.
 #[tactic(auto, unfolding(crate::specs::Generator::next))]
 fn next(state: u64) -> u64
@@ -127,13 +139,13 @@ fn args_drawn(alloc: Global, kind: u32, state: u64) -> Result<Octets, Memory>
 {
     let first = next(state);
     let second = next(first);
-    let offset = below(8192, first);
+    let offset = below(OFFSETS_END, first);
     match kind {
         0 => Ok(Octets::new(alloc)),
         1 => file_args(alloc, 2),
-        2 => read_args(alloc, offset, below(4096, second)),
-        3 => write_args(alloc, offset, below(2048, second)),
-        4 => readdir_args(alloc, 4096),
+        2 => read_args(alloc, offset, below(READ_COUNTS_END, second)),
+        3 => write_args(alloc, offset, below(WRITE_COUNTS_END, second)),
+        4 => readdir_args(alloc, LISTING_COUNT),
         _ => file_args(alloc, 3),
     }
 }
@@ -163,7 +175,7 @@ fn after_move(kind: u32, state: u64) -> u64
 fn push_move(lines: &mut Vec<Line>, client: u32, kind: u32, state: u64) -> Result<(), Memory>
     ensures { OnOk result (lines.new.items ≡ lines.old.items ++ move_lines client kind state) }
 {
-    let most = below(3000, next(state));
+    let most = below(PIECES_END, next(state));
     let line = match kind {
         0 => return Ok(()),
         1 => Line::Up { client, most },
