@@ -1,5 +1,5 @@
 -- A message with a call whose stream stands in it: what the code did is what is said of it.
-use Rattle.std.proofs.Common.{◌≡◌, ℕ, List, [], ◌∷◌, ◌++◌, length, map, drop, Option, Some, None, Result, Ok, Err, refl, ap, subst, ◌∙◌, ◌≤◌, arith, inl, inr}
+use Rattle.std.proofs.Common.{◌≡◌, ℕ, List, [], ◌∷◌, ◌++◌, map, drop, Option, Some, None, Result, Ok, Err, refl, ap, subst, ◌∙◌, ◌≤◌, arith, inl, inr}
 use Rattle.std.specs.Prelude.{◌⊎◌}
 use Rattle.nr_xdr.specs.Fields.{word_at}
 use Rattle.nr_rpc.specs.declared.head.CallHead.{CallHead}
@@ -13,7 +13,6 @@ use Rattle.nr_endpoint.specs.LinkState.{LinkSide}
 use Rattle.nr_endpoint.specs.Calls.{after_call, IsStopReason}
 use Rattle.nr_endpoint.specs.Calls.Call.{OutOfMemory, Stop}
 use Rattle.nr_reduce.specs.Holds.{chunk_error}
-use Rattle.nr_reduce.specs.OfferedRegions.{Region}
 use Rattle.nr_reduce.specs.ServerState.{ServerState, next_stag}
 use Rattle.nr_reduce.specs.ServerMessages.{call_xid}
 use Rattle.nr_responder.specs.ResponderState.{ResponderSide}

@@ -1,6 +1,6 @@
 -- A Send whose call has a read list without bytes: nothing is read for it, and it is complete at once.
 use Rattle.std.proofs.Common.{◌≡◌, ℕ, ◌+◌, ◌<◌, ◌≤◌, Bool, true, false, not, eqb, cond, List, [], ◌∷◌, ◌++◌, length, Option, Some, None, Ok, refl, sym, ap, subst, ◌∙◌, arith, inl, append-nil}
-use Rattle.std.specs.Prelude.{find, map}
+use Rattle.std.specs.Prelude.{find}
 use Rattle.std.specs.List.{AllByRecursion, filter}
 use Rattle.std.proofs.lemmas.Bool.{eq-eqb}
 use Rattle.std.proofs.lemmas.List.{map-append}
@@ -25,14 +25,14 @@ use Rattle.nr_reduce.specs.Events.RunEvent.{FrameReceived}
 use Rattle.nr_reduce.specs.EndRules.{EndState, live, next_end_state}
 use Rattle.nr_reduce.specs.ServerState.{PendingCall, PendingRead, ReadyCall, ServerState, is_pending, next_stag}
 use Rattle.nr_reduce.specs.ServerReads.{chunks_of, is_over, is_read, open_reads, reads_from, reads_of, regions_from, regions_of, sink_of, stag_by}
-use Rattle.nr_reduce.specs.ServerMessages.{CallVerdict, Verdict, by_payload, chunk_bytes, payload_of, verdict}
+use Rattle.nr_reduce.specs.ServerMessages.{CallVerdict, Verdict, by_payload, payload_of, verdict}
 use Rattle.nr_reduce.specs.ServerMessages.CallVerdict.{IsReady, Refuses}
 use Rattle.nr_reduce.specs.ServerMessages.Verdict.{MakesPending}
 use Rattle.nr_reduce.specs.ServerFrames.{FrameEffect, by_message, frame_effect, message_effect, ready_if_whole, with_verdict}
 use Rattle.nr_reduce.specs.Server.{effect_output, server_rules, with_effect}
 use Rattle.nr_responder.specs.ResponderState.{ResponderSide, queued_bytes}
 use Rattle.nr_responder.specs.Keeping.{IsServer, Keeps, KeepsEnd}
-use Rattle.nr_responder.specs.CallsRead.{HasNoBytes, complete_call, payload_at_once}
+use Rattle.nr_responder.specs.private.CallsRead.{HasNoBytes, complete_call, payload_at_once}
 use Rattle.nr_responder.specs.Handling.{on_link}
 use Rattle.nr_responder.proofs.CallsRead.{skip_old, is_of, taken_side}
 use Rattle.nr_responder.proofs.Frames.{behind, TakesFrame, later_frame}

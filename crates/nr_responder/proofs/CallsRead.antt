@@ -1,8 +1,8 @@
 -- A Send whose call has a read list: its sinks are registered, and its reads open or wait.
-use Rattle.std.proofs.Common.{◌≡◌, ◌≢◌, ℕ, zero, suc, ◌+◌, ◌-◌, ◌<◌, ◌≤◌, Bool, true, false, not, ◌&&◌, ◌||◌, eqb, cond, List, [], ◌∷◌, ◌++◌, length, take, drop, Option, Some, None, Ok, refl, sym, ap, subst, ◌∙◌, arith, inl, is_some, append-nil, length-append, replicate}
-use Rattle.std.specs.Prelude.{find, map}
+use Rattle.std.proofs.Common.{◌≡◌, ◌≢◌, ℕ, zero, suc, ◌+◌, ◌-◌, ◌<◌, ◌≤◌, Bool, true, false, not, ◌&&◌, ◌||◌, eqb, cond, List, [], ◌∷◌, ◌++◌, length, take, drop, Option, Some, None, Ok, refl, sym, ap, subst, ◌∙◌, arith, inl, is_some, append-nil, replicate}
+use Rattle.std.specs.Prelude.{find}
 use Rattle.std.specs.List.{AllByRecursion, list_any, filter}
-use Rattle.std.proofs.lemmas.Bool.{eq-eqb, ne_eqb, eqb-true}
+use Rattle.std.proofs.lemmas.Bool.{eq-eqb, ne_eqb}
 use Rattle.nr_wire.specs.declared.stream.Awaited.TheVariants.{Fpdu}
 use Rattle.nr_wire.specs.Constants.{OPCODE_SEND}
 use Rattle.nr_wire.specs.Segment.{Segment, segment_of}
@@ -28,7 +28,7 @@ use Rattle.nr_reduce.specs.StandingLaws.{StagsFrom}
 use Rattle.nr_reduce.specs.Events.RunEvent.{FrameReceived}
 use Rattle.nr_reduce.specs.EndRules.{EndState, live, next_end_state}
 use Rattle.nr_reduce.specs.ServerState.{PendingCall, PendingRead, ReadyCall, ServerState, next_stag, is_pending}
-use Rattle.nr_reduce.specs.ServerReads.{chunks_of, is_over, is_read, is_read_at, open_reads, read_of, reads_from, reads_of, regions_from, regions_of, sink_of, stag_by}
+use Rattle.nr_reduce.specs.ServerReads.{chunks_of, is_over, is_read, is_read_at, open_reads, reads_from, reads_of, regions_from, regions_of, sink_of, stag_by}
 use Rattle.nr_reduce.specs.ServerMessages.{Verdict, by_payload, payload_of, verdict}
 use Rattle.nr_reduce.specs.ServerMessages.Verdict.{MakesPending}
 use Rattle.nr_reduce.specs.ServerFrames.{FrameEffect, by_message, frame_effect, message_effect, with_verdict}
@@ -38,7 +38,7 @@ use Rattle.nr_responder.specs.Fetching.{SinkRegion, open_if, open_sinks, sink_of
 use Rattle.nr_responder.specs.ResponderState.{ResponderSide, queued_bytes, unsent}
 use Rattle.nr_responder.specs.Keeping.{IsReadyOf, IsServer, Keeps, KeepsEnd, LinkKeeps, later_responses, open_responses}
 use Rattle.nr_responder.specs.private.Reading.{opening, with_requests}
-use Rattle.nr_responder.specs.CallsRead.{reading_call, registered}
+use Rattle.nr_responder.specs.private.CallsRead.{reading_call, registered}
 use Rattle.nr_responder.specs.Handling.{on_link}
 use Rattle.nr_responder.proofs.Frames.{behind, TakesFrame, later_frame}
 use Rattle.nr_responder.proofs.PendingReads.{AreOf, over_unread, ready_before, reads_own, same_read, some_read}

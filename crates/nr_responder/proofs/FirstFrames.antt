@@ -1,7 +1,6 @@
 -- A step goes over the first frame of a piece alone: it is the same on the bytes up to the end of that frame.
-use Rattle.std.proofs.Common.{◌≡◌, ◌≢◌, ℕ, ◌+◌, ◌-◌, ◌<◌, ◌≤◌, Bool, true, false, cond, List, [], ◌++◌, length, take, drop, Option, Some, None, refl, sym, ap, subst, ◌∙◌, arith, is_some, length-append}
+use Rattle.std.proofs.Common.{◌≡◌, ◌≢◌, ℕ, ◌+◌, ◌-◌, ◌<◌, Bool, true, false, List, ◌++◌, length, take, Option, Some, None, refl, sym, ap, subst, ◌∙◌, arith, is_some, length-append}
 use Rattle.std.proofs.lemmas.List.{take_all, length-take}
-use Rattle.nr_wire.specs.declared.stream.Awaited.{Awaited}
 use Rattle.nr_wire.specs.Stream.{is_whole, frame_len, IsPartial}
 use Rattle.nr_wire.specs.Feeding.{bytes_taken}
 use Rattle.nr_wire.proofs.Frames.{frame_len_take, whole_from}
@@ -14,7 +13,7 @@ use Rattle.nr_endpoint.specs.Calls.{after_call, makes_whole, QueuesOutput}
 use Rattle.nr_endpoint.specs.Calls.Call.{FeedOne, OutOfMemory}
 use Rattle.nr_endpoint.proofs.StagedFrames.{taken_whole, whole_as_staged}
 use Rattle.nr_responder.specs.ResponderState.{ResponderSide, end_of}
-use Rattle.nr_responder.specs.Steps.{FedOn, Fed}
+use Rattle.nr_responder.specs.Steps.{Fed}
 use Rattle.nr_responder.specs.Steps.Fed.{WentOn}
 use Rattle.nr_responder.specs.Handling.{IsTaken, on_link}
 use Rattle.nr_responder.proofs.Fed.{StepOf, step_of, ended_step, ended_fed_lem}

@@ -1,15 +1,14 @@
 -- The last segment of a Read Response: what the oldest read that is done makes of the server of a run.
-use Rattle.std.proofs.Common.{◌≡◌, ◌≢◌, ℕ, ◌+◌, ◌-◌, ◌<◌, ◌≤◌, Bool, true, false, not, ◌&&◌, ◌||◌, eqb, cond, List, [], ◌∷◌, ◌++◌, length, take, drop, Option, Some, None, Result, Ok, Err, refl, sym, ap, subst, ◌∙◌, arith, is_some, append-nil}
-use Rattle.std.specs.Prelude.{find, map}
-use Rattle.std.specs.List.{AllByRecursion, list_any, filter}
-use Rattle.std.proofs.lemmas.Bool.{eqb-true, eqb-false, eq-eqb, ne_eqb}
+use Rattle.std.proofs.Common.{◌≡◌, ℕ, ◌+◌, ◌≤◌, Bool, true, false, ◌&&◌, eqb, cond, List, [], ◌∷◌, ◌++◌, length, take, Option, Some, None, Ok, refl, sym, ap, subst, ◌∙◌, arith, is_some, append-nil}
+use Rattle.std.specs.Prelude.{find}
+use Rattle.std.specs.List.{AllByRecursion}
+use Rattle.std.proofs.lemmas.Bool.{eqb-true, eq-eqb, ne_eqb}
 use Rattle.nr_wire.specs.Constants.{OPCODE_READ_RESPONSE}
-use Rattle.nr_wire.specs.Segment.{Segment}
 use Rattle.nr_wire.specs.Segment.Segment.{Tagged}
 use Rattle.nr_wire.specs.declared.hello.Side.TheVariants.{Responder}
 use Rattle.nr_regions.specs.declared.right.Kind.TheVariants.{Response}
 use Rattle.nr_regions.specs.declared.right.Right.TheVariants.{Sink}
-use Rattle.nr_regions.specs.RegisteredMemory.{Region as HeldRegion, RegisteredMemory, bytes_in, live_region, held_region}
+use Rattle.nr_regions.specs.RegisteredMemory.{RegisteredMemory, bytes_in, live_region, held_region}
 use Rattle.nr_regions.specs.Access.{Grant, TaggedSegment, contents}
 use Rattle.nr_regions.proofs.Holding.{live_held}
 use Rattle.nr_link.specs.Limits.{send_max}
@@ -20,24 +19,20 @@ use Rattle.nr_link.specs.SegmentFaults.{is_begun}
 use Rattle.nr_endpoint.specs.LinkState.{LinkState}
 use Rattle.nr_reduce.specs.declared.mark.LinkParameters.{LinkParameters}
 use Rattle.nr_reduce.specs.Plans.{one_if}
-use Rattle.nr_reduce.specs.Chunks.{is_read_chunk_of_item, call_conveyed}
 use Rattle.nr_reduce.specs.OfferedRegions.{Region, region_grants, region_bytes, region_bytes_by, regions_closed}
 use Rattle.nr_reduce.specs.OfferedMemory.{AreOffered, AreReceived, HoldsRegions, region_at, registered_region, held_if_open}
 use Rattle.nr_reduce.specs.StandingLaws.{StagsFrom}
-use Rattle.nr_reduce.specs.ServerState.{PendingCall, PendingRead, ReadyCall, ServerState, memory_at, next_stag}
-use Rattle.nr_reduce.specs.ServerReads.{is_over, is_read, is_read_at, open_reads, stag_by, sink_of}
-use Rattle.nr_reduce.specs.ServerMessages.{CallVerdict, chunk_bytes, payload_of, by_payload}
-use Rattle.nr_reduce.specs.ServerMessages.CallVerdict.{Refuses, IsReady}
-use Rattle.nr_reduce.specs.ServerFrames.{FrameEffect, no_effect, with_access, with_verdict, ready_if_whole, with_refused_call, is_stream_read, read_effect, call_of_number, response_effect, tagged_effect, effect_in, frame_effect}
-use Rattle.nr_reduce.specs.Server.{with_effect, received_by, response_bytes_after, tagged_accesses, effect_output, requests_from}
+use Rattle.nr_reduce.specs.ServerState.{PendingCall, PendingRead, ReadyCall, ServerState, next_stag}
+use Rattle.nr_reduce.specs.ServerReads.{is_over, stag_by, sink_of}
+use Rattle.nr_reduce.specs.ServerFrames.{FrameEffect}
+use Rattle.nr_reduce.specs.Server.{with_effect, received_by, response_bytes_after, tagged_accesses, requests_from}
 use Rattle.nr_reduce.proofs.MemorySteps.{holds_closed, received_one, offered_closed, offered_later}
 use Rattle.nr_reduce.proofs.OwnStags.{closed_length}
-use Rattle.nr_endpoint.specs.SendQueue.{SendQueue}
 use Rattle.nr_responder.specs.ResponderState.{unsent}
 use Rattle.nr_responder.specs.Keeping.{OwnNumbers, OwnXids, OwnReady, IsReadyOf, IsServer, LinkKeeps, QueueKeeps, later_responses}
 use Rattle.nr_responder.specs.Fetching.{SinkRegion, sink_of_region, open_if, open_sinks}
 use Rattle.nr_responder.specs.private.Reading.{is_sink, bytes_of_sink, sink_bytes, over_sinks, released, opening, with_requests}
-use Rattle.nr_responder.specs.ReadsDone.{side_after_done}
+use Rattle.nr_responder.specs.private.ReadsDone.{side_after_done}
 use Rattle.nr_responder.proofs.Responses.{found_all}
 use Rattle.nr_responder.proofs.ReadEffects.{requested_has, requests_ends, opened_now}
 use Rattle.nr_responder.proofs.Sinks.{closed_all, closed_stags, closed_now, releases, released_next}

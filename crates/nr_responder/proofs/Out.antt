@@ -1,9 +1,8 @@
 -- A responder that runs out of memory at a frame: the server has output of its own for the frame, or it completes the Send of a call with a
 -- read chunk.
-use Rattle.std.proofs.Common.{◌≡◌, ◌≢◌, ℕ, ◌+◌, ◌<◌, ◌≤◌, Bool, true, false, cond, List, [], ◌∷◌, ◌++◌, length, Option, Some, None, Ok, refl, sym, ap, subst, ◌∙◌, arith, inl, inr, length-append}
-use Rattle.std.proofs.lemmas.Bool.{le-ltb}
+use Rattle.std.proofs.Common.{◌≡◌, ◌≢◌, ℕ, ◌+◌, ◌<◌, Bool, true, false, List, [], ◌∷◌, ◌++◌, length, Option, Some, None, Ok, refl, sym, ap, subst, ◌∙◌, arith, inl, inr, length-append}
 use Rattle.std.proofs.lemmas.List.{append-nil}
-use Rattle.nr_wire.specs.declared.hello.Side.TheVariants.{Initiator, Responder}
+use Rattle.nr_wire.specs.declared.hello.Side.TheVariants.{Initiator}
 use Rattle.nr_wire.specs.declared.stream.Awaited.{Awaited}
 use Rattle.nr_wire.specs.declared.stream.Awaited.TheVariants.{Fpdu}
 use Rattle.nr_wire.specs.Constants.{OPCODE_SEND, OPCODE_READ_RESPONSE}
@@ -12,22 +11,21 @@ use Rattle.nr_wire.specs.Segment.{Segment, segment_of}
 use Rattle.nr_wire.specs.Segment.Segment.{Tagged, Untagged}
 use Rattle.nr_wire.specs.Stream.{is_whole, IsPartial}
 use Rattle.nr_link.specs.declared.end.End.{End}
-use Rattle.nr_link.specs.declared.end.End.TheVariants as ends
-use Rattle.nr_link.specs.Ending.{frame_segment, final_output, rejection, last_output}
+use Rattle.nr_link.specs.Ending.{frame_segment}
 use Rattle.nr_link.specs.Frames.{Frame, is_hello}
 use Rattle.nr_link.specs.Input.{InputState}
-use Rattle.nr_link.specs.Output.{send, terminate_message}
+use Rattle.nr_link.specs.Output.{send}
 use Rattle.nr_link.specs.ReceiveState.{ReceiveState, begun_bytes}
 use Rattle.nr_endpoint.specs.ReceiveQueue.{DeliveredEvent}
 use Rattle.nr_endpoint.specs.ReceiveQueue.DeliveredEvent.{MessageReceived, ReadDone}
-use Rattle.nr_endpoint.specs.SendQueue.{SendQueue, with_end, output_len}
+use Rattle.nr_endpoint.specs.SendQueue.{SendQueue, output_len}
 use Rattle.nr_endpoint.specs.SegmentEnds.{SendIsFine}
 use Rattle.nr_endpoint.specs.LinkState.{LinkState, LinkSide}
 use Rattle.nr_endpoint.specs.Judging.{next_frame, with_frame, with_peer_hello}
 use Rattle.nr_endpoint.specs.Calls.{after_call, makes_whole, QueuesOutput}
 use Rattle.nr_endpoint.specs.Calls.Call.{FeedOne, NextEvent, OutOfMemory}
 use Rattle.nr_endpoint.proofs.Alive.{alive_send}
-use Rattle.nr_endpoint.proofs.Queued.{send_some, terminate_queues}
+use Rattle.nr_endpoint.proofs.Queued.{send_some}
 use Rattle.nr_reduce.specs.declared.mark.LinkParameters.{LinkParameters}
 use Rattle.nr_reduce.specs.Events.RunEvent.{FrameReceived}
 use Rattle.nr_reduce.specs.EndRules.{EndState, live, output_for}
@@ -41,14 +39,14 @@ use Rattle.nr_responder.specs.Steps.{TakesMemory, RanOutAt, Fed, frame_by}
 use Rattle.nr_responder.specs.Steps.Fed.{RanOut}
 use Rattle.nr_responder.specs.Handling.{IsServerOf, MessageTakes, refused_effect, on_link}
 use Rattle.nr_responder.specs.Handling.MessageTakes.{EndsFor, ErrorFor, ReadsFor}
-use Rattle.nr_responder.specs.ReadsDone.{ReadRanOut, ReadTakes}
+use Rattle.nr_responder.specs.private.ReadsDone.{ReadRanOut, ReadTakes}
 use Rattle.nr_responder.proofs.Fed.{StepOf, step_of, step_next, not_ended_lem, empty_fed}
 use Rattle.nr_responder.proofs.Fed.StepOf.{Part, WholeFrame}
 use Rattle.nr_responder.proofs.Frames.{behind, TakesFrame, later_frame, ended_takes}
 use Rattle.nr_responder.proofs.Handled.{RanOutOf}
 use Rattle.nr_responder.proofs.Queues.{last_some}
 use Rattle.nr_responder.proofs.Responses.{IsSend, IsResponse, Lives, frame_is, part_link}
-use Rattle.nr_responder.proofs.ReadsTaken.{done_link_is, last_link, read_outputs, response_notices, response_reads, response_told, some_reads}
+use Rattle.nr_responder.proofs.ReadsTaken.{done_link_is, last_link, read_outputs, response_notices, response_reads, response_told}
 use Rattle.nr_responder.proofs.Posted.{memory_ends, told_link_lem}
 use Rattle.nr_responder.proofs.SendFrames.{frame_lives, part_framed, last_framed}
 use Rattle.nr_responder.proofs.ServerSteps.{effect_is, new_is_read}

@@ -1,6 +1,5 @@
 -- A responder keeps the law of its side.
-use Rattle.std.proofs.Common.{◌≡◌, ◌≢◌, ℕ, Bool, true, false, ◌&&◌, eqb, cond, List, [], ◌∷◌, ◌++◌, length, take, drop, None, refl, sym, ap, subst, ◌∙◌, inl, inr, append_assoc, append-nil, take-append-drop}
-use Rattle.std.specs.Prelude.{◌⊎◌}
+use Rattle.std.proofs.Common.{◌≡◌, ◌≢◌, ℕ, Bool, true, false, ◌&&◌, eqb, cond, List, [], ◌++◌, take, None, refl, sym, ap, subst, ◌∙◌, inl, inr}
 use Rattle.std.proofs.lemmas.Bool.{ne_eqb}
 use Rattle.nr_wire.specs.declared.hello.Side.TheVariants.{Initiator, Responder}
 use Rattle.nr_link.specs.Input.{InputState, initial_input}
@@ -19,10 +18,10 @@ use Rattle.nr_reduce.specs.Standing.{ServerRepresents, ServerRunsOut, input_even
 use Rattle.nr_reduce.proofs.Standing.{AtEachMark_more, server_queue_lem}
 use Rattle.nr_endpoint.specs.SendQueue.{SendQueue, writable, written}
 use Rattle.nr_endpoint.specs.LinkState.{LinkSide}
-use Rattle.nr_responder.specs.ResponderState.{ResponderSide, queue, queued_bytes, end_of, may_write}
+use Rattle.nr_responder.specs.ResponderState.{queue, queued_bytes, end_of, may_write}
 use Rattle.nr_responder.specs.Keeping.{Begins, KeepsEnd}
 use Rattle.nr_responder.specs.Keeping.Begins.{BeforeHello, AfterHello}
-use Rattle.nr_responder.specs.Standing.{RepresentsServer, Stands}
+use Rattle.nr_responder.specs.Standing.{Stands}
 use Rattle.nr_responder.specs.Laws.{IsOfOthers, OthersLeaveIt, LawBegins, OthersKeepLaw, PieceKeepsLaw, ExecuteKeepsLaw, DrainKeepsLaw, FullBegins, OthersKeepFull, PieceKeepsFull, ExecuteKeepsFull, QueueIsAllDue, AllMayBeWritten, DrainKeepsFull}
 use Rattle.nr_responder.proofs.Drained.{split_queue}
 use Rattle.nr_responder.proofs.Marks.{no_event_represents, stays_out}

@@ -1,5 +1,5 @@
 -- A call with a read list: its reads, and what holds of the server once its sinks are registered.
-use Rattle.std.proofs.Common.{◌≡◌, ◌≢◌, ℕ, ◌+◌, ◌≤◌, Bool, true, false, not, ◌&&◌, ◌||◌, eqb, cond, List, [], ◌∷◌, ◌++◌, length, Option, Some, None, refl, sym, ap, subst, ◌∙◌, arith, is_some}
+use Rattle.std.proofs.Common.{◌≡◌, ◌≢◌, ℕ, ◌≤◌, Bool, true, false, not, ◌&&◌, ◌||◌, eqb, cond, List, [], ◌∷◌, ◌++◌, refl, sym, ap, ◌∙◌, arith}
 use Rattle.std.specs.List.{AllByRecursion, list_any}
 use Rattle.std.proofs.lemmas.Bool.{eqb-true, eq-eqb, ne_eqb}
 use Rattle.std.proofs.lemmas.List.Sums.{sum_by-cons}
@@ -7,7 +7,7 @@ use Rattle.nr_header.specs.declared.header.ReadSegment.{ReadSegment}
 use Rattle.std.specs.Prelude.{sum_by}
 use Rattle.nr_reduce.specs.Chunks.{total_at, at_position}
 use Rattle.nr_reduce.specs.OfferedRegions.{Region}
-use Rattle.nr_reduce.specs.ServerState.{PendingCall, PendingRead, ReadyCall}
+use Rattle.nr_reduce.specs.ServerState.{PendingCall, PendingRead}
 use Rattle.nr_reduce.specs.ServerReads.{is_over, is_read, is_read_at, read_of, reads_from}
 
 -- ---- Reads of one call

@@ -1,5 +1,5 @@
 -- The output of reads that open, and the reads that are open then.
-use Rattle.std.proofs.Common.{◌≡◌, ℕ, zero, suc, ◌+◌, ◌-◌, ◌≤◌, ◌^◌, Bool, true, false, List, [], ◌∷◌, ◌++◌, length, take, drop, refl, sym, ap, subst, ◌∙◌, arith, append_assoc, append-nil, length-append}
+use Rattle.std.proofs.Common.{◌≡◌, ℕ, zero, suc, ◌+◌, ◌-◌, ◌≤◌, ◌^◌, true, List, [], ◌∷◌, ◌++◌, length, take, drop, refl, sym, ap, subst, ◌∙◌, arith, append_assoc, append-nil, length-append}
 use Rattle.std.proofs.Math.Nat.{mod-mod}
 use Rattle.nr_xdr.specs.Item.{word, hyper}
 use Rattle.nr_wire.specs.Constants.{OPCODE_READ_REQUEST, QUEUE_READ_REQUEST}
@@ -7,7 +7,7 @@ use Rattle.nr_wire.specs.Segment.{encoding}
 use Rattle.nr_wire.specs.Segment.Segment.{Untagged}
 use Rattle.nr_link.specs.Output.{msn_word, read_request}
 use Rattle.nr_link.specs.SegmentFaults.{ExpectedResponse}
-use Rattle.nr_endpoint.specs.SendQueue.{SendQueue, next_number, with_request, output_len}
+use Rattle.nr_endpoint.specs.SendQueue.{SendQueue, next_number, with_request}
 use Rattle.nr_reduce.specs.ServerState.{PendingRead}
 use Rattle.nr_reduce.specs.Server.{requests_from}
 use Rattle.nr_responder.specs.ResponderState.{queued_bytes}

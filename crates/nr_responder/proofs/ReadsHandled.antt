@@ -1,5 +1,5 @@
 -- A whole frame with the last segment of a Read Response, by what was made of the read.
-use Rattle.std.proofs.Common.{◌≡◌, ℕ, ◌<◌, true, List, [], ◌∷◌, ◌++◌, length, Option, Some, None, refl, sym, ap, subst, ◌∙◌}
+use Rattle.std.proofs.Common.{◌≡◌, ℕ, ◌<◌, true, List, [], ◌∷◌, length, Some, None, refl, sym, ap, subst, ◌∙◌}
 use Rattle.nr_wire.specs.declared.stream.Awaited.TheVariants.{Fpdu}
 use Rattle.nr_link.specs.declared.end.End.TheVariants as ends
 use Rattle.nr_link.specs.Input.{InputState}
@@ -12,8 +12,8 @@ use Rattle.nr_reduce.specs.ServerState.{PendingRead, ReadyCall, ServerState}
 use Rattle.nr_responder.specs.ResponderState.{ResponderSide}
 use Rattle.nr_responder.specs.Keeping.{Keeps}
 use Rattle.nr_responder.specs.Handling.{on_link}
-use Rattle.nr_responder.specs.ReadsDone.{ReadHandled, ended_as}
-use Rattle.nr_responder.specs.ReadsDone.ReadHandled.{GoesOn, Readies, Stops, Refused}
+use Rattle.nr_responder.specs.private.ReadsDone.{ReadHandled, ended_as}
+use Rattle.nr_responder.specs.private.ReadsDone.ReadHandled.{GoesOn, Readies, Stops, Refused}
 use Rattle.nr_responder.proofs.SendFrames.{payloads_ready}
 use Rattle.nr_responder.proofs.Frames.{behind, TakesFrame}
 use Rattle.nr_responder.proofs.ReadCases.{waits_hold, ready_holds}

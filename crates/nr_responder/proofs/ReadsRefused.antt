@@ -1,8 +1,8 @@
 -- A read that is done, by which the stream of a call is there, and whose call is refused: its read chunk isn't the item's.
-use Rattle.std.proofs.Common.{◌≡◌, ◌≢◌, ℕ, zero, suc, ◌+◌, ◌-◌, ◌<◌, ◌≤◌, Bool, true, false, not, ◌&&◌, ◌||◌, eqb, cond, List, [], ◌∷◌, ◌++◌, length, take, drop, Option, Some, None, Ok, refl, sym, ap, subst, ◌∙◌, arith, inl, is_some, append-nil, length-append, append_assoc}
+use Rattle.std.proofs.Common.{◌≡◌, ◌≢◌, ℕ, zero, suc, ◌+◌, ◌-◌, ◌<◌, ◌≤◌, Bool, true, false, not, ◌&&◌, ◌||◌, eqb, cond, List, [], ◌∷◌, ◌++◌, length, take, drop, Option, Some, None, Ok, refl, sym, ap, subst, ◌∙◌, arith, inl, append-nil, length-append, append_assoc}
 use Rattle.std.specs.Prelude.{map, find}
 use Rattle.std.specs.List.{AllByRecursion, list_any, filter}
-use Rattle.std.proofs.lemmas.Bool.{eq-eqb, eqb-true, eqb-false, ne_eqb}
+use Rattle.std.proofs.lemmas.Bool.{eq-eqb, eqb-true}
 use Rattle.std.proofs.lemmas.List.{length-take}
 use Rattle.nr_wire.specs.declared.stream.Awaited.TheVariants.{Fpdu}
 use Rattle.nr_wire.specs.Constants.{OPCODE_READ_RESPONSE}
@@ -10,7 +10,7 @@ use Rattle.nr_wire.specs.Segment.{segment_of}
 use Rattle.nr_wire.specs.Segment.Segment.{Tagged}
 use Rattle.nr_regions.specs.declared.right.Kind.TheVariants.{Response}
 use Rattle.nr_regions.specs.Access.{TaggedSegment}
-use Rattle.nr_link.specs.Frames.{Frame, is_hello}
+use Rattle.nr_link.specs.Frames.{Frame}
 use Rattle.nr_link.specs.Input.{InputState}
 use Rattle.nr_link.specs.Output.{send}
 use Rattle.nr_link.specs.Ending.{frame_segment}
@@ -24,19 +24,19 @@ use Rattle.nr_reduce.specs.Events.RunEvent.{FrameReceived}
 use Rattle.nr_reduce.specs.EndRules.{EndState, live, next_end_state}
 use Rattle.nr_reduce.specs.ServerState.{PendingCall, PendingRead, ReadyCall, ServerState}
 use Rattle.nr_reduce.specs.ServerReads.{is_over, is_read, is_read_at, open_reads}
-use Rattle.nr_reduce.specs.ServerFrames.{FrameEffect, frame_effect, with_refused_call}
+use Rattle.nr_reduce.specs.ServerFrames.{FrameEffect, frame_effect}
 use Rattle.nr_reduce.specs.Server.{server_rules, with_effect, effect_output, received_by, requests_from, response_bytes_after, tagged_accesses}
 use Rattle.nr_responder.specs.Fetching.{SinkRegion, open_sinks}
 use Rattle.nr_responder.specs.ResponderState.{ResponderSide, queued_bytes, unsent}
-use Rattle.nr_responder.specs.Keeping.{ArePayloads, HasPayload, IsReadyOf, IsServer, Keeps, KeepsEnd, LinkKeeps, OwnNumbers, OwnReady, OwnXids, later_responses}
+use Rattle.nr_responder.specs.Keeping.{ArePayloads, HasPayload, IsReadyOf, IsServer, Keeps, KeepsEnd, OwnNumbers, OwnReady, OwnXids, later_responses}
 use Rattle.nr_responder.specs.private.Reading.{left_sinks, opening, over_sinks}
 use Rattle.nr_responder.specs.Handling.{on_link}
-use Rattle.nr_responder.specs.ReadsDone.{RefusesCall, calls_without, reads_without, reading_on, side_after_done, still_open, with_sent}
+use Rattle.nr_responder.specs.private.ReadsDone.{RefusesCall, calls_without, reads_without, reading_on, side_after_done, still_open, with_sent}
 use Rattle.nr_responder.proofs.Executed.{read_at_each}
 use Rattle.nr_responder.proofs.Frames.{behind, TakesFrame, later_frame}
 use Rattle.nr_responder.proofs.LastResponses.{EffectHolds, TakesLast, after_done, done_link, done_server}
 use Rattle.nr_responder.proofs.Queues.{sent_has, sent_queue}
-use Rattle.nr_responder.proofs.ReadCases.{call_refused, fewer_over, found_number, heard, last_effect, read_off}
+use Rattle.nr_responder.proofs.ReadCases.{call_refused, fewer_over, found_number, heard, last_effect}
 use Rattle.nr_responder.proofs.ReadEffects.{requested_queue}
 use Rattle.nr_responder.proofs.ReadsTaken.{done_side, response_reads, same_as, taken_less, takes_last}
 use Rattle.nr_responder.proofs.Responses.{IsResponse, response_access}

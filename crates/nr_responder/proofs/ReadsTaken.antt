@@ -1,12 +1,12 @@
 -- A whole frame with a segment of a Read Response at a responder: a part of the response, and its last segment, by what was made of the read.
-use Rattle.std.proofs.Common.{◌≡◌, ◌≢◌, ℕ, ◌+◌, ◌-◌, ◌<◌, ◌≤◌, Bool, true, false, not, ◌&&◌, eqb, zero, suc, List, [], ◌∷◌, ◌++◌, length, take, drop, Option, Some, None, Ok, refl, sym, ap, subst, ◌∙◌, arith, inl, inr, is_some, append-nil, length-append}
+use Rattle.std.proofs.Common.{◌≡◌, ◌≢◌, ℕ, ◌+◌, ◌-◌, ◌<◌, ◌≤◌, Bool, true, false, not, ◌&&◌, eqb, zero, suc, List, [], ◌∷◌, ◌++◌, length, take, Option, Some, None, Ok, refl, sym, ap, subst, ◌∙◌, arith, inl, inr, is_some, append-nil, length-append}
 use Rattle.std.specs.Prelude.{map, find}
-use Rattle.std.proofs.lemmas.List.{map-append, take_all, length-take}
+use Rattle.std.proofs.lemmas.List.{map-append, length-take}
 use Rattle.nr_wire.specs.declared.stream.Awaited.TheVariants.{Fpdu}
 use Rattle.nr_wire.specs.declared.hello.Side.{Side}
 use Rattle.nr_wire.specs.declared.hello.Side.TheVariants.{Responder}
 use Rattle.nr_wire.specs.Constants.{OPCODE_READ_RESPONSE, REASON_FLAGS}
-use Rattle.nr_wire.specs.Segment.{Segment, segment_of}
+use Rattle.nr_wire.specs.Segment.{segment_of}
 use Rattle.nr_wire.specs.Segment.Segment.{Tagged}
 use Rattle.nr_regions.specs.RegisteredMemory.{RegisteredMemory, after_place}
 use Rattle.nr_regions.specs.Access.{TaggedSegment}
@@ -15,14 +15,14 @@ use Rattle.nr_link.specs.declared.end.End.TheVariants as ends
 use Rattle.nr_link.specs.Frames.{Frame, is_hello}
 use Rattle.nr_link.specs.Input.{InputState}
 use Rattle.nr_link.specs.Ending.{frame_segment, last_output}
-use Rattle.nr_link.specs.SegmentFaults.{ExpectedResponse, is_expected}
+use Rattle.nr_link.specs.SegmentFaults.{is_expected}
 use Rattle.nr_endpoint.specs.ReceiveQueue.{DeliveredEvent, ReceiveQueue, delivered, with_read_done}
 use Rattle.nr_endpoint.specs.ReceiveQueue.DeliveredEvent.{ReadDone}
 use Rattle.nr_endpoint.specs.SendQueue.{with_end, writable}
-use Rattle.nr_endpoint.specs.LinkState.{LinkState, LinkSide}
+use Rattle.nr_endpoint.specs.LinkState.{LinkState}
 use Rattle.nr_endpoint.specs.Judging.{next_frame, with_frame, with_effect as with_segment_effect, with_end_of, reads_after, expected_response}
 use Rattle.nr_endpoint.specs.Calls.{after_call}
-use Rattle.nr_endpoint.specs.Calls.Call.{NextEvent, Stop}
+use Rattle.nr_endpoint.specs.Calls.Call.{NextEvent}
 use Rattle.nr_reduce.specs.declared.mark.LinkParameters.{LinkParameters}
 use Rattle.nr_reduce.specs.Chunks.{is_read_chunk_of_item, call_conveyed}
 use Rattle.nr_reduce.specs.OfferedMemory.{AreOffered, HoldsRegions}
@@ -30,10 +30,9 @@ use Rattle.nr_reduce.specs.Events.RunEvent.{FrameReceived}
 use Rattle.nr_reduce.specs.EndRules.{EndState, live, next_end_state, output_for}
 use Rattle.nr_reduce.specs.ServerState.{PendingCall, PendingRead, ReadyCall, ServerState}
 use Rattle.nr_reduce.specs.ServerReads.{is_over, open_reads}
-use Rattle.nr_reduce.specs.ServerMessages.{CallVerdict, by_payload, payload_of, chunk_bytes}
-use Rattle.nr_reduce.specs.ServerMessages.CallVerdict.{Refuses, IsReady}
-use Rattle.nr_reduce.specs.ServerFrames.{FrameEffect, no_effect, frame_effect, call_of_number, read_effect, is_stream_read, with_refused_call}
-use Rattle.nr_reduce.specs.Server.{server_rules, with_effect, effect_output, newly_open_reads, requests_from}
+use Rattle.nr_reduce.specs.ServerMessages.{by_payload, payload_of}
+use Rattle.nr_reduce.specs.ServerFrames.{FrameEffect, no_effect, frame_effect, call_of_number, is_stream_read, with_refused_call}
+use Rattle.nr_reduce.specs.Server.{server_rules, with_effect, newly_open_reads, requests_from}
 use Rattle.nr_reduce.specs.Holds.{chunk_error}
 use Rattle.nr_link.specs.Output.{read_request, send}
 use Rattle.nr_endpoint.proofs.Queued.{send_some, request_some}
@@ -43,22 +42,21 @@ use Rattle.nr_responder.specs.ResponderState.{ResponderSide, queued_bytes}
 use Rattle.nr_responder.specs.Keeping.{ArePayloads, Keeps, KeepsEnd, later_responses, open_responses}
 use Rattle.nr_responder.specs.private.Reading.{sink_bytes, over_sinks, left_sinks, opening}
 use Rattle.nr_responder.specs.Handling.{on_link}
-use Rattle.nr_responder.specs.ReadsDone.{side_after_done, reading_on, ended_as, still_open, sink_at, read_payload, has_bad_chunk, IsFine, IsComplete, NothingReady, MakesReady, EndsLink, RefusesCall, ReadHandled, ReadTakes}
-use Rattle.nr_responder.specs.ReadsDone.NothingReady.{Gone, Waits}
-use Rattle.nr_responder.specs.ReadsDone.ReadHandled.{GoesOn, Readies, Stops}
-use Rattle.nr_responder.specs.ReadsDone.ReadTakes.{Requests, Terminates, Answers}
+use Rattle.nr_responder.specs.private.ReadsDone.{side_after_done, ended_as, still_open, read_payload, has_bad_chunk, NothingReady, MakesReady, EndsLink, ReadTakes}
+use Rattle.nr_responder.specs.private.ReadsDone.NothingReady.{Gone, Waits}
+use Rattle.nr_responder.specs.private.ReadsDone.ReadTakes.{Requests, Terminates, Answers}
 use Rattle.nr_responder.proofs.ServerSteps.{quiet_output, closed_if_over}
-use Rattle.nr_responder.proofs.SendFrames.{frame_lives, framed, payloads_ready}
+use Rattle.nr_responder.proofs.SendFrames.{frame_lives, framed}
 use Rattle.nr_responder.proofs.Frames.{behind, TakesFrame, later_frame}
 use Rattle.nr_responder.proofs.Queues.{last_queue, last_some, sendable_ended}
 use Rattle.nr_responder.proofs.Sinks.{open_left}
 use Rattle.nr_responder.proofs.Responses.{IsResponse, part_link, part_state, part_effect, response_access, response_memory, response_part_keeps, response_part_server, placed_next, with_part, none_expected}
 use Rattle.nr_responder.proofs.ReadEffects.{requested_queue}
-use Rattle.nr_responder.proofs.LastResponses.{EffectHolds, TakesLast, after_done, done_effect, done_link, done_server, done_state, last_access}
-use Rattle.nr_responder.proofs.ReadCases.{heard, read_off, last_effect, is_bad_stream, call_gone, call_waits, call_ready, call_stops, call_refused, waits_hold, ready_holds}
+use Rattle.nr_responder.proofs.LastResponses.{EffectHolds, TakesLast, after_done, done_effect, done_link, done_server, done_state}
+use Rattle.nr_responder.proofs.ReadCases.{heard, read_off, last_effect, is_bad_stream, call_gone, call_waits, call_ready, call_stops, call_refused}
 use Rattle.nr_responder.proofs.ReadPayloads.{sinks_hold, payload_is_read}
-use Rattle.nr_responder.proofs.Told.{told_is_lem, stopped_is}
-use Rattle.nr_responder.proofs.Whole.{begun_behind, goes_on_lem, greeted_link, lives_on_lem, refuses, told_link}
+use Rattle.nr_responder.proofs.Told.{told_is_lem}
+use Rattle.nr_responder.proofs.Whole.{begun_behind, goes_on_lem, greeted_link, lives_on_lem, refuses}
 
 -- ---- A part of the response
 

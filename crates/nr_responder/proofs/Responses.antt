@@ -1,8 +1,8 @@
 -- A segment of a Read Response at a responder: the access of a peer that doesn't end its side is one to a sink.
-use Rattle.std.proofs.Common.{◌≡◌, ◌≢◌, ℕ, ◌+◌, ◌-◌, ◌<◌, ◌≤◌, Bool, true, false, not, ◌&&◌, eqb, cond, nat_lt, List, [], ◌∷◌, ◌++◌, length, take, drop, Option, Some, None, Result, Ok, Err, refl, sym, ap, subst, ◌∙◌, arith, is_some, append-nil, inl, inr}
+use Rattle.std.proofs.Common.{◌≡◌, ◌≢◌, ℕ, ◌+◌, ◌-◌, ◌<◌, Bool, true, false, not, ◌&&◌, eqb, cond, nat_lt, List, [], ◌∷◌, ◌++◌, length, take, drop, Option, Some, None, Result, Ok, Err, refl, sym, ap, subst, ◌∙◌, arith, is_some, append-nil, inl, inr}
 use Rattle.std.specs.Prelude.{find, ◌⊎◌}
 use Rattle.std.specs.List.{AllByRecursion}
-use Rattle.std.proofs.lemmas.Bool.{eqb-true, eqb-false, eq-eqb}
+use Rattle.std.proofs.lemmas.Bool.{eqb-true, eqb-false}
 use Rattle.nr_wire.specs.declared.stream.Awaited.TheVariants.{Fpdu}
 use Rattle.nr_wire.specs.Constants.{OPCODE_SEND, OPCODE_READ_REQUEST, OPCODE_READ_RESPONSE}
 use Rattle.nr_wire.specs.Segment.{Segment, segment_of}
@@ -19,11 +19,11 @@ use Rattle.nr_regions.specs.Events.MemoryEvent.{Arrive}
 use Rattle.nr_link.specs.declared.end.End.{End}
 use Rattle.nr_link.specs.Reasons.{REASON_RESPONSE}
 use Rattle.nr_link.specs.Frames.{Frame}
-use Rattle.nr_link.specs.ReceiveState.{read_request_in, received_after}
+use Rattle.nr_link.specs.ReceiveState.{read_request_in}
 use Rattle.nr_link.specs.SegmentFaults.{ExpectedResponse, is_expected}
-use Rattle.nr_link.specs.Ending.{kind_of, frame_segment, tagged_access}
+use Rattle.nr_link.specs.Ending.{kind_of, frame_segment}
 use Rattle.nr_endpoint.specs.LinkState.{LinkState}
-use Rattle.nr_endpoint.specs.Judging.{segment_end, next_frame, with_frame, with_fpdu, with_effect as with_segment_effect, fetch_access, reads_after, expected_response, after_frame}
+use Rattle.nr_endpoint.specs.Judging.{segment_end, next_frame, with_frame, with_fpdu, with_effect as with_segment_effect, fetch_access, reads_after, expected_response}
 use Rattle.nr_endpoint.specs.SegmentEnds.{denied_if, bad_if, tagged_end, RequestIsFine}
 use Rattle.nr_endpoint.proofs.Alive.{alive_tagged, alive_request, alive_send}
 use Rattle.nr_reduce.specs.declared.mark.LinkParameters.{LinkParameters}
@@ -32,10 +32,10 @@ use Rattle.nr_reduce.specs.OfferedMemory.{registered_region, held_if_open, regio
 use Rattle.nr_reduce.specs.StandingLaws.{StagsFrom}
 use Rattle.nr_reduce.specs.ServerState.{PendingRead, ServerState}
 use Rattle.nr_reduce.specs.ServerReads.{is_over, open_reads}
-use Rattle.nr_reduce.specs.ServerFrames.{FrameEffect, no_effect, with_access, effect_in, frame_effect}
+use Rattle.nr_reduce.specs.ServerFrames.{no_effect, effect_in, frame_effect}
 use Rattle.nr_reduce.specs.Server.{with_effect, received_by, response_bytes_after, tagged_accesses, effect_output}
 use Rattle.nr_reduce.proofs.MemorySteps.{holds_access, received_one, offered_later}
-use Rattle.nr_responder.specs.Keeping.{IsServer, LinkKeeps, open_responses, later_responses, open_response}
+use Rattle.nr_responder.specs.Keeping.{IsServer, LinkKeeps, open_responses, later_responses}
 use Rattle.nr_responder.proofs.SendFrames.{frame_lives, framed}
 use Rattle.nr_responder.proofs.ServerSteps.{none_new, quiet_output, closed_same}
 use Rattle.nr_responder.proofs.Supported.{supported}

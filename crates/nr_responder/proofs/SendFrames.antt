@@ -23,7 +23,7 @@ use Rattle.nr_reduce.specs.Plans.{one_if}
 use Rattle.nr_reduce.specs.OfferedRegions.{Region}
 use Rattle.nr_reduce.specs.ServerState.{PendingCall, PendingRead, ReadyCall, ServerState, is_pending}
 use Rattle.nr_reduce.proofs.MemorySteps.{holds_later, received_later, offered_later}
-use Rattle.nr_responder.specs.Keeping.{OwnNumbers, OwnXids, OwnReady, IsReadyOf, IsInline, HasPayload, ArePayloads, IsServer, LinkKeeps}
+use Rattle.nr_responder.specs.Keeping.{OwnNumbers, OwnXids, OwnReady, IsReadyOf, HasPayload, ArePayloads, IsServer, LinkKeeps}
 use Rattle.nr_responder.specs.ResponderState.{unsent}
 use Rattle.nr_responder.proofs.ServerSteps.{with_received, with_inline_call, ready_call, none_of_number, over_pushed}
 

@@ -1,5 +1,5 @@
 -- The sinks of a call are registered one after the other.
-use Rattle.std.proofs.Common.{◌≡◌, ◌≢◌, ℕ, ◌+◌, ◌<◌, ◌≤◌, Bool, true, false, eqb, cond, List, [], ◌∷◌, ◌++◌, length, Option, Some, None, refl, sym, ap, subst, ◌∙◌, arith, append_assoc, append-nil, length-append}
+use Rattle.std.proofs.Common.{◌≡◌, ℕ, ◌+◌, ◌≤◌, Bool, cond, List, [], ◌∷◌, ◌++◌, length, Some, None, refl, sym, ap, subst, ◌∙◌, arith, append_assoc, append-nil, length-append}
 use Rattle.std.proofs.lemmas.Bool.{ne_eqb}
 use Rattle.nr_regions.specs.RegisteredMemory.{RegisteredMemory, after_register}
 use Rattle.nr_regions.specs.Access.{TaggedSegment}
@@ -9,7 +9,7 @@ use Rattle.nr_reduce.specs.OfferedMemory.{AreOffered, AreReceived, HoldsRegions,
 use Rattle.nr_reduce.specs.StandingLaws.{StagsFrom}
 use Rattle.nr_reduce.specs.ServerReads.{regions_from}
 use Rattle.nr_reduce.proofs.MemorySteps.{holds_registered, offered_registered}
-use Rattle.nr_responder.specs.CallsRead.{registered}
+use Rattle.nr_responder.specs.private.CallsRead.{registered}
 
 -- regions that begin now
 abbrev pub BeginAt : ℕ → List Region → Type 0

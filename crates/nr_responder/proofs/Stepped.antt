@@ -37,7 +37,7 @@ use Rattle.nr_responder.specs.Sound.{AreSound}
 use Rattle.nr_responder.proofs.Handled.{Goes, RanOutOf, makes_handled, step_counts, same_fed}
 use Rattle.nr_responder.proofs.Posted.{memory_as}
 use Rattle.nr_responder.proofs.Sounds.{sound_step, sound_ended}
-use Rattle.nr_responder.specs.ReadsDone.{ReadHandled, ReadRanOut}
+use Rattle.nr_responder.specs.private.ReadsDone.{ReadHandled, ReadRanOut}
 use Rattle.nr_responder.proofs.Responses.{IsSend, IsResponse, Lives, frame_is, none_expected}
 use Rattle.nr_responder.proofs.ReadsTaken.{response_notices}
 use Rattle.nr_responder.proofs.Out.{out_by_link, out_by_message, out_by_read}

@@ -17,14 +17,13 @@ use Rattle.nr_link.specs.Input.{InputState}
 use Rattle.nr_link.specs.ReceiveState.{ReceiveState}
 use Rattle.nr_link.specs.Output.{own_hello}
 use Rattle.nr_link.specs.Ending.{frame_end, hello_end}
-use Rattle.nr_endpoint.specs.ReceiveQueue.{DeliveredEvent, delivered}
+use Rattle.nr_endpoint.specs.ReceiveQueue.{DeliveredEvent}
 use Rattle.nr_endpoint.specs.ReceiveQueue.DeliveredEvent.{MessageReceived}
 use Rattle.nr_endpoint.specs.SendQueue.{with_hello}
 use Rattle.nr_endpoint.specs.LinkState.{LinkState, LinkSide}
 use Rattle.nr_endpoint.specs.Judging.{next_frame, with_frame, with_peer_hello, with_end_of, reply_hello}
 use Rattle.nr_endpoint.specs.Calls.{after_call}
 use Rattle.nr_endpoint.specs.Calls.Call.{NextEvent, Stop, Send}
-use Rattle.nr_endpoint.proofs.Standing.{live_state}
 use Rattle.nr_reduce.specs.declared.mark.LinkParameters.{LinkParameters}
 use Rattle.nr_reduce.specs.OfferedRegions.{region_grants}
 use Rattle.nr_reduce.specs.Events.RunEvent.{FrameReceived}
@@ -36,7 +35,7 @@ use Rattle.nr_responder.specs.ResponderState.{ResponderSide, queued_bytes}
 use Rattle.nr_responder.specs.Keeping.{Begins, Keeps, KeepsEnd}
 use Rattle.nr_responder.specs.Keeping.Begins.{BeforeHello, AfterHello}
 use Rattle.nr_responder.specs.Handling.{Handled, IsHandled, on_link, with_ready, inline_call}
-use Rattle.nr_responder.specs.CallsRead.{complete_call, reading_call}
+use Rattle.nr_responder.specs.private.CallsRead.{complete_call, reading_call}
 use Rattle.nr_responder.specs.Handling.Handled.{Stopped, Refused, Ready, Fetched, Completed}
 use Rattle.nr_responder.proofs.Queues.{hello_queue}
 use Rattle.nr_responder.proofs.Executed.{with_message}

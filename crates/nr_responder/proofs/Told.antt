@@ -1,5 +1,5 @@
 -- The side of the link once an event was delivered, and then a Send was queued or the side stopped.
-use Rattle.std.proofs.Common.{◌≡◌, ℕ, List, [], None, refl, ap, ◌∙◌}
+use Rattle.std.proofs.Common.{◌≡◌, ℕ, List, [], None, ap, ◌∙◌}
 use Rattle.nr_wire.specs.declared.stream.Awaited.TheVariants.{Fpdu}
 use Rattle.nr_link.specs.declared.end.End.TheVariants as ends
 use Rattle.nr_endpoint.specs.ReceiveQueue.{delivered}

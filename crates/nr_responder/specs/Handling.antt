@@ -20,8 +20,8 @@ use Rattle.nr_reduce.specs.ServerFrames.{FrameEffect, no_effect, by_message}
 use Rattle.nr_responder.specs.Fetching.{payload_added}
 use Rattle.nr_responder.specs.ResponderState.{ResponderSide}
 use Rattle.nr_responder.specs.Keeping.{IsServer}
-use Rattle.nr_responder.specs.CallsRead.{HasNoBytes, complete_call, payload_at_once, reading_call}
-use Rattle.nr_responder.specs.ReadsDone.{ReadHandled, ReadRanOut}
+use Rattle.nr_responder.specs.private.CallsRead.{HasNoBytes, complete_call, payload_at_once, reading_call}
+use Rattle.nr_responder.specs.private.ReadsDone.{ReadHandled, ReadRanOut}
 use Rattle.nr_responder.specs.Views.{IsCall}
 
 -- a pending call without a read chunk

@@ -1,8 +1,6 @@
 pub mod Answering
 pub mod Codes
 pub mod Draining
-pub mod CallsRead
-pub mod ReadsDone
 pub mod Handling
 pub mod Keeping
 pub mod Laws

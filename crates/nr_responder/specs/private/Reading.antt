@@ -1,5 +1,5 @@
 -- Reads of a responder and the sink regions that they fill (RFC 8166 section 3.4.5).
-use Rattle.std.specs.Prelude.{ℕ, ◌==◌, ◌&&◌, Bool, not, if◌then◌else◌, List, [], ◌∷◌, length, take, drop, find, Option, None, Some}
+use Rattle.std.specs.Prelude.{ℕ, ◌==◌, ◌&&◌, Bool, not, if◌then◌else◌, List, [], ◌∷◌, take, drop, find, Option, None, Some}
 use Rattle.std.specs.List.{filter, list_any}
 use Rattle.nr_regions.specs.RegisteredMemory.{RegisteredMemory, bytes_in, held_region, after_release}
 use Rattle.nr_link.specs.Limits.{open_reads_max}

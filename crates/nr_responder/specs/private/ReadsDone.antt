@@ -11,7 +11,7 @@ use Rattle.nr_reduce.specs.Holds.{chunk_error}
 use Rattle.nr_reduce.specs.ServerState.{PendingCall, PendingRead}
 use Rattle.nr_reduce.specs.ServerReads.{is_read}
 use Rattle.nr_reduce.specs.ServerFrames.{is_stream_read}
-use Rattle.nr_reduce.specs.ServerMessages.{CallVerdict, by_payload}
+use Rattle.nr_reduce.specs.ServerMessages.{by_payload}
 use Rattle.nr_reduce.specs.ServerMessages.CallVerdict.{Refuses, IsReady}
 use Rattle.nr_responder.specs.Fetching.{SinkRegion, Fetching}
 use Rattle.nr_responder.specs.ResponderState.{ResponderSide}
