@@ -29,6 +29,11 @@ module _ {R : Type 0} (codec : Codec R) (results : R) (xid : ℕ) (head : ReplyH
   reply_written mid new reply none first w is =
       is ∙ w.appended.is ∙ ap (λ (b : List ℕ). b ++ encodings (codec.items results)) (first.is ∙ ap (λ (b : List ℕ). b ++ reply_head head) none) ∙ parts
 
+  -- the reply is what was written and the results after it
+  pub reply_finished : (mid : Room) (reply : List ℕ) → old.bytes ≡ [] → Appended old mid (reply_head head) → reply ≡ mid.bytes ++ encodings (codec.items results) → reply ≡ results_reply xid codec results
+  reply_finished mid reply none first is =
+      is ∙ ap (λ (b : List ℕ). b ++ encodings (codec.items results)) (first.is ∙ ap (λ (b : List ℕ). b ++ reply_head head) none) ∙ parts
+
   -- no room for the head is none for the reply
   pub no_head : old.left < length (reply_head head) → old.left < length (results_reply xid codec results)
   no_head lt = omega (arith, lt, length-append (reply_head head) (encodings (codec.items results)), ap length parts)

@@ -8,6 +8,7 @@ pub mod Sane
 pub mod Roots
 pub mod Changes
 pub mod Steps
+pub mod Pages
 pub mod Drill
 pub mod Listing
 pub mod Within
