@@ -156,13 +156,7 @@ fn place_of_file(
 }
 
 /// A regular file that is made now. Takes no memory.
-fn new_file(
-    alloc: Global,
-    caller: &Caller,
-    now: Time,
-    directory: u64,
-    how: CreateHow,
-) -> Node
+fn new_file(alloc: Global, caller: &Caller, now: Time, directory: u64, how: CreateHow) -> Node
     ensures { result ≡ file_of caller.now now directory how }
 {
     let attributes = given_attributes(how);

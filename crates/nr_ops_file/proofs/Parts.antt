@@ -36,14 +36,14 @@ left_after bs old all reply new piece offset at then end room lt from more there
     let long : length piece ≡ min (end - at) room = ap length is ∙ piece_length bs at (end - at) room there in
     let left : (end - at) - length piece ≡ end - then = omega (arith, next, long) in
     let same : take ((end - at) - length piece) (drop (at + length piece) bs) ≡ take (end - then) (drop then bs) =
-        ap (λ (n : ℕ). take n (drop (at + length piece) bs)) left ∙ ap (λ (n : ℕ). take (end - then) (drop n bs)) (sym next) in (
+    ap (λ (n : ℕ). take n (drop (at + length piece) bs)) left ∙ ap (λ (n : ℕ). take (end - then) (drop n bs)) (sym next) in (
       omega (arith, next, long, lt),
       omega (arith, next, from),
       ap length (sym same) ∙ rest_there bs at (end - at) (length piece) there (omega (arith, long)) ∙ left,
       ap (λ (l : List ℕ). new ++ l) (sym same) ∙ ap (λ (l : List ℕ). l ++ take ((end - at) - length piece) (drop (at + length piece) bs)) made
-      ∙ append_assoc reply piece (take ((end - at) - length piece) (drop (at + length piece) bs))
-      ∙ ap (λ (l : List ℕ). reply ++ l) (ap (λ (l : List ℕ). l ++ take ((end - at) - length piece) (drop (at + length piece) bs)) is ∙ sym (both_parts bs at (end - at) room (length piece) there long))
-      ∙ so_far,
+          ∙ append_assoc reply piece (take ((end - at) - length piece) (drop (at + length piece) bs))
+          ∙ ap (λ (l : List ℕ). reply ++ l) (ap (λ (l : List ℕ). l ++ take ((end - at) - length piece) (drop (at + length piece) bs)) is ∙ sym (both_parts bs at (end - at) room (length piece) there long))
+          ∙ so_far,
     )
 
 pub none_left : (bs old all reply : List ℕ) (at end : ℕ) → end ≤ at → reply ++ take (end - at) (drop at bs) ≡ old ++ all → reply ≡ old ++ all

@@ -22,9 +22,9 @@ items_last old mid new xs ys reply first second is = after_items old mid xs ys r
 shape : (w x d p : List ℕ) → ((w ++ x) ++ d) ++ p ≡ w ++ ((x ++ (d ++ p)) ++ [])
 shape w x d p = append_assoc (w ++ x) d p ∙ append_assoc w x (d ++ p) ∙ ap (λ (l : List ℕ). w ++ l) (sym (append-nil (x ++ (d ++ p))))
 
--- a length, data and their pad are opaque data
-pub data_written : (w b0 b1 b2 data : List ℕ) (n : ℕ) → n ≡ length data → b0 ≡ w ++ word n → b1 ≡ b0 ++ data → b2 ≡ b1 ++ replicate (pad_len n) 0 → b2 ≡ w ++ encodings (Opaque data ∷ [])
-data_written w b0 b1 b2 data n long first second third =
-    third ∙ ap (λ (l : List ℕ). l ++ replicate (pad_len n) 0) (second ∙ ap (λ (l : List ℕ). l ++ data) first)
-    ∙ ap (λ (m : ℕ). ((w ++ word m) ++ data) ++ replicate (pad_len m) 0) long
-    ∙ shape w (word (length data)) data (replicate (pad_len (length data)) 0)
+-- a length, the data and their pad are opaque data
+pub data_written : (w b0 b1 b2 given : List ℕ) (n : ℕ) → n ≡ length given → b0 ≡ w ++ word n → b1 ≡ b0 ++ given → b2 ≡ b1 ++ replicate (pad_len n) 0 → b2 ≡ w ++ encodings (Opaque given ∷ [])
+data_written w b0 b1 b2 given n long first second third =
+    third ∙ ap (λ (l : List ℕ). l ++ replicate (pad_len n) 0) (second ∙ ap (λ (l : List ℕ). l ++ given) first)
+    ∙ ap (λ (m : ℕ). ((w ++ word m) ++ given) ++ replicate (pad_len m) 0) long
+    ∙ shape w (word (length given)) given (replicate (pad_len (length given)) 0)

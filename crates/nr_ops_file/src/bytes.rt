@@ -62,11 +62,7 @@ fn file_to_read<'a>(tree: &'a Tree, caller: &Caller, args: &ReadArgs) -> Result<
     Ok(node)
 }
 
-fn part_read<'a>(
-    node: &'a Node,
-    attributes: Option<Attributes>,
-    args: &ReadArgs,
-) -> ReadOkPart<'a>
+fn part_read<'a>(node: &'a Node, attributes: Option<Attributes>, args: &ReadArgs) -> ReadOkPart<'a>
     requires { is_regular node.now ≡ true }
     ensures { result ≡ read_ok attributes (bytes_of node.now.content) args.now.offset (piece_read (bytes_of node.now.content) args.now.offset args.now.count) }
 {

@@ -6,13 +6,13 @@ use Rattle.nr_ops_file.proofs.data.append_part.Goals as goal
 pub overflow_add-at : goal.overflow_add-at
 overflow_add-at c =
     let some : (0 < length c.read-piece.result.now) × (length c.read-piece.result.now ≤ c.args.end - c.loop-at.at) =
-        some_piece c.args.file.now c.read-piece.result.now c.loop-at.at (c.args.end - c.loop-at.at) (page_size - c.loop-at.at % page_size) c.loop-at.invariant.2 c.read-piece.ensures (omega arith) (omega arith) in
+    some_piece c.args.file.now c.read-piece.result.now c.loop-at.at (c.args.end - c.loop-at.at) (page_size - c.loop-at.at % page_size) c.loop-at.invariant.2 c.read-piece.ensures (omega arith) (omega arith) in
     omega arith
 
 pub loop-at-smaller : goal.loop-at-smaller
 loop-at-smaller c =
     let some : (0 < length c.read-piece.result.now) × (length c.read-piece.result.now ≤ c.args.end - c.loop-at.at) =
-        some_piece c.args.file.now c.read-piece.result.now c.loop-at.at (c.args.end - c.loop-at.at) (page_size - c.loop-at.at % page_size) c.loop-at.invariant.2 c.read-piece.ensures (omega arith) (omega arith) in
+    some_piece c.args.file.now c.read-piece.result.now c.loop-at.at (c.args.end - c.loop-at.at) (page_size - c.loop-at.at % page_size) c.loop-at.invariant.2 c.read-piece.ensures (omega arith) (omega arith) in
     omega arith
 
 pub loop-at-preserved : goal.loop-at-preserved
