@@ -22,8 +22,8 @@ use nr_nfs_args::{
 };
 use nr_nfs_base::StatusUnion;
 use nr_nfs_res::{
-    AccessRes, CommitRes, FsinfoRes, FsstatRes, GetattrRes, LookupRes, PathconfRes,
-    ReaddirRes, ReaddirplusRes, ReadlinkRes,
+    AccessRes, CommitRes, FsinfoRes, FsstatRes, GetattrRes, LookupRes, PathconfRes, ReaddirRes,
+    ReaddirplusRes, ReadlinkRes,
 };
 use nr_ops_file::ReadResPart;
 use nr_rpc::write_reply_head;
