@@ -131,7 +131,11 @@ static PAGES: [Row; 10] = [
         b"hel\0\0\0\0\0",
     ),
     (
-        &[(None, 8192, b"x"), (Some(8192), 0, b""), (Some(8193), 0, b"")],
+        &[
+            (None, 8192, b"x"),
+            (Some(8192), 0, b""),
+            (Some(8193), 0, b""),
+        ],
         1,
         8193,
         8192,
@@ -180,8 +184,13 @@ fn pages_of_files(rt: HostRuntime) {
 }
 
 /// A number of the drill's tree, and how many pages of its file are kept.
-static PAGES_OF_NUMBERS: [(u64, Option<u32>); 5] =
-    [(1, None), (2, Some(1)), (3, None), (5, Some(0)), (105, None)];
+static PAGES_OF_NUMBERS: [(u64, Option<u32>); 5] = [
+    (1, None),
+    (2, Some(1)),
+    (3, None),
+    (5, Some(0)),
+    (105, None),
+];
 
 #[test]
 fn pages_of_numbers(rt: HostRuntime) {
