@@ -155,28 +155,15 @@ fn place_of_file(
     Ok((directory, existing))
 }
 
-fn zeros(alloc: Global, len: u64) -> Result<Vec<u8>, Memory>
-    ensures { IfOk result (λ v. v.items ≡ replicate len 0) }
-{
-    Ok(vec![in alloc; 0; len as usize]?)
-}
-
-/// A regular file that is made now.
-fn new_file(
-    alloc: Global,
-    caller: &Caller,
-    now: Time,
-    directory: u64,
-    how: CreateHow,
-) -> Result<Node, Memory>
-    ensures { IfOk result (λ node. node ≡ file_of caller.now now directory how) }
+/// A regular file that is made now. Takes no memory.
+fn new_file(alloc: Global, caller: &Caller, now: Time, directory: u64, how: CreateHow) -> Node
+    ensures { result ≡ file_of caller.now now directory how }
 {
     let attributes = given_attributes(how);
-    let bytes = zeros(alloc, attributes.size.unwrap_or(0))?;
-    let content = Content::Regular(File::from_vec(bytes));
+    let content = Content::Regular(File::zeros(alloc, attributes.size.unwrap_or(0)));
     let mut node = new_node(caller, now, directory, FILE_MODE, &attributes, content);
     node.verifier = given_verifier(how);
-    Ok(node)
+    node
 }
 
 /// Makes the file and its entry. After an `Err` the tree is as before.
@@ -195,7 +182,7 @@ fn add_file(
     ensures tree { OnOk result (tree.new ≡ tree_with_node tree.old now directory args.name (file_of caller.now now directory args.how)) }
     ensures err { OnErr result (tree.new ≡ tree.old) }
 {
-    let node = new_file(alloc, caller, now, directory, args.how)?;
+    let node = new_file(alloc, caller, now, directory, args.how);
     let name = args.name;
     add_node(alloc, tree, now, args.dir.as_slice(), name, directory, node)
 }

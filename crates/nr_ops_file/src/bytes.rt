@@ -1,7 +1,7 @@
 //! READ, WRITE and COMMIT.
 
-ghost use Rattle.std.specs.Prelude.{◌≡◌, ◌+◌, ◌≤◌, nat_le, take, true, None, Some, length, IfOk, OnOk, OnErr, MatchResult};
-ghost use Rattle.nr_ops_file.specs.Bytes.{regular_rules, read_rules, piece_read, read_reply, piece_rules, piece_written, write_rules, write_tree, write_reply, commit_rules, commit_reply};
+ghost use Rattle.std.specs.Prelude.{◌≡◌, ◌+◌, ◌≤◌, take, true, None, Some, length, IfOk, OnOk, OnErr, MatchResult};
+ghost use Rattle.nr_ops_file.specs.Bytes.{regular_rules, read_rules, piece_read, read_ok, read_reply, piece_rules, piece_written, write_rules, write_tree, write_reply, commit_rules, commit_reply};
 ghost use Rattle.nr_nfs_base.specs.Limits.{transfer_max};
 ghost use Rattle.nr_tree.specs.Rules.{first, node_of_handle, number_of_handle, IsWithinCapacity};
 ghost use Rattle.nr_tree.specs.Sane.{file_size_max};
@@ -9,11 +9,12 @@ ghost use Rattle.nr_tree.specs.Steps.{is_regular_at};
 ghost use Rattle.nr_nfs_base.specs.declared.stable.StableHow.TheVariants.{FileSync};
 ghost use Rattle.nr_tree.specs.Tree.{is_regular, bytes_of};
 
+use crate::data::{ReadOkPart, ReadResPart};
 use nr_nfs_args::{CommitArgs, ReadArgs, WriteArgsRef};
 use nr_nfs_base::{
     Attributes, Caller, StableHow, Status, StatusUnion, TRANSFER_MAX, Time, WccData,
 };
-use nr_nfs_res::{CommitOk, CommitRes, ReadOkRef, ReadResRef, WriteOk, WriteRes};
+use nr_nfs_res::{CommitOk, CommitRes, WriteOk, WriteRes};
 use nr_tree::{
     Content, FILE_SIZE_MAX, Node, Right, Space, Tree, attributes_at, check_space, live_node, may,
     wcc_attributes_at, wcc_data,
@@ -35,15 +36,12 @@ fn check_regular(node: &Node) -> Result<(), Status>
 
 /// Bytes of a regular file from an offset on, as many as are asked for, may be moved and are there (RFC 1813 section
 /// 3.3.6). The data are those of the tree. Takes no memory.
-pub fn read<'a>(tree: &'a Tree, caller: &Caller, args: &ReadArgs) -> ReadResRef<'a>
+pub fn read<'a>(tree: &'a Tree, caller: &Caller, args: &ReadArgs) -> ReadResPart<'a>
     ensures { result ≡ read_reply tree.now caller.now args.now }
 {
     let attributes = attributes_at(tree, args.file.as_slice());
     match file_to_read(tree, caller, args) {
-        Ok(node) => {
-            let piece = read_piece(node, args.offset, args.count);
-            StatusUnion::Done(read_results(piece, node.size(), attributes, args.offset))
-        }
+        Ok(node) => StatusUnion::Done(part_read(node, attributes, args)),
         Err(status) => StatusUnion::Failed {
             status,
             part: attributes,
@@ -64,36 +62,14 @@ fn file_to_read<'a>(tree: &'a Tree, caller: &Caller, args: &ReadArgs) -> Result<
     Ok(node)
 }
 
-fn read_piece(node: &Node, offset: u64, count: u32) -> &[u8]
+fn part_read<'a>(node: &'a Node, attributes: Option<Attributes>, args: &ReadArgs) -> ReadOkPart<'a>
     requires { is_regular node.now ≡ true }
-    ensures value { result.now ≡ piece_read (bytes_of node.now.content) offset count }
-    ensures bounded { length result.now ≤ transfer_max }
+    ensures { result ≡ read_ok attributes (bytes_of node.now.content) args.now.offset (piece_read (bytes_of node.now.content) args.now.offset args.now.count) }
 {
     match &node.content {
-        Content::Regular(file) => file.read(offset, count.min(TRANSFER_MAX)),
+        Content::Regular(file) => ReadOkPart::new(attributes, file, args.offset, args.count),
         _ => unreachable!(),
     }
-}
-
-/// Whether a piece reaches the end of a file, or its offset is past it.
-fn reaches_end(size: u64, offset: u64, count: u32) -> bool
-    ensures { result ≡ nat_le size (offset + count) }
-{
-    size.saturating_sub(offset) <= count as u64
-}
-
-/// The piece that was read of a file of this size.
-fn read_results(
-    piece: &[u8],
-    size: u64,
-    attributes: Option<Attributes>,
-    offset: u64,
-) -> ReadOkRef<'_>
-    requires { length piece.now ≤ transfer_max }
-    ensures { result ≡ record { attributes = attributes; count = length piece.now; eof = nat_le size (offset + length piece.now); bytes = piece.now } }
-{
-    let count = piece.len() as u32;
-    ReadOkRef::new(attributes, count, reaches_end(size, offset, count), piece)
 }
 
 /// Writes over the bytes of a regular file from an offset on, as many of the data as may be moved; a gap becomes zeros

@@ -11,12 +11,14 @@
 
 mod attributes;
 mod bytes;
+mod data;
 mod file_system;
 mod links;
 mod preferred;
 
 pub use attributes::{access, getattr, setattr};
 pub use bytes::{commit, read, write};
+pub use data::{ReadOkPart, ReadResPart, finish_read};
 pub use file_system::{fsinfo, fsstat, pathconf};
 pub use links::readlink;
 pub use preferred::preferred_sizes;

@@ -1,8 +1,9 @@
 -- Replies that are written into a writer with room: the head, and the results after it.
-use Rattle.std.proofs.Common.{◌≡◌, ℕ, ◌≤◌, ◌<◌, List, [], ◌++◌, length, refl, ap, ◌∙◌, arith, length-append}
+use Rattle.std.proofs.Common.{◌≡◌, ℕ, ◌≤◌, ◌<◌, List, [], ◌++◌, length, Result, Ok, Err, IfOk, refl, ap, ◌∙◌, arith, length-append}
 use Rattle.nr_xdr.specs.Item.{word, pad_len}
 use Rattle.nr_xdr.specs.Items.{encodings}
 use Rattle.nr_xdr.specs.Room.{Room, HasRoom, Appended}
+use Rattle.nr_xdr.specs.declared.fault.Memory.{Memory}
 use Rattle.nr_nfs_base.specs.Codec.{Codec, AppendsValue}
 use Rattle.nr_rpc.specs.Reply.{reply_head, reply_encoding}
 use Rattle.nr_rpc.specs.declared.head.ReplyHead.{ReplyHead}
@@ -28,6 +29,12 @@ module _ {R : Type 0} (codec : Codec R) (results : R) (xid : ℕ) (head : ReplyH
   pub reply_written : (mid new : Room) (reply : List ℕ) → old.bytes ≡ [] → Appended old mid (reply_head head) → AppendsValue codec mid results new → reply ≡ new.bytes → reply ≡ results_reply xid codec results
   reply_written mid new reply none first w is =
       is ∙ w.appended.is ∙ ap (λ (b : List ℕ). b ++ encodings (codec.items results)) (first.is ∙ ap (λ (b : List ℕ). b ++ reply_head head) none) ∙ parts
+
+  -- the head was written, and the reply is what a call made of it and the results, if it made one
+  pub reply_finished : (mid : Room) (r : Result (List ℕ) Memory) → old.bytes ≡ [] → Appended old mid (reply_head head) → IfOk r (λ o. o ≡ mid.bytes ++ encodings (codec.items results)) → IfOk r (λ o. o ≡ results_reply xid codec results)
+  reply_finished mid (Ok reply) none first is =
+      is ∙ ap (λ (b : List ℕ). b ++ encodings (codec.items results)) (first.is ∙ ap (λ (b : List ℕ). b ++ reply_head head) none) ∙ parts
+  reply_finished mid (Err e) none first is = tt
 
   -- no room for the head is none for the reply
   pub no_head : old.left < length (reply_head head) → old.left < length (results_reply xid codec results)

@@ -22,9 +22,10 @@ use nr_nfs_args::{
 };
 use nr_nfs_base::StatusUnion;
 use nr_nfs_res::{
-    AccessRes, CommitRes, FsinfoRes, FsstatRes, GetattrRes, LookupRes, PathconfRes, ReadResRef,
-    ReaddirRes, ReaddirplusRes, ReadlinkRes, write_read_res,
+    AccessRes, CommitRes, FsinfoRes, FsstatRes, GetattrRes, LookupRes, PathconfRes, ReaddirRes,
+    ReaddirplusRes, ReadlinkRes,
 };
+use nr_ops_file::ReadResPart;
 use nr_rpc::write_reply_head;
 use nr_tree::Tree;
 use nr_xdr::{Memory, Octets, RoomWriter, pad_len};
@@ -61,22 +62,21 @@ pub(crate) fn read_file(alloc: Global, tree: &Tree, call: &Call) -> Result<Octet
 }
 
 /// How many bytes of data the results have.
-fn data_len(results: &ReadResRef<'_>) -> usize {
+fn data_len(results: &ReadResPart<'_>) -> usize {
     match results {
-        StatusUnion::Done(done) => done.bytes().len(),
+        StatusUnion::Done(done) => done.len(),
         StatusUnion::Failed { .. } => 0,
     }
 }
 
 /// The reply with these results of a READ.
-fn read_reply_of(alloc: Global, xid: u32, results: &ReadResRef<'_>) -> Result<Octets, Memory>
+fn read_reply_of(alloc: Global, xid: u32, results: &ReadResPart<'_>) -> Result<Octets, Memory>
     ensures { IfOk result (λ o. o ≡ results_reply xid read_res_codec results.now) }
 {
     let data = data_len(results);
     let writer = RoomWriter::with_room(alloc, (READ_SIZE + pad_len(data)).saturating_add(data))?;
     let writer = write_reply_head(writer, &accepted_head(xid, SUCCESS))?;
-    let writer = write_read_res(results, writer)?;
-    Ok(writer.finish())
+    nr_ops_file::finish_read(results, writer)
 }
 
 impl Reading for GetattrArgs {

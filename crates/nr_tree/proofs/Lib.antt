@@ -14,8 +14,10 @@ pub mod Renames
 pub mod Walks
 pub mod PassedRules
 pub mod NodeMaps
+pub mod PageLemmas
+pub mod FileLemmas
+pub mod PageCount
 pub mod Slots
-pub mod ByteLemmas
 pub mod Roots
 pub mod RemovalReady
 pub mod StepLemmas

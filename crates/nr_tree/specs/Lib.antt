@@ -8,6 +8,8 @@ pub mod Sane
 pub mod Roots
 pub mod Changes
 pub mod Steps
+pub mod Pages
+pub mod Paged
 pub mod Drill
 pub mod Listing
 pub mod Within

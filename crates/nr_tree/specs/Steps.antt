@@ -1,10 +1,11 @@
 -- When each step of a tree may be taken.
-use Rattle.std.specs.Prelude.{◌≡◌, ℕ, ◌+◌, ◌<◌, ◌≤◌, ◌^◌, Bool, true, false, List, [], length, Option, None, Some}
+use Rattle.std.specs.Prelude.{◌≡◌, ℕ, ◌+◌, ◌<◌, ◌≤◌, ◌^◌, Bool, true, false, if◌then◌else◌, List, [], length, Option, None, Some}
 use Rattle.std.specs.Option.{option_map}
 use Rattle.std.specs.FinMap.{get}
 use Rattle.nr_tree.specs.Entries.{Entry, entry_of_name, name_length_max}
 use Rattle.nr_tree.specs.DirectoryGraph.{DirectoryGraph, one_if, LiesBelow, links_max}
-use Rattle.nr_tree.specs.Tree.{Tree, value_at, is_dir, is_regular, entries_in}
+use Rattle.nr_tree.specs.Tree.{Tree, value_at, is_dir, is_regular, entries_in, bytes_of}
+use Rattle.nr_tree.specs.Pages.{pages_of}
 use Rattle.nr_tree.specs.Sane.{IsValidContent, skeleton}
 use Rattle.nr_tree.specs.Changes.{entry_at, next_cookie_of}
 use Rattle.nr_tree.specs.declared.node.Node.{Node}
@@ -17,6 +18,10 @@ is_dir_at t n = value_at is_dir false t.nodes n
 
 abbrev pub is_regular_at : Tree → ℕ → Bool
 is_regular_at t n = value_at is_regular false t.nodes n
+
+-- how many pages of the file under a number hold a byte that isn't 0; none if and only if there is no regular file
+abbrev pub pages_at : Tree → ℕ → Option ℕ
+pages_at t n = if is_regular_at t n then Some (pages_of (value_at (λ node. bytes_of node.content) [] t.nodes n)) else None
 
 abbrev pub entries_at : Tree → ℕ → List Entry
 entries_at t n = value_at entries_in [] t.nodes n

@@ -1,6 +1,6 @@
 //! The tree that a drill begins with.
 
-ghost use Rattle.std.specs.Prelude.{◌≡◌, ◌+◌, ◌/◌, ◌%◌, ◌<◌, ◌^◌, [], ◌∷◌, IfOk, OnOk, OnErr};
+ghost use Rattle.std.specs.Prelude.{length, ◌^◌, ◌<◌, ◌≡◌, ◌+◌, ◌/◌, ◌%◌, ◌<◌, ◌^◌, [], ◌∷◌, IfOk, OnOk, OnErr};
 ghost use Rattle.nr_tree.specs.Changes.{tree_with_node};
 ghost use Rattle.nr_tree.specs.Drill.{time_zero, drill_node, mode_666, mode_777, file_name, with_root, with_hello, with_link, with_many, IsDrill, IsDrillWith};
 ghost use Rattle.nr_tree.specs.Steps.{CanAddNode, IsBelow, IsBounded};
@@ -54,10 +54,11 @@ fn node(mode: u32, links: u32, parent: u64, content: Content) -> Node
     }
 }
 
-fn file(alloc: Global, parent: u64, bytes: &[u8]) -> Result<Node, AllocError>
+fn file(alloc: Global, parent: u64, bytes: &[u8]) -> Result<Node, Memory>
+    requires { length bytes.now < 2 ^ 62 }
     ensures { IfOk result (λ n. n ≡ drill_node mode_666 1 parent (RegularNode bytes.now)) }
 {
-    let content = Content::Regular(File::from_vec(Vec::from_slice(alloc, bytes)?));
+    let content = Content::Regular(File::from_slice(alloc, bytes)?);
     Ok(node(0o666, 1, parent, content))
 }
 

@@ -47,7 +47,9 @@ pub struct Node {
 }
 
 ghost use Rattle.std.specs.Prelude.{◌≡◌, ◌+◌, ◌-◌, ◌*◌, ◌<◌, ◌≤◌, ◌^◌, IsTrue, IfSome, is_some, length, OnOk, OnErr};
+ghost use Rattle.std.specs.Prelude.{if◌then◌else◌, Some, None};
 ghost use Rattle.nr_tree.specs.Listing.{count_until};
+ghost use Rattle.nr_tree.specs.Pages.{pages_of};
 ghost use Rattle.std.specs.Option.{option_map};
 ghost use Rattle.nr_tree.specs.Entries.{entry_of_name};
 ghost use Rattle.nr_tree.specs.DirectoryGraph.{one_if};
@@ -188,7 +190,7 @@ impl Node {
         ensures err { OnErr result (self.new ≡ self.old) }
     {
         match &mut self.content {
-            Content::Regular(file) => file.set_len(size)?,
+            Content::Regular(file) => file.set_len(size),
             _ => unreachable!(),
         }
         self.metadata.mtime = now;
@@ -202,6 +204,16 @@ impl Node {
     {
         match &self.content {
             Content::Directory(entries) => entries.number_of(name),
+            _ => None,
+        }
+    }
+
+    /// How many pages of a regular file are kept: those with a byte that isn't 0; none if the node is no regular file.
+    pub(crate) fn pages(&self) -> Option<usize>
+        ensures { result ≡ (if is_regular_node self.now then Some (pages_of (bytes_of self.now.content)) else None) }
+    {
+        match &self.content {
+            Content::Regular(file) => Some(file.pages()),
             _ => None,
         }
     }

@@ -37,7 +37,7 @@ impl Model for Tree {
 impl Tree {
     ghost use Rattle.nr_tree.specs.Sane.{IsSane, file_size_max};
     ghost use Rattle.nr_tree.specs.Roots.{root_only as root_alone};
-    ghost use Rattle.nr_tree.specs.Steps.{IsBelow, IsBounded, CanAddNode, CanAddLink, CanRemoveEntry, CanRename, entries_at, is_dir_at, is_regular_at, links_at};
+    ghost use Rattle.nr_tree.specs.Steps.{IsBelow, IsBounded, CanAddNode, CanAddLink, CanRemoveEntry, CanRename, entries_at, is_dir_at, is_regular_at, links_at, pages_at};
     ghost use Rattle.nr_tree.specs.Changes.{tree_with_node, tree_without_entry, tree_with_link, tree_with_bytes, tree_with_size, tree_with_metadata, tree_with_new_name};
 
     /// The tree with a root alone, which is made now: number 1, mode 0777, uid 0, gid 0. The next number is 2.
@@ -88,6 +88,16 @@ impl Tree {
             Some(node) => node.place_after(cookie, steps),
             None => None,
         }
+    }
+
+    /// How many pages of a regular file are kept: of 4096 bytes each, those that hold a byte that isn't 0. None if and only if the
+    /// number is no regular file. Takes no memory.
+    pub fn pages(&self, number: u64) -> Option<u32>
+        ensures { result ≡ pages_at self.now number }
+    {
+        self.facts();
+        let pages = self.get(number)?.pages()?;
+        Some(pages as u32)
     }
 
     /// Puts a new node under the next number, and an entry for it last into a directory, which is changed now (CREATE,
