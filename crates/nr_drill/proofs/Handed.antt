@@ -304,19 +304,19 @@ none_then o link run mark h e = due_then o link run mark h ∙ ap (λ (cs : List
 elsewhere_brings : (o : LinkParameters) (link : ℕ) (run : List Mark) (mark : Mark) → link_of mark ≢ link → BringsNone o link run mark
 elsewhere_brings o link run mark ne = record {
   none = subst NoFrames (sym (no_event link Initiator run mark ne)) tt;
-  fresh = ap (λ (cs : List AcceptedCall). flat_map (outcomes_of_call (client o link run).state.outcomes) cs) (not-accepted mark ne);
+  fresh = ap (λ (cs : List AcceptedCall). flat_map (outcomes_of_call (client o link run).state.outcomes) cs) (not_accepted mark ne);
 }
   where
-    not-accepted : (mark : Mark) → link_of mark ≢ link → accepted_at link mark ≡ []
-    not-accepted (marks.Submit l call form answer) ne = ap (λ (b : Bool). if b then accepted_as answer call form else []) (apart l link ne)
-    not-accepted (marks.Wrote l s bytes) ne = refl
-    not-accepted (marks.Fed l s bytes) ne = refl
-    not-accepted (marks.Execute l xid moment payload place reply) ne = refl
-    not-accepted (marks.Done l xid outcome) ne = refl
-    not-accepted (marks.Lost l xid) ne = refl
-    not-accepted (marks.Forget l xid) ne = refl
-    not-accepted (marks.Revoke l xid bytes) ne = refl
-    not-accepted (marks.Drop l) ne = refl
+    not_accepted : (mark : Mark) → link_of mark ≢ link → accepted_at link mark ≡ []
+    not_accepted (marks.Submit l call form answer) ne = ap (λ (b : Bool). if b then accepted_as answer call form else []) (apart l link ne)
+    not_accepted (marks.Wrote l s bytes) ne = refl
+    not_accepted (marks.Fed l s bytes) ne = refl
+    not_accepted (marks.Execute l xid moment payload place reply) ne = refl
+    not_accepted (marks.Done l xid outcome) ne = refl
+    not_accepted (marks.Lost l xid) ne = refl
+    not_accepted (marks.Forget l xid) ne = refl
+    not_accepted (marks.Revoke l xid bytes) ne = refl
+    not_accepted (marks.Drop l) ne = refl
 
 none_elsewhere : (o : LinkParameters) (link other : ℕ) (old added : List Mark) → other ≢ link → AllByRecursion (λ (mark : Mark). link_of mark ≡ other) added → NoneDue o link old → NoneDue o link (old ++ added)
 none_elsewhere o link other old [] ne own h = subst (NoneDue o link) (sym (append-nil old)) h
@@ -584,11 +584,11 @@ lines_hand s clients link (line ∷ others) old new opened w e k h =
 openings_hand : (s : Setting) (link : ℕ) (links : List ℕ) (d : Drill) → IsLawful (s.opened link) link d.marks → HandsAll s link d → HandsAll s link (after_openings s links d)
 openings_hand s link [] d lawful h = h
 openings_hand s link (l ∷ links) d lawful h =
-    openings_hand s link links (after_opening s l d) (opened-lawful s l link d lawful)
+    openings_hand s link links (after_opening s l d) (opened_lawful s l link d lawful)
     (hands_by s l link d (after_opening s l d) (record { own = λ own e. opening_hands s l d; extends = opening_adds s l d }) lawful h)
   where
-    opened-lawful : (s : Setting) (l link : ℕ) (d : Drill) → IsLawful (s.opened link) link d.marks → IsLawful (s.opened link) link (after_opening s l d).marks
-    opened-lawful s l link d lawful = by (eqb l link) refl
+    opened_lawful : (s : Setting) (l link : ℕ) (d : Drill) → IsLawful (s.opened link) link d.marks → IsLawful (s.opened link) link (after_opening s l d).marks
+    opened_lawful s l link d lawful = by (eqb l link) refl
       where
         differs : false ≡ true → ⊥
         differs e = absurd cc

@@ -356,10 +356,10 @@ neither false true e = absurd cc
 neither false false e = (refl, refl)
 
 none_completed : (link xid : ℕ) (run : List Mark) → is_completed link xid run ≡ false → (c : CompletedCall) → Contains (completed_calls link run) c → c.xid ≢ xid
-none_completed link xid run none c h same = absurd (true-not (sym (passes_any (λ (x : CompletedCall). eqb x.xid xid) (completed_calls link run) c h (eq-eqb c.xid xid same)) ∙ none))
+none_completed link xid run none c h same = absurd (true_not (sym (passes_any (λ (x : CompletedCall). eqb x.xid xid) (completed_calls link run) c h (eq-eqb c.xid xid same)) ∙ none))
   where
-    true-not : true ≡ false → ⊥
-    true-not e = absurd cc
+    true_not : true ≡ false → ⊥
+    true_not e = absurd cc
 
 handed : (o : LinkParameters) (link : ℕ) (run : List Mark) (c : CompletedCall) → slice_get (outcomes_due o link run) 0 ≡ Some c → IsCompleted o link run c.xid c.outcome
 unfolding outcomes_due

@@ -1,7 +1,7 @@
 //! The report of a run, by its marks and by what its links came to.
 
 ghost use Rattle.std.specs.Prelude.{◌≡◌, ℕ, ◌+◌, ◌-◌, ◌≤◌, ◌++◌, [], length, map, IfOk, OnOk, slice_get};
-ghost use Rattle.nr_script.specs.Limits.{most_clients};
+ghost use Rattle.nr_script.specs.Limits.{clients_max};
 ghost use Rattle.nr_drill.specs.Drill.{links_of};
 ghost use Rattle.nr_drill.specs.Headline.{log_of};
 ghost use Rattle.nr_drill.specs.LinkEnds.{TellsRuns};
@@ -54,7 +54,7 @@ fn push_link(reports: &mut Vec<LinkReport>, link: u32, ends: LinkEnds) -> Result
 
 /// What is reported of links, the first of which is that of client 1.
 fn link_reports(alloc: Global, ends: &[LinkEnds]) -> Result<Vec<LinkReport>, Memory>
-    requires { length ends.now ≤ most_clients }
+    requires { length ends.now ≤ clients_max }
     ensures { IfOk result (λ reports. reports.items ≡ link_reports_from 1 ends.now) }
 {
     let mut reports = Vec::new(alloc);
@@ -179,7 +179,7 @@ fn calls_of(
     marks: &[Mark],
     ends: &[LinkEnds],
 ) -> Result<(Vec<CallReport>, Vec<Entry>), Memory>
-    requires { length ends.now ≤ most_clients }
+    requires { length ends.now ≤ clients_max }
     ensures { IfOk result (λ told. AreNumbered (length ends.now) marks.now → AreCalls marks.now ends.now told.0.items told.1.items) }
 {
     let Draft {
@@ -193,7 +193,7 @@ fn calls_of(
 
 /// What a report says beside its marks.
 fn report_parts(alloc: Global, marks: &[Mark], ends: &[LinkEnds]) -> Result<ReportParts, Memory>
-    requires { length ends.now ≤ most_clients }
+    requires { length ends.now ≤ clients_max }
     ensures calls { IfOk result (λ told. AreNumbered (length ends.now) marks.now → AreCalls marks.now ends.now told.calls.items told.journal.items) }
     ensures links { IfOk result (λ told. told.links.items ≡ link_reports_from 1 ends.now) }
     ensures logs { IfOk result (λ told. told.logs.items ≡ map (log_of marks.now) (links_of (length ends.now))) }
@@ -215,7 +215,7 @@ fn report_parts(alloc: Global, marks: &[Mark], ends: &[LinkEnds]) -> Result<Repo
 ///
 /// [`Memory`] if memory ran out.
 pub fn report_of(alloc: Global, marks: Marks, ends: &[LinkEnds]) -> Result<Report, Memory>
-    requires { length ends.now ≤ most_clients }
+    requires { length ends.now ≤ clients_max }
     ensures marks { IfOk result (λ report. report.marks ≡ marks) }
     // Of the run of a drill whose links came to that it says what its marks say.
     ensures reports { IfOk result (λ report. TellsRuns marks ends.now report) }

@@ -18,7 +18,7 @@ use Rattle.nr_link.specs.Output.{read_response}
 use Rattle.nr_link.specs.ReceiveState.{is_send, begun_bytes, read_request_in, send_continued}
 use Rattle.nr_link.specs.SegmentFaults.{ExpectedResponse, is_begun}
 use Rattle.nr_endpoint.specs.SendQueue.{with_end, written}
-use Rattle.nr_endpoint.specs.ReceiveQueue.{DeliveredEvent, ReceiveQueue, with_segment, with_read_done, lent_for, sends_begun, messages_in, receives_kept, message_notices}
+use Rattle.nr_endpoint.specs.ReceiveQueue.{DeliveredEvent, ReceiveQueue, with_segment, with_read_done, lent_for, sends_begun, messages_in, receives_kept, message_deliveries}
 use Rattle.nr_endpoint.specs.ReceiveQueue.DeliveredEvent.{MessageReceived, ReadDone}
 use Rattle.nr_endpoint.specs.LinkState.{LinkState, LinkSide, has_ended, initial_link}
 use Rattle.nr_endpoint.specs.Judging.{segment_end, next_frame, with_frame, with_segment_by, with_fpdu, with_peer_hello, with_effect, with_read_request, with_read_response, reads_after, fetch_access}
@@ -42,7 +42,7 @@ messages_append (ReadDone ∷ xs) ys = messages_append xs ys
 -- ---- What a segment does to the receives
 
 read_receives : (opened : ℕ) (q : ReceiveQueue) (last : Bool) → HasReceives opened q → HasReceives opened (cond last (with_read_done q) q)
-read_receives opened q true has = (omega (arith, has.0, messages_append q.notices (ReadDone ∷ [])), has.1)
+read_receives opened q true has = (omega (arith, has.0, messages_append q.deliveries (ReadDone ∷ [])), has.1)
 read_receives opened q false has = has
 
 kept_begun_lem : (n : ℕ) (begun : Option (List ℕ)) → sends_begun (begun_within n begun) ≡ sends_begun begun
@@ -58,14 +58,14 @@ send_receives : (opened : ℕ) (q : ReceiveQueue) (last : Bool) (w queue msn off
     HasReceives opened (with_segment (Untagged last OPCODE_SEND w queue msn offset payload) q)
 unfolding with_segment
 send_receives opened q true w queue msn offset payload some has =
-    (omega (arith, has.0, one_taken_lem q.received.begun q.free some, messages_append q.notices (MessageReceived (q.received.sends + 1) None (begun_bytes q.received.begun ++ payload) ∷ [])), has.1)
+    (omega (arith, has.0, one_taken_lem q.received.begun q.free some, messages_append q.deliveries (MessageReceived (q.received.sends + 1) None (begun_bytes q.received.begun ++ payload) ∷ [])), has.1)
 send_receives opened q false w queue msn offset payload some has =
-    (omega (arith, has.0, one_taken_lem q.received.begun q.free some, messages_append q.notices []), has.1)
+    (omega (arith, has.0, one_taken_lem q.received.begun q.free some, messages_append q.deliveries []), has.1)
 
 request_receives : (opened : ℕ) (q : ReceiveQueue) (last : Bool) (w queue msn offset : ℕ) (payload : List ℕ) → HasReceives opened q →
     HasReceives opened (with_segment (Untagged last OPCODE_READ_REQUEST w queue msn offset payload) q)
 unfolding with_segment
-request_receives opened q last w queue msn offset payload has = (omega (arith, has.0, kept_begun_lem q.receive_length q.received.begun, messages_append q.notices []), has.1)
+request_receives opened q last w queue msn offset payload has = (omega (arith, has.0, kept_begun_lem q.receive_length q.received.begun, messages_append q.deliveries []), has.1)
 
 -- of another opcode nothing is counted
 other_receives : (opened : ℕ) (q : ReceiveQueue) (last : Bool) (opcode w queue msn offset : ℕ) (payload : List ℕ) → is_send opcode ≡ false → eqb opcode OPCODE_READ_REQUEST ≡ false →
@@ -84,11 +84,11 @@ other_receives opened q last opcode w queue msn offset payload no_send no_reques
       };
       free = cond (b && not (is_begun q.received.begun)) (q.free - 1) q.free;
       lent = q.lent;
-      notices = q.notices ++ message_notices (q.received.sends + 1) (cond (b && last) (Some (begun_bytes q.received.begun ++ payload)) None);
+      deliveries = q.deliveries ++ message_deliveries (q.received.sends + 1) (cond (b && last) (Some (begun_bytes q.received.begun ++ payload)) None);
     })
     by true r is none = absurd cc
     by false true is none = absurd cc
-    by false false is none = (omega (arith, has.0, kept_begun_lem q.receive_length q.received.begun, messages_append q.notices []), has.1)
+    by false false is none = (omega (arith, has.0, kept_begun_lem q.receive_length q.received.begun, messages_append q.deliveries []), has.1)
 
 segment_receives : (opened : ℕ) (s : LinkState) (f : Frame) (last : Bool) (opcode w queue msn offset : ℕ) (payload : List ℕ) → f.at ≡ s.place →
     segment_end s f (Untagged last opcode w queue msn offset payload) ≡ None → HasReceives opened s.receive_queue →
@@ -172,10 +172,10 @@ frame_bounded opened Fpdu s frame live is = fpdu_bounded opened s (next_frame s 
 
 -- ---- A call
 
-told_first : (notices : List DeliveredEvent) → lent_for notices + messages_in (drop 1 notices) ≡ messages_in notices
+told_first : (deliveries : List DeliveredEvent) → lent_for deliveries + messages_in (drop 1 deliveries) ≡ messages_in deliveries
 told_first [] = refl
-told_first (MessageReceived number invalidated bytes ∷ notices) = refl
-told_first (ReadDone ∷ notices) = omega arith
+told_first (MessageReceived number invalidated bytes ∷ deliveries) = refl
+told_first (ReadDone ∷ deliveries) = omega arith
 
 either_bounded : (opened : ℕ) (s after : LinkState) (b : Bool) → IsBounded opened s → IsBounded opened after → IsBounded opened (cond b s after)
 either_bounded opened s after true is later = is
@@ -186,7 +186,7 @@ unfolding after_call with_end written
 call_bounded opened link (Feed piece) may is = feed_keeps (λ a s. IsBounded opened s) (frame_bounded opened) link piece is
 call_bounded opened link (FeedOne piece) may is = feed_one_keeps (λ a s. IsBounded opened s) (frame_bounded opened) link piece is
 call_bounded opened link NextEvent may is =
-    record { reads = is.reads; responses = is.responses; sum = omega (arith, is.sum, told_first link.state.receive_queue.notices); same = is.same }
+    record { reads = is.reads; responses = is.responses; sum = omega (arith, is.sum, told_first link.state.receive_queue.deliveries); same = is.same }
 call_bounded opened link Post may is = record { reads = is.reads; responses = is.responses; sum = omega (arith, is.sum, may); same = is.same }
 call_bounded opened link (Stop reason) may is =
     either_bounded opened link.state _ (has_ended link.state) is (record { reads = is.reads; responses = is.responses; sum = is.sum; same = is.same })

@@ -130,12 +130,12 @@ event_stands before after is = ap (λ (l : LinkSide). fed_bytes l) is ∙ event_
 pub post_stands : (before after : LinkSide) → after ≡ after_call before Post → fed_bytes after ≡ fed_bytes before
 post_stands before after is = ap (λ (l : LinkSide). fed_bytes l) is ∙ post_fed before
 
-pub message_lent : (before after : LinkSide) (number : ℕ) (invalidated : Option ℕ) (bytes : List ℕ) → before.state.receive_queue.notices ≡ MessageReceived number invalidated bytes ∷ after.state.receive_queue.notices → after ≡ after_call before NextEvent →
+pub message_lent : (before after : LinkSide) (number : ℕ) (invalidated : Option ℕ) (bytes : List ℕ) → before.state.receive_queue.deliveries ≡ MessageReceived number invalidated bytes ∷ after.state.receive_queue.deliveries → after ≡ after_call before NextEvent →
     0 < after.state.receive_queue.lent
 unfolding after_call
 message_lent before after number invalidated bytes first is =
-    let lent : after.state.receive_queue.lent ≡ before.state.receive_queue.lent + lent_for before.state.receive_queue.notices = ap (λ (l : LinkSide). l.state.receive_queue.lent) is in
-    let one : lent_for before.state.receive_queue.notices ≡ 1 = ap (λ (n : List DeliveredEvent). lent_for n) first in
+    let lent : after.state.receive_queue.lent ≡ before.state.receive_queue.lent + lent_for before.state.receive_queue.deliveries = ap (λ (l : LinkSide). l.state.receive_queue.lent) is in
+    let one : lent_for before.state.receive_queue.deliveries ≡ 1 = ap (λ (n : List DeliveredEvent). lent_for n) first in
     omega (arith, lent, one)
 
 pub open_fed : (l : LinkSide) (side : Side) (receives stag : ℕ) → l ≡ initial_link side receives stag → fed_bytes l ≡ 0

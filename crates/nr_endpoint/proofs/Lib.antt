@@ -22,7 +22,7 @@ pub mod HelloFirst
 pub mod EndLaws
 pub mod LastOutput
 pub mod PlaceOrder
-pub mod NoticeLaws
+pub mod DeliveryLaws
 pub mod FedBytes
 pub mod ClaimLaws
 pub mod StreamLaws
@@ -34,5 +34,5 @@ pub mod OutputItems
 pub mod QueuedItems
 pub mod Bounds
 pub mod Received
-pub mod OneNotice
+pub mod OneDelivery
 pub mod ReceivedEvents

@@ -190,7 +190,7 @@ with_written all has_hello out items q n fits is = record {
       ∙ (λ i. (take is.greeted all ++ take is.gone bytes) ++ (take n (is.hello i) ++ take m (is.fpdus i))) ∙ joins is.order;
   within = omega (arith, is.within, few, ap (λ (xs : List ℕ). length xs) is.fpdus, length-drop is.gone bytes);
   order = later is.order;
-  early = λ none. (omega (arith, (is.early none).0, none-of none), omega (arith, (is.early none).1, short none, ap (λ (xs : List ℕ). length xs) is.hello, length-drop is.greeted all));
+  early = λ none. (omega (arith, (is.early none).0, none_of none), omega (arith, (is.early none).1, short none, ap (λ (xs : List ℕ). length xs) is.hello, length-drop is.greeted all));
   sends = ap (ends_left m) is.sends ∙ left_twice is.gone m (item_ends is_send_item 0 items);
   responses = ap (ends_left m) is.responses ∙ left_twice is.gone m (item_ends is_response_item 0 items);
   left = (λ i. min (is.left i + ends_passed m (is.sends i)) most) ∙ counted;
@@ -208,27 +208,27 @@ with_written all has_hello out items q n fits is = record {
     bytes : List ℕ
     bytes = items_encoding items
 
-    by-hello : (b : Bool) → n ≤ length (q.hello ++ cond b q.fpdus []) → m ≤ length q.fpdus
-    by-hello true few_bytes = omega (arith, few_bytes, length-append q.hello q.fpdus)
-    by-hello false few_bytes = omega (arith, few_bytes, length-append q.hello [])
+    by_hello : (b : Bool) → n ≤ length (q.hello ++ cond b q.fpdus []) → m ≤ length q.fpdus
+    by_hello true few_bytes = omega (arith, few_bytes, length-append q.hello q.fpdus)
+    by_hello false few_bytes = omega (arith, few_bytes, length-append q.hello [])
 
     few : m ≤ length q.fpdus
-    few = by-hello has_hello fits
+    few = by_hello has_hello fits
 
     short : has_hello ≡ false → n ≤ length q.hello
     short none = omega (arith, fits, ap (λ (b : Bool). length (q.hello ++ cond b q.fpdus [])) none, length-append q.hello [])
 
-    none-of : has_hello ≡ false → m ≡ 0
-    none-of none = omega (arith, short none)
+    none_of : has_hello ≡ false → m ≡ 0
+    none_of none = omega (arith, short none)
 
-    may-by : (b : Bool) → n ≤ length (q.hello ++ cond b q.fpdus []) → take n (q.hello ++ cond b q.fpdus []) ≡ take n q.hello ++ take m q.fpdus
-    may-by true few_bytes = taken_of n q.hello q.fpdus
-    may-by false few_bytes =
+    may_by : (b : Bool) → n ≤ length (q.hello ++ cond b q.fpdus []) → take n (q.hello ++ cond b q.fpdus []) ≡ take n q.hello ++ take m q.fpdus
+    may_by true few_bytes = taken_of n q.hello q.fpdus
+    may_by false few_bytes =
         let none : m ≡ 0 = omega (arith, few_bytes, length-append q.hello []) in
         ap (take n) (append-nil q.hello) ∙ sym (append-nil (take n q.hello)) ∙ sym (ap (λ (k : ℕ). take n q.hello ++ take k q.fpdus) none)
 
     may : take n (writable has_hello q) ≡ take n q.hello ++ take m q.fpdus
-    may = may-by has_hello fits
+    may = may_by has_hello fits
 
     joins : (is.gone ≡ 0) ⊎ (length all ≤ is.greeted) →
         (take is.greeted all ++ take is.gone bytes) ++ (take n (drop is.greeted all) ++ take m (drop is.gone bytes)) ≡ take (is.greeted + n) all ++ take (is.gone + m) bytes

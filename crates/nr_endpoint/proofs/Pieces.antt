@@ -29,36 +29,36 @@ use Rattle.nr_endpoint.proofs.Standing.{stands_on_all}
 -- ---- Feeding nothing, and one step as a feed
 
 module _ {S : Type 0} (ended : S → Bool) (advanced : S → Awaited → List ℕ → S) where
-  feeding-in : (a : Awaited) (rest : List ℕ) (s : S) (b : Bool) → ended s ≡ b → (b ≡ true → rest ≡ []) → feeding_in ended advanced a rest s ≡ record { awaited = a; rest = rest; state = s }
-  feeding-in a rest s true e none = (λ i. record { awaited = a; rest = cond (e i) [] rest; state = s }) ∙ (λ i. record { awaited = a; rest = sym (none refl) i; state = s })
-  feeding-in a rest s false e none = λ i. record { awaited = a; rest = cond (e i) [] rest; state = s }
+  feeding_in_lem : (a : Awaited) (rest : List ℕ) (s : S) (b : Bool) → ended s ≡ b → (b ≡ true → rest ≡ []) → feeding_in ended advanced a rest s ≡ record { awaited = a; rest = rest; state = s }
+  feeding_in_lem a rest s true e none = (λ i. record { awaited = a; rest = cond (e i) [] rest; state = s }) ∙ (λ i. record { awaited = a; rest = sym (none refl) i; state = s })
+  feeding_in_lem a rest s false e none = λ i. record { awaited = a; rest = cond (e i) [] rest; state = s }
 
-  pub feeding-none : (f : Feeding S) → IsPartial f.awaited f.rest → (ended f.state ≡ true → f.rest ≡ []) → feeding_after ended advanced f [] ≡ f
+  pub feeding_none : (f : Feeding S) → IsPartial f.awaited f.rest → (ended f.state ≡ true → f.rest ≡ []) → feeding_after ended advanced f [] ≡ f
   unfolding feeding_after
-  feeding-none f p none =
+  feeding_none f p none =
       ap (λ (bytes : List ℕ). feeding_after_frames ended advanced (split f.awaited bytes).frames (split f.awaited bytes).rest f.awaited f.state) (append-nil f.rest)
       ∙ ap (λ (s : Split). feeding_after_frames ended advanced s.frames s.rest f.awaited f.state) (split_partial f.awaited f.rest (partial_not_whole f.awaited f.rest p))
-      ∙ feeding-in f.awaited f.rest f.state (ended f.state) refl none
+      ∙ feeding_in_lem f.awaited f.rest f.state (ended f.state) refl none
 
-  step-whole : (f : Feeding S) (x : List ℕ) → ended f.state ≡ false → IsFrame f.awaited (f.rest ++ x) → is_whole f.awaited (f.rest ++ x) ≡ true →
+  step_whole : (f : Feeding S) (x : List ℕ) → ended f.state ≡ false → IsFrame f.awaited (f.rest ++ x) → is_whole f.awaited (f.rest ++ x) ≡ true →
       (bytes_taken f.awaited f.rest x ≡ length x) × (feeding_after ended advanced (feeding_after_step ended advanced f x) [] ≡ feeding_after_step ended advanced f x)
-  step-whole f x going frame whole = (
+  step_whole f x going frame whole = (
     bytes_taken_whole f.awaited f.rest x whole ∙ omega (arith, frame.len, length-append f.rest x),
-    feeding-none (feeding_after_step ended advanced f x) (feeding_after_step-partial_rest ended advanced f x)
+    feeding_none (feeding_after_step ended advanced f x) (feeding_after_step-partial_rest ended advanced f x)
         (λ e. ap (λ (g : Feeding S). g.rest) (feeding_after_step-whole ended advanced f x going whole)),
   )
 
   -- the step on the bytes that are taken
-  pub step-taken : (f : Feeding S) (piece : List ℕ) (w : Bool) → is_whole f.awaited (f.rest ++ piece) ≡ w → ended f.state ≡ false → IsPartial f.awaited f.rest →
+  pub step_taken : (f : Feeding S) (piece : List ℕ) (w : Bool) → is_whole f.awaited (f.rest ++ piece) ≡ w → ended f.state ≡ false → IsPartial f.awaited f.rest →
       feeding_after_step ended advanced f piece ≡ feeding_after ended advanced f (take (bytes_taken f.awaited f.rest piece) piece)
-  step-taken f piece true whole going p =
+  step_taken f piece true whole going p =
       let x : List ℕ = take (bytes_taken f.awaited f.rest piece) piece in
       let t = taken_whole f.awaited f.rest piece p whole in
       let all : is_whole f.awaited (f.rest ++ x) ≡ true = whole_as_staged f.awaited f.rest piece p ∙ whole in
-      let s = step-whole f x going t.1.0 all in
+      let s = step_whole f x going t.1.0 all in
       let same : feeding_after_step ended advanced f piece ≡ feeding_after_step ended advanced f x =
       feeding_after_step-whole ended advanced f piece going whole
-      ∙ ap (λ (bytes : List ℕ). the_feeding (advanced f.state f.awaited bytes)) (sym t.0 ∙ sym (take-frame (f.rest ++ x) t.1.0))
+      ∙ ap (λ (bytes : List ℕ). the_feeding (advanced f.state f.awaited bytes)) (sym t.0 ∙ sym (take_frame (f.rest ++ x) t.1.0))
       ∙ sym (feeding_after_step-whole ended advanced f x going all) in
       same ∙ sym s.1 ∙ ap (feeding_after ended advanced (feeding_after_step ended advanced f x)) (sym (ap (λ (n : ℕ). drop n x) s.0 ∙ drop_all (length x) x (omega arith)))
       ∙ feeding_after_step-rest ended advanced f x p
@@ -66,14 +66,14 @@ module _ {S : Type 0} (ended : S → Bool) (advanced : S → Awaited → List �
       the_feeding : S → Feeding S
       the_feeding s = record { awaited = Fpdu; rest = []; state = s }
 
-      take-frame : (bytes : List ℕ) → IsFrame f.awaited bytes → take (frame_len f.awaited bytes) bytes ≡ bytes
-      take-frame bytes frame = ap (λ (n : ℕ). take n bytes) frame.len ∙ take_all (length bytes) bytes (omega arith)
-  step-taken f piece false partial going p =
+      take_frame : (bytes : List ℕ) → IsFrame f.awaited bytes → take (frame_len f.awaited bytes) bytes ≡ bytes
+      take_frame bytes frame = ap (λ (n : ℕ). take n bytes) frame.len ∙ take_all (length bytes) bytes (omega arith)
+  step_taken f piece false partial going p =
       let n : bytes_taken f.awaited f.rest piece ≡ length piece = bytes_taken_partial f.awaited f.rest piece partial in
       let all : take (bytes_taken f.awaited f.rest piece) piece ≡ piece = ap (λ (k : ℕ). take k piece) n ∙ take_all (length piece) piece (omega arith) in
       let none : drop (bytes_taken f.awaited f.rest piece) piece ≡ [] = ap (λ (k : ℕ). drop k piece) n ∙ drop_all (length piece) piece (omega arith) in
       let kept : feeding_after_step ended advanced f piece ≡ record { awaited = f.awaited; rest = f.rest ++ piece; state = f.state } = feeding_after_step-partial ended advanced f piece going partial in
-      sym (feeding-none (feeding_after_step ended advanced f piece) (feeding_after_step-partial_rest ended advanced f piece)
+      sym (feeding_none (feeding_after_step ended advanced f piece) (feeding_after_step-partial_rest ended advanced f piece)
       (λ e. absurd (let h : true ≡ false = sym e ∙ ap (λ (g : Feeding S). ended g.state) kept ∙ going in cc)))
       ∙ ap (feeding_after ended advanced (feeding_after_step ended advanced f piece)) (sym none)
       ∙ feeding_after_step-rest ended advanced f piece p
@@ -97,7 +97,7 @@ pub record IsOut (before : LinkSide) (piece : List ℕ) (now : LinkSide) : Type 
 
 pub begins : (before : LinkSide) (piece : List ℕ) → IsPartial before.awaited before.rest → (has_ended before.state ≡ true → before.rest ≡ []) → IsOn before piece before piece
 unfolding after_call
-begins before piece p none = record { count = 0; left_is = refl; now_is = sym (feeding-none has_ended with_frame before p none) }
+begins before piece p none = record { count = 0; left_is = refl; now_is = sym (feeding_none has_ended with_frame before p none) }
 
 pub goes_on_by : (before now after : LinkSide) (piece left : List ℕ) → IsOn before piece now left → now.state.ended ≡ None → IsPartial now.awaited now.rest → after ≡ after_call now (FeedOne left) →
     IsOn before piece after (drop (bytes_taken now.awaited now.rest left) left)
@@ -109,7 +109,7 @@ goes_on_by before now after piece left on none p is =
       left_is = ap (drop t) on.left_is ∙ drop-drop t on.count piece;
       now_is =
           is
-          ∙ step-taken has_ended with_frame now left (is_whole now.awaited (now.rest ++ left)) refl (living now.state none) p
+          ∙ step_taken has_ended with_frame now left (is_whole now.awaited (now.rest ++ left)) refl (living now.state none) p
           ∙ (λ i. feeding_after has_ended with_frame (on.now_is i) (take t (on.left_is i)))
           ∙ feeding_after-append has_ended with_frame before (take on.count piece) (take t (drop on.count piece))
           ∙ ap (feeding_after has_ended with_frame before) (sym (take-add on.count t piece));

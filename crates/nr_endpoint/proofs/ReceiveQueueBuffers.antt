@@ -6,7 +6,7 @@ use Rattle.std.proofs.lemmas.List.Elements.{All-head, All-tail, All-rest, All-co
 use Rattle.nr_endpoint.specs.ReceiveQueue.{DeliveredEvent, messages_in}
 use Rattle.nr_endpoint.specs.ReceiveQueue.DeliveredEvent.{MessageReceived, ReadDone}
 use Rattle.nr_endpoint.specs.Receives.{InBuffer, AreReceives}
-use Rattle.nr_endpoint.specs.Views.{notices, reads_first, without_first_read}
+use Rattle.nr_endpoint.specs.Views.{deliveries, reads_first, without_first_read}
 use Rattle.nr_endpoint.specs.declared.receive_queue.BegunSend.{BegunSend}
 use Rattle.nr_endpoint.specs.declared.receive_queue.ReceivedMessage.{ReceivedMessage}
 
@@ -20,57 +20,57 @@ behind m xs ys zs is =
     ∙ sym (append_assoc (replicate m.reads_done ReadDone) (MessageReceived m.number None (take m.len m.buf) ∷ ys) zs)
 
 -- one more read was done
-pub notices_read : (messages : List ReceivedMessage) (reads_done : ℕ) → notices messages (reads_done + 1) ≡ notices messages reads_done ++ ReadDone ∷ []
-notices_read [] reads_done = sym (replicate_more reads_done ReadDone)
-notices_read (m ∷ messages) reads_done = behind m (notices messages (reads_done + 1)) (notices messages reads_done) (ReadDone ∷ []) (notices_read messages reads_done)
+pub deliveries_read : (messages : List ReceivedMessage) (reads_done : ℕ) → deliveries messages (reads_done + 1) ≡ deliveries messages reads_done ++ ReadDone ∷ []
+deliveries_read [] reads_done = sym (replicate_more reads_done ReadDone)
+deliveries_read (m ∷ messages) reads_done = behind m (deliveries messages (reads_done + 1)) (deliveries messages reads_done) (ReadDone ∷ []) (deliveries_read messages reads_done)
 
 -- a message came: the reads that were done since the last one stand before it
-pub notices_message : (messages : List ReceivedMessage) (reads_done number : ℕ) (buf : List ℕ) (len : ℕ) →
-    notices (messages ++ record { reads_done = reads_done; number = number; buf = buf; len = len } ∷ []) 0 ≡ notices messages reads_done ++ MessageReceived number None (take len buf) ∷ []
-notices_message [] reads_done number buf len = refl
-notices_message (m ∷ messages) reads_done number buf len =
-    behind m (notices (messages ++ record { reads_done = reads_done; number = number; buf = buf; len = len } ∷ []) 0) (notices messages reads_done) (MessageReceived number None (take len buf) ∷ []) (notices_message messages reads_done number buf len)
+pub deliveries_message : (messages : List ReceivedMessage) (reads_done number : ℕ) (buf : List ℕ) (len : ℕ) →
+    deliveries (messages ++ record { reads_done = reads_done; number = number; buf = buf; len = len } ∷ []) 0 ≡ deliveries messages reads_done ++ MessageReceived number None (take len buf) ∷ []
+deliveries_message [] reads_done number buf len = refl
+deliveries_message (m ∷ messages) reads_done number buf len =
+    behind m (deliveries (messages ++ record { reads_done = reads_done; number = number; buf = buf; len = len } ∷ []) 0) (deliveries messages reads_done) (MessageReceived number None (take len buf) ∷ []) (deliveries_message messages reads_done number buf len)
 
 -- the reads that are counted are among the events
-pub reads_within : (messages : List ReceivedMessage) (reads_done : ℕ) → reads_done ≤ length (notices messages reads_done)
+pub reads_within : (messages : List ReceivedMessage) (reads_done : ℕ) → reads_done ≤ length (deliveries messages reads_done)
 reads_within [] reads_done = omega (arith, length-replicate reads_done ReadDone)
 reads_within (m ∷ messages) reads_done =
-    omega (arith, reads_within messages reads_done, length-append (replicate m.reads_done ReadDone) (MessageReceived m.number None (take m.len m.buf) ∷ notices messages reads_done))
+    omega (arith, reads_within messages reads_done, length-append (replicate m.reads_done ReadDone) (MessageReceived m.number None (take m.len m.buf) ∷ deliveries messages reads_done))
 
 -- how many of the events are of messages
 messages_in_reads : (n : ℕ) (others : List DeliveredEvent) → messages_in (replicate n ReadDone ++ others) ≡ messages_in others
 messages_in_reads zero others = refl
 messages_in_reads (suc n) others = messages_in_reads n others
 
-pub messages_in_notices : (messages : List ReceivedMessage) (reads_done : ℕ) → messages_in (notices messages reads_done) ≡ length messages
-messages_in_notices [] reads_done = by reads_done
+pub messages_in_deliveries : (messages : List ReceivedMessage) (reads_done : ℕ) → messages_in (deliveries messages reads_done) ≡ length messages
+messages_in_deliveries [] reads_done = by reads_done
   where
     by : (n : ℕ) → messages_in (replicate n ReadDone) ≡ 0
     by zero = refl
     by (suc n) = by n
-messages_in_notices (m ∷ messages) reads_done =
-    let first : messages_in (notices (m ∷ messages) reads_done) ≡ 1 + messages_in (notices messages reads_done) = messages_in_reads m.reads_done (MessageReceived m.number None (take m.len m.buf) ∷ notices messages reads_done) in
-    omega (arith, first, messages_in_notices messages reads_done)
+messages_in_deliveries (m ∷ messages) reads_done =
+    let first : messages_in (deliveries (m ∷ messages) reads_done) ≡ 1 + messages_in (deliveries messages reads_done) = messages_in_reads m.reads_done (MessageReceived m.number None (take m.len m.buf) ∷ deliveries messages reads_done) in
+    omega (arith, first, messages_in_deliveries messages reads_done)
 
 -- what is delivered is a read that was done before the first message, or after the last one
-pub notices_first_read : (messages : List ReceivedMessage) (reads_done : ℕ) → nat_lt 0 (reads_first messages) ≡ true →
-    notices messages reads_done ≡ ReadDone ∷ notices (without_first_read messages) reads_done
-notices_first_read [] reads_done some = absurd cc
-notices_first_read (m ∷ messages) reads_done some = by m.reads_done some
+pub deliveries_first_read : (messages : List ReceivedMessage) (reads_done : ℕ) → nat_lt 0 (reads_first messages) ≡ true →
+    deliveries messages reads_done ≡ ReadDone ∷ deliveries (without_first_read messages) reads_done
+deliveries_first_read [] reads_done some = absurd cc
+deliveries_first_read (m ∷ messages) reads_done some = by m.reads_done some
   where
     by : (n : ℕ) → nat_lt 0 n ≡ true →
-        replicate n ReadDone ++ MessageReceived m.number None (take m.len m.buf) ∷ notices messages reads_done ≡ ReadDone ∷ (replicate (n - 1) ReadDone ++ MessageReceived m.number None (take m.len m.buf) ∷ notices messages reads_done)
+        replicate n ReadDone ++ MessageReceived m.number None (take m.len m.buf) ∷ deliveries messages reads_done ≡ ReadDone ∷ (replicate (n - 1) ReadDone ++ MessageReceived m.number None (take m.len m.buf) ∷ deliveries messages reads_done)
     by zero s = absurd cc
     by (suc n) s =
         let less : n ≡ suc n - 1 = omega arith in
-        ap (λ (k : ℕ). ReadDone ∷ (replicate k ReadDone ++ MessageReceived m.number None (take m.len m.buf) ∷ notices messages reads_done)) less
+        ap (λ (k : ℕ). ReadDone ∷ (replicate k ReadDone ++ MessageReceived m.number None (take m.len m.buf) ∷ deliveries messages reads_done)) less
 
-pub notices_last_read : (messages : List ReceivedMessage) (reads_done : ℕ) → messages ≡ [] → 0 < reads_done → notices messages reads_done ≡ ReadDone ∷ notices messages (reads_done - 1)
-notices_last_read [] zero none some = absurd (omega (arith, some))
-notices_last_read [] (suc n) none some =
+pub deliveries_last_read : (messages : List ReceivedMessage) (reads_done : ℕ) → messages ≡ [] → 0 < reads_done → deliveries messages reads_done ≡ ReadDone ∷ deliveries messages (reads_done - 1)
+deliveries_last_read [] zero none some = absurd (omega (arith, some))
+deliveries_last_read [] (suc n) none some =
     let less : n ≡ suc n - 1 = omega arith in
     ap (λ (k : ℕ). ReadDone ∷ replicate k ReadDone) less
-notices_last_read (m ∷ messages) reads_done none some = absurd (omega (arith, ap (λ (list : List ReceivedMessage). length list) none))
+deliveries_last_read (m ∷ messages) reads_done none some = absurd (omega (arith, ap (λ (list : List ReceivedMessage). length list) none))
 
 -- ---- Its buffers
 

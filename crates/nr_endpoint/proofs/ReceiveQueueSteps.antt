@@ -10,30 +10,30 @@ use Rattle.nr_endpoint.specs.ReceiveQueue.{DeliveredEvent, ReceiveQueue, with_se
 use Rattle.nr_endpoint.specs.ReceiveQueue.DeliveredEvent.{MessageReceived, ReadDone}
 
 pub with_request : (last : Bool) (w queue msn offset : ℕ) (payload : List ℕ) (q : ReceiveQueue) → begun_within q.receive_length q.received.begun ≡ q.received.begun →
-    record { receives = q.receives; receive_length = q.receive_length; received = record { sends = q.received.sends; begun = q.received.begun; requests = q.received.requests + 1 }; free = q.free; lent = q.lent; notices = q.notices }
+    record { receives = q.receives; receive_length = q.receive_length; received = record { sends = q.received.sends; begun = q.received.begun; requests = q.received.requests + 1 }; free = q.free; lent = q.lent; deliveries = q.deliveries }
     ≡ with_segment (Untagged last OPCODE_READ_REQUEST w queue msn offset payload) q
 unfolding with_segment
 with_request last w queue msn offset payload q e =
-    λ i. record { receives = q.receives; receive_length = q.receive_length; received = record { sends = q.received.sends; begun = sym e i; requests = q.received.requests + 1 }; free = q.free; lent = q.lent; notices = sym (append-nil q.notices) i }
+    λ i. record { receives = q.receives; receive_length = q.receive_length; received = record { sends = q.received.sends; begun = sym e i; requests = q.received.requests + 1 }; free = q.free; lent = q.lent; deliveries = sym (append-nil q.deliveries) i }
 
 pub with_last : (q : ReceiveQueue) (payload message : List ℕ) (free : ℕ) → message ≡ begun_bytes q.received.begun ++ payload
     → free ≡ (if not (is_begun q.received.begun) then q.free - 1 else q.free)
-    → record { receives = q.receives; receive_length = q.receive_length; received = record { sends = q.received.sends + 1; begun = None; requests = q.received.requests }; free = free; lent = q.lent; notices = q.notices ++ MessageReceived (q.received.sends + 1) None message ∷ [] }
+    → record { receives = q.receives; receive_length = q.receive_length; received = record { sends = q.received.sends + 1; begun = None; requests = q.received.requests }; free = free; lent = q.lent; deliveries = q.deliveries ++ MessageReceived (q.received.sends + 1) None message ∷ [] }
     ≡ with_segment (Untagged true OPCODE_SEND 0 0 0 0 payload) q
 unfolding with_segment
 with_last q payload message free m f =
-    λ i. record { receives = q.receives; receive_length = q.receive_length; received = record { sends = q.received.sends + 1; begun = None; requests = q.received.requests }; free = f i; lent = q.lent; notices = q.notices ++ MessageReceived (q.received.sends + 1) None (m i) ∷ [] }
+    λ i. record { receives = q.receives; receive_length = q.receive_length; received = record { sends = q.received.sends + 1; begun = None; requests = q.received.requests }; free = f i; lent = q.lent; deliveries = q.deliveries ++ MessageReceived (q.received.sends + 1) None (m i) ∷ [] }
 
 -- with these events
-abbrev notices_as : List DeliveredEvent → ReceiveQueue → ReceiveQueue
-notices_as list q = record { receives = q.receives; receive_length = q.receive_length; received = q.received; free = q.free; lent = q.lent; notices = list }
+abbrev deliveries_as : List DeliveredEvent → ReceiveQueue → ReceiveQueue
+deliveries_as list q = record { receives = q.receives; receive_length = q.receive_length; received = q.received; free = q.free; lent = q.lent; deliveries = list }
 
-pub read_counted : (q : ReceiveQueue) (more : List DeliveredEvent) → more ≡ q.notices ++ ReadDone ∷ [] → notices_as more q ≡ with_read_done q
-read_counted q more is = λ i. notices_as (is i) q
+pub read_counted : (q : ReceiveQueue) (more : List DeliveredEvent) → more ≡ q.deliveries ++ ReadDone ∷ [] → deliveries_as more q ≡ with_read_done q
+read_counted q more is = λ i. deliveries_as (is i) q
 
-pub read_told : (q : ReceiveQueue) (left : List DeliveredEvent) → q.notices ≡ ReadDone ∷ left → notices_as left q ≡ delivered q
+pub read_told : (q : ReceiveQueue) (left : List DeliveredEvent) → q.deliveries ≡ ReadDone ∷ left → deliveries_as left q ≡ delivered q
 read_told q left is =
-    let none : lent_for q.notices ≡ 0 = ap lent_for is in
-    let lent : q.lent ≡ q.lent + lent_for q.notices = omega (arith, none) in
-    let rest : left ≡ drop 1 q.notices = ap (drop 1) (sym is) in
-    λ i. record { receives = q.receives; receive_length = q.receive_length; received = q.received; free = q.free; lent = lent i; notices = rest i }
+    let none : lent_for q.deliveries ≡ 0 = ap lent_for is in
+    let lent : q.lent ≡ q.lent + lent_for q.deliveries = omega (arith, none) in
+    let rest : left ≡ drop 1 q.deliveries = ap (drop 1) (sym is) in
+    λ i. record { receives = q.receives; receive_length = q.receive_length; received = q.received; free = q.free; lent = lent i; deliveries = rest i }

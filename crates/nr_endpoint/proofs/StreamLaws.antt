@@ -19,7 +19,7 @@ use Rattle.nr_endpoint.specs.Judging.{segment_end, next_frame, with_frame, with_
 use Rattle.nr_endpoint.specs.Calls.{Call, after_call, after_calls}
 use Rattle.nr_endpoint.specs.Calls.Call.{Feed, FeedOne, NextEvent, Post, Stop, OutOfMemory, Send, WriteRemote, ReadRemote, Drain, Register, Release}
 use Rattle.nr_endpoint.specs.Laws.{bytes_in_call, bytes_fed, KeepsInput, StreamIsKept, PlaceIsFed}
-use Rattle.nr_endpoint.proofs.Pieces.{step-taken, frame_place}
+use Rattle.nr_endpoint.proofs.Pieces.{step_taken, frame_place}
 
 -- ---- A frame
 
@@ -141,7 +141,7 @@ step_fed from link bytes piece fed false is =
     let x : List ℕ = take (bytes_taken link.awaited link.rest piece) piece in
     let partial : IsPartial link.awaited link.rest =
     subst (λ (input : InputState). IsPartial input.awaited input.rest) (sym (same_input link (input_of from bytes) (fed.keeps is))) (split_Splits (HelloFrom from) bytes).partial in
-    subst (λ (l : LinkSide). IsFed from l (bytes ++ x)) (sym (step-taken has_ended with_frame link piece (is_whole link.awaited (link.rest ++ piece)) refl is partial))
+    subst (λ (l : LinkSide). IsFed from l (bytes ++ x)) (sym (step_taken has_ended with_frame link piece (is_whole link.awaited (link.rest ++ piece)) refl is partial))
     (feed_fed from link bytes x fed)
 
 -- ---- Calls

@@ -21,14 +21,14 @@ pub counted_send : (greeted : Bool) (q : ReceiveQueue) (last : Bool) (payload : 
 unfolding with_segment
 counted_send greeted q true payload place most n counted some = record {
   bytes = omega (arith, counted.bytes, some);
-  waiting = omega (arith, counted.waiting, some, length-append q.notices (MessageReceived (q.received.sends + 1) None (begun_bytes q.received.begun ++ payload) ∷ []));
+  waiting = omega (arith, counted.waiting, some, length-append q.deliveries (MessageReceived (q.received.sends + 1) None (begun_bytes q.received.begun ++ payload) ∷ []));
   greeted = λ h. omega (arith, counted.greeted h);
   receive = counted.receive;
   fits = counted.fits;
 }
 counted_send greeted q false payload place most n counted some = record {
   bytes = omega (arith, counted.bytes, some, kept_len q.receive_length (begun_bytes q.received.begun ++ payload), length-append (begun_bytes q.received.begun) payload);
-  waiting = omega (arith, counted.waiting, length-append q.notices []);
+  waiting = omega (arith, counted.waiting, length-append q.deliveries []);
   greeted = λ h. omega (arith, counted.greeted h);
   receive = counted.receive;
   fits = counted.fits;
@@ -43,7 +43,7 @@ pub counted_request : (greeted : Bool) (q : ReceiveQueue) (place most n : ℕ) �
 unfolding with_segment
 counted_request greeted q place most n counted some = record {
   bytes = omega (arith, counted.bytes, some, kept_same q.receive_length q.received.begun);
-  waiting = omega (arith, counted.waiting, length-append q.notices []);
+  waiting = omega (arith, counted.waiting, length-append q.deliveries []);
   greeted = λ h. omega (arith, counted.greeted h);
   receive = counted.receive;
   fits = counted.fits;

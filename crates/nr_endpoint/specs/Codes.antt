@@ -91,16 +91,16 @@ abbrev pub message_in : DeliveredEvent → Option (ℕ × (Option ℕ × List �
 message_in (MessageReceived number invalidated bytes) = Some (number, (invalidated, bytes))
 message_in ReadDone = None
 
-abbrev pub notice_of : Option (ℕ × (Option ℕ × List ℕ)) → DeliveredEvent
-notice_of (Some message) = MessageReceived message.0 message.1.0 message.1.1
-notice_of None = ReadDone
+abbrev pub delivery_of : Option (ℕ × (Option ℕ × List ℕ)) → DeliveredEvent
+delivery_of (Some message) = MessageReceived message.0 message.1.0 message.1.1
+delivery_of None = ReadDone
 
-pub notice_of_message : (notice : DeliveredEvent) → notice_of (message_in notice) ≡ notice
-notice_of_message (MessageReceived number invalidated bytes) = refl
-notice_of_message ReadDone = refl
+pub delivery_of_message : (delivery : DeliveredEvent) → delivery_of (message_in delivery) ≡ delivery
+delivery_of_message (MessageReceived number invalidated bytes) = refl
+delivery_of_message ReadDone = refl
 
-abbrev pub notice_code : Coded DeliveredEvent
-notice_code = code_by (Option (ℕ × (Option ℕ × List ℕ))) (coded_option (coded× coded_ℕ (coded× (coded_option coded_ℕ) (coded_list coded_ℕ)))) message_in notice_of notice_of_message
+abbrev pub delivery_code : Coded DeliveredEvent
+delivery_code = code_by (Option (ℕ × (Option ℕ × List ℕ))) (coded_option (coded× coded_ℕ (coded× (coded_option coded_ℕ) (coded_list coded_ℕ)))) message_in delivery_of delivery_of_message
 
 abbrev pub received_code : Coded ReceiveState
 received_code =
@@ -109,9 +109,9 @@ received_code =
 
 abbrev pub receive_queue_code : Coded ReceiveQueue
 receive_queue_code =
-    code_by (ℕ × (ReceiveState × (ℕ × (ℕ × (List DeliveredEvent × ℕ))))) (coded× coded_ℕ (coded× received_code (coded× coded_ℕ (coded× coded_ℕ (coded× (coded_list notice_code) coded_ℕ)))))
-    (λ q. (q.receives, (q.received, (q.free, (q.lent, (q.notices, q.receive_length))))))
-    (λ p. record { receives = p.0; received = p.1.0; free = p.1.1.0; lent = p.1.1.1.0; notices = p.1.1.1.1.0; receive_length = p.1.1.1.1.1 }) (λ _. refl)
+    code_by (ℕ × (ReceiveState × (ℕ × (ℕ × (List DeliveredEvent × ℕ))))) (coded× coded_ℕ (coded× received_code (coded× coded_ℕ (coded× coded_ℕ (coded× (coded_list delivery_code) coded_ℕ)))))
+    (λ q. (q.receives, (q.received, (q.free, (q.lent, (q.deliveries, q.receive_length))))))
+    (λ p. record { receives = p.0; received = p.1.0; free = p.1.1.0; lent = p.1.1.1.0; deliveries = p.1.1.1.1.0; receive_length = p.1.1.1.1.1 }) (λ _. refl)
 
 abbrev pub send_queue_code : Coded SendQueue
 send_queue_code =

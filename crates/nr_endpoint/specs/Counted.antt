@@ -7,7 +7,7 @@ use Rattle.nr_endpoint.specs.ReceiveQueue.{ReceiveQueue}
 
 pub record IsCounted (has_hello : Bool) (q : ReceiveQueue) (place message_max : ℕ) : Type 0 where
   pub bytes : q.received.sends + (q.received.requests + length (begun_bytes q.received.begun)) ≤ place
-  pub waiting : length q.notices ≤ place
+  pub waiting : length q.deliveries ≤ place
   pub greeted : has_hello ≡ true → 0 < place
   pub receive : q.receive_length ≡ send_max
   pub fits : message_max ≤ q.receive_length

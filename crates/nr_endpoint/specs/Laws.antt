@@ -23,7 +23,7 @@ use Rattle.nr_link.specs.ReceiveState.{ReceiveState, message_completed, ReadRequ
 use Rattle.nr_link.specs.Ending.{tagged_access, final_output, frame_end}
 use Rattle.nr_link.specs.Output.{own_hello, refusing_hello}
 use Rattle.nr_endpoint.specs.SendQueue.{SendQueue, with_response, writable, written}
-use Rattle.nr_endpoint.specs.ReceiveQueue.{DeliveredEvent, message_notices}
+use Rattle.nr_endpoint.specs.ReceiveQueue.{DeliveredEvent, message_deliveries}
 use Rattle.nr_endpoint.specs.ReceiveQueue.DeliveredEvent.{ReadDone}
 use Rattle.nr_endpoint.specs.LinkState.{LinkState, LinkSide, has_ended, peer, initial_link}
 use Rattle.nr_endpoint.specs.Judging.{readiness, segment_end, fetch_access, next_frame, with_frame}
@@ -179,58 +179,58 @@ ArrivalsRise = (link : LinkSide) (calls : List Call) → EndsRise link.state.pla
 -- ---- What is delivered to the owner
 
 -- what a segment that doesn't end the side delivers: that a read is done, by its last Read Response, or the message that it completes
-abbrev pub notices_of : ReceiveState → Segment → List DeliveredEvent
-notices_of received (Tagged last opcode stag to payload) = if (opcode == OPCODE_READ_RESPONSE) && last then ReadDone ∷ [] else []
-notices_of received (Untagged last opcode w queue msn offset payload) = message_notices (received.sends + 1) (message_completed received (Untagged last opcode w queue msn offset payload))
+abbrev pub deliveries_of : ReceiveState → Segment → List DeliveredEvent
+deliveries_of received (Tagged last opcode stag to payload) = if (opcode == OPCODE_READ_RESPONSE) && last then ReadDone ∷ [] else []
+deliveries_of received (Untagged last opcode w queue msn offset payload) = message_deliveries (received.sends + 1) (message_completed received (Untagged last opcode w queue msn offset payload))
 
 -- an event, with the end of the frame that made it
 pub record QueuedEvent : Type 0 where
   pub end : ℕ
-  pub notice : DeliveredEvent
+  pub delivery : DeliveredEvent
 
 abbrev pub made_at : ℕ → DeliveredEvent → QueuedEvent
-made_at end notice = record { end = end; notice = notice }
+made_at end delivery = record { end = end; delivery = delivery }
 
-abbrev pub segment_notices : LinkState → Frame → Segment → Option End → List QueuedEvent
-segment_notices s f segment None = map (made_at f.end) (notices_of s.receive_queue.received segment)
-segment_notices s f segment (Some end) = []
+abbrev pub segment_deliveries : LinkState → Frame → Segment → Option End → List QueuedEvent
+segment_deliveries s f segment None = map (made_at f.end) (deliveries_of s.receive_queue.received segment)
+segment_deliveries s f segment (Some end) = []
 
-abbrev pub fpdu_notices : LinkState → Frame → Result Segment ℕ → List QueuedEvent
-fpdu_notices s f (Ok segment) = segment_notices s f segment (segment_end s f segment)
-fpdu_notices s f (Err reason) = []
+abbrev pub fpdu_deliveries : LinkState → Frame → Result Segment ℕ → List QueuedEvent
+fpdu_deliveries s f (Ok segment) = segment_deliveries s f segment (segment_end s f segment)
+fpdu_deliveries s f (Err reason) = []
 
-abbrev pub frame_notices : LinkState → Awaited → List ℕ → List QueuedEvent
-frame_notices s (HelloFrom side) bytes = []
-frame_notices s Fpdu bytes = fpdu_notices s (next_frame s bytes) (segment_of bytes)
+abbrev pub frame_deliveries : LinkState → Awaited → List ℕ → List QueuedEvent
+frame_deliveries s (HelloFrom side) bytes = []
+frame_deliveries s Fpdu bytes = fpdu_deliveries s (next_frame s bytes) (segment_of bytes)
 
 -- those of frames that come one after the other, up to the one that ends the side
-abbrev pub notices_of_frames : List (List ℕ) → Awaited → LinkState → List QueuedEvent
-notices_of_frames [] a s = []
-notices_of_frames (frame ∷ frames) a s = if has_ended s then [] else frame_notices s a frame ++ notices_of_frames frames Fpdu (with_frame s a frame)
+abbrev pub deliveries_of_frames : List (List ℕ) → Awaited → LinkState → List QueuedEvent
+deliveries_of_frames [] a s = []
+deliveries_of_frames (frame ∷ frames) a s = if has_ended s then [] else frame_deliveries s a frame ++ deliveries_of_frames frames Fpdu (with_frame s a frame)
 
-abbrev pub call_notices : LinkSide → Call → List QueuedEvent
-call_notices link (Feed piece) = notices_of_frames (frames_made_whole link piece) link.awaited link.state
-call_notices link (FeedOne piece) = notices_of_frames (take 1 (frames_made_whole link piece)) link.awaited link.state
-call_notices link NextEvent = []
-call_notices link Post = []
-call_notices link (Stop reason) = []
-call_notices link OutOfMemory = []
-call_notices link (Send message) = []
-call_notices link (WriteRemote stag to bytes) = []
-call_notices link (ReadRemote sink at stag to len) = []
-call_notices link (Drain count) = []
-call_notices link (Register buf right) = []
-call_notices link (Release stag) = []
+abbrev pub call_deliveries : LinkSide → Call → List QueuedEvent
+call_deliveries link (Feed piece) = deliveries_of_frames (frames_made_whole link piece) link.awaited link.state
+call_deliveries link (FeedOne piece) = deliveries_of_frames (take 1 (frames_made_whole link piece)) link.awaited link.state
+call_deliveries link NextEvent = []
+call_deliveries link Post = []
+call_deliveries link (Stop reason) = []
+call_deliveries link OutOfMemory = []
+call_deliveries link (Send message) = []
+call_deliveries link (WriteRemote stag to bytes) = []
+call_deliveries link (ReadRemote sink at stag to len) = []
+call_deliveries link (Drain count) = []
+call_deliveries link (Register buf right) = []
+call_deliveries link (Release stag) = []
 
-abbrev pub notices_made : LinkSide → List Call → List QueuedEvent
-notices_made link [] = []
-notices_made link (call ∷ calls) = call_notices link call ++ notices_made (after_call link call) calls
+abbrev pub deliveries_made : LinkSide → List Call → List QueuedEvent
+deliveries_made link [] = []
+deliveries_made link (call ∷ calls) = call_deliveries link call ++ deliveries_made (after_call link call) calls
 
 -- what a call delivers to the owner: `NextEvent` the first event that waits
 abbrev pub call_delivers : LinkSide → Call → List DeliveredEvent
 call_delivers link (Feed piece) = []
 call_delivers link (FeedOne piece) = []
-call_delivers link NextEvent = take 1 link.state.receive_queue.notices
+call_delivers link NextEvent = take 1 link.state.receive_queue.deliveries
 call_delivers link Post = []
 call_delivers link (Stop reason) = []
 call_delivers link OutOfMemory = []
@@ -249,16 +249,16 @@ events_delivered link (call ∷ calls) = call_delivers link call ++ events_deliv
 -- order. So each event is delivered once, and nothing else is.
 abbrev pub EventsAreDelivered : Type 0
 EventsAreDelivered = (link : LinkSide) (calls : List Call) →
-    events_delivered link calls ++ (after_calls link calls).state.receive_queue.notices
-    ≡ link.state.receive_queue.notices ++ map (λ made. made.notice) (notices_made link calls)
+    events_delivered link calls ++ (after_calls link calls).state.receive_queue.deliveries
+    ≡ link.state.receive_queue.deliveries ++ map (λ made. made.delivery) (deliveries_made link calls)
 
 -- They come in the order of the stream: each is made at a frame after that of the one before it.
-abbrev pub NoticesRise : ℕ → List QueuedEvent → ℕ → Type 0
-NoticesRise from [] until = from ≤ until
-NoticesRise from (made ∷ others) until = (from < made.end) × NoticesRise made.end others until
+abbrev pub DeliveriesRise : ℕ → List QueuedEvent → ℕ → Type 0
+DeliveriesRise from [] until = from ≤ until
+DeliveriesRise from (made ∷ others) until = (from < made.end) × DeliveriesRise made.end others until
 
 abbrev pub EventsAreInOrder : Type 0
-EventsAreInOrder = (link : LinkSide) (calls : List Call) → NoticesRise link.state.place (notices_made link calls) (after_calls link calls).state.place
+EventsAreInOrder = (link : LinkSide) (calls : List Call) → DeliveriesRise link.state.place (deliveries_made link calls) (after_calls link calls).state.place
 
 -- Once an event is made, and so when it is delivered, all tagged segments of the frames up to its own have been placed: the memory is
 -- that of the events so far, and of the events of all calls only those are left whose tagged segments end after that frame.
@@ -267,18 +267,18 @@ EventsFollowAccesses = (link : LinkSide) (before after : List Call) →
     let now = after_calls link before in
     (now.state.memory ≡ after_events link.state.memory (memory_events link before))
     × ((memory_events link (before ++ after) ≡ memory_events link before ++ memory_events now after)
-    × All (λ made. All (λ segment. made.end < segment.end) (tagged_segments (memory_events now after))) (notices_made link before))
+    × All (λ made. All (λ segment. made.end < segment.end) (tagged_segments (memory_events now after))) (deliveries_made link before))
 
 -- A feed of one frame makes its event at the offset that the side has reached then, so no tagged segment of a later frame has been
 -- placed.
 abbrev pub OneFrameDeliversAtItsEnd : Type 0
 OneFrameDeliversAtItsEnd = (link : LinkSide) (piece : List ℕ) →
-    All (λ made. made.end ≡ (after_call link (FeedOne piece)).state.place) (notices_made link (FeedOne piece ∷ []))
+    All (λ made. made.end ≡ (after_call link (FeedOne piece)).state.place) (deliveries_made link (FeedOne piece ∷ []))
 
 -- It makes at most one event.
 abbrev pub OneFrameDeliversOnce : Type 0
 OneFrameDeliversOnce = (link : LinkSide) (piece : List ℕ) →
-    length (after_call link (FeedOne piece)).state.receive_queue.notices ≤ length link.state.receive_queue.notices + 1
+    length (after_call link (FeedOne piece)).state.receive_queue.deliveries ≤ length link.state.receive_queue.deliveries + 1
 
 -- ---- What the peer reads of it
 

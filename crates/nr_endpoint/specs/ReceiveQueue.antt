@@ -21,7 +21,7 @@ pub record ReceiveQueue : Type 0 where
   pub received : ReceiveState
   pub free : ℕ
   pub lent : ℕ
-  pub notices : List DeliveredEvent
+  pub deliveries : List DeliveredEvent
 
 abbrev pub initial_receives : (receives receive_length : ℕ) → ReceiveQueue
 initial_receives receives receive_length = record {
@@ -30,7 +30,7 @@ initial_receives receives receive_length = record {
   received = nothing_received;
   free = receives;
   lent = 0;
-  notices = [];
+  deliveries = [];
 }
 
 -- the first segment of a Send takes a receive
@@ -38,9 +38,9 @@ abbrev pub takes_receive : ReceiveState → Segment → Bool
 takes_receive h (Tagged last opcode stag to payload) = false
 takes_receive h (Untagged last opcode w queue msn offset payload) = is_send opcode && not (is_begun h.begun)
 
-abbrev pub message_notices : ℕ → Option (List ℕ) → List DeliveredEvent
-message_notices number None = []
-message_notices number (Some message) = MessageReceived number None message ∷ []
+abbrev pub message_deliveries : ℕ → Option (List ℕ) → List DeliveredEvent
+message_deliveries number None = []
+message_deliveries number (Some message) = MessageReceived number None message ∷ []
 
 -- after one more segment
 unfoldable pub with_segment : Segment → ReceiveQueue → ReceiveQueue
@@ -50,20 +50,20 @@ with_segment segment q = record {
   received = received_within q.receive_length (received_after q.received segment);
   free = if takes_receive q.received segment then q.free - 1 else q.free;
   lent = q.lent;
-  notices = q.notices ++ message_notices (q.received.sends + 1) (message_completed q.received segment);
+  deliveries = q.deliveries ++ message_deliveries (q.received.sends + 1) (message_completed q.received segment);
 }
 
 abbrev pub with_read_done : ReceiveQueue → ReceiveQueue
-with_read_done q = record q { notices = q.notices ++ ReadDone ∷ [] }
+with_read_done q = record q { deliveries = q.deliveries ++ ReadDone ∷ [] }
 
 -- the first event was delivered to the owner: the receive of a message is lent until it is posted again
 abbrev pub lent_for : List DeliveredEvent → ℕ
 lent_for [] = 0
-lent_for (MessageReceived number invalidated bytes ∷ notices) = 1
-lent_for (ReadDone ∷ notices) = 0
+lent_for (MessageReceived number invalidated bytes ∷ deliveries) = 1
+lent_for (ReadDone ∷ deliveries) = 0
 
 abbrev pub delivered : ReceiveQueue → ReceiveQueue
-delivered q = record q { lent = q.lent + lent_for q.notices; notices = drop 1 q.notices }
+delivered q = record q { lent = q.lent + lent_for q.deliveries; deliveries = drop 1 q.deliveries }
 
 abbrev pub posted : ReceiveQueue → ReceiveQueue
 posted q = record q { free = q.free + 1; lent = q.lent - 1 }
@@ -75,10 +75,10 @@ sends_begun (Some bytes) = 1
 
 abbrev pub messages_in : List DeliveredEvent → ℕ
 messages_in [] = 0
-messages_in (MessageReceived number invalidated bytes ∷ notices) = 1 + messages_in notices
-messages_in (ReadDone ∷ notices) = messages_in notices
+messages_in (MessageReceived number invalidated bytes ∷ deliveries) = 1 + messages_in deliveries
+messages_in (ReadDone ∷ deliveries) = messages_in deliveries
 
 -- How many receive buffers are kept: those of the free receives, that of a begun Send, and those of the messages that weren't delivered to
 -- the owner yet. A receive that is lent isn't kept.
 abbrev pub receives_kept : ReceiveQueue → ℕ
-receives_kept q = q.free + (sends_begun q.received.begun + messages_in q.notices)
+receives_kept q = q.free + (sends_begun q.received.begun + messages_in q.deliveries)

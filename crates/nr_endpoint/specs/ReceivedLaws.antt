@@ -4,7 +4,7 @@ use Rattle.nr_wire.specs.declared.hello.Side.{Side}
 use Rattle.nr_regions.specs.Events.{tagged_segments}
 use Rattle.nr_endpoint.specs.LinkState.{initial_link}
 use Rattle.nr_endpoint.specs.Calls.{Call, after_calls}
-use Rattle.nr_endpoint.specs.Laws.{bytes_fed, memory_events, notices_made}
+use Rattle.nr_endpoint.specs.Laws.{bytes_fed, memory_events, deliveries_made}
 
 -- The bytes that were fed by some calls, those of an incomplete frame among them, divide the tagged segments: each that these calls placed
 -- ends within the bytes, and each that later calls place ends after them. So a grant that begins once these bytes came covers only the later
@@ -21,5 +21,5 @@ abbrev pub EventsOfReceivedBytes : Type 0
 EventsOfReceivedBytes = (side : Side) (receives first_stag : ℕ) (before after : List Call) →
     let start = initial_link side receives first_stag in
     let came = length (bytes_fed start before) in
-    All (λ made. made.end ≤ came) (notices_made start before)
-    × All (λ made. came < made.end) (notices_made (after_calls start before) after)
+    All (λ made. made.end ≤ came) (deliveries_made start before)
+    × All (λ made. came < made.end) (deliveries_made (after_calls start before) after)

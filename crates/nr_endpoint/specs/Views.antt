@@ -12,14 +12,14 @@ use Rattle.nr_endpoint.specs.ReceiveQueue.{DeliveredEvent}
 use Rattle.nr_endpoint.specs.ReceiveQueue.DeliveredEvent.{MessageReceived, ReadDone}
 
 -- an event is delivered with the receive buffer, of which the message is the first bytes
-abbrev pub notice : Event → DeliveredEvent
-notice (events.Message number invalidated buf len) = MessageReceived number invalidated (take len buf)
-notice events.ReadDone = ReadDone
+abbrev pub delivery : Event → DeliveredEvent
+delivery (events.Message number invalidated buf len) = MessageReceived number invalidated (take len buf)
+delivery events.ReadDone = ReadDone
 
 -- each message comes after the reads that were done before it, and after the last message come those that were done since
-abbrev pub notices : List ReceivedMessage → ℕ → List DeliveredEvent
-notices [] reads_done = replicate reads_done ReadDone
-notices (m ∷ messages) reads_done = replicate m.reads_done ReadDone ++ MessageReceived m.number None (take m.len m.buf) ∷ notices messages reads_done
+abbrev pub deliveries : List ReceivedMessage → ℕ → List DeliveredEvent
+deliveries [] reads_done = replicate reads_done ReadDone
+deliveries (m ∷ messages) reads_done = replicate m.reads_done ReadDone ++ MessageReceived m.number None (take m.len m.buf) ∷ deliveries messages reads_done
 
 -- how many reads were done before the first message, and the messages once one of those was delivered to the owner
 abbrev pub reads_first : List ReceivedMessage → ℕ

@@ -17,7 +17,7 @@ ghost use Rattle.nr_endpoint.specs.Calls.Call.{NextEvent, Post, Stop, OutOfMemor
 ghost use Rattle.nr_endpoint.specs.EndpointState.{bytes_kept};
 ghost use Rattle.nr_wire.specs.Constants.{FPDU_MAX};
 ghost use Rattle.nr_endpoint.specs.Receives.{HasBuffer};
-ghost use Rattle.nr_endpoint.specs.Views.{notice};
+ghost use Rattle.nr_endpoint.specs.Views.{delivery};
 ghost use Rattle.nr_link.specs.SegmentFaults.{is_begun};
 
 use crate::endpoint::Endpoint;
@@ -32,8 +32,8 @@ impl Endpoint {
     /// Takes the next event; `None` if and only if none waits. It comes after all tagged segments that arrived before it. Takes no memory.
     pub fn next_event(&mut self) -> Option<Event>
         // The events are delivered in order, each only after bytes came, so `stop` may be called with it.
-        ensures event { self.old.link.state.receive_queue.notices ≡ option_to_list (option_map notice result) ++ self.new.link.state.receive_queue.notices }
-        ensures waits { is_some result ≡ nat_lt 0 (length self.old.link.state.receive_queue.notices) }
+        ensures event { self.old.link.state.receive_queue.deliveries ≡ option_to_list (option_map delivery result) ++ self.new.link.state.receive_queue.deliveries }
+        ensures waits { is_some result ≡ nat_lt 0 (length self.old.link.state.receive_queue.deliveries) }
         ensures place { is_some result ≡ true → 0 < self.new.link.state.place }
         ensures buffer { IfSome result (HasBuffer send_max) }
         ensures state { self.new.link ≡ (if is_some result then after_call self.old.link NextEvent else self.old.link) }

@@ -117,7 +117,7 @@ impl Endpoint {
         // Each receive is free, has a begun Send or a message that wasn't delivered to the owner yet, or is lent.
         ensures receives { receives_kept self.now.link.state.receive_queue + self.now.link.state.receive_queue.lent ≡ self.now.link.state.receive_queue.receives }
         // An event waits, or the hello was accepted, only after some bytes came: `stop` requires this.
-        ensures waiting { length self.now.link.state.receive_queue.notices ≤ self.now.link.state.place }
+        ensures waiting { length self.now.link.state.receive_queue.deliveries ≤ self.now.link.state.place }
         ensures greeted { self.now.link.state.has_hello ≡ true → 0 < self.now.link.state.place }
         // An FPDU is awaited only after the peer's hello was accepted.
         ensures awaits { self.now.link.state.ended ≡ None → self.now.link.awaited ≡ Awaited.Fpdu → self.now.link.state.has_hello ≡ true }

@@ -14,7 +14,7 @@ ghost use Rattle.nr_endpoint.specs.ReceiveQueue.{delivered, posted, receives_kep
 ghost use Rattle.nr_endpoint.specs.EndpointState.{bytes_of};
 ghost use Rattle.nr_endpoint.specs.Calls.{unless_ended};
 ghost use Rattle.nr_endpoint.specs.Receives.{HasBuffer};
-ghost use Rattle.nr_endpoint.specs.Views.{notice};
+ghost use Rattle.nr_endpoint.specs.Views.{delivery};
 
 use crate::constants::OPEN_READS_MAX;
 use crate::event::Event;
@@ -38,7 +38,7 @@ impl LinkSide {
     /// What holds of every side.
     pub fn facts(&self)
         ensures receives { receives_kept self.now.state.receive_queue + self.now.state.receive_queue.lent ≡ self.now.state.receive_queue.receives }
-        ensures waiting { length self.now.state.receive_queue.notices ≤ self.now.state.place }
+        ensures waiting { length self.now.state.receive_queue.deliveries ≤ self.now.state.place }
         ensures greeted { self.now.state.has_hello ≡ true → 0 < self.now.state.place }
         ensures reads { length self.now.state.reads ≤ open_reads_max }
         ensures stags { self.now.state.memory.next ≤ 2 ^ 32 }
@@ -61,8 +61,8 @@ impl LinkSide {
 
     /// Takes the next event; `None` if and only if none waits. Takes no memory.
     pub fn next_event(&mut self) -> Option<Event>
-        ensures event { self.old.state.receive_queue.notices ≡ option_to_list (option_map notice result) ++ self.new.state.receive_queue.notices }
-        ensures waits { is_some result ≡ nat_lt 0 (length self.old.state.receive_queue.notices) }
+        ensures event { self.old.state.receive_queue.deliveries ≡ option_to_list (option_map delivery result) ++ self.new.state.receive_queue.deliveries }
+        ensures waits { is_some result ≡ nat_lt 0 (length self.old.state.receive_queue.deliveries) }
         ensures buffer { IfSome result (HasBuffer send_max) }
         ensures after { self.new.state ≡ (if is_some result then record self.old.state { receive_queue = delivered self.old.state.receive_queue } else self.old.state) }
         ensures room { self.new.room ≡ self.old.room }

@@ -8,7 +8,7 @@ ghost use Rattle.nr_link.specs.KeptSends.{kept_within};
 ghost use Rattle.nr_link.specs.ReceiveState.{begun_bytes};
 ghost use Rattle.nr_link.specs.SegmentFaults.{is_begun};
 ghost use Rattle.nr_endpoint.specs.ReceiveQueue.{initial_receives, with_segment, with_read_done, delivered, posted, receives_kept};
-ghost use Rattle.nr_endpoint.specs.Views.{notice, reads_first, without_first_read, begun_send, begun as begun_bytes_of};
+ghost use Rattle.nr_endpoint.specs.Views.{delivery, reads_first, without_first_read, begun_send, begun as begun_bytes_of};
 ghost use Rattle.nr_endpoint.specs.Receives.{IsReceive, HasBuffer};
 
 use crate::event::Event;
@@ -60,10 +60,10 @@ impl Model for ReceiveQueue {
 
     ghost coded = { receive_queue_code };
 
-    ghost use Rattle.nr_endpoint.specs.Views.{begun as begun_bytes_of, notices};
+    ghost use Rattle.nr_endpoint.specs.Views.{begun as begun_bytes_of, deliveries};
     ghost use Rattle.nr_endpoint.specs.Receives.{AreReceives};
 
-    ghost view = { λ q. record { receives = q.receives; receive_length = q.receive_length; received = record { sends = q.sends; begun = begun_bytes_of q.receive_length q.begun; requests = q.requests }; free = length q.free.items; lent = q.lent; notices = notices q.messages.items q.reads_done } };
+    ghost view = { λ q. record { receives = q.receives; receive_length = q.receive_length; received = record { sends = q.sends; begun = begun_bytes_of q.receive_length q.begun; requests = q.requests }; free = length q.free.items; lent = q.lent; deliveries = deliveries q.messages.items q.reads_done } };
 
     ghost invariant = { λ q. AreReceives q.receive_length q.free.items q.begun q.messages.items q.lent q.receives (vec_capacity q.free) (deque_capacity q.messages) };
 }
@@ -302,7 +302,7 @@ impl ReceiveQueue {
 
     /// The response to the Read Request that was open longest is complete. Takes no memory.
     pub fn read_done(&mut self)
-        requires { length self.old.notices < 2 ^ 63 }
+        requires { length self.old.deliveries < 2 ^ 63 }
         ensures { self.new ≡ with_read_done self.old }
     {
         self.reads_done += 1;
@@ -310,8 +310,8 @@ impl ReceiveQueue {
 
     /// The next event; `None` if and only if none waits. Takes no memory.
     pub fn next_event(&mut self) -> Option<Event>
-        ensures waits { is_some result ≡ nat_lt 0 (length self.old.notices) }
-        ensures event { self.old.notices ≡ option_to_list (option_map notice result) ++ self.new.notices }
+        ensures waits { is_some result ≡ nat_lt 0 (length self.old.deliveries) }
+        ensures event { self.old.deliveries ≡ option_to_list (option_map delivery result) ++ self.new.deliveries }
         ensures after { self.new ≡ (if is_some result then delivered self.old else self.old) }
         ensures buffer { IfSome result (HasBuffer self.old.receive_length) }
     {

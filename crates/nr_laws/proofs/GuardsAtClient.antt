@@ -15,7 +15,7 @@ use Rattle.nr_link.specs.ReceiveState.{begun_bytes, ReadRequest, message_complet
 use Rattle.nr_link.specs.Ending.{frame_segment}
 use Rattle.nr_reduce.specs.declared.mark.LinkParameters.{LinkParameters}
 use Rattle.nr_reduce.specs.Opening.{IsOpened}
-use Rattle.nr_reduce.specs.Limits.{most_credits}
+use Rattle.nr_reduce.specs.Limits.{credits_max}
 use Rattle.nr_reduce.specs.Events.{RunEvent}
 use Rattle.nr_reduce.specs.Events.RunEvent.{FrameReceived}
 use Rattle.nr_reduce.specs.EndRules.{EndState, live, next_end_state_by, end_state_after}
@@ -159,9 +159,9 @@ behind_hello_lem opened k t s u d all_up all_down w f r is hello = ap (λ (x : C
     by (Err reason) = hello
     by (Ok segment) = with (message_completed k.received segment) (due_with_response k f segment) (read_request_of segment)
 
-credits_same : (n : ℕ) → 0 < n → n ≤ most_credits → credits_of_word n ≤ n
+credits_same : (n : ℕ) → 0 < n → n ≤ credits_max → credits_of_word n ≤ n
 credits_same n some most =
-    let same : credits_of_word n ≡ n = (λ i. cond (ne_eqb n 0 (λ e. omega (arith, e, some)) i) 1 (cond (le-ltb most_credits n most i) most_credits n)) in
+    let same : credits_of_word n ≡ n = (λ i. cond (ne_eqb n 0 (λ e. omega (arith, e, some)) i) 1 (cond (le-ltb credits_max n most i) credits_max n)) in
     omega (arith, same)
 
 asks_up : (opened : LinkParameters) (os : List OutstandingCall) → AreSized opened os → AllByRecursion ClientContent (calls_frames opened os)

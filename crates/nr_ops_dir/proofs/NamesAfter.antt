@@ -25,7 +25,7 @@ use Rattle.nr_tree.specs.Changes.{on_bytes, node_with_size, tree_with_node, tree
 use Rattle.nr_tree.specs.Rules.{number_of_handle, handle_of, first, after, answer}
 use Rattle.nr_tree.specs.Replies.{wcc_data}
 use Rattle.nr_tree.proofs.Lists.{set_here_lem, set_other}
-use Rattle.nr_tree.proofs.SkeletonChanges.{value_at_insert, value_at_metadata, with_change_at, new_entry, skeleton_of-node_with_entry}
+use Rattle.nr_tree.proofs.SkeletonChanges.{value_at_insert, value_at_metadata, with_change_at, new_entry, skeleton_of_node_with_entry}
 use Rattle.nr_tree.proofs.Contents.{directory_at, found_none}
 use Rattle.nr_tree.proofs.StepLemmas.{not_next}
 use Rattle.nr_tree.specs.declared.rules.Space.{Space}
@@ -58,7 +58,7 @@ named_after_addition t now d name node sane can =
     ap (λ (f : ℕ → List Entry). f d) (value_at_insert entries_in [] t.nodes t.next node) ∙ set_other t.next (entries_in node) (value_at entries_in [] t.nodes) d ne in
     let e : Entry = new_entry v.0 name t.next in
     let after : value_at entries_in [] (tree_with_node t now d name node).nodes d ≡ value_at entries_in [] nodes d ++ e ∷ [] =
-    ap (λ (k : DirectoryGraph). k.entries d) (skeleton_of-node_with_entry (t.next + 1) nodes d v.0 now name t.next (is_dir node) v.1 v.2)
+    ap (λ (k : DirectoryGraph). k.entries d) (skeleton_of_node_with_entry (t.next + 1) nodes d v.0 now name t.next (is_dir node) v.1 v.2)
     ∙ set_here_lem d (value_at entries_in [] nodes d ++ e ∷ []) (value_at entries_in [] nodes) in
     ap (λ (l : List Entry). option_map (λ (x : Entry). x.number) (entry_of_name name l)) (after ∙ ap (λ (l : List Entry). l ++ e ∷ []) es)
     ∙ ap (option_map (λ (x : Entry). x.number)) (last_found name (entries_at t d) e can.free.free (nat_list_eq_equiv.refl name))

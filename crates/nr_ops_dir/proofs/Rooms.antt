@@ -85,21 +85,21 @@ module _ (t : Tree) (args : ReaddirArgs) (v : Node) (named : node_of_handle t ar
       size_is es ∙ part (min args.count listing_max) (total entry_size es) le
       ∙ and_true (min args.count listing_max - empty_size) (total entry_size es) (total name_size es) 4294967295 (names_within t es) (omega (arith, min_within args.count)) (leb_tells (total entry_size es) (min args.count listing_max - empty_size))
 
-  pub readdir-left : (d : Entries) → v.content ≡ Directory d → readdir_left t args ≡ entries_after args.cookie d.list
-  readdir-left d is = ap (λ (o : Option Node). option_map_or (λ dir. entries_after args.cookie (entries_in dir)) o []) named ∙ ap (λ (k : Content). entries_after args.cookie (entries_of k)) is
+  pub readdir_left_lem : (d : Entries) → v.content ≡ Directory d → readdir_left t args ≡ entries_after args.cookie d.list
+  readdir_left_lem d is = ap (λ (o : Option Node). option_map_or (λ dir. entries_after args.cookie (entries_in dir)) o []) named ∙ ap (λ (k : Content). entries_after args.cookie (entries_of k)) is
 
-  pub readdir-taken : empty_size ≤ min args.count listing_max → readdir_taken t args ≡ longest (within t limits) [] (readdir_left t args)
-  readdir-taken le = longest_same (readdir_fits t args) (within t limits) (same_test le) [] (readdir_left t args)
+  pub readdir_taken_lem : empty_size ≤ min args.count listing_max → readdir_taken t args ≡ longest (within t limits) [] (readdir_left t args)
+  readdir_taken_lem le = longest_same (readdir_fits t args) (within t limits) (same_test le) [] (readdir_left t args)
 
   module _ (c : Caller) (handled : handle_rule t args.dir ≡ None) (passed : first (listing_rules c args.cookie args.verifier v) ≡ None) where
     room : first (readdir_rules t c args) ≡ first (room_rules (readdir_fits t args) (readdir_left t args))
     room = rules_of_room t args.dir v (readdir_in t c args) (first (listing_rules c args.cookie args.verifier v)) (room_rules (readdir_fits t args) (readdir_left t args)) handled named refl passed
 
-    pub readdir-wanting : min args.count listing_max < empty_size → first (readdir_rules t c args) ≡ Some Toosmall
-    readdir-wanting lt = room ∙ room_wanting (readdir_fits t args) (readdir_left t args) (size_is [] ∙ lt-leb (empty_size + 0) (min args.count listing_max) (omega (arith, lt)))
+    pub readdir_wanting : min args.count listing_max < empty_size → first (readdir_rules t c args) ≡ Some Toosmall
+    readdir_wanting lt = room ∙ room_wanting (readdir_fits t args) (readdir_left t args) (size_is [] ∙ lt-leb (empty_size + 0) (min args.count listing_max) (omega (arith, lt)))
 
-    pub readdir-room : empty_size ≤ min args.count listing_max → (b : Bool) → goes_on (longest (within t limits) [] (readdir_left t args)) (readdir_left t args) ≡ b → first (readdir_rules t c args) ≡ (not b ⇒ Toosmall)
-    readdir-room le b goes = room ∙ room_by (readdir_fits t args) (readdir_left t args) (within t limits) b (same_test le) (size_is [] ∙ le-leb (empty_size + 0) (min args.count listing_max) (omega (arith, le))) goes
+    pub readdir_room : empty_size ≤ min args.count listing_max → (b : Bool) → goes_on (longest (within t limits) [] (readdir_left t args)) (readdir_left t args) ≡ b → first (readdir_rules t c args) ≡ (not b ⇒ Toosmall)
+    readdir_room le b goes = room ∙ room_by (readdir_fits t args) (readdir_left t args) (within t limits) b (same_test le) (size_is [] ∙ le-leb (empty_size + 0) (min args.count listing_max) (omega (arith, le))) goes
 
 -- ===== READDIRPLUS
 
@@ -113,23 +113,23 @@ module _ (t : Tree) (args : ReaddirplusArgs) (v : Node) (named : node_of_handle 
   same_test_plus : empty_size ≤ min args.maxcount listing_max → (es : List Entry) → readdirplus_fits t args es ≡ within t limits_plus es
   same_test_plus le es = size_plus es ∙ ap (λ (b : Bool). b && leb (total name_size es) args.dircount) (part (min args.maxcount listing_max) (total (size_in t Nodes) es) le)
 
-  pub readdirplus-left : (d : Entries) → v.content ≡ Directory d → readdirplus_left t args ≡ entries_after args.cookie d.list
-  readdirplus-left d is = ap (λ (o : Option Node). option_map_or (λ dir. entries_after args.cookie (entries_in dir)) o []) named ∙ ap (λ (k : Content). entries_after args.cookie (entries_of k)) is
+  pub readdirplus_left_lem : (d : Entries) → v.content ≡ Directory d → readdirplus_left t args ≡ entries_after args.cookie d.list
+  readdirplus_left_lem d is = ap (λ (o : Option Node). option_map_or (λ dir. entries_after args.cookie (entries_in dir)) o []) named ∙ ap (λ (k : Content). entries_after args.cookie (entries_of k)) is
 
-  pub readdirplus-taken : empty_size ≤ min args.maxcount listing_max → readdirplus_taken t args ≡ longest (within t limits_plus) [] (readdirplus_left t args)
-  readdirplus-taken le = longest_same (readdirplus_fits t args) (within t limits_plus) (same_test_plus le) [] (readdirplus_left t args)
+  pub readdirplus_taken_lem : empty_size ≤ min args.maxcount listing_max → readdirplus_taken t args ≡ longest (within t limits_plus) [] (readdirplus_left t args)
+  readdirplus_taken_lem le = longest_same (readdirplus_fits t args) (within t limits_plus) (same_test_plus le) [] (readdirplus_left t args)
 
   module _ (c : Caller) (handled : handle_rule t args.dir ≡ None) (passed : first (listing_rules c args.cookie args.verifier v) ≡ None) where
     room_plus : first (readdirplus_rules t c args) ≡ first (room_rules (readdirplus_fits t args) (readdirplus_left t args))
     room_plus = rules_of_room t args.dir v (readdirplus_in t c args) (first (listing_rules c args.cookie args.verifier v)) (room_rules (readdirplus_fits t args) (readdirplus_left t args)) handled named refl passed
 
-    pub readdirplus-wanting : min args.maxcount listing_max < empty_size → first (readdirplus_rules t c args) ≡ Some Toosmall
-    readdirplus-wanting lt =
+    pub readdirplus_wanting : min args.maxcount listing_max < empty_size → first (readdirplus_rules t c args) ≡ Some Toosmall
+    readdirplus_wanting lt =
         room_plus ∙ room_wanting (readdirplus_fits t args) (readdirplus_left t args)
         (size_plus [] ∙ ap (λ (b : Bool). b && leb 0 args.dircount) (lt-leb (empty_size + 0) (min args.maxcount listing_max) (omega (arith, lt))))
 
-    pub readdirplus-room : empty_size ≤ min args.maxcount listing_max → (b : Bool) → goes_on (longest (within t limits_plus) [] (readdirplus_left t args)) (readdirplus_left t args) ≡ b → first (readdirplus_rules t c args) ≡ (not b ⇒ Toosmall)
-    readdirplus-room le b goes =
+    pub readdirplus_room : empty_size ≤ min args.maxcount listing_max → (b : Bool) → goes_on (longest (within t limits_plus) [] (readdirplus_left t args)) (readdirplus_left t args) ≡ b → first (readdirplus_rules t c args) ≡ (not b ⇒ Toosmall)
+    readdirplus_room le b goes =
         room_plus ∙ room_by (readdirplus_fits t args) (readdirplus_left t args) (within t limits_plus) b (same_test_plus le)
         (size_plus [] ∙ (λ i. le-leb (empty_size + 0) (min args.maxcount listing_max) (omega (arith, le)) i && le-leb 0 args.dircount (omega arith) i)) goes
 
@@ -153,34 +153,34 @@ module _ (t : Tree) (c : Caller) (args : ReaddirArgs) (v : Node) (d : Entries) (
   limits_of_readdir = record { detail = Names; entries = min args.count listing_max - empty_size; names = 4294967295 }
 
   left_of_readdir : readdir_left t args ≡ entries_after args.cookie d.list
-  left_of_readdir = readdir-left t args v named d is
+  left_of_readdir = readdir_left_lem t args v named d is
 
   taken_of_readdir : readdir_taken t args ≡ longest (within t limits_of_readdir) [] (entries_after args.cookie d.list)
-  taken_of_readdir = readdir-taken t args v named le ∙ ap (longest (within t limits_of_readdir) []) left_of_readdir
+  taken_of_readdir = readdir_taken_lem t args v named le ∙ ap (longest (within t limits_of_readdir) []) left_of_readdir
 
   answer_of_readdir : (b : Bool) → goes_on (longest (within t limits_of_readdir) [] (entries_after args.cookie d.list)) (entries_after args.cookie d.list) ≡ b → first (readdir_rules t c args) ≡ (not b ⇒ Toosmall)
-  answer_of_readdir b goes = readdir-room t args v named c handled passed le b (ap (λ (l : List Entry). goes_on (longest (within t limits_of_readdir) [] l) l) left_of_readdir ∙ goes)
+  answer_of_readdir b goes = readdir_room t args v named c handled passed le b (ap (λ (l : List Entry). goes_on (longest (within t limits_of_readdir) [] l) l) left_of_readdir ∙ goes)
 
-  pub readdir-lists : (x : Range) → (x.dir.now ≡ d) × IsRange d.list x.start x.end (longest (within t limits_of_readdir) [] (entries_after args.cookie d.list)) (entries_after args.cookie d.list)
+  pub readdir_lists : (x : Range) → (x.dir.now ≡ d) × IsRange d.list x.start x.end (longest (within t limits_of_readdir) [] (entries_after args.cookie d.list)) (entries_after args.cookie d.list)
       → (first (readdir_rules t c args) ≡ None) × NamesAreValid x.dir.now.list × IsRange x.dir.now.list x.start x.end (readdir_taken t args) (readdir_left t args)
-  readdir-lists x k =
+  readdir_lists x k =
       let same : x.dir.now.list ≡ d.list = ap (λ (e : Entries). e.list) k.0 in (
         answer_of_readdir true k.1.goes,
         subst NamesAreValid (sym same) (names_valid t args.dir v d sane named is),
         range_is d.list x.dir.now.list (longest (within t limits_of_readdir) [] (entries_after args.cookie d.list)) (readdir_taken t args) (entries_after args.cookie d.list) (readdir_left t args) x.start x.end (sym same) (sym taken_of_readdir) (sym left_of_readdir) k.1,
       )
 
-  pub readdir-refuses : (s : Status) → (s ≡ Toosmall) × (goes_on (longest (within t limits_of_readdir) [] (entries_after args.cookie d.list)) (entries_after args.cookie d.list) ≡ false) → first (readdir_rules t c args) ≡ Some s
-  readdir-refuses s k = answer_of_readdir false k.1 ∙ ap (λ (x : Status). Some x) (sym k.0)
+  pub readdir_refuses : (s : Status) → (s ≡ Toosmall) × (goes_on (longest (within t limits_of_readdir) [] (entries_after args.cookie d.list)) (entries_after args.cookie d.list) ≡ false) → first (readdir_rules t c args) ≡ Some s
+  readdir_refuses s k = answer_of_readdir false k.1 ∙ ap (λ (x : Status). Some x) (sym k.0)
 
-  pub readdir-answers : (l : Limits) → l ≡ limits_of_readdir → (r : Result Range Status)
+  pub readdir_answers : (l : Limits) → l ≡ limits_of_readdir → (r : Result Range Status)
       → MatchResult r
       (λ x. (x.dir.now ≡ d) × IsRange d.list x.start x.end (longest (within t l) [] (entries_after args.cookie d.list)) (entries_after args.cookie d.list))
       (λ s. (s ≡ Toosmall) × (goes_on (longest (within t l) [] (entries_after args.cookie d.list)) (entries_after args.cookie d.list) ≡ false))
       → MatchResult r
       (λ x. (first (readdir_rules t c args) ≡ None) × NamesAreValid x.dir.now.list × IsRange x.dir.now.list x.start x.end (readdir_taken t args) (readdir_left t args))
       (λ s. first (readdir_rules t c args) ≡ Some s)
-  readdir-answers l same r m = matched _ _ _ _ r readdir-lists readdir-refuses (subst (λ (k : Limits). MatchResult r
+  readdir_answers l same r m = matched _ _ _ _ r readdir_lists readdir_refuses (subst (λ (k : Limits). MatchResult r
       (λ x. (x.dir.now ≡ d) × IsRange d.list x.start x.end (longest (within t k) [] (entries_after args.cookie d.list)) (entries_after args.cookie d.list))
       (λ s. (s ≡ Toosmall) × (goes_on (longest (within t k) [] (entries_after args.cookie d.list)) (entries_after args.cookie d.list) ≡ false))) same m)
 
@@ -191,34 +191,34 @@ module _ (t : Tree) (c : Caller) (args : ReaddirplusArgs) (v : Node) (d : Entrie
   limits_of_readdirplus = record { detail = Nodes; entries = min args.maxcount listing_max - empty_size; names = args.dircount }
 
   left_of_readdirplus : readdirplus_left t args ≡ entries_after args.cookie d.list
-  left_of_readdirplus = readdirplus-left t args v named d is
+  left_of_readdirplus = readdirplus_left_lem t args v named d is
 
   taken_of_readdirplus : readdirplus_taken t args ≡ longest (within t limits_of_readdirplus) [] (entries_after args.cookie d.list)
-  taken_of_readdirplus = readdirplus-taken t args v named le ∙ ap (longest (within t limits_of_readdirplus) []) left_of_readdirplus
+  taken_of_readdirplus = readdirplus_taken_lem t args v named le ∙ ap (longest (within t limits_of_readdirplus) []) left_of_readdirplus
 
   answer_of_readdirplus : (b : Bool) → goes_on (longest (within t limits_of_readdirplus) [] (entries_after args.cookie d.list)) (entries_after args.cookie d.list) ≡ b → first (readdirplus_rules t c args) ≡ (not b ⇒ Toosmall)
-  answer_of_readdirplus b goes = readdirplus-room t args v named c handled passed le b (ap (λ (l : List Entry). goes_on (longest (within t limits_of_readdirplus) [] l) l) left_of_readdirplus ∙ goes)
+  answer_of_readdirplus b goes = readdirplus_room t args v named c handled passed le b (ap (λ (l : List Entry). goes_on (longest (within t limits_of_readdirplus) [] l) l) left_of_readdirplus ∙ goes)
 
-  pub readdirplus-lists : (x : Range) → (x.dir.now ≡ d) × IsRange d.list x.start x.end (longest (within t limits_of_readdirplus) [] (entries_after args.cookie d.list)) (entries_after args.cookie d.list)
+  pub readdirplus_lists : (x : Range) → (x.dir.now ≡ d) × IsRange d.list x.start x.end (longest (within t limits_of_readdirplus) [] (entries_after args.cookie d.list)) (entries_after args.cookie d.list)
       → (first (readdirplus_rules t c args) ≡ None) × NamesAreValid x.dir.now.list × IsRange x.dir.now.list x.start x.end (readdirplus_taken t args) (readdirplus_left t args)
-  readdirplus-lists x k =
+  readdirplus_lists x k =
       let same : x.dir.now.list ≡ d.list = ap (λ (e : Entries). e.list) k.0 in (
         answer_of_readdirplus true k.1.goes,
         subst NamesAreValid (sym same) (names_valid t args.dir v d sane named is),
         range_is d.list x.dir.now.list (longest (within t limits_of_readdirplus) [] (entries_after args.cookie d.list)) (readdirplus_taken t args) (entries_after args.cookie d.list) (readdirplus_left t args) x.start x.end (sym same) (sym taken_of_readdirplus) (sym left_of_readdirplus) k.1,
       )
 
-  pub readdirplus-refuses : (s : Status) → (s ≡ Toosmall) × (goes_on (longest (within t limits_of_readdirplus) [] (entries_after args.cookie d.list)) (entries_after args.cookie d.list) ≡ false) → first (readdirplus_rules t c args) ≡ Some s
-  readdirplus-refuses s k = answer_of_readdirplus false k.1 ∙ ap (λ (x : Status). Some x) (sym k.0)
+  pub readdirplus_refuses : (s : Status) → (s ≡ Toosmall) × (goes_on (longest (within t limits_of_readdirplus) [] (entries_after args.cookie d.list)) (entries_after args.cookie d.list) ≡ false) → first (readdirplus_rules t c args) ≡ Some s
+  readdirplus_refuses s k = answer_of_readdirplus false k.1 ∙ ap (λ (x : Status). Some x) (sym k.0)
 
-  pub readdirplus-answers : (l : Limits) → l ≡ limits_of_readdirplus → (r : Result Range Status)
+  pub readdirplus_answers : (l : Limits) → l ≡ limits_of_readdirplus → (r : Result Range Status)
       → MatchResult r
       (λ x. (x.dir.now ≡ d) × IsRange d.list x.start x.end (longest (within t l) [] (entries_after args.cookie d.list)) (entries_after args.cookie d.list))
       (λ s. (s ≡ Toosmall) × (goes_on (longest (within t l) [] (entries_after args.cookie d.list)) (entries_after args.cookie d.list) ≡ false))
       → MatchResult r
       (λ x. (first (readdirplus_rules t c args) ≡ None) × NamesAreValid x.dir.now.list × IsRange x.dir.now.list x.start x.end (readdirplus_taken t args) (readdirplus_left t args))
       (λ s. first (readdirplus_rules t c args) ≡ Some s)
-  readdirplus-answers l same r m = matched _ _ _ _ r readdirplus-lists readdirplus-refuses (subst (λ (k : Limits). MatchResult r
+  readdirplus_answers l same r m = matched _ _ _ _ r readdirplus_lists readdirplus_refuses (subst (λ (k : Limits). MatchResult r
       (λ x. (x.dir.now ≡ d) × IsRange d.list x.start x.end (longest (within t k) [] (entries_after args.cookie d.list)) (entries_after args.cookie d.list))
       (λ s. (s ≡ Toosmall) × (goes_on (longest (within t k) [] (entries_after args.cookie d.list)) (entries_after args.cookie d.list) ≡ false))) same m)
 

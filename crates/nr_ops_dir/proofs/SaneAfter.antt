@@ -21,8 +21,8 @@ use Rattle.nr_tree.specs.Steps.{is_dir_at, is_regular_at, entries_at}
 use Rattle.nr_tree.specs.Changes.{tree_with_node, tree_with_size, tree_without_entry, tree_with_link, tree_with_new_name}
 use Rattle.nr_tree.specs.Rules.{first, number_of_handle}
 use Rattle.nr_tree.proofs.PassedRules.{AllClear, all_clear, clear, on_some, sane_after}
-use Rattle.nr_tree.proofs.StepLemmas.{sane_add_node, sane_add_link, sane-remove_entry, sane_set_size}
-use Rattle.nr_tree.proofs.RenameLemmas.{sane-rename}
+use Rattle.nr_tree.proofs.StepLemmas.{sane_add_node, sane_add_link, sane_remove_entry, sane_set_size}
+use Rattle.nr_tree.proofs.RenameLemmas.{sane_rename}
 use Rattle.nr_ops_dir.specs.declared.renaming.Move.{Move}
 use Rattle.nr_ops_dir.specs.Entries.{number_of_entry, has_entries}
 use Rattle.nr_ops_dir.specs.Create.{create_rules, create_tree, new_file, size_to_set, tree_with_file}
@@ -88,7 +88,7 @@ IsBare t n = is_dir_at t n ≡ true → entries_at t n ≡ []
 name_by : (t : Tree) (now : Time) (h name : List ℕ) (o : Option ℕ) → number_of_entry t (number_of_handle h) name ≡ o → IsSane t → ((n : ℕ) → o ≡ Some n → IsBare t n)
     → IsSane (option_map_or (λ n. tree_without_entry t now (number_of_handle h) name n) o t)
 name_by t now h name None found sane bare = sane
-name_by t now h name (Some n) found sane bare = sane-remove_entry t (number_of_handle h) name n sane (record { entry = found; empty = bare n refl }) now
+name_by t now h name (Some n) found sane bare = sane_remove_entry t (number_of_handle h) name n sane (record { entry = found; empty = bare n refl }) now
 
 name_gone : (t : Tree) (now : Time) (h name : List ℕ) → IsSane t → ((n : ℕ) → number_of_entry t (number_of_handle h) name ≡ Some n → IsBare t n) → IsSane (tree_without_name t now h name)
 name_gone t now h name sane bare = name_by t now h name (number_of_entry t (number_of_handle h) name) refl sane bare
@@ -120,7 +120,7 @@ move_by t c space now args (Some n) found sane none =
     let same : Bool = is_same_node (number_of_entry t to args.to_name) n in
     let m : Move = record { from = from; to = to; number = n; is_done = same } in
     cond_both same t (tree_with_new_name t now from args.from_name to args.to_name n) IsSane (λ done. sane)
-    (λ other. sane-rename t from args.from_name to args.to_name n sane (can_rename t c space args m sane none (record { source = refl; target = refl; node = found; done = refl }) other) now)
+    (λ other. sane_rename t from args.from_name to args.to_name n sane (can_rename t c space args m sane none (record { source = refl; target = refl; node = found; done = refl }) other) now)
 
 pub rename_sane : (t : Tree) (c : Caller) (space : Space) (now : Time) (args : RenameArgs) → IsSane t → IsSane (rename_tree t c space now args)
 rename_sane t c space now args sane =

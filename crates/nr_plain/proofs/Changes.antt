@@ -46,7 +46,7 @@ use Rattle.nr_plain.proofs.ReplyHeads.{either, same_answer}
 use Rattle.nr_plain.proofs.ReplyLimits.{results_size, numbered}
 use Rattle.nr_plain.proofs.ResultLimits.{wcc_part, make_fits}
 use Rattle.nr_plain.proofs.Serving.{mount_none}
-use Rattle.nr_plain.specs.ReplySizes.{most_results, most_reply}
+use Rattle.nr_plain.specs.ReplySizes.{results_max, most_reply}
 use Rattle.nr_reduce.specs.Limits.{send_max}
 
 -- ===== offers
@@ -104,26 +104,26 @@ module _ (s : Parameters) (st : State) (xid : ℕ) (e : Entry) where
   abbrev results : (p : NfsProcedure) → NfsArguments p → List ℕ
   results p a = encodings ((nfs_results_codec p).items (nfs_results st.tree (caller_of e.cred) (space_of s st e.args) (time_of e.moment) p a))
 
-  change : (p : NfsProcedure) (a : NfsArguments p) → length (results p a) ≤ most_results → Plain (nfs_procedure_number p) → Done p a
+  change : (p : NfsProcedure) (a : NfsArguments p) → length (results p a) ≤ results_max → Plain (nfs_procedure_number p) → Done p a
   change p a le plain some = (omega (arith, results_size xid (results p a), le), plain)
 
   nfs_done : (p : NfsProcedure) (a : NfsArguments p) → Done p a
   nfs_done nfs.Null a = λ some. absurd (some refl)
   nfs_done nfs.Getattr a = λ some. absurd (some refl)
-  nfs_done nfs.Setattr a = change nfs.Setattr a (union_fits wcc_data_codec wcc_data_codec (setattr_reply st.tree (caller_of e.cred) (space_of s st e.args) (time_of e.moment) a) most_results (wcc_part most_results (omega arith)) (wcc_part most_results (omega arith))) (refl, refl)
+  nfs_done nfs.Setattr a = change nfs.Setattr a (union_fits wcc_data_codec wcc_data_codec (setattr_reply st.tree (caller_of e.cred) (space_of s st e.args) (time_of e.moment) a) results_max (wcc_part results_max (omega arith)) (wcc_part results_max (omega arith))) (refl, refl)
   nfs_done nfs.Lookup a = λ some. absurd (some refl)
   nfs_done nfs.Access a = λ some. absurd (some refl)
   nfs_done nfs.Readlink a = λ some. absurd (some refl)
   nfs_done nfs.Read a = λ some. absurd (some refl)
-  nfs_done nfs.Write a = change nfs.Write a (union_fits write_ok_codec wcc_data_codec (write_reply st.tree (caller_of e.cred) (space_of s st e.args) (time_of e.moment) a) most_results (wcc_part most_results (omega arith)) (λ d. omega (arith, write_size d))) (refl, refl)
+  nfs_done nfs.Write a = change nfs.Write a (union_fits write_ok_codec wcc_data_codec (write_reply st.tree (caller_of e.cred) (space_of s st e.args) (time_of e.moment) a) results_max (wcc_part results_max (omega arith)) (λ d. omega (arith, write_size d))) (refl, refl)
   nfs_done nfs.Create a = change nfs.Create a (make_fits (first (create_rules st.tree (caller_of e.cred) (space_of s st e.args) a)) _ st.tree (create_tree st.tree (caller_of e.cred) (space_of s st e.args) (time_of e.moment) a) a.dir a.name) (refl, refl)
   nfs_done nfs.Mkdir a = change nfs.Mkdir a (make_fits (first (mkdir_rules st.tree (caller_of e.cred) (space_of s st e.args) a)) _ st.tree (mkdir_tree st.tree (caller_of e.cred) (space_of s st e.args) (time_of e.moment) a) a.dir a.name) (refl, refl)
   nfs_done nfs.Symlink a = change nfs.Symlink a (make_fits (first (symlink_rules st.tree (caller_of e.cred) (space_of s st e.args) a)) _ st.tree (symlink_tree st.tree (caller_of e.cred) (space_of s st e.args) (time_of e.moment) a) a.dir a.name) (refl, refl)
   nfs_done nfs.Mknod a = change nfs.Mknod a (make_fits (first (mknod_rules st.tree (caller_of e.cred) (space_of s st e.args) a)) _ st.tree (mknod_tree st.tree (caller_of e.cred) (space_of s st e.args) (time_of e.moment) a) a.dir a.name) (refl, refl)
-  nfs_done nfs.Remove a = change nfs.Remove a (union_fits wcc_data_codec wcc_data_codec (remove_reply st.tree (caller_of e.cred) (space_of s st e.args) (time_of e.moment) a) most_results (wcc_part most_results (omega arith)) (wcc_part most_results (omega arith))) (refl, refl)
-  nfs_done nfs.Rmdir a = change nfs.Rmdir a (union_fits wcc_data_codec wcc_data_codec (rmdir_reply st.tree (caller_of e.cred) (space_of s st e.args) (time_of e.moment) a) most_results (wcc_part most_results (omega arith)) (wcc_part most_results (omega arith))) (refl, refl)
-  nfs_done nfs.Rename a = change nfs.Rename a (union_fits rename_wcc_codec rename_wcc_codec (rename_reply st.tree (caller_of e.cred) (space_of s st e.args) (time_of e.moment) a) most_results (λ d. omega (arith, rename_size d)) (λ d. omega (arith, rename_size d))) (refl, refl)
-  nfs_done nfs.Link a = change nfs.Link a (union_fits link_wcc_codec link_wcc_codec (link_reply st.tree (caller_of e.cred) (space_of s st e.args) (time_of e.moment) a) most_results (λ d. omega (arith, link_size d)) (λ d. omega (arith, link_size d))) (refl, refl)
+  nfs_done nfs.Remove a = change nfs.Remove a (union_fits wcc_data_codec wcc_data_codec (remove_reply st.tree (caller_of e.cred) (space_of s st e.args) (time_of e.moment) a) results_max (wcc_part results_max (omega arith)) (wcc_part results_max (omega arith))) (refl, refl)
+  nfs_done nfs.Rmdir a = change nfs.Rmdir a (union_fits wcc_data_codec wcc_data_codec (rmdir_reply st.tree (caller_of e.cred) (space_of s st e.args) (time_of e.moment) a) results_max (wcc_part results_max (omega arith)) (wcc_part results_max (omega arith))) (refl, refl)
+  nfs_done nfs.Rename a = change nfs.Rename a (union_fits rename_wcc_codec rename_wcc_codec (rename_reply st.tree (caller_of e.cred) (space_of s st e.args) (time_of e.moment) a) results_max (λ d. omega (arith, rename_size d)) (λ d. omega (arith, rename_size d))) (refl, refl)
+  nfs_done nfs.Link a = change nfs.Link a (union_fits link_wcc_codec link_wcc_codec (link_reply st.tree (caller_of e.cred) (space_of s st e.args) (time_of e.moment) a) results_max (λ d. omega (arith, link_size d)) (λ d. omega (arith, link_size d))) (refl, refl)
   nfs_done nfs.Readdir a = λ some. absurd (some refl)
   nfs_done nfs.Readdirplus a = λ some. absurd (some refl)
   nfs_done nfs.Fsstat a = λ some. absurd (some refl)

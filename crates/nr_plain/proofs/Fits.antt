@@ -30,7 +30,7 @@ use Rattle.nr_tree.specs.declared.rules.Space.{Space}
 use Rattle.nr_ops_dir.specs.Entries.{number_of_entry}
 use Rattle.nr_ops_dir.specs.Create.{create_rules, create_tree, create_reply}
 use Rattle.nr_ops_dir.specs.Creation.{create_ok, mkdir_rules, mkdir_tree, mkdir_reply, symlink_rules, symlink_tree, symlink_reply, mknod_rules, mknod_tree, mknod_reply}
-use Rattle.nr_plain.specs.ReplySizes.{most_results, HandleFits, ObjectFits}
+use Rattle.nr_plain.specs.ReplySizes.{results_max, HandleFits, ObjectFits}
 use Rattle.nr_plain.proofs.Lengths.{wcc_size, write_size, create_size, rename_size, link_size, done_size, failed_size, union_fits}
 
 -- ===== of every result, if there is one
@@ -49,21 +49,21 @@ lacks_and_has p q = omega (arith, p, q)
 -- ===== results whose parts are all short
 
 -- SETATTR, REMOVE and RMDIR
-pub wcc_results_fit : (r : StatusUnion WccData WccData Status) → length (encodings (setattr_res_codec.items r)) ≤ most_results
-wcc_results_fit r = union_fits wcc_data_codec wcc_data_codec r most_results (λ f. omega (arith, wcc_size f)) (λ d. omega (arith, wcc_size d))
+pub wcc_results_fit : (r : StatusUnion WccData WccData Status) → length (encodings (setattr_res_codec.items r)) ≤ results_max
+wcc_results_fit r = union_fits wcc_data_codec wcc_data_codec r results_max (λ f. omega (arith, wcc_size f)) (λ d. omega (arith, wcc_size d))
 
-pub write_results_fit : (r : StatusUnion WriteOk WccData Status) → length (encodings (write_res_codec.items r)) ≤ most_results
-write_results_fit r = union_fits write_ok_codec wcc_data_codec r most_results (λ f. omega (arith, wcc_size f)) (λ d. omega (arith, write_size d))
+pub write_results_fit : (r : StatusUnion WriteOk WccData Status) → length (encodings (write_res_codec.items r)) ≤ results_max
+write_results_fit r = union_fits write_ok_codec wcc_data_codec r results_max (λ f. omega (arith, wcc_size f)) (λ d. omega (arith, write_size d))
 
-pub rename_results_fit : (r : StatusUnion RenameWcc RenameWcc Status) → length (encodings (rename_res_codec.items r)) ≤ most_results
-rename_results_fit r = union_fits rename_wcc_codec rename_wcc_codec r most_results (λ f. omega (arith, rename_size f)) (λ d. omega (arith, rename_size d))
+pub rename_results_fit : (r : StatusUnion RenameWcc RenameWcc Status) → length (encodings (rename_res_codec.items r)) ≤ results_max
+rename_results_fit r = union_fits rename_wcc_codec rename_wcc_codec r results_max (λ f. omega (arith, rename_size f)) (λ d. omega (arith, rename_size d))
 
-pub link_results_fit : (r : StatusUnion LinkWcc LinkWcc Status) → length (encodings (link_res_codec.items r)) ≤ most_results
-link_results_fit r = union_fits link_wcc_codec link_wcc_codec r most_results (λ f. omega (arith, link_size f)) (λ d. omega (arith, link_size d))
+pub link_results_fit : (r : StatusUnion LinkWcc LinkWcc Status) → length (encodings (link_res_codec.items r)) ≤ results_max
+link_results_fit r = union_fits link_wcc_codec link_wcc_codec r results_max (λ f. omega (arith, link_size f)) (λ d. omega (arith, link_size d))
 
 -- ===== CREATE and its kin
 
-create_results_fit : (r : StatusUnion CreateOk WccData Status) → ObjectFits r → length (encodings (create_res_codec.items r)) ≤ most_results
+create_results_fit : (r : StatusUnion CreateOk WccData Status) → ObjectFits r → length (encodings (create_res_codec.items r)) ≤ results_max
 create_results_fit (Done d) fits = omega (arith, done_size create_ok_codec wcc_data_codec d, create_size d fits)
 create_results_fit (Failed s f) fits = omega (arith, failed_size create_ok_codec wcc_data_codec s f, wcc_size f)
 
@@ -80,7 +80,7 @@ object_fits None wcc ok fits = fits
 object_fits (Some s) wcc ok fits = tt
 
 abbrev Fits : StatusUnion CreateOk WccData Status → Type 0
-Fits r = length (encodings (create_res_codec.items r)) ≤ most_results
+Fits r = length (encodings (create_res_codec.items r)) ≤ results_max
 
 module _ (t : Tree) (c : Caller) (space : Space) (now : Time) where
   -- what is made has the name in the directory of the tree after the call

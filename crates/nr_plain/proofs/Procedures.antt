@@ -136,18 +136,18 @@ module _ (t : Tree) (c : Caller) (space : Space) (now : Time) where
 
   -- ===== also of arguments that can't be read
 
-  pub tree-kept : (p : NfsProcedure) (r : Result (NfsArguments p) ℕ) → changes_from t c space now p r ≡ false → tree_from t c space now p r ≡ t
-  tree-kept p (Ok a) e = kept_by p a e
-  tree-kept p (Err at) e = refl
+  pub tree_kept : (p : NfsProcedure) (r : Result (NfsArguments p) ℕ) → changes_from t c space now p r ≡ false → tree_from t c space now p r ≡ t
+  tree_kept p (Ok a) e = kept_by p a e
+  tree_kept p (Err at) e = refl
 
-  pub entry-spaced : (p : NfsProcedure) (r : Result (NfsArguments p) ℕ) → changes_from t c space now p r ≡ true → space_rule space ≡ None
-  entry-spaced p (Ok a) e = spaced_by p a e
-  entry-spaced p (Err at) e = absurd cc
+  pub entry_spaced : (p : NfsProcedure) (r : Result (NfsArguments p) ℕ) → changes_from t c space now p r ≡ true → space_rule space ≡ None
+  entry_spaced p (Ok a) e = spaced_by p a e
+  entry_spaced p (Err at) e = absurd cc
 
-  pub tree-below : (limit : ℕ) (p : NfsProcedure) (r : Result (NfsArguments p) ℕ) → IsBelow limit t → IsBelow (limit + 1) (tree_from t c space now p r)
-  tree-below limit p (Ok a) below = below_by limit p a below
-  tree-below limit p (Err at) below = below_next limit t below
+  pub tree_below : (limit : ℕ) (p : NfsProcedure) (r : Result (NfsArguments p) ℕ) → IsBelow limit t → IsBelow (limit + 1) (tree_from t c space now p r)
+  tree_below limit p (Ok a) below = below_by limit p a below
+  tree_below limit p (Err at) below = below_next limit t below
 
-  pub only-reads : (p : NfsProcedure) (r : Result (NfsArguments p) ℕ) → only_reads p ≡ true → (tree_from t c space now p r ≡ t) × (changes_from t c space now p r ≡ false)
-  only-reads p (Ok a) e = reads_by p a e
-  only-reads p (Err at) e = (refl, refl)
+  pub only_reads_lem : (p : NfsProcedure) (r : Result (NfsArguments p) ℕ) → only_reads p ≡ true → (tree_from t c space now p r ≡ t) × (changes_from t c space now p r ≡ false)
+  only_reads_lem p (Ok a) e = reads_by p a e
+  only_reads_lem p (Err at) e = (refl, refl)

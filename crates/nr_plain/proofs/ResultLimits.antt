@@ -62,7 +62,7 @@ use Rattle.nr_ops_dir.specs.Readdir.{longest, room_rules, readdir_ok, readdir_fi
 use Rattle.nr_ops_dir.specs.Removal.{remove_reply, rmdir_reply}
 use Rattle.nr_ops_dir.specs.Renaming.{rename_reply}
 use Rattle.nr_ops_dir.proofs.Sizes.{items_size, length_encodings, attributes_size, readdir_size, readdirplus_size}
-use Rattle.nr_plain.specs.ReplySizes.{HandleFits, most_results}
+use Rattle.nr_plain.specs.ReplySizes.{HandleFits, results_max}
 use Rattle.nr_plain.specs.Programs.{nfs_results}
 use Rattle.nr_plain.proofs.Lengths.{some_attributes, wcc_size, padded_rises, length_handle, lookup_size, access_size, readlink_size, read_size, write_size, commit_size, create_size, rename_size, link_size, fsstat_size, fsinfo_size, pathconf_size, mount_size, answer_fits, union_fits, done_size, failed_size, mounted_size, not_mounted_size}
 use Rattle.nr_plain.proofs.Readings.{read_counted, readdir_counted, readdirplus_counted}
@@ -169,9 +169,9 @@ wcc_part n le d = omega (arith, le, wcc_size d)
 
 -- the objects that CREATE, MKDIR, SYMLINK and MKNOD make
 pub make_fits : (o : Option Status) (wcc : WccData) (t u : Tree) (dir name : List ℕ)
-    → length (encodings ((nfs_results_codec nfs.Create).items (answer o (λ s. Failed s wcc) (Done (create_ok t u dir name))))) ≤ most_results
+    → length (encodings ((nfs_results_codec nfs.Create).items (answer o (λ s. Failed s wcc) (Done (create_ok t u dir name))))) ≤ results_max
 make_fits o wcc t u dir name =
-    answer_fits create_ok_codec wcc_data_codec o wcc (create_ok t u dir name) most_results (wcc_part most_results (omega arith) wcc)
+    answer_fits create_ok_codec wcc_data_codec o wcc (create_ok t u dir name) results_max (wcc_part results_max (omega arith) wcc)
     (λ none. omega (arith, create_size (create_ok t u dir name) (made_handle (number_of_entry u (number_of_handle dir) name))))
 
 module _ (t : Tree) (c : Caller) (space : Space) (now : Time) (sane : IsSane t) where
@@ -249,10 +249,10 @@ module _ (t : Tree) (c : Caller) (space : Space) (now : Time) (sane : IsSane t) 
     results_within nfs.Read a e =
         counted nfs.Read a (104 + (min a.count transfer_max + pad_len (min a.count transfer_max))) read_reply_max (read_count (standing place args)) a.count (read_counted place args bytes a e) refl (read_fits a) (omega arith)
     results_within nfs.Write a e = one nfs.Write a 136 (union_fits write_ok_codec wcc_data_codec (write_reply t c space now a) 136 (wcc_part 136 (omega arith)) (λ d. omega (arith, write_size d))) (omega arith)
-    results_within nfs.Create a e = one nfs.Create a most_results (make_fits (first (create_rules t c space a)) _ t (create_tree t c space now a) a.dir a.name) (omega arith)
-    results_within nfs.Mkdir a e = one nfs.Mkdir a most_results (make_fits (first (mkdir_rules t c space a)) _ t (mkdir_tree t c space now a) a.dir a.name) (omega arith)
-    results_within nfs.Symlink a e = one nfs.Symlink a most_results (make_fits (first (symlink_rules t c space a)) _ t (symlink_tree t c space now a) a.dir a.name) (omega arith)
-    results_within nfs.Mknod a e = one nfs.Mknod a most_results (make_fits (first (mknod_rules t c space a)) _ t (mknod_tree t c space now a) a.dir a.name) (omega arith)
+    results_within nfs.Create a e = one nfs.Create a results_max (make_fits (first (create_rules t c space a)) _ t (create_tree t c space now a) a.dir a.name) (omega arith)
+    results_within nfs.Mkdir a e = one nfs.Mkdir a results_max (make_fits (first (mkdir_rules t c space a)) _ t (mkdir_tree t c space now a) a.dir a.name) (omega arith)
+    results_within nfs.Symlink a e = one nfs.Symlink a results_max (make_fits (first (symlink_rules t c space a)) _ t (symlink_tree t c space now a) a.dir a.name) (omega arith)
+    results_within nfs.Mknod a e = one nfs.Mknod a results_max (make_fits (first (mknod_rules t c space a)) _ t (mknod_tree t c space now a) a.dir a.name) (omega arith)
     results_within nfs.Remove a e = one nfs.Remove a 120 (union_fits wcc_data_codec wcc_data_codec (remove_reply t c space now a) 120 (wcc_part 120 (omega arith)) (wcc_part 120 (omega arith))) (omega arith)
     results_within nfs.Rmdir a e = one nfs.Rmdir a 120 (union_fits wcc_data_codec wcc_data_codec (rmdir_reply t c space now a) 120 (wcc_part 120 (omega arith)) (wcc_part 120 (omega arith))) (omega arith)
     results_within nfs.Rename a e = one nfs.Rename a 236 (union_fits rename_wcc_codec rename_wcc_codec (rename_reply t c space now a) 236 (λ d. omega (arith, rename_size d)) (λ d. omega (arith, rename_size d))) (omega arith)

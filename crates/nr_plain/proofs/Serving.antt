@@ -22,7 +22,7 @@ use Rattle.nr_nfs_base.specs.declared.procedure.MountProcedure.{MountProcedure}
 use Rattle.nr_rpc.specs.declared.head.ReplyHead.TheVariants.{ProgMismatch}
 use Rattle.nr_plain.specs.Replies.{Answer, nfs_by_arguments, entries_if, refusal, mount_by_arguments, mount_by_procedure, mount_procedure_of, mount_call, program_call}
 use Rattle.nr_plain.specs.Stands.{PlainServerState, RepresentsJournal, IsServing, state_kept, state_after_answer}
-use Rattle.nr_plain.proofs.Procedures.{tree-kept, entry-spaced, tree-below}
+use Rattle.nr_plain.proofs.Procedures.{tree_kept, entry_spaced, tree_below}
 
 -- ===== numbers
 
@@ -72,10 +72,10 @@ module _ (k : PlainServerState) (e : Entry) (xid : ℕ) (p : NfsProcedure) where
 
     module _ (tree : Tree) (b : Bool) (after : tree ≡ tree_from t (caller_of e.cred) s (time_of e.moment) p arguments) (entry : b ≡ changes_from t (caller_of e.cred) s (time_of e.moment) p arguments) where
       same : b ≡ false → tree ≡ k.tree
-      same no_entry = tree_is tree after ∙ tree-kept k.tree (caller_of e.cred) space (time_of e.moment) p arguments (sym (changes_is b entry) ∙ no_entry)
+      same no_entry = tree_is tree after ∙ tree_kept k.tree (caller_of e.cred) space (time_of e.moment) p arguments (sym (changes_is b entry) ∙ no_entry)
 
       pub costs : b ≡ true → k.cost + entry_cost + length e.args ≤ k.parameters.capacity
-      costs is_entry = spaced space (entry-spaced k.tree (caller_of e.cred) space (time_of e.moment) p arguments (sym (changes_is b entry) ∙ is_entry))
+      costs is_entry = spaced space (entry_spaced k.tree (caller_of e.cred) space (time_of e.moment) p arguments (sym (changes_is b entry) ∙ is_entry))
 
       pub serving_entry : (n : ℕ) → n ≡ entry_cost + length e.args → b ≡ true → IsServing k → IsSane tree → IsServing (record { tree = tree; count = k.count + 1; cost = k.cost + n; parameters = k.parameters })
       serving_entry n costing is_entry is sane = record {
@@ -83,7 +83,7 @@ module _ (k : PlainServerState) (e : Entry) (xid : ℕ) (p : NfsProcedure) where
         below =
             let one : 2 ^ 62 + k.count + 1 ≡ 2 ^ 62 + (k.count + 1) = omega arith in
             subst (λ (l : ℕ). IsBelow l tree) one
-            (subst (IsBelow (2 ^ 62 + k.count + 1)) (sym (tree_is tree after)) (tree-below k.tree (caller_of e.cred) space (time_of e.moment) (2 ^ 62 + k.count) p arguments is.below));
+            (subst (IsBelow (2 ^ 62 + k.count + 1)) (sym (tree_is tree after)) (tree_below k.tree (caller_of e.cred) space (time_of e.moment) (2 ^ 62 + k.count) p arguments is.below));
         counted = omega (arith, is.counted, costing);
         within = omega (arith, costs is_entry, costing);
         capacity = is.capacity;

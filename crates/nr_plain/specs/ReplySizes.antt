@@ -13,12 +13,12 @@ head_size = 24
 -- The maximum length of the results of a procedure that changes files, which are those of CREATE on success (RFC 1813
 -- section 3.3.8): the status, a handle of 64 bytes, the attributes of the object, and those of the directory before and
 -- after.
-abbrev pub most_results : ℕ
-most_results = 280
+abbrev pub results_max : ℕ
+results_max = 280
 
 -- the maximum length of a reply with such results, in bytes
 abbrev pub most_reply : ℕ
-most_reply = head_size + most_results
+most_reply = head_size + results_max
 
 -- the maximum length of a handle in bytes (RFC 1813 section 2.4, NFS3_FHSIZE)
 abbrev pub longest_handle : ℕ

@@ -34,13 +34,13 @@ const GARBAGE_ARGS: u32 = 4;
 pub(crate) const HEAD_SIZE: usize = 24;
 
 /// The most bytes of the results of a procedure that changes files, which are those of CREATE (RFC 1813 section 3.3.8).
-const MOST_RESULTS: usize = 280;
+const RESULTS_MAX: usize = 280;
 
 /// Room for any reply with the results of a procedure that changes files.
 pub(crate) fn room_of_reply(alloc: Global) -> Result<RoomWriter, Memory>
     ensures { IfOk result (λ room. room ≡ record { bytes = []; left = most_reply }) }
 {
-    RoomWriter::with_room(alloc, HEAD_SIZE + MOST_RESULTS)
+    RoomWriter::with_room(alloc, HEAD_SIZE + RESULTS_MAX)
 }
 
 /// The head of a reply to a call that was accepted with this status.

@@ -37,7 +37,7 @@ pub(crate) trait Changing: Xdr {
     ghost use Rattle.nr_tree.specs.Steps.{IsBounded};
     ghost use Rattle.nr_tree.specs.Tree.{Tree};
     ghost use Rattle.nr_tree.specs.declared.rules.Space.{Space};
-    ghost use Rattle.nr_plain.specs.ReplySizes.{most_results};
+    ghost use Rattle.nr_plain.specs.ReplySizes.{results_max};
 
     /// The results on success.
     type Done: Xdr;
@@ -62,7 +62,7 @@ pub(crate) trait Changing: Xdr {
         requires space { IsWithinCapacity call.now.space }
         ensures result { IfOk result (λ r. r ≡ results tree.old call.now.caller.now call.now.space call.now.time self) }
         // They fit into the room of a reply.
-        ensures fits { IfOk result (λ r. length (encodings ((nfs_result Self.Done.codec Self.Failed.codec).items r)) ≤ most_results) }
+        ensures fits { IfOk result (λ r. length (encodings ((nfs_result Self.Done.codec Self.Failed.codec).items r)) ≤ results_max) }
         ensures tree { OnOk result (tree.new ≡ changed tree.old call.now.caller.now call.now.space call.now.time self) }
         ensures err { OnErr result (tree.new ≡ tree.old) };
 }

@@ -21,7 +21,7 @@ mod listings;
 #[cfg(test)]
 mod making_calls;
 #[cfg(test)]
-mod most_links;
+mod links_max;
 #[cfg(test)]
 mod no_space;
 #[cfg(test)]

@@ -71,7 +71,7 @@ fn call_often(rt: &impl Abort, alloc: Global, server: &mut Server, around: Aroun
 }
 
 #[test]
-fn most_links_of_a_file(rt: HostRuntime) {
+fn file_links_max(rt: HostRuntime) {
     let mut server = opened(&rt, rt.alloc(), AMPLE);
     call_often(&rt, rt.alloc(), &mut server, LINKS, 65_534);
     same(&rt, 0, server.journal_len(), 65_534);
@@ -79,7 +79,7 @@ fn most_links_of_a_file(rt: HostRuntime) {
 }
 
 #[test]
-fn most_links_of_a_directory(rt: HostRuntime) {
+fn directory_links_max(rt: HostRuntime) {
     let mut server = opened(&rt, rt.alloc(), AMPLE);
     all_answered(&rt, rt.alloc(), &mut server, &BESIDE);
     call_often(&rt, rt.alloc(), &mut server, DIRECTORIES, 65_533);

@@ -7,7 +7,7 @@ use Rattle.nr_wire.specs.Segment.{Segment}
 use Rattle.nr_link.specs.declared.end.End.{End}
 use Rattle.nr_link.specs.declared.end.End.TheVariants as ends
 use Rattle.nr_reduce.specs.declared.mark.LinkParameters.{LinkParameters}
-use Rattle.nr_reduce.specs.Limits.{most_credits}
+use Rattle.nr_reduce.specs.Limits.{credits_max}
 use Rattle.nr_reduce.specs.History.{AcceptedCall, CompletedCall}
 use Rattle.nr_reduce.specs.declared.outline.Plan.{Plan}
 use Rattle.nr_reduce.specs.Plans.{TooLarge, Buffer, regions_needed, buffers, call_message, inline_plan}
@@ -111,10 +111,10 @@ client_output opened k (QueueWritten taken) = []
 
 -- ---- What the client knows after each
 
--- the credits that a credit word grants: 0 counts as 1, and more than most_credits as most_credits (RFC 8166 section 3.3; the
+-- the credits that a credit word grants: 0 counts as 1, and more than credits_max as credits_max (RFC 8166 section 3.3; the
 -- bounds are own)
 abbrev pub credits_of_word : ℕ → ℕ
-credits_of_word credit = if credit == 0 then 1 else (if nat_lt most_credits credit then most_credits else credit)
+credits_of_word credit = if credit == 0 then 1 else (if nat_lt credits_max credit then credits_max else credit)
 
 abbrev pub region_of : ℕ → ℕ → Buffer → Region
 region_of xid place b = record { call = xid; position = 0; stag = b.stag; right = b.right; bytes = b.bytes; from = place; until = None }

@@ -4,8 +4,8 @@ use Rattle.std.specs.Prelude.{ℕ}
 use Rattle.nr_link.specs.Limits.{send_max as link_send_max}
 
 -- the maximum of credits that a side may ask for or grant, and that a credit word counts for
-abbrev pub most_credits : ℕ
-most_credits = 64
+abbrev pub credits_max : ℕ
+credits_max = 64
 
 -- the maximum length of a Send in bytes, in each direction, unless the sides agree on another
 abbrev pub send_max : ℕ

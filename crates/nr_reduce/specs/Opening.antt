@@ -1,15 +1,15 @@
 -- What the two ends of a link are opened with.
 use Rattle.std.specs.Prelude.{◌<◌, ◌≤◌}
 use Rattle.nr_reduce.specs.declared.mark.LinkParameters.{LinkParameters}
-use Rattle.nr_reduce.specs.Limits.{numbers_end, most_credits}
+use Rattle.nr_reduce.specs.Limits.{numbers_end, credits_max}
 
--- First numbers are from 1 on and below numbers_end, and credits are from 1 to most_credits.
+-- First numbers are from 1 on and below numbers_end, and credits are from 1 to credits_max.
 pub record IsOpened (opened : LinkParameters) : Type 0 where
   pub xid : 0 < opened.first_xid
   pub xid_fits : opened.first_xid < numbers_end
   pub stag : 0 < opened.first_stag
   pub stag_fits : opened.first_stag < numbers_end
   pub wished : 0 < opened.wished
-  pub wished_fits : opened.wished ≤ most_credits
+  pub wished_fits : opened.wished ≤ credits_max
   pub granted : 0 < opened.granted
-  pub granted_fits : opened.granted ≤ most_credits
+  pub granted_fits : opened.granted ≤ credits_max

@@ -99,7 +99,7 @@ module _ (sent first next : ℕ) (calls : List OutstandingCall) (answers : List 
   here : Fits (claims_total calls) e.link.state
   here = (b.0.link, b.0.regions)
 
-  pub fed_bounded : (piece : List ℕ) → e.link.state.ended ≡ None → e.link.state.receive_queue.notices ≡ [] → e.link.state.reads ≡ [] → e2.link ≡ after_call e.link (FeedOne piece) → IsBounded sent first next e2 calls answers
+  pub fed_bounded : (piece : List ℕ) → e.link.state.ended ≡ None → e.link.state.receive_queue.deliveries ≡ [] → e.link.state.reads ≡ [] → e2.link ≡ after_call e.link (FeedOne piece) → IsBounded sent first next e2 calls answers
   fed_bounded piece lives quiet none is =
       moved (ap (λ (l : LinkSide). l.state.memory.next) is ∙ (step_leaves e.link piece lives quiet none).leaves.next)
       (subst (λ (l : LinkSide). Fits (claims_total calls) l.state) (sym is) (fed_one_fits (claims_total calls) e.link piece here))

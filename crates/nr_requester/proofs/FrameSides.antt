@@ -17,7 +17,7 @@ use Rattle.nr_link.specs.SegmentFaults.{ExpectedResponse, Readiness, SegmentReas
 use Rattle.nr_link.specs.Ending.{kind_of}
 use Rattle.nr_endpoint.specs.LinkState.{LinkState}
 use Rattle.nr_endpoint.specs.SendQueue.{SendQueue, writable}
-use Rattle.nr_endpoint.specs.ReceiveQueue.{sends_begun, takes_receive, message_notices, with_segment as received_segment, delivered, posted}
+use Rattle.nr_endpoint.specs.ReceiveQueue.{sends_begun, takes_receive, message_deliveries, with_segment as received_segment, delivered, posted}
 use Rattle.nr_endpoint.specs.Judging.{with_effect, with_read_response, after_frame, segment_end, readiness, missing_access, with_read_request, fetch_access, expected_response}
 use Rattle.nr_endpoint.proofs.Queued.{response_some}
 use Rattle.nr_reduce.specs.declared.mark.LinkParameters.{LinkParameters}
@@ -144,7 +144,7 @@ link_untagged opened s k f last opcode w queue msn offset payload keeps later so
       receive = ap (λ (r : ReceiveState). cond (takes_receive r segment) (s.receive_queue.free - 1) s.receive_queue.free + sends_begun (received_after k.received segment).begun) keeps.received
           ∙ receive_part k.received s.receive_queue.free segment keeps.receive none;
       none_lent = keeps.none_lent;
-      none_waits = ap (λ (r : ReceiveState). s.receive_queue.notices ++ message_notices (s.receive_queue.received.sends + 1) (message_completed r segment)) keeps.received ∙ none_told k.received (s.receive_queue.received.sends + 1) s.receive_queue.notices segment keeps.none_waits none;
+      none_waits = ap (λ (r : ReceiveState). s.receive_queue.deliveries ++ message_deliveries (s.receive_queue.received.sends + 1) (message_completed r segment)) keeps.received ∙ none_told k.received (s.receive_queue.received.sends + 1) s.receive_queue.deliveries segment keeps.none_waits none;
       no_reads = keeps.no_reads;
       number = left.last_send ∙ keeps.number ∙ ap msn_word (sym same.calls_accepted);
       waiting = λ e. not_greeted k greeted (sym same.has_hello ∙ e);

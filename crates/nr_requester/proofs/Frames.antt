@@ -22,7 +22,7 @@ use Rattle.nr_link.specs.ReceiveState.{ReadRequest, message_completed, read_requ
 use Rattle.nr_link.specs.KeptSends.{received_within}
 use Rattle.nr_link.specs.Ending.{kind_of, frame_segment, frame_end, hello_end, final_output}
 use Rattle.nr_endpoint.specs.LinkState.{LinkState}
-use Rattle.nr_endpoint.specs.ReceiveQueue.{DeliveredEvent, message_notices, with_segment as received_segment}
+use Rattle.nr_endpoint.specs.ReceiveQueue.{DeliveredEvent, message_deliveries, with_segment as received_segment}
 use Rattle.nr_endpoint.specs.ReceiveQueue.DeliveredEvent.{MessageReceived}
 use Rattle.nr_endpoint.specs.SendQueue.{SendQueue, writable}
 use Rattle.nr_endpoint.specs.Judging.{with_frame, with_effect, with_end_of, after_frame, segment_end, next_frame, with_read_request, with_read_response, fetch_access}
@@ -41,7 +41,7 @@ use Rattle.nr_reduce.proofs.Taking.{kept_takes}
 use Rattle.nr_requester.specs.RequesterState.{RequesterState, kept_calls, queue_of, kept_client}
 use Rattle.nr_requester.specs.Standing.{LinkKeeps}
 use Rattle.nr_requester.specs.AfterCalls.{stags_for}
-use Rattle.nr_requester.specs.AfterPiece.{judged, noticed, unless_ended, after_fpdu}
+use Rattle.nr_requester.specs.AfterPiece.{judged, with_deliveries, unless_ended, after_fpdu}
 use Rattle.nr_requester.proofs.Faults.{ends_alike}
 use Rattle.nr_requester.proofs.OneReceive.{MessageAt, message_at}
 use Rattle.nr_requester.proofs.FrameSides.{has_greeted, TaggedFine, tagged_fine, link_tagged, RequestFine, request_fine, queue_request, link_untagged, link_message}
@@ -174,15 +174,15 @@ module _ (opened : LinkParameters) (r : RequesterState) (k : ClientState) (count
   -- ---- Any FPDU
 
   told_message : (last : Bool) (opcode w queue msn offset : ℕ) (payload message : List ℕ) → message_completed (received_within send_max k.received) (Untagged last opcode w queue msn offset payload) ≡ Some message →
-      (after_frame f (with_effect (Untagged last opcode w queue msn offset payload) r.side)).receive_queue.notices ≡ MessageReceived (r.side.receive_queue.received.sends + 1) None message ∷ []
+      (after_frame f (with_effect (Untagged last opcode w queue msn offset payload) r.side)).receive_queue.deliveries ≡ MessageReceived (r.side.receive_queue.received.sends + 1) None message ∷ []
   unfolding with_effect received_segment
   told_message last opcode w queue msn offset payload message whole =
-      (λ i. keeps.side.none_waits i ++ message_notices (r.side.receive_queue.received.sends + 1) (message_completed (keeps.side.received i) (Untagged last opcode w queue msn offset payload)))
-      ∙ ap (message_notices (r.side.receive_queue.received.sends + 1)) whole
+      (λ i. keeps.side.none_waits i ++ message_deliveries (r.side.receive_queue.received.sends + 1) (message_completed (keeps.side.received i) (Untagged last opcode w queue msn offset payload)))
+      ∙ ap (message_deliveries (r.side.receive_queue.received.sends + 1)) whole
 
   untagged_taken : (last : Bool) (opcode w queue msn offset : ℕ) (payload : List ℕ) → frame_end (client_readiness k) (region_grants f.end k.regions) f ≡ None →
       segment_end r.side f (Untagged last opcode w queue msn offset payload) ≡ None → Reads opened k f (Untagged last opcode w queue msn offset payload) →
-      FrameTaken opened r k f (noticed r (after_frame f (with_effect (Untagged last opcode w queue msn offset payload) r.side)) (after_frame f (with_effect (Untagged last opcode w queue msn offset payload) r.side)).receive_queue.notices)
+      FrameTaken opened r k f (with_deliveries r (after_frame f (with_effect (Untagged last opcode w queue msn offset payload) r.side)) (after_frame f (with_effect (Untagged last opcode w queue msn offset payload) r.side)).receive_queue.deliveries)
   unfolding with_effect
   untagged_taken last opcode w queue msn offset payload lives none said = by (message_completed k.received segment) refl
     where
@@ -195,22 +195,22 @@ module _ (opened : LinkParameters) (r : RequesterState) (k : ClientState) (count
       fine : RequestFine r.side k f.end (read_request_of segment)
       fine = request_is (read_request_of segment) (request_fine r.side f last opcode w queue msn offset payload none)
 
-      by : (o : Option (List ℕ)) → message_completed k.received segment ≡ o → FrameTaken opened r k f (noticed r s1 s1.receive_queue.notices)
+      by : (o : Option (List ℕ)) → message_completed k.received segment ≡ o → FrameTaken opened r k f (with_deliveries r s1 s1.receive_queue.deliveries)
       by None whole =
-          subst (λ (ns : List DeliveredEvent). FrameTaken opened r k f (noticed r s1 ns)) (sym (link_untagged opened r.side k f last opcode w queue msn offset payload keeps.side later (omega (arith, lt)) whole keeps.due fine).none_waits)
+          subst (λ (ns : List DeliveredEvent). FrameTaken opened r k f (with_deliveries r s1 ns)) (sym (link_untagged opened r.side k f last opcode w queue msn offset payload keeps.side later (omega (arith, lt)) whole keeps.due fine).none_waits)
           (part_taken last opcode w queue msn offset payload none said whole)
       by (Some message) whole =
           let long : length message ≤ k.down_max = not_long k f last opcode w queue msn offset payload message said.is_segment lives whole in
           let down = keeps.client.down in
           let fits : length message ≤ send_max = (let l = long in omega (arith, l, down)) in
           let at : MessageAt k.received segment message = message_at k.received segment message whole fits in
-          subst (λ (ns : List DeliveredEvent). FrameTaken opened r k f (noticed r s1 ns)) (sym (told_message last opcode w queue msn offset payload message at.whole))
+          subst (λ (ns : List DeliveredEvent). FrameTaken opened r k f (with_deliveries r s1 ns)) (sym (told_message last opcode w queue msn offset payload message at.whole))
           (message_taken last opcode w queue msn offset payload message said whole fits)
 
   segment_taken : (segment : Segment) → frame_end (client_readiness k) (region_grants f.end k.regions) f ≡ None → segment_end r.side f segment ≡ None → Reads opened k f segment →
-      FrameTaken opened r k f (noticed r (after_frame f (with_effect segment r.side)) (after_frame f (with_effect segment r.side)).receive_queue.notices)
+      FrameTaken opened r k f (with_deliveries r (after_frame f (with_effect segment r.side)) (after_frame f (with_effect segment r.side)).receive_queue.deliveries)
   segment_taken (Tagged last opcode stag to payload) lives none said =
-      subst (λ (ns : List DeliveredEvent). FrameTaken opened r k f (noticed r (after_frame f (with_effect (Tagged last opcode stag to payload) r.side)) ns))
+      subst (λ (ns : List DeliveredEvent). FrameTaken opened r k f (with_deliveries r (after_frame f (with_effect (Tagged last opcode stag to payload) r.side)) ns))
       (sym (link_tagged opened r.side k f last opcode stag to payload keeps.side (tagged_fine r.side f last opcode stag to payload keeps.side.no_reads none) later (omega (arith, lt))).none_waits)
       (tagged_taken last opcode stag to payload none said)
   segment_taken (Untagged last opcode w queue msn offset payload) lives none said = untagged_taken last opcode w queue msn offset payload lives none said
@@ -245,5 +245,5 @@ fpdu_taken opened r k count frame keeps lt later = by (with_frame r.side Fpdu fr
         let lives : frame_end (client_readiness k) (region_grants f.end k.regions) f ≡ None = sym alike ∙ is in
         let l : Lives r.side f frame = lives_by_lem r.side f frame (segment_of frame) refl is in
         subst (λ (x : Option End). FrameTaken opened r k f (unless_ended r (with_frame r.side Fpdu frame) x)) (sym is)
-        (subst (λ (x : LinkState). FrameTaken opened r k f (noticed r x x.receive_queue.notices)) (sym l.shape)
+        (subst (λ (x : LinkState). FrameTaken opened r k f (with_deliveries r x x.receive_queue.deliveries)) (sym l.shape)
         (segment_taken opened r k count f keeps lt later l.segment lives l.none (reads opened k f l.segment not_hello l.is_segment lives)))

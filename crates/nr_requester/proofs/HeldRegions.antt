@@ -143,7 +143,7 @@ sent_sound link link2 xid grant room room2 items items2 answers answers2 o s h q
       few = (let g = s.granted in omega (arith, len, credit, g));
       some = s.some;
       granted = s.granted;
-      none_waits = ap (λ (q : ReceiveQueue). q.notices) queue ∙ s.none_waits;
+      none_waits = ap (λ (q : ReceiveQueue). q.deliveries) queue ∙ s.none_waits;
       none_lent = ap (λ (q : ReceiveQueue). q.lent) queue ∙ s.none_lent;
       held = subst (λ (xs : List OutstandingCall). AreHeldFrom link2.state.memory 0 (all_claims xs)) (sym more)
           (subst (λ (cs : List Claim). AreHeldFrom link2.state.memory 0 cs) (sym (claims_append items o))
@@ -171,7 +171,7 @@ same_sound link link2 xid grant room room2 items answers s memory queue reads le
   few = s.few;
   some = s.some;
   granted = s.granted;
-  none_waits = ap (λ (q : ReceiveQueue). q.notices) queue ∙ s.none_waits;
+  none_waits = ap (λ (q : ReceiveQueue). q.deliveries) queue ∙ s.none_waits;
   none_lent = ap (λ (q : ReceiveQueue). q.lent) queue ∙ s.none_lent;
   held = subst (λ (m : RegisteredMemory). AreHeldFrom m 0 (all_claims items)) (sym memory) s.held;
   offers = s.offers;

@@ -44,9 +44,9 @@ pub next_ended : (l : LinkSide) → (after_call l NextEvent).state.ended ≡ l.s
 unfolding after_call
 next_ended l = refl
 
-pub next_lent : (l : LinkSide) (number : ℕ) (message : List ℕ) → l.state.receive_queue.notices ≡ MessageReceived number None message ∷ [] → 0 < (after_call l NextEvent).state.receive_queue.lent
+pub next_lent : (l : LinkSide) (number : ℕ) (message : List ℕ) → l.state.receive_queue.deliveries ≡ MessageReceived number None message ∷ [] → 0 < (after_call l NextEvent).state.receive_queue.lent
 unfolding after_call
-next_lent l number message is = (let one : lent_for l.state.receive_queue.notices ≡ 1 = ap lent_for is in omega (arith, one))
+next_lent l number message is = (let one : lent_for l.state.receive_queue.deliveries ≡ 1 = ap lent_for is in omega (arith, one))
 
 pub stop_memory : (l link2 : LinkSide) (reason : ℕ) → l.state.ended ≡ None → (link2 ≡ after_call l (Stop reason)) ⊎ (link2 ≡ after_call l OutOfMemory) → link2.state.memory ≡ l.state.memory
 unfolding after_call
@@ -66,17 +66,17 @@ first_message (ReadDone ∷ events) = []
 -- the message that waits is the one that the link delivers
 pub record Waits (link : LinkSide) (message : List ℕ) : Type 0 where
   pub number : ℕ
-  pub is : link.state.receive_queue.notices ≡ MessageReceived number None message ∷ []
+  pub is : link.state.receive_queue.deliveries ≡ MessageReceived number None message ∷ []
   pub rest : link.rest ≡ []
 
-pub message_waits : (link : LinkSide) (number : ℕ) (invalidated : Option ℕ) (message : List ℕ) (more : List DeliveredEvent) → (link.state.receive_queue.notices ≡ []) ⊎ OneWaits link → link.state.receive_queue.notices ≡ MessageReceived number invalidated message ∷ more → Waits link message
+pub message_waits : (link : LinkSide) (number : ℕ) (invalidated : Option ℕ) (message : List ℕ) (more : List DeliveredEvent) → (link.state.receive_queue.deliveries ≡ []) ⊎ OneWaits link → link.state.receive_queue.deliveries ≡ MessageReceived number invalidated message ∷ more → Waits link message
 message_waits link number invalidated message more (inl none) e = absurd (let wrong : [] ≡ MessageReceived number invalidated message ∷ more = sym none ∙ e in cc)
 message_waits link number invalidated message more (inr w) e =
     let same : w.message ≡ message = ap first_message (sym w.is ∙ e) in
     record { number = w.number; is = w.is ∙ ap (λ (m : List ℕ). MessageReceived w.number None m ∷ []) same; rest = w.rest }
 
 abbrev pub IsQuiet : LinkSide → Type 0
-IsQuiet l = (l.state.receive_queue.notices ≡ []) × ((l.state.receive_queue.lent ≡ 0) × (l.state.reads ≡ []))
+IsQuiet l = (l.state.receive_queue.deliveries ≡ []) × ((l.state.receive_queue.lent ≡ 0) × (l.state.reads ≡ []))
 
 end_quiet : (p l2 : LinkSide) (reason : ℕ) → p.state.ended ≡ None → IsQuiet p → (l2 ≡ after_call p (Stop reason)) ⊎ (l2 ≡ after_call p OutOfMemory) → IsQuiet l2
 unfolding after_call
@@ -84,7 +84,7 @@ end_quiet p l2 reason e q (inl same) = subst IsQuiet (sym (same ∙ ap (λ (o : 
 end_quiet p l2 reason e q (inr same) = subst IsQuiet (sym (same ∙ ap (λ (o : Option End). record { awaited = p.awaited; rest = []; state = cond (is_some o) p.state (record p.state { ended = Some ends.Memory }) }) e)) q
 
 -- after it was taken
-module _ (l : LinkSide) (lives : l.state.ended ≡ None) (number : ℕ) (message : List ℕ) (is : l.state.receive_queue.notices ≡ MessageReceived number None message ∷ []) (none_lent : l.state.receive_queue.lent ≡ 0) (no_reads : l.state.reads ≡ []) where
+module _ (l : LinkSide) (lives : l.state.ended ≡ None) (number : ℕ) (message : List ℕ) (is : l.state.receive_queue.deliveries ≡ MessageReceived number None message ∷ []) (none_lent : l.state.receive_queue.lent ≡ 0) (no_reads : l.state.reads ≡ []) where
   abbrev posted_side : LinkSide
   posted_side = after_call (after_call l NextEvent) Post
 
@@ -93,7 +93,7 @@ module _ (l : LinkSide) (lives : l.state.ended ≡ None) (number : ℕ) (message
   posted_quiet = (
     ap (λ (ns : List DeliveredEvent). drop 1 ns) is,
     (
-      (let one : lent_for l.state.receive_queue.notices ≡ 1 = ap lent_for is in omega (arith, one, none_lent)),
+      (let one : lent_for l.state.receive_queue.deliveries ≡ 1 = ap lent_for is in omega (arith, one, none_lent)),
       no_reads,
     ),
   )

@@ -9,7 +9,7 @@ use Rattle.nr_link.specs.KeptSends.{begun_within, received_within}
 use Rattle.nr_link.specs.ReceiveState.{ReceiveState, is_send, begun_bytes, received_after, send_continued, message_completed, read_request_in, read_request_of}
 use Rattle.nr_link.specs.SegmentFaults.{is_begun}
 use Rattle.nr_link.proofs.BegunSends.{kept_alike, messages_alike}
-use Rattle.nr_endpoint.specs.ReceiveQueue.{ReceiveQueue, DeliveredEvent, sends_begun, takes_receive, message_notices, with_segment, delivered, posted, lent_for}
+use Rattle.nr_endpoint.specs.ReceiveQueue.{ReceiveQueue, DeliveredEvent, sends_begun, takes_receive, message_deliveries, with_segment, delivered, posted, lent_for}
 use Rattle.nr_endpoint.specs.ReceiveQueue.DeliveredEvent.{MessageReceived}
 
 begun_is : (o : Option (List ℕ)) → is_begun (begun_within send_max o) ≡ is_begun o
@@ -47,8 +47,8 @@ message_none h (Untagged last opcode w queue msn offset payload) none = by (is_s
     by true is = absurd cc
     by false is = refl
 
-pub none_told : (h : ReceiveState) (number : ℕ) (notices : List DeliveredEvent) (segment : Segment) → notices ≡ [] → message_completed h segment ≡ None → notices ++ message_notices number (message_completed (received_within send_max h) segment) ≡ []
-none_told h number notices segment none is = λ i. none i ++ message_notices number (message_none h segment is i)
+pub none_told : (h : ReceiveState) (number : ℕ) (deliveries : List DeliveredEvent) (segment : Segment) → deliveries ≡ [] → message_completed h segment ≡ None → deliveries ++ message_deliveries number (message_completed (received_within send_max h) segment) ≡ []
+none_told h number deliveries segment none is = λ i. none i ++ message_deliveries number (message_none h segment is i)
 
 -- ---- A message
 
@@ -90,19 +90,19 @@ pub record IsFreed (q : ReceiveQueue) (h : ReceiveState) (segment : Segment) : T
   pub received : (after_message q segment).received ≡ received_within send_max (received_after h segment)
   pub receive : (after_message q segment).free + sends_begun (received_after h segment).begun ≡ 1
   pub none_lent : (after_message q segment).lent ≡ 0
-  pub none_waits : (after_message q segment).notices ≡ []
+  pub none_waits : (after_message q segment).deliveries ≡ []
 
-pub is_freed : (q : ReceiveQueue) (h : ReceiveState) (segment : Segment) (message : List ℕ) → q.receive_length ≡ send_max → q.received ≡ received_within send_max h → q.free + sends_begun h.begun ≡ 1 → q.lent ≡ 0 → q.notices ≡ [] → MessageAt h segment message → IsFreed q h segment
+pub is_freed : (q : ReceiveQueue) (h : ReceiveState) (segment : Segment) (message : List ℕ) → q.receive_length ≡ send_max → q.received ≡ received_within send_max h → q.free + sends_begun h.begun ≡ 1 → q.lent ≡ 0 → q.deliveries ≡ [] → MessageAt h segment message → IsFreed q h segment
 unfolding after_message with_segment
 is_freed q h segment message len received free lent none m =
     let takes : takes_receive q.received segment ≡ not (is_begun h.begun) = ap (λ (r : ReceiveState). takes_receive r segment) received ∙ m.takes in
-    let told_is : q.notices ++ message_notices (q.received.sends + 1) (message_completed q.received segment) ≡ MessageReceived (q.received.sends + 1) None message ∷ [] =
-    (λ i. none i ++ message_notices (q.received.sends + 1) (message_completed (received i) segment)) ∙ ap (message_notices (q.received.sends + 1)) m.whole in
+    let told_is : q.deliveries ++ message_deliveries (q.received.sends + 1) (message_completed q.received segment) ≡ MessageReceived (q.received.sends + 1) None message ∷ [] =
+    (λ i. none i ++ message_deliveries (q.received.sends + 1) (message_completed (received i) segment)) ∙ ap (message_deliveries (q.received.sends + 1)) m.whole in
     record {
       receive_length = len;
       received = received_next q h segment len received;
       receive =
           (λ i. (cond (takes i) (q.free - 1) q.free + 1) + sends_begun (m.begun i)) ∙ (let one = freed q.free h.begun free in omega (arith, one));
-      none_lent = (let one : lent_for (q.notices ++ message_notices (q.received.sends + 1) (message_completed q.received segment)) ≡ 1 = ap lent_for told_is in omega (arith, lent, one));
+      none_lent = (let one : lent_for (q.deliveries ++ message_deliveries (q.received.sends + 1) (message_completed q.received segment)) ≡ 1 = ap lent_for told_is in omega (arith, lent, one));
       none_waits = ap (λ (ns : List DeliveredEvent). drop 1 ns) told_is;
     }

@@ -18,7 +18,7 @@ use Rattle.nr_endpoint.specs.Calls.{after_call}
 use Rattle.nr_endpoint.specs.Calls.Call.{FeedOne}
 use Rattle.nr_endpoint.proofs.OneStep.{frame_not_memory}
 use Rattle.nr_endpoint.proofs.FedBytes.{fed_one_within}
-use Rattle.nr_endpoint.proofs.Pieces.{step-taken, feeding-none, some_taken, IsBehindFrame, behind}
+use Rattle.nr_endpoint.proofs.Pieces.{step_taken, feeding_none, some_taken, IsBehindFrame, behind}
 use Rattle.nr_reduce.specs.ClientMessages.{ReplyVerdict}
 use Rattle.nr_reduce.specs.ClientMessages.ReplyVerdict.{EndsLink, GivesOutcome}
 use Rattle.nr_reduce.specs.KeptCalls.{kept_verdict}
@@ -29,7 +29,7 @@ use Rattle.nr_reduce.specs.declared.mark.Mark.TheVariants as marks
 use Rattle.nr_requester.specs.RequesterState.{RequesterState, RequesterSide, kept_calls}
 use Rattle.nr_requester.specs.OpenCalls.{KeepsTickets}
 use Rattle.nr_requester.specs.Standing.{StandsOn, RequesterRepresents, RequesterRunsOut}
-use Rattle.nr_requester.specs.AfterPiece.{judged, noticed, unless_ended, requester_ended, after_frame, after_piece, RanOut}
+use Rattle.nr_requester.specs.AfterPiece.{judged, with_deliveries, unless_ended, requester_ended, after_frame, after_piece, RanOut}
 use Rattle.nr_requester.specs.Fed.{one_step, IsStep, QueuesOutput, fed_bytes, RanOutAt}
 use Rattle.nr_requester.proofs.Stepping.{link_of, told_of, step_fed, piece_rest}
 use Rattle.nr_requester.proofs.RunOut.{fed_out}
@@ -39,31 +39,31 @@ use Rattle.nr_requester.proofs.AllMarks.{piece_runs_out}
 -- ---- A step
 
 -- an event leaves the offset after the last frame
-noticed_place : (r : RequesterState) (s : LinkState) (ns : List DeliveredEvent) → (noticed r s ns).side.place ≡ s.place
-noticed_place r s [] = refl
-noticed_place r s (MessageReceived number invalidated message ∷ ns) = by (kept_verdict (kept_calls r) (bytes_under s.memory) message)
+with_deliveries_place : (r : RequesterState) (s : LinkState) (ns : List DeliveredEvent) → (with_deliveries r s ns).side.place ≡ s.place
+with_deliveries_place r s [] = refl
+with_deliveries_place r s (MessageReceived number invalidated message ∷ ns) = by (kept_verdict (kept_calls r) (bytes_under s.memory) message)
   where
     by : (v : ReplyVerdict) → (judged r s message v).side.place ≡ s.place
     by (EndsLink reason) = refl
     by (GivesOutcome xid outcome) = refl
-noticed_place r s (ReadDone ∷ ns) = refl
+with_deliveries_place r s (ReadDone ∷ ns) = refl
 
 told_place : (r : RequesterState) (s : LinkState) (e : Option End) → (unless_ended r s e).side.place ≡ s.place
-told_place r s None = noticed_place r s s.receive_queue.notices
+told_place r s None = with_deliveries_place r s s.receive_queue.deliveries
 told_place r s (Some end) = refl
 
 -- it doesn't end a side out of memory
-noticed_end : (r : RequesterState) (s : LinkState) (ns : List DeliveredEvent) → s.ended ≡ None → (noticed r s ns).side.ended ≢ Some ends.Memory
-noticed_end r s [] e = λ m. (let wrong : None ≡ Some ends.Memory = sym e ∙ m in cc)
-noticed_end r s (MessageReceived number invalidated message ∷ ns) e = by (kept_verdict (kept_calls r) (bytes_under s.memory) message)
+with_deliveries_end : (r : RequesterState) (s : LinkState) (ns : List DeliveredEvent) → s.ended ≡ None → (with_deliveries r s ns).side.ended ≢ Some ends.Memory
+with_deliveries_end r s [] e = λ m. (let wrong : None ≡ Some ends.Memory = sym e ∙ m in cc)
+with_deliveries_end r s (MessageReceived number invalidated message ∷ ns) e = by (kept_verdict (kept_calls r) (bytes_under s.memory) message)
   where
     by : (v : ReplyVerdict) → (judged r s message v).side.ended ≢ Some ends.Memory
     by (EndsLink reason) = λ m. cc
     by (GivesOutcome xid outcome) = λ m. (let wrong : None ≡ Some ends.Memory = sym e ∙ m in cc)
-noticed_end r s (ReadDone ∷ ns) e = λ m. (let wrong : None ≡ Some ends.Memory = sym e ∙ m in cc)
+with_deliveries_end r s (ReadDone ∷ ns) e = λ m. (let wrong : None ≡ Some ends.Memory = sym e ∙ m in cc)
 
 told_end : (r : RequesterState) (s : LinkState) (e : Option End) → s.ended ≡ e → e ≢ Some ends.Memory → (unless_ended r s e).side.ended ≢ Some ends.Memory
-told_end r s None is other = noticed_end r s s.receive_queue.notices is
+told_end r s None is other = with_deliveries_end r s s.receive_queue.deliveries is
 told_end r s (Some end) is other = λ m. other (sym is ∙ m)
 
 live_told : (r : RequesterState) (s : LinkState) (e : Option End) → s.ended ≡ e → (unless_ended r s e).side.ended ≡ None → s.ended ≡ None
@@ -81,7 +81,7 @@ link_end l piece lives = by (is_whole l.awaited (l.rest ++ piece)) refl
     by true e = λ m. frame_not_memory l.state l.awaited (take (frame_len l.awaited (l.rest ++ piece)) (l.rest ++ piece)) lives (sym (ap (λ (x : LinkSide). x.state.ended) (feeding_after_step-whole has_ended with_frame l piece going e)) ∙ m)
     by false e = λ m. (let wrong : None ≡ Some ends.Memory = sym lives ∙ sym (ap (λ (x : LinkSide). x.state.ended) (feeding_after_step-partial has_ended with_frame l piece going e)) ∙ m in cc)
 
-module _ (h : RequesterSide) (piece : List ℕ) (lives : h.state.side.ended ≡ None) (quiet : h.state.side.receive_queue.notices ≡ []) (partial : IsPartial h.awaited h.rest) where
+module _ (h : RequesterSide) (piece : List ℕ) (lives : h.state.side.ended ≡ None) (quiet : h.state.side.receive_queue.deliveries ≡ []) (partial : IsPartial h.awaited h.rest) where
   abbrev l : LinkSide
   l = after_call (link_of h) (FeedOne piece)
 
@@ -118,7 +118,7 @@ module _ (h : RequesterSide) (piece : List ℕ) (lives : h.state.side.ended ≡ 
   -- a step is a piece of the bytes that it takes
   pub step_piece : one_step h piece ≡ after_piece h (take (bytes_taken h.awaited h.rest piece) piece)
   unfolding after_piece
-  step_piece = step-taken requester_ended after_frame h piece (is_whole h.awaited (h.rest ++ piece)) refl going partial
+  step_piece = step_taken requester_ended after_frame h piece (is_whole h.awaited (h.rest ++ piece)) refl going partial
 
   -- all of the piece, once it ended the side
   pub step_all : (end : End) → (one_step h piece).state.side.ended ≡ Some end → (one_step h piece).rest ≡ [] → one_step h piece ≡ after_piece h piece
@@ -145,7 +145,7 @@ pub fed_none : (old : RequesterSide) (piece : List ℕ) → old.state.side.ended
 unfolding after_piece
 fed_none old piece lives partial within = record {
   within = omega arith;
-  far = inl (sym (feeding-none requester_ended after_frame old partial (λ e. absurd (let wrong : false ≡ true = ap (λ (x : Option End). is_some x) (sym lives) ∙ e in cc))), λ m. (let wrong : None ≡ Some ends.Memory = sym lives ∙ m in cc));
+  far = inl (sym (feeding_none requester_ended after_frame old partial (λ e. absurd (let wrong : false ≡ true = ap (λ (x : Option End). is_some x) (sym lives) ∙ e in cc))), λ m. (let wrong : None ≡ Some ends.Memory = sym lives ∙ m in cc));
   goes = λ lt. lives;
   fed = λ lt. omega (arith, within);
   bytes = omega arith;
@@ -157,7 +157,7 @@ pub record Stepped (now : RequesterSide) (left : List ℕ) (new : RequesterSide)
   pub step : IsStep now left new
   pub taken : count ≡ cond (is_some new.state.side.ended) (length left) (bytes_taken now.awaited now.rest left)
   pub partial : IsPartial now.awaited now.rest
-  pub quiet : now.state.side.receive_queue.notices ≡ []
+  pub quiet : now.state.side.receive_queue.deliveries ≡ []
   pub ended : is_some new.state.side.ended ≡ true → new.rest ≡ []
   pub tickets : KeepsTickets now.state new.state
 

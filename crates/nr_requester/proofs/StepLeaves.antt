@@ -18,7 +18,7 @@ use Rattle.nr_link.specs.Frames.{Frame}
 use Rattle.nr_link.specs.Ending.{kind_of}
 use Rattle.nr_link.specs.ReceiveState.{ReceiveState, ReadRequest, is_send, begun_bytes, message_completed, read_request_in, read_request_of}
 use Rattle.nr_endpoint.specs.LinkState.{LinkState, LinkSide, has_ended}
-use Rattle.nr_endpoint.specs.ReceiveQueue.{message_notices, with_segment as received_segment}
+use Rattle.nr_endpoint.specs.ReceiveQueue.{message_deliveries, with_segment as received_segment}
 use Rattle.nr_endpoint.specs.ReceiveQueue.DeliveredEvent.{MessageReceived}
 use Rattle.nr_endpoint.specs.Judging.{with_frame, with_peer_hello, with_fpdu, with_segment_by, with_effect, with_end_of, with_read_response, with_read_request, after_frame, segment_end, next_frame}
 use Rattle.nr_endpoint.specs.Calls.{after_call}
@@ -30,7 +30,7 @@ use Rattle.nr_requester.proofs.FrameSides.{TaggedFine, tagged_fine}
 pub record Delivers (s t : LinkState) : Type 0 where
   pub number : ℕ
   pub message : List ℕ
-  pub is : t.receive_queue.notices ≡ MessageReceived number None message ∷ []
+  pub is : t.receive_queue.deliveries ≡ MessageReceived number None message ∷ []
   pub memory : t.memory ≡ s.memory
   pub queue : t.send_queue ≡ s.send_queue
   pub hello : t.has_hello ≡ s.has_hello
@@ -40,11 +40,11 @@ pub record Leaves (s t : LinkState) : Type 0 where
   pub next : t.memory.next ≡ s.memory.next
   pub lent : t.receive_queue.lent ≡ s.receive_queue.lent
   pub reads : t.reads ≡ []
-  pub ended : is_some t.ended ≡ true → t.receive_queue.notices ≡ []
-  pub waits : t.ended ≡ None → (t.receive_queue.notices ≡ []) ⊎ Delivers s t
+  pub ended : is_some t.ended ≡ true → t.receive_queue.deliveries ≡ []
+  pub waits : t.ended ≡ None → (t.receive_queue.deliveries ≡ []) ⊎ Delivers s t
 
 -- a side that ends
-end_leaves : (s : LinkState) (end : End) → s.receive_queue.notices ≡ [] → s.reads ≡ [] → Leaves s (with_end_of end s)
+end_leaves : (s : LinkState) (end : End) → s.receive_queue.deliveries ≡ [] → s.reads ≡ [] → Leaves s (with_end_of end s)
 end_leaves s end quiet none = record { held = λ c h. h; next = refl; lent = refl; reads = none; ended = λ e. quiet; waits = λ e. inl quiet }
 
 -- a segment that completes a message is no Read Request
@@ -57,8 +57,8 @@ no_request h last opcode w queue msn offset payload message is = by (eqb opcode 
         let one : opcode ≡ OPCODE_READ_REQUEST = eqb-true opcode OPCODE_READ_REQUEST e in
         absurd (let wrong : None ≡ Some message = ap (λ (n : ℕ). cond (is_send n && last) (Some (begun_bytes h.begun ++ payload)) None) (sym one) ∙ is in cc)
 
-untagged_waits : (s : LinkState) (f : Frame) (last : Bool) (opcode w queue msn offset : ℕ) (payload : List ℕ) → s.receive_queue.notices ≡ [] →
-    ((after_frame f (with_effect (Untagged last opcode w queue msn offset payload) s)).receive_queue.notices ≡ []) ⊎ Delivers s (after_frame f (with_effect (Untagged last opcode w queue msn offset payload) s))
+untagged_waits : (s : LinkState) (f : Frame) (last : Bool) (opcode w queue msn offset : ℕ) (payload : List ℕ) → s.receive_queue.deliveries ≡ [] →
+    ((after_frame f (with_effect (Untagged last opcode w queue msn offset payload) s)).receive_queue.deliveries ≡ []) ⊎ Delivers s (after_frame f (with_effect (Untagged last opcode w queue msn offset payload) s))
 unfolding with_effect received_segment
 untagged_waits s f last opcode w queue msn offset payload quiet = by (message_completed s.receive_queue.received segment) refl
   where
@@ -73,18 +73,18 @@ untagged_waits s f last opcode w queue msn offset payload quiet = by (message_co
     none_asked (Some q) e = absurd cc
 
     by : (o : Option (List ℕ)) → message_completed s.receive_queue.received segment ≡ o →
-        ((after_frame f (with_effect segment s)).receive_queue.notices ≡ []) ⊎ Delivers s (after_frame f (with_effect segment s))
-    by None e = inl (λ i. quiet i ++ message_notices number (e i))
+        ((after_frame f (with_effect segment s)).receive_queue.deliveries ≡ []) ⊎ Delivers s (after_frame f (with_effect segment s))
+    by None e = inl (λ i. quiet i ++ message_deliveries number (e i))
     by (Some message) e = inr (record {
       number = number;
       message = message;
-      is = λ i. quiet i ++ message_notices number (e i);
+      is = λ i. quiet i ++ message_deliveries number (e i);
       memory = refl;
       queue = none_asked (read_request_of segment) (no_request s.receive_queue.received last opcode w queue msn offset payload message e);
       hello = refl;
     })
 
-untagged_leaves : (s : LinkState) (f : Frame) (last : Bool) (opcode w queue msn offset : ℕ) (payload : List ℕ) → s.ended ≡ None → s.receive_queue.notices ≡ [] → s.reads ≡ [] → Leaves s (after_frame f (with_effect (Untagged last opcode w queue msn offset payload) s))
+untagged_leaves : (s : LinkState) (f : Frame) (last : Bool) (opcode w queue msn offset : ℕ) (payload : List ℕ) → s.ended ≡ None → s.receive_queue.deliveries ≡ [] → s.reads ≡ [] → Leaves s (after_frame f (with_effect (Untagged last opcode w queue msn offset payload) s))
 unfolding with_effect received_segment
 untagged_leaves s f last opcode w queue msn offset payload lives quiet none = record {
   held = λ c h. h;
@@ -95,7 +95,7 @@ untagged_leaves s f last opcode w queue msn offset payload lives quiet none = re
   waits = λ e. untagged_waits s f last opcode w queue msn offset payload quiet;
 }
 
-tagged_leaves : (s : LinkState) (f : Frame) (last : Bool) (opcode stag to : ℕ) (payload : List ℕ) → s.ended ≡ None → s.receive_queue.notices ≡ [] → s.reads ≡ [] → TaggedFine s opcode stag to payload → Leaves s (after_frame f (with_effect (Tagged last opcode stag to payload) s))
+tagged_leaves : (s : LinkState) (f : Frame) (last : Bool) (opcode stag to : ℕ) (payload : List ℕ) → s.ended ≡ None → s.receive_queue.deliveries ≡ [] → s.reads ≡ [] → TaggedFine s opcode stag to payload → Leaves s (after_frame f (with_effect (Tagged last opcode stag to payload) s))
 unfolding with_effect
 tagged_leaves s f last opcode stag to payload lives quiet none fine =
     let placed : LinkState = record s { memory = after_place s.memory stag to payload } in
@@ -108,34 +108,34 @@ tagged_leaves s f last opcode stag to payload lives quiet none fine =
       waits = λ e. inl quiet;
     })
 
-by_end : (s : LinkState) (f : Frame) (segment : Segment) (e : Option End) → segment_end s f segment ≡ e → s.ended ≡ None → s.receive_queue.notices ≡ [] → s.reads ≡ [] → Leaves s (with_segment_by f segment e s)
+by_end : (s : LinkState) (f : Frame) (segment : Segment) (e : Option End) → segment_end s f segment ≡ e → s.ended ≡ None → s.receive_queue.deliveries ≡ [] → s.reads ≡ [] → Leaves s (with_segment_by f segment e s)
 by_end s f segment (Some end) is lives quiet none = end_leaves s end quiet none
 by_end s f (Tagged last opcode stag to payload) None is lives quiet none = tagged_leaves s f last opcode stag to payload lives quiet none (tagged_fine s f last opcode stag to payload none is)
 by_end s f (Untagged last opcode w queue msn offset payload) None is lives quiet none = untagged_leaves s f last opcode w queue msn offset payload lives quiet none
 
-by_segment : (s : LinkState) (f : Frame) (r : Result Segment ℕ) → s.ended ≡ None → s.receive_queue.notices ≡ [] → s.reads ≡ [] → Leaves s (with_fpdu f r s)
+by_segment : (s : LinkState) (f : Frame) (r : Result Segment ℕ) → s.ended ≡ None → s.receive_queue.deliveries ≡ [] → s.reads ≡ [] → Leaves s (with_fpdu f r s)
 unfolding with_fpdu
 by_segment s f (Ok segment) lives quiet none = by_end s f segment (segment_end s f segment) refl lives quiet none
 by_segment s f (Err reason) lives quiet none = end_leaves s _ quiet none
 
-by_hello : (s : LinkState) (f : Frame) (r : Result Hello ℕ) → s.ended ≡ None → s.receive_queue.notices ≡ [] → s.reads ≡ [] → Leaves s (with_peer_hello f r s)
+by_hello : (s : LinkState) (f : Frame) (r : Result Hello ℕ) → s.ended ≡ None → s.receive_queue.deliveries ≡ [] → s.reads ≡ [] → Leaves s (with_peer_hello f r s)
 unfolding with_peer_hello
 by_hello s f (Ok hello) lives quiet none = record { held = λ c h. h; next = refl; lent = refl; reads = none; ended = λ e. quiet; waits = λ e. inl quiet }
 by_hello s f (Err reason) lives quiet none = end_leaves s _ quiet none
 
-pub frame_leaves : (s : LinkState) (a : Awaited) (frame : List ℕ) → s.ended ≡ None → s.receive_queue.notices ≡ [] → s.reads ≡ [] → Leaves s (with_frame s a frame)
+pub frame_leaves : (s : LinkState) (a : Awaited) (frame : List ℕ) → s.ended ≡ None → s.receive_queue.deliveries ≡ [] → s.reads ≡ [] → Leaves s (with_frame s a frame)
 frame_leaves s (HelloFrom side) frame lives quiet none = by_hello s (next_frame s frame) (hello_of side frame) lives quiet none
 frame_leaves s Fpdu frame lives quiet none = by_segment s (next_frame s frame) (segment_of frame) lives quiet none
 
-same_leaves : (s : LinkState) → s.receive_queue.notices ≡ [] → s.reads ≡ [] → Leaves s s
+same_leaves : (s : LinkState) → s.receive_queue.deliveries ≡ [] → s.reads ≡ [] → Leaves s s
 same_leaves s quiet none = record { held = λ c h. h; next = refl; lent = refl; reads = none; ended = λ e. quiet; waits = λ e. inl quiet }
 
 -- after one step on a piece
 pub record StepLeaves (before : LinkSide) (piece : List ℕ) (after : LinkSide) : Type 0 where
   pub leaves : Leaves before.state after.state
-  pub rest : (after.state.receive_queue.notices ≡ []) ⊎ ((after.rest ≡ []) × (is_whole before.awaited (before.rest ++ piece) ≡ true))
+  pub rest : (after.state.receive_queue.deliveries ≡ []) ⊎ ((after.rest ≡ []) × (is_whole before.awaited (before.rest ++ piece) ≡ true))
 
-pub step_leaves : (link : LinkSide) (piece : List ℕ) → link.state.ended ≡ None → link.state.receive_queue.notices ≡ [] → link.state.reads ≡ [] → StepLeaves link piece (after_call link (FeedOne piece))
+pub step_leaves : (link : LinkSide) (piece : List ℕ) → link.state.ended ≡ None → link.state.receive_queue.deliveries ≡ [] → link.state.reads ≡ [] → StepLeaves link piece (after_call link (FeedOne piece))
 unfolding after_call
 step_leaves link piece lives quiet none = by (is_whole link.awaited (link.rest ++ piece)) refl
   where

@@ -27,9 +27,9 @@ use Rattle.nr_xdr.specs.Fields.{word_at}
 use Rattle.nr_requester.specs.declared.answer.AnsweredCall.{AnsweredCall}
 use Rattle.nr_requester.specs.declared.outstanding.OutstandingCall.{OutstandingCall}
 use Rattle.nr_requester.specs.RequesterState.{RequesterState, RequesterSide, kept_calls}
-use Rattle.nr_requester.specs.AfterPiece.{taken, judged, noticed, unless_ended, requester_ended, after_frame, RanOut}
+use Rattle.nr_requester.specs.AfterPiece.{taken, judged, with_deliveries, unless_ended, requester_ended, after_frame, RanOut}
 use Rattle.nr_requester.specs.Judged.{kept_views}
-use Rattle.nr_requester.specs.Fed.{OneWaits, CallsSound, IsReady, JudgesTo, noticed_side, Told, one_step, StepOut, IsStep}
+use Rattle.nr_requester.specs.Fed.{OneWaits, CallsSound, IsReady, JudgesTo, with_deliveries_side, Told, one_step, StepOut, IsStep}
 use Rattle.nr_requester.specs.Views.{IsSound, stored_view, requester_view}
 use Rattle.nr_requester.proofs.Stepping.{link_of, told_of, step_fed}
 use Rattle.nr_requester.proofs.StepLeaves.{Delivers, Leaves, StepLeaves, step_leaves, held_still}
@@ -60,7 +60,7 @@ module _ (link0 : LinkSide) (lives : link0.state.ended ≡ None) where
   next_memory = refl
 
 pub message_told : (link0 link1 link2 : LinkSide) (sent wished first next grant grant2 number : ℕ) (items items2 : List OutstandingCall) (answers answers2 : List AnsweredCall) (message : List ℕ) → link0.state.ended ≡ None →
-    link0.state.receive_queue.notices ≡ MessageReceived number None message ∷ [] → link0.rest ≡ [] → link1 ≡ after_call link0 NextEvent →
+    link0.state.receive_queue.deliveries ≡ MessageReceived number None message ∷ [] → link0.rest ≡ [] → link1 ≡ after_call link0 NextEvent →
     JudgesTo (kept_verdict (kept_views first sent items) (bytes_under link1.state.memory) message) message link1 link2 items items2 answers answers2 grant grant2 →
     Told (requester_view link0 sent wished first next grant items answers) (requester_view link2 sent wished first next grant2 items2 answers2)
 message_told link0 link1 link2 sent wished first next grant grant2 number items items2 answers answers2 message lives is rest event judges =
@@ -75,8 +75,8 @@ message_told link0 link1 link2 sent wished first next grant grant2 number items 
     s = link0.state
 
     -- what is made of it, by the verdict
-    made : (v : ReplyVerdict) → kept_verdict (kept_views first sent items) (bytes_under s.memory) message ≡ v → noticed_side before ≡ record { awaited = link0.awaited; rest = link0.rest; state = judged before.state s message v }
-    made v e = (λ i. record { awaited = link0.awaited; rest = link0.rest; state = noticed before.state s (is i) }) ∙ ap (λ (x : ReplyVerdict). record { awaited = link0.awaited; rest = link0.rest; state = judged before.state s message x }) e
+    made : (v : ReplyVerdict) → kept_verdict (kept_views first sent items) (bytes_under s.memory) message ≡ v → with_deliveries_side before ≡ record { awaited = link0.awaited; rest = link0.rest; state = judged before.state s message v }
+    made v e = (λ i. record { awaited = link0.awaited; rest = link0.rest; state = with_deliveries before.state s (is i) }) ∙ ap (λ (x : ReplyVerdict). record { awaited = link0.awaited; rest = link0.rest; state = judged before.state s message x }) e
 
     by : (v : ReplyVerdict) → kept_verdict (kept_views first sent items) (bytes_under s.memory) message ≡ v → JudgesTo v message (after_call link0 NextEvent) link2 items items2 answers answers2 grant grant2 → Told before (requester_view link2 sent wished first next grant2 items2 answers2)
     by (EndsLink reason) e j = ended j.0
@@ -126,10 +126,10 @@ message_told link0 link1 link2 sent wished first next grant grant2 number items 
         )
 
 -- no event
-pub none_told : (link0 link2 : LinkSide) (sent wished first next grant : ℕ) (items : List OutstandingCall) (answers : List AnsweredCall) → link0.state.receive_queue.notices ≡ [] → link2 ≡ link0 → Told (requester_view link0 sent wished first next grant items answers) (requester_view link2 sent wished first next grant items answers)
+pub none_told : (link0 link2 : LinkSide) (sent wished first next grant : ℕ) (items : List OutstandingCall) (answers : List AnsweredCall) → link0.state.receive_queue.deliveries ≡ [] → link2 ≡ link0 → Told (requester_view link0 sent wished first next grant items answers) (requester_view link2 sent wished first next grant items answers)
 none_told link0 link2 sent wished first next grant items answers none same = inl (
     ap (λ (l : LinkSide). requester_view l sent wished first next grant items answers) same
-    ∙ ap (λ (ns : List DeliveredEvent). record { awaited = link0.awaited; rest = link0.rest; state = noticed (requester_view link0 sent wished first next grant items answers).state link0.state ns }) (sym none)
+    ∙ ap (λ (ns : List DeliveredEvent). record { awaited = link0.awaited; rest = link0.rest; state = with_deliveries (requester_view link0 sent wished first next grant items answers).state link0.state ns }) (sym none)
     )
 
 -- ---- A step
@@ -139,17 +139,17 @@ end_longer : (side : Side) (end : End) (q : SendQueue) → output_len q ≤ outp
 unfolding with_end
 end_longer side end q = omega (arith, length-append q.hello (rejection side end), length-append q.fpdus (final_output end))
 
-noticed_longer : (r : RequesterState) (s : LinkState) (ns : List DeliveredEvent) → output_len s.send_queue ≤ output_len (noticed r s ns).side.send_queue
-noticed_longer r s [] = omega arith
-noticed_longer r s (MessageReceived number invalidated message ∷ ns) = by (kept_verdict (kept_calls r) (bytes_under s.memory) message)
+with_deliveries_longer : (r : RequesterState) (s : LinkState) (ns : List DeliveredEvent) → output_len s.send_queue ≤ output_len (with_deliveries r s ns).side.send_queue
+with_deliveries_longer r s [] = omega arith
+with_deliveries_longer r s (MessageReceived number invalidated message ∷ ns) = by (kept_verdict (kept_calls r) (bytes_under s.memory) message)
   where
     by : (v : ReplyVerdict) → output_len s.send_queue ≤ output_len (judged r s message v).side.send_queue
     by (EndsLink reason) = end_longer s.side (ends.Bad s.last reason) s.send_queue
     by (GivesOutcome xid outcome) = omega arith
-noticed_longer r s (ReadDone ∷ ns) = omega arith
+with_deliveries_longer r s (ReadDone ∷ ns) = omega arith
 
 told_longer : (r : RequesterState) (s : LinkState) (e : Option End) → output_len s.send_queue ≤ output_len (unless_ended r s e).side.send_queue
-told_longer r s None = noticed_longer r s s.receive_queue.notices
+told_longer r s None = with_deliveries_longer r s s.receive_queue.deliveries
 told_longer r s (Some end) = omega arith
 
 -- a side that is stopped for a reason of the layer above writes a Terminate
@@ -170,19 +170,19 @@ stopped_longer : (side : Side) (at reason : ℕ) (q : SendQueue) → IsStopReaso
 stopped_longer side at reason q stops = terminate_queues side (ends.Bad at reason) reason q (reason_ends at reason (stop_reason_from reason stops))
 
 -- the side before the event doesn't matter
-noticed_as : (r : RequesterState) (s t : LinkState) (ns : List DeliveredEvent) → noticed (record r { side = t }) s ns ≡ noticed r s ns
-noticed_as r s t [] = refl
-noticed_as r s t (MessageReceived number invalidated message ∷ ns) = by (kept_verdict (kept_calls r) (bytes_under s.memory) message)
+with_deliveries_as : (r : RequesterState) (s t : LinkState) (ns : List DeliveredEvent) → with_deliveries (record r { side = t }) s ns ≡ with_deliveries r s ns
+with_deliveries_as r s t [] = refl
+with_deliveries_as r s t (MessageReceived number invalidated message ∷ ns) = by (kept_verdict (kept_calls r) (bytes_under s.memory) message)
   where
     by : (v : ReplyVerdict) → judged (record r { side = t }) s message v ≡ judged r s message v
     by (EndsLink reason) = refl
     by (GivesOutcome xid outcome) = refl
-noticed_as r s t (ReadDone ∷ ns) = refl
+with_deliveries_as r s t (ReadDone ∷ ns) = refl
 
 abbrev pub side_with : RequesterSide → LinkSide → RequesterSide
 side_with h l = record { awaited = l.awaited; rest = l.rest; state = record h.state { side = l.state } }
 
-module _ (h : RequesterSide) (piece : List ℕ) (lives : h.state.side.ended ≡ None) (quiet : h.state.side.receive_queue.notices ≡ []) (none : h.state.side.reads ≡ []) where
+module _ (h : RequesterSide) (piece : List ℕ) (lives : h.state.side.ended ≡ None) (quiet : h.state.side.receive_queue.deliveries ≡ []) (none : h.state.side.reads ≡ []) where
   abbrev l : LinkSide
   l = after_call (link_of h) (FeedOne piece)
 
@@ -200,16 +200,16 @@ module _ (h : RequesterSide) (piece : List ℕ) (lives : h.state.side.ended ≡ 
   pub step_told : (after : RequesterSide) → l.state.ended ≡ None → Told (side_with h l) after → IsStep h piece after
   step_told after e (inl is) = inl (
       is
-      ∙ (λ i. record { awaited = l.awaited; rest = l.rest; state = noticed_as h.state l.state l.state l.state.receive_queue.notices i })
+      ∙ (λ i. record { awaited = l.awaited; rest = l.rest; state = with_deliveries_as h.state l.state l.state l.state.receive_queue.deliveries i })
       ∙ ap (λ (x : Option End). record { awaited = l.awaited; rest = l.rest; state = unless_ended h.state l.state x }) (sym e)
       ∙ sym stepped
       )
   step_told after e (inr out) = inr (by (left.leaves.waits e) left.rest)
     where
-      contra : {X : Type 0} → l.state.receive_queue.notices ≡ [] → X
+      contra : {X : Type 0} → l.state.receive_queue.deliveries ≡ [] → X
       contra e = absurd (let wrong : [] ≡ MessageReceived out.waits.number None out.waits.message ∷ [] = sym e ∙ out.waits.is in cc)
 
-      by : (l.state.receive_queue.notices ≡ []) ⊎ Delivers h.state.side l.state → (l.state.receive_queue.notices ≡ []) ⊎ ((l.rest ≡ []) × (is_whole h.awaited (h.rest ++ piece) ≡ true)) → StepOut h piece after
+      by : (l.state.receive_queue.deliveries ≡ []) ⊎ Delivers h.state.side l.state → (l.state.receive_queue.deliveries ≡ []) ⊎ ((l.rest ≡ []) × (is_whole h.awaited (h.rest ++ piece) ≡ true)) → StepOut h piece after
       by (inl n) w = contra n
       by (inr d) (inl n) = contra n
       by (inr d) (inr w) = record {
@@ -227,7 +227,7 @@ module _ (h : RequesterSide) (piece : List ℕ) (lives : h.state.side.ended ≡ 
             let made : one_step h piece ≡ record { awaited = l.awaited; rest = l.rest; state = judged h.state l.state message (EndsLink out.reason) } =
             stepped
             ∙ ap (λ (x : Option End). record { awaited = l.awaited; rest = l.rest; state = unless_ended h.state l.state x }) e
-            ∙ ap (λ (ns : List DeliveredEvent). record { awaited = l.awaited; rest = l.rest; state = noticed h.state l.state ns }) out.waits.is
+            ∙ ap (λ (ns : List DeliveredEvent). record { awaited = l.awaited; rest = l.rest; state = with_deliveries h.state l.state ns }) out.waits.is
             ∙ ap (λ (v : ReplyVerdict). record { awaited = l.awaited; rest = l.rest; state = judged h.state l.state message v }) out.verdict in
             let more = stopped_longer l.state.side l.state.last out.reason l.state.send_queue out.stops in
             let len = ap (λ (x : RequesterSide). output_len x.state.side.send_queue) made in
@@ -293,7 +293,7 @@ ready_lem link link2 piece next grant room items answers s lives is live2 =
       calls = leaves_calls link.state a.state next room items answers w.leaves (calls_sound link next grant room items answers s);
     })
   where
-    by : (a : LinkSide) → StepLeaves link piece a → (a.state.receive_queue.notices ≡ []) ⊎ Delivers link.state a.state → (a.state.receive_queue.notices ≡ []) ⊎ ((a.rest ≡ []) × (is_whole link.awaited (link.rest ++ piece) ≡ true)) → (a.state.receive_queue.notices ≡ []) ⊎ OneWaits a
+    by : (a : LinkSide) → StepLeaves link piece a → (a.state.receive_queue.deliveries ≡ []) ⊎ Delivers link.state a.state → (a.state.receive_queue.deliveries ≡ []) ⊎ ((a.rest ≡ []) × (is_whole link.awaited (link.rest ++ piece) ≡ true)) → (a.state.receive_queue.deliveries ≡ []) ⊎ OneWaits a
     by a w (inl n) r = inl n
     by a w (inr d) (inl n) = inl n
     by a w (inr d) (inr r) = inr (record { number = d.number; message = d.message; is = d.is; rest = r.0 })

@@ -34,7 +34,7 @@ use Rattle.nr_requester.specs.declared.answer.AnsweredCall.{AnsweredCall}
 use Rattle.nr_requester.specs.declared.outstanding.OutstandingCall.{OutstandingCall}
 use Rattle.nr_requester.specs.RequesterState.{RequesterState, RequesterSide, StoredCall, awaited_call, kept_call, kept_calls}
 use Rattle.nr_requester.specs.AfterCalls.{revoked_if, revoked_call, forgotten_if, forgotten_call, stored_call, after_submit, after_drain, after_revoke, after_forget}
-use Rattle.nr_requester.specs.AfterPiece.{buffers_under, without_call, answered_as, answer_to, judged, noticed, unless_ended}
+use Rattle.nr_requester.specs.AfterPiece.{buffers_under, without_call, answered_as, answer_to, judged, with_deliveries, unless_ended}
 use Rattle.nr_requester.specs.OpenCalls.{call_with, open_call, found_call, found_answer, IsFresh, KeepsTickets, OpensTicket, ClosesTicket}
 use Rattle.nr_requester.specs.Answers.{WasSent}
 use Rattle.nr_requester.specs.Fed.{IsStep, fed_bytes}
@@ -377,9 +377,9 @@ pub record AreApart (r : RequesterState) : Type 0 where
   pub calls : (w : ℕ) (d : StoredCall) → found_call w r ≡ Some d → is_some d.call ≡ true → HasCalls w r.outstanding
   pub answers : (w : ℕ) (d : StoredCall) → found_call w r ≡ Some d → found_answer w r ≡ None
 
-noticed_keeps : (r : RequesterState) (s : LinkState) (ns : List DeliveredEvent) → AreApart r → KeepsTickets r (noticed r s ns)
-noticed_keeps r s [] k = λ x. refl
-noticed_keeps r s (MessageReceived number invalidated message ∷ ns) k = λ x. by x (kept_verdict (kept_calls r) (bytes_under s.memory) message) refl
+with_deliveries_keeps : (r : RequesterState) (s : LinkState) (ns : List DeliveredEvent) → AreApart r → KeepsTickets r (with_deliveries r s ns)
+with_deliveries_keeps r s [] k = λ x. refl
+with_deliveries_keeps r s (MessageReceived number invalidated message ∷ ns) k = λ x. by x (kept_verdict (kept_calls r) (bytes_under s.memory) message) refl
   where
     by : (x : ℕ) (v : ReplyVerdict) → kept_verdict (kept_calls r) (bytes_under s.memory) message ≡ v → open_call x (judged r s message v) ≡ open_call x r
     by x (EndsLink reason) e = refl
@@ -389,13 +389,13 @@ noticed_keeps r s (MessageReceived number invalidated message ∷ ns) k = λ x. 
         ap (λ (o : Option StoredCall). call_with (find (λ (c : StoredCall). eqb c.xid x) (without_call w r.outstanding)) (find (λ (a : AnsweredCall). eqb a.xid x) (r.answered ++ answer_to s.memory o outcome))) of.found
         ∙ moved_keeps s.memory w x of.call r.outstanding r.answered outcome of.found (k.answers w of.call of.found)
         (λ has. gives_some r.first_xid r.sent r.outstanding (bytes_under s.memory) message xid outcome e (k.calls w of.call of.found (awaited_has of.call.is_forgotten of.call.call has)))
-noticed_keeps r s (ReadDone ∷ ns) k = λ x. refl
+with_deliveries_keeps r s (ReadDone ∷ ns) k = λ x. refl
 
 told_keeps : (r : RequesterState) (s : LinkState) (e : Option End) → AreApart r → KeepsTickets r (unless_ended r s e)
-told_keeps r s None k = noticed_keeps r s s.receive_queue.notices k
+told_keeps r s None k = with_deliveries_keeps r s s.receive_queue.deliveries k
 told_keeps r s (Some end) k = λ x. refl
 
-pub step_keeps : (h after : RequesterSide) (piece : List ℕ) → h.state.side.receive_queue.notices ≡ [] → AreApart h.state → IsStep h piece after → KeepsTickets h.state after.state
+pub step_keeps : (h after : RequesterSide) (piece : List ℕ) → h.state.side.receive_queue.deliveries ≡ [] → AreApart h.state → IsStep h piece after → KeepsTickets h.state after.state
 step_keeps h after piece quiet k (inl is) = λ x.
     ap (λ (g : RequesterSide). open_call x g.state) (is ∙ step_fed h piece (λ e. quiet))
     ∙ told_keeps h.state (after_call (link_of h) (FeedOne piece)).state (after_call (link_of h) (FeedOne piece)).state.ended k x

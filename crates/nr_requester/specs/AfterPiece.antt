@@ -65,13 +65,13 @@ judged r s message (GivesOutcome xid outcome) = record r {
 }
 
 -- what is made of the event that a frame delivers
-abbrev pub noticed : RequesterState → LinkState → List DeliveredEvent → RequesterState
-noticed r s [] = record r { side = s }
-noticed r s (MessageReceived number invalidated message ∷ events) = judged r s message (kept_verdict (kept_calls r) (bytes_under s.memory) message)
-noticed r s (ReadDone ∷ events) = record r { side = s }
+abbrev pub with_deliveries : RequesterState → LinkState → List DeliveredEvent → RequesterState
+with_deliveries r s [] = record r { side = s }
+with_deliveries r s (MessageReceived number invalidated message ∷ events) = judged r s message (kept_verdict (kept_calls r) (bytes_under s.memory) message)
+with_deliveries r s (ReadDone ∷ events) = record r { side = s }
 
 abbrev pub unless_ended : RequesterState → LinkState → Option End → RequesterState
-unless_ended r s None = noticed r s s.receive_queue.notices
+unless_ended r s None = with_deliveries r s s.receive_queue.deliveries
 unless_ended r s (Some end) = record r { side = s }
 
 unfoldable pub after_fpdu : RequesterState → List ℕ → RequesterState

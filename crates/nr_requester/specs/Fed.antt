@@ -25,7 +25,7 @@ use Rattle.nr_requester.specs.declared.answer.Buffers.{Buffers}
 use Rattle.nr_requester.specs.declared.outstanding.OutstandingCall.{OutstandingCall}
 use Rattle.nr_requester.specs.RequesterState.{RequesterSide, kept_calls}
 use Rattle.nr_requester.specs.HeldClaims.{AreHeldFrom, all_claims, OffersOwn}
-use Rattle.nr_requester.specs.AfterPiece.{without_call, answer_to, call_of, noticed, requester_ended, after_frame, after_piece, RanOut}
+use Rattle.nr_requester.specs.AfterPiece.{without_call, answer_to, call_of, with_deliveries, requester_ended, after_frame, after_piece, RanOut}
 use Rattle.nr_requester.specs.Views.{HasRoom, AreRising, IsAnswered, stored_view}
 
 -- the answer of a call, if its owner awaits it and a message gave an outcome
@@ -40,7 +40,7 @@ answer_with xid (Some call) buffers (Some outcome) = record { xid = xid; call = 
 pub record OneWaits (link : LinkSide) : Type 0 where
   pub number : ℕ
   pub message : List ℕ
-  pub is : link.state.receive_queue.notices ≡ MessageReceived number None message ∷ []
+  pub is : link.state.receive_queue.deliveries ≡ MessageReceived number None message ∷ []
   pub rest : link.rest ≡ []
 
 -- What holds of the calls: their regions are held, and are those that they offer; there is room for their replies and answers; their xids rise.
@@ -55,7 +55,7 @@ pub record CallsSound (m : RegisteredMemory) (next_xid : ℕ) (outstanding : Lis
 -- What holds of a requester that hasn't ended while an event may wait.
 pub record IsReady (link : LinkSide) (outstanding : List OutstandingCall) (answered : List AnsweredCall) (room : ℕ) : Type 0 where
   pub live : link.state.ended ≡ None
-  pub waits : (link.state.receive_queue.notices ≡ []) ⊎ OneWaits link
+  pub waits : (link.state.receive_queue.deliveries ≡ []) ⊎ OneWaits link
   pub none_lent : link.state.receive_queue.lent ≡ 0
   pub no_reads : link.state.reads ≡ []
   pub next_xid : ℕ
@@ -74,8 +74,8 @@ JudgesTo (GivesOutcome xid outcome) message link link2 calls calls2 answers answ
     × ((answers2 ≡ answers ++ answer_to link.state.memory (call_of (word_at 0 message) (map stored_view calls)) outcome) × (grant2 ≡ credits_of_word (word_at 8 message))))
 
 -- what is made of the event that waits
-abbrev pub noticed_side : RequesterSide → RequesterSide
-noticed_side h = record { awaited = h.awaited; rest = h.rest; state = noticed h.state h.state.side h.state.side.receive_queue.notices }
+abbrev pub with_deliveries_side : RequesterSide → RequesterSide
+with_deliveries_side h = record { awaited = h.awaited; rest = h.rest; state = with_deliveries h.state h.state.side h.state.side.receive_queue.deliveries }
 
 -- or memory ran out for the Terminate of a message that ends the link
 pub record StoppedOut (before after : RequesterSide) : Type 0 where
@@ -92,7 +92,7 @@ pub record StoppedOut (before after : RequesterSide) : Type 0 where
   pub same : after.state ≡ record before.state { side = after.state.side }
 
 abbrev pub Told : (before after : RequesterSide) → Type 0
-Told before after = (after ≡ noticed_side before) ⊎ StoppedOut before after
+Told before after = (after ≡ with_deliveries_side before) ⊎ StoppedOut before after
 
 -- ---- A step
 

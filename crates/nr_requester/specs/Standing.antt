@@ -42,7 +42,7 @@ pub record LinkKeeps (opened : LinkParameters) (s : LinkState) (k : ClientState)
   pub received : s.receive_queue.received ≡ received_within send_max k.received
   pub receive : s.receive_queue.free + sends_begun k.received.begun ≡ 1
   pub none_lent : s.receive_queue.lent ≡ 0
-  pub none_waits : s.receive_queue.notices ≡ []
+  pub none_waits : s.receive_queue.deliveries ≡ []
   pub no_reads : s.reads ≡ []
   pub number : s.send_queue.last_send ≡ msn_word k.calls_accepted
   pub waiting : k.has_hello ≡ false → s.send_queue.fpdus ≡ calls_output opened 1 k.outstanding

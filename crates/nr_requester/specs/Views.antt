@@ -4,7 +4,7 @@ use Rattle.std.specs.List.{AllByRecursion, find}
 use Rattle.nr_regions.specs.RegisteredMemory.{Claim}
 use Rattle.nr_link.specs.Limits.{send_max}
 use Rattle.nr_endpoint.specs.LinkState.{LinkSide}
-use Rattle.nr_reduce.specs.Limits.{most_credits}
+use Rattle.nr_reduce.specs.Limits.{credits_max}
 use Rattle.nr_requester.specs.declared.outstanding.OutstandingCall.{OutstandingCall}
 use Rattle.nr_requester.specs.declared.answer.AnsweredCall.{AnsweredCall}
 use Rattle.nr_requester.specs.RequesterState.{StoredCall, RequesterSide}
@@ -44,10 +44,10 @@ forgot c = record { xid = c.xid; call = c.call; is_forgotten = true; offered = c
 -- its peer; and there is room for each reply, and for the answers of all calls that are outstanding.
 pub record IsSound (link : LinkSide) (next_xid grant : ℕ) (outstanding : List OutstandingCall) (answered : List AnsweredCall) (room : ℕ) : Type 0 where
   pub xid : next_xid ≤ 2 ^ 32
-  pub few : length outstanding ≤ most_credits
+  pub few : length outstanding ≤ credits_max
   pub some : 1 ≤ grant
-  pub granted : grant ≤ most_credits
-  pub none_waits : link.state.receive_queue.notices ≡ []
+  pub granted : grant ≤ credits_max
+  pub none_waits : link.state.receive_queue.deliveries ≡ []
   pub none_lent : link.state.receive_queue.lent ≡ 0
   pub held : AreHeldFrom link.state.memory 0 (all_claims outstanding)
   pub offers : AllByRecursion OffersOwn outstanding

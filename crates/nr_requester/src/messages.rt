@@ -17,7 +17,7 @@ use nr_xdr::{Memory, Octets};
 use std::alloc::Global;
 
 /// The most bytes of a Send, of a chunk that a reply is taken through, and of an item's pad.
-const SEND_MAX: u64 = 1024;
+const SEND_MAX: u64 = nr_link::constants::SEND_MAX as u64;
 
 const CHUNK_MAX: u64 = 1073741824;
 

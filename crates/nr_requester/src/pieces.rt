@@ -209,7 +209,7 @@ fn take_event(
     ensures granted { (1 ≤ grant.old) × (grant.old ≤ 64) → (1 ≤ grant.new) × (grant.new ≤ 64) }
     ensures fewer { length outstanding.new.items ≤ length outstanding.old.items }
     ensures bounded { (next : ℕ) → IsBounded sent first_xid next endpoint.old outstanding.old.items answered.old.items → IsBounded sent first_xid next endpoint.new outstanding.new.items answered.new.items }
-    ensures quiet { (endpoint.new.link.state.receive_queue.notices ≡ []) × ((endpoint.new.link.state.receive_queue.lent ≡ 0) × (endpoint.new.link.state.reads ≡ [])) }
+    ensures quiet { (endpoint.new.link.state.receive_queue.deliveries ≡ []) × ((endpoint.new.link.state.receive_queue.lent ≡ 0) × (endpoint.new.link.state.reads ≡ [])) }
 {
     match endpoint.next_event() {
         None => (),
@@ -236,7 +236,7 @@ impl Requester {
         ensures step { IsStep self.old left.now self.new }
         ensures taken { result ≡ (if is_some self.new.state.side.ended then length left.now else bytes_taken self.old.awaited self.old.rest left.now) }
         ensures partial { IsPartial self.old.awaited self.old.rest }
-        ensures quiet { self.old.state.side.receive_queue.notices ≡ [] }
+        ensures quiet { self.old.state.side.receive_queue.deliveries ≡ [] }
         ensures tickets { KeepsTickets self.old.state self.new.state }
         ensures ended { is_some self.new.state.side.ended ≡ true → self.new.rest ≡ [] }
     {

@@ -7,7 +7,7 @@ ghost use Rattle.nr_wire.specs.declared.hello.Side.TheVariants.{Initiator};
 ghost use Rattle.nr_wire.specs.Constants.{FPDU_MAX};
 ghost use Rattle.nr_wire.specs.Stream.{IsPartial};
 ghost use Rattle.nr_endpoint.specs.declared.fault.DrainFault.TheVariants as drains;
-ghost use Rattle.nr_reduce.specs.Limits.{most_credits};
+ghost use Rattle.nr_reduce.specs.Limits.{credits_max};
 ghost use Rattle.nr_reduce.specs.declared.mark.LinkParameters.{LinkParameters};
 ghost use Rattle.nr_reduce.specs.declared.mark.Mark.TheVariants as marks;
 ghost use Rattle.nr_requester.specs.RequesterState.{queue_of};
@@ -153,9 +153,9 @@ impl Requester {
 
     /// What holds of each requester, for the proofs of its owner. It does nothing.
     pub fn facts(&self)
-        // At most most_credits calls are outstanding, and 1 to most_credits credits are granted. A next xid of 2 ^ 32 is none.
-        ensures outstanding { length self.now.state.outstanding ≤ most_credits }
-        ensures granted { (1 ≤ self.now.state.grant) × (self.now.state.grant ≤ most_credits) }
+        // At most credits_max calls are outstanding, and 1 to credits_max credits are granted. A next xid of 2 ^ 32 is none.
+        ensures outstanding { length self.now.state.outstanding ≤ credits_max }
+        ensures granted { (1 ≤ self.now.state.grant) × (self.now.state.grant ≤ credits_max) }
         ensures xid { self.now.state.next_xid ≤ 2 ^ 32 }
         // What is kept of the stream is less than a frame, and nothing once the side has ended.
         ensures partial { IsPartial self.now.awaited self.now.rest }

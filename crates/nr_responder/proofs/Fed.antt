@@ -130,7 +130,7 @@ step_goes v after piece m live_now p step lives handled opened end so_far keeps 
     by : (opened : LinkParameters) (end : EndState ServerState) → end.ended ≡ None → Keeps opened end.state (input_in v.link) v → IsHandled end.state (on_link v m) after → StepOf v.link piece m →
         GoesOn opened end (input_in v.link) v (received_events (input_in v.link) (take (bytes_taken v.link.awaited v.link.rest piece) piece)) (input_after (input_in v.link) (take (bytes_taken v.link.awaited v.link.rest piece) piece)) after
     by opened end is h handled (Part w link) =
-        let none : m.state.receive_queue.notices ≡ [] = ap (λ (l : LinkSide). l.state.receive_queue.notices) link ∙ h.link.told in
+        let none : m.state.receive_queue.deliveries ≡ [] = ap (λ (l : LinkSide). l.state.receive_queue.deliveries) link ∙ h.link.told in
         let unchanged : after ≡ on_link v m = handled.none none in
         let part : List ℕ = take (bytes_taken v.link.awaited v.link.rest piece) piece in
         let all : part ≡ piece = ap (λ (n : ℕ). take n piece) (bytes_taken_partial v.link.awaited v.link.rest piece w) ∙ take_all (length piece) piece (omega arith) in

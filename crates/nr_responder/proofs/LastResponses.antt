@@ -90,7 +90,7 @@ pub record TakesLast (k : ServerState) (f : Frame) (a : TaggedSegment) (rest : L
   pub message_max : t.message_max ≡ send_max
   pub free : t.receive_queue.free + (unsent t + length k.calls + one_if (is_begun k.received.begun)) ≡ granted
   pub lent : t.receive_queue.lent ≡ length k.calls + unsent t
-  pub told : t.receive_queue.notices ≡ []
+  pub told : t.receive_queue.deliveries ≡ []
   pub reads : t.reads ≡ later_responses (take 7 rest)
   pub memory : HoldsRegions k.regions (k.accesses_received ++ a ∷ []) f.end t.memory
   pub next : t.memory.next ≡ next_stag k

@@ -46,11 +46,11 @@ use Rattle.nr_responder.proofs.Frames.{behind, TakesFrame, later_frame, ended_ta
 use Rattle.nr_responder.proofs.Handled.{RanOutOf}
 use Rattle.nr_responder.proofs.Queues.{last_some}
 use Rattle.nr_responder.proofs.Responses.{IsSend, IsResponse, Lives, frame_is, part_link}
-use Rattle.nr_responder.proofs.ReadsTaken.{done_link_is, last_link, read_outputs, response_notices, response_reads, response_told}
+use Rattle.nr_responder.proofs.ReadsTaken.{done_link_is, last_link, read_outputs, response_deliveries, response_reads, response_told}
 use Rattle.nr_responder.proofs.Posted.{memory_ends, told_link_lem}
 use Rattle.nr_responder.proofs.SendFrames.{frame_lives, part_framed, last_framed}
 use Rattle.nr_responder.proofs.ServerSteps.{effect_is, new_is_read}
-use Rattle.nr_responder.proofs.Steps.{link_behind, hello_takes, hello_notices}
+use Rattle.nr_responder.proofs.Steps.{link_behind, hello_takes, hello_deliveries}
 use Rattle.nr_responder.proofs.Whole.{goes_on_lem, lives_on_lem, refuses, refused_output, same_message, whole_message}
 
 -- ---- What has bytes
@@ -113,28 +113,28 @@ message_takes opened k so_far v frame w queue_number msn offset payload h after_
 
 -- what a frame that lives brings to be delivered
 frame_message : (opened : LinkParameters) (k : ServerState) (so_far : InputState) (v : ResponderSide) (frame : List ℕ) (number : ℕ) (invalidated : Option ℕ) (message : List ℕ) (rest : List DeliveredEvent) → Keeps opened k so_far v → 0 < length frame →
-    (with_frame v.link.state v.link.awaited frame).ended ≡ None → (with_frame v.link.state v.link.awaited frame).receive_queue.notices ≡ MessageReceived number invalidated message ∷ rest →
+    (with_frame v.link.state v.link.awaited frame).ended ≡ None → (with_frame v.link.state v.link.awaited frame).receive_queue.deliveries ≡ MessageReceived number invalidated message ∷ rest →
     (number ≡ k.received.sends + 1 → MessageTakes k message) → ((with_frame v.link.state v.link.awaited frame).send_queue ≡ v.link.state.send_queue) × TakesMemory opened k (next_frame v.link.state frame)
 frame_message opened k so_far v frame number invalidated message rest h some lives one takes = by h.begins
   where
     s : LinkState
     s = v.link.state
 
-    none_told : (notices : List DeliveredEvent) → notices ≡ [] → notices ≡ MessageReceived number invalidated message ∷ rest → ⊥
-    none_told notices none is = (let two : [] ≡ MessageReceived number invalidated message ∷ rest = sym none ∙ is in cc)
+    none_told : (deliveries : List DeliveredEvent) → deliveries ≡ [] → deliveries ≡ MessageReceived number invalidated message ∷ rest → ⊥
+    none_told deliveries none is = (let two : [] ≡ MessageReceived number invalidated message ∷ rest = sym none ∙ is in cc)
 
-    fpdu : 0 < s.place → (with_frame s Fpdu frame).ended ≡ None → (with_frame s Fpdu frame).receive_queue.notices ≡ MessageReceived number invalidated message ∷ rest → (send : IsSend s frame) → (b : Bool) → send.last ≡ b →
+    fpdu : 0 < s.place → (with_frame s Fpdu frame).ended ≡ None → (with_frame s Fpdu frame).receive_queue.deliveries ≡ MessageReceived number invalidated message ∷ rest → (send : IsSend s frame) → (b : Bool) → send.last ≡ b →
         ((with_frame s Fpdu frame).send_queue ≡ s.send_queue) × TakesMemory opened k (next_frame s frame)
     fpdu place lives_on told send false is =
         let reads : segment_of frame ≡ Ok (Untagged false OPCODE_SEND send.w send.queue_number send.msn send.offset send.payload) = send.reads ∙ ap (λ (b : Bool). Ok (Untagged b OPCODE_SEND send.w send.queue_number send.msn send.offset send.payload)) is in
         let state = (frame_lives s frame (Untagged false OPCODE_SEND send.w send.queue_number send.msn send.offset send.payload) reads lives_on).1 ∙ part_framed s frame send.w send.queue_number send.msn send.offset send.payload in
-        absurd (none_told (with_frame s Fpdu frame).receive_queue.notices (ap (λ (t : LinkState). t.receive_queue.notices) state ∙ append-nil s.receive_queue.notices ∙ h.link.told) told)
+        absurd (none_told (with_frame s Fpdu frame).receive_queue.deliveries (ap (λ (t : LinkState). t.receive_queue.deliveries) state ∙ append-nil s.receive_queue.deliveries ∙ h.link.told) told)
     fpdu place lives_on told send true is =
         let reads : segment_of frame ≡ Ok (Untagged true OPCODE_SEND send.w send.queue_number send.msn send.offset send.payload) = send.reads ∙ ap (λ (b : Bool). Ok (Untagged b OPCODE_SEND send.w send.queue_number send.msn send.offset send.payload)) is in
         let state = (frame_lives s frame (Untagged true OPCODE_SEND send.w send.queue_number send.msn send.offset send.payload) reads lives_on).1 ∙ last_framed s frame send.w send.queue_number send.msn send.offset send.payload in
         let whole : List ℕ = whole_message s send.payload in
-        let found : (with_frame s Fpdu frame).receive_queue.notices ≡ MessageReceived (s.receive_queue.received.sends + 1) None whole ∷ [] =
-        ap (λ (t : LinkState). t.receive_queue.notices) state ∙ ap (λ (notices : List DeliveredEvent). notices ++ MessageReceived (s.receive_queue.received.sends + 1) None whole ∷ []) h.link.told in
+        let found : (with_frame s Fpdu frame).receive_queue.deliveries ≡ MessageReceived (s.receive_queue.received.sends + 1) None whole ∷ [] =
+        ap (λ (t : LinkState). t.receive_queue.deliveries) state ∙ ap (λ (deliveries : List DeliveredEvent). deliveries ++ MessageReceived (s.receive_queue.received.sends + 1) None whole ∷ []) h.link.told in
         let two : MessageReceived (s.receive_queue.received.sends + 1) None whole ∷ [] ≡ MessageReceived number invalidated message ∷ rest = sym found ∙ told in
         let own : whole ≡ message = cc in
         let count : s.receive_queue.received.sends + 1 ≡ number = cc in
@@ -147,18 +147,18 @@ frame_message opened k so_far v frame number invalidated message rest h some liv
     no_message true is = (let two : ReadDone ∷ [] ≡ MessageReceived number invalidated message ∷ rest = is in cc)
     no_message false is = (let two : [] ≡ MessageReceived number invalidated message ∷ rest = is in cc)
 
-    either : 0 < s.place → (with_frame s Fpdu frame).ended ≡ None → (with_frame s Fpdu frame).receive_queue.notices ≡ MessageReceived number invalidated message ∷ rest → Lives s frame →
+    either : 0 < s.place → (with_frame s Fpdu frame).ended ≡ None → (with_frame s Fpdu frame).receive_queue.deliveries ≡ MessageReceived number invalidated message ∷ rest → Lives s frame →
         ((with_frame s Fpdu frame).send_queue ≡ s.send_queue) × TakesMemory opened k (next_frame s frame)
     either place lives_on told (inl send) = fpdu place lives_on told send send.last refl
-    either place lives_on told (inr r) = absurd (no_message r.last (sym (response_notices opened k so_far v frame h lives_on r r.last refl) ∙ told))
+    either place lives_on told (inr r) = absurd (no_message r.last (sym (response_deliveries opened k so_far v frame h lives_on r r.last refl) ∙ told))
 
     by : Begins v.link → ((with_frame s v.link.awaited frame).send_queue ≡ s.send_queue) × TakesMemory opened k (next_frame s frame)
     by (BeforeHello place awaited hello none) =
         let as_hello : with_frame s v.link.awaited frame ≡ with_peer_hello (next_frame s frame) (hello_of Initiator frame) s = ap (λ (a : Awaited). with_frame s a frame) awaited in
-        absurd (none_told (with_frame s v.link.awaited frame).receive_queue.notices (ap (λ (t : LinkState). t.receive_queue.notices) as_hello ∙ hello_notices s (next_frame s frame) (hello_of Initiator frame) ∙ h.link.told) one)
+        absurd (none_told (with_frame s v.link.awaited frame).receive_queue.deliveries (ap (λ (t : LinkState). t.receive_queue.deliveries) as_hello ∙ hello_deliveries s (next_frame s frame) (hello_of Initiator frame) ∙ h.link.told) one)
     by (AfterHello place awaited hello) =
         let lives_on : (with_frame s Fpdu frame).ended ≡ None = subst (λ (a : Awaited). (with_frame s a frame).ended ≡ None) awaited lives in
-        let told_on = subst (λ (a : Awaited). (with_frame s a frame).receive_queue.notices ≡ MessageReceived number invalidated message ∷ rest) awaited one in
+        let told_on = subst (λ (a : Awaited). (with_frame s a frame).receive_queue.deliveries ≡ MessageReceived number invalidated message ∷ rest) awaited one in
         subst (λ (a : Awaited). ((with_frame s a frame).send_queue ≡ s.send_queue) × TakesMemory opened k (next_frame s frame)) (sym awaited) (either place lives_on told_on (frame_is opened k s frame h.link h.server lives_on))
 
 -- ---- A step
@@ -169,7 +169,7 @@ told_same m = refl
 
 -- it ran out of memory for a message
 pub out_by_message : (v after : ResponderSide) (piece : List ℕ) (m : LinkSide) (number : ℕ) (invalidated : Option ℕ) (message : List ℕ) (rest : List DeliveredEvent) → end_of v ≡ None → IsPartial v.link.awaited v.link.rest → StepOf v.link piece m → m.state.ended ≡ None →
-    m.state.receive_queue.notices ≡ MessageReceived number invalidated message ∷ rest → RanOutOf (on_link v m) number message after → RanOutAt v piece 0 after
+    m.state.receive_queue.deliveries ≡ MessageReceived number invalidated message ∷ rest → RanOutOf (on_link v m) number message after → RanOutAt v piece 0 after
 out_by_message v after piece m number invalidated message rest live_now p step lives one ran =
     let t = told_link_lem m (after_call m NextEvent) refl in
     let ended = memory_ends (after_call m NextEvent) (after_call (after_call m NextEvent) OutOfMemory) (t.live ∙ lives) refl in
@@ -186,14 +186,14 @@ out_by_message v after piece m number invalidated message rest live_now p step l
         (is_whole v.link.awaited (v.link.rest ++ piece) ≡ true) × ((after.link.state.send_queue ≡ v.link.state.send_queue) × TakesMemory opened end.state (frame_by v.link piece))
     needs opened end so_far keeps same (Part w link) =
         let h = (not_ended_lem opened end so_far v live_now keeps).1 in
-        let none : m.state.receive_queue.notices ≡ [] = ap (λ (l : LinkSide). l.state.receive_queue.notices) link ∙ h.link.told in
+        let none : m.state.receive_queue.deliveries ≡ [] = ap (λ (l : LinkSide). l.state.receive_queue.deliveries) link ∙ h.link.told in
         absurd (let two : [] ≡ MessageReceived number invalidated message ∷ rest = sym none ∙ one in cc)
     needs opened end so_far keeps same (WholeFrame frame w frame_is long link) =
         let both = not_ended_lem opened end so_far v live_now keeps in
         let h : Keeps opened end.state so_far v = both.1 in
         let server : IsServerOf end.state (on_link v m) = record { calls = sym h.calls; credits = sym h.credits; reads = sym h.reads; new_read = new_is_read end.state h.server.reads_before; next = sym h.link.next ∙ sym (step_next v.link m piece (WholeFrame frame w frame_is long link)); place = v.link.state.place; is_server = h.server } in
         let lives_on : (with_frame v.link.state v.link.awaited frame).ended ≡ None = sym (ap (λ (l : LinkSide). l.state.ended) link) ∙ lives in
-        let told_on : (with_frame v.link.state v.link.awaited frame).receive_queue.notices ≡ MessageReceived number invalidated message ∷ rest = sym (ap (λ (l : LinkSide). l.state.receive_queue.notices) link) ∙ one in
+        let told_on : (with_frame v.link.state v.link.awaited frame).receive_queue.deliveries ≡ MessageReceived number invalidated message ∷ rest = sym (ap (λ (l : LinkSide). l.state.receive_queue.deliveries) link) ∙ one in
         let found = frame_message opened end.state so_far v frame number invalidated message rest h long lives_on told_on (ran.takes end.state server) in (
           w,
           (
@@ -222,39 +222,39 @@ lives_same s frame (inr r) lives = response_same s frame r lives r.last refl
 
 -- it ran out of memory as a read was done
 read_needs : (opened : LinkParameters) (k : ServerState) (so_far : InputState) (v : ResponderSide) (frame : List ℕ) (x : PendingRead) (rest : List PendingRead) → Keeps opened k so_far v → 0 < length frame → (with_frame v.link.state v.link.awaited frame).ended ≡ None →
-    (with_frame v.link.state v.link.awaited frame).receive_queue.notices ≡ ReadDone ∷ [] → v.fetching.reads ≡ x ∷ rest → ReadTakes (on_link v (after_call (record { awaited = Fpdu; rest = []; state = with_frame v.link.state v.link.awaited frame }) NextEvent)) x rest →
+    (with_frame v.link.state v.link.awaited frame).receive_queue.deliveries ≡ ReadDone ∷ [] → v.fetching.reads ≡ x ∷ rest → ReadTakes (on_link v (after_call (record { awaited = Fpdu; rest = []; state = with_frame v.link.state v.link.awaited frame }) NextEvent)) x rest →
     ((with_frame v.link.state v.link.awaited frame).send_queue ≡ v.link.state.send_queue) × TakesMemory opened k (next_frame v.link.state frame)
 read_needs opened k so_far v frame x rest h some lives one reads takes = by h.begins
   where
     s : LinkState
     s = v.link.state
 
-    none_told : (notices : List DeliveredEvent) → notices ≡ [] → notices ≡ ReadDone ∷ [] → ⊥
-    none_told notices none is = (let two : [] ≡ ReadDone ∷ [] = sym none ∙ is in cc)
+    none_told : (deliveries : List DeliveredEvent) → deliveries ≡ [] → deliveries ≡ ReadDone ∷ [] → ⊥
+    none_told deliveries none is = (let two : [] ≡ ReadDone ∷ [] = sym none ∙ is in cc)
 
-    one_told : (number : ℕ) (invalidated : Option ℕ) (message : List ℕ) (notices : List DeliveredEvent) → notices ≡ MessageReceived number invalidated message ∷ [] → notices ≡ ReadDone ∷ [] → ⊥
-    one_told number invalidated message notices m is = (let two : MessageReceived number invalidated message ∷ [] ≡ ReadDone ∷ [] = sym m ∙ is in cc)
+    one_told : (number : ℕ) (invalidated : Option ℕ) (message : List ℕ) (deliveries : List DeliveredEvent) → deliveries ≡ MessageReceived number invalidated message ∷ [] → deliveries ≡ ReadDone ∷ [] → ⊥
+    one_told number invalidated message deliveries m is = (let two : MessageReceived number invalidated message ∷ [] ≡ ReadDone ∷ [] = sym m ∙ is in cc)
 
-    sent : (with_frame s Fpdu frame).ended ≡ None → (with_frame s Fpdu frame).receive_queue.notices ≡ ReadDone ∷ [] → (send : IsSend s frame) → (b : Bool) → send.last ≡ b → ⊥
+    sent : (with_frame s Fpdu frame).ended ≡ None → (with_frame s Fpdu frame).receive_queue.deliveries ≡ ReadDone ∷ [] → (send : IsSend s frame) → (b : Bool) → send.last ≡ b → ⊥
     sent lives_on told send false is =
         let read : segment_of frame ≡ Ok (Untagged false OPCODE_SEND send.w send.queue_number send.msn send.offset send.payload) = send.reads ∙ ap (λ (b : Bool). Ok (Untagged b OPCODE_SEND send.w send.queue_number send.msn send.offset send.payload)) is in
         let state = (frame_lives s frame (Untagged false OPCODE_SEND send.w send.queue_number send.msn send.offset send.payload) read lives_on).1 ∙ part_framed s frame send.w send.queue_number send.msn send.offset send.payload in
-        none_told (with_frame s Fpdu frame).receive_queue.notices (ap (λ (t : LinkState). t.receive_queue.notices) state ∙ append-nil s.receive_queue.notices ∙ h.link.told) told
+        none_told (with_frame s Fpdu frame).receive_queue.deliveries (ap (λ (t : LinkState). t.receive_queue.deliveries) state ∙ append-nil s.receive_queue.deliveries ∙ h.link.told) told
     sent lives_on told send true is =
         let read : segment_of frame ≡ Ok (Untagged true OPCODE_SEND send.w send.queue_number send.msn send.offset send.payload) = send.reads ∙ ap (λ (b : Bool). Ok (Untagged b OPCODE_SEND send.w send.queue_number send.msn send.offset send.payload)) is in
         let state = (frame_lives s frame (Untagged true OPCODE_SEND send.w send.queue_number send.msn send.offset send.payload) read lives_on).1 ∙ last_framed s frame send.w send.queue_number send.msn send.offset send.payload in
-        one_told (s.receive_queue.received.sends + 1) None (whole_message s send.payload) (with_frame s Fpdu frame).receive_queue.notices
-        (ap (λ (t : LinkState). t.receive_queue.notices) state ∙ ap (λ (notices : List DeliveredEvent). notices ++ MessageReceived (s.receive_queue.received.sends + 1) None (whole_message s send.payload) ∷ []) h.link.told) told
+        one_told (s.receive_queue.received.sends + 1) None (whole_message s send.payload) (with_frame s Fpdu frame).receive_queue.deliveries
+        (ap (λ (t : LinkState). t.receive_queue.deliveries) state ∙ ap (λ (deliveries : List DeliveredEvent). deliveries ++ MessageReceived (s.receive_queue.received.sends + 1) None (whole_message s send.payload) ∷ []) h.link.told) told
 
     done : 0 < s.place → (with_frame s Fpdu frame).ended ≡ None → ReadTakes (on_link v (after_call (record { awaited = Fpdu; rest = []; state = with_frame s Fpdu frame }) NextEvent)) x rest → (r : IsResponse s frame) → r.last ≡ true → TakesMemory opened k (next_frame s frame)
     done place lives_on memory r is =
         inl (read_outputs opened k so_far v frame x rest h place some lives_on r is (sym h.reads ∙ reads) (subst (λ (l : LinkSide). ReadTakes (on_link v l) x rest) (done_link_is opened k so_far v frame h lives_on r is) memory))
 
-    last : (with_frame s Fpdu frame).ended ≡ None → (with_frame s Fpdu frame).receive_queue.notices ≡ ReadDone ∷ [] → (r : IsResponse s frame) → (b : Bool) → r.last ≡ b → r.last ≡ true
+    last : (with_frame s Fpdu frame).ended ≡ None → (with_frame s Fpdu frame).receive_queue.deliveries ≡ ReadDone ∷ [] → (r : IsResponse s frame) → (b : Bool) → r.last ≡ b → r.last ≡ true
     last lives_on told r true is = is
-    last lives_on told r false is = absurd (none_told (with_frame s Fpdu frame).receive_queue.notices (response_notices opened k so_far v frame h lives_on r false is) told)
+    last lives_on told r false is = absurd (none_told (with_frame s Fpdu frame).receive_queue.deliveries (response_deliveries opened k so_far v frame h lives_on r false is) told)
 
-    either : 0 < s.place → (with_frame s Fpdu frame).ended ≡ None → (with_frame s Fpdu frame).receive_queue.notices ≡ ReadDone ∷ [] → ReadTakes (on_link v (after_call (record { awaited = Fpdu; rest = []; state = with_frame s Fpdu frame }) NextEvent)) x rest → Lives s frame →
+    either : 0 < s.place → (with_frame s Fpdu frame).ended ≡ None → (with_frame s Fpdu frame).receive_queue.deliveries ≡ ReadDone ∷ [] → ReadTakes (on_link v (after_call (record { awaited = Fpdu; rest = []; state = with_frame s Fpdu frame }) NextEvent)) x rest → Lives s frame →
         ((with_frame s Fpdu frame).send_queue ≡ s.send_queue) × TakesMemory opened k (next_frame s frame)
     either place lives_on told memory (inl send) = absurd (sent lives_on told send send.last refl)
     either place lives_on told memory (inr r) = (response_same s frame r lives_on r.last refl, done place lives_on memory r (last lives_on told r r.last refl))
@@ -262,15 +262,15 @@ read_needs opened k so_far v frame x rest h some lives one reads takes = by h.be
     by : Begins v.link → ((with_frame s v.link.awaited frame).send_queue ≡ s.send_queue) × TakesMemory opened k (next_frame s frame)
     by (BeforeHello place awaited hello none) =
         let as_hello : with_frame s v.link.awaited frame ≡ with_peer_hello (next_frame s frame) (hello_of Initiator frame) s = ap (λ (a : Awaited). with_frame s a frame) awaited in
-        absurd (none_told (with_frame s v.link.awaited frame).receive_queue.notices (ap (λ (t : LinkState). t.receive_queue.notices) as_hello ∙ hello_notices s (next_frame s frame) (hello_of Initiator frame) ∙ h.link.told) one)
+        absurd (none_told (with_frame s v.link.awaited frame).receive_queue.deliveries (ap (λ (t : LinkState). t.receive_queue.deliveries) as_hello ∙ hello_deliveries s (next_frame s frame) (hello_of Initiator frame) ∙ h.link.told) one)
     by (AfterHello place awaited hello) =
         let lives_on : (with_frame s Fpdu frame).ended ≡ None = subst (λ (a : Awaited). (with_frame s a frame).ended ≡ None) awaited lives in
-        let told_on = subst (λ (a : Awaited). (with_frame s a frame).receive_queue.notices ≡ ReadDone ∷ []) awaited one in
+        let told_on = subst (λ (a : Awaited). (with_frame s a frame).receive_queue.deliveries ≡ ReadDone ∷ []) awaited one in
         let memory = subst (λ (a : Awaited). ReadTakes (on_link v (after_call (record { awaited = Fpdu; rest = []; state = with_frame s a frame }) NextEvent)) x rest) awaited takes in
         subst (λ (a : Awaited). ((with_frame s a frame).send_queue ≡ s.send_queue) × TakesMemory opened k (next_frame s frame)) (sym awaited) (either place lives_on told_on memory (frame_is opened k s frame h.link h.server lives_on))
 
 pub out_by_read : (v after : ResponderSide) (piece : List ℕ) (m : LinkSide) (x : PendingRead) (rest : List PendingRead) → end_of v ≡ None → IsPartial v.link.awaited v.link.rest → StepOf v.link piece m → m.state.ended ≡ None →
-    m.state.receive_queue.notices ≡ ReadDone ∷ [] → v.fetching.reads ≡ x ∷ rest → ReadRanOut (on_link v (after_call m NextEvent)) x rest after → RanOutAt v piece 0 after
+    m.state.receive_queue.deliveries ≡ ReadDone ∷ [] → v.fetching.reads ≡ x ∷ rest → ReadRanOut (on_link v (after_call m NextEvent)) x rest after → RanOutAt v piece 0 after
 out_by_read v after piece m x rest live_now p step lives one reads ran =
     let t = told_link_lem m (after_call m NextEvent) refl in
     let ended = memory_ends (after_call m NextEvent) (after_call (after_call m NextEvent) OutOfMemory) (t.live ∙ lives) refl in
@@ -287,13 +287,13 @@ out_by_read v after piece m x rest live_now p step lives one reads ran =
         (is_whole v.link.awaited (v.link.rest ++ piece) ≡ true) × ((after.link.state.send_queue ≡ v.link.state.send_queue) × TakesMemory opened end.state (frame_by v.link piece))
     needs opened end so_far keeps same (Part w link) =
         let h = (not_ended_lem opened end so_far v live_now keeps).1 in
-        let none : m.state.receive_queue.notices ≡ [] = ap (λ (l : LinkSide). l.state.receive_queue.notices) link ∙ h.link.told in
+        let none : m.state.receive_queue.deliveries ≡ [] = ap (λ (l : LinkSide). l.state.receive_queue.deliveries) link ∙ h.link.told in
         absurd (let two : [] ≡ ReadDone ∷ [] = sym none ∙ one in cc)
     needs opened end so_far keeps same (WholeFrame frame w frame_is long link) =
         let both = not_ended_lem opened end so_far v live_now keeps in
         let h : Keeps opened end.state so_far v = both.1 in
         let lives_on : (with_frame v.link.state v.link.awaited frame).ended ≡ None = sym (ap (λ (l : LinkSide). l.state.ended) link) ∙ lives in
-        let told_on : (with_frame v.link.state v.link.awaited frame).receive_queue.notices ≡ ReadDone ∷ [] = sym (ap (λ (l : LinkSide). l.state.receive_queue.notices) link) ∙ one in
+        let told_on : (with_frame v.link.state v.link.awaited frame).receive_queue.deliveries ≡ ReadDone ∷ [] = sym (ap (λ (l : LinkSide). l.state.receive_queue.deliveries) link) ∙ one in
         let takes = subst (λ (l : LinkSide). ReadTakes (on_link v (after_call l NextEvent)) x rest) link ran.takes in
         let found = read_needs opened end.state so_far v frame x rest h long lives_on told_on reads takes in (
           w,

@@ -31,9 +31,9 @@ after_append : (a : Awaited) (xs ys : List (List ℕ)) → awaited_after a (xs +
 after_append a [] ys = refl
 after_append a (x ∷ xs) ys = sym (awaited_after_Fpdu ys)
 
-concat-append : (xs ys : List (List ℕ)) → concat (xs ++ ys) ≡ concat xs ++ concat ys
-concat-append [] ys = refl
-concat-append (x ∷ xs) ys = ap (λ (zs : List ℕ). x ++ zs) (concat-append xs ys) ∙ sym (append_assoc x (concat xs) (concat ys))
+concat_append : (xs ys : List (List ℕ)) → concat (xs ++ ys) ≡ concat xs ++ concat ys
+concat_append [] ys = refl
+concat_append (x ∷ xs) ys = ap (λ (zs : List ℕ). x ++ zs) (concat_append xs ys) ∙ sym (append_assoc x (concat xs) (concat ys))
 
 split_parts : (input : InputState) (x y : List ℕ) → input_split input (x ++ y) ≡ frames_then (input_split input x).frames (input_split (input_after input x) y)
 split_parts input x y = ap (split input.awaited) (sym (append_assoc input.rest x y)) ∙ split_append input.awaited (input.rest ++ x) y
@@ -43,7 +43,7 @@ input_parts input x y =
     let fs = (input_split input x).frames in
     let gs = (input_split (input_after input x) y).frames in
     let len : input.place + length (concat (fs ++ gs)) ≡ input.place + length (concat fs) + length (concat gs) =
-    omega (arith, ap (λ (xs : List ℕ). length xs) (concat-append fs gs), length-append (concat fs) (concat gs)) in
+    omega (arith, ap (λ (xs : List ℕ). length xs) (concat_append fs gs), length-append (concat fs) (concat gs)) in
     ap (λ (s : Split). record { awaited = awaited_after input.awaited s.frames; rest = s.rest; place = input.place + length (concat s.frames) }) (split_parts input x y)
     ∙ (λ i. record { awaited = after_append input.awaited fs gs i; rest = (input_split (input_after input x) y).rest; place = len i })
 

@@ -75,15 +75,15 @@ abbrev pub response_told : Bool → List DeliveredEvent
 response_told true = ReadDone ∷ []
 response_told false = []
 
-pub response_notices : (opened : LinkParameters) (k : ServerState) (so_far : InputState) (v : ResponderSide) (frame : List ℕ) → Keeps opened k so_far v → (with_frame v.link.state Fpdu frame).ended ≡ None → (r : IsResponse v.link.state frame) → (b : Bool) → r.last ≡ b →
-    (with_frame v.link.state Fpdu frame).receive_queue.notices ≡ response_told b
-response_notices opened k so_far v frame h lives r true is =
+pub response_deliveries : (opened : LinkParameters) (k : ServerState) (so_far : InputState) (v : ResponderSide) (frame : List ℕ) → Keeps opened k so_far v → (with_frame v.link.state Fpdu frame).ended ≡ None → (r : IsResponse v.link.state frame) → (b : Bool) → r.last ≡ b →
+    (with_frame v.link.state Fpdu frame).receive_queue.deliveries ≡ response_told b
+response_deliveries opened k so_far v frame h lives r true is =
     let s : LinkState = v.link.state in
-    ap (λ (t : LinkState). t.receive_queue.notices) ((frame_lives s frame (Tagged true OPCODE_READ_RESPONSE r.stag r.to r.payload) (response_reads s frame r true is) lives).1 ∙ last_link s frame r.stag r.to r.payload)
-    ∙ ap (λ (notices : List DeliveredEvent). notices ++ ReadDone ∷ []) h.link.told
-response_notices opened k so_far v frame h lives r false is =
+    ap (λ (t : LinkState). t.receive_queue.deliveries) ((frame_lives s frame (Tagged true OPCODE_READ_RESPONSE r.stag r.to r.payload) (response_reads s frame r true is) lives).1 ∙ last_link s frame r.stag r.to r.payload)
+    ∙ ap (λ (deliveries : List DeliveredEvent). deliveries ++ ReadDone ∷ []) h.link.told
+response_deliveries opened k so_far v frame h lives r false is =
     let s : LinkState = v.link.state in
-    ap (λ (t : LinkState). t.receive_queue.notices) ((frame_lives s frame (Tagged false OPCODE_READ_RESPONSE r.stag r.to r.payload) (response_reads s frame r false is) lives).1 ∙ part_link s frame r.stag r.to r.payload)
+    ap (λ (t : LinkState). t.receive_queue.deliveries) ((frame_lives s frame (Tagged false OPCODE_READ_RESPONSE r.stag r.to r.payload) (response_reads s frame r false is) lives).1 ∙ part_link s frame r.stag r.to r.payload)
     ∙ h.link.told
 
 -- the read whose response is awaited
@@ -136,12 +136,12 @@ response_part_takes opened k so_far v frame h some long lives r is =
 abbrev pub done_side : LinkState → List ℕ → ℕ → ℕ → List ℕ → LinkState
 done_side s frame stag to payload = record s { last = s.place; place = s.place + length frame; memory = after_place s.memory stag to payload; reads = reads_after true (length payload) s.reads }
 
-delivered_done : (q : ReceiveQueue) → q.notices ≡ [] → delivered (with_read_done q) ≡ q
+delivered_done : (q : ReceiveQueue) → q.deliveries ≡ [] → delivered (with_read_done q) ≡ q
 delivered_done q none =
     let nothing : List DeliveredEvent = [] in
     let count : q.lent + 0 ≡ q.lent = omega arith in
-    ap (λ (notices : List DeliveredEvent). delivered (record q { notices = notices ++ ReadDone ∷ [] })) none
-    ∙ (λ i. record { receives = q.receives; receive_length = q.receive_length; received = q.received; free = q.free; lent = count i; notices = sym none i })
+    ap (λ (deliveries : List DeliveredEvent). delivered (record q { deliveries = deliveries ++ ReadDone ∷ [] })) none
+    ∙ (λ i. record { receives = q.receives; receive_length = q.receive_length; received = q.received; free = q.free; lent = count i; deliveries = sym none i })
 
 pub done_link_is : (opened : LinkParameters) (k : ServerState) (so_far : InputState) (v : ResponderSide) (frame : List ℕ) → Keeps opened k so_far v → (with_frame v.link.state Fpdu frame).ended ≡ None → (r : IsResponse v.link.state frame) → r.last ≡ true →
     after_call (record { awaited = Fpdu; rest = []; state = with_frame v.link.state Fpdu frame }) NextEvent ≡ record { awaited = Fpdu; rest = []; state = done_side v.link.state frame r.stag r.to r.payload }

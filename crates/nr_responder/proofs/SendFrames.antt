@@ -66,15 +66,15 @@ free_less false false free rest granted same is some = (let lt : 0 < free = some
 free_less true false free rest granted same is some = absurd (let h : true ≡ false = same in cc)
 free_less false true free rest granted same is some = absurd (let h : false ≡ true = same in cc)
 
--- the side after a segment of a Send, with these notices
+-- the side after a segment of a Send, with these deliveries
 abbrev pub send_framed : LinkState → List ℕ → ReceiveState → ℕ → ℕ → List DeliveredEvent → LinkState
-send_framed s bytes received free lent notices = record {
+send_framed s bytes received free lent deliveries = record {
   side = s.side;
   has_hello = s.has_hello;
   last = s.place;
   place = s.place + length bytes;
   ended = s.ended;
-  receive_queue = record { receives = s.receive_queue.receives; receive_length = s.receive_queue.receive_length; received = received; free = free; lent = lent; notices = notices };
+  receive_queue = record { receives = s.receive_queue.receives; receive_length = s.receive_queue.receive_length; received = received; free = free; lent = lent; deliveries = deliveries };
   reads = s.reads;
   memory = s.memory;
   send_queue = s.send_queue;
@@ -83,14 +83,14 @@ send_framed s bytes received free lent notices = record {
 
 pub part_framed : (s : LinkState) (bytes : List ℕ) (w queue msn offset : ℕ) (payload : List ℕ) →
     framed s bytes (Untagged false OPCODE_SEND w queue msn offset payload)
-    ≡ send_framed s bytes (received_within s.receive_queue.receive_length (send_continued s.receive_queue.received false payload)) (cond (not (is_begun s.receive_queue.received.begun)) (s.receive_queue.free - 1) s.receive_queue.free) s.receive_queue.lent (s.receive_queue.notices ++ [])
+    ≡ send_framed s bytes (received_within s.receive_queue.receive_length (send_continued s.receive_queue.received false payload)) (cond (not (is_begun s.receive_queue.received.begun)) (s.receive_queue.free - 1) s.receive_queue.free) s.receive_queue.lent (s.receive_queue.deliveries ++ [])
 unfolding with_effect with_segment
 part_framed s bytes w queue msn offset payload = refl
 
 pub last_framed : (s : LinkState) (bytes : List ℕ) (w queue msn offset : ℕ) (payload : List ℕ) →
     framed s bytes (Untagged true OPCODE_SEND w queue msn offset payload)
     ≡ send_framed s bytes (record { sends = s.receive_queue.received.sends + 1; begun = None; requests = s.receive_queue.received.requests }) (cond (not (is_begun s.receive_queue.received.begun)) (s.receive_queue.free - 1) s.receive_queue.free) s.receive_queue.lent
-    (s.receive_queue.notices ++ MessageReceived (s.receive_queue.received.sends + 1) None (begun_bytes s.receive_queue.received.begun ++ payload) ∷ [])
+    (s.receive_queue.deliveries ++ MessageReceived (s.receive_queue.received.sends + 1) None (begun_bytes s.receive_queue.received.begun ++ payload) ∷ [])
 unfolding with_effect with_segment
 last_framed s bytes w queue msn offset payload = refl
 
@@ -98,7 +98,7 @@ last_framed s bytes w queue msn offset payload = refl
 pub part_keeps : (opened : LinkParameters) (k : ServerState) (s : LinkState) (bytes payload : List ℕ) → LinkKeeps opened k s → IsServer k s.place →
     (is_begun s.receive_queue.received.begun ≡ false → 0 < s.receive_queue.free) →
     LinkKeeps opened (with_received (send_continued k.received false payload) k)
-    (send_framed s bytes (received_within s.receive_queue.receive_length (send_continued s.receive_queue.received false payload)) (cond (not (is_begun s.receive_queue.received.begun)) (s.receive_queue.free - 1) s.receive_queue.free) s.receive_queue.lent (s.receive_queue.notices ++ []))
+    (send_framed s bytes (received_within s.receive_queue.receive_length (send_continued s.receive_queue.received false payload)) (cond (not (is_begun s.receive_queue.received.begun)) (s.receive_queue.free - 1) s.receive_queue.free) s.receive_queue.lent (s.receive_queue.deliveries ++ []))
 part_keeps opened k s bytes payload h is some = record {
   live = h.live;
   side = h.side;
@@ -109,7 +109,7 @@ part_keeps opened k s bytes payload h is some = record {
   message_max = h.message_max;
   free = free_less (is_begun s.receive_queue.received.begun) (is_begun k.received.begun) s.receive_queue.free (unsent s + length k.calls) opened.granted (begun_fine opened k s h) h.free some;
   lent = h.lent;
-  told = append-nil s.receive_queue.notices ∙ h.told;
+  told = append-nil s.receive_queue.deliveries ∙ h.told;
   reads = h.reads;
   memory = holds_later k.regions k.accesses_received s.place (s.place + length bytes) s.memory (omega arith) is.accesses h.memory;
   next = h.next;

@@ -43,10 +43,10 @@ sound_ended n reason l m calls ready used a b c is h =
 
 -- an event is delivered: a message lends its receive
 pub sound_told : (l m : LinkSide) (number : ℕ) (invalidated : Option ℕ) (message : List ℕ) (rest : List DeliveredEvent) (calls : List Pending) (ready : List ℕ) (used : List (List ℕ)) (a b c : ℕ) → m ≡ after_call l NextEvent →
-    l.state.receive_queue.notices ≡ MessageReceived number invalidated message ∷ rest → AreSound 0 l.state calls ready used a b c → AreSound 1 m.state calls ready used a b c
+    l.state.receive_queue.deliveries ≡ MessageReceived number invalidated message ∷ rest → AreSound 0 l.state calls ready used a b c → AreSound 1 m.state calls ready used a b c
 sound_told l m number invalidated message rest calls ready used a b c is one h =
     let t = told_link_lem l m is in
-    let lends : lent_for l.state.receive_queue.notices ≡ 1 = ap lent_for one in
+    let lends : lent_for l.state.receive_queue.deliveries ≡ 1 = ap lent_for one in
     record {
       unsent_is = h.unsent_is ∙ ap (λ (xs : List ℕ). length xs) (sym t.ends_are);
       lent = omega (arith, h.lent, ap (λ (q : ReceiveQueue). q.lent) t.queue, lends);

@@ -22,7 +22,7 @@ pub unchanged : (v : ResponderState) (piece : List ℕ) → KeepsStaging v v pie
 unchanged v piece = record { others = refl; len = refl }
 
 -- nothing is left to be delivered of a side that stands for some marks and hasn't ended
-pub nothing_told : (opened : LinkParameters) (link : ℕ) (run : List Mark) (v : ResponderSide) → end_of v ≡ None → Stands opened link run v → v.link.state.receive_queue.notices ≡ []
+pub nothing_told : (opened : LinkParameters) (link : ℕ) (run : List Mark) (v : ResponderSide) → end_of v ≡ None → Stands opened link run v → v.link.state.receive_queue.deliveries ≡ []
 nothing_told opened link run v live stands =
     let h : RepresentsServer opened link run v = represents opened link run v live stands in
     (not_ended_lem opened h.end h.input v live h.keeps).1.link.told
@@ -32,7 +32,7 @@ rest_or_none before now after same (inl is) = inl (is ∙ same)
 rest_or_none before now after same (inr none) = inr none
 
 -- what the endpoint keeps, the responder keeps: what a message makes of it drops no input
-pub staging_step : (v after : ResponderState) (piece : List ℕ) (before now : EndpointState) → v.side.link ≡ before.link → v.staging ≡ before.staging → StepOf v.side.link piece now.link → v.side.link.state.receive_queue.notices ≡ [] →
+pub staging_step : (v after : ResponderState) (piece : List ℕ) (before now : EndpointState) → v.side.link ≡ before.link → v.staging ≡ before.staging → StepOf v.side.link piece now.link → v.side.link.state.receive_queue.deliveries ≡ [] →
     IsTaken (on_link v.side now.link) after.side → (after.side.link.rest ≡ now.link.rest) ⊎ (after.side.link.rest ≡ []) → after.staging ≡ now.staging → KeepsEndpoint before now piece → KeepsStaging v after piece
 staging_step v after piece before now link_is staging_is step told taken rest same h =
     let cut : ℕ = cut_frame_len v.side.link.awaited v.side.link.rest piece in
@@ -51,7 +51,7 @@ staging_step v after piece before now link_is staging_is step told taken rest sa
     by_rest none (inr is) = is ∙ sym none
 
     rest_is : StepOf v.side.link piece now.link → after.side.link.rest ≡ now.link.rest
-    rest_is (Part w link) = ap (λ (x : ResponderSide). x.link.rest) (taken.none (ap (λ (l : LinkSide). l.state.receive_queue.notices) link ∙ told))
+    rest_is (Part w link) = ap (λ (x : ResponderSide). x.link.rest) (taken.none (ap (λ (l : LinkSide). l.state.receive_queue.deliveries) link ∙ told))
     rest_is (WholeFrame frame w frame_is long link) = by_rest (ap (λ (l : LinkSide). l.rest) link) rest
 
 -- ---- A piece of several frames

@@ -39,11 +39,11 @@ use Rattle.nr_responder.proofs.Posted.{memory_as}
 use Rattle.nr_responder.proofs.Sounds.{sound_step, sound_ended}
 use Rattle.nr_responder.specs.private.ReadsDone.{ReadHandled, ReadRanOut}
 use Rattle.nr_responder.proofs.Responses.{IsSend, IsResponse, Lives, frame_is, none_expected}
-use Rattle.nr_responder.proofs.ReadsTaken.{response_notices}
+use Rattle.nr_responder.proofs.ReadsTaken.{response_deliveries}
 use Rattle.nr_responder.proofs.Out.{out_by_link, out_by_message, out_by_read}
 use Rattle.nr_responder.proofs.Pieces.{fed_parts}
 use Rattle.nr_responder.proofs.SendFrames.{frame_lives, part_framed, last_framed}
-use Rattle.nr_responder.proofs.Steps.{hello_notices}
+use Rattle.nr_responder.proofs.Steps.{hello_deliveries}
 use Rattle.nr_responder.proofs.Whole.{whole_message}
 
 -- the side of the link ended, or ran out of memory
@@ -88,17 +88,17 @@ failed_within l m piece end fed out = by end fed out
 -- ---- What a step delivers
 
 -- nothing, one message, or a read that is done
-abbrev pub FewNotices : List PendingRead → List DeliveredEvent → Type 0
-FewNotices reads notices = (notices ≡ []) ⊎ (((number : ℕ) × ((message : List ℕ) × (notices ≡ MessageReceived number None message ∷ []))) ⊎ ((notices ≡ ReadDone ∷ []) × (reads ≢ [])))
+abbrev pub FewDeliveries : List PendingRead → List DeliveredEvent → Type 0
+FewDeliveries reads deliveries = (deliveries ≡ []) ⊎ (((number : ℕ) × ((message : List ℕ) × (deliveries ≡ MessageReceived number None message ∷ []))) ⊎ ((deliveries ≡ ReadDone ∷ []) × (reads ≢ [])))
 
-send_notices : (opened : LinkParameters) (k : ServerState) (so_far : InputState) (v : ResponderSide) (frame : List ℕ) → Keeps opened k so_far v → (with_frame v.link.state Fpdu frame).ended ≡ None → (send : IsSend v.link.state frame) → (b : Bool) → send.last ≡ b →
-    FewNotices v.fetching.reads (with_frame v.link.state Fpdu frame).receive_queue.notices
-send_notices opened k so_far v frame h lives send false is =
+send_deliveries : (opened : LinkParameters) (k : ServerState) (so_far : InputState) (v : ResponderSide) (frame : List ℕ) → Keeps opened k so_far v → (with_frame v.link.state Fpdu frame).ended ≡ None → (send : IsSend v.link.state frame) → (b : Bool) → send.last ≡ b →
+    FewDeliveries v.fetching.reads (with_frame v.link.state Fpdu frame).receive_queue.deliveries
+send_deliveries opened k so_far v frame h lives send false is =
     let s : LinkState = v.link.state in
     let reads : segment_of frame ≡ Ok (Untagged false OPCODE_SEND send.w send.queue_number send.msn send.offset send.payload) = send.reads ∙ ap (λ (b : Bool). Ok (Untagged b OPCODE_SEND send.w send.queue_number send.msn send.offset send.payload)) is in
     let state = (frame_lives s frame (Untagged false OPCODE_SEND send.w send.queue_number send.msn send.offset send.payload) reads lives).1 ∙ part_framed s frame send.w send.queue_number send.msn send.offset send.payload in
-    inl (ap (λ (t : LinkState). t.receive_queue.notices) state ∙ append-nil s.receive_queue.notices ∙ h.link.told)
-send_notices opened k so_far v frame h lives send true is =
+    inl (ap (λ (t : LinkState). t.receive_queue.deliveries) state ∙ append-nil s.receive_queue.deliveries ∙ h.link.told)
+send_deliveries opened k so_far v frame h lives send true is =
     let s : LinkState = v.link.state in
     let reads : segment_of frame ≡ Ok (Untagged true OPCODE_SEND send.w send.queue_number send.msn send.offset send.payload) = send.reads ∙ ap (λ (b : Bool). Ok (Untagged b OPCODE_SEND send.w send.queue_number send.msn send.offset send.payload)) is in
     let state = (frame_lives s frame (Untagged true OPCODE_SEND send.w send.queue_number send.msn send.offset send.payload) reads lives).1 ∙ last_framed s frame send.w send.queue_number send.msn send.offset send.payload in
@@ -107,34 +107,34 @@ send_notices opened k so_far v frame h lives send true is =
       s.receive_queue.received.sends + 1,
       (
         whole,
-        ap (λ (t : LinkState). t.receive_queue.notices) state ∙ ap (λ (notices : List DeliveredEvent). notices ++ MessageReceived (s.receive_queue.received.sends + 1) None whole ∷ []) h.link.told,
+        ap (λ (t : LinkState). t.receive_queue.deliveries) state ∙ ap (λ (deliveries : List DeliveredEvent). deliveries ++ MessageReceived (s.receive_queue.received.sends + 1) None whole ∷ []) h.link.told,
       ),
     ))
 
-read_notices : (opened : LinkParameters) (k : ServerState) (so_far : InputState) (v : ResponderSide) (frame : List ℕ) → Keeps opened k so_far v → (with_frame v.link.state Fpdu frame).ended ≡ None → (r : IsResponse v.link.state frame) → (b : Bool) → r.last ≡ b →
-    FewNotices v.fetching.reads (with_frame v.link.state Fpdu frame).receive_queue.notices
-read_notices opened k so_far v frame h lives r false is = inl (response_notices opened k so_far v frame h lives r false is)
-read_notices opened k so_far v frame h lives r true is =
-    inr (inr (response_notices opened k so_far v frame h lives r true is, (λ none. none_expected k v.link.state r.last r.stag r.to (length r.payload) h.link.reads r.expected (sym h.reads ∙ none))))
+read_deliveries : (opened : LinkParameters) (k : ServerState) (so_far : InputState) (v : ResponderSide) (frame : List ℕ) → Keeps opened k so_far v → (with_frame v.link.state Fpdu frame).ended ≡ None → (r : IsResponse v.link.state frame) → (b : Bool) → r.last ≡ b →
+    FewDeliveries v.fetching.reads (with_frame v.link.state Fpdu frame).receive_queue.deliveries
+read_deliveries opened k so_far v frame h lives r false is = inl (response_deliveries opened k so_far v frame h lives r false is)
+read_deliveries opened k so_far v frame h lives r true is =
+    inr (inr (response_deliveries opened k so_far v frame h lives r true is, (λ none. none_expected k v.link.state r.last r.stag r.to (length r.payload) h.link.reads r.expected (sym h.reads ∙ none))))
 
-fpdu_notices : (opened : LinkParameters) (k : ServerState) (so_far : InputState) (v : ResponderSide) (frame : List ℕ) → Keeps opened k so_far v → (with_frame v.link.state Fpdu frame).ended ≡ None → Lives v.link.state frame →
-    FewNotices v.fetching.reads (with_frame v.link.state Fpdu frame).receive_queue.notices
-fpdu_notices opened k so_far v frame h lives (inl send) = send_notices opened k so_far v frame h lives send send.last refl
-fpdu_notices opened k so_far v frame h lives (inr r) = read_notices opened k so_far v frame h lives r r.last refl
+fpdu_deliveries : (opened : LinkParameters) (k : ServerState) (so_far : InputState) (v : ResponderSide) (frame : List ℕ) → Keeps opened k so_far v → (with_frame v.link.state Fpdu frame).ended ≡ None → Lives v.link.state frame →
+    FewDeliveries v.fetching.reads (with_frame v.link.state Fpdu frame).receive_queue.deliveries
+fpdu_deliveries opened k so_far v frame h lives (inl send) = send_deliveries opened k so_far v frame h lives send send.last refl
+fpdu_deliveries opened k so_far v frame h lives (inr r) = read_deliveries opened k so_far v frame h lives r r.last refl
 
-frame_notices : (opened : LinkParameters) (k : ServerState) (so_far : InputState) (v : ResponderSide) (frame : List ℕ) → Keeps opened k so_far v → (with_frame v.link.state v.link.awaited frame).ended ≡ None → Begins v.link →
-    FewNotices v.fetching.reads (with_frame v.link.state v.link.awaited frame).receive_queue.notices
-frame_notices opened k so_far v frame h lives (BeforeHello place awaited hello none) =
+frame_deliveries : (opened : LinkParameters) (k : ServerState) (so_far : InputState) (v : ResponderSide) (frame : List ℕ) → Keeps opened k so_far v → (with_frame v.link.state v.link.awaited frame).ended ≡ None → Begins v.link →
+    FewDeliveries v.fetching.reads (with_frame v.link.state v.link.awaited frame).receive_queue.deliveries
+frame_deliveries opened k so_far v frame h lives (BeforeHello place awaited hello none) =
     let as_hello : with_frame v.link.state v.link.awaited frame ≡ with_peer_hello (next_frame v.link.state frame) (hello_of Initiator frame) v.link.state = ap (λ (a : Awaited). with_frame v.link.state a frame) awaited in
-    inl (ap (λ (t : LinkState). t.receive_queue.notices) as_hello ∙ hello_notices v.link.state (next_frame v.link.state frame) (hello_of Initiator frame) ∙ h.link.told)
-frame_notices opened k so_far v frame h lives (AfterHello place awaited hello) =
+    inl (ap (λ (t : LinkState). t.receive_queue.deliveries) as_hello ∙ hello_deliveries v.link.state (next_frame v.link.state frame) (hello_of Initiator frame) ∙ h.link.told)
+frame_deliveries opened k so_far v frame h lives (AfterHello place awaited hello) =
     let lives_on : (with_frame v.link.state Fpdu frame).ended ≡ None = subst (λ (a : Awaited). (with_frame v.link.state a frame).ended ≡ None) awaited lives in
-    subst (λ (a : Awaited). FewNotices v.fetching.reads (with_frame v.link.state a frame).receive_queue.notices) (sym awaited) (fpdu_notices opened k so_far v frame h lives_on (frame_is opened k v.link.state frame h.link h.server lives_on))
+    subst (λ (a : Awaited). FewDeliveries v.fetching.reads (with_frame v.link.state a frame).receive_queue.deliveries) (sym awaited) (fpdu_deliveries opened k so_far v frame h lives_on (frame_is opened k v.link.state frame h.link h.server lives_on))
 
-few_notices : (opened : LinkParameters) (k : ServerState) (so_far : InputState) (v : ResponderSide) (piece : List ℕ) (m : LinkSide) → Keeps opened k so_far v → m.state.ended ≡ None → StepOf v.link piece m → FewNotices v.fetching.reads m.state.receive_queue.notices
-few_notices opened k so_far v piece m h lives (Part w link) = inl (ap (λ (l : LinkSide). l.state.receive_queue.notices) link ∙ h.link.told)
-few_notices opened k so_far v piece m h lives (WholeFrame frame w frame_is long link) =
-    subst (λ (l : LinkSide). FewNotices v.fetching.reads l.state.receive_queue.notices) (sym link) (frame_notices opened k so_far v frame h (sym (ap (λ (l : LinkSide). l.state.ended) link) ∙ lives) h.begins)
+few_deliveries : (opened : LinkParameters) (k : ServerState) (so_far : InputState) (v : ResponderSide) (piece : List ℕ) (m : LinkSide) → Keeps opened k so_far v → m.state.ended ≡ None → StepOf v.link piece m → FewDeliveries v.fetching.reads m.state.receive_queue.deliveries
+few_deliveries opened k so_far v piece m h lives (Part w link) = inl (ap (λ (l : LinkSide). l.state.receive_queue.deliveries) link ∙ h.link.told)
+few_deliveries opened k so_far v piece m h lives (WholeFrame frame w frame_is long link) =
+    subst (λ (l : LinkSide). FewDeliveries v.fetching.reads l.state.receive_queue.deliveries) (sym link) (frame_deliveries opened k so_far v frame h (sym (ap (λ (l : LinkSide). l.state.ended) link) ∙ lives) h.begins)
 
 -- ---- A step after which something was delivered
 
@@ -159,24 +159,24 @@ went_on v after piece n (Some end) is fed =
 pub same_message : (a b : ℕ) (i j : Option ℕ) (x y : List ℕ) (rest others : List DeliveredEvent) → MessageReceived a i x ∷ rest ≡ MessageReceived b j y ∷ others → (a ≡ b) × (x ≡ y)
 same_message a b i j x y rest others is = ((let h : a ≡ b = cc in h), (let h : x ≡ y = cc in h))
 
-not_two : (reads : List PendingRead) (number : ℕ) (invalidated : Option ℕ) (bytes : List ℕ) (x : DeliveredEvent) (rest : List DeliveredEvent) → FewNotices reads (MessageReceived number invalidated bytes ∷ (x ∷ rest)) → ⊥
+not_two : (reads : List PendingRead) (number : ℕ) (invalidated : Option ℕ) (bytes : List ℕ) (x : DeliveredEvent) (rest : List DeliveredEvent) → FewDeliveries reads (MessageReceived number invalidated bytes ∷ (x ∷ rest)) → ⊥
 not_two reads number invalidated bytes x rest (inl none) = absurd cc
 not_two reads number invalidated bytes x rest (inr (inl one)) = (let e : MessageReceived number invalidated bytes ∷ (x ∷ rest) ≡ MessageReceived one.0 None one.1.0 ∷ [] = one.1.1 in cc)
 not_two reads number invalidated bytes x rest (inr (inr done)) = (let e : MessageReceived number invalidated bytes ∷ (x ∷ rest) ≡ ReadDone ∷ [] = done.0 in cc)
 
-not_more : (reads : List PendingRead) (x : DeliveredEvent) (rest : List DeliveredEvent) → FewNotices reads (ReadDone ∷ (x ∷ rest)) → ⊥
+not_more : (reads : List PendingRead) (x : DeliveredEvent) (rest : List DeliveredEvent) → FewDeliveries reads (ReadDone ∷ (x ∷ rest)) → ⊥
 not_more reads x rest (inl none) = absurd cc
 not_more reads x rest (inr (inl one)) = (let e : ReadDone ∷ (x ∷ rest) ≡ MessageReceived one.0 None one.1.0 ∷ [] = one.1.1 in cc)
 not_more reads x rest (inr (inr done)) = (let e : ReadDone ∷ (x ∷ rest) ≡ ReadDone ∷ [] = done.0 in cc)
 
-not_read : (reads : List PendingRead) → reads ≡ [] → FewNotices reads (ReadDone ∷ []) → ⊥
+not_read : (reads : List PendingRead) → reads ≡ [] → FewDeliveries reads (ReadDone ∷ []) → ⊥
 not_read reads none (inl never) = absurd cc
 not_read reads none (inr (inl one)) = (let e : ReadDone ∷ [] ≡ MessageReceived one.0 None one.1.0 ∷ [] = one.1.1 in cc)
 not_read reads none (inr (inr done)) = done.1 none
 
 pub step_done_by : (v after : ResponderSide) (piece : List ℕ) (m : LinkSide) → end_of v ≡ None → IsPartial v.link.awaited v.link.rest → StepOf v.link piece m → m.state.ended ≡ None → IsTaken (on_link v m) after →
     Fed v (take (taken_at (end_of after) (length piece) (bytes_taken v.link.awaited v.link.rest piece)) piece) after
-step_done_by v after piece m live p step lives taken = by m.state.receive_queue.notices refl
+step_done_by v after piece m live p step lives taken = by m.state.receive_queue.deliveries refl
   where
     n : ℕ
     n = bytes_taken v.link.awaited v.link.rest piece
@@ -184,11 +184,11 @@ step_done_by v after piece m live p step lives taken = by m.state.receive_queue.
     goes : ((k : ServerState) → IsServerOf k (on_link v m) → IsHandled k (on_link v m) after) → FedOn v (take n piece) after
     goes handled = step_goes v after piece m live p step lives handled
 
-    never : (notices : List DeliveredEvent) → m.state.receive_queue.notices ≡ notices → (FewNotices v.fetching.reads notices → ⊥) → FedOn v (take n piece) after
-    never notices found wrong opened end so_far keeps =
-        absurd (wrong (subst (FewNotices v.fetching.reads) found (few_notices opened end.state so_far v piece m (not_ended_lem opened end so_far v live keeps).1 lives step)))
+    never : (deliveries : List DeliveredEvent) → m.state.receive_queue.deliveries ≡ deliveries → (FewDeliveries v.fetching.reads deliveries → ⊥) → FedOn v (take n piece) after
+    never deliveries found wrong opened end so_far keeps =
+        absurd (wrong (subst (FewDeliveries v.fetching.reads) found (few_deliveries opened end.state so_far v piece m (not_ended_lem opened end so_far v live keeps).1 lives step)))
 
-    message : (number : ℕ) (invalidated : Option ℕ) (bytes : List ℕ) → m.state.receive_queue.notices ≡ MessageReceived number invalidated bytes ∷ [] → Goes (on_link v m) number bytes after ⊎ RanOutOf (on_link v m) number bytes after →
+    message : (number : ℕ) (invalidated : Option ℕ) (bytes : List ℕ) → m.state.receive_queue.deliveries ≡ MessageReceived number invalidated bytes ∷ [] → Goes (on_link v m) number bytes after ⊎ RanOutOf (on_link v m) number bytes after →
         Fed v (take (taken_at (end_of after) (length piece) n) piece) after
     message number invalidated bytes one (inl handled) =
         went_on v after piece n (end_of after) refl (goes (λ k server. record {
@@ -205,7 +205,7 @@ step_done_by v after piece m live p step lives taken = by m.state.receive_queue.
     same_reads : (x y : PendingRead) (rest others : List PendingRead) → v.fetching.reads ≡ x ∷ rest → v.fetching.reads ≡ y ∷ others → x ∷ rest ≡ y ∷ others
     same_reads x y rest others this that = sym this ∙ that
 
-    done : (x : PendingRead) (rest : List PendingRead) → m.state.receive_queue.notices ≡ ReadDone ∷ [] → v.fetching.reads ≡ x ∷ rest → ReadHandled (on_link v (after_call m NextEvent)) x rest after ⊎ ReadRanOut (on_link v (after_call m NextEvent)) x rest after →
+    done : (x : PendingRead) (rest : List PendingRead) → m.state.receive_queue.deliveries ≡ ReadDone ∷ [] → v.fetching.reads ≡ x ∷ rest → ReadHandled (on_link v (after_call m NextEvent)) x rest after ⊎ ReadRanOut (on_link v (after_call m NextEvent)) x rest after →
         Fed v (take (taken_at (end_of after) (length piece) n) piece) after
     done x rest one reads (inl handled) =
         went_on v after piece n (end_of after) refl (goes (λ k server. record {
@@ -221,11 +221,11 @@ step_done_by v after piece m live p step lives taken = by m.state.receive_queue.
         let out = out_by_read v after piece m x rest live p step lives one reads ran in
         subst (λ (o : Option End). Fed v (take (taken_at o (length piece) n) piece) after) (sym out.ended) (subst (λ (bytes : List ℕ). Fed v bytes after) (sym (take_all (length piece) piece (omega arith))) (RanOut 0 out))
 
-    read : m.state.receive_queue.notices ≡ ReadDone ∷ [] → (reads : List PendingRead) → v.fetching.reads ≡ reads → Fed v (take (taken_at (end_of after) (length piece) n) piece) after
+    read : m.state.receive_queue.deliveries ≡ ReadDone ∷ [] → (reads : List PendingRead) → v.fetching.reads ≡ reads → Fed v (take (taken_at (end_of after) (length piece) n) piece) after
     read one [] none = went_on v after piece n (end_of after) refl (never (ReadDone ∷ []) one (not_read v.fetching.reads none))
     read one (x ∷ rest) is = done x rest one is (taken.read one x rest is)
 
-    by : (notices : List DeliveredEvent) → m.state.receive_queue.notices ≡ notices → Fed v (take (taken_at (end_of after) (length piece) n) piece) after
+    by : (deliveries : List DeliveredEvent) → m.state.receive_queue.deliveries ≡ deliveries → Fed v (take (taken_at (end_of after) (length piece) n) piece) after
     by [] none =
         went_on v after piece n (end_of after) refl (goes (λ k server. record { none = λ e. taken.none none; some = λ number j x found count. absurd (let two : [] ≡ MessageReceived number j x ∷ [] = sym none ∙ found in cc); read = λ done x rest reads. absurd (let two : [] ≡ ReadDone ∷ [] = sym none ∙ done in cc) }))
     by (MessageReceived number invalidated bytes ∷ []) one = message number invalidated bytes one (makes_handled (on_link v m) after number bytes (taken.some number invalidated bytes one))

@@ -47,7 +47,7 @@ use Rattle.nr_responder.proofs.CallsRead.{reading_takes}
 use Rattle.nr_responder.proofs.Told.{told_is_lem, sent_is, stopped_is}
 use Rattle.nr_responder.proofs.Responses.{IsSend, IsResponse, Lives, frame_is}
 use Rattle.nr_responder.proofs.ReadsHandled.{read_takes}
-use Rattle.nr_responder.proofs.ReadsTaken.{response_part_takes, response_notices, some_reads}
+use Rattle.nr_responder.proofs.ReadsTaken.{response_part_takes, response_deliveries, some_reads}
 
 -- ---- The hello
 
@@ -169,14 +169,14 @@ send_takes opened k so_far v after frame h some awaited long lives handled send 
     by false is =
         let reads : segment_of frame ≡ Ok (Untagged false OPCODE_SEND send.w send.queue_number send.msn send.offset send.payload) = send.reads ∙ ap (λ (b : Bool). Ok (Untagged b OPCODE_SEND send.w send.queue_number send.msn send.offset send.payload)) is in
         let state = (frame_lives s frame (Untagged false OPCODE_SEND send.w send.queue_number send.msn send.offset send.payload) reads lives).1 ∙ part_framed s frame send.w send.queue_number send.msn send.offset send.payload in
-        let none : (with_frame s Fpdu frame).receive_queue.notices ≡ [] = ap (λ (t : LinkState). t.receive_queue.notices) state ∙ append-nil s.receive_queue.notices ∙ h.link.told in
+        let none : (with_frame s Fpdu frame).receive_queue.deliveries ≡ [] = ap (λ (t : LinkState). t.receive_queue.deliveries) state ∙ append-nil s.receive_queue.deliveries ∙ h.link.told in
         subst (λ (x : ResponderSide). TakesFrame opened k (behind so_far frame) (next_frame s frame) v x) (sym (handled.none none))
         (part_takes opened k so_far v frame send.w send.queue_number send.msn send.offset send.payload h some long reads lives)
     by true is =
         let reads : segment_of frame ≡ Ok (Untagged true OPCODE_SEND send.w send.queue_number send.msn send.offset send.payload) = send.reads ∙ ap (λ (b : Bool). Ok (Untagged b OPCODE_SEND send.w send.queue_number send.msn send.offset send.payload)) is in
         let state = (frame_lives s frame (Untagged true OPCODE_SEND send.w send.queue_number send.msn send.offset send.payload) reads lives).1 ∙ last_framed s frame send.w send.queue_number send.msn send.offset send.payload in
-        let one : (with_frame s Fpdu frame).receive_queue.notices ≡ MessageReceived (s.receive_queue.received.sends + 1) None (whole_message s send.payload) ∷ [] =
-        ap (λ (t : LinkState). t.receive_queue.notices) state ∙ ap (λ (notices : List DeliveredEvent). notices ++ MessageReceived (s.receive_queue.received.sends + 1) None (whole_message s send.payload) ∷ []) h.link.told in
+        let one : (with_frame s Fpdu frame).receive_queue.deliveries ≡ MessageReceived (s.receive_queue.received.sends + 1) None (whole_message s send.payload) ∷ [] =
+        ap (λ (t : LinkState). t.receive_queue.deliveries) state ∙ ap (λ (deliveries : List DeliveredEvent). deliveries ++ MessageReceived (s.receive_queue.received.sends + 1) None (whole_message s send.payload) ∷ []) h.link.told in
         message_takes opened k so_far v after frame send.w send.queue_number send.msn send.offset send.payload h some awaited long reads lives (handled.some (s.receive_queue.received.sends + 1) None (whole_message s send.payload) one (ap (λ (r : ReceiveState). r.sends + 1) h.link.received))
 
 -- a segment of the awaited Read Response
@@ -184,12 +184,12 @@ response_takes : (opened : LinkParameters) (k : ServerState) (so_far : InputStat
     (with_frame v.link.state Fpdu frame).ended ≡ None → IsHandled k (on_link v (record { awaited = Fpdu; rest = []; state = with_frame v.link.state Fpdu frame })) after → (r : IsResponse v.link.state frame) → (b : Bool) → r.last ≡ b →
     TakesFrame opened k (behind so_far frame) (next_frame v.link.state frame) v after
 response_takes opened k so_far v after frame h some long lives handled r false is =
-    subst (λ (x : ResponderSide). TakesFrame opened k (behind so_far frame) (next_frame v.link.state frame) v x) (sym (handled.none (response_notices opened k so_far v frame h lives r false is)))
+    subst (λ (x : ResponderSide). TakesFrame opened k (behind so_far frame) (next_frame v.link.state frame) v x) (sym (handled.none (response_deliveries opened k so_far v frame h lives r false is)))
     (response_part_takes opened k so_far v frame h some long lives r is)
 response_takes opened k so_far v after frame h some long lives handled r true is =
     let reads = some_reads opened k so_far v frame h r in
     read_takes opened k so_far v after frame reads.0 reads.1.0 h some long lives r is reads.1.1
-    (handled.read (response_notices opened k so_far v frame h lives r true is) reads.0 reads.1.0 (h.reads ∙ reads.1.1))
+    (handled.read (response_deliveries opened k so_far v frame h lives r true is) reads.0 reads.1.0 (h.reads ∙ reads.1.1))
 
 fpdu_takes : (opened : LinkParameters) (k : ServerState) (so_far : InputState) (v after : ResponderSide) (frame : List ℕ) → Keeps opened k so_far v → 0 < v.link.state.place → v.link.awaited ≡ Fpdu → 0 < length frame →
     (with_frame v.link.state Fpdu frame).ended ≡ None → IsHandled k (on_link v (record { awaited = Fpdu; rest = []; state = with_frame v.link.state Fpdu frame })) after → Lives v.link.state frame →
@@ -197,24 +197,24 @@ fpdu_takes : (opened : LinkParameters) (k : ServerState) (so_far : InputState) (
 fpdu_takes opened k so_far v after frame h some awaited long lives handled (inl send) = send_takes opened k so_far v after frame h some awaited long lives handled send
 fpdu_takes opened k so_far v after frame h some awaited long lives handled (inr r) = response_takes opened k so_far v after frame h some long lives handled r r.last refl
 
-pub hello_notices : (s : LinkState) (f : Frame) (r : Result Hello ℕ) → (with_peer_hello f r s).receive_queue.notices ≡ s.receive_queue.notices
+pub hello_deliveries : (s : LinkState) (f : Frame) (r : Result Hello ℕ) → (with_peer_hello f r s).receive_queue.deliveries ≡ s.receive_queue.deliveries
 unfolding with_peer_hello
-hello_notices s f (Ok hello) = refl
-hello_notices s f (Err reason) = refl
+hello_deliveries s f (Ok hello) = refl
+hello_deliveries s f (Err reason) = refl
 
 -- a whole frame that doesn't end the side, and what was made of what it told
 pub frame_takes : (opened : LinkParameters) (k : ServerState) (so_far : InputState) (v after : ResponderSide) (frame : List ℕ) → Keeps opened k so_far v → 0 < length frame → (with_frame v.link.state v.link.awaited frame).ended ≡ None →
     IsHandled k (on_link v (link_behind v.link frame)) after → TakesFrame opened k (behind so_far frame) (next_frame v.link.state frame) v after
 frame_takes opened k so_far v after frame h long lives handled = by h.begins
   where
-    same_hello : (a : Awaited) (s : LinkState) → a ≡ HelloFrom Initiator → (with_frame s a frame).receive_queue.notices ≡ (with_peer_hello (next_frame s frame) (hello_of Initiator frame) s).receive_queue.notices
-    same_hello a s e = ap (λ (x : Awaited). (with_frame s x frame).receive_queue.notices) e
+    same_hello : (a : Awaited) (s : LinkState) → a ≡ HelloFrom Initiator → (with_frame s a frame).receive_queue.deliveries ≡ (with_peer_hello (next_frame s frame) (hello_of Initiator frame) s).receive_queue.deliveries
+    same_hello a s e = ap (λ (x : Awaited). (with_frame s x frame).receive_queue.deliveries) e
 
     by : Begins v.link → TakesFrame opened k (behind so_far frame) (next_frame v.link.state frame) v after
     by (BeforeHello place awaited hello none) =
-        let notices : (with_frame v.link.state v.link.awaited frame).receive_queue.notices ≡ [] =
-        same_hello v.link.awaited v.link.state awaited ∙ hello_notices v.link.state (next_frame v.link.state frame) (hello_of Initiator frame) ∙ h.link.told in
-        subst (λ (x : ResponderSide). TakesFrame opened k (behind so_far frame) (next_frame v.link.state frame) v x) (sym (handled.none notices))
+        let deliveries : (with_frame v.link.state v.link.awaited frame).receive_queue.deliveries ≡ [] =
+        same_hello v.link.awaited v.link.state awaited ∙ hello_deliveries v.link.state (next_frame v.link.state frame) (hello_of Initiator frame) ∙ h.link.told in
+        subst (λ (x : ResponderSide). TakesFrame opened k (behind so_far frame) (next_frame v.link.state frame) v x) (sym (handled.none deliveries))
         (hello_takes opened k so_far v frame h place awaited none long lives)
     by (AfterHello place awaited hello) =
         let lives_on : (with_frame v.link.state Fpdu frame).ended ≡ None = subst (λ (a : Awaited). (with_frame v.link.state a frame).ended ≡ None) awaited lives in

@@ -112,9 +112,9 @@ part_takes opened k input v frame w queue_number msn offset payload h behind_hel
     let at = goes_on_lem opened k f (no_effect k) later (lives_on_lem opened k input v frame h behind_hello some lives) effect refl in
     let state : with_effect k f (no_effect k) ≡ with_received (send_continued k.received false payload) k = quiet k f false OPCODE_SEND w queue_number msn offset payload is (closed_if_over (is_over k.calls k.reads) k.regions h.server.closed) in
     let next : next_end_state (server_rules opened) (live k) (FrameReceived f) ≡ live (with_received (send_continued k.received false payload) k) = at.next ∙ ap (λ (t : ServerState). live t) state in
-    let link : with_frame s Fpdu frame ≡ send_framed s frame (received_within s.receive_queue.receive_length (send_continued s.receive_queue.received false payload)) (cond (not (is_begun s.receive_queue.received.begun)) (s.receive_queue.free - 1) s.receive_queue.free) s.receive_queue.lent (s.receive_queue.notices ++ []) =
+    let link : with_frame s Fpdu frame ≡ send_framed s frame (received_within s.receive_queue.receive_length (send_continued s.receive_queue.received false payload)) (cond (not (is_begun s.receive_queue.received.begun)) (s.receive_queue.free - 1) s.receive_queue.free) s.receive_queue.lent (s.receive_queue.deliveries ++ []) =
     both.1 ∙ part_framed s frame w queue_number msn offset payload in
-    let after : LinkState = send_framed s frame (received_within s.receive_queue.receive_length (send_continued s.receive_queue.received false payload)) (cond (not (is_begun s.receive_queue.received.begun)) (s.receive_queue.free - 1) s.receive_queue.free) s.receive_queue.lent (s.receive_queue.notices ++ []) in
+    let after : LinkState = send_framed s frame (received_within s.receive_queue.receive_length (send_continued s.receive_queue.received false payload)) (cond (not (is_begun s.receive_queue.received.begun)) (s.receive_queue.free - 1) s.receive_queue.free) s.receive_queue.lent (s.receive_queue.deliveries ++ []) in
     let keeps : Keeps opened (with_received (send_continued k.received false payload) k) (behind input frame) (on_link v (record { awaited = Fpdu; rest = []; state = after })) =
     record {
       link = part_keeps opened k s frame payload h.link h.server fine.receive;
@@ -165,8 +165,8 @@ told_framed opened k s frame w queue_number msn offset payload h is =
     let received : ReceiveState = record { sends = s.receive_queue.received.sends + 1; begun = None; requests = s.receive_queue.received.requests } in
     let free : ℕ = cond (not (is_begun s.receive_queue.received.begun)) (s.receive_queue.free - 1) s.receive_queue.free in
     ap (λ (t : LinkState). record t { receive_queue = delivered t.receive_queue }) (is ∙ last_framed s frame w queue_number msn offset payload)
-    ∙ ap (λ (notices : List DeliveredEvent). record (send_framed s frame received free s.receive_queue.lent notices) { receive_queue = delivered (record { receives = s.receive_queue.receives; receive_length = s.receive_queue.receive_length; received = received; free = free; lent = s.receive_queue.lent; notices = notices }) })
-    (ap (λ (notices : List DeliveredEvent). notices ++ MessageReceived (s.receive_queue.received.sends + 1) None (whole_message s payload) ∷ []) h.told)
+    ∙ ap (λ (deliveries : List DeliveredEvent). record (send_framed s frame received free s.receive_queue.lent deliveries) { receive_queue = delivered (record { receives = s.receive_queue.receives; receive_length = s.receive_queue.receive_length; received = received; free = free; lent = s.receive_queue.lent; deliveries = deliveries }) })
+    (ap (λ (deliveries : List DeliveredEvent). deliveries ++ MessageReceived (s.receive_queue.received.sends + 1) None (whole_message s payload) ∷ []) h.told)
 
 pub ready_takes : (opened : LinkParameters) (k : ServerState) (input : InputState) (v : ResponderSide) (frame : List ℕ) (w queue_number msn offset : ℕ) (payload : List ℕ)
     (xid : ℕ) (write : List (List RdmaSegment)) (reply : Option (List RdmaSegment)) (stream : List ℕ) (head : CallHead) → Keeps opened k input v → 0 < v.link.state.place → 0 < length frame →

@@ -122,7 +122,7 @@ pub record LinkKeeps (opened : LinkParameters) (k : ServerState) (s : LinkState)
   pub message_max : s.message_max ≡ send_max
   pub free : s.receive_queue.free + (unsent s + length k.calls + one_if (is_begun k.received.begun)) ≡ opened.granted
   pub lent : s.receive_queue.lent ≡ length k.calls + unsent s
-  pub told : s.receive_queue.notices ≡ []
+  pub told : s.receive_queue.deliveries ≡ []
   pub reads : s.reads ≡ open_responses k.response_bytes (open_reads k)
   pub memory : HoldsRegions k.regions k.accesses_received s.place s.memory
   pub next : s.memory.next ≡ next_stag k

@@ -260,7 +260,7 @@ impl ServerEnd {
         ensures some { 0 < length piece.now → 0 < result }
         ensures goes { Fed (state_of self.old) (take result piece.now) (state_of self.new) }
         ensures first { Fed (state_of self.old) (take (bytes_taken self.old.endpoint.link.awaited self.old.endpoint.link.rest piece.now) piece.now) (state_of self.new) }
-        ensures staging { self.old.endpoint.link.state.receive_queue.notices ≡ [] → KeepsStaging (with_staging self.old) (with_staging self.new) piece.now }
+        ensures staging { self.old.endpoint.link.state.receive_queue.deliveries ≡ [] → KeepsStaging (with_staging self.old) (with_staging self.new) piece.now }
         ensures outside { self.new.endpoint.outside ≡ self.old.endpoint.outside }
         ensures rest { (self.new.endpoint.link.rest ≡ []) ⊎ (result ≡ length piece.now) }
         ensures sound { IsSound self.new }

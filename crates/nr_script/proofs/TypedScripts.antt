@@ -13,12 +13,12 @@ use Rattle.nr_nfs_base.specs.Procedures.{nfs_program, nfs_version, mount_program
 use Rattle.nr_rpc.specs.declared.cred.Cred.TheVariants as creds
 use Rattle.nr_reduce.specs.declared.call.Form.TheVariants as forms
 use Rattle.nr_reduce.specs.declared.call.Offer.{Offer}
-use Rattle.nr_reduce.specs.Limits.{most_credits}
+use Rattle.nr_reduce.specs.Limits.{credits_max}
 use Rattle.nr_script.specs.declared.script.Opening.{Opening}
 use Rattle.nr_script.specs.declared.script.Line.{Line}
 use Rattle.nr_script.specs.declared.script.Line.TheVariants as lines
 use Rattle.nr_script.specs.declared.program.Program.{Program}
-use Rattle.nr_script.specs.Limits.{most_clients, most_number, most_capacity, script_max}
+use Rattle.nr_script.specs.Limits.{clients_max, number_max, capacity_max, script_max}
 use Rattle.nr_script.specs.Words.{◌>>=◌, is_numeral, numeral_value, number_within, number_in, decoded, bytes_in, arguments_in, parts}
 use Rattle.nr_script.specs.Forms.{OfferPart, semicolon, equals, at_sign, dot, lengths_in, write_lengths_in, position_by, read_part, write_part, reply_part, named_part, part_by, part_in, nothing_offered, with_part, offer_by, offer_in, given, given_form, form_in, numbered_program, program_in}
 use Rattle.nr_script.specs.Forms.OfferPart.{Read, Write, Reply}
@@ -63,9 +63,9 @@ abbrev IsSmall : ℕ → Type 0
 IsSmall n = n < 2 ^ 32
 
 small_if : (word : List ℕ) → If IsSmall (number_in word)
-small_if word = by (number_in word) (within_if 0 most_number word)
+small_if word = by (number_in word) (within_if 0 number_max word)
   where
-    by : (o : Option ℕ) → If (λ n. (0 ≤ n) × (n ≤ most_number)) o → If IsSmall o
+    by : (o : Option ℕ) → If (λ n. (0 ≤ n) × (n ≤ number_max)) o → If IsSmall o
     by None h = tt
     by (Some n) h = (let le = h.1 in omega (arith, le))
 
@@ -274,31 +274,31 @@ line_if (name ∷ others) = named_line name others
 
 record OpeningIsRight (o : Opening) : Type 0 where
   some_clients : 1 ≤ o.clients
-  few_clients : o.clients ≤ most_clients
+  few_clients : o.clients ≤ clients_max
   some_credits : 1 ≤ o.credits
-  few_credits : o.credits ≤ most_credits
-  capacity : o.capacity ≤ most_capacity
+  few_credits : o.credits ≤ credits_max
+  capacity : o.capacity ≤ capacity_max
 
 abbrev CapacityFits : ℕ → Type 0
-CapacityFits n = n ≤ most_capacity
+CapacityFits n = n ≤ capacity_max
 
 capacity_if : (words : List (List ℕ)) → If CapacityFits (capacity_in words)
 capacity_if [] = omega arith
 capacity_if (name ∷ []) = tt
 capacity_if (name ∷ bytes ∷ []) =
-    if_if CapacityFits (bytes_eq name (codes "capacity")) (number_within 0 most_capacity bytes) None (by (number_within 0 most_capacity bytes) (within_if 0 most_capacity bytes)) tt
+    if_if CapacityFits (bytes_eq name (codes "capacity")) (number_within 0 capacity_max bytes) None (by (number_within 0 capacity_max bytes) (within_if 0 capacity_max bytes)) tt
   where
-    by : (o : Option ℕ) → If (λ n. (0 ≤ n) × (n ≤ most_capacity)) o → If CapacityFits o
+    by : (o : Option ℕ) → If (λ n. (0 ≤ n) × (n ≤ capacity_max)) o → If CapacityFits o
     by None h = tt
     by (Some n) h = h.1
 capacity_if (name ∷ bytes ∷ more ∷ others) = tt
 
 opening_of_if : (clients credits : List ℕ) (others : List (List ℕ)) → If OpeningIsRight (opening_of clients credits others)
 opening_of_if clients credits others =
-    then_if (λ n. (1 ≤ n) × (n ≤ most_clients)) OpeningIsRight (number_within 1 most_clients clients)
-    (λ n. number_within 1 most_credits credits >>= λ g. capacity_in others >>= λ b. Some (record { clients = n; credits = g; capacity = b })) (within_if 1 most_clients clients)
-    (λ n h. then_if (λ g. (1 ≤ g) × (g ≤ most_credits)) OpeningIsRight (number_within 1 most_credits credits)
-    (λ g. capacity_in others >>= λ b. Some (record { clients = n; credits = g; capacity = b })) (within_if 1 most_credits credits)
+    then_if (λ n. (1 ≤ n) × (n ≤ clients_max)) OpeningIsRight (number_within 1 clients_max clients)
+    (λ n. number_within 1 credits_max credits >>= λ g. capacity_in others >>= λ b. Some (record { clients = n; credits = g; capacity = b })) (within_if 1 clients_max clients)
+    (λ n h. then_if (λ g. (1 ≤ g) × (g ≤ credits_max)) OpeningIsRight (number_within 1 credits_max credits)
+    (λ g. capacity_in others >>= λ b. Some (record { clients = n; credits = g; capacity = b })) (within_if 1 credits_max credits)
     (λ g k. then_if CapacityFits OpeningIsRight (capacity_in others) (λ b. Some (record { clients = n; credits = g; capacity = b })) (capacity_if others)
     (λ b f. record { some_clients = h.0; few_clients = h.1; some_credits = k.0; few_credits = k.1; capacity = f })))
 
@@ -325,10 +325,10 @@ all_more P (l ∷ all) line h p = (h.0, all_more P all line h.1 p)
 -- a script that is being read, but for its number of lines
 record IsRead (script : ScriptLines) : Type 0 where
   some_clients : 1 ≤ script.opening.clients
-  few_clients : script.opening.clients ≤ most_clients
+  few_clients : script.opening.clients ≤ clients_max
   some_credits : 1 ≤ script.opening.credits
-  few_credits : script.opening.credits ≤ most_credits
-  capacity : script.opening.capacity ≤ most_capacity
+  few_credits : script.opening.credits ≤ credits_max
+  capacity : script.opening.capacity ≤ capacity_max
   follow_on : FollowOn script.opening [] script.lines
   creds : AllByRecursion HasWritableCred script.lines
   typed : AllByRecursion IsTypedLine script.lines
@@ -381,7 +381,7 @@ text_if read text h =
     (if_if IfScript (is_skipped text) (Some read) (if_read (with_words read (parts space text))) h (read_it (with_words read (parts space text)) (words_if read (parts space text) h))) tt
 
 -- the first line names few clients
-pub opened_clients : (line : List ℕ) (opening : Opening) → with_text None line ≡ Some (Some (opened opening)) → opening.clients ≤ most_clients
+pub opened_clients : (line : List ℕ) (opening : Opening) → with_text None line ≡ Some (Some (opened opening)) → opening.clients ≤ clients_max
 opened_clients line opening e = (subst (λ (o : Option (Option ScriptLines)). If IfScript o) e (text_if None line tt)).few_clients
 
 abbrev OkScript : Result ScriptLines ℕ → Type 0

@@ -5,13 +5,13 @@ use Rattle.nr_rpc.specs.declared.cred.Cred.{Cred}
 use Rattle.nr_rpc.specs.declared.cred.Cred.TheVariants as creds
 use Rattle.nr_wire.specs.declared.hello.Side.{Side}
 use Rattle.nr_wire.specs.declared.hello.Side.TheVariants.{Initiator, Responder}
-use Rattle.nr_reduce.specs.Limits.{most_credits}
+use Rattle.nr_reduce.specs.Limits.{credits_max}
 use Rattle.nr_script.specs.declared.script.Opening.{Opening}
 use Rattle.nr_script.specs.declared.script.Line.{Line}
 use Rattle.nr_script.specs.declared.script.Line.TheVariants as lines
 use Rattle.nr_reduce.specs.declared.call.Form.{Form}
 use Rattle.nr_script.specs.declared.program.Program.{Program}
-use Rattle.nr_script.specs.Limits.{most_clients, default_capacity, most_capacity}
+use Rattle.nr_script.specs.Limits.{clients_max, default_capacity, capacity_max}
 use Rattle.nr_script.specs.Words.{◌>>=◌, number_within, number_in, bytes_in, arguments_in}
 use Rattle.nr_script.specs.Forms.{form_in, program_in}
 
@@ -20,13 +20,13 @@ use Rattle.nr_script.specs.Forms.{form_in, program_in}
 -- `clients N credits G`, and then ` capacity B` if it is given: its number of bytes, or the default
 abbrev pub capacity_in : List (List ℕ) → Option ℕ
 capacity_in [] = Some default_capacity
-capacity_in (name ∷ bytes ∷ []) = if bytes_eq name (codes "capacity") then number_within 0 most_capacity bytes else None
+capacity_in (name ∷ bytes ∷ []) = if bytes_eq name (codes "capacity") then number_within 0 capacity_max bytes else None
 capacity_in words = None
 
 abbrev pub opening_of : List ℕ → List ℕ → List (List ℕ) → Option Opening
 opening_of clients credits others = do
-  n ← number_within 1 most_clients clients
-  g ← number_within 1 most_credits credits
+  n ← number_within 1 clients_max clients
+  g ← number_within 1 credits_max credits
   b ← capacity_in others
   Some (record { clients = n; credits = g; capacity = b })
 

@@ -13,8 +13,8 @@ use Rattle.nr_script.specs.declared.script.Line.{Line}
 use Rattle.nr_script.specs.declared.script.Line.TheVariants as lines
 use Rattle.nr_script.specs.declared.script.ScriptFault.{ScriptFault}
 use Rattle.nr_script.specs.declared.script.ScriptFault.TheVariants as faults
-use Rattle.nr_reduce.specs.Limits.{most_credits}
-use Rattle.nr_script.specs.Limits.{most_clients, most_capacity, most_number, most_lines}
+use Rattle.nr_reduce.specs.Limits.{credits_max}
+use Rattle.nr_script.specs.Limits.{clients_max, capacity_max, number_max, most_lines}
 use Rattle.nr_script.specs.Words.{parts}
 use Rattle.nr_script.specs.Lines.{opening_in, line_in}
 
@@ -55,7 +55,7 @@ may_follow opening before (lines.Call client form prog vers proc args) = is_clie
 may_follow opening before (lines.Up client most) = is_client opening client
 may_follow opening before (lines.Down client most) = is_client opening client
 may_follow opening before (lines.Work client) = is_client opening client
-may_follow opening before (lines.Tick seconds) = nat_le (seconds_after before + seconds) most_number
+may_follow opening before (lines.Tick seconds) = nat_le (seconds_after before + seconds) number_max
 may_follow opening before (lines.Forget client number) = is_client opening client && is_call_line client number before
 may_follow opening before (lines.Revoke client number) = is_client opening client && is_call_line client number before
 may_follow opening before (lines.Drop client) = is_client opening client
@@ -164,10 +164,10 @@ IsTypedLine line = Unit {0}
 -- credentials can be encoded.
 pub record IsScript (script : ScriptLines) : Type 0 where
   pub some_clients : 1 ≤ script.opening.clients
-  pub few_clients : script.opening.clients ≤ most_clients
+  pub few_clients : script.opening.clients ≤ clients_max
   pub some_credits : 1 ≤ script.opening.credits
-  pub few_credits : script.opening.credits ≤ most_credits
-  pub capacity : script.opening.capacity ≤ most_capacity
+  pub few_credits : script.opening.credits ≤ credits_max
+  pub capacity : script.opening.capacity ≤ capacity_max
   pub few_lines : length script.lines ≤ most_lines
   pub follow_on : FollowOn script.opening [] script.lines
   pub creds : AllByRecursion HasWritableCred script.lines

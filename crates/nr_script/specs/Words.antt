@@ -4,7 +4,7 @@ use Rattle.std.specs.List.{list_all, slice_split}
 use Rattle.std.specs.Str.{bytes_eq}
 use Rattle.std.specs.Str.Parse.{digits_value}
 use Rattle.hex.specs.Hex.{decode_of}
-use Rattle.nr_script.specs.Limits.{most_number}
+use Rattle.nr_script.specs.Limits.{number_max}
 
 -- what follows from a value, if one is read
 infixl 10 ◌>>=◌
@@ -50,7 +50,7 @@ number_within low high word =
 
 -- a number of 32 bits
 abbrev pub number_in : List ℕ → Option ℕ
-number_in word = number_within 0 most_number word
+number_in word = number_within 0 number_max word
 
 -- one byte or more, in hexadecimal of either case
 abbrev pub decoded : {E : Type 0} → Result (List ℕ) E → Option (List ℕ)

@@ -1,12 +1,12 @@
 //! A script that is being read.
 
 ghost use Rattle.std.specs.Prelude.{ℕ, ◌≡◌, ◌≤◌, ◌<◌, ◌+◌, ◌^◌, ◌&&◌, ◌∷◌, ◌++◌, [], nat_le, true, length, slice_index, OnOk};
-ghost use Rattle.nr_script.specs.Limits.{most_clients, most_number};
+ghost use Rattle.nr_script.specs.Limits.{clients_max, number_max};
 ghost use Rattle.nr_script.specs.private.Counts.{caller, CountsAre, counted};
 ghost use Rattle.nr_script.specs.Script.{IsScript, is_call_line, is_client, may_follow, seconds_after, seconds_in};
 
 use crate::script::{Line, Opening, Script};
-use crate::words::MOST_NUMBER;
+use crate::words::NUMBER_MAX;
 use nr_xdr::Memory;
 use std::alloc::Global;
 use std::marker::Model;
@@ -22,7 +22,7 @@ pub(crate) struct Draft {
 
 impl Model for Draft {
     ghost use Rattle.std.specs.Prelude.{◌≡◌, ◌≤◌};
-    ghost use Rattle.nr_script.specs.Limits.{most_clients};
+    ghost use Rattle.nr_script.specs.Limits.{clients_max};
     ghost use Rattle.nr_script.specs.private.Counts.{CountsAre};
     ghost use Rattle.nr_script.specs.Script.{ScriptLines, seconds_after};
 
@@ -30,7 +30,7 @@ impl Model for Draft {
 
     ghost view = { λ s. record { opening = s.opening; lines = s.lines.items } };
 
-    ghost invariant = { λ s. (s.opening.clients ≤ most_clients) × CountsAre s.calls s.lines.items × (s.seconds ≡ seconds_after s.lines.items) };
+    ghost invariant = { λ s. (s.opening.clients ≤ clients_max) × CountsAre s.calls s.lines.items × (s.seconds ≡ seconds_after s.lines.items) };
 }
 
 /// The client of a call line, and 0 of any other line.
@@ -67,7 +67,7 @@ fn count_call(calls: &mut [u64], client: u32)
 impl Draft {
     /// After the first line.
     pub(crate) fn new(alloc: Global, opening: Opening) -> Draft
-        requires { opening.clients ≤ most_clients }
+        requires { opening.clients ≤ clients_max }
         ensures { result ≡ record { opening = opening; lines = [] } }
     {
         Draft {
@@ -95,9 +95,9 @@ impl Draft {
     }
 
     fn may_tick(&self, seconds: u32) -> bool
-        ensures { result ≡ nat_le (seconds_after self.now.lines + seconds) most_number }
+        ensures { result ≡ nat_le (seconds_after self.now.lines + seconds) number_max }
     {
-        u64::from(self.seconds) + u64::from(seconds) <= u64::from(MOST_NUMBER)
+        u64::from(self.seconds) + u64::from(seconds) <= u64::from(NUMBER_MAX)
     }
 
     /// Whether a line may follow those so far.

@@ -3,7 +3,7 @@
 ghost use Rattle.std.specs.Prelude.{ℕ, ◌≡◌, ◌<◌, ◌≤◌, ◌^◌, ◌∷◌, ◌++◌, [], IfOk, OnOk};
 ghost use Rattle.nr_xdr.specs.Item.Item.{Opaque};
 ghost use Rattle.nr_xdr.specs.Item.{encoding, hyper};
-ghost use Rattle.nr_script.specs.Limits.{most_calls, most_clients};
+ghost use Rattle.nr_script.specs.Limits.{calls_max, clients_max};
 ghost use Rattle.nr_script.specs.Generator.{after_args, after_drawn_turn, after_move, after_turn, args_drawn, below, drawn_turn, file_args, drawn_lines, made_script, move_lines, next, proc_drawn, read_args, readdir_args, turn_lines, write_args, write_head, written_bytes};
 
 use crate::lines::DEFAULT_CAPACITY;
@@ -13,7 +13,7 @@ use nr_xdr::{Memory, Octets, Writer};
 use std::alloc::Global;
 
 /// The most calls of a script that is made from a seed.
-pub const MOST_CALLS: u64 = 1_000_000;
+pub const CALLS_MAX: u64 = 1_000_000;
 
 // What the numbers that are drawn stay below (offsets, counts, the bytes of a move), and the count of a READDIR.
 
@@ -215,7 +215,7 @@ fn push_turn(
 
 /// Adds a drawn turn, and gives the state after its draws.
 fn push_drawn(alloc: Global, lines: &mut Vec<Line>, clients: u32, state: u64) -> Result<u64, Memory>
-    requires { (0 < clients) × (clients ≤ most_clients) }
+    requires { (0 < clients) × (clients ≤ clients_max) }
     ensures state { IfOk result (λ after. after ≡ after_drawn_turn state) }
     ensures lines { OnOk result (lines.new.items ≡ lines.old.items ++ drawn_turn clients state) }
 {
@@ -234,7 +234,7 @@ fn push_all(
     clients: u32,
     calls: u64,
 ) -> Result<(), Memory>
-    requires { (0 < clients) × (clients ≤ most_clients) }
+    requires { (0 < clients) × (clients ≤ clients_max) }
     ensures { OnOk result (lines.new.items ≡ lines.old.items ++ drawn_lines clients calls seed) }
 {
     let mut state = seed;
@@ -247,14 +247,14 @@ fn push_all(
 
 /// The script of a seed: `calls` calls of up to `clients` clients, each call followed by a move that is drawn too, and a drain
 /// in the end. The same numbers always give the same script. `clients` is from 1 to
-/// [`MOST_CLIENTS`](crate::MOST_CLIENTS), and `calls` is at most [`MOST_CALLS`](crate::MOST_CALLS).
+/// [`CLIENTS_MAX`](crate::CLIENTS_MAX), and `calls` is at most [`CALLS_MAX`](crate::CALLS_MAX).
 ///
 /// # Errors
 ///
 /// [`Memory`] if memory ran out.
 #[tactic(auto, unfolding(crate::specs::Generator::made_script))]
 pub fn make_script(alloc: Global, seed: u64, clients: u32, calls: u64) -> Result<Script, Memory>
-    requires { (0 < clients) × (clients ≤ most_clients) × (calls ≤ most_calls) }
+    requires { (0 < clients) × (clients ≤ clients_max) × (calls ≤ calls_max) }
     ensures { IfOk result (λ script. script ≡ made_script seed clients calls) }
 {
     let mut lines = Vec::new(alloc);

@@ -10,8 +10,8 @@ mod reading;
 mod script;
 mod words;
 
-pub use generator::{MOST_CALLS, make_script};
-pub use lines::{DEFAULT_CAPACITY, MOST_CAPACITY, MOST_CLIENTS, MOST_CREDITS};
+pub use generator::{CALLS_MAX, make_script};
+pub use lines::{DEFAULT_CAPACITY, CAPACITY_MAX, CLIENTS_MAX, CREDITS_MAX};
 pub use reading::{SCRIPT_MAX, read_script};
 pub use script::{Line, Opening, Script, ScriptFault};
-pub use words::{MOST_NUMBER, number_within};
+pub use words::{NUMBER_MAX, number_within};

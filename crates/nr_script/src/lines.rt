@@ -20,13 +20,13 @@ use std::alloc::Global;
 pub const DEFAULT_CAPACITY: u64 = 1_099_511_627_776;
 
 /// The maximum that a script may let the journal cost, in bytes.
-pub const MOST_CAPACITY: u64 = 9_223_372_036_854_775_807;
+pub const CAPACITY_MAX: u64 = 9_223_372_036_854_775_807;
 
 /// The maximum number of clients of a script.
-pub const MOST_CLIENTS: u32 = 16;
+pub const CLIENTS_MAX: u32 = 16;
 
 /// The maximum number of credits of a script.
-pub const MOST_CREDITS: u32 = 64;
+pub const CREDITS_MAX: u32 = 64;
 
 fn capacity_in(words: &[&[u8]]) -> Option<u64>
     ensures { result ≡ capacity_in (texts words.now) }
@@ -35,7 +35,7 @@ fn capacity_in(words: &[&[u8]]) -> Option<u64>
         [] => Some(DEFAULT_CAPACITY),
         [name, bytes] => {
             if is(name, b"capacity") {
-                number_within(0, MOST_CAPACITY, bytes)
+                number_within(0, CAPACITY_MAX, bytes)
             } else {
                 None
             }
@@ -57,8 +57,8 @@ fn count_in(most: u32, word: &[u8]) -> Option<u32>
 fn opening_of(clients: &[u8], credits: &[u8], others: &[&[u8]]) -> Option<Opening>
     ensures { result ≡ opening_of clients.now credits.now (texts others.now) }
 {
-    let clients = count_in(MOST_CLIENTS, clients)?;
-    let credits = count_in(MOST_CREDITS, credits)?;
+    let clients = count_in(CLIENTS_MAX, clients)?;
+    let credits = count_in(CREDITS_MAX, credits)?;
     let capacity = capacity_in(others)?;
     Some(Opening {
         clients,

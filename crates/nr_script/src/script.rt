@@ -1,7 +1,7 @@
 //! Scripts: what a drill has to do, as plain data.
 
 ghost use Rattle.std.specs.Prelude.{◌≡◌, ◌≤◌, List};
-ghost use Rattle.nr_script.specs.Limits.{most_clients};
+ghost use Rattle.nr_script.specs.Limits.{clients_max};
 ghost use Rattle.nr_script.specs.Script.{ScriptLines, IsScript};
 
 use nr_reduce::Form;

@@ -4,7 +4,7 @@ ghost use Rattle.std.specs.Prelude.{◌≡◌, ℕ, ◌<◌, ◌≤◌, ◌∷�
 ghost use Rattle.std.specs.List.{list_all, position};
 ghost use Rattle.std.specs.Str.{bytes_eq};
 ghost use Rattle.nr_script.specs.private.Pieces.{texts, parts_left, pair_of};
-ghost use Rattle.nr_script.specs.Limits.{most_number};
+ghost use Rattle.nr_script.specs.Limits.{number_max};
 ghost use Rattle.nr_script.specs.Words.{parts, is_digit, is_numeral, numeral_value, number_within, number_in, bytes_in, arguments_in};
 
 use hex::FromHexError;
@@ -12,7 +12,7 @@ use nr_xdr::{Memory, Octets};
 use std::alloc::Global;
 
 /// The maximum of a number of a script, if it isn't said otherwise.
-pub const MOST_NUMBER: u32 = 4_294_967_295;
+pub const NUMBER_MAX: u32 = 4_294_967_295;
 
 /// Whether a word is this name.
 pub(crate) fn is(word: &[u8], name: &[u8]) -> bool
@@ -115,7 +115,7 @@ pub fn number_within(low: u64, high: u64, word: &[u8]) -> Option<u64>
 pub(crate) fn number_in(word: &[u8]) -> Option<u32>
     ensures { result ≡ number_in word.now }
 {
-    match number_within(0, u64::from(MOST_NUMBER), word) {
+    match number_within(0, u64::from(NUMBER_MAX), word) {
         Some(value) => Some(value as u32),
         None => None,
     }

@@ -11,12 +11,12 @@ use Rattle.nr_tree.specs.Changes.{node_with_entry, node_with_link, tree_with_nod
 use Rattle.nr_tree.specs.Steps.{IsFree, IsNew}
 use Rattle.nr_tree.specs.declared.node.Node.{Node}
 use Rattle.nr_tree.proofs.Lists.{set_here_lem, set_other, set_same}
-use Rattle.nr_tree.proofs.SkeletonChanges.{skeleton_of-node_with_entry, skeleton_of-node_with_link, skeleton_of-new, new_entry, value_at_at}
+use Rattle.nr_tree.proofs.SkeletonChanges.{skeleton_of_node_with_entry, skeleton_of_node_with_link, skeleton_of_new, new_entry, value_at_at}
 use Rattle.nr_tree.proofs.Paths.{differ, none_below}
-use Rattle.nr_tree.proofs.EntryAdded.{sound-entry_added}
-use Rattle.nr_tree.proofs.NodeAdded.{sound-node_added, not_dir}
-use Rattle.nr_tree.proofs.LinkDropped.{sound-link_added}
-use Rattle.nr_tree.proofs.Files.{parent-free}
+use Rattle.nr_tree.proofs.EntryAdded.{sound_entry_added}
+use Rattle.nr_tree.proofs.NodeAdded.{sound_node_added, not_dir}
+use Rattle.nr_tree.proofs.LinkDropped.{sound_link_added}
+use Rattle.nr_tree.proofs.Files.{parent_free}
 use Rattle.nr_tree.proofs.Contents.{Fit, fit_insert, fit_with_change, fit_node_with_entry, directory_at, node_at, Named}
 
 abbrev Nodes : Type 0
@@ -37,27 +37,27 @@ module _ (next : ℕ) (nodes : Nodes) (h d : ℕ) (now : Time) (name : List ℕ)
   add_entry_to is kind room apart =
       let v : (v : Node) × (get nodes d ≡ Some v) × (is_dir v ≡ true) = directory_at nodes d is in
       let e : Entry = new_entry v.0 name h in
-      let put : IsConsistent (entry_added s d e) None = sound-entry_added s d e sound is (λ t. room (kind ∙ t)) (λ t. apart (kind ∙ t)) in
+      let put : IsConsistent (entry_added s d e) None = sound_entry_added s d e sound is (λ t. room (kind ∙ t)) (λ t. apart (kind ∙ t)) in
       let path : record (skeleton_of next after) { parent = set h d (skeleton_of next after).parent } ≡ entry_added s d e =
-      ap (λ (k : DirectoryGraph). record k { parent = set h d k.parent }) (skeleton_of-node_with_entry next nodes d v.0 now name h b v.1 v.2)
+      ap (λ (k : DirectoryGraph). record k { parent = set h d k.parent }) (skeleton_of_node_with_entry next nodes d v.0 now name h b v.1 v.2)
       ∙ ap (λ (c : Bool). record s { entries = set d (s.entries d ++ e ∷ []) s.entries; parent = set h d s.parent; links = set d (s.links d + one_if c) s.links }) kind in
       subst (λ (k : DirectoryGraph). IsConsistent k None) (sym path) put
 
-  pub add_entry_to-fit : s.dir d ≡ true → IsFree s d name → Fit after
-  add_entry_to-fit is free =
+  pub add_entry_to_fit : s.dir d ≡ true → IsFree s d name → Fit after
+  add_entry_to_fit is free =
       let v : (v : Node) × (get nodes d ≡ Some v) × (is_dir v ≡ true) = directory_at nodes d is in
       let none : entry_of_name name (entries_in v.0) ≡ None = ap (entry_of_name name) (sym (value_at_at entries_in [] nodes d v.0 v.1)) ∙ free.free in
       fit_with_change nodes d v.0 (node_with_entry now name h b) v.1 fit (λ f. fit_node_with_entry now name h b v.0 v.0.content refl f none free.not_empty free.not_too_long)
 
-  pub add_entry_to-live : s.dir d ≡ true → (skeleton_of next after).live ≡ s.live
-  add_entry_to-live is =
+  pub add_entry_to_live : s.dir d ≡ true → (skeleton_of next after).live ≡ s.live
+  add_entry_to_live is =
       let v : (v : Node) × (get nodes d ≡ Some v) × (is_dir v ≡ true) = directory_at nodes d is in
-      ap (λ (k : DirectoryGraph). k.live) (skeleton_of-node_with_entry next nodes d v.0 now name h b v.1 v.2)
+      ap (λ (k : DirectoryGraph). k.live) (skeleton_of_node_with_entry next nodes d v.0 now name h b v.1 v.2)
 
-  pub add_entry_to-parent : s.dir d ≡ true → s.parent h ≡ d → set h d (skeleton_of next after).parent ≡ (skeleton_of next after).parent
-  add_entry_to-parent is at =
+  pub add_entry_to_parent : s.dir d ≡ true → s.parent h ≡ d → set h d (skeleton_of next after).parent ≡ (skeleton_of next after).parent
+  add_entry_to_parent is at =
       let v : (v : Node) × (get nodes d ≡ Some v) × (is_dir v ≡ true) = directory_at nodes d is in
-      set_same h d (skeleton_of next after).parent (ap (λ (k : DirectoryGraph). k.parent h) (skeleton_of-node_with_entry next nodes d v.0 now name h b v.1 v.2) ∙ at)
+      set_same h d (skeleton_of next after).parent (ap (λ (k : DirectoryGraph). k.parent h) (skeleton_of_node_with_entry next nodes d v.0 now name h b v.1 v.2) ∙ at)
 
 -- ===== CREATE, MKDIR, SYMLINK, MKNOD
 
@@ -67,8 +67,8 @@ sane_tree_with_node t now d name node sane is free new room =
     let s : DirectoryGraph = skeleton t in
     let nodes : Nodes = insert t.nodes t.next node in
     let S : DirectoryGraph = skeleton_of (t.next + 1) nodes in
-    let way : S ≡ node_added s (is_dir node) node.parent = skeleton_of-new t.next t.nodes node new.empty new.links in
-    let sound : IsConsistent S (Some t.next) = subst (λ (k : DirectoryGraph). IsConsistent k (Some t.next)) (sym way) (sound-node_added s (is_dir node) node.parent sane.skeleton) in
+    let way : S ≡ node_added s (is_dir node) node.parent = skeleton_of_new t.next t.nodes node new.empty new.links in
+    let sound : IsConsistent S (Some t.next) = subst (λ (k : DirectoryGraph). IsConsistent k (Some t.next)) (sym way) (sound_node_added s (is_dir node) node.parent sane.skeleton) in
     let fit : Fit nodes = fit_insert t.nodes t.next node sane.contents new.fit in
     let ne : d ≡ t.next → ⊥ = differ s.dir d t.next is (not_dir s (is_dir node) node.parent sane.skeleton) in
     let dir : S.dir d ≡ true = ap (λ (k : DirectoryGraph). k.dir d) way ∙ set_other t.next (is_dir node) s.dir d ne ∙ is in
@@ -81,9 +81,9 @@ sane_tree_with_node t now d name node sane is free new room =
     let put : IsConsistent (record (skeleton_of (t.next + 1) (tree_with_node t now d name node).nodes) { parent = set t.next d (skeleton_of (t.next + 1) (tree_with_node t now d name node).nodes).parent }) None =
     add_entry_to (t.next + 1) nodes t.next d now name (is_dir node) sound fit dir kind (λ b. let less : s.links d < links_max = room b in omega (arith, links, less)) (λ b below. none_below S t.next d sound bare ne below) in
     record {
-      contents = add_entry_to-fit (t.next + 1) nodes t.next d now name (is_dir node) sound fit dir ok;
+      contents = add_entry_to_fit (t.next + 1) nodes t.next d now name (is_dir node) sound fit dir ok;
       skeleton = subst (λ (f : ℕ → ℕ). IsConsistent (record (skeleton_of (t.next + 1) (tree_with_node t now d name node).nodes) { parent = f }) None)
-          (add_entry_to-parent (t.next + 1) nodes t.next d now name (is_dir node) sound fit dir parent) put;
+          (add_entry_to_parent (t.next + 1) nodes t.next d now name (is_dir node) sound fit dir parent) put;
     }
 
 -- ===== LINK
@@ -95,9 +95,9 @@ sane_tree_with_link t now d name h sane is free live file room =
     let w : Named t.nodes h = node_at t.nodes h live in
     let nodes : Nodes = nodes_with_change t.nodes h (node_with_link now d) in
     let S : DirectoryGraph = skeleton_of t.next nodes in
-    let way : S ≡ record (link_added s h) { parent = set h d s.parent } = skeleton_of-node_with_link t.next t.nodes h w.0 now d w.1 in
+    let way : S ≡ record (link_added s h) { parent = set h d s.parent } = skeleton_of_node_with_link t.next t.nodes h w.0 now d w.1 in
     let fit : Fit nodes = fit_with_change t.nodes h w.0 (node_with_link now d) w.1 sane.contents (λ f. f) in
-    let lifted : IsConsistent (record (link_added s h) { parent = set h d s.parent }) (Some h) = parent-free (link_added s h) (Some h) h d (sound-link_added s h sane.skeleton live file room) file in
+    let lifted : IsConsistent (record (link_added s h) { parent = set h d s.parent }) (Some h) = parent_free (link_added s h) (Some h) h d (sound_link_added s h sane.skeleton live file room) file in
     let sound : IsConsistent S (Some h) = subst (λ (k : DirectoryGraph). IsConsistent k (Some h)) (sym way) lifted in
     let dir : S.dir d ≡ true = ap (λ (k : DirectoryGraph). k.dir d) way ∙ is in
     let kind : false ≡ S.dir h = sym (ap (λ (k : DirectoryGraph). k.dir h) way ∙ file) in
@@ -106,7 +106,7 @@ sane_tree_with_link t now d name h sane is free live file room =
     let put : IsConsistent (record (skeleton_of t.next (tree_with_link t now d name h).nodes) { parent = set h d (skeleton_of t.next (tree_with_link t now d name h).nodes).parent }) None =
     add_entry_to t.next nodes h d now name false sound fit dir kind (λ b. absurd cc) (λ b. absurd cc) in
     record {
-      contents = add_entry_to-fit t.next nodes h d now name false sound fit dir ok;
+      contents = add_entry_to_fit t.next nodes h d now name false sound fit dir ok;
       skeleton = subst (λ (f : ℕ → ℕ). IsConsistent (record (skeleton_of t.next (tree_with_link t now d name h).nodes) { parent = f }) None)
-          (add_entry_to-parent t.next nodes h d now name false sound fit dir parent) put;
+          (add_entry_to_parent t.next nodes h d now name false sound fit dir parent) put;
     }

@@ -11,8 +11,8 @@ module _ (s : DirectoryGraph) (d : ℕ) (e : Entry) (sound : IsConsistent s (Som
   abbrev put : DirectoryGraph
   put = entry_added s d e
 
-  pub name_count-entry_added : (n : ℕ) → name_count put n ≡ name_count s n + one_if (eqb e.number n)
-  name_count-entry_added n =
+  pub name_count_entry_added : (n : ℕ) → name_count put n ≡ name_count s n + one_if (eqb e.number n)
+  name_count_entry_added n =
       omega (arith, name_count_set s d (s.entries d ++ e ∷ []) n (dir_below s (Some e.number) d sound is), count_append (λ x. eqb x.number n) (s.entries d) e)
 
   old_parents : (q : ℕ) → (s.dir e.number ≡ true) ⊎ (s.dir e.number ≡ false) → Each (λ x. s.dir x.number ≡ true → set e.number d s.parent x.number ≡ q) (s.entries q)
@@ -60,18 +60,18 @@ module _ (s : DirectoryGraph) (d : ℕ) (e : Entry) (sound : IsConsistent s (Som
   links_at n live (inr f) other =
       let ne : n ≡ d → ⊥ = λ z. differ s.dir d n is f (sym z) in
       set_other d (s.links d + one_if (s.dir e.number)) s.links n ne ∙ sound.links n live ∙ cond-false (s.dir n) _ _ f
-      ∙ (let sums : name_count s n + detached_count (Some e.number) n ≡ name_count put n + 0 = omega (arith, name_count-entry_added n) in sums)
+      ∙ (let sums : name_count s n + detached_count (Some e.number) n ≡ name_count put n + 0 = omega (arith, name_count_entry_added n) in sums)
       ∙ sym (cond-false (s.dir n) (2 + subdirectory_count put n) (name_count put n + 0) f)
 
   room_for : (b : Bool) → s.dir e.number ≡ b → s.links d + one_if b ≤ links_max
   room_for true t = omega (arith, room t)
   room_for false f = omega (arith, sound.links_limit d (sound.dirs_live d is))
 
-  pub sound-entry_added : IsConsistent put None
-  sound-entry_added = record {
+  pub sound_entry_added : IsConsistent put None
+  sound_entry_added = record {
     root = sound.root;
     root_parent = set_other e.number d s.parent 1 (λ z. not_root s e.number sound (sym z)) ∙ sound.root_parent;
-    root_unnamed = omega (arith, name_count-entry_added 1, sound.root_unnamed);
+    root_unnamed = omega (arith, name_count_entry_added 1, sound.root_unnamed);
     numbers = sound.numbers;
     dirs_live = sound.dirs_live;
     dirs_alone = λ n f. set_all (λ es. es ≡ []) d (s.entries d ++ e ∷ []) s.entries n (λ z. absurd (differ s.dir d n is f (sym z))) (λ ne. sound.dirs_alone n f);
@@ -82,7 +82,7 @@ module _ (s : DirectoryGraph) (d : ℕ) (e : Entry) (sound : IsConsistent s (Som
         (λ z. subst (λ (k : ℕ). Each (λ x. s.dir x.number ≡ true → put.parent x.number ≡ k) (s.entries d ++ e ∷ [])) (sym z)
         (Each_append (λ x. s.dir x.number ≡ true → put.parent x.number ≡ d) (s.entries d) e (old_parents d (cases_Bool (s.dir e.number))) (λ dir. set_here_lem e.number d s.parent)))
         (λ ne. old_parents q (cases_Bool (s.dir e.number)));
-    once = λ n dir ne. omega (arith, name_count-entry_added n, sound.once n dir ne);
+    once = λ n dir ne. omega (arith, name_count_entry_added n, sound.once n dir ne);
     below = λ n dir. hangs n (sound.below n dir);
     links = λ n live. links_at n live (cases_Bool (s.dir n)) (cases_eq n d);
     links_limit = λ n live. set_all (λ l. l ≤ links_max) d (s.links d + one_if (s.dir e.number)) s.links n (λ z. room_for (s.dir e.number) refl) (λ ne. sound.links_limit n live);

@@ -20,8 +20,8 @@ module _ (s : DirectoryGraph) (d : ℕ) (name : List ℕ) (e : Entry) (sound : I
   pub live_found : s.live e.number ≡ true
   live_found = Each_found (λ x. s.live x.number ≡ true) name (s.entries d) e found (sound.names_live d)
 
-  pub name_count-entry_removed : (n : ℕ) → name_count left n + one_if (eqb e.number n) ≡ name_count s n
-  name_count-entry_removed n =
+  pub name_count_entry_removed : (n : ℕ) → name_count left n + one_if (eqb e.number n) ≡ name_count s n
+  name_count_entry_removed n =
       omega (arith, name_count_set s d (list_without name (s.entries d)) n (dir_below s None d sound has_entries), count_list_without (λ x. eqb x.number n) name (s.entries d) e found)
 
   step_up : (n p : ℕ) → (s.dir n ≡ true) × (n ≢ 1) × (s.parent n ≡ p) → (n ≡ e.number) ⊎ (n ≡ e.number → ⊥) → IsConnected left (Some e.number) p → IsConnected left (Some e.number) n
@@ -53,14 +53,14 @@ module _ (s : DirectoryGraph) (d : ℕ) (name : List ℕ) (e : Entry) (sound : I
   links_at n live (inr f) other =
       let ne : n ≡ d → ⊥ = λ z. differ s.dir d n has_entries f (sym z) in
       set_other d (s.links d - one_if (s.dir e.number)) s.links n ne ∙ sound.links n live ∙ cond-false (s.dir n) _ _ f
-      ∙ (let sums : name_count s n + detached_count None n ≡ name_count left n + detached_count (Some e.number) n = omega (arith, name_count-entry_removed n) in sums)
+      ∙ (let sums : name_count s n + detached_count None n ≡ name_count left n + detached_count (Some e.number) n = omega (arith, name_count_entry_removed n) in sums)
       ∙ sym (cond-false (s.dir n) (2 + subdirectory_count left n) (name_count left n + detached_count (Some e.number) n) f)
 
-  pub sound-entry_removed : IsConsistent left (Some e.number)
-  sound-entry_removed = record {
+  pub sound_entry_removed : IsConsistent left (Some e.number)
+  sound_entry_removed = record {
     root = sound.root;
     root_parent = sound.root_parent;
-    root_unnamed = omega (arith, name_count-entry_removed 1, sound.root_unnamed);
+    root_unnamed = omega (arith, name_count_entry_removed 1, sound.root_unnamed);
     numbers = sound.numbers;
     dirs_live = sound.dirs_live;
     dirs_alone = λ n f. set_all (λ es. es ≡ []) d (list_without name (s.entries d)) s.entries n (λ z. absurd (differ s.dir d n has_entries f (sym z))) (λ ne. sound.dirs_alone n f);
@@ -71,7 +71,7 @@ module _ (s : DirectoryGraph) (d : ℕ) (name : List ℕ) (e : Entry) (sound : I
         (λ z. subst (λ (k : ℕ). Each (λ x. s.dir x.number ≡ true → s.parent x.number ≡ k) (list_without name (s.entries d))) (sym z)
         (Each_list_without (λ x. s.dir x.number ≡ true → s.parent x.number ≡ d) name (s.entries d) (sound.parents d)))
         (λ ne. sound.parents q);
-    once = λ n dir ne. omega (arith, name_count-entry_removed n, sound.once n dir ne);
+    once = λ n dir ne. omega (arith, name_count_entry_removed n, sound.once n dir ne);
     below = λ n dir. hangs n (sound.below n dir);
     links = λ n live. links_at n live (cases_Bool (s.dir n)) (cases_eq n d);
     links_limit = λ n live. set_all (λ l. l ≤ links_max) d (s.links d - one_if (s.dir e.number)) s.links n (λ z. omega (arith, sound.links_limit d (sound.dirs_live d has_entries))) (λ ne. sound.links_limit n live);

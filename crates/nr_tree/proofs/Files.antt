@@ -15,8 +15,8 @@ module _ (s : DirectoryGraph) (unlinked : Option ℕ) (h d : ℕ) (sound : IsCon
   hangs n (inl p) = inl (p.0, IsPathUp_same s unlinked other unlinked steps n p.0 1 p.1)
   hangs n (inr p) = inr (p.0, p.1, p.2, (p.3.0, IsPathUp_same s unlinked other unlinked steps n p.3.0 p.0 p.3.1))
 
-  pub parent-free : IsConsistent other unlinked
-  parent-free = record {
+  pub parent_free : IsConsistent other unlinked
+  parent_free = record {
     root = sound.root;
     root_parent = set_other h d s.parent 1 (differ s.dir 1 h sound.root file) ∙ sound.root_parent;
     root_unnamed = sound.root_unnamed;

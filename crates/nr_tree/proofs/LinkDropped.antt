@@ -27,8 +27,8 @@ module _ (s : DirectoryGraph) (h : ℕ) (sound : IsConsistent s (Some h)) (file 
       let sums : name_count s n + detached_count (Some h) n ≡ name_count s n + 0 = omega (arith, unlinked) in
       set_other h (s.links h - 1) s.links n ne ∙ sound.links n live ∙ ap (λ (k : ℕ). cond (s.dir n) (2 + subdirectory_count s n) k) sums
 
-  pub sound-link_dropped : IsConsistent less None
-  sound-link_dropped = record {
+  pub sound_link_dropped : IsConsistent less None
+  sound_link_dropped = record {
     root = sound.root;
     root_parent = sound.root_parent;
     root_unnamed = omega (arith, sound.root_unnamed);
@@ -64,8 +64,8 @@ module _ (s : DirectoryGraph) (h : ℕ) (sound : IsConsistent s None) (live : s.
       let sums : name_count s n + 0 ≡ name_count s n + detached_count (Some h) n = omega (arith, detached_count_other h n (λ z. ne (sym z))) in
       set_other h (s.links h + 1) s.links n ne ∙ sound.links n at ∙ ap (λ (k : ℕ). cond (s.dir n) (2 + subdirectory_count s n) k) sums
 
-  pub sound-link_added : IsConsistent more (Some h)
-  sound-link_added = record {
+  pub sound_link_added : IsConsistent more (Some h)
+  sound_link_added = record {
     root = sound.root;
     root_parent = sound.root_parent;
     root_unnamed = omega (arith, sound.root_unnamed, detached_count_other h 1 (λ z. differ s.dir 1 h sound.root file (sym z)));
@@ -126,8 +126,8 @@ module _ (s : DirectoryGraph) (h : ℕ) (sound : IsConsistent s (Some h)) (alone
       set_other h 0 s.links n at.0 ∙ sound.links n at.1 ∙ (λ i. cond (s.dir n) (subs i) (sums i))
       ∙ ap (λ (b : Bool). cond b (2 + subdirectory_count gone n) (name_count gone n + 0)) (sym (set_other h false s.dir n at.0))
 
-  pub sound-node_removed : IsConsistent gone None
-  sound-node_removed = record {
+  pub sound_node_removed : IsConsistent gone None
+  sound_node_removed = record {
     root = set_other h false s.dir 1 (λ z. not_root s h sound (sym z)) ∙ sound.root;
     root_parent = set_other h 0 s.parent 1 (λ z. not_root s h sound (sym z)) ∙ sound.root_parent;
     root_unnamed = omega (arith, same_naming 1, sound.root_unnamed);

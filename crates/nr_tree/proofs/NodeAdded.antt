@@ -95,8 +95,8 @@ module _ (s : DirectoryGraph) (b : Bool) (p : ℕ) (sound : IsConsistent s None)
   numbers_at n t (inl z) = let root : 1 < s.next = dir_below s None 1 sound sound.root in (omega (arith, z, root), omega (arith, z))
   numbers_at n t (inr ne) = let old : (0 < n) × (n < s.next) = sound.numbers n (sym (set_other s.next true s.live n ne) ∙ t) in (old.0, omega (arith, old.1))
 
-  pub sound-node_added : IsConsistent more (Some s.next)
-  sound-node_added = record {
+  pub sound_node_added : IsConsistent more (Some s.next)
+  sound_node_added = record {
     root = set_other s.next b s.dir 1 root_old ∙ sound.root;
     root_parent = set_other s.next p s.parent 1 root_old ∙ sound.root_parent;
     root_unnamed = omega (arith, same_naming 1, sound.root_unnamed, detached_count_other s.next 1 (λ z. root_old (sym z)));

@@ -12,10 +12,10 @@ use Rattle.nr_tree.specs.Sane.{IsSane, skeleton_of, skeleton}
 use Rattle.nr_tree.specs.Changes.{node_without_entry, node_without_link, tree_without_entry, nodes_with_name_dropped, entry_at}
 use Rattle.nr_tree.specs.declared.node.Node.{Node}
 use Rattle.nr_tree.proofs.Lists.{set_here_lem, set_other, set_all}
-use Rattle.nr_tree.proofs.SkeletonChanges.{skeleton_of-node_without_entry, skeleton_of-node_without_link, skeleton_of-remove, value_at_at}
+use Rattle.nr_tree.proofs.SkeletonChanges.{skeleton_of_node_without_entry, skeleton_of_node_without_link, skeleton_of_remove, value_at_at}
 use Rattle.nr_tree.proofs.Paths.{detached_unnamed, detached_count_self}
-use Rattle.nr_tree.proofs.EntryRemoved.{sound-entry_removed, has_entries}
-use Rattle.nr_tree.proofs.LinkDropped.{sound-link_dropped, sound-node_removed}
+use Rattle.nr_tree.proofs.EntryRemoved.{sound_entry_removed, has_entries}
+use Rattle.nr_tree.proofs.LinkDropped.{sound_link_dropped, sound_node_removed}
 use Rattle.nr_tree.proofs.Contents.{Fit, fit_insert, fit_remove, fit_with_change, fit_node_without_entry, directory_at, node_at, Named}
 
 abbrev Nodes : Type 0
@@ -51,16 +51,16 @@ module _ (next : ℕ) (nodes : Nodes) (h : ℕ) (now : Time) (sound : IsConsiste
 
   removed_is : name_count s h ≡ 0 → IsLeft s h (skeleton_of next (remove nodes h))
   removed_is alone =
-      subst (λ (k : DirectoryGraph). IsLeft s h k) (sym (skeleton_of-remove next nodes h)) (record {
-        sound = sound-node_removed s h sound alone (no_entries (cases_Bool (s.dir h)));
+      subst (λ (k : DirectoryGraph). IsLeft s h k) (sym (skeleton_of_remove next nodes h)) (record {
+        sound = sound_node_removed s h sound alone (no_entries (cases_Bool (s.dir h)));
         other = λ q ne. (set_other h false s.live q ne, set_other h false s.dir q ne, set_other h [] s.entries q ne, set_other h 0 s.parent q ne, set_other h 0 s.links q ne);
         no_dir = set_here_lem h false s.dir;
       })
 
   kept_is : (w : Node) → get nodes h ≡ Some w → s.dir h ≡ false → IsLeft s h (skeleton_of next (insert nodes h (node_without_link now w)))
   kept_is w e f =
-      subst (λ (k : DirectoryGraph). IsLeft s h k) (sym (skeleton_of-node_without_link next nodes h w now e)) (record {
-        sound = sound-link_dropped s h sound f;
+      subst (λ (k : DirectoryGraph). IsLeft s h k) (sym (skeleton_of_node_without_link next nodes h w now e)) (record {
+        sound = sound_link_dropped s h sound f;
         other = λ q ne. (refl, refl, refl, refl, set_other h (s.links h - 1) s.links q ne);
         no_dir = f;
       })
@@ -98,8 +98,8 @@ removal t now d name e sane found bare =
     let v : (v : Node) × (get t.nodes d ≡ Some v) × (is_dir v ≡ true) = directory_at t.nodes d is in
     let b : Bool = value_at is_dir false t.nodes e.number in
     let nodes : Nodes = nodes_with_change t.nodes d (node_without_entry now name b) in
-    let way : skeleton_of t.next nodes ≡ entry_removed s d name e.number = skeleton_of-node_without_entry t.next t.nodes d v.0 now name e.number b v.1 v.2 refl in
-    let sound : IsConsistent (skeleton_of t.next nodes) (Some e.number) = subst (λ (k : DirectoryGraph). IsConsistent k (Some e.number)) (sym way) (sound-entry_removed s d name e sane.skeleton found) in
+    let way : skeleton_of t.next nodes ≡ entry_removed s d name e.number = skeleton_of_node_without_entry t.next t.nodes d v.0 now name e.number b v.1 v.2 refl in
+    let sound : IsConsistent (skeleton_of t.next nodes) (Some e.number) = subst (λ (k : DirectoryGraph). IsConsistent k (Some e.number)) (sym way) (sound_entry_removed s d name e sane.skeleton found) in
     let fit : Fit nodes = fit_with_change t.nodes d v.0 (node_without_entry now name b) v.1 sane.contents (λ f. fit_node_without_entry now name b v.0 v.0.content refl f) in
     let empty : (skeleton_of t.next nodes).dir e.number ≡ true → (skeleton_of t.next nodes).entries e.number ≡ [] = λ dir.
     (let none : s.entries e.number ≡ [] = bare (sym (ap (λ (k : DirectoryGraph). k.dir e.number) way) ∙ dir) in

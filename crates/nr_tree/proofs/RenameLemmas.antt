@@ -72,8 +72,8 @@ module _ (t : Tree) (from : ℕ) (name : List ℕ) (to : ℕ) (name_to : List �
   pub free_room : IsBounded t → entry_at t to name_to ≡ None → IfSome (get t.nodes to) (λ n. HasRoomFor name_to n)
   free_room bounded none = has_room t to name_to sane bounded can.dir (record { free = none; not_empty = can.not_empty; not_too_long = can.not_too_long })
 
-  pub sane-rename : (now : Time) → IsSane (tree_with_new_name t now from name to name_to h)
-  sane-rename now =
+  pub sane_rename : (now : Time) → IsSane (tree_with_new_name t now from name to name_to h)
+  sane_rename now =
       subst (λ (k : ℕ). IsSane (tree_with_new_name t now from name to name_to k)) found.2
       (sane_tree_with_new_name t now from name to name_to found.0 sane found.1 (subst (λ (k : ℕ). CanRename t from name to name_to k) (sym found.2) can))
 

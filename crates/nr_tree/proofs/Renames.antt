@@ -13,11 +13,11 @@ use Rattle.nr_tree.specs.Changes.{node_with_entry, node_without_entry, node_with
 use Rattle.nr_tree.specs.Steps.{IsFree, IsFreeTarget, CanRename}
 use Rattle.nr_tree.specs.declared.node.Node.{Node}
 use Rattle.nr_tree.proofs.Lists.{set_here_lem, set_all}
-use Rattle.nr_tree.proofs.SkeletonChanges.{skeleton_of-node_without_entry, skeleton_of-node_with_new_name}
+use Rattle.nr_tree.proofs.SkeletonChanges.{skeleton_of_node_without_entry, skeleton_of_node_with_new_name}
 use Rattle.nr_tree.proofs.Paths.{IsPathUp_same, differ}
-use Rattle.nr_tree.proofs.EntryRemoved.{sound-entry_removed, has_entries}
+use Rattle.nr_tree.proofs.EntryRemoved.{sound_entry_removed, has_entries}
 use Rattle.nr_tree.proofs.Contents.{Fit, fit_with_change, fit_node_without_entry, none_without, gone_without, names_at, directory_at, node_at, Named}
-use Rattle.nr_tree.proofs.Additions.{add_entry_to, add_entry_to-fit, add_entry_to-live}
+use Rattle.nr_tree.proofs.Additions.{add_entry_to, add_entry_to_fit, add_entry_to_live}
 use Rattle.nr_tree.proofs.Removals.{IsRemoval, removal}
 
 abbrev Nodes : Type 0
@@ -51,8 +51,8 @@ sane_tree_with_entry_moved t now from name to name_to e sane found welcome =
     let v : (v : Node) × (get t.nodes from ≡ Some v) × (is_dir v ≡ true) = directory_at t.nodes from is in
     let b : Bool = value_at is_dir false t.nodes h in
     let nodes : Nodes = nodes_with_change t.nodes from (node_without_entry now name b) in
-    let way : skeleton_of t.next nodes ≡ entry_removed s from name h = skeleton_of-node_without_entry t.next t.nodes from v.0 now name h b v.1 v.2 refl in
-    let sound : IsConsistent (skeleton_of t.next nodes) (Some h) = subst (λ (k : DirectoryGraph). IsConsistent k (Some h)) (sym way) (sound-entry_removed s from name e sane.skeleton found) in
+    let way : skeleton_of t.next nodes ≡ entry_removed s from name h = skeleton_of_node_without_entry t.next t.nodes from v.0 now name h b v.1 v.2 refl in
+    let sound : IsConsistent (skeleton_of t.next nodes) (Some h) = subst (λ (k : DirectoryGraph). IsConsistent k (Some h)) (sym way) (sound_entry_removed s from name e sane.skeleton found) in
     let fit : Fit nodes = fit_with_change t.nodes from v.0 (node_without_entry now name b) v.1 sane.contents (λ f. fit_node_without_entry now name b v.0 v.0.content refl f) in
     let dir : (skeleton_of t.next nodes).dir to ≡ true = ap (λ (k : DirectoryGraph). k.dir to) way ∙ welcome.dir in
     let kind : b ≡ (skeleton_of t.next nodes).dir h = sym (ap (λ (k : DirectoryGraph). k.dir h) way) in
@@ -66,12 +66,12 @@ sane_tree_with_entry_moved t now from name to name_to e sane found welcome =
     add_entry_to t.next nodes h to now name_to b sound fit dir kind
     (λ d. let less : (entry_removed s from name h).links to < links_max = room_in s from to name h sane.skeleton is d (welcome.room d) (two_links s from sane.skeleton is) in omega (arith, links, less))
     (λ d below. welcome.apart d (path_before s from name h to h (subst (λ (k : DirectoryGraph). LiesBelow k (Some h) to h) way below))) in
-    let live : (skeleton_of t.next after).live h ≡ true = ap (λ (f : ℕ → Bool). f h) (add_entry_to-live t.next nodes h to now name_to b sound fit dir) ∙ sound.detached_live h refl in
+    let live : (skeleton_of t.next after).live h ≡ true = ap (λ (f : ℕ → Bool). f h) (add_entry_to_live t.next nodes h to now name_to b sound fit dir) ∙ sound.detached_live h refl in
     let w : Named after h = node_at after h live in
-    let all : Fit after = add_entry_to-fit t.next nodes h to now name_to b sound fit dir ok in
+    let all : Fit after = add_entry_to_fit t.next nodes h to now name_to b sound fit dir ok in
     record {
       contents = fit_with_change after h w.0 (node_with_new_name now to) w.1 all (λ f. f);
-      skeleton = subst (λ (k : DirectoryGraph). IsConsistent k None) (sym (skeleton_of-node_with_new_name t.next after h w.0 now to w.1)) put;
+      skeleton = subst (λ (k : DirectoryGraph). IsConsistent k None) (sym (skeleton_of_node_with_new_name t.next after h w.0 now to w.1)) put;
     }
 
 -- ===== with an old target

@@ -86,10 +86,10 @@ module _ (next : ℕ) (nodes : Nodes) where
   s = skeleton_of next nodes
 
   -- an entry more: `entry_added` but for the parent of what it names
-  pub skeleton_of-node_with_entry : (d : ℕ) (v : Node) (now : Time) (name : List ℕ) (n : ℕ) (b : Bool) → get nodes d ≡ Some v → is_dir v ≡ true
+  pub skeleton_of_node_with_entry : (d : ℕ) (v : Node) (now : Time) (name : List ℕ) (n : ℕ) (b : Bool) → get nodes d ≡ Some v → is_dir v ≡ true
       → skeleton_of next (nodes_with_change nodes d (node_with_entry now name n b))
       ≡ record s { entries = set d (s.entries d ++ new_entry v name n ∷ []) s.entries; links = set d (s.links d + one_if b) s.links }
-  skeleton_of-node_with_entry d v now name n b e t =
+  skeleton_of_node_with_entry d v now name n b e t =
       let w : Node = node_with_entry now name n b v in
       let es : entries_in w ≡ s.entries d ++ new_entry v name n ∷ [] =
       one_more now name n b v v.content refl t ∙ ap (λ (l : List Entry). l ++ new_entry v name n ∷ []) (sym (value_at_at entries_in [] nodes d v e)) in
@@ -104,9 +104,9 @@ module _ (next : ℕ) (nodes : Nodes) where
       }
 
   -- an entry less: `entry_removed`
-  pub skeleton_of-node_without_entry : (d : ℕ) (v : Node) (now : Time) (name : List ℕ) (h : ℕ) (b : Bool) → get nodes d ≡ Some v → is_dir v ≡ true → b ≡ s.dir h
+  pub skeleton_of_node_without_entry : (d : ℕ) (v : Node) (now : Time) (name : List ℕ) (h : ℕ) (b : Bool) → get nodes d ≡ Some v → is_dir v ≡ true → b ≡ s.dir h
       → skeleton_of next (nodes_with_change nodes d (node_without_entry now name b)) ≡ entry_removed s d name h
-  skeleton_of-node_without_entry d v now name h b e t kind =
+  skeleton_of_node_without_entry d v now name h b e t kind =
       let w : Node = node_without_entry now name b v in
       let es : entries_in w ≡ list_without name (s.entries d) =
       one_less now name b v v.content refl t ∙ ap (λ (l : List Entry). list_without name l) (sym (value_at_at entries_in [] nodes d v e)) in
@@ -120,8 +120,8 @@ module _ (next : ℕ) (nodes : Nodes) where
         links = (value_at_insert (λ node. node.metadata.links) 0 nodes d w ∙ ap (λ (k : ℕ). set d k s.links) ls) i;
       }
 
-  pub skeleton_of-node_with_link : (h : ℕ) (v : Node) (now : Time) (d : ℕ) → get nodes h ≡ Some v → skeleton_of next (nodes_with_change nodes h (node_with_link now d)) ≡ record (link_added s h) { parent = set h d s.parent }
-  skeleton_of-node_with_link h v now d e =
+  pub skeleton_of_node_with_link : (h : ℕ) (v : Node) (now : Time) (d : ℕ) → get nodes h ≡ Some v → skeleton_of next (nodes_with_change nodes h (node_with_link now d)) ≡ record (link_added s h) { parent = set h d s.parent }
+  skeleton_of_node_with_link h v now d e =
       let w : Node = node_with_link now d v in
       let ls : w.metadata.links ≡ s.links h + 1 = ap (λ (k : ℕ). k + 1) (sym (value_at_at (λ node. node.metadata.links) 0 nodes h v e)) in
       ap (skeleton_of next) (with_change_at nodes h v (node_with_link now d) e) ∙ λ i. record {
@@ -133,8 +133,8 @@ module _ (next : ℕ) (nodes : Nodes) where
         links = (value_at_insert (λ node. node.metadata.links) 0 nodes h w ∙ ap (λ (k : ℕ). set h k s.links) ls) i;
       }
 
-  pub skeleton_of-node_without_link : (h : ℕ) (v : Node) (now : Time) → get nodes h ≡ Some v → skeleton_of next (insert nodes h (node_without_link now v)) ≡ link_dropped s h
-  skeleton_of-node_without_link h v now e =
+  pub skeleton_of_node_without_link : (h : ℕ) (v : Node) (now : Time) → get nodes h ≡ Some v → skeleton_of next (insert nodes h (node_without_link now v)) ≡ link_dropped s h
+  skeleton_of_node_without_link h v now e =
       let w : Node = node_without_link now v in
       let ls : w.metadata.links ≡ s.links h - 1 = ap (λ (k : ℕ). k - 1) (sym (value_at_at (λ node. node.metadata.links) 0 nodes h v e)) in
       λ i. record {
@@ -146,8 +146,8 @@ module _ (next : ℕ) (nodes : Nodes) where
         links = (value_at_insert (λ node. node.metadata.links) 0 nodes h w ∙ ap (λ (k : ℕ). set h k s.links) ls) i;
       }
 
-  pub skeleton_of-remove : (h : ℕ) → skeleton_of next (remove nodes h) ≡ node_removed s h
-  skeleton_of-remove h = λ i. record {
+  pub skeleton_of_remove : (h : ℕ) → skeleton_of next (remove nodes h) ≡ node_removed s h
+  skeleton_of_remove h = λ i. record {
     next = next;
     live = value_at_remove (λ node. true) false nodes h i;
     dir = value_at_remove is_dir false nodes h i;
@@ -156,8 +156,8 @@ module _ (next : ℕ) (nodes : Nodes) where
     links = value_at_remove (λ node. node.metadata.links) 0 nodes h i;
   }
 
-  pub skeleton_of-node_with_new_name : (h : ℕ) (v : Node) (now : Time) (d : ℕ) → get nodes h ≡ Some v → skeleton_of next (nodes_with_change nodes h (node_with_new_name now d)) ≡ record s { parent = set h d s.parent }
-  skeleton_of-node_with_new_name h v now d e =
+  pub skeleton_of_node_with_new_name : (h : ℕ) (v : Node) (now : Time) (d : ℕ) → get nodes h ≡ Some v → skeleton_of next (nodes_with_change nodes h (node_with_new_name now d)) ≡ record s { parent = set h d s.parent }
+  skeleton_of_node_with_new_name h v now d e =
       let w : Node = node_with_new_name now d v in
       ap (skeleton_of next) (with_change_at nodes h v (node_with_new_name now d) e) ∙ λ i. record {
         next = next;
@@ -169,8 +169,8 @@ module _ (next : ℕ) (nodes : Nodes) where
       }
 
   -- a new node: `node_added`
-  pub skeleton_of-new : (node : Node) → entries_in node ≡ [] → node.metadata.links ≡ 1 + one_if (is_dir node) → skeleton_of (next + 1) (insert nodes next node) ≡ node_added s (is_dir node) node.parent
-  skeleton_of-new node bare links = λ i. record {
+  pub skeleton_of_new : (node : Node) → entries_in node ≡ [] → node.metadata.links ≡ 1 + one_if (is_dir node) → skeleton_of (next + 1) (insert nodes next node) ≡ node_added s (is_dir node) node.parent
+  skeleton_of_new node bare links = λ i. record {
     next = next + 1;
     live = value_at_insert (λ node. true) false nodes next node i;
     dir = value_at_insert is_dir false nodes next node i;

@@ -122,8 +122,8 @@ module _ (t : Tree) (d : ℕ) (name : List ℕ) (h : ℕ) (sane : IsSane t) (can
   pub removable : IsRemovable t d h
   removable = subst (λ (k : ℕ). IsRemovable t d k) named.2 (may_leave t d name named.0 sane named.1 empty)
 
-  pub sane-remove_entry : (now : Time) → IsSane (tree_without_entry t now d name h)
-  sane-remove_entry now = subst (λ (k : ℕ). IsSane (tree_without_entry t now d name k)) named.2 (sane_tree_without_entry t now d name named.0 sane named.1 empty)
+  pub sane_remove_entry : (now : Time) → IsSane (tree_without_entry t now d name h)
+  sane_remove_entry now = subst (λ (k : ℕ). IsSane (tree_without_entry t now d name k)) named.2 (sane_tree_without_entry t now d name named.0 sane named.1 empty)
 
 -- ===== bytes and attributes
 

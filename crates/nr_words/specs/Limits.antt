@@ -16,8 +16,8 @@ abbrev pub calls_max : ℕ
 calls_max = 1000000
 
 -- the maximum length of the path of an export in bytes (RFC 1813 section 5.1.4, MNTPATHLEN)
-abbrev pub export_max : ℕ
-export_max = 1024
+abbrev pub mount_path_max : ℕ
+mount_path_max = 1024
 
 -- the maximum number of credits of a server, of what its journal may cost in bytes, and of its connections
 abbrev pub credits_max : ℕ

@@ -8,7 +8,7 @@ use Rattle.toml.specs.Data.{Members, no_members, member, get_member, as_str, as_
 use Rattle.toml.specs.Parse.{parse_document}
 use Rattle.nr_words.specs.declared.settings.Settings.{Settings}
 use Rattle.nr_words.specs.declared.settings.Config.{Config}
-use Rattle.nr_words.specs.Limits.{capacity_max, connections_max, credits_max, export_max}
+use Rattle.nr_words.specs.Limits.{capacity_max, connections_max, credits_max, mount_path_max}
 use Rattle.nr_words.specs.Lines.{Text}
 
 -- the number of members
@@ -38,7 +38,7 @@ verifier_at key members = option_and_then (λ text. result_ok (decode_sized text
 
 -- a path of at least one byte
 abbrev pub path : Text → Option Text
-path text = if nat_le 1 (length text) && nat_le (length text) export_max then Some text else None
+path text = if nat_le 1 (length text) && nat_le (length text) mount_path_max then Some text else None
 
 abbrev pub path_at : Text → Members → Option Text
 path_at key members = option_and_then path (text_at key members)

@@ -13,7 +13,7 @@ pub const CLIENTS_MAX: u64 = 16;
 pub const CALLS_MAX: u64 = 1_000_000;
 
 /// The maximum length of the path of an export in bytes (RFC 1813 section 5.1.4, `MNTPATHLEN`).
-pub const EXPORT_MAX: usize = 1024;
+pub const MOUNT_PATH_MAX: usize = 1024;
 
 /// The maximum number of credits of a server.
 pub const CREDITS_MAX: u64 = 64;

@@ -5,7 +5,7 @@ ghost use Rattle.toml.specs.View.{table_view};
 ghost use Rattle.nr_words.specs.Settings.{config_of, count, in_range, integer_at, plain_settings, path_at, number_at, config_settings, settings_of, text_at, verifier_at};
 ghost use Rattle.nr_words.specs.declared.settings.ConfigFault.TheVariants.{Bad};
 
-use crate::limits::{CAPACITY_MAX, CONNECTIONS_MAX, CREDITS_MAX, EXPORT_MAX};
+use crate::limits::{CAPACITY_MAX, CONNECTIONS_MAX, CREDITS_MAX, MOUNT_PATH_MAX};
 use hex::FromHex;
 use std::alloc::{AllocError, Global};
 use toml::Table;
@@ -119,7 +119,7 @@ fn number_at(table: &Table, key: &str, low: u64, high: u64) -> Option<u64>
     in_range(low, high, value)
 }
 
-/// The path at a key, of at least one byte and at most [`EXPORT_MAX`].
+/// The path at a key, of at least one byte and at most [`MOUNT_PATH_MAX`].
 fn path_at<'a>(table: &'a Table, key: &str) -> Option<&'a str>
     ensures { option_map (λ s. s.now) result ≡ path_at key.now (table_view table.now) }
 {
@@ -127,7 +127,7 @@ fn path_at<'a>(table: &'a Table, key: &str) -> Option<&'a str>
     if path.is_empty() {
         return None;
     }
-    if path.len() > EXPORT_MAX {
+    if path.len() > MOUNT_PATH_MAX {
         return None;
     }
     Some(path)

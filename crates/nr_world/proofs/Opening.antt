@@ -11,7 +11,7 @@ use Rattle.nr_world.specs.declared.mark.Mark.TheVariants as marks
 use Rattle.std.proofs.lemmas.Bool.Decides.{nat_tests}
 use Rattle.nr_world.specs.declared.call.Outcome.TheVariants as outcomes
 use Rattle.nr_world.specs.declared.report.CallState.TheVariants as call_states
-use Rattle.nr_world.specs.Constants.{most_credits}
+use Rattle.nr_world.specs.Constants.{credits_max}
 use Rattle.nr_world.specs.Observed.{links_of, sent, got, accepted, executed, completed, journal}
 use Rattle.nr_world.specs.Messages.{has_hello, is_greeted}
 use Rattle.nr_world.specs.Owed.{own_hello, answer_to, asking_each, owed}
@@ -143,7 +143,7 @@ then_down credits =
     ap (λ (x : Drill). settled o the_link (taken the_link x)) fed
     ∙ settled_none credits opened_all no_counts (At_open credits) refl refl
 
-pub opened_stands_lem : (credits : ℕ) → 1 ≤ credits → credits ≤ most_credits → Stands (opened_state credits)
+pub opened_stands_lem : (credits : ℕ) → 1 ≤ credits → credits ≤ credits_max → Stands (opened_state credits)
 unfolding opened_state upward downward
 opened_stands_lem credits some few =
     let up = own_hello Initiator in
@@ -165,7 +165,7 @@ opened_stands_lem credits some few =
       few_calls = lit≤ tt;
     }
 
-pub played_none : (credits : ℕ) → 1 ≤ credits → credits ≤ most_credits → Played credits 0 (opened_state credits)
+pub played_none : (credits : ℕ) → 1 ≤ credits → credits ≤ credits_max → Played credits 0 (opened_state credits)
 unfolding opened_state
 played_none credits some few =
     let o = drill_opened credits in

@@ -6,7 +6,7 @@ use Rattle.std.specs.List.{position_or_len, position}
 use Rattle.std.specs.Str.{bytes_eq}
 use Rattle.nr_world.specs.Script.{Line, Cut, null_call, turn_onto, turns, ends_at, clients_line, credits_in, cut, line_onto, byte_onto, newline}
 use Rattle.nr_world.specs.Script.Line.{Drain}
-use Rattle.nr_world.specs.Constants.{most_credits}
+use Rattle.nr_world.specs.Constants.{credits_max}
 use Rattle.nr_world.specs.Parsing.{credits_from, turns_onto}
 
 abbrev pub is_newline : ℕ → Bool
@@ -47,15 +47,15 @@ pub credits_first : (text : List ℕ) → credits_in text ≡ credits_from text 
 unfolding credits_in credits_from
 credits_first text = refl
 
-pub credits_last : (text : List ℕ) → credits_from text (most_credits + 1) ≡ None
+pub credits_last : (text : List ℕ) → credits_from text (credits_max + 1) ≡ None
 unfolding credits_from
 credits_last text = refl
 
-pub credits_next : (text : List ℕ) (c n : ℕ) → c + n ≡ most_credits → credits_from text c ≡ cond (bytes_eq text (clients_line c)) (Some c) (credits_from text (c + 1))
+pub credits_next : (text : List ℕ) (c n : ℕ) → c + n ≡ credits_max → credits_from text c ≡ cond (bytes_eq text (clients_line c)) (Some c) (credits_from text (c + 1))
 unfolding credits_from
 credits_next text c n e =
-    let here : most_credits + 1 - c ≡ suc n = omega arith in
-    let there : most_credits + 1 - (c + 1) ≡ n = omega arith in
+    let here : credits_max + 1 - c ≡ suc n = omega arith in
+    let there : credits_max + 1 - (c + 1) ≡ n = omega arith in
     rw (here, there) refl
 
 -- one more pair, behind others

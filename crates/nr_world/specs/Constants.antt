@@ -2,8 +2,8 @@
 use Rattle.std.specs.Prelude.{ℕ, ◌^◌}
 
 -- the most credits that a side may ask for or grant, and the most that a credit word counts for (own)
-abbrev pub most_credits : ℕ
-most_credits = 64
+abbrev pub credits_max : ℕ
+credits_max = 64
 
 -- the most bytes of a Send (own)
 abbrev pub send_max : ℕ

@@ -8,7 +8,7 @@ use Rattle.nr_world.specs.declared.call.Form.TheVariants.{Auto}
 use Rattle.nr_world.specs.Plain.{nfs_program, nfs_version, null_procedure}
 use Rattle.nr_world.specs.declared.script.ScriptFault.{ScriptFault}
 use Rattle.nr_world.specs.declared.script.ScriptFault.TheVariants as faults
-use Rattle.nr_world.specs.Constants.{default_capacity, most_credits}
+use Rattle.nr_world.specs.Constants.{default_capacity, credits_max}
 
 -- a line of a script: a client submits a call, or everything moves until nothing moves
 pub data Line : Type 0 where
@@ -88,7 +88,7 @@ turns_in (text ∷ others) rest number due =
 
 -- the credits of a first line, from 1 to the maximum
 unfoldable pub credits_in : List ℕ → Option ℕ
-credits_in text = find (λ credits. bytes_eq text (clients_line credits)) (range_with_len 1 most_credits)
+credits_in text = find (λ credits. bytes_eq text (clients_line credits)) (range_with_len 1 credits_max)
 
 abbrev pub script_with : Option ℕ → Result (List Line) ℕ → Result ScriptLines ℕ
 script_with None turns = Err 1

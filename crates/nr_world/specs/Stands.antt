@@ -10,7 +10,7 @@ use Rattle.nr_world.specs.declared.mark.Conveyed.{Conveyed}
 use Rattle.nr_world.specs.declared.report.CallState.TheVariants as call_states
 use Rattle.nr_world.specs.declared.report.Report.{Report}
 use Rattle.nr_world.specs.declared.report.CallReport.{CallReport}
-use Rattle.nr_world.specs.Constants.{most_credits, most_lines}
+use Rattle.nr_world.specs.Constants.{credits_max, most_lines}
 use Rattle.nr_world.specs.Driver.{State, the_link, null, asked_payload, ask, answer}
 use Rattle.nr_world.specs.Observed.{Accepted, Executed, Completed, links_of, sent, got, accepted, executed, completed, journal, is_dropped}
 use Rattle.nr_world.specs.Owed.{own_hello, owed}
@@ -152,7 +152,7 @@ pub record Stands (s : State) : Type 0 where
   pub came_asked : s.served + arrived_one s.arrived ≤ s.asked
   pub one_out : s.asked ≤ length s.reports + 1
   pub some_credits : 1 ≤ s.credits
-  pub few_credits : s.credits ≤ most_credits
+  pub few_credits : s.credits ≤ credits_max
   pub few_calls : s.asked ≤ most_lines
 
 -- no call is out

@@ -6,7 +6,7 @@ use Rattle.nr_wire.specs.declared.hello.Side.TheVariants.{Initiator, Responder}
 use Rattle.nr_world.specs.declared.call.Submission.TheVariants as submissions
 use Rattle.nr_world.specs.declared.mark.Mark.{Mark}
 use Rattle.nr_world.specs.declared.mark.Mark.TheVariants as marks
-use Rattle.nr_world.specs.Constants.{most_credits}
+use Rattle.nr_world.specs.Constants.{credits_max}
 use Rattle.nr_world.specs.Observed.{Accepted, accepted, got}
 use Rattle.nr_world.specs.Messages.{messages, xid_in, credit_in}
 use Rattle.nr_world.specs.Along.{Along}
@@ -28,7 +28,7 @@ out_of link run = count_by (λ a. not (is_heard (received_messages link run) a))
 
 -- the credits of a credit word: 0 counts as 1, and more than the maximum as the maximum
 abbrev pub credits_by : ℕ → ℕ
-credits_by credit = if credit == 0 then 1 else (if nat_lt most_credits credit then most_credits else credit)
+credits_by credit = if credit == 0 then 1 else (if nat_lt credits_max credit then credits_max else credit)
 
 -- what the last of the messages grants, and 1 before the first
 abbrev pub granted_by : List (List ℕ) → ℕ → ℕ

@@ -10,9 +10,9 @@ ghost use Rattle.nr_world.specs.Completion.{IsComplete};
 ghost use Rattle.nr_world.specs.Plain.{drill_server};
 ghost use Rattle.nr_world.specs.Served.{Served};
 ghost use Rattle.nr_world.specs.Staying.{AllReplied, AreWords, IsHandedOver, IsSettled, inline_server};
-ghost use Rattle.nr_world.specs.Constants.{script_max, most_credits};
+ghost use Rattle.nr_world.specs.Constants.{script_max, credits_max};
 
-use crate::script::{MOST_CREDITS, SCRIPT_MAX};
+use crate::script::{CREDITS_MAX, SCRIPT_MAX};
 
 /// On a link that stays every call completes. Where each side wrote all that it has to write and nothing is under way,
 /// the reply to every accepted call was received by its client, and each call completes once the received outcomes are
@@ -33,5 +33,5 @@ pub fn link_that_stays()
 /// The limits of the code are those of the definitions.
 pub fn script_limits()
     ensures longest { SCRIPT_MAX ≡ script_max }
-    ensures credits { MOST_CREDITS ≡ most_credits }
+    ensures credits { CREDITS_MAX ≡ credits_max }
 {}

@@ -4,11 +4,11 @@ ghost use Rattle.std.specs.Prelude.{◌≡◌, ℕ, ◌+◌, ◌*◌, ◌<◌, �
 ghost use Rattle.std.specs.List.{position};
 ghost use Rattle.std.specs.Str.{bytes_eq};
 ghost use Rattle.nr_world.specs.declared.script.ScriptFault.TheVariants as faults;
-ghost use Rattle.nr_world.specs.Constants.{most_credits, script_max};
+ghost use Rattle.nr_world.specs.Constants.{credits_max, script_max};
 ghost use Rattle.nr_world.specs.Script.{GivesScript, clients_line, credits_in, cut, ends_at, line_onto, newline, script_of, turn, turn_onto, turn_text, turns};
 ghost use Rattle.nr_world.specs.Parsing.{credits_from, lines_from, turns_onto};
 
-use crate::script::{MOST_CREDITS, Script, ScriptFault};
+use crate::script::{CREDITS_MAX, Script, ScriptFault};
 use nr_xdr::Memory;
 use std::alloc::Global;
 
@@ -24,10 +24,10 @@ fn is_clients_line(alloc: Global, credits: u32, line: &[u8]) -> Result<bool, Mem
 /// The credits of a first line.
 fn credits_in(alloc: Global, line: &[u8]) -> Result<Option<u32>, Memory>
     ensures read { IfOk result (λ credits. credits ≡ credits_in line.now) }
-    ensures few { IfOk result (λ found. IfSome found (λ credits. (1 ≤ credits) × (credits ≤ most_credits))) }
+    ensures few { IfOk result (λ found. IfSome found (λ credits. (1 ≤ credits) × (credits ≤ credits_max))) }
 {
     let mut credits: u32 = 1;
-    while credits <= MOST_CREDITS {
+    while credits <= CREDITS_MAX {
         if is_clients_line(alloc, credits, line)? {
             return Ok(Some(credits));
         }

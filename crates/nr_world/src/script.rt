@@ -2,14 +2,14 @@
 
 ghost use Rattle.std.specs.Prelude.{◌≡◌, ◌+◌, ◌*◌, ◌≤◌};
 ghost use Rattle.nr_world.specs.declared.script.ScriptFault.TheVariants as faults;
-ghost use Rattle.nr_world.specs.Constants.{default_capacity, most_credits, most_lines};
+ghost use Rattle.nr_world.specs.Constants.{default_capacity, credits_max, most_lines};
 ghost use Rattle.nr_world.specs.Script.{turns};
 
 use nr_xdr::Memory;
 use std::marker::Model;
 
 /// The most credits that a script may give each end.
-pub const MOST_CREDITS: u32 = 64;
+pub const CREDITS_MAX: u32 = 64;
 
 /// The most bytes that the text of a script may have.
 pub const SCRIPT_MAX: usize = 16_777_216;
@@ -42,21 +42,21 @@ pub struct Script {
 
 impl Model for Script {
     ghost use Rattle.std.specs.Prelude.{◌≤◌, ◌+◌, ◌*◌};
-    ghost use Rattle.nr_world.specs.Constants.{default_capacity, most_credits, most_lines};
+    ghost use Rattle.nr_world.specs.Constants.{default_capacity, credits_max, most_lines};
     ghost use Rattle.nr_world.specs.Script.{ScriptLines, turns};
 
     ghost Value = { ScriptLines };
 
     ghost view = { λ s. record { clients = 1; credits = s.credits; capacity = default_capacity; lines = turns s.calls } };
 
-    ghost invariant = { λ s. (1 ≤ s.credits) × (s.credits ≤ most_credits) × (2 * s.calls + 1 ≤ most_lines) };
+    ghost invariant = { λ s. (1 ≤ s.credits) × (s.credits ≤ credits_max) × (2 * s.calls + 1 ≤ most_lines) };
 }
 
 impl Script {
     /// A script of this many calls, each drained before the next.
     pub(crate) fn new(credits: u32, calls: u32) -> Script
         requires some { 1 ≤ credits }
-        requires few { credits ≤ most_credits }
+        requires few { credits ≤ credits_max }
         requires lines { 2 * calls + 1 ≤ most_lines }
         ensures { result ≡ record { clients = 1; credits = credits; capacity = default_capacity; lines = turns calls } }
     {
@@ -67,7 +67,7 @@ impl Script {
     pub fn credits(&self) -> u32
         ensures is { result ≡ self.now.credits }
         ensures some { 1 ≤ result }
-        ensures few { result ≤ most_credits }
+        ensures few { result ≤ credits_max }
     {
         self.credits
     }

@@ -4,7 +4,7 @@ use Rattle.std.specs.Borrow.{Bor}
 use Rattle.nr_script.specs.declared.script.Opening.{Opening}
 use Rattle.nr_script.specs.declared.script.ScriptFault.{ScriptFault}
 use Rattle.nr_script.specs.declared.script.ScriptFault.TheVariants as faults
-use Rattle.nr_script.specs.Limits.{most_clients}
+use Rattle.nr_script.specs.Limits.{clients_max}
 use Rattle.nr_script.specs.Words.{parts}
 use Rattle.nr_script.specs.Script.{ScriptLines, newline, script_from, script_of}
 
@@ -21,7 +21,7 @@ with_opening (Some (Some opening)) = Some (Some (opened opening))
 -- what a text says is what follows the first line, from the line of this number on
 pub record IsOpened (text : List ℕ) (opening : Opening) (number : ℕ) (rest : List ℕ) : Type 0 where
   pub says : script_of text ≡ script_from number (Some (opened opening)) (parts newline rest)
-  pub few_clients : opening.clients ≤ most_clients
+  pub few_clients : opening.clients ≤ clients_max
   pub short : number + length rest ≤ length text + 1
 
 abbrev pub GivesOpening : List ℕ → Result (Opening × ℕ × Bor (List ℕ)) ScriptFault → Type 0

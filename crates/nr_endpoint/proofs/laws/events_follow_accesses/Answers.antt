@@ -1,5 +1,5 @@
-use Rattle.nr_endpoint.proofs.NoticeLaws.{events_are_delivered, events_are_in_order, events_follow_accesses_lem, one_frame_delivers_at_its_end}
-use Rattle.nr_endpoint.proofs.OneNotice.{one_frame_delivers_once}
+use Rattle.nr_endpoint.proofs.DeliveryLaws.{events_are_delivered, events_are_in_order, events_follow_accesses_lem, one_frame_delivers_at_its_end}
+use Rattle.nr_endpoint.proofs.OneDelivery.{one_frame_delivers_once}
 use Rattle.nr_endpoint.proofs.laws.events_follow_accesses.Goals as goal
 
 pub returns-clause-delivered : goal.returns-clause-delivered

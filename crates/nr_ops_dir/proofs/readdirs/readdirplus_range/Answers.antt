@@ -1,18 +1,18 @@
 use Rattle.std.proofs.Common.{◌≡◌, ℕ, List, None, Some, subst, arith}
 use Rattle.nr_tree.specs.Rules.{handle_rule, node_of_handle}
-use Rattle.nr_ops_dir.proofs.Rooms.{readdirplus-answers, readdirplus-wanting}
+use Rattle.nr_ops_dir.proofs.Rooms.{readdirplus_answers, readdirplus_wanting}
 use Rattle.nr_ops_dir.proofs.readdirs.readdirplus_range.Goals as goal
 
 pub returns-in-Some : goal.returns-in-Some
 returns-in-Some c =
-    readdirplus-answers c.args.tree.now c.args.caller.now c.args.args.now c.in_ok-node.node.now c.in_ok-dir.dir.now c.facts.ensures
+    readdirplus_answers c.args.tree.now c.args.caller.now c.args.args.now c.in_ok-node.node.now c.in_ok-dir.dir.now c.facts.ensures
     (subst (λ (h : List ℕ). handle_rule c.args.tree.now h ≡ None) c.as_slice.ensures.value c.in_ok-node.ensures.0)
     (subst (λ (h : List ℕ). node_of_handle c.args.tree.now h ≡ Some c.in_ok-node.node.now) c.as_slice.ensures.value c.in_ok-node.ensures.1)
     c.in_ok-dir.ensures.0 c.in_ok-dir.ensures.1 c.in-Some.ensures.0 c.in-Some.limits c.in-Some.ensures.1 c.range_within.result c.range_within.ensures
 
 pub returns-in-None : goal.returns-in-None
 returns-in-None c =
-    readdirplus-wanting c.args.tree.now c.args.args.now c.in_ok-node.node.now
+    readdirplus_wanting c.args.tree.now c.args.args.now c.in_ok-node.node.now
     (subst (λ (h : List ℕ). node_of_handle c.args.tree.now h ≡ Some c.in_ok-node.node.now) c.as_slice.ensures.value c.in_ok-node.ensures.1)
     c.args.caller.now (subst (λ (h : List ℕ). handle_rule c.args.tree.now h ≡ None) c.as_slice.ensures.value c.in_ok-node.ensures.0) c.in_ok-dir.ensures.0
     (omega (arith, c.in-None.ensures))

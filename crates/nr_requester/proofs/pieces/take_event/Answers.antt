@@ -2,7 +2,7 @@ use Rattle.std.proofs.Common.{ℕ, List, length, ◌<◌, ◌∷◌, take, sym, 
 use Rattle.std.specs.Prelude.{vec_capacity}
 use Rattle.nr_regions.specs.RegisteredMemory.{RegisteredMemory}
 use Rattle.nr_endpoint.specs.LinkState.{LinkSide}
-use Rattle.nr_endpoint.specs.Views.{notice}
+use Rattle.nr_endpoint.specs.Views.{delivery}
 use Rattle.nr_endpoint.specs.declared.event.Event.{Event}
 use Rattle.nr_reduce.specs.KeptCalls.{kept_verdict}
 use Rattle.nr_reduce.specs.KeptClient.{bytes_under}
@@ -18,7 +18,7 @@ take_message-requires-clause-live c = ap (λ (l : LinkSide). l.state.ended) c.in
 
 pub take_message-requires-clause-lent : goal.take_message-requires-clause-lent
 take_message-requires-clause-lent c =
-    let w = message_waits c.args.endpoint.now.link c.in-Some-Message.field-0-0 c.in-Some-Message.field-0-1 (take c.in-Some-Message.len c.in-Some-Message.buf) c.next_event.new.self.link.state.receive_queue.notices c.requires.ready.waits (c.in-Some-Message.ensures.event ∙ ap (λ (e : Event). notice e ∷ c.next_event.new.self.link.state.receive_queue.notices) c.in-Some-Message.field-0-is) in
+    let w = message_waits c.args.endpoint.now.link c.in-Some-Message.field-0-0 c.in-Some-Message.field-0-1 (take c.in-Some-Message.len c.in-Some-Message.buf) c.next_event.new.self.link.state.receive_queue.deliveries c.requires.ready.waits (c.in-Some-Message.ensures.event ∙ ap (λ (e : Event). delivery e ∷ c.next_event.new.self.link.state.receive_queue.deliveries) c.in-Some-Message.field-0-is) in
     subst (λ (l : LinkSide). 0 < l.state.receive_queue.lent) (sym c.in-Some-Message.ensures.state) (next_lent c.args.endpoint.now.link w.number (take c.in-Some-Message.len c.in-Some-Message.buf) w.is)
 
 pub take_message-requires-clause-calls : goal.take_message-requires-clause-calls
@@ -28,7 +28,7 @@ take_message-requires-clause-calls c =
 
 pub returns-in-Some-Message-clause-told : goal.returns-in-Some-Message-clause-told
 returns-in-Some-Message-clause-told c = λ wished next.
-    let w = message_waits c.args.endpoint.now.link c.in-Some-Message.field-0-0 c.in-Some-Message.field-0-1 (take c.in-Some-Message.len c.in-Some-Message.buf) c.next_event.new.self.link.state.receive_queue.notices c.requires.ready.waits (c.in-Some-Message.ensures.event ∙ ap (λ (e : Event). notice e ∷ c.next_event.new.self.link.state.receive_queue.notices) c.in-Some-Message.field-0-is) in
+    let w = message_waits c.args.endpoint.now.link c.in-Some-Message.field-0-0 c.in-Some-Message.field-0-1 (take c.in-Some-Message.len c.in-Some-Message.buf) c.next_event.new.self.link.state.receive_queue.deliveries c.requires.ready.waits (c.in-Some-Message.ensures.event ∙ ap (λ (e : Event). delivery e ∷ c.next_event.new.self.link.state.receive_queue.deliveries) c.in-Some-Message.field-0-is) in
     message_told c.args.endpoint.now.link c.next_event.new.self.link c.take_message.new.endpoint.link c.args.sent wished c.args.first_xid next c.args.grant.now c.take_message.new.grant w.number c.args.outstanding.now.items c.take_message.new.outstanding.items c.args.answered.now.items c.take_message.new.answered.items (take c.in-Some-Message.len c.in-Some-Message.buf)
     c.requires.ready.live w.is w.rest c.in-Some-Message.ensures.state c.take_message.ensures.judged
 
@@ -39,7 +39,7 @@ returns-in-Some-Message-clause-sound c = λ next s.
 
 pub returns-in-Some-Message-clause-quiet : goal.returns-in-Some-Message-clause-quiet
 returns-in-Some-Message-clause-quiet c =
-    let w = message_waits c.args.endpoint.now.link c.in-Some-Message.field-0-0 c.in-Some-Message.field-0-1 (take c.in-Some-Message.len c.in-Some-Message.buf) c.next_event.new.self.link.state.receive_queue.notices c.requires.ready.waits (c.in-Some-Message.ensures.event ∙ ap (λ (e : Event). notice e ∷ c.next_event.new.self.link.state.receive_queue.notices) c.in-Some-Message.field-0-is) in
+    let w = message_waits c.args.endpoint.now.link c.in-Some-Message.field-0-0 c.in-Some-Message.field-0-1 (take c.in-Some-Message.len c.in-Some-Message.buf) c.next_event.new.self.link.state.receive_queue.deliveries c.requires.ready.waits (c.in-Some-Message.ensures.event ∙ ap (λ (e : Event). delivery e ∷ c.next_event.new.self.link.state.receive_queue.deliveries) c.in-Some-Message.field-0-is) in
     judged_quiet c.args.endpoint.now.link c.requires.ready.live w.number (take c.in-Some-Message.len c.in-Some-Message.buf) w.is c.requires.ready.none_lent c.requires.ready.no_reads
     (kept_verdict (kept_views c.args.first_xid c.args.sent c.args.outstanding.now.items) (bytes_under c.next_event.new.self.link.state.memory) (take c.in-Some-Message.len c.in-Some-Message.buf))
     c.next_event.new.self.link c.take_message.new.endpoint.link c.args.outstanding.now.items c.take_message.new.outstanding.items c.args.answered.now.items c.take_message.new.answered.items c.args.grant.now c.take_message.new.grant c.in-Some-Message.ensures.state c.take_message.ensures.judged

@@ -3,7 +3,7 @@ use Rattle.nr_link.specs.KeptSends.{kept_within}
 use Rattle.nr_link.specs.ReceiveState.{begun_bytes}
 use Rattle.nr_endpoint.specs.ReceiveQueue.{ReceiveQueue}
 use Rattle.nr_endpoint.specs.Views.{begun as begun_bytes_of}
-use Rattle.nr_endpoint.proofs.ReceiveQueueBuffers.{notices_message}
+use Rattle.nr_endpoint.proofs.ReceiveQueueBuffers.{deliveries_message}
 use Rattle.nr_endpoint.proofs.ReceiveQueueBytes.{message_bytes}
 use Rattle.nr_endpoint.proofs.ReceiveQueueSteps.{with_last}
 use Rattle.nr_endpoint.proofs.receive_queue.ReceiveQueue.complete.Goals as goal
@@ -18,5 +18,5 @@ returns c =
     message_bytes c.self.inside.receive_length c.extend.new.begun (begun_bytes (begun_bytes_of c.self.inside.receive_length c.self.inside.begun) ++ c.args.payload.now)
     (c.extend.ensures.bytes ∙ ap (λ (x : List ℕ). kept_within c.self.inside.receive_length (x ++ c.args.payload.now)) c.take_receive-begun.ensures.bytes)
     (omega (arith, count, c.extend.ensures.len, c.take_receive-begun.ensures.len)) (omega (arith, count, fits)) in
-    rw (← c.self.view_is, c.take_receive-begun.ensures.taken, c.push_back_reserved.ensures.items, notices_message c.self.inside.messages.items c.self.inside.reads_done (c.self.inside.sends + 1) c.extend.new.begun.buf c.extend.new.begun.len)
+    rw (← c.self.view_is, c.take_receive-begun.ensures.taken, c.push_back_reserved.ensures.items, deliveries_message c.self.inside.messages.items c.self.inside.reads_done (c.self.inside.sends + 1) c.extend.new.begun.buf c.extend.new.begun.len)
     (with_last _ c.args.payload.now _ _ message c.take_receive-begun.ensures.free)

@@ -1,8 +1,8 @@
 use Rattle.std.proofs.Common.{◌≡◌, ◌<◌, refl, drop, Bool, List, [], ◌∷◌, if◌then◌else◌, length, ap, sym, ◌∙◌, arith}
 use Rattle.std.proofs.lemmas.List.{length-drop}
-use Rattle.nr_endpoint.specs.Views.{notices, without_first_read}
+use Rattle.nr_endpoint.specs.Views.{deliveries, without_first_read}
 use Rattle.nr_endpoint.specs.declared.receive_queue.ReceivedMessage.{ReceivedMessage}
-use Rattle.nr_endpoint.proofs.ReceiveQueueBuffers.{notices_last_read, with_read_told, with_message_told}
+use Rattle.nr_endpoint.proofs.ReceiveQueueBuffers.{deliveries_last_read, with_read_told, with_message_told}
 use Rattle.nr_endpoint.proofs.ReceiveQueueSteps.{read_told}
 use Rattle.nr_endpoint.proofs.receive_queue.ReceiveQueue.next_event.Goals as goal
 
@@ -29,7 +29,7 @@ returns-clause-event c =
     c.take_first_read.ensures.left ∙ ap (λ (b : Bool). if b then without_first_read c.self.inside.messages.items else c.self.inside.messages.items) c.if-take_first_read.false in
     let none : c.pop_front.new.self.items ≡ [] = no_items_lem c.take_first_read.new.messages.items c.pop_front.new.self.items c.in_default.ensures.items c.pop_front.ensures.rest in
     let some : 0 < c.self.inside.reads_done = omega (arith, c.if-self-eq0.false) in
-    rw (← c.self.view_is) ((λ i. notices (sym left i) c.self.inside.reads_done) ∙ (λ i. notices (c.in_default.ensures.items i) c.self.inside.reads_done) ∙ notices_last_read c.pop_front.new.self.items c.self.inside.reads_done none some)
+    rw (← c.self.view_is) ((λ i. deliveries (sym left i) c.self.inside.reads_done) ∙ (λ i. deliveries (c.in_default.ensures.items i) c.self.inside.reads_done) ∙ deliveries_last_read c.pop_front.new.self.items c.self.inside.reads_done none some)
 
 pub returns-clause-after : goal.returns-clause-after
 returns-clause-after c =
@@ -37,4 +37,4 @@ returns-clause-after c =
     c.take_first_read.ensures.left ∙ ap (λ (b : Bool). if b then without_first_read c.self.inside.messages.items else c.self.inside.messages.items) c.if-take_first_read.false in
     let none : c.pop_front.new.self.items ≡ [] = no_items_lem c.take_first_read.new.messages.items c.pop_front.new.self.items c.in_default.ensures.items c.pop_front.ensures.rest in
     let some : 0 < c.self.inside.reads_done = omega (arith, c.if-self-eq0.false) in
-    rw (← c.self.view_is) (read_told _ _ ((λ i. notices (sym left i) c.self.inside.reads_done) ∙ (λ i. notices (c.in_default.ensures.items i) c.self.inside.reads_done) ∙ notices_last_read c.pop_front.new.self.items c.self.inside.reads_done none some))
+    rw (← c.self.view_is) (read_told _ _ ((λ i. deliveries (sym left i) c.self.inside.reads_done) ∙ (λ i. deliveries (c.in_default.ensures.items i) c.self.inside.reads_done) ∙ deliveries_last_read c.pop_front.new.self.items c.self.inside.reads_done none some))

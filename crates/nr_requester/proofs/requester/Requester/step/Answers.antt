@@ -57,7 +57,7 @@ pub returns-in_default-clause-tickets : goal.returns-in_default-clause-tickets
 returns-in_default-clause-tickets c =
     let i = c.self.inside in
     let view : RequesterSide = requester_view i.endpoint.link i.sent i.wished i.first_xid i.next_xid i.grant i.outstanding.items i.answered.items in
-    let quiet = ap (λ (h : RequesterSide). h.state.side.receive_queue.notices) (sym c.self.view_is) ∙ c.self.invariant.0.none_waits in
+    let quiet = ap (λ (h : RequesterSide). h.state.side.receive_queue.deliveries) (sym c.self.view_is) ∙ c.self.invariant.0.none_waits in
     let k = subst (λ (h : RequesterSide). AreApart h.state) c.self.view_is (are_apart view.state i.next_xid i.outstanding.items refl c.self.invariant.0.rising c.self.invariant.0.apart) in
     step_keeps c.args.self.now _ c.args.left.now quiet k (returns-in_default-clause-step c)
 
@@ -65,6 +65,6 @@ pub returns-clause-tickets : goal.returns-clause-tickets
 returns-clause-tickets c =
     let i = c.self.inside in
     let view : RequesterSide = requester_view i.endpoint.link i.sent i.wished i.first_xid i.next_xid i.grant i.outstanding.items i.answered.items in
-    let quiet = ap (λ (h : RequesterSide). h.state.side.receive_queue.notices) (sym c.self.view_is) ∙ c.self.invariant.0.none_waits in
+    let quiet = ap (λ (h : RequesterSide). h.state.side.receive_queue.deliveries) (sym c.self.view_is) ∙ c.self.invariant.0.none_waits in
     let k = subst (λ (h : RequesterSide). AreApart h.state) c.self.view_is (are_apart view.state i.next_xid i.outstanding.items refl c.self.invariant.0.rising c.self.invariant.0.apart) in
     step_keeps c.args.self.now _ c.args.left.now quiet k (returns-clause-step c)

@@ -3,7 +3,7 @@ use Rattle.nr_endpoint.specs.declared.event.Event.{Event}
 use Rattle.nr_endpoint.specs.LinkState.{LinkSide}
 use Rattle.nr_endpoint.specs.Calls.{after_call}
 use Rattle.nr_endpoint.specs.Calls.Call.{NextEvent}
-use Rattle.nr_endpoint.specs.Views.{notice}
+use Rattle.nr_endpoint.specs.Views.{delivery}
 use Rattle.nr_responder.specs.ResponderState.{ResponderSide}
 use Rattle.nr_responder.specs.Sound.{state_of}
 use Rattle.nr_responder.specs.Handling.{Makes, on_link}
@@ -16,15 +16,15 @@ use Rattle.nr_responder.proofs.server_end.ServerEnd.take_event.Goals as goal
 
 pub message-requires-clause-sound : goal.message-requires-clause-sound
 message-requires-clause-sound c =
-    let one = c.in-Some-Message.ensures.event ∙ ap (λ (e : Event). notice e ∷ c.next_event.new.self.link.state.receive_queue.notices) c.in-Some-Message.field-0-is in
-    sound_told c.args.self.now.endpoint.link c.next_event.new.self.link _ _ _ c.next_event.new.self.link.state.receive_queue.notices c.args.self.now.calls.items c.args.self.now.ready.items c.args.self.now.used.items _ _ _ c.in-Some-Message.ensures.state one c.requires.sound
+    let one = c.in-Some-Message.ensures.event ∙ ap (λ (e : Event). delivery e ∷ c.next_event.new.self.link.state.receive_queue.deliveries) c.in-Some-Message.field-0-is in
+    sound_told c.args.self.now.endpoint.link c.next_event.new.self.link _ _ _ c.next_event.new.self.link.state.receive_queue.deliveries c.args.self.now.calls.items c.args.self.now.ready.items c.args.self.now.used.items _ _ _ c.in-Some-Message.ensures.state one c.requires.sound
 
 pub message-requires-clause-live : goal.message-requires-clause-live
 message-requires-clause-live c = (told_link_lem c.args.self.now.endpoint.link c.next_event.new.self.link c.in-Some-Message.ensures.state).live ∙ c.requires.live
 
 pub returns-in-Some-Message-clause-taken : goal.returns-in-Some-Message-clause-taken
 returns-in-Some-Message-clause-taken c =
-    let one = c.in-Some-Message.ensures.event ∙ ap (λ (e : Event). notice e ∷ c.next_event.new.self.link.state.receive_queue.notices) c.in-Some-Message.field-0-is in
+    let one = c.in-Some-Message.ensures.event ∙ ap (λ (e : Event). delivery e ∷ c.next_event.new.self.link.state.receive_queue.deliveries) c.in-Some-Message.field-0-is in
     let bytes : List ℕ = take c.in-Some-Message.len c.in-Some-Message.buf in
     let v : ResponderSide = state_of c.args.self.now in
     let after : ResponderSide = state_of c.message.new.self in
@@ -32,7 +32,7 @@ returns-in-Some-Message-clause-taken c =
     record {
       none = λ none. absurd (let two = sym one ∙ none in cc);
       some = λ number invalidated m only.
-          let same = same_message c.in-Some-Message.number number _ invalidated bytes m c.next_event.new.self.link.state.receive_queue.notices [] (sym one ∙ only) in
+          let same = same_message c.in-Some-Message.number number _ invalidated bytes m c.next_event.new.self.link.state.receive_queue.deliveries [] (sym one ∙ only) in
           subst (λ (n : ℕ). Makes (on_link v (after_call v.link NextEvent)) n m after) same.0 (subst (λ (x : List ℕ). Makes (on_link v (after_call v.link NextEvent)) c.in-Some-Message.number x after) same.1
           (subst (λ (l : LinkSide). Makes (on_link v l) c.in-Some-Message.number bytes after) c.in-Some-Message.ensures.state made));
       read = λ done r rest reads. absurd (let two : [] ≡ r ∷ rest = reads in cc);
