@@ -17,11 +17,11 @@ mod entry_calls;
 #[cfg(test)]
 mod file_calls;
 #[cfg(test)]
+mod links_max;
+#[cfg(test)]
 mod listings;
 #[cfg(test)]
 mod making_calls;
-#[cfg(test)]
-mod links_max;
 #[cfg(test)]
 mod no_space;
 #[cfg(test)]

@@ -20,7 +20,7 @@ mod words;
 pub use commands::{Action, Client, Command};
 pub use laws::{lines_are_possible, options_that_ask};
 pub use limits::{
-    CALLS_MAX, CAPACITY_MAX, CLIENTS_MAX, CONNECTIONS_MAX, CREDITS_MAX, MOUNT_PATH_MAX, ID_MAX,
+    CALLS_MAX, CAPACITY_MAX, CLIENTS_MAX, CONNECTIONS_MAX, CREDITS_MAX, ID_MAX, MOUNT_PATH_MAX,
     SEED_MAX,
 };
 pub use lines::read_line;
