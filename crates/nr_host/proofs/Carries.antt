@@ -1,5 +1,5 @@
 -- A connection, read after read.
-use Rattle.std.proofs.Common.{◌≡◌, ℕ, ◌+◌, ◌≤◌, List, [], ◌++◌, length, Option, None, Some, arith, refl, sym, ap, subst, ◌∙◌, append-nil}
+use Rattle.std.proofs.Common.{◌≡◌, ℕ, ◌+◌, ◌<◌, ◌≤◌, Bool, true, false, List, [], ◌++◌, length, Option, None, Some, arith, refl, sym, ap, subst, ◌∙◌, append-nil}
 use Rattle.std.specs.Io.KnownBytes.{IsAtEnd}
 use Rattle.std.proofs.KnownBytes.{Appends-nil}
 use Rattle.std.specs.Io.KnownBytes.{Appends}
@@ -18,86 +18,100 @@ use Rattle.nr_responder.specs.Standing.{Stands}
 use Rattle.nr_plain.specs.Stands.{PlainServerState, RepresentsJournal}
 use Rattle.nr_host.specs.declared.conn_end.ConnEnd.{ConnEnd}
 use Rattle.nr_host.specs.declared.conn_end.ConnEnd.TheVariants as ends
-use Rattle.nr_host.specs.Connections.{Terms, Outside, Runs, GivesAll, moments, added}
-use Rattle.nr_host.specs.Ending.{AheadAt, IsCause, MoreAt, read_max}
-use Rattle.nr_host.specs.Steps.{AllQuiet, CarriesTo, EndsIdle, FeedEnds, FeedsTo, IsLive, IsServed, outside}
+use Rattle.nr_host.specs.Connections.{Terms, Outside, Runs, SinkState, GivesAll, moments, added}
+use Rattle.nr_host.specs.Ending.{AheadAt, FailedAt, IsCause, MoreAt, ReadAt, read_max}
+use Rattle.nr_host.specs.Steps.{AllQuiet, CarriesTo, EndsIdle, FeedEnds, FeedsTo, IsLive, IsServed, outside, sink_state}
 use Rattle.nr_host.proofs.Idle.{facts}
 use Rattle.nr_host.proofs.Marks.{read_more}
 use Rattle.nr_host.proofs.Quiet.{quiet}
 
-module _ (credits : ℕ) (before : Outside) (left given left' given' taken : Option (List ℕ)) (gave : Option (List Moment)) (kept : PlainServerState) (v : ResponderSide) (read : ℕ)
-    (piece : List ℕ) (carries : CarriesTo credits before (outside left given taken gave kept) v read) (hands : HandsOut left given left' given' piece) where
+module _ (credits : ℕ) (before : Outside) (left given left' given' : Option (List ℕ)) (sink : SinkState) (gave : Option (List Moment)) (kept : PlainServerState) (v : ResponderSide) (read : ℕ)
+    (piece : List ℕ) (carries : CarriesTo credits before (outside left given sink gave kept) v read) (hands : HandsOut left given left' given' piece) where
   abbrev terms : Terms
   terms = record { credits = credits; read = read + length piece }
 
-  waits : (link : ℕ) (run : List Mark) → IsLive (record { credits = credits; read = read }) link before (outside left given taken gave kept) [] run v
-      → IsLive terms link before (outside left' given' taken gave kept) (piece ++ []) run v
+  waits : (link : ℕ) (run : List Mark) → IsLive (record { credits = credits; read = read }) link before (outside left given sink gave kept) [] run v
+      → IsLive terms link before (outside left' given' sink gave kept) (piece ++ []) run v
   waits link run live = record {
-    runs = subst (λ (bytes : List ℕ). Runs terms link before (outside left' given' taken gave kept) bytes [] run) (sym (append-nil piece))
-        (read_more (record { credits = credits; read = read }) link before left given left' given' taken gave kept piece run live.runs hands);
+    runs = subst (λ (bytes : List ℕ). Runs terms link before (outside left' given' sink gave kept) bytes [] run) (sym (append-nil piece))
+        (read_more (record { credits = credits; read = read }) link before left given left' given' sink gave kept piece run live.runs hands);
     stands = live.stands;
   }
 
   -- a piece is read and fed
-  pub carry_on : (taken' : Option (List ℕ)) (gave' : Option (List Moment)) (kept' : PlainServerState) (v' : ResponderSide)
-      → FeedsTo piece [] taken taken' gave gave' kept kept' v v' → CarriesTo credits before (outside left' given' taken' gave' kept') v' (read + length piece)
-  carry_on taken' gave' kept' v' feeds link =
+  pub carry_on : (sink' : SinkState) (gave' : Option (List Moment)) (kept' : PlainServerState) (v' : ResponderSide)
+      → FeedsTo piece [] sink sink' gave gave' kept kept' v v' → CarriesTo credits before (outside left' given' sink' gave' kept') v' (read + length piece)
+  carry_on sink' gave' kept' v' feeds link =
       let (run, (live, quiet)) = carries link in
       feeds terms link before left' given' [] run (waits link run live) quiet
 
   -- the connection ends within the piece
-  pub carry_ends : (end : ConnEnd) (taken' : Option (List ℕ)) (gave' : Option (List Moment)) (kept' : PlainServerState)
-      → FeedEnds end piece taken taken' gave gave' kept kept' v → IsServed credits before (outside left' given' taken' gave' kept') end
-  carry_ends end taken' gave' kept' feeds link =
+  pub carry_ends : (end : ConnEnd) (taken' : Option (List ℕ)) (faults' : ℕ) (failed : Bool) (gave' : Option (List Moment)) (kept' : PlainServerState)
+      → read + length piece ≤ read_max → FeedEnds end piece sink (sink_state taken' faults' failed) gave gave' kept kept' v
+      → IsServed credits before (outside left' given' (sink_state taken' faults' false) gave' kept') end
+  carry_ends end taken' faults' failed gave' kept' most feeds link =
       let (run, (live, quiet)) = carries link in
-      (read + length piece, feeds terms link before left' given' run (waits link run live) quiet)
+      (read + length piece, (failed, feeds terms link before left' given' run most (waits link run live) quiet))
 
 -- nothing more is read, and the connection ends
 pub carried : (credits : ℕ) (before now : Outside) (v : ResponderSide) (read : ℕ) (end : ConnEnd) → CarriesTo credits before now v read → AheadAt end [] → MoreAt end []
+    → ReadAt end read → FailedAt end now.sink.failed
     → ((opened : LinkParameters) (link : ℕ) (run : List Mark) → Stands opened link run v → AllQuiet (record { credits = credits; read = read }) link run → opened.granted ≡ credits
     → length (bytes_received link Responder run) ≡ read → IsCause opened link run now.left end)
     → IsServed credits before now end
-carried credits before now v read end carries ahead more cause link =
+carried credits before now v read end carries ahead more most failed cause link =
     let (run, (live, quiet)) = carries link in
     let count = live.runs.count in (
       read,
-      record {
-        run = run;
-        ahead = [];
-        more = [];
-        runs = live.runs;
-        ahead_is = ahead;
-        more_is = more;
-        cause = λ opened granted. cause opened link run (live.stands opened granted) quiet granted (omega (arith, count));
-      },
+      (
+        now.sink.failed,
+        record {
+          run = run;
+          ahead = [];
+          more = [];
+          runs = live.runs;
+          ahead_is = ahead;
+          more_is = more;
+          read_is = most;
+          failed_is = failed;
+          cause = λ opened granted. cause opened link run (live.stands opened granted) quiet granted (omega (arith, count));
+        },
+      ),
     )
 
 -- a read that handed out nothing
-pub nothing_read : (credits : ℕ) (before : Outside) (left given left' given' taken : Option (List ℕ)) (gave : Option (List Moment)) (kept : PlainServerState) (v : ResponderSide) (read : ℕ)
-    → CarriesTo credits before (outside left given taken gave kept) v read → HandsOut left given left' given' [] → CarriesTo credits before (outside left' given' taken gave kept) v (read + 0)
-nothing_read credits before left given left' given' taken gave kept v read carries hands link =
+pub nothing_read : (credits : ℕ) (before : Outside) (left given left' given' : Option (List ℕ)) (sink : SinkState) (gave : Option (List Moment)) (kept : PlainServerState) (v : ResponderSide) (read : ℕ)
+    → CarriesTo credits before (outside left given sink gave kept) v read → HandsOut left given left' given' [] → CarriesTo credits before (outside left' given' sink gave kept) v (read + 0)
+nothing_read credits before left given left' given' sink gave kept v read carries hands link =
     let (run, (live, quiet)) = carries link in
-    (run, (waits credits before left given left' given' taken gave kept v read [] carries hands link run live, quiet))
+    (run, (waits credits before left given left' given' sink gave kept v read [] carries hands link run live, quiet))
 
 -- the read failed
-pub read_fails : (credits : ℕ) (before now : Outside) (v : ResponderSide) (read : ℕ) → CarriesTo credits before now v read → end_of v ≡ None → IsServed credits before now ends.LinkRead
-read_fails credits before now v read carries live =
-    carried credits before now v read ends.LinkRead carries refl refl
+pub read_fails : (credits : ℕ) (before now : Outside) (v : ResponderSide) (read : ℕ) → CarriesTo credits before now v read → end_of v ≡ None → read < read_max → now.sink.failed ≡ false
+    → IsServed credits before now ends.LinkRead
+read_fails credits before now v read carries live less failed =
+    carried credits before now v read ends.LinkRead carries refl refl less failed
     (λ opened link run stands quiet granted count. (facts opened link run v stands live (quiet opened granted)).idle)
 
 -- the client ended its stream
 pub read_ends : (credits : ℕ) (before now : Outside) (v : ResponderSide) (read : ℕ) (end : ConnEnd) → CarriesTo credits before now v (read + 0) → IsAtEnd now.left → EndsIdle end read v
-    → AheadAt end [] → MoreAt end [] → IsServed credits before now end
-read_ends credits before now v read end carries ended idle ahead more =
-    carried credits before now v (read + 0) end carries ahead more
+    → AheadAt end [] → MoreAt end [] → ReadAt end (read + 0) → FailedAt end now.sink.failed → IsServed credits before now end
+read_ends credits before now v read end carries ended idle ahead more most failed =
+    carried credits before now v (read + 0) end carries ahead more most failed
     (λ opened link run stands quiet granted count. idle opened link run now.left stands (quiet opened granted) ended (omega (arith, count)))
 
 -- the maximum number of bytes was read
-pub read_enough : (credits : ℕ) (before now : Outside) (v : ResponderSide) (read : ℕ) → CarriesTo credits before now v read → end_of v ≡ None → read ≡ read_max
+pub read_enough : (credits : ℕ) (before now : Outside) (v : ResponderSide) (read : ℕ) → CarriesTo credits before now v read → end_of v ≡ None → read ≡ read_max → now.sink.failed ≡ false
     → IsServed credits before now (ends.Budget read)
-read_enough credits before now v read carries live most =
-    carried credits before now v read (ends.Budget read) carries refl refl
+read_enough credits before now v read carries live most failed =
+    carried credits before now v read (ends.Budget read) carries refl refl most failed
     (λ opened link run stands quiet granted count. ((facts opened link run v stands live (quiet opened granted)).idle, (most, count ∙ most)))
+
+-- a write failed while the piece was fed
+pub write_failed : (credits : ℕ) (before now : Outside) (v : ResponderSide) (read : ℕ) → CarriesTo credits before now v read → read ≤ read_max → now.sink.failed ≡ true
+    → IsServed credits before now ends.LinkWrite
+write_failed credits before now v read carries most failed =
+    carried credits before now v read ends.LinkWrite carries refl refl most failed (λ opened link run stands quiet granted count. quiet opened granted)
 
 -- ---- Before the first read
 
@@ -118,43 +132,57 @@ added_none : added [] ≡ []
 unfolding journal
 added_none = refl
 
-pub begins : (credits link : ℕ) (before : Outside) → Runs (record { credits = credits; read = 0 }) link before before [] [] []
-begins credits link before = record {
-  own = tt;
-  handed = subst (λ (bytes : List ℕ). HandsOut before.left before.given before.left before.given (bytes ++ [])) (sym (received_none link)) (HandsOut_nil before.left before.given);
-  taken = subst (Appends before.taken before.taken) (sym (sent_none link)) (Appends-nil before.taken);
-  served = λ opened granted. tt;
-  quiet = λ opened granted. tt;
-  over = λ s J stood. record {
-    stands = subst (λ (es : List Entry). RepresentsJournal s es before.kept) (sym (ap (λ (es : List Entry). J ++ es) added_none ∙ append-nil J)) stood;
-    each = tt;
-  };
-  gave = gives_none before.gave;
-  count = ap (λ (bytes : List ℕ). length bytes + 0) (received_none link);
-}
+-- a connection at its first byte
+abbrev pub first_outside : (left given taken : Option (List ℕ)) (faults : ℕ) (gave : Option (List Moment)) (kept : PlainServerState) → Outside
+first_outside left given taken faults gave kept = outside left given (sink_state taken faults false) gave kept
 
-pub opened : (credits : ℕ) (before : Outside) (v : ResponderSide) → v ≡ opened_side credits → end_of v ≡ None
-    → ((opened : LinkParameters) (link : ℕ) → opened.granted ≡ credits → Stands opened link [] v) → CarriesTo credits before before v 0
-unfolding initial_link
-opened credits before v is live stands link = (
-  [],
-  (
-    record { runs = begins credits link before; stands = λ o granted. stands o link granted },
-    λ o granted. quiet o link [] v (stands o link granted) live (ap queue is) (ap (λ (w : ResponderSide). w.ready) is),
-  ),
-)
+module _ (left given taken : Option (List ℕ)) (faults : ℕ) (gave : Option (List Moment)) (kept : PlainServerState) where
+  abbrev first : Outside
+  first = first_outside left given taken faults gave kept
 
--- there was no memory for it
-pub unopened : (credits : ℕ) (before : Outside) → IsServed credits before before ends.Memory
-unopened credits before link = (
-  0,
-  record {
-    run = [];
-    ahead = [];
-    more = [];
-    runs = begins credits link before;
-    ahead_is = tt;
-    more_is = (let none : 0 ≤ 1 = omega arith in none);
-    cause = λ o granted. tt;
-  },
-)
+  begins : (credits link : ℕ) → Runs (record { credits = credits; read = 0 }) link first first [] [] []
+  begins credits link = record {
+    own = tt;
+    handed = subst (λ (bytes : List ℕ). HandsOut left given left given (bytes ++ [])) (sym (received_none link)) (HandsOut_nil left given);
+    taken = (refl, subst (Appends taken taken) (sym (sent_none link)) (Appends-nil taken));
+    served = λ opened granted. tt;
+    quiet = λ opened granted. tt;
+    frames = λ opened granted. tt;
+    over = λ s J stood. record {
+      stands = subst (λ (es : List Entry). RepresentsJournal s es kept) (sym (ap (λ (es : List Entry). J ++ es) added_none ∙ append-nil J)) stood;
+      each = tt;
+    };
+    gave = gives_none gave;
+    count = ap (λ (bytes : List ℕ). length bytes + 0) (received_none link);
+  }
+
+  pub opened : (credits : ℕ) (v : ResponderSide) → v ≡ opened_side credits → end_of v ≡ None
+      → ((opened : LinkParameters) (link : ℕ) → opened.granted ≡ credits → Stands opened link [] v) → CarriesTo credits first first v 0
+  unfolding initial_link
+  opened credits v is live stands link = (
+    [],
+    (
+      record { runs = begins credits link; stands = λ o granted. stands o link granted },
+      λ o granted. quiet o link [] v (stands o link granted) live (ap queue is) (ap (λ (w : ResponderSide). w.ready) is),
+    ),
+  )
+
+  -- there was no memory for it
+  pub unopened : (credits : ℕ) → IsServed credits first first ends.Memory
+  unopened credits link = (
+    0,
+    (
+      false,
+      record {
+        run = [];
+        ahead = [];
+        more = [];
+        runs = begins credits link;
+        ahead_is = tt;
+        more_is = (let none : 0 ≤ 1 = omega arith in none);
+        read_is = (let none : 0 ≤ read_max = omega arith in none);
+        failed_is = tt;
+        cause = λ o granted. tt;
+      },
+    ),
+  )

@@ -1,111 +1,165 @@
--- A drain after all calls were executed.
-use Rattle.std.proofs.Common.{◌≡◌, ℕ, ◌≤◌, List, [], ◌∷◌, ◌++◌, length, take, Option, None, Some, arith, refl, ap, ◌∙◌}
+-- A drain, and the ends at it.
+use Rattle.std.proofs.Common.{◌≡◌, ℕ, ◌≤◌, Bool, true, false, List, [], ◌∷◌, ◌++◌, length, take, Option, None, Some, is_some, inr, arith, refl, sym, ap, subst, ◌∙◌, append-nil}
+use Rattle.std.proofs.lemmas.Option.{none-some, same_Some}
+use Rattle.nr_outside.specs.Faults.{Rises}
 use Rattle.nr_outside.specs.declared.moment.Moment.{Moment}
 use Rattle.nr_wire.specs.declared.hello.Side.TheVariants.{Responder}
 use Rattle.nr_reduce.specs.declared.mark.Mark.{Mark}
 use Rattle.nr_reduce.specs.declared.mark.Mark.TheVariants as marks
+use Rattle.nr_reduce.specs.declared.mark.LinkParameters.{LinkParameters}
+use Rattle.nr_reduce.specs.Run.{server}
 use Rattle.nr_responder.specs.Draining.{Drains}
 use Rattle.nr_responder.specs.ResponderState.{ResponderSide, end_of, may_write, queue}
+use Rattle.nr_responder.specs.Standing.{Stands}
+use Rattle.nr_responder.proofs.Marks.{ended_stands}
 use Rattle.nr_plain.specs.Stands.{PlainServerState}
 use Rattle.nr_link.specs.declared.end.End.{End}
 use Rattle.nr_link.specs.declared.end.End.TheVariants as link_ends
 use Rattle.nr_host.specs.declared.conn_end.ConnEnd.TheVariants as ends
-use Rattle.nr_host.specs.Connections.{Terms, Outside}
-use Rattle.nr_host.specs.Steps.{IsLive, AllQuiet, EndsAt, EndsWith, GoesOn, GoesQuietly, RunsOut, outside}
-use Rattle.nr_host.proofs.Marks.{wrote}
-use Rattle.nr_host.proofs.Quiet.{drained_due, drained_all, ended_server, ended_written, quiet}
+use Rattle.nr_host.specs.Connections.{Terms, Outside, Runs, SinkState}
+use Rattle.nr_host.specs.Steps.{IsLive, AllQuiet, EndsAt, EndsWith, GoesOn, GoesQuietly, RunsOut, WritesAll, outside, sink_state}
+use Rattle.nr_host.proofs.Marks.{fed, wrote}
+use Rattle.nr_host.proofs.Sinks.{TakesMore, takes_all, takes_first, takes_none}
+use Rattle.nr_host.proofs.Quiet.{drained_due, drained_none, ended_quiet, ended_server, quiet}
 
-pub drained : (terms : Terms) (link : ℕ) (before : Outside) (left given taken taken' : Option (List ℕ)) (gave : Option (List Moment)) (kept : PlainServerState)
-    (ahead : List ℕ) (run : List Mark) (v v' : ResponderSide) (n : ℕ) → Drains v v' taken taken' n
-    → IsLive terms link before (outside left given taken gave kept) ahead run v
-    → IsLive terms link before (outside left given taken' gave kept) ahead (run ++ marks.Wrote link Responder (take n (may_write v)) ∷ []) v'
-drained terms link before left given taken taken' gave kept ahead run v v' n d live = record {
-  runs = wrote terms link before left given taken taken' gave kept (take n (may_write v)) ahead run live.runs d.taken
+pub drained : (terms : Terms) (link : ℕ) (before : Outside) (left given : Option (List ℕ)) (sink sink' : SinkState) (gave : Option (List Moment)) (kept : PlainServerState)
+    (ahead : List ℕ) (run : List Mark) (v v' : ResponderSide) (t t' : Option (List ℕ)) (n : ℕ) → Drains v v' t t' n → TakesMore sink sink' (take n (may_write v))
+    → IsLive terms link before (outside left given sink gave kept) ahead run v
+    → IsLive terms link before (outside left given sink' gave kept) ahead (run ++ marks.Wrote link Responder (take n (may_write v)) ∷ []) v'
+drained terms link before left given sink sink' gave kept ahead run v v' t t' n d more live = record {
+  runs = wrote terms link before left given sink sink' gave kept (take n (may_write v)) ahead run live.runs more
       (λ opened granted. drained_due opened link run v n (live.stands opened granted));
   stands = λ opened granted. d.stands opened link run (live.stands opened granted);
 }
 
-pub drained_quiet : (terms : Terms) (link : ℕ) (before : Outside) (left given taken taken' : Option (List ℕ)) (gave : Option (List Moment)) (kept : PlainServerState)
-    (ahead : List ℕ) (run : List Mark) (v v' : ResponderSide) (n : ℕ) → Drains v v' taken taken' n
-    → IsLive terms link before (outside left given taken gave kept) ahead run v → end_of v ≡ None → v.ready ≡ [] → n ≡ length (may_write v)
-    → AllQuiet terms link (run ++ marks.Wrote link Responder (take n (may_write v)) ∷ [])
-drained_quiet terms link before left given taken taken' gave kept ahead run v v' n d live on idle all opened granted =
-    quiet opened link (run ++ marks.Wrote link Responder (take n (may_write v)) ∷ []) v' (d.stands opened link run (live.stands opened granted))
-    (ap end_of d.state ∙ on)
-    (ap queue d.state ∙ drained_all opened link run v n (live.stands opened granted) on all)
-    (ap (λ (w : ResponderSide). w.ready) d.state ∙ idle)
+-- one drain of all that may be written
+pub writes_once : (sink sink' : SinkState) (v v' : ResponderSide) (t t' : Option (List ℕ)) (n : ℕ) → Drains v v' t t' n → n ≡ length (may_write v)
+    → TakesMore sink sink' (take n (may_write v)) → WritesAll sink sink' v v'
+writes_once sink sink' v v' t t' n d all more terms link before left given gave kept ahead run live = (
+  run ++ marks.Wrote link Responder (take n (may_write v)) ∷ [],
+  (
+    drained terms link before left given sink sink' gave kept ahead run v v' t t' n d more live,
+    λ opened granted other. ap queue d.state ∙ drained_none opened link run v n (live.stands opened granted) other all,
+  ),
+)
+
+-- after one that failed
+pub writes_twice : (sink mid sink' : SinkState) (v v1 v' : ResponderSide) (t t' : Option (List ℕ)) (n : ℕ) → Drains v v1 t t' n → TakesMore sink mid (take n (may_write v))
+    → WritesAll mid sink' v1 v' → WritesAll sink sink' v v'
+writes_twice sink mid sink' v v1 v' t t' n d more rest terms link before left given gave kept ahead run live =
+    let live1 = drained terms link before left given sink mid gave kept ahead run v v1 t t' n d more live in
+    let (run', (live', none)) = rest terms link before left given gave kept ahead (run ++ marks.Wrote link Responder (take n (may_write v)) ∷ []) live1 in
+    (run', (live', λ opened granted other. none opened granted (λ e. other (sym (ap end_of d.state) ∙ e))))
+
+-- ---- By what the function that drains knows
+
+module _ (failed : Bool) (taken taken' : Option (List ℕ)) (faults faults' : ℕ) (v v1 v' : ResponderSide) (n : ℕ) where
+  pub drops : failed ≡ true → Drains v v' None None n → n ≡ length (may_write v) → WritesAll (sink_state taken faults failed) (sink_state taken faults failed) v v'
+  drops is d all =
+      subst (λ (b : Bool). WritesAll (sink_state taken faults b) (sink_state taken faults b) v v') (sym is)
+      (writes_once (sink_state taken faults true) (sink_state taken faults true) v v' None None n d all (takes_none taken faults (take n (may_write v))))
+
+  pub writes : failed ≡ false → Drains v v' taken taken' n → n ≡ length (may_write v) → faults' ≡ faults → WritesAll (sink_state taken faults failed) (sink_state taken' faults' failed) v v'
+  writes is d all same =
+      subst (λ (b : Bool). WritesAll (sink_state taken faults b) (sink_state taken' faults' b) v v') (sym is)
+      (writes_once (sink_state taken faults false) (sink_state taken' faults' false) v v' taken taken' n d all
+      (takes_all taken taken' faults faults' (take n (may_write v)) d.taken same))
+
+  pub writes_some : failed ≡ false → Drains v v1 taken taken' n → Rises faults faults' → (m : ℕ) → Drains v1 v' None None m → m ≡ length (may_write v1)
+      → WritesAll (sink_state taken faults failed) (sink_state taken' faults' true) v v'
+  writes_some is d rises m dropped all =
+      subst (λ (b : Bool). WritesAll (sink_state taken faults b) (sink_state taken' faults' true) v v') (sym is)
+      (writes_twice (sink_state taken faults false) (sink_state taken' faults' true) (sink_state taken' faults' true) v v1 v' taken taken' n d
+      (takes_first taken taken' faults faults' (take n (may_write v)) d.taken rises)
+      (writes_once (sink_state taken' faults' true) (sink_state taken' faults' true) v1 v' None None m dropped all (takes_none taken' faults' (take m (may_write v1)))))
 
 -- all calls that were ready are executed, and all that is due is written
-pub quietly : (taken taken' : Option (List ℕ)) (gave gave' : Option (List Moment)) (kept kept' : PlainServerState) (v v' v'' : ResponderSide) (n : ℕ)
-    → GoesOn gave gave' kept kept' v v' → end_of v' ≡ None → v'.ready ≡ [] → Drains v' v'' taken taken' n → n ≡ length (may_write v')
-    → GoesQuietly taken taken' gave gave' kept kept' v v''
-quietly taken taken' gave gave' kept kept' v v' v'' n goes on idle d all terms link before left given ahead run live =
-    let (run', live') = goes terms link before left given taken ahead run live in (
-      run' ++ marks.Wrote link Responder (take n (may_write v')) ∷ [],
+pub quietly : (sink sink' : SinkState) (gave gave' : Option (List Moment)) (kept kept' : PlainServerState) (v v' v'' : ResponderSide)
+    → GoesOn gave gave' kept kept' v v' → end_of v' ≡ None → v'.ready ≡ [] → WritesAll sink sink' v' v'' → end_of v'' ≡ end_of v' → v''.ready ≡ v'.ready
+    → GoesQuietly sink sink' gave gave' kept kept' v v''
+quietly sink sink' gave gave' kept kept' v v' v'' goes on idle writes same ready terms link before left given ahead run live =
+    let (run', live') = goes terms link before left given sink ahead run live in
+    let (run'', (live'', none)) = writes terms link before left given gave' kept' ahead run' live' in (
+      run'',
       (
-        drained terms link before left given taken taken' gave' kept' ahead run' v' v'' n d live',
-        drained_quiet terms link before left given taken taken' gave' kept' ahead run' v' v'' n d live' on idle all,
+        live'',
+        λ opened granted.
+            quiet opened link run'' v'' (live''.stands opened granted) (same ∙ on)
+            (none opened granted (λ e. none-some link_ends.Memory (sym on ∙ e))) (ready ∙ idle),
       ),
     )
 
 -- ---- Ends
 
 -- memory ran out while calls were executed
-pub out_ends : (taken : Option (List ℕ)) (gave gave' : Option (List Moment)) (kept kept' : PlainServerState) (v : ResponderSide)
-    → RunsOut gave gave' kept kept' v → EndsWith ends.Memory taken taken gave gave' kept kept' v
-out_ends taken gave gave' kept kept' v out terms link before left given ahead run live =
-    let (run', more, few, runs) = out terms link before left given taken ahead run live in
-    record { run = run'; ahead = ahead; more = more; runs = runs; ahead_is = tt; more_is = few; cause = λ opened granted. tt }
+pub out_ends : (sink : SinkState) (gave gave' : Option (List Moment)) (kept kept' : PlainServerState) (v : ResponderSide)
+    → RunsOut gave gave' kept kept' v → EndsWith ends.Memory sink sink gave gave' kept kept' v
+out_ends sink gave gave' kept kept' v out terms link before left given ahead run most live =
+    let (run', more, few, runs) = out terms link before left given sink ahead run live in
+    record { run = run'; ahead = ahead; more = more; runs = runs; ahead_is = tt; more_is = few; read_is = most; failed_is = tt; cause = λ opened granted. tt }
 
--- the sink failed after they were
-pub write_ends : (taken taken' : Option (List ℕ)) (gave gave' : Option (List Moment)) (kept kept' : PlainServerState) (v v' v'' : ResponderSide) (n : ℕ)
-    → GoesOn gave gave' kept kept' v v' → Drains v' v'' taken taken' n → EndsWith ends.LinkWrite taken taken' gave gave' kept kept' v
-write_ends taken taken' gave gave' kept kept' v v' v'' n goes d terms link before left given ahead run live =
-    let (run', live') = goes terms link before left given taken ahead run live in
+-- a side that ran out of memory is drained
+pub stop_memory : (sink sink' : SinkState) (v v' : ResponderSide) → WritesAll sink sink' v v' → EndsAt ends.Memory sink sink' v
+stop_memory sink sink' v v' writes terms link before left given gave kept ahead run most live =
+    let (run', (live', none)) = writes terms link before left given gave kept ahead run live in
     record {
-      run = run' ++ marks.Wrote link Responder (take n (may_write v')) ∷ [];
+      run = run';
       ahead = ahead;
       more = [];
-      runs = (drained terms link before left given taken taken' gave' kept' ahead run' v' v'' n d live').runs;
+      runs = live'.runs;
       ahead_is = tt;
-      more_is = refl;
+      more_is = (let none : 0 ≤ 1 = omega arith in none);
+      read_is = most;
+      failed_is = tt;
       cause = λ opened granted. tt;
     }
 
--- a responder that ended is drained
-pub stop_memory : (taken taken' : Option (List ℕ)) (v v' : ResponderSide) (n : ℕ) → Drains v v' taken taken' n → EndsAt ends.Memory taken taken' v
-stop_memory taken taken' v v' n d terms link before left given gave kept run live = record {
-  run = run ++ marks.Wrote link Responder (take n (may_write v)) ∷ [];
-  ahead = [];
-  more = [];
-  runs = (drained terms link before left given taken taken' gave kept [] run v v' n d live).runs;
-  ahead_is = tt;
-  more_is = (let none : 0 ≤ 1 = omega arith in none);
-  cause = λ opened granted. tt;
-}
+-- The marks of a side that ended for another reason and was drained. What was read after that changes nothing.
+record Stopped (terms : Terms) (link : ℕ) (before now : Outside) (end : End) : Type 0 where
+  pub run : List Mark
+  pub runs : Runs terms link before now [] [] run
+  pub quiet : AllQuiet terms link run
+  pub ended : (opened : LinkParameters) → opened.granted ≡ terms.credits → (server opened link run).ended ≡ Some end
 
-pub stop_write : (taken taken' : Option (List ℕ)) (v v' : ResponderSide) (n : ℕ) → Drains v v' taken taken' n → EndsAt ends.LinkWrite taken taken' v
-stop_write taken taken' v v' n d terms link before left given gave kept run live = record {
-  run = run ++ marks.Wrote link Responder (take n (may_write v)) ∷ [];
-  ahead = [];
-  more = [];
-  runs = (drained terms link before left given taken taken' gave kept [] run v v' n d live).runs;
-  ahead_is = tt;
-  more_is = refl;
-  cause = λ opened granted. tt;
-}
+stopped : (sink sink' : SinkState) (v v' : ResponderSide) (end : End) → WritesAll sink sink' v v' → end_of v ≡ Some end → end_of v' ≡ end_of v → (end ≡ link_ends.Memory → ⊥)
+    → (terms : Terms) (link : ℕ) (before : Outside) (left given : Option (List ℕ)) (gave : Option (List Moment)) (kept : PlainServerState) (ahead : List ℕ) (run : List Mark)
+    → IsLive terms link before (outside left given sink gave kept) ahead run v → Stopped terms link before (outside left given sink' gave kept) end
+stopped sink sink' v v' end writes why same other terms link before left given gave kept ahead run live =
+    let (run', (live', none)) = writes terms link before left given gave kept ahead run live in
+    let over : end_of v' ≡ Some end = same ∙ why in
+    let not_out : end_of v ≡ Some link_ends.Memory → ⊥ = λ e. other (same_Some end link_ends.Memory (sym why ∙ e)) in
+    let some : is_some (end_of v') ≡ true = ap (λ (o : Option End). is_some o) over in
+    let last : List Mark = run' ++ marks.Fed link Responder ahead ∷ [] in
+    let stands : (opened : LinkParameters) → opened.granted ≡ terms.credits → Stands opened link last v' =
+    λ opened granted. ended_stands opened link run' v' ahead some (live'.stands opened granted) in
+    record {
+      run = last;
+      runs = fed terms link before (outside left given sink' gave kept) ahead [] run'
+          (subst (λ (bytes : List ℕ). Runs terms link before (outside left given sink' gave kept) bytes [] run') (sym (append-nil ahead)) live'.runs)
+          (λ opened granted. ended_quiet opened link run' v' end (live'.stands opened granted) over other (none opened granted not_out))
+          (λ opened granted. inr (ap (λ (o : Option End). is_some o) (ended_server opened link run' v' end (live'.stands opened granted) over other)));
+      quiet = λ opened granted. ended_quiet opened link last v' end (stands opened granted) over other (none opened granted not_out);
+      ended = λ opened granted. ended_server opened link last v' end (stands opened granted) over other;
+    }
 
-pub stop_protocol : (taken taken' : Option (List ℕ)) (v v' : ResponderSide) (n : ℕ) (end : End) → Drains v v' taken taken' n → n ≡ length (may_write v) → end_of v ≡ Some end → (end ≡ link_ends.Memory → ⊥)
-    → EndsAt (ends.Protocol end) taken taken' v
-stop_protocol taken taken' v v' n end d all why other terms link before left given gave kept run live = record {
-  run = run ++ marks.Wrote link Responder (take n (may_write v)) ∷ [];
-  ahead = [];
-  more = [];
-  runs = (drained terms link before left given taken taken' gave kept [] run v v' n d live).runs;
-  ahead_is = refl;
-  more_is = refl;
-  cause = λ opened granted. (
-    ended_server opened link (run ++ marks.Wrote link Responder (take n (may_write v)) ∷ []) v' end (d.stands opened link run (live.stands opened granted)) (ap end_of d.state ∙ why) other,
-    ended_written opened link run v v' taken taken' n end d all (live.stands opened granted) why other,
-  );
-}
+pub stop_write : (sink sink' : SinkState) (v v' : ResponderSide) (end : End) → WritesAll sink sink' v v' → end_of v ≡ Some end → end_of v' ≡ end_of v → (end ≡ link_ends.Memory → ⊥)
+    → sink'.failed ≡ true → EndsAt ends.LinkWrite sink sink' v
+stop_write sink sink' v v' end writes why same other failed terms link before left given gave kept ahead run most live =
+    let s = stopped sink sink' v v' end writes why same other terms link before left given gave kept ahead run live in
+    record { run = s.run; ahead = []; more = []; runs = s.runs; ahead_is = refl; more_is = refl; read_is = most; failed_is = failed; cause = s.quiet }
+
+pub stop_protocol : (sink sink' : SinkState) (v v' : ResponderSide) (end : End) → WritesAll sink sink' v v' → end_of v ≡ Some end → end_of v' ≡ end_of v → (end ≡ link_ends.Memory → ⊥)
+    → sink'.failed ≡ false → EndsAt (ends.Protocol end) sink sink' v
+stop_protocol sink sink' v v' end writes why same other failed terms link before left given gave kept ahead run most live =
+    let s = stopped sink sink' v v' end writes why same other terms link before left given gave kept ahead run live in
+    record {
+      run = s.run;
+      ahead = [];
+      more = [];
+      runs = s.runs;
+      ahead_is = refl;
+      more_is = refl;
+      read_is = most;
+      failed_is = failed;
+      cause = λ opened granted. (s.ended opened granted, (s.quiet opened granted).written);
+    }

@@ -15,7 +15,7 @@ use Rattle.nr_responder.specs.Standing.{Stands}
 use Rattle.nr_responder.proofs.Answered.{answer_link}
 use Rattle.nr_plain.specs.Setup.{Setup}
 use Rattle.nr_plain.specs.Stands.{PlainServerState, RepresentsJournal, ExecutesCall}
-use Rattle.nr_host.specs.Connections.{Terms, Outside, Runs}
+use Rattle.nr_host.specs.Connections.{Terms, Outside, Runs, SinkState}
 use Rattle.nr_host.specs.Steps.{IsLive, GoesOn, RunsOut, outside}
 use Rattle.nr_host.proofs.Marks.{executed, given_alone}
 
@@ -27,39 +27,39 @@ live_answered v v' xid reply sent a live =
     ∙ live
 
 -- what an executed call makes of the marks, if its reply is handed on as it is
-pub runs_on : (terms : Terms) (link : ℕ) (before : Outside) (left given taken : Option (List ℕ)) (gave gave' : Option (List Moment)) (kept kept' : PlainServerState)
+pub runs_on : (terms : Terms) (link : ℕ) (before : Outside) (left given : Option (List ℕ)) (sink : SinkState) (gave gave' : Option (List Moment)) (kept kept' : PlainServerState)
     (ahead : List ℕ) (run : List Mark) (v : ResponderSide) (xid place : ℕ) (moment : Moment) (payload reply sent : List ℕ) → sent ≡ reply
-    → IsLive terms link before (outside left given taken gave kept) ahead run v
+    → IsLive terms link before (outside left given sink gave kept) ahead run v
     → ((opened : LinkParameters) (l : ℕ) (r : List Mark) → Stands opened l r v → IsExecuted opened l r xid payload)
     → Gives gave gave' moment
     → ((s : Setup) (J : List Entry) → RepresentsJournal s J kept → ExecutesCall s J moment payload reply place kept')
-    → Runs terms link before (outside left given taken gave' kept') ahead [] (run ++ marks.Execute link xid moment payload place sent ∷ [])
-runs_on terms link before left given taken gave gave' kept kept' ahead run v xid place moment payload reply sent same live exact gives plain =
-    subst (λ (bytes : List ℕ). Runs terms link before (outside left given taken gave' kept') ahead [] (run ++ marks.Execute link xid moment payload place bytes ∷ []))
+    → Runs terms link before (outside left given sink gave' kept') ahead [] (run ++ marks.Execute link xid moment payload place sent ∷ [])
+runs_on terms link before left given sink gave gave' kept kept' ahead run v xid place moment payload reply sent same live exact gives plain =
+    subst (λ (bytes : List ℕ). Runs terms link before (outside left given sink gave' kept') ahead [] (run ++ marks.Execute link xid moment payload place bytes ∷ []))
     (sym same)
-    (executed terms link before left given taken gave gave' kept kept' ahead run xid place moment payload reply live.runs
+    (executed terms link before left given sink gave gave' kept kept' ahead run xid place moment payload reply live.runs
     (λ opened granted. exact opened link run (live.stands opened granted)) gives plain)
 
 -- memory ran out before the call was executed
 pub out_before : (gave gave' : Option (List Moment)) (kept kept' : PlainServerState) (v : ResponderSide) (moment : Moment) → Gives gave gave' moment → kept' ≡ kept
     → RunsOut gave gave' kept kept' v
-out_before gave gave' kept kept' v moment gives same terms link before left given taken ahead run live = (
+out_before gave gave' kept kept' v moment gives same terms link before left given sink ahead run live = (
   run,
   moment ∷ [],
   (let one : length (moment ∷ []) ≤ 1 = omega arith in one),
-  subst (λ (k : PlainServerState). Runs terms link before (outside left given taken gave' k) ahead (moment ∷ []) run) (sym same)
-      (given_alone terms link before left given taken gave gave' kept ahead run moment live.runs gives),
+  subst (λ (k : PlainServerState). Runs terms link before (outside left given sink gave' k) ahead (moment ∷ []) run) (sym same)
+      (given_alone terms link before left given sink gave gave' kept ahead run moment live.runs gives),
 )
 
 -- one step after another
 pub goes_trans : (gave gave' gave'' : Option (List Moment)) (kept kept' kept'' : PlainServerState) (v v' v'' : ResponderSide)
     → GoesOn gave gave' kept kept' v v' → GoesOn gave' gave'' kept' kept'' v' v'' → GoesOn gave gave'' kept kept'' v v''
-goes_trans gave gave' gave'' kept kept' kept'' v v' v'' first second terms link before left given taken ahead run live =
-    let (run', live') = first terms link before left given taken ahead run live in
-    second terms link before left given taken ahead run' live'
+goes_trans gave gave' gave'' kept kept' kept'' v v' v'' first second terms link before left given sink ahead run live =
+    let (run', live') = first terms link before left given sink ahead run live in
+    second terms link before left given sink ahead run' live'
 
 pub goes_out : (gave gave' gave'' : Option (List Moment)) (kept kept' kept'' : PlainServerState) (v v' : ResponderSide)
     → GoesOn gave gave' kept kept' v v' → RunsOut gave' gave'' kept' kept'' v' → RunsOut gave gave'' kept kept'' v
-goes_out gave gave' gave'' kept kept' kept'' v v' first second terms link before left given taken ahead run live =
-    let (run', live') = first terms link before left given taken ahead run live in
-    second terms link before left given taken ahead run' live'
+goes_out gave gave' gave'' kept kept' kept'' v v' first second terms link before left given sink ahead run live =
+    let (run', live') = first terms link before left given sink ahead run live in
+    second terms link before left given sink ahead run' live'

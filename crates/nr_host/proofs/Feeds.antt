@@ -1,17 +1,21 @@
 -- A piece that is fed frame by frame.
-use Rattle.std.proofs.Common.{◌≡◌, ℕ, List, [], ◌∷◌, ◌++◌, take, drop, Option, sym, ap, subst, ◌∙◌, append_assoc, take-append-drop}
+use Rattle.std.proofs.Common.{◌≡◌, ℕ, List, [], ◌∷◌, ◌++◌, take, drop, Option, None, inl, refl, sym, ap, subst, ◌∙◌, append_assoc, take-append-drop}
 use Rattle.nr_outside.specs.declared.moment.Moment.{Moment}
 use Rattle.nr_wire.specs.declared.hello.Side.TheVariants.{Responder}
 use Rattle.nr_reduce.specs.declared.mark.Mark.{Mark}
 use Rattle.nr_reduce.specs.declared.mark.Mark.TheVariants as marks
 use Rattle.nr_reduce.specs.declared.mark.LinkParameters.{LinkParameters}
-use Rattle.nr_responder.specs.ResponderState.{ResponderSide}
+use Rattle.nr_wire.specs.Feeding.{bytes_taken}
+use Rattle.nr_responder.specs.ResponderState.{ResponderSide, end_of}
 use Rattle.nr_responder.specs.Standing.{Stands}
+use Rattle.nr_responder.specs.Steps.{Fed}
+use Rattle.nr_responder.proofs.Marks.{fed_stands_lem}
 use Rattle.nr_plain.specs.Stands.{PlainServerState}
 use Rattle.nr_host.specs.declared.conn_end.ConnEnd.{ConnEnd}
-use Rattle.nr_host.specs.Connections.{Terms, Outside}
+use Rattle.nr_host.specs.Connections.{Terms, Outside, SinkState, FrameMark}
 use Rattle.nr_host.specs.Steps.{IsLive, AllQuiet, EndsAt, EndsWith, FeedEnds, FeedsTo, GoesQuietly, outside}
 use Rattle.nr_host.proofs.Marks.{fed}
+use Rattle.nr_host.proofs.OneFrame.{one_frame}
 
 -- a responder stands for one piece more
 abbrev pub TakesIn : List ℕ → ResponderSide → ResponderSide → Type 0
@@ -19,9 +23,10 @@ TakesIn piece v v' = (opened : LinkParameters) (link : ℕ) (run : List Mark) �
 
 pub live_fed : (terms : Terms) (link : ℕ) (before now : Outside) (piece ahead : List ℕ) (run : List Mark) (v v' : ResponderSide) → TakesIn piece v v'
     → IsLive terms link before now (piece ++ ahead) run v → AllQuiet terms link run
+    → ((opened : LinkParameters) → opened.granted ≡ terms.credits → FrameMark opened link run (marks.Fed link Responder piece))
     → IsLive terms link before now ahead (run ++ marks.Fed link Responder piece ∷ []) v'
-live_fed terms link before now piece ahead run v v' takes live quiet = record {
-  runs = fed terms link before now piece ahead run live.runs quiet;
+live_fed terms link before now piece ahead run v v' takes live quiet frames = record {
+  runs = fed terms link before now piece ahead run live.runs quiet frames;
   stands = λ opened granted. takes opened link run (live.stands opened granted);
 }
 
@@ -31,32 +36,41 @@ cut_at n left rest ahead is =
     ap (λ (l : List ℕ). l ++ ahead) (sym (take-append-drop n left)) ∙ append_assoc (take n left) (drop n left) ahead
     ∙ ap (λ (l : List ℕ). take n left ++ (l ++ ahead)) (sym is)
 
-module _ (piece left : List ℕ) (taken taken' : Option (List ℕ)) (gave gave' : Option (List Moment)) (kept kept' : PlainServerState) (v v' : ResponderSide) where
+-- the bytes that a step takes, of which one frame at most is complete
+one_fed : (terms : Terms) (link : ℕ) (before now : Outside) (left rest ahead : List ℕ) (n : ℕ) (run : List Mark) (v v1 : ResponderSide) → end_of v ≡ None
+    → n ≡ bytes_taken v.link.awaited v.link.rest left → TakesIn (take n left) v v1 → rest ≡ drop n left
+    → IsLive terms link before now (left ++ ahead) run v → AllQuiet terms link run
+    → IsLive terms link before now (rest ++ ahead) (run ++ marks.Fed link Responder (take n left) ∷ []) v1
+one_fed terms link before now left rest ahead n run v v1 on n_is takes is live quiet =
+    let cut = subst (λ (bytes : List ℕ). IsLive terms link before now bytes run v) (cut_at n left rest ahead is) live in
+    live_fed terms link before now (take n left) (rest ++ ahead) run v v1 takes cut quiet
+    (λ opened granted. inl (one_frame opened link run v left n (live.stands opened granted) on n_is))
+
+module _ (piece left : List ℕ) (sink sink' : SinkState) (gave gave' : Option (List Moment)) (kept kept' : PlainServerState) (v v' : ResponderSide)
+    (feeds : FeedsTo piece left sink sink' gave gave' kept kept' v v') (on : end_of v' ≡ None) (n : ℕ) (n_is : n ≡ bytes_taken v'.link.awaited v'.link.rest left) where
   -- one frame more
-  pub feeds_on : (n : ℕ) (rest : List ℕ) (taken'' : Option (List ℕ)) (gave'' : Option (List Moment)) (kept'' : PlainServerState) (v1 v2 : ResponderSide)
-      → FeedsTo piece left taken taken' gave gave' kept kept' v v' → TakesIn (take n left) v' v1 → rest ≡ drop n left
-      → GoesQuietly taken' taken'' gave' gave'' kept' kept'' v1 v2 → FeedsTo piece rest taken taken'' gave gave'' kept kept'' v v2
-  feeds_on n rest taken'' gave'' kept'' v1 v2 feeds takes is goes terms link before l g ahead run live quiet =
+  pub feeds_on : (rest : List ℕ) (sink'' : SinkState) (gave'' : Option (List Moment)) (kept'' : PlainServerState) (v1 v2 : ResponderSide)
+      → TakesIn (take n left) v' v1 → rest ≡ drop n left
+      → GoesQuietly sink' sink'' gave' gave'' kept' kept'' v1 v2 → FeedsTo piece rest sink sink'' gave gave'' kept kept'' v v2
+  feeds_on rest sink'' gave'' kept'' v1 v2 takes is goes terms link before l g ahead run live quiet =
       let (run1, (live1, quiet1)) = feeds terms link before l g ahead run live quiet in
-      let cut = subst (λ (bytes : List ℕ). IsLive terms link before (outside l g taken' gave' kept') bytes run1 v') (cut_at n left rest ahead is) live1 in
-      let live2 = live_fed terms link before (outside l g taken' gave' kept') (take n left) (rest ++ ahead) run1 v' v1 takes cut quiet1 in
+      let live2 = one_fed terms link before (outside l g sink' gave' kept') left rest ahead n run1 v' v1 on n_is takes is live1 quiet1 in
       goes terms link before l g (rest ++ ahead) (run1 ++ marks.Fed link Responder (take n left) ∷ []) live2
 
   -- the connection ends while the calls of a frame are answered
-  pub answers_end : (n : ℕ) (rest : List ℕ) (end : ConnEnd) (taken'' : Option (List ℕ)) (gave'' : Option (List Moment)) (kept'' : PlainServerState) (v1 : ResponderSide)
-      → FeedsTo piece left taken taken' gave gave' kept kept' v v' → TakesIn (take n left) v' v1 → rest ≡ drop n left
-      → EndsWith end taken' taken'' gave' gave'' kept' kept'' v1 → FeedEnds end piece taken taken'' gave gave'' kept kept'' v
-  answers_end n rest end taken'' gave'' kept'' v1 feeds takes is ends terms link before l g run live quiet =
+  pub answers_end : (rest : List ℕ) (end : ConnEnd) (sink'' : SinkState) (gave'' : Option (List Moment)) (kept'' : PlainServerState) (v1 : ResponderSide)
+      → TakesIn (take n left) v' v1 → rest ≡ drop n left
+      → EndsWith end sink' sink'' gave' gave'' kept' kept'' v1 → FeedEnds end piece sink sink'' gave gave'' kept kept'' v
+  answers_end rest end sink'' gave'' kept'' v1 takes is ends terms link before l g run most live quiet =
       let (run1, (live1, quiet1)) = feeds terms link before l g [] run live quiet in
-      let cut = subst (λ (bytes : List ℕ). IsLive terms link before (outside l g taken' gave' kept') bytes run1 v') (cut_at n left rest [] is) live1 in
-      let live2 = live_fed terms link before (outside l g taken' gave' kept') (take n left) (rest ++ []) run1 v' v1 takes cut quiet1 in
-      ends terms link before l g (rest ++ []) (run1 ++ marks.Fed link Responder (take n left) ∷ []) live2
+      let live2 = one_fed terms link before (outside l g sink' gave' kept') left rest [] n run1 v' v1 on n_is takes is live1 quiet1 in
+      ends terms link before l g (rest ++ []) (run1 ++ marks.Fed link Responder (take n left) ∷ []) most live2
 
   -- the side ends at a frame
-  pub feed_ends : (end : ConnEnd) (taken'' : Option (List ℕ)) (v1 : ResponderSide)
-      → FeedsTo piece left taken taken' gave gave' kept kept' v v' → TakesIn left v' v1
-      → EndsAt end taken' taken'' v1 → FeedEnds end piece taken taken'' gave gave' kept kept' v
-  feed_ends end taken'' v1 feeds takes ends terms link before l g run live quiet =
+  pub feed_ends : (end : ConnEnd) (sink'' : SinkState) (v1 : ResponderSide) → Fed v' (take n left) v1
+      → EndsAt end sink' sink'' v1 → FeedEnds end piece sink sink'' gave gave' kept kept' v
+  feed_ends end sink'' v1 fed ends terms link before l g run most live quiet =
       let (run1, (live1, quiet1)) = feeds terms link before l g [] run live quiet in
-      let live2 = live_fed terms link before (outside l g taken' gave' kept') left [] run1 v' v1 takes live1 quiet1 in
-      ends terms link before l g gave' kept' (run1 ++ marks.Fed link Responder left ∷ []) live2
+      let takes : TakesIn (take n left) v' v1 = λ opened k r stands. fed_stands_lem opened k r v' v1 (take n left) fed on stands in
+      let live2 = one_fed terms link before (outside l g sink' gave' kept') left (drop n left) [] n run1 v' v1 on n_is takes refl live1 quiet1 in
+      ends terms link before l g gave' kept' (drop n left ++ []) (run1 ++ marks.Fed link Responder (take n left) ∷ []) most live2

@@ -1,7 +1,5 @@
 -- One mark more of a connection.
 use Rattle.std.proofs.Common.{◌≡◌, ℕ, ◌+◌, arith, List, [], ◌∷◌, ◌++◌, length, Option, Some, None, refl, sym, ap, subst, ◌∙◌, append_assoc, append-nil}
-use Rattle.std.specs.Io.KnownBytes.{Appends}
-use Rattle.std.proofs.KnownBytes.{Appends-trans}
 use Rattle.std.proofs.lemmas.List.{length-append}
 use Rattle.nr_outside.specs.Content.{HandsOut}
 use Rattle.nr_outside.proofs.Moves.{HandsOut_append}
@@ -21,8 +19,9 @@ use Rattle.nr_reduce.proofs.Standing.{AtEachMark_more, itself, one_more, receive
 use Rattle.nr_plain.specs.Added.{entries_of_call}
 use Rattle.nr_plain.specs.Setup.{Setup}
 use Rattle.nr_plain.specs.Stands.{PlainServerState, RepresentsJournal, ExecutesCall}
-use Rattle.nr_host.specs.Connections.{Terms, Outside, Runs, IsOwn, OverJournal, PlainMark, QuietMark, GivesAll, added, moments, moment_of}
+use Rattle.nr_host.specs.Connections.{Terms, Outside, Runs, SinkState, Takes, IsOwn, OverJournal, PlainMark, QuietMark, FrameMark, GivesAll, added, moments, moment_of}
 use Rattle.nr_host.specs.Steps.{AllQuiet, outside}
+use Rattle.nr_host.proofs.Sinks.{TakesMore}
 
 -- ---- Lists of one mark more
 
@@ -66,23 +65,24 @@ over_executed s J link xid place moment payload reply run kept kept' over execut
 -- ---- One mark more
 
 -- a call is executed
-pub executed : (terms : Terms) (link : ℕ) (before : Outside) (left given taken : Option (List ℕ)) (gave gave' : Option (List Moment)) (kept kept' : PlainServerState)
+pub executed : (terms : Terms) (link : ℕ) (before : Outside) (left given : Option (List ℕ)) (sink : SinkState) (gave gave' : Option (List Moment)) (kept kept' : PlainServerState)
     (ahead : List ℕ) (run : List Mark) (xid place : ℕ) (moment : Moment) (payload reply : List ℕ)
-    → Runs terms link before (outside left given taken gave kept) ahead [] run
+    → Runs terms link before (outside left given sink gave kept) ahead [] run
     → ((opened : LinkParameters) → opened.granted ≡ terms.credits → IsExecuted opened link run xid payload)
     → Gives gave gave' moment
     → ((s : Setup) (J : List Entry) → RepresentsJournal s J kept → ExecutesCall s J moment payload reply place kept')
-    → Runs terms link before (outside left given taken gave' kept') ahead [] (run ++ marks.Execute link xid moment payload place reply ∷ [])
-executed terms link before left given taken gave gave' kept kept' ahead run xid place moment payload reply r executes gives plain =
+    → Runs terms link before (outside left given sink gave' kept') ahead [] (run ++ marks.Execute link xid moment payload place reply ∷ [])
+executed terms link before left given sink gave gave' kept kept' ahead run xid place moment payload reply r executes gives plain =
     let mark : Mark = marks.Execute link xid moment payload place reply in
     record {
       own = AtEachMark_more (λ earlier m. IsOwn link m) [] run mark r.own refl;
       handed = subst (λ (bytes : List ℕ). HandsOut before.left before.given left given (bytes ++ ahead))
           (sym (received_one link Responder run mark ∙ append-nil (bytes_received link Responder run))) r.handed;
-      taken = subst (λ (bytes : List ℕ). Appends before.taken taken bytes)
+      taken = subst (λ (bytes : List ℕ). Takes before.sink sink bytes)
           (sym (sent_one link Responder run mark ∙ append-nil (bytes_sent link Responder run))) r.taken;
       served = λ opened same. AtEachMark_more (ServedMark IsPrefixOf opened link) [] run mark (r.served opened same) (λ l. executes opened same);
       quiet = λ opened same. AtEachMark_more (QuietMark opened link) [] run mark (r.quiet opened same) tt;
+      frames = λ opened same. AtEachMark_more (FrameMark opened link) [] run mark (r.frames opened same) tt;
       over = λ s J stood. over_executed s J link xid place moment payload reply run kept kept' (r.over s J stood)
           (plain s (J ++ added run) (r.over s J stood).stands);
       gave = subst (λ (ms : List Moment). GivesAll before.gave gave' ms)
@@ -93,16 +93,17 @@ executed terms link before left given taken gave gave' kept kept' ahead run xid 
     }
 
 -- a moment was given, and no call executed
-pub given_alone : (terms : Terms) (link : ℕ) (before : Outside) (left given taken : Option (List ℕ)) (gave gave' : Option (List Moment)) (kept : PlainServerState)
+pub given_alone : (terms : Terms) (link : ℕ) (before : Outside) (left given : Option (List ℕ)) (sink : SinkState) (gave gave' : Option (List Moment)) (kept : PlainServerState)
     (ahead : List ℕ) (run : List Mark) (moment : Moment)
-    → Runs terms link before (outside left given taken gave kept) ahead [] run → Gives gave gave' moment
-    → Runs terms link before (outside left given taken gave' kept) ahead (moment ∷ []) run
-given_alone terms link before left given taken gave gave' kept ahead run moment r gives = record {
+    → Runs terms link before (outside left given sink gave kept) ahead [] run → Gives gave gave' moment
+    → Runs terms link before (outside left given sink gave' kept) ahead (moment ∷ []) run
+given_alone terms link before left given sink gave gave' kept ahead run moment r gives = record {
   own = r.own;
   handed = r.handed;
   taken = r.taken;
   served = r.served;
   quiet = r.quiet;
+  frames = r.frames;
   over = r.over;
   gave = gives_more before.gave gave gave' (moments run) moment (subst (λ (ms : List Moment). GivesAll before.gave gave ms) (append-nil (moments run)) r.gave) gives;
   count = r.count;
@@ -111,8 +112,9 @@ given_alone terms link before left given taken gave gave' kept ahead run moment 
 -- a piece is fed
 pub fed : (terms : Terms) (link : ℕ) (before now : Outside) (piece ahead : List ℕ) (run : List Mark)
     → Runs terms link before now (piece ++ ahead) [] run → AllQuiet terms link run
+    → ((opened : LinkParameters) → opened.granted ≡ terms.credits → FrameMark opened link run (marks.Fed link Responder piece))
     → Runs terms link before now ahead [] (run ++ marks.Fed link Responder piece ∷ [])
-fed terms link before now piece ahead run r quiet =
+fed terms link before now piece ahead run r quiet frames =
     let mark : Mark = marks.Fed link Responder piece in
     let received : bytes_received link Responder (run ++ mark ∷ []) ≡ bytes_received link Responder run ++ piece =
     received_one link Responder run mark ∙ rw (itself link) refl in
@@ -120,10 +122,11 @@ fed terms link before now piece ahead run r quiet =
       own = AtEachMark_more (λ earlier m. IsOwn link m) [] run mark r.own refl;
       handed = subst (HandsOut before.left before.given now.left now.given)
           (sym (ap (λ (l : List ℕ). l ++ ahead) received ∙ append_assoc (bytes_received link Responder run) piece ahead)) r.handed;
-      taken = subst (λ (bytes : List ℕ). Appends before.taken now.taken bytes)
+      taken = subst (λ (bytes : List ℕ). Takes before.sink now.sink bytes)
           (sym (sent_one link Responder run mark ∙ append-nil (bytes_sent link Responder run))) r.taken;
       served = λ opened same. AtEachMark_more (ServedMark IsPrefixOf opened link) [] run mark (r.served opened same) tt;
       quiet = λ opened same. AtEachMark_more (QuietMark opened link) [] run mark (r.quiet opened same) (quiet opened same);
+      frames = λ opened same. AtEachMark_more (FrameMark opened link) [] run mark (r.frames opened same) (frames opened same);
       over = λ s J stood. over_same s J run mark now.kept refl tt (r.over s J stood);
       gave = subst (λ (ms : List Moment). GivesAll before.gave now.gave (ms ++ []))
           (sym (moments_one run mark ∙ append-nil (moments run))) r.gave;
@@ -131,12 +134,12 @@ fed terms link before now piece ahead run r quiet =
     }
 
 -- bytes are written
-pub wrote : (terms : Terms) (link : ℕ) (before : Outside) (left given taken taken' : Option (List ℕ)) (gave : Option (List Moment)) (kept : PlainServerState)
+pub wrote : (terms : Terms) (link : ℕ) (before : Outside) (left given : Option (List ℕ)) (sink sink' : SinkState) (gave : Option (List Moment)) (kept : PlainServerState)
     (bytes ahead : List ℕ) (run : List Mark)
-    → Runs terms link before (outside left given taken gave kept) ahead [] run → Appends taken taken' bytes
+    → Runs terms link before (outside left given sink gave kept) ahead [] run → TakesMore sink sink' bytes
     → ((opened : LinkParameters) → opened.granted ≡ terms.credits → IsPrefixOf (bytes_sent link Responder run ++ bytes) (output_due opened link Responder run))
-    → Runs terms link before (outside left given taken' gave kept) ahead [] (run ++ marks.Wrote link Responder bytes ∷ [])
-wrote terms link before left given taken taken' gave kept bytes ahead run r takes due =
+    → Runs terms link before (outside left given sink' gave kept) ahead [] (run ++ marks.Wrote link Responder bytes ∷ [])
+wrote terms link before left given sink sink' gave kept bytes ahead run r takes due =
     let mark : Mark = marks.Wrote link Responder bytes in
     let sent : bytes_sent link Responder (run ++ mark ∷ []) ≡ bytes_sent link Responder run ++ bytes =
     sent_one link Responder run mark ∙ rw (itself link) refl in
@@ -144,10 +147,10 @@ wrote terms link before left given taken taken' gave kept bytes ahead run r take
       own = AtEachMark_more (λ earlier m. IsOwn link m) [] run mark r.own refl;
       handed = subst (λ (received : List ℕ). HandsOut before.left before.given left given (received ++ ahead))
           (sym (received_one link Responder run mark ∙ append-nil (bytes_received link Responder run))) r.handed;
-      taken = subst (λ (all : List ℕ). Appends before.taken taken' all) (sym sent)
-          (Appends-trans before.taken taken taken' (bytes_sent link Responder run) bytes r.taken takes);
+      taken = subst (λ (all : List ℕ). Takes before.sink sink' all) (sym sent) (takes before.sink (bytes_sent link Responder run) r.taken);
       served = λ opened same. AtEachMark_more (ServedMark IsPrefixOf opened link) [] run mark (r.served opened same) (λ l. due opened same);
       quiet = λ opened same. AtEachMark_more (QuietMark opened link) [] run mark (r.quiet opened same) tt;
+      frames = λ opened same. AtEachMark_more (FrameMark opened link) [] run mark (r.frames opened same) tt;
       over = λ s J stood. over_same s J run mark kept refl tt (r.over s J stood);
       gave = subst (λ (ms : List Moment). GivesAll before.gave gave (ms ++ []))
           (sym (moments_one run mark ∙ append-nil (moments run))) r.gave;
@@ -155,17 +158,18 @@ wrote terms link before left given taken taken' gave kept bytes ahead run r take
     }
 
 -- bytes are read
-pub read_more : (terms : Terms) (link : ℕ) (before : Outside) (left given left' given' taken : Option (List ℕ)) (gave : Option (List Moment)) (kept : PlainServerState)
+pub read_more : (terms : Terms) (link : ℕ) (before : Outside) (left given left' given' : Option (List ℕ)) (sink : SinkState) (gave : Option (List Moment)) (kept : PlainServerState)
     (piece : List ℕ) (run : List Mark)
-    → Runs terms link before (outside left given taken gave kept) [] [] run → HandsOut left given left' given' piece
-    → Runs (record terms { read = terms.read + length piece }) link before (outside left' given' taken gave kept) piece [] run
-read_more terms link before left given left' given' taken gave kept piece run r hands = record {
+    → Runs terms link before (outside left given sink gave kept) [] [] run → HandsOut left given left' given' piece
+    → Runs (record terms { read = terms.read + length piece }) link before (outside left' given' sink gave kept) piece [] run
+read_more terms link before left given left' given' sink gave kept piece run r hands = record {
   own = r.own;
   handed = HandsOut_append before.left before.given left given left' given' (bytes_received link Responder run) piece
       (subst (HandsOut before.left before.given left given) (append-nil (bytes_received link Responder run)) r.handed) hands;
   taken = r.taken;
   served = r.served;
   quiet = r.quiet;
+  frames = r.frames;
   over = r.over;
   gave = r.gave;
   count = (let now_it = r.count in omega (arith, now_it));

@@ -1,14 +1,12 @@
 -- What a drain writes, and what is due after it.
-use Rattle.std.proofs.Common.{◌≡◌, ℕ, ◌+◌, ◌-◌, Bool, true, false, List, [], ◌∷◌, ◌++◌, length, take, drop, map, Option, Some, None, inl, inr, ◌⊎◌, arith, refl, sym, ap, subst, ◌∙◌, append_assoc, append-nil, take-append-drop}
+use Rattle.std.proofs.Common.{◌≡◌, ℕ, ◌+◌, ◌-◌, Bool, true, false, List, [], ◌∷◌, ◌++◌, length, take, drop, map, Some, None, inl, inr, ◌⊎◌, arith, refl, sym, ap, subst, ◌∙◌, append_assoc, append-nil, take-append-drop}
 use Rattle.std.proofs.lemmas.List.{append_cancel_left, drop_all, length-append}
 use Rattle.std.proofs.lemmas.Option.{none-some, same_Some}
 use Rattle.nr_wire.specs.declared.hello.Side.TheVariants.{Responder}
 use Rattle.nr_link.specs.declared.end.End.{End}
 use Rattle.nr_link.specs.declared.end.End.TheVariants as ends
 use Rattle.nr_endpoint.specs.SendQueue.{SendQueue, writable, written}
-use Rattle.nr_endpoint.specs.LinkState.{LinkSide}
 use Rattle.nr_reduce.specs.declared.mark.Mark.{Mark}
-use Rattle.nr_reduce.specs.declared.mark.Mark.TheVariants as marks
 use Rattle.nr_reduce.specs.declared.mark.LinkParameters.{LinkParameters}
 use Rattle.nr_reduce.specs.EndRules.{EndState}
 use Rattle.nr_reduce.specs.ServerState.{ReadyCall, ServerState}
@@ -16,10 +14,8 @@ use Rattle.nr_reduce.specs.History.{bytes_sent}
 use Rattle.nr_reduce.specs.Matched.{IsPrefixOf}
 use Rattle.nr_reduce.specs.Run.{HasWritten, server, output_due}
 use Rattle.nr_reduce.specs.Served.{next_call}
-use Rattle.nr_responder.specs.Keeping.{Begins, Keeps, KeepsEnd}
-use Rattle.nr_responder.specs.Keeping.Begins.{BeforeHello, AfterHello}
+use Rattle.nr_responder.specs.Keeping.{Keeps, KeepsEnd}
 use Rattle.nr_responder.specs.ResponderState.{ResponderSide, queue, queued_bytes, may_write, after_drain, end_of}
-use Rattle.nr_responder.specs.Draining.{Drains}
 use Rattle.nr_responder.specs.Standing.{Stands}
 use Rattle.nr_responder.proofs.OwnLaw.{all_may_be_written}
 use Rattle.nr_responder.proofs.Fed.{not_ended_lem}
@@ -63,10 +59,6 @@ nothing_left false q n (inr none) is =
     let fpdus : drop (n - length q.hello) q.fpdus ≡ [] = drop_all (n - length q.hello) q.fpdus (rw none (omega arith)) in
     rw (hello, fpdus) refl
 
-begins_known : (link : LinkSide) → Begins link → (link.state.has_hello ≡ true) ⊎ (link.state.send_queue.fpdus ≡ [])
-begins_known link (BeforeHello place awaited hello none) = inr none
-begins_known link (AfterHello place awaited hello) = inl hello
-
 none_ready : (ready : List ReadyCall) → map (λ r. r.xid) ready ≡ [] → ready ≡ []
 none_ready [] none = refl
 none_ready (r ∷ ready) none = absurd cc
@@ -93,13 +85,6 @@ quiet opened link run v (inl h) live none idle =
       executed = next_none opened link run (none_ready (server opened link run).state.ready (sym keeps.ready ∙ idle)) on;
     }
 
--- after a drain of all that may be written nothing is left
-pub drained_all : (opened : LinkParameters) (link : ℕ) (run : List Mark) (v : ResponderSide) (n : ℕ) → Stands opened link run v → end_of v ≡ None → n ≡ length (may_write v)
-    → queue (after_drain v n) ≡ []
-drained_all opened link run v n stands live is =
-    let (input, (on, keeps)) = live_server opened link run v stands live in
-    nothing_left v.link.state.has_hello v.link.state.send_queue n (begins_known v.link keeps.begins) is
-
 -- a side that ended for another reason than memory is after a server that ended so
 pub ended_server : (opened : LinkParameters) (link : ℕ) (run : List Mark) (v : ResponderSide) (end : End) → Stands opened link run v → end_of v ≡ Some end → (end ≡ ends.Memory → ⊥)
     → (server opened link run).ended ≡ Some end
@@ -117,22 +102,29 @@ may_all : (has_hello : Bool) (q : SendQueue) → writable has_hello q ≡ queued
 may_all true q all = inl refl
 may_all false q all = inr (sym (append_cancel_left q.hello [] q.fpdus all))
 
--- All that is due is written once a side that ended for another reason than memory was drained.
-pub ended_written : (opened : LinkParameters) (link : ℕ) (run : List Mark) (v v' : ResponderSide) (taken taken' : Option (List ℕ)) (n : ℕ) (end : End) → Drains v v' taken taken' n
-    → n ≡ length (may_write v) → Stands opened link run v → end_of v ≡ Some end → (end ≡ ends.Memory → ⊥)
-    → HasWritten opened link Responder (run ++ marks.Wrote link Responder (take n (may_write v)) ∷ [])
-ended_written opened link run v v' taken taken' n end d all (inr out) why other = absurd (other (same_Some end ends.Memory (sym why ∙ out.output.0)))
-ended_written opened link run v v' taken taken' n end d all (inl h) why other = by (d.stands opened link run (inl h))
-  where
-    known : (v.link.state.has_hello ≡ true) ⊎ (v.link.state.send_queue.fpdus ≡ [])
-    known = may_all v.link.state.has_hello v.link.state.send_queue (all_may_be_written opened link v run h)
+-- after a drain of all that may be written nothing is left, unless memory had run out
+pub drained_none : (opened : LinkParameters) (link : ℕ) (run : List Mark) (v : ResponderSide) (n : ℕ) → Stands opened link run v → (end_of v ≡ Some ends.Memory → ⊥)
+    → n ≡ length (may_write v) → queue (after_drain v n) ≡ []
+drained_none opened link run v n (inl h) other all =
+    nothing_left v.link.state.has_hello v.link.state.send_queue n
+    (may_all v.link.state.has_hello v.link.state.send_queue (all_may_be_written opened link v run h)) all
+drained_none opened link run v n (inr out) other all = absurd (other out.output.0)
 
-    none : queue v' ≡ []
-    none = ap queue d.state ∙ nothing_left v.link.state.has_hello v.link.state.send_queue n known all
+-- with nothing left all that is due is written
+pub all_written : (opened : LinkParameters) (link : ℕ) (run : List Mark) (v : ResponderSide) → Stands opened link run v → (end_of v ≡ Some ends.Memory → ⊥) → queue v ≡ []
+    → HasWritten opened link Responder run
+all_written opened link run v (inl h) other none =
+    sym (append-nil (bytes_sent link Responder run)) ∙ ap (λ (l : List ℕ). bytes_sent link Responder run ++ l) (sym none) ∙ h.stands.output
+all_written opened link run v (inr out) other none = absurd (other out.output.0)
 
-    later : List Mark
-    later = run ++ marks.Wrote link Responder (take n (may_write v)) ∷ []
+next_ended : (opened : LinkParameters) (link : ℕ) (run : List Mark) (end : End) → (server opened link run).ended ≡ Some end → next_call opened link run ≡ None
+unfolding next_call
+next_ended opened link run end over = rw over refl
 
-    by : Stands opened link later v' → HasWritten opened link Responder later
-    by (inl s) = sym (append-nil (bytes_sent link Responder later)) ∙ ap (λ (l : List ℕ). bytes_sent link Responder later ++ l) (sym none) ∙ s.stands.output
-    by (inr out) = absurd (other (same_Some end ends.Memory (sym (ap end_of d.state ∙ why) ∙ out.output.0)))
+-- a side that ended executes nothing more
+pub ended_quiet : (opened : LinkParameters) (link : ℕ) (run : List Mark) (v : ResponderSide) (end : End) → Stands opened link run v → end_of v ≡ Some end → (end ≡ ends.Memory → ⊥)
+    → queue v ≡ [] → IsQuiet opened link run
+ended_quiet opened link run v end stands why other none = record {
+  written = all_written opened link run v stands (λ e. other (same_Some end ends.Memory (sym why ∙ e))) none;
+  executed = next_ended opened link run end (ended_server opened link run v end stands why other);
+}

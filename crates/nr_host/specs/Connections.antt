@@ -1,10 +1,12 @@
 -- What one connection of a server did: its marks, and what they say of the link, of the journal and of the clock.
-use Rattle.std.specs.Prelude.{◌≡◌, ⊤, ℕ, ◌+◌, List, [], ◌∷◌, ◌++◌, length, Option, None, Some}
+use Rattle.std.specs.Prelude.{◌≡◌, ⊤, ℕ, ◌+◌, ◌≤◌, ◌⊎◌, Bool, true, false, List, [], ◌∷◌, ◌++◌, length, Option, None, Some, is_some}
 use Rattle.std.specs.List.{flat_map}
 use Rattle.std.specs.Io.KnownBytes.{Appends}
 use Rattle.nr_outside.specs.Content.{HandsOut}
+use Rattle.nr_outside.specs.Faults.{Rises}
 use Rattle.nr_outside.specs.declared.moment.Moment.{Moment}
-use Rattle.nr_wire.specs.declared.hello.Side.TheVariants.{Responder}
+use Rattle.nr_wire.specs.declared.hello.Side.TheVariants.{Initiator, Responder}
+use Rattle.nr_link.specs.Frames.{frames_completed}
 use Rattle.nr_reduce.specs.declared.mark.Mark.{Mark}
 use Rattle.nr_reduce.specs.declared.mark.Mark.TheVariants as marks
 use Rattle.nr_reduce.specs.declared.mark.Entry.{Entry}
@@ -12,7 +14,8 @@ use Rattle.nr_reduce.specs.declared.mark.LinkParameters.{LinkParameters}
 use Rattle.nr_reduce.specs.AtEachMark.{AtEachMark}
 use Rattle.nr_reduce.specs.History.{bytes_sent, bytes_received}
 use Rattle.nr_reduce.specs.PlainJournal.{journal, any_that_adds}
-use Rattle.nr_reduce.specs.Run.{HasWritten}
+use Rattle.nr_reduce.specs.Matched.{IsPrefixOf}
+use Rattle.nr_reduce.specs.Run.{HasWritten, server}
 use Rattle.nr_reduce.specs.Served.{ServedSoFar, next_call}
 use Rattle.nr_plain.specs.Added.{entries_of_call}
 use Rattle.nr_plain.specs.Replies.{plain_reply}
@@ -59,6 +62,27 @@ abbrev pub QuietMark : LinkParameters → ℕ → List Mark → Mark → Type 0
 QuietMark opened link before (marks.Fed l side bytes) = IsQuiet opened link before
 QuietMark opened link before mark = ⊤
 
+-- Each piece completes at most one frame, until the side has ended: what is fed after that is not judged.
+abbrev pub FrameMark : LinkParameters → ℕ → List Mark → Mark → Type 0
+FrameMark opened link before (marks.Fed l side bytes) =
+    (length (frames_completed Initiator (bytes_received link Responder before) bytes) ≤ 1) ⊎ (is_some (server opened link before).ended ≡ true)
+FrameMark opened link before mark = ⊤
+
+-- what is known of the sink of a connection: the bytes that it took, and its fault count; and whether a write of the connection failed
+pub record SinkState : Type 0 where
+  pub taken : Option (List ℕ)
+  pub faults : ℕ
+  pub failed : Bool
+
+-- A sink took these bytes. If a write failed, its count rose, and it took the first of them.
+abbrev pub TakesUntil : Bool → SinkState → SinkState → List ℕ → Type 0
+TakesUntil false before after bytes = (after.faults ≡ before.faults) × Appends before.taken after.taken bytes
+TakesUntil true before after bytes =
+    Rises before.faults after.faults × ((took : List ℕ) × (IsPrefixOf took bytes × Appends before.taken after.taken took))
+
+abbrev pub Takes : SinkState → SinkState → List ℕ → Type 0
+Takes before after bytes = TakesUntil after.failed before after bytes
+
 -- a clock gave these moments, in order, if it is known what it gave
 abbrev pub GivesAll : Option (List Moment) → Option (List Moment) → List Moment → Type 0
 GivesAll before None given = ⊤
@@ -68,7 +92,7 @@ GivesAll before (Some after) given = (earlier : List Moment) × (before ≡ Some
 pub record Outside : Type 0 where
   pub left : Option (List ℕ)
   pub given : Option (List ℕ)
-  pub taken : Option (List ℕ)
+  pub sink : SinkState
   pub gave : Option (List Moment)
   pub kept : PlainServerState
 
@@ -82,9 +106,10 @@ pub record Terms : Type 0 where
 pub record Runs (terms : Terms) (link : ℕ) (before after : Outside) (ahead : List ℕ) (more : List Moment) (run : List Mark) : Type 0 where
   pub own : AtEachMark (λ earlier mark. IsOwn link mark) [] run
   pub handed : HandsOut before.left before.given after.left after.given (bytes_received link Responder run ++ ahead)
-  pub taken : Appends before.taken after.taken (bytes_sent link Responder run)
+  pub taken : Takes before.sink after.sink (bytes_sent link Responder run)
   pub served : (opened : LinkParameters) → opened.granted ≡ terms.credits → ServedSoFar opened link run
   pub quiet : (opened : LinkParameters) → opened.granted ≡ terms.credits → AtEachMark (QuietMark opened link) [] run
+  pub frames : (opened : LinkParameters) → opened.granted ≡ terms.credits → AtEachMark (FrameMark opened link) [] run
   pub over : (s : Setup) (J : List Entry) → RepresentsJournal s J before.kept → OverJournal s J run after.kept
   pub gave : GivesAll before.gave after.gave (moments run ++ more)
   pub count : length (bytes_received link Responder run) + length ahead ≡ terms.read

@@ -1,5 +1,5 @@
 -- How a connection ends, and why.
-use Rattle.std.specs.Prelude.{◌≡◌, ⊤, ℕ, ◌^◌, ◌<◌, ◌≤◌, ◌⊎◌, List, [], length, Option, None, Some}
+use Rattle.std.specs.Prelude.{◌≡◌, ⊤, ℕ, ◌^◌, ◌<◌, ◌≤◌, ◌⊎◌, Bool, true, false, List, [], length, Option, None, Some}
 use Rattle.std.specs.Io.KnownBytes.{IsAtEnd}
 use Rattle.nr_outside.specs.declared.moment.Moment.{Moment}
 use Rattle.nr_outside.specs.Faults.{Rises}
@@ -40,15 +40,14 @@ IsCause opened link run left (ends.Cut at calls) =
     IsIdle opened link run × (IsAtEnd left × ((at ≡ length (bytes_received link Responder run)) × ((calls ≡ open_calls opened link run)
     × ((0 < begun_bytes link run) ⊎ (0 < open_calls opened link run)))))
 IsCause opened link run left ends.LinkRead = IsIdle opened link run
-IsCause opened link run left ends.LinkWrite = ⊤
+IsCause opened link run left ends.LinkWrite = IsQuiet opened link run
 IsCause opened link run left (ends.Protocol end) = ((server opened link run).ended ≡ Some end) × HasWritten opened link Responder run
 IsCause opened link run left (ends.Budget read) =
     IsIdle opened link run × ((read ≡ read_max) × (length (bytes_received link Responder run) ≡ read_max))
 IsCause opened link run left ends.Memory = ⊤
 
--- the bytes that were read and not fed: some only if a write failed or memory ran out
+-- the bytes that were read and not fed: some only if memory ran out
 abbrev pub AheadAt : ConnEnd → List ℕ → Type 0
-AheadAt ends.LinkWrite ahead = ⊤
 AheadAt ends.Memory ahead = ⊤
 AheadAt _ ahead = ahead ≡ []
 
@@ -57,6 +56,20 @@ abbrev pub MoreAt : ConnEnd → List Moment → Type 0
 MoreAt ends.Memory more = length more ≤ 1
 MoreAt _ more = more ≡ []
 
+-- the number of bytes that were read: the maximum at Budget, fewer if the source ended or failed
+abbrev pub ReadAt : ConnEnd → ℕ → Type 0
+ReadAt ends.Closed read = read < read_max
+ReadAt (ends.Cut at calls) read = read < read_max
+ReadAt ends.LinkRead read = read < read_max
+ReadAt (ends.Budget most) read = read ≡ read_max
+ReadAt _ read = read ≤ read_max
+
+-- whether a write failed
+abbrev pub FailedAt : ConnEnd → Bool → Type 0
+FailedAt ends.LinkWrite failed = failed ≡ true
+FailedAt ends.Memory failed = ⊤
+FailedAt _ failed = failed ≡ false
+
 pub record Ended (terms : Terms) (link : ℕ) (before after : Outside) (end : ConnEnd) : Type 0 where
   pub run : List Mark
   pub ahead : List ℕ
@@ -64,6 +77,8 @@ pub record Ended (terms : Terms) (link : ℕ) (before after : Outside) (end : Co
   pub runs : Runs terms link before after ahead more run
   pub ahead_is : AheadAt end ahead
   pub more_is : MoreAt end more
+  pub read_is : ReadAt end terms.read
+  pub failed_is : FailedAt end after.sink.failed
   pub cause : (opened : LinkParameters) → opened.granted ≡ terms.credits → IsCause opened link run after.left end
 
 -- the fault counts of the source and of the sink

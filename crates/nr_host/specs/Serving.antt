@@ -1,11 +1,11 @@
 -- Connections that a server serves one after another.
-use Rattle.std.specs.Prelude.{◌≡◌, ℕ, List, [], ◌∷◌, Option}
+use Rattle.std.specs.Prelude.{◌≡◌, ℕ, false, List, [], ◌∷◌, Option}
 use Rattle.nr_outside.specs.declared.moment.Moment.{Moment}
 use Rattle.nr_outside.specs.Faults.{Rises}
 use Rattle.nr_links.specs.Links.{EndedLink, LinkLog, CountsLost, EndsLink, IsNewLink, MakesLink}
 use Rattle.nr_plain.specs.Stands.{PlainServerState}
 use Rattle.nr_host.specs.Ending.{SinkCount, SourceCount}
-use Rattle.nr_host.specs.Steps.{IsServed, outside}
+use Rattle.nr_host.specs.Steps.{IsServed, outside, sink_state}
 use Rattle.nr_host.specs.declared.conn_end.ConnEnd.{ConnEnd}
 use Rattle.nr_host.specs.declared.serving.ServeFault.{ServeFault}
 use Rattle.nr_host.specs.declared.serving.ServeFault.TheVariants as faults
@@ -29,7 +29,8 @@ pub record ServesLink (credits : ℕ) (before after : Between) (end : ConnEnd) :
   pub source_faults : ℕ
   pub sink_faults : ℕ
   pub fresh : IsNewLink opened.given opened.taken 0 0
-  pub served : IsServed credits (outside opened.left opened.given opened.taken before.gave before.kept) (outside closed.left closed.given closed.taken after.gave after.kept) end
+  pub served : IsServed credits (outside opened.left opened.given (sink_state opened.taken 0 false) before.gave before.kept)
+      (outside closed.left closed.given (sink_state closed.taken sink_faults false) after.gave after.kept) end
   pub made : MakesLink before.ended log
   pub hung_up : EndsLink log after.ended closed
   pub lost : CountsLost source_faults sink_faults before.lost after.lost

@@ -1,13 +1,13 @@
 //! A connection, from its first byte to its end.
 
-ghost use Rattle.std.specs.Prelude.{◌≡◌, ◌<◌, ◌≤◌, ℕ, None, [], length, take, IfOk, OnErr, MatchResult};
+ghost use Rattle.std.specs.Prelude.{◌≡◌, ◌<◌, ◌≤◌, ◌+◌, ℕ, false, None, [], length, take, IfOk, OnErr, MatchResult};
 ghost use Rattle.std.specs.Io.KnownBytes.{IsAtEnd};
 ghost use Rattle.nr_outside.specs.Content.{HandsOut};
 ghost use Rattle.nr_outside.specs.Faults.{Rises};
 ghost use Rattle.nr_endpoint.specs.FedBytes.{fed_bytes};
 ghost use Rattle.nr_responder.specs.ResponderState.{end_of};
-ghost use Rattle.nr_host.specs.Ending.{AheadAt, MoreAt, SinkCount, SourceCount, piece_max};
-ghost use Rattle.nr_host.specs.Steps.{CarriesTo, EndsIdle, IsServed, outside};
+ghost use Rattle.nr_host.specs.Ending.{AheadAt, FailedAt, MoreAt, ReadAt, SinkCount, SourceCount, piece_max, read_max};
+ghost use Rattle.nr_host.specs.Steps.{CarriesTo, EndsIdle, IsServed, outside, sink_state};
 
 use crate::conn_end::ConnEnd;
 use crate::feeding::feed_all;
@@ -24,6 +24,8 @@ fn at_end(responder: &Responder, read: u64) -> ConnEnd
     ensures idle { EndsIdle result read responder.now.side }
     ensures ahead { AheadAt result [] }
     ensures more { MoreAt result [] }
+    ensures read { read < read_max → ReadAt result (read + 0) }
+    ensures failed { FailedAt result false }
     ensures source { (count : ℕ) → SourceCount result count count }
     ensures sink { (count : ℕ) → SinkCount result count count }
 {
@@ -67,14 +69,15 @@ fn carry<I: Source, O: Sink, C: Clock>(
     requires fed { fed_bytes responder.old.side.link ≡ 0 }
     requires len { length buf.old ≡ piece_max }
     ensures served { (credits : ℕ) → CarriesTo credits
-        (outside (I.left source.old) (I.given source.old) (O.taken sink.old) (C.gave clock.old) server.old)
-        (outside (I.left source.old) (I.given source.old) (O.taken sink.old) (C.gave clock.old) server.old) responder.old.side 0 →
-        IsServed credits (outside (I.left source.old) (I.given source.old) (O.taken sink.old) (C.gave clock.old) server.old)
-        (outside (I.left source.new) (I.given source.new) (O.taken sink.new) (C.gave clock.new) server.new) result }
+        (outside (I.left source.old) (I.given source.old) (sink_state (O.taken sink.old) (O.faults sink.old) false) (C.gave clock.old) server.old)
+        (outside (I.left source.old) (I.given source.old) (sink_state (O.taken sink.old) (O.faults sink.old) false) (C.gave clock.old) server.old) responder.old.side 0 →
+        IsServed credits (outside (I.left source.old) (I.given source.old) (sink_state (O.taken sink.old) (O.faults sink.old) false) (C.gave clock.old) server.old)
+        (outside (I.left source.new) (I.given source.new) (sink_state (O.taken sink.new) (O.faults sink.new) false) (C.gave clock.new) server.new) result }
     ensures source_count { SourceCount result (I.faults source.old) (I.faults source.new) }
     ensures sink_count { SinkCount result (O.faults sink.old) (O.faults sink.new) }
 {
     let mut read = 0u64;
+    let mut failed = false;
     while read < READ_MAX {
         let room = (READ_MAX - read).min(PIECE_MAX as u64) as usize;
         let n = match read_part(source, buf, room) {
@@ -86,16 +89,20 @@ fn carry<I: Source, O: Sink, C: Clock>(
         }
         read += n as u64;
         let (piece, _) = buf.split_at(n);
-        match feed_all(alloc, responder, server, clock, sink, piece) {
+        match feed_all(alloc, responder, server, clock, sink, &mut failed, piece) {
             Ok(()) => {}
             Err(end) => return end,
+        }
+        if failed {
+            return ConnEnd::LinkWrite;
         }
     }
     ConnEnd::Budget { read }
 }
 
 /// Serves one connection to its end: reads the client's stream, feeds it frame by frame, and before the next frame executes
-/// each call that is complete and writes what is due. Grants this many credits.
+/// each call that is complete and writes what is due. If a write fails, it still executes each call that was read, and reads no
+/// more. Grants this many credits.
 pub fn serve_connection<I: Source, O: Sink, C: Clock>(
     alloc: Global,
     source: &mut I,
@@ -104,8 +111,8 @@ pub fn serve_connection<I: Source, O: Sink, C: Clock>(
     clock: &mut C,
     credits: u32,
 ) -> ConnEnd
-    ensures served { IsServed credits (outside (I.left source.old) (I.given source.old) (O.taken sink.old) (C.gave clock.old) server.old)
-        (outside (I.left source.new) (I.given source.new) (O.taken sink.new) (C.gave clock.new) server.new) result }
+    ensures served { IsServed credits (outside (I.left source.old) (I.given source.old) (sink_state (O.taken sink.old) (O.faults sink.old) false) (C.gave clock.old) server.old)
+        (outside (I.left source.new) (I.given source.new) (sink_state (O.taken sink.new) (O.faults sink.new) false) (C.gave clock.new) server.new) result }
     ensures source_count { SourceCount result (I.faults source.old) (I.faults source.new) }
     ensures sink_count { SinkCount result (O.faults sink.old) (O.faults sink.new) }
 {

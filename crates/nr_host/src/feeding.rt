@@ -1,12 +1,14 @@
 //! Pieces of the client's stream, fed frame by frame.
 
-ghost use Rattle.std.specs.Prelude.{◌≡◌, ℕ, ◌+◌, ◌*◌, ◌≤◌, ◌^◌, None, Some, [], length, IfErr, OnOk, OnErr, MatchResult};
+ghost use Rattle.std.specs.Prelude.{◌≡◌, ℕ, ◌+◌, ◌*◌, ◌≤◌, ◌^◌, false, None, Some, [], length, IfErr, OnOk, OnErr};
 ghost use Rattle.nr_endpoint.specs.FedBytes.{fed_bytes};
 ghost use Rattle.nr_responder.specs.ResponderState.{end_of};
-ghost use Rattle.nr_host.specs.Ending.{SinkCount, SourceCount, piece_max};
-ghost use Rattle.nr_host.specs.Steps.{EndsAt, EndsWith, FeedEnds, FeedsTo, GoesOn, GoesQuietly, RunsOut};
+ghost use Rattle.nr_host.specs.Ending.{FailedAt, SinkCount, SourceCount, piece_max};
+ghost use Rattle.nr_host.specs.Steps.{EndsAt, EndsWith, FaultsAt, FaultsFrom, FeedEnds, FeedsTo, GoesOn, GoesQuietly, RunsOut, sink_state};
+ghost use Rattle.nr_host.specs.declared.conn_end.ConnEnd.TheVariants as ends;
 
 use crate::conn_end::ConnEnd;
+use crate::draining::drain;
 use crate::executing::execute_one;
 use nr_link::End;
 use nr_links::Clock;
@@ -39,72 +41,77 @@ fn execute_ready<C: Clock>(
     Ok(())
 }
 
-/// Executes all calls that are ready, and writes what is due.
+/// Executes all calls that are ready, and writes what is due, or drops it once a write has failed.
 fn answer_all<O: Sink, C: Clock>(
     alloc: Global,
     responder: &mut Responder,
     server: &mut Server,
     clock: &mut C,
     sink: &mut O,
-) -> Result<(), ConnEnd>
+    failed: &mut bool,
+) -> Result<(), Memory>
     requires live { end_of responder.old.side ≡ None }
     ensures live { OnOk result (end_of responder.new.side ≡ None) }
     ensures fed { OnOk result (fed_bytes responder.new.side.link ≡ fed_bytes responder.old.side.link) }
-    ensures ok { OnOk result (GoesQuietly (O.taken sink.old) (O.taken sink.new) (C.gave clock.old) (C.gave clock.new) server.old server.new
-        responder.old.side responder.new.side) }
-    ensures err { IfErr result (λ end. EndsWith end (O.taken sink.old) (O.taken sink.new) (C.gave clock.old) (C.gave clock.new) server.old server.new
-        responder.old.side) }
-    ensures counted { MatchResult result
-        (λ _. O.faults sink.new ≡ O.faults sink.old) (λ end. SinkCount end (O.faults sink.old) (O.faults sink.new)) }
-    ensures source { IfErr result (λ end. (count : ℕ) → SourceCount end count count) }
+    ensures ok { OnOk result (GoesQuietly (sink_state (O.taken sink.old) (O.faults sink.old) failed.old) (sink_state (O.taken sink.new) (O.faults sink.new) failed.new)
+        (C.gave clock.old) (C.gave clock.new) server.old server.new responder.old.side responder.new.side) }
+    ensures err { OnErr result (EndsWith ends.Memory (sink_state (O.taken sink.old) (O.faults sink.old) failed.old) (sink_state (O.taken sink.new) (O.faults sink.new) failed.new)
+        (C.gave clock.old) (C.gave clock.new) server.old server.new responder.old.side) }
+    ensures counted { FaultsFrom failed.old failed.new (O.faults sink.old) (O.faults sink.new) }
+    ensures never_falls { O.faults sink.old ≤ O.faults sink.new }
 {
     match execute_ready(alloc, responder, server, clock) {
         Ok(()) => {}
-        Err(_) => return Err(ConnEnd::Memory),
+        Err(memory) => return Err(memory),
     }
-    match responder.drain_into(sink) {
-        Ok(()) => Ok(()),
-        Err(_) => Err(ConnEnd::LinkWrite),
-    }
+    drain(responder, sink, failed);
+    Ok(())
 }
 
-/// The end of a connection whose responder ended so. What is still due, a Terminate, is written.
-fn stopped<O: Sink>(responder: &mut Responder, sink: &mut O, end: End) -> ConnEnd
+/// The end of a connection whose responder ended so. What is still due, a Terminate, is written, or dropped once a write has failed.
+fn stopped<O: Sink>(responder: &mut Responder, sink: &mut O, failed: &mut bool, end: End) -> ConnEnd
     requires { end_of responder.old.side ≡ Some end }
-    ensures ends { EndsAt result (O.taken sink.old) (O.taken sink.new) responder.old.side }
-    ensures counted { SinkCount result (O.faults sink.old) (O.faults sink.new) }
+    ensures ends { EndsAt result (sink_state (O.taken sink.old) (O.faults sink.old) failed.old) (sink_state (O.taken sink.new) (O.faults sink.new) failed.new) responder.old.side }
+    ensures failed { FailedAt result failed.new }
+    ensures counted { FaultsFrom failed.old failed.new (O.faults sink.old) (O.faults sink.new) }
+    ensures never_falls { O.faults sink.old ≤ O.faults sink.new }
     ensures source { (count : ℕ) → SourceCount result count count }
 {
-    let drained = responder.drain_into(sink);
+    drain(responder, sink, failed);
     match end {
         End::Memory => ConnEnd::Memory,
-        _ => match drained {
-            Ok(()) => ConnEnd::Protocol { end },
-            Err(_) => ConnEnd::LinkWrite,
-        },
+        _ => {
+            if *failed {
+                return ConnEnd::LinkWrite;
+            }
+            ConnEnd::Protocol { end }
+        }
     }
 }
 
-/// Feeds a piece frame by frame. Before the next frame all calls that are ready are executed, and what is due is written.
+/// Feeds a piece frame by frame. Before the next frame all calls that are ready are executed, and what is due is written, or
+/// dropped once a write has failed.
 pub(crate) fn feed_all<O: Sink, C: Clock>(
     alloc: Global,
     responder: &mut Responder,
     server: &mut Server,
     clock: &mut C,
     sink: &mut O,
+    failed: &mut bool,
     piece: &[u8],
 ) -> Result<(), ConnEnd>
     requires live { end_of responder.old.side ≡ None }
+    requires written { failed.old ≡ false }
     requires len { length piece.now ≤ piece_max }
     requires room { fed_bytes responder.old.side.link + piece_max * length piece.now ≤ 2 ^ 62 }
     ensures live { OnOk result (end_of responder.new.side ≡ None) }
     ensures fed { OnOk result (fed_bytes responder.new.side.link ≤ fed_bytes responder.old.side.link + piece_max * length piece.now) }
-    ensures ok { OnOk result (FeedsTo piece.now [] (O.taken sink.old) (O.taken sink.new) (C.gave clock.old) (C.gave clock.new) server.old server.new
-        responder.old.side responder.new.side) }
-    ensures err { IfErr result (λ end. FeedEnds end piece.now (O.taken sink.old) (O.taken sink.new) (C.gave clock.old) (C.gave clock.new) server.old server.new
-        responder.old.side) }
-    ensures counted { MatchResult result
-        (λ _. O.faults sink.new ≡ O.faults sink.old) (λ end. SinkCount end (O.faults sink.old) (O.faults sink.new)) }
+    ensures ok { OnOk result (FeedsTo piece.now [] (sink_state (O.taken sink.old) (O.faults sink.old) false) (sink_state (O.taken sink.new) (O.faults sink.new) failed.new)
+        (C.gave clock.old) (C.gave clock.new) server.old server.new responder.old.side responder.new.side) }
+    ensures err { IfErr result (λ end. FeedEnds end piece.now (sink_state (O.taken sink.old) (O.faults sink.old) false) (sink_state (O.taken sink.new) (O.faults sink.new) failed.new)
+        (C.gave clock.old) (C.gave clock.new) server.old server.new responder.old.side) }
+    ensures counted { FaultsAt failed.new (O.faults sink.old) (O.faults sink.new) }
+    ensures count { IfErr result (λ end. SinkCount end (O.faults sink.old) (O.faults sink.new)) }
     ensures source { IfErr result (λ end. (count : ℕ) → SourceCount end count count) }
 {
     let mut left = piece;
@@ -113,12 +120,12 @@ pub(crate) fn feed_all<O: Sink, C: Clock>(
         let _wants = responder.wants();
         let n = match responder.feed_one(left) {
             Ok(n) => n,
-            Err(end) => return Err(stopped(responder, sink, end)),
+            Err(end) => return Err(stopped(responder, sink, failed, end)),
         };
         let (_, rest) = left.split_at(n);
-        match answer_all(alloc, responder, server, clock, sink) {
+        match answer_all(alloc, responder, server, clock, sink, failed) {
             Ok(()) => {}
-            Err(end) => return Err(end),
+            Err(_) => return Err(ConnEnd::Memory),
         }
         left = rest;
     }

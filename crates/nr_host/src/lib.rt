@@ -3,6 +3,7 @@
 
 mod conn_end;
 mod connection;
+mod draining;
 mod executing;
 mod feeding;
 mod limits;

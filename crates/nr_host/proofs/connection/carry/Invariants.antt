@@ -1,8 +1,8 @@
-use Rattle.std.proofs.Common.{◌≡◌, ◌-◌, ◌*◌, ◌≤◌, ℕ, None, length}
+use Rattle.std.proofs.Common.{◌≡◌, ◌-◌, ◌*◌, ◌≤◌, ℕ, false, None, length}
 use Rattle.nr_endpoint.specs.FedBytes.{fed_bytes}
 use Rattle.nr_responder.specs.ResponderState.{end_of}
 use Rattle.nr_host.specs.Ending.{piece_max, read_max}
-use Rattle.nr_host.specs.Steps.{CarriesTo, outside}
+use Rattle.nr_host.specs.Steps.{CarriesTo, outside, sink_state}
 use Rattle.nr_host.proofs.connection.carry.Given as goal
 
 abbrev pub invariant-loop-read : goal.invariant-loop-read
@@ -13,10 +13,11 @@ invariant-loop-read g l =
     × (fed_bytes l.responder.side.link ≤ piece_max * l.read)
     × (g.I.Source.faults l.source ≡ g.I.Source.faults l.initial.source)
     × (g.O.Sink.faults l.sink ≡ g.O.Sink.faults l.initial.sink)
-    × ((credits : ℕ) → CarriesTo credits (outside (g.I.Source.left l.initial.source) (g.I.Source.given l.initial.source) (g.O.Sink.taken l.initial.sink) (g.C.Clock.gave l.initial.clock) l.initial.server)
-    (outside (g.I.Source.left l.initial.source) (g.I.Source.given l.initial.source) (g.O.Sink.taken l.initial.sink) (g.C.Clock.gave l.initial.clock) l.initial.server) l.initial.responder.side 0
-    → CarriesTo credits (outside (g.I.Source.left l.initial.source) (g.I.Source.given l.initial.source) (g.O.Sink.taken l.initial.sink) (g.C.Clock.gave l.initial.clock) l.initial.server)
-    (outside (g.I.Source.left l.source) (g.I.Source.given l.source) (g.O.Sink.taken l.sink) (g.C.Clock.gave l.clock) l.server) l.responder.side l.read)
+    × (l.failed ≡ false)
+    × ((credits : ℕ) → CarriesTo credits (outside (g.I.Source.left l.initial.source) (g.I.Source.given l.initial.source) (sink_state (g.O.Sink.taken l.initial.sink) (g.O.Sink.faults l.initial.sink) false) (g.C.Clock.gave l.initial.clock) l.initial.server)
+    (outside (g.I.Source.left l.initial.source) (g.I.Source.given l.initial.source) (sink_state (g.O.Sink.taken l.initial.sink) (g.O.Sink.faults l.initial.sink) false) (g.C.Clock.gave l.initial.clock) l.initial.server) l.initial.responder.side 0
+    → CarriesTo credits (outside (g.I.Source.left l.initial.source) (g.I.Source.given l.initial.source) (sink_state (g.O.Sink.taken l.initial.sink) (g.O.Sink.faults l.initial.sink) false) (g.C.Clock.gave l.initial.clock) l.initial.server)
+    (outside (g.I.Source.left l.source) (g.I.Source.given l.source) (sink_state (g.O.Sink.taken l.sink) (g.O.Sink.faults l.sink) false) (g.C.Clock.gave l.clock) l.server) l.responder.side l.read)
 
 abbrev pub decreases-loop-read : goal.decreases-loop-read
 decreases-loop-read g l = read_max - l.read

@@ -1,4 +1,4 @@
-use Rattle.std.proofs.Common.{◌≡◌, ◌<◌, ◌+◌, ℕ, [], ◌∷◌, length, arith, ◌∙◌, ap, sym, subst}
+use Rattle.std.proofs.Common.{◌≡◌, ◌<◌, ◌+◌, [], ◌∷◌, length, arith, ◌∙◌, ap, sym, subst}
 use Rattle.std.proofs.lemmas.List.{length-append}
 use Rattle.nr_host.specs.Serving.{Between, ServesAll, between}
 use Rattle.nr_host.proofs.Links.{served_more}

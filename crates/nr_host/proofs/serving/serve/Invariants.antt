@@ -1,4 +1,4 @@
-use Rattle.std.proofs.Common.{◌≡◌, ◌-◌, ◌≤◌, ℕ, length}
+use Rattle.std.proofs.Common.{◌≡◌, ◌-◌, ◌≤◌, length}
 use Rattle.nr_host.specs.Serving.{ServesAll, between}
 use Rattle.nr_host.proofs.serving.serve.Given as goal
 
