@@ -121,6 +121,7 @@ impl Directory {
         ensures within { result ≤ length self.now.list }
         ensures place { result ≡ count_until cookie self.now.list }
         ensures entries { drop result self.now.list ≡ entries_after cookie self.now.list }
+        ensures rises { steps.old ≤ steps.new }
         ensures cost { 2 ^ (steps.new - steps.old) ≤ 2 * length self.now.list + 1 }
         ensures counted { length self.now.list + 2 ≤ 2 * 2 ^ (steps.new - steps.old) }
     {
@@ -213,6 +214,7 @@ fn place_above<L: Ledger>(
     ensures within { result ≤ length slots.now.entries }
     ensures place { result ≡ count_until cookie (slot_entries slots.now.entries) }
     ensures entries { drop result (slot_entries slots.now.entries) ≡ entries_after cookie (slot_entries slots.now.entries) }
+    ensures rises { steps.old ≤ steps.new }
     ensures cost { 2 ^ (steps.new - steps.old) ≤ 2 * length slots.now.entries + 1 }
     ensures counted { length slots.now.entries + 2 ≤ 2 * 2 ^ (steps.new - steps.old) }
 {
