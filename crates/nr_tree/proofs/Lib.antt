@@ -27,3 +27,4 @@ pub mod LastPlace
 pub mod NodeChanges
 pub mod RenameLemmas
 pub mod Bounds
+pub mod Blocks

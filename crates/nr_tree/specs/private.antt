@@ -1,2 +1,3 @@
 -- Definitions that only private code cites.
+pub mod Blocks
 pub mod Room

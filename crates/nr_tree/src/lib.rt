@@ -16,6 +16,7 @@ mod directory;
 mod drill;
 mod file;
 mod node;
+mod order;
 mod nodes;
 mod pages;
 mod replies;
