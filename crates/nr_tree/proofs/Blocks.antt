@@ -119,3 +119,27 @@ pub push_last : (bs : List (List ℕ)) (i x : ℕ) (b c : List ℕ) → i ≡ le
 push_last bs i x b c last some at is =
     ap (λ (y : List ℕ). concat (set bs i y)) (is ∙ ap (λ (y : List ℕ). y ++ x ∷ []) (sym (block_is bs i b (omega (arith, last, some)) at)))
     ∙ push_last_at bs i x (omega (arith, last, some))
+
+-- ===== an element that goes last
+
+shift_at : (xs : List ℕ) (i : ℕ) → suc i < length xs → remove (set xs i (get_or xs (suc i) 0)) (suc i) ≡ remove xs i
+shift_at [] i lt = absurd (omega (arith, lt))
+shift_at (x ∷ []) zero lt = absurd (omega (arith, lt))
+shift_at (x ∷ y ∷ xs) zero lt = refl
+shift_at (x ∷ xs) (suc i) lt = ap (λ (l : List ℕ). x ∷ l) (shift_at xs i (omega (arith, lt)))
+
+-- the element after a place moves to the place
+pub shift_down : (xs ys : List ℕ) (i next : ℕ) → i + 1 < length xs → next ≡ get_or xs (i + 1) 0 → ys ≡ set xs i next → remove ys (i + 1) ≡ remove xs i
+shift_down xs ys i next lt is set_is =
+    let one : suc i ≡ i + 1 = omega arith in
+    let at : next ≡ get_or xs (suc i) 0 = is ∙ ap (λ (n : ℕ). get_or xs n 0) (sym one) in
+    ap (λ (l : List ℕ). remove l (i + 1)) (set_is ∙ ap (λ (n : ℕ). set xs i n) at)
+    ∙ ap (λ (n : ℕ). remove (set xs i (get_or xs (suc i) 0)) n) (sym one)
+    ∙ shift_at xs i (omega (arith, lt))
+
+-- the last element is another one
+pub put_last : (xs : List ℕ) (last x : ℕ) → last + 1 ≡ length xs → set xs last x ≡ remove xs last ++ x ∷ []
+put_last [] last x is = absurd (omega (arith, is))
+put_last (y ∷ []) zero x is = refl
+put_last (y ∷ z ∷ xs) zero x is = absurd (omega (arith, is))
+put_last (y ∷ xs) (suc last) x is = ap (λ (l : List ℕ). y ∷ l) (put_last xs last x (omega (arith, is)))

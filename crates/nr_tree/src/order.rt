@@ -1,6 +1,6 @@
 //! Indexes in an order, in blocks: one is taken out in a time that hardly grows with their count.
 
-ghost use Rattle.std.specs.Prelude.{◌≡◌, ◌<◌, ◌++◌, ◌∷◌, [], true, length, remove, slice_index, slice_index_or, slice_set, OnOk, OnErr};
+ghost use Rattle.std.specs.Prelude.{◌≡◌, ◌+◌, ◌<◌, ◌≤◌, ◌++◌, ◌∷◌, [], true, length, remove, slice_index, slice_index_or, slice_set, OnOk, OnErr};
 ghost use Rattle.std.specs.List.{concat};
 ghost use Rattle.nr_tree.specs.private.Blocks.{IsIn};
 
@@ -130,15 +130,43 @@ impl Order {
         drop_if_empty(&mut self.blocks, block);
     }
 
+    /// Puts the index at a place last; `last` is the last place. Takes no memory for good.
+    pub(crate) fn move_last(&mut self, place: usize, last: usize)
+        requires place { place ≤ last }
+        requires last { last + 1 ≡ length self.old }
+        ensures { self.new ≡ remove self.old place ++ slice_index self.old place ∷ [] }
+    {
+        let index = self.get(place);
+        match self.push(index) {
+            Ok(()) => self.remove(place),
+            Err(_) => self.move_down(place, last, index),
+        }
+    }
+
+    /// Moves each index after a place one place down, and puts this one last.
+    fn move_down(&mut self, place: usize, last: usize, index: usize)
+        requires place { place ≤ last }
+        requires last { last + 1 ≡ length self.old }
+        ensures { self.new ≡ remove self.old place ++ index ∷ [] }
+    {
+        let mut at = place;
+        'moving: while at < last {
+            let next = self.get(at + 1);
+            self.set(at, next);
+            at += 1;
+        }
+        self.set(last, index);
+    }
+
     /// Puts an index last. After an `Err` the indexes are as before.
-    pub(crate) fn push(&mut self, alloc: Global, index: usize) -> Result<(), Memory>
+    pub(crate) fn push(&mut self, index: usize) -> Result<(), Memory>
         ensures ok { OnOk result (self.new ≡ self.old ++ index ∷ []) }
         ensures err { OnErr result (self.new ≡ self.old) }
     {
         if has_room(&self.blocks) {
             push_to_last(&mut self.blocks, index)
         } else {
-            push_block(alloc, &mut self.blocks, index)
+            push_block(&mut self.blocks, index)
         }
     }
 }
@@ -203,11 +231,11 @@ fn push_to_last(blocks: &mut Vec<Block>, index: usize) -> Result<(), Memory>
 }
 
 /// Puts a block with one index last. After an `Err` the blocks are as before.
-fn push_block(alloc: Global, blocks: &mut Vec<Block>, index: usize) -> Result<(), Memory>
+fn push_block(blocks: &mut Vec<Block>, index: usize) -> Result<(), Memory>
     ensures ok { OnOk result (concat blocks.new.items ≡ concat blocks.old.items ++ index ∷ []) }
     ensures err { OnErr result (blocks.new.items ≡ blocks.old.items) }
 {
-    let mut block = Block::new(alloc);
+    let mut block = Block::new(*blocks.allocator());
     block.push(index)?;
     blocks.push(block)?;
     Ok(())
