@@ -1,7 +1,7 @@
 -- Blocks, and the list that they make up.
 use Rattle.std.proofs.Common.{◌≡◌, ℕ, zero, suc, ◌+◌, ◌-◌, ◌<◌, ◌≤◌, List, [], ◌∷◌, ◌++◌, length, drop, get_or, set, remove, refl, ap, sym, ◌∙◌, subst, arith, length-append}
 use Rattle.std.proofs.Math.Seq.{drop-cons}
-use Rattle.std.proofs.lemmas.List.{get_or_append_left, get_or-append_right, set-append_left, set-append_right, append-nil, append_assoc}
+use Rattle.std.proofs.lemmas.List.{get_or_append_left, get_or-append_right, set-append_left, set-append_right, get_or-set_other, length-set, append-nil, append_assoc}
 use Rattle.std.proofs.lemmas.List.Edits.{remove-append_left, remove-append_right}
 use Rattle.std.proofs.lemmas.List.Folds.{concat-append}
 use Rattle.std.proofs.lemmas.Option.{get_or_from_slice_get, slice_get_read}
@@ -143,3 +143,23 @@ put_last [] last x is = absurd (omega (arith, is))
 put_last (y ∷ []) zero x is = refl
 put_last (y ∷ z ∷ xs) zero x is = absurd (omega (arith, is))
 put_last (y ∷ xs) (suc last) x is = ap (λ (l : List ℕ). y ∷ l) (put_last xs last x (omega (arith, is)))
+
+-- ===== blocks that become one
+
+joined_at : (bs : List (List ℕ)) (i : ℕ) (x y : List ℕ) → suc i < length bs → x ++ y ≡ get_or bs i [] ++ get_or bs (suc i) [] → concat (set (set (set bs (suc i) []) i x) (suc i) y) ≡ concat bs
+joined_at [] i x y lt same = absurd (omega (arith, lt))
+joined_at (p ∷ []) zero x y lt same = absurd (omega (arith, lt))
+joined_at (p ∷ q ∷ bs) zero x y lt same =
+    sym (append_assoc x y (concat bs)) ∙ ap (λ (l : List ℕ). l ++ concat bs) same ∙ append_assoc p q (concat bs)
+joined_at (p ∷ bs) (suc i) x y lt same = ap (λ (l : List ℕ). p ++ l) (joined_at bs i x y (omega (arith, lt)) same)
+
+-- the elements of a block and the next one, shared among the two in another way
+pub joined : (bs : List (List ℕ)) (i : ℕ) (a b x y : List ℕ) → i + 1 < length bs → b ≡ get_or bs (i + 1) b → a ≡ get_or (set bs (i + 1) []) i a → x ++ y ≡ a ++ b
+    → concat (set (set (set bs (i + 1) []) i x) (i + 1) y) ≡ concat bs
+joined bs i a b x y lt at_b at_a same =
+    let one : i + 1 ≡ suc i = omega arith in
+    let first : get_or bs i [] ≡ a =
+    sym (get_or-set_other bs (i + 1) i [] [] (λ e. omega (arith, e))) ∙ block_is (set bs (i + 1) []) i a (omega (arith, lt, length-set bs (i + 1) [])) at_a in
+    let second : get_or bs (suc i) [] ≡ b = ap (λ (n : ℕ). get_or bs n []) (sym one) ∙ block_is bs (i + 1) b lt at_b in
+    ap (λ (n : ℕ). concat (set (set (set bs n []) i x) n y)) one
+    ∙ joined_at bs i x y (omega (arith, lt)) (same ∙ (λ j. sym first j ++ sym second j))

@@ -7,6 +7,7 @@ ghost use Rattle.nr_tree.specs.private.Blocks.{IsIn};
 use nr_xdr::Memory;
 use std::alloc::Global;
 use std::marker::Model;
+use std::mem::replace;
 
 /// The maximum number of indexes in a block.
 const BLOCK_MAX: usize = 4096;
@@ -62,6 +63,13 @@ impl Block {
         ensures { self.new ≡ remove self.old offset }
     {
         self.indexes.remove(offset);
+    }
+
+    /// Takes the indexes of another block, if there is memory.
+    fn take_all(&mut self, other: &mut Block)
+        ensures { self.new ++ other.new ≡ self.old ++ other.old }
+    {
+        let _ = self.indexes.append(&mut other.indexes);
     }
 
     /// After an `Err` the block is as before.
@@ -127,7 +135,7 @@ impl Order {
     {
         let (block, offset) = find(&self.blocks, place);
         remove_at(&mut self.blocks, block, offset);
-        drop_if_empty(&mut self.blocks, block);
+        tidy(&mut self.blocks, block);
     }
 
     /// Puts the index at a place last; `last` is the last place. Takes no memory for good.
@@ -207,6 +215,48 @@ fn drop_if_empty(blocks: &mut Vec<Block>, block: usize)
 {
     if blocks[block].len() == 0 {
         blocks.remove(block);
+    }
+}
+
+/// Whether a block and the next one are at most a quarter full.
+fn are_small(blocks: &[Block], block: usize) -> bool
+    ensures { result ≡ true → block + 1 < length blocks.now }
+{
+    if block >= blocks.len() || blocks.len() - block < 2 {
+        return false;
+    }
+    blocks[block].len() <= BLOCK_MAX / 4 && blocks[block + 1].len() <= BLOCK_MAX / 4
+}
+
+/// Moves the indexes of the next block to a block, if there is memory.
+fn join(blocks: &mut Vec<Block>, block: usize)
+    requires { block + 1 < length blocks.old.items }
+    ensures { concat blocks.new.items ≡ concat blocks.old.items }
+{
+    let empty = Block::new(*blocks.allocator());
+    let mut next = replace(&mut blocks[block + 1], empty);
+    blocks[block].take_all(&mut next);
+    blocks[block + 1] = next;
+    drop_if_empty(blocks, block + 1);
+}
+
+fn join_if_small(blocks: &mut Vec<Block>, block: usize)
+    ensures { concat blocks.new.items ≡ concat blocks.old.items }
+{
+    if are_small(blocks, block) {
+        join(blocks, block);
+    }
+}
+
+/// After an index of a block was taken out: the block goes if it is empty, and small blocks become one.
+fn tidy(blocks: &mut Vec<Block>, block: usize)
+    requires { block < length blocks.old.items }
+    ensures { concat blocks.new.items ≡ concat blocks.old.items }
+{
+    drop_if_empty(blocks, block);
+    join_if_small(blocks, block);
+    if block > 0 {
+        join_if_small(blocks, block - 1);
     }
 }
 
