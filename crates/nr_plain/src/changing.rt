@@ -145,6 +145,7 @@ fn write_of(
     Ok(reply(room, call.xid, results))
 }
 
+#[tactic(auto, using(crate::proofs::Fits::wcc_results_fit))]
 impl Changing for SetattrArgs {
     type Done = WccData;
 

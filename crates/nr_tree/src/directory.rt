@@ -80,7 +80,8 @@ impl Directory {
         Ok(())
     }
 
-    /// Takes the entry of a name out, and puts one for another number last, under the next cookie. Takes no memory.
+    /// Takes the entry of a name out, and puts one for another number last, under the next cookie. It cannot fail: out of
+    /// memory it takes longer.
     pub(crate) fn replace(&mut self, name: Vec<u8>, number: u64)
         requires found { is_some (entry_of_name name.items self.old.list) ≡ true }
         requires cookies { self.old.next_cookie < 2 ^ 63 }
@@ -218,7 +219,7 @@ fn take_out(slots: &mut Slots, order: &mut Order, next_cookie: u64, index: usize
     slots.swap_remove_index(index);
 }
 
-/// Puts the index of a slot last in the order. Takes no memory.
+/// Puts the index of a slot last in the order. It cannot fail: out of memory it takes longer.
 fn move_last(slots: &Slots, order: &mut Order, next_cookie: u64, index: usize)
     requires ordered { IsOrdered (slot_entries slots.now.entries) order.old next_cookie }
     requires within { index < length (slot_entries slots.now.entries) }

@@ -110,7 +110,7 @@ impl Node {
         self.metadata.ctime = now;
     }
 
-    /// The entry of a name taken out and one for another node put last, in a directory that is changed now. Takes no memory.
+    /// The entry of a name taken out and one for another node put last, in a directory that is changed now. It cannot fail.
     pub(crate) fn replace_entry(
         &mut self,
         name: Vec<u8>,

@@ -263,7 +263,7 @@ pub(crate) fn rename_to_free(
     Ok(())
 }
 
-/// A new name that another node has: its entry goes, and its link or itself. Takes no memory.
+/// A new name that another node has: its entry goes, and its link or itself. It cannot fail.
 pub(crate) fn rename_over(
     nodes: &mut BTreeMap<u64, Node>,
     step: Renaming,

@@ -65,11 +65,13 @@ impl Block {
         self.indexes.remove(offset);
     }
 
-    /// Takes the indexes of another block, if there is memory.
+    /// Takes the indexes of another block if it has room for them. Takes no memory.
     fn take_all(&mut self, other: &mut Block)
         ensures { self.new ++ other.new ≡ self.old ++ other.old }
     {
-        let _ = self.indexes.append(&mut other.indexes);
+        if self.indexes.capacity() - self.indexes.len() >= other.indexes.len() {
+            let _ = self.indexes.append(&mut other.indexes);
+        }
     }
 
     /// After an `Err` the block is as before.
@@ -138,7 +140,7 @@ impl Order {
         tidy(&mut self.blocks, block);
     }
 
-    /// Puts the index at a place last; `last` is the last place. Takes no memory for good.
+    /// Puts the index at a place last; `last` is the last place. It cannot fail: out of memory it takes longer.
     pub(crate) fn move_last(&mut self, place: usize, last: usize)
         requires place { place ≤ last }
         requires last { last + 1 ≡ length self.old }
@@ -228,7 +230,7 @@ fn are_small(blocks: &[Block], block: usize) -> bool
     blocks[block].len() <= BLOCK_MAX / 4 && blocks[block + 1].len() <= BLOCK_MAX / 4
 }
 
-/// Moves the indexes of the next block to a block, if there is memory.
+/// Moves the indexes of the next block to a block if it has room for them. Takes no memory.
 fn join(blocks: &mut Vec<Block>, block: usize)
     requires { block + 1 < length blocks.old.items }
     ensures { concat blocks.new.items ≡ concat blocks.old.items }
