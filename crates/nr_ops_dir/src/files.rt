@@ -187,16 +187,15 @@ fn add_file(
     add_node(alloc, tree, now, args.dir.as_slice(), name, directory, node)
 }
 
-/// Gives a file that is there the size that is given, if any. After an `Err` the tree is as before.
-fn set_given_size(tree: &mut Tree, now: Time, number: u64, how: CreateHow) -> Result<(), Memory>
+/// Gives a file that is there the size that is given, if any. Takes no memory.
+fn set_given_size(tree: &mut Tree, now: Time, number: u64, how: CreateHow)
     requires regular { (size : ℕ) → size_given how ≡ Some size → is_regular_at tree.old number ≡ true }
     requires limit { (size : ℕ) → size_given how ≡ Some size → size ≤ file_size_max }
-    ensures tree { OnOk result (tree.new ≡ tree_with_existing_file tree.old now how number) }
-    ensures err { OnErr result (tree.new ≡ tree.old) }
+    ensures { tree.new ≡ tree_with_existing_file tree.old now how number }
 {
     match size_to_set(how) {
         Some(size) => tree.set_size(number, size, now),
-        None => Ok(()),
+        None => {}
     }
 }
 
@@ -221,7 +220,7 @@ fn use_existing_file(
 {
     let before = wcc_attributes_at(tree, dir);
     let object = handle_of(alloc, number)?;
-    set_given_size(tree, now, number, how)?;
+    set_given_size(tree, now, number, how);
     Ok(StatusUnion::Done(create_ok(before, tree, dir, object, number)))
 }
 

@@ -1,6 +1,6 @@
 //! GETATTR, SETATTR and ACCESS.
 
-ghost use Rattle.std.specs.Prelude.{◌≡◌, ◌≤◌, true, None, Some, IsSome, IfSome, IfOk, OnOk, OnErr, MatchResult};
+ghost use Rattle.std.specs.Prelude.{◌≡◌, ◌≤◌, true, None, Some, IsSome, IfSome, MatchResult};
 ghost use Rattle.std.specs.Option.{option_map};
 ghost use Rattle.nr_ops_file.specs.Attributes.{getattr_rules, getattr_reply, same_time as same_times, guard_differs, changes_owner as changes_owner_of, needs_owner as needs_owner_for, sets_server_time as sets_the_server_time, is_owner as is_owner_of, permission_rules, value_rules, setattr_of, setattr_rules, mode_after as mode_set, mtime_of_size as mtime_of, metadata_after as metadata_set, tree_with_size_given, tree_with_attributes, setattr_tree, setattr_reply, bit_if as bit_where, access_granted, access_reply};
 ghost use Rattle.nr_tree.specs.Replies.{attributes_at as attributes_of_handle};
@@ -17,7 +17,6 @@ use nr_tree::{
     MODE_COUNT, Metadata, Node, Right, Space, Tree, attributes_at, check_size, check_space,
     check_times, differs_if_given, live_node, may, time_after, wcc_attributes_at, wcc_data,
 };
-use nr_xdr::Memory;
 
 /// The attributes of the node that the handle names (RFC 1813 section 3.3.1). Takes no memory.
 pub fn getattr(tree: &Tree, args: &GetattrArgs) -> GetattrRes
@@ -84,31 +83,29 @@ fn granted_access(caller: &Caller, node: &Node) -> u32
         + bit_if(!is_dir && execute, ACCESS_EXECUTE)
 }
 
-/// Sets attributes, and cuts a regular file or adds zeros to it (RFC 1813 section 3.3.2). After an `Err` the tree is as
-/// before.
+/// Sets attributes, and cuts a regular file or adds zeros to it (RFC 1813 section 3.3.2). Takes no memory.
 pub fn setattr(
     tree: &mut Tree,
     now: Time,
     caller: &Caller,
     space: &Space,
     args: &SetattrArgs,
-) -> Result<SetattrRes, Memory>
+) -> SetattrRes
     requires space { IsWithinCapacity space.now }
-    ensures result { IfOk result (λ r. r ≡ setattr_reply tree.old caller.now space.now now args.now) }
-    ensures tree { OnOk result (tree.new ≡ setattr_tree tree.old caller.now space.now now args.now) }
-    ensures err { OnErr result (tree.new ≡ tree.old) }
+    ensures result { result ≡ setattr_reply tree.old caller.now space.now now args.now }
+    ensures tree { tree.new ≡ setattr_tree tree.old caller.now space.now now args.now }
 {
     let handle = args.object.as_slice();
     let before = wcc_attributes_at(tree, handle);
     match node_to_set(tree, caller, space, args) {
         Ok((number, metadata)) => {
-            set_attributes(tree, now, number, args.attributes, metadata)?;
-            Ok(StatusUnion::Done(wcc_data(before, tree, handle)))
+            set_attributes(tree, now, number, args.attributes, metadata);
+            StatusUnion::Done(wcc_data(before, tree, handle))
         }
-        Err(status) => Ok(StatusUnion::Failed {
+        Err(status) => StatusUnion::Failed {
             status,
             part: wcc_data(before, tree, handle),
-        }),
+        },
     }
 }
 
@@ -223,34 +220,31 @@ fn check_values(attributes: SetAttributes, node: &Node) -> Result<(), Status>
     check_size(attributes.size)
 }
 
-/// Gives the node these attributes. After an `Err` the tree is as before.
+/// Gives the node these attributes. Takes no memory.
 fn set_attributes(
     tree: &mut Tree,
     now: Time,
     number: u64,
     attributes: SetAttributes,
     metadata: Metadata,
-) -> Result<(), Memory>
+)
     requires links { metadata.links ≡ links_at tree.old number }
     requires size { IfSome attributes.size (λ size. (is_regular_at tree.old number ≡ true) × (size ≤ file_size_max)) }
-    ensures ok { OnOk result (tree.new ≡ tree_with_attributes tree.old now number attributes metadata) }
-    ensures err { OnErr result (tree.new ≡ tree.old) }
+    ensures { tree.new ≡ tree_with_attributes tree.old now number attributes metadata }
 {
-    set_size(tree, now, number, attributes.size)?;
+    set_size(tree, now, number, attributes.size);
     tree.set_metadata(number, metadata_after(now, attributes, metadata));
-    Ok(())
 }
 
-/// Cuts a regular file or adds zeros, if a size is given. After an `Err` the tree is as before.
-fn set_size(tree: &mut Tree, now: Time, number: u64, size: Option<u64>) -> Result<(), Memory>
+/// Cuts a regular file or adds zeros, if a size is given. Takes no memory.
+fn set_size(tree: &mut Tree, now: Time, number: u64, size: Option<u64>)
     requires size { IfSome size (λ size. (is_regular_at tree.old number ≡ true) × (size ≤ file_size_max)) }
-    ensures ok { OnOk result (tree.new ≡ tree_with_size_given tree.old now number size) }
-    ensures links { OnOk result (links_at tree.new number ≡ links_at tree.old number) }
-    ensures err { OnErr result (tree.new ≡ tree.old) }
+    ensures tree { tree.new ≡ tree_with_size_given tree.old now number size }
+    ensures links { links_at tree.new number ≡ links_at tree.old number }
 {
     match size {
         Some(size) => tree.set_size(number, size, now),
-        None => Ok(()),
+        None => {}
     }
 }
 

@@ -145,6 +145,7 @@ fn write_of(
     Ok(reply(room, call.xid, results))
 }
 
+#[tactic(auto, using(crate::proofs::Fits::wcc_results_fit))]
 impl Changing for SetattrArgs {
     type Done = WccData;
 
@@ -155,7 +156,13 @@ impl Changing for SetattrArgs {
     ghost changed = { setattr_tree };
 
     fn execute(self, _alloc: Global, tree: &mut Tree, call: &Call) -> Result<SetattrRes, Memory> {
-        nr_ops_file::setattr(tree, call.time, call.caller, &call.space, &self)
+        Ok(nr_ops_file::setattr(
+            tree,
+            call.time,
+            call.caller,
+            &call.space,
+            &self,
+        ))
     }
 }
 

@@ -18,7 +18,7 @@ use Rattle.nr_tree.proofs.SkeletonChanges.{with_change_at, value_at_at}
 
 -- ===== lists
 
-rise_from : (low from : ℕ) (es : List Entry) (next : ℕ) → low ≤ from → CookiesAscend from es next → CookiesAscend low es next
+pub rise_from : (low from : ℕ) (es : List Entry) (next : ℕ) → low ≤ from → CookiesAscend from es next → CookiesAscend low es next
 rise_from low from [] next le r = omega (arith, le, r)
 rise_from low from (e ∷ es) next le r = (omega (arith, le, r.0), r.1)
 

@@ -23,7 +23,9 @@ pub mod RemovalReady
 pub mod StepLemmas
 pub mod ListingLemmas
 pub mod DrillLemmas
-pub mod LastPlace
 pub mod NodeChanges
 pub mod RenameLemmas
 pub mod Bounds
+pub mod Blocks
+pub mod Ordered
+pub mod Indexes

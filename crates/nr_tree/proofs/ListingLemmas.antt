@@ -1,17 +1,12 @@
 -- Entries after a cookie are those from an index on, since cookies ascend.
 use Rattle.std.proofs.Common.{◌≡◌, ℕ, zero, suc, ◌+◌, ◌-◌, ◌*◌, ◌/◌, ◌^◌, ◌<◌, ◌≤◌, Bool, true, false, cond, leb, ltb, length, List, [], ◌∷◌, ◌++◌, take, drop, Option, None, Some, refl, ap, sym, ◌∙◌, subst, arith}
 use Rattle.std.proofs.lemmas.Bool.{le-ltb, lt-ltb, leb-true, leb-false}
-use Rattle.std.proofs.lemmas.List.{take-append-drop, length-drop, length-map}
+use Rattle.std.proofs.lemmas.List.{take-append-drop, length-drop}
 use Rattle.std.proofs.lemmas.Nat.{mul-le}
 use Rattle.std.proofs.Math.Nat.{pow-suc, mul_assoc, mul-one}
 use Rattle.std.specs.Prelude.{slice_get}
 use Rattle.std.specs.Option.{option_map}
 use Rattle.nr_tree.specs.Entries.{Entry, CookiesAscend}
-use Rattle.std.specs.declared.vec.Vec.{Vec}
-use Rattle.std.specs.declared.alloc.Global.{Global}
-use Rattle.nr_tree.specs.declared.directory.Slot.{Slot}
-use Rattle.nr_tree.specs.Slots.{slot_entries, entry_of}
-use Rattle.nr_tree.proofs.Slots.{entry_of_slot}
 use Rattle.nr_tree.specs.Listing.{entries_after, count_until}
 
 append_step : (b : Bool) (x : Entry) (xs ys all : List Entry) → all ≡ xs ++ ys → cond b (x ∷ all) all ≡ cond b (x ∷ xs) xs ++ ys
@@ -25,12 +20,12 @@ after_append c (x ∷ xs) ys = append_step (ltb c x.cookie) x (entries_after c x
 same_cookie : (x y : ℕ) → Some x ≡ Some y → x ≡ y
 same_cookie x y e = cc
 
-cookie_from : (from : ℕ) (es : List Entry) (next i k : ℕ) → CookiesAscend from es next → option_map (λ (e : Entry). e.cookie) (slice_get es i) ≡ Some k → from ≤ k
+pub cookie_from : (from : ℕ) (es : List Entry) (next i k : ℕ) → CookiesAscend from es next → option_map (λ (e : Entry). e.cookie) (slice_get es i) ≡ Some k → from ≤ k
 cookie_from from [] next i k up at = absurd cc
 cookie_from from (e ∷ es) next zero k up at = let same : e.cookie ≡ k = same_cookie e.cookie k at in omega (arith, same, up.0)
 cookie_from from (e ∷ es) next (suc i) k up at = omega (arith, up.0, cookie_from (e.cookie + 1) es next i k up.1 at)
 
-all_above : (c from : ℕ) (es : List Entry) (next : ℕ) → CookiesAscend from es next → c < from → entries_after c es ≡ es
+pub all_above : (c from : ℕ) (es : List Entry) (next : ℕ) → CookiesAscend from es next → c < from → entries_after c es ≡ es
 all_above c from [] next up lt = refl
 all_above c from (e ∷ es) next up lt =
     ap (λ (b : Bool). cond b (e ∷ entries_after c es) (entries_after c es)) (lt-ltb c e.cookie (omega (arith, lt, up.0)))
@@ -87,11 +82,6 @@ half_high low high lt = omega (arith, lt)
 
 pub fewer_high : (low high : ℕ) → low < high → 2 * (low + (high - low) / 2 - low) ≤ high - low
 fewer_high low high lt = omega (arith, lt)
-
--- an entry's cookie is compared as that of its slot
-pub compared_slot : (cookie : ℕ) (ps : List (Vec ℕ Global × Slot)) (i : ℕ) (p : Vec ℕ Global × Slot) → slice_get ps i ≡ Some p
-    → option_map (λ (e : Entry). leb e.cookie cookie) (slice_get (slot_entries ps) i) ≡ Some (leb p.1.cookie cookie)
-compared_slot cookie ps i p here = ap (option_map (λ (e : Entry). leb e.cookie cookie)) (entry_of_slot ps i p here)
 
 -- the cookie that was compared
 pub compared : (cookie : ℕ) (o : Option Entry) (b : Bool) → option_map (λ (e : Entry). leb e.cookie cookie) o ≡ Some b → (k : ℕ) × (option_map (λ (e : Entry). e.cookie) o ≡ Some k) × (leb k cookie ≡ b)
@@ -151,7 +141,7 @@ halving_ends n before now low high same h =
 
 -- ===== the place is how many entries have a cookie that is at most the given one
 
-listed_or_counted : (c : ℕ) (es : List Entry) → count_until c es + length (entries_after c es) ≡ length es
+pub listed_or_counted : (c : ℕ) (es : List Entry) → count_until c es + length (entries_after c es) ≡ length es
 listed_or_counted c [] = refl
 listed_or_counted c (e ∷ es) = by (leb e.cookie c) refl (listed_or_counted c es) where
   by : (b : Bool) → leb e.cookie c ≡ b → count_until c es + length (entries_after c es) ≡ length es → count_until c (e ∷ es) + length (entries_after c (e ∷ es)) ≡ suc (length es)
@@ -174,7 +164,5 @@ from_middle c es next i b up at is =
     all_from c 1 es next i k.0 up k.1 (leb-false k.0 c (k.2 ∙ is))
 
 -- the place that halving ends at
-pub place_by : (c : ℕ) (ps : List (Vec ℕ Global × Slot)) (low high : ℕ) → low ≡ high → high ≤ length ps → entries_after c (take low (slot_entries ps)) ≡ [] → entries_after c (drop high (slot_entries ps)) ≡ drop high (slot_entries ps)
-    → low ≡ count_until c (slot_entries ps)
-place_by c ps low high same le none all =
-    place_counts c (slot_entries ps) low (omega (arith, same, le, length-map ps entry_of)) (listed c (slot_entries ps) low high same none all)
+pub place_by : (c : ℕ) (es : List Entry) (low high : ℕ) → low ≡ high → high ≤ length es → entries_after c (take low es) ≡ [] → entries_after c (drop high es) ≡ drop high es → low ≡ count_until c es
+place_by c es low high same le none all = place_counts c es low (omega (arith, same, le)) (listed c es low high same none all)

@@ -12,7 +12,7 @@ use Rattle.nr_tree.specs.Entries.{Entry, is_name, entry_of_name, list_without, e
 use Rattle.nr_tree.specs.DirectoryGraph.{one_if}
 use Rattle.nr_tree.specs.Tree.{nodes_with_change, is_dir, is_directory, entries_in, entries_of}
 use Rattle.nr_tree.specs.private.Room.{IsSource, HasEntryFor}
-use Rattle.nr_tree.proofs.LastPlace.{same_list}
+use Rattle.nr_tree.proofs.Indexes.{same_list}
 use Rattle.nr_tree.specs.Changes.{on_entries, node_with_entry, node_without_entry, node_without_link, nodes_with_name_dropped}
 use Rattle.nr_tree.specs.declared.node.Node.{Node}
 use Rattle.nr_tree.specs.declared.node.Content.{Content}

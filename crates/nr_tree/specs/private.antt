@@ -1,2 +1,4 @@
 -- Definitions that only private code cites.
+pub mod Blocks
+pub mod Indexes
 pub mod Room

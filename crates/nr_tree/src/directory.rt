@@ -3,6 +3,7 @@
 ghost use Rattle.std.specs.Prelude.{◌≡◌, ◌+◌, ◌<◌, ◌^◌, [], ◌∷◌, ◌++◌, None, Some, slice_get, length, map, OnOk, OnErr, IsOk, is_some, true};
 ghost use Rattle.std.specs.Option.{option_map, option_copied};
 
+use crate::order::Order;
 use crate::steps::Steps;
 use indexmap::IndexMap;
 use nr_xdr::Memory;
@@ -21,21 +22,23 @@ pub struct Slot {
 #[derive(Drop)]
 pub struct Directory {
     next_cookie: u64,
+    /// By name, in no order.
     slots: IndexMap<Vec<u8>, Slot>,
+    /// The indexes of the slots, in the order in which the entries were made.
+    order: Order,
 }
 
 impl Model for Directory {
-    ghost use Rattle.nr_tree.specs.Entries.{Entries, CookiesAscend, entries_code};
-    ghost use Rattle.nr_tree.specs.Slots.{slot_entries};
+    ghost use Rattle.nr_tree.specs.Entries.{Entries, entries_code};
+    ghost use Rattle.nr_tree.specs.Slots.{slot_entries, ordered, IsOrdered};
 
     ghost Value = { Entries };
 
     ghost coded = { entries_code };
 
-    ghost view = { λ d. record { next_cookie = d.next_cookie; list = slot_entries d.slots.entries } };
+    ghost view = { λ d. record { next_cookie = d.next_cookie; list = ordered (slot_entries d.slots.entries) d.order } };
 
-    // Cookies ascend from 1 on, and stay below the next one.
-    ghost invariant = { λ d. CookiesAscend 1 (slot_entries d.slots.entries) d.next_cookie };
+    ghost invariant = { λ d. IsOrdered (slot_entries d.slots.entries) d.order d.next_cookie };
 }
 
 impl Directory {
@@ -49,16 +52,16 @@ impl Directory {
         Directory {
             next_cookie: 1,
             slots: IndexMap::new(alloc),
+            order: Order::new(alloc),
         }
     }
 
     /// The number of the node that a name leads to.
-    #[tactic(auto, using(crate::proofs::Slots::number_lookup))]
     pub fn number_of(&self, name: &[u8]) -> Option<u64>
         ensures { result ≡ option_map (λ e. e.number) (entry_of_name name.now self.now.list) }
     {
-        match self.slots.get(name) {
-            Some(slot) => Some(slot.number),
+        match index_of(&self.slots, name) {
+            Some(index) => Some(slot_at(&self.slots, index).1.number),
             None => None,
         }
     }
@@ -71,19 +74,27 @@ impl Directory {
         ensures err { OnErr result (self.new ≡ self.old) }
     {
         let cookie = self.next_cookie;
-        append(&mut self.slots, name, Slot { cookie, number })?;
+        let slot = Slot { cookie, number };
+        append(&mut self.slots, &mut self.order, name, slot)?;
         self.next_cookie += 1;
         Ok(())
     }
 
-    /// Takes the entry of a name out, and puts one for another number last, under the next cookie. Takes no memory.
+    /// Takes the entry of a name out, and puts one for another number last, under the next cookie. It cannot fail: out of
+    /// memory it takes longer.
     pub(crate) fn replace(&mut self, name: Vec<u8>, number: u64)
         requires found { is_some (entry_of_name name.items self.old.list) ≡ true }
         requires cookies { self.old.next_cookie < 2 ^ 63 }
         ensures { self.new ≡ entries_with (entries_without self.old name.items) name.items number }
     {
         let cookie = self.next_cookie;
-        put_last(&mut self.slots, name, Slot { cookie, number });
+        match index_of(&self.slots, name.as_slice()) {
+            Some(index) => {
+                move_last(&self.slots, &mut self.order, cookie, index);
+                overwrite(&mut self.slots, index, Slot { cookie, number });
+            }
+            None => unreachable!(),
+        }
         self.next_cookie = cookie + 1;
     }
 
@@ -91,19 +102,18 @@ impl Directory {
     pub(crate) fn remove(&mut self, name: &[u8])
         ensures { self.new ≡ entries_without self.old name.now }
     {
-        take_out(&mut self.slots, name);
+        match index_of(&self.slots, name) {
+            Some(index) => take_out(&mut self.slots, &mut self.order, self.next_cookie, index),
+            None => {}
+        }
     }
 
     /// The entry at an index: its name, its node and its cookie.
-    #[tactic(auto, using(crate::proofs::Slots::entry_of_slot))]
     pub fn entry_at(&self, index: usize) -> (&[u8], Slot)
         requires { index < length self.now.list }
         ensures { slice_get self.now.list index ≡ Some (record { cookie = result.1.cookie; name = result.0.now; number = result.1.number }) }
     {
-        match self.slots.get_index(index) {
-            Some((name, slot)) => (name.as_slice(), *slot),
-            None => unreachable!(),
-        }
+        slot_at(&self.slots, self.order.get(index))
     }
 
     /// How many entries have a cookie that is at most the given one. The entries after them are those that a listing goes on
@@ -113,7 +123,8 @@ impl Directory {
         ensures place { result ≡ count_until cookie self.now.list }
         ensures entries { drop result self.now.list ≡ entries_after cookie self.now.list }
     {
-        place_uncounted::<Brand>(self, cookie, Blank::new(1))
+        let (slots, order) = (&self.slots, &self.order);
+        place_uncounted::<Brand>(slots, order, self.next_cookie, cookie, Blank::new(1))
     }
 
     /// `place_after`, with the steps that it takes: a step is the comparison of one cookie.
@@ -121,10 +132,11 @@ impl Directory {
         ensures within { result ≤ length self.now.list }
         ensures place { result ≡ count_until cookie self.now.list }
         ensures entries { drop result self.now.list ≡ entries_after cookie self.now.list }
+        ensures rises { steps.old ≤ steps.new }
         ensures cost { 2 ^ (steps.new - steps.old) ≤ 2 * length self.now.list + 1 }
         ensures counted { length self.now.list + 2 ≤ 2 * 2 ^ (steps.new - steps.old) }
     {
-        place_above(&self.slots, self.next_cookie, cookie, steps)
+        place_above(&self.slots, &self.order, self.next_cookie, cookie, steps)
     }
 
     /// How many entries there are.
@@ -135,92 +147,158 @@ impl Directory {
     }
 }
 
-ghost use Rattle.nr_tree.specs.Entries.{entry_of_name, list_without};
-ghost use Rattle.nr_tree.specs.Slots.{slot_entries};
-
-fn append(slots: &mut IndexMap<Vec<u8>, Slot>, name: Vec<u8>, slot: Slot) -> Result<(), AllocError>
-    requires { entry_of_name name.items (slot_entries slots.old.entries) ≡ None }
-    ensures ok { OnOk result (slot_entries slots.new.entries ≡ slot_entries slots.old.entries ++ record { cookie = slot.cookie; name = name.items; number = slot.number } ∷ []) }
-    ensures err { OnErr result (slot_entries slots.new.entries ≡ slot_entries slots.old.entries) }
-{
-    slots.insert(name, slot)?;
-    Ok(())
-}
-
-/// The slot goes last, in place of the one under its name.
-fn put_last(slots: &mut IndexMap<Vec<u8>, Slot>, name: Vec<u8>, slot: Slot)
-    requires { is_some (entry_of_name name.items (slot_entries slots.old.entries)) ≡ true }
-    ensures { slot_entries slots.new.entries ≡ list_without name.items (slot_entries slots.old.entries) ++ record { cookie = slot.cookie; name = name.items; number = slot.number } ∷ [] }
-{
-    let last = slots.len() - 1;
-    match slots.shift_insert(last, name, slot) {
-        Ok(_) => {}
-        Err(_) => unreachable!(),
-    }
-}
-
-#[tactic(auto, using(crate::proofs::Slots::slots_without))]
-fn take_out(slots: &mut IndexMap<Vec<u8>, Slot>, name: &[u8])
-    ensures { slot_entries slots.new.entries ≡ list_without name.now (slot_entries slots.old.entries) }
-{
-    slots.shift_remove(name);
-}
-
-ghost use Rattle.nr_tree.specs.Entries.{CookiesAscend};
+ghost use Rattle.std.specs.Prelude.{drop, slice_index, slice_index_or, slice_set, nat_le, ◌≤◌, ◌-◌, ◌*◌};
+ghost use Rattle.nr_tree.specs.Entries.{entry_of_name};
 ghost use Rattle.nr_tree.specs.Listing.{entries_after, count_until};
-ghost use Rattle.std.specs.Prelude.{drop, ◌≤◌, ◌-◌, ◌*◌, IfSome, nat_le};
+ghost use Rattle.nr_tree.specs.Slots.{slot_entries, ordered, no_entry, IsOrdered};
+ghost use Rattle.nr_tree.specs.private.Indexes.{IsIndexOf, IsTakenOut, IsMovedLast};
 
-/// The place after a cookie, with steps that nobody reads.
-fn place_uncounted<L: Ledger>(directory: &Directory, cookie: u64, blank: Blank) -> usize
-    requires name { blank.name ≡ L.name }
-    requires parts { blank.parts ≡ L.parts }
-    requires some { 0 < L.parts }
-    ensures within { result ≤ length directory.now.list }
-    ensures place { result ≡ count_until cookie directory.now.list }
-    ensures entries { drop result directory.now.list ≡ entries_after cookie directory.now.list }
+type Slots = IndexMap<Vec<u8>, Slot>;
+
+/// The index of the slot under a name.
+fn index_of(slots: &Slots, name: &[u8]) -> Option<usize>
+    ensures { IsIndexOf (slot_entries slots.now.entries) name.now result }
 {
-    let mut steps = Steps::<L>::new(blank);
-    directory.place_counted(cookie, &mut steps)
+    slots.get_index_of(name)
 }
 
-/// Whether the cookie of the entry at an index is at most the given one. This is a step.
-#[tactic(auto, using(crate::proofs::ListingLemmas::compared_slot))]
-fn is_at_most<L: Ledger>(
-    slots: &IndexMap<Vec<u8>, Slot>,
-    index: usize,
-    cookie: u64,
-    steps: &mut Steps<L>,
-) -> bool
-    requires { index < length slots.now.entries }
-    ensures answer { option_map (λ e. nat_le e.cookie cookie) (slice_get (slot_entries slots.now.entries) index) ≡ Some result }
-    ensures step { steps.new ≡ steps.old + 1 }
+/// The name and the slot at an index.
+fn slot_at(slots: &Slots, index: usize) -> (&[u8], Slot)
+    requires { index < length (slot_entries slots.now.entries) }
+    ensures { slice_index_or (slot_entries slots.now.entries) index no_entry ≡ record { cookie = result.1.cookie; name = result.0.now; number = result.1.number } }
 {
-    steps.tick();
     match slots.get_index(index) {
-        Some((_, slot)) => slot.cookie <= cookie,
+        Some((name, slot)) => (name.as_slice(), *slot),
         None => unreachable!(),
     }
 }
 
+/// A slot under a new name, whose entry goes last. After an `Err` nothing has changed.
+fn append(slots: &mut Slots, order: &mut Order, name: Vec<u8>, slot: Slot) -> Result<(), Memory>
+    requires ordered { IsOrdered (slot_entries slots.old.entries) order.old slot.cookie }
+    requires absent { entry_of_name name.items (ordered (slot_entries slots.old.entries) order.old) ≡ None }
+    ensures slots { OnOk result (slot_entries slots.new.entries ≡ slot_entries slots.old.entries ++ record { cookie = slot.cookie; name = name.items; number = slot.number } ∷ []) }
+    ensures order { OnOk result (order.new ≡ order.old ++ length (slot_entries slots.old.entries) ∷ []) }
+    ensures slots_err { OnErr result (slot_entries slots.new.entries ≡ slot_entries slots.old.entries) }
+    ensures order_err { OnErr result (order.new ≡ order.old) }
+{
+    let index = slots.len();
+    order.push(index)?;
+    match slots.insert(name, slot) {
+        Ok(_) => Ok(()),
+        Err(e) => {
+            order.remove(index);
+            Err(e.into())
+        }
+    }
+}
+
+/// The place in the order of the slot at an index.
+fn place_of(slots: &Slots, order: &Order, next_cookie: u64, index: usize) -> usize
+    requires ordered { IsOrdered (slot_entries slots.now.entries) order.now next_cookie }
+    requires within { index < length (slot_entries slots.now.entries) }
+    ensures within { result < length order.now }
+    ensures place { slice_index order.now result ≡ index }
+{
+    let (_, slot) = slot_at(slots, index);
+    place_uncounted::<Brand>(slots, order, next_cookie, slot.cookie, Blank::new(1)) - 1
+}
+
+/// Takes the slot at an index out, and its entry. The last slot gets the index.
+fn take_out(slots: &mut Slots, order: &mut Order, next_cookie: u64, index: usize)
+    requires ordered { IsOrdered (slot_entries slots.old.entries) order.old next_cookie }
+    requires within { index < length (slot_entries slots.old.entries) }
+    ensures ordered { IsOrdered (slot_entries slots.new.entries) order.new next_cookie }
+    ensures entries { IsTakenOut (slot_entries slots.old.entries) order.old index (ordered (slot_entries slots.new.entries) order.new) }
+{
+    let last = slots.len() - 1;
+    let place = place_of(slots, order, next_cookie, index);
+    let place_of_last = place_of(slots, order, next_cookie, last);
+    order.set(place_of_last, index);
+    order.remove(place);
+    slots.swap_remove_index(index);
+}
+
+/// Puts the index of a slot last in the order. It cannot fail: out of memory it takes longer.
+fn move_last(slots: &Slots, order: &mut Order, next_cookie: u64, index: usize)
+    requires ordered { IsOrdered (slot_entries slots.now.entries) order.old next_cookie }
+    requires within { index < length (slot_entries slots.now.entries) }
+    ensures { IsMovedLast order.old index order.new }
+{
+    let place = place_of(slots, order, next_cookie, index);
+    order.move_last(place, slots.len() - 1);
+}
+
+/// Puts another cookie and number into the slot at an index.
+fn overwrite(slots: &mut Slots, index: usize, slot: Slot)
+    requires { index < length (slot_entries slots.old.entries) }
+    ensures { slot_entries slots.new.entries ≡ slice_set (slot_entries slots.old.entries) index (record { cookie = slot.cookie; name = (slice_index_or (slot_entries slots.old.entries) index no_entry).name; number = slot.number }) }
+{
+    match slots.get_index_mut(index) {
+        Some(kept) => *kept = slot,
+        None => unreachable!(),
+    }
+}
+
+/// The place after a cookie, with steps that nobody reads.
+fn place_uncounted<L: Ledger>(
+    slots: &Slots,
+    order: &Order,
+    next_cookie: u64,
+    cookie: u64,
+    blank: Blank,
+) -> usize
+    requires name { blank.name ≡ L.name }
+    requires parts { blank.parts ≡ L.parts }
+    requires some { 0 < L.parts }
+    requires ordered { IsOrdered (slot_entries slots.now.entries) order.now next_cookie }
+    ensures within { result ≤ length order.now }
+    ensures place { result ≡ count_until cookie (ordered (slot_entries slots.now.entries) order.now) }
+    ensures entries { drop result (ordered (slot_entries slots.now.entries) order.now) ≡ entries_after cookie (ordered (slot_entries slots.now.entries) order.now) }
+{
+    let mut steps = Steps::<L>::new(blank);
+    place_above(slots, order, next_cookie, cookie, &mut steps)
+}
+
+/// Whether the cookie of the entry at a place is at most the given one. This is a step.
+fn is_at_most<L: Ledger>(
+    slots: &Slots,
+    order: &Order,
+    place: usize,
+    cookie: u64,
+    steps: &mut Steps<L>,
+) -> bool
+    requires place { place < length order.now }
+    requires within { slice_index order.now place < length (slot_entries slots.now.entries) }
+    ensures answer { option_map (λ e. nat_le e.cookie cookie) (slice_get (ordered (slot_entries slots.now.entries) order.now) place) ≡ Some result }
+    ensures step { steps.new ≡ steps.old + 1 }
+{
+    steps.tick();
+    let (_, slot) = slot_at(slots, order.get(place));
+    slot.cookie <= cookie
+}
+
 /// How many entries have a cookie that is at most the given one.
 fn place_above<L: Ledger>(
-    slots: &IndexMap<Vec<u8>, Slot>,
+    slots: &Slots,
+    order: &Order,
     next_cookie: u64,
     cookie: u64,
     steps: &mut Steps<L>,
 ) -> usize
-    requires { CookiesAscend 1 (slot_entries slots.now.entries) next_cookie }
-    ensures within { result ≤ length slots.now.entries }
-    ensures place { result ≡ count_until cookie (slot_entries slots.now.entries) }
-    ensures entries { drop result (slot_entries slots.now.entries) ≡ entries_after cookie (slot_entries slots.now.entries) }
-    ensures cost { 2 ^ (steps.new - steps.old) ≤ 2 * length slots.now.entries + 1 }
-    ensures counted { length slots.now.entries + 2 ≤ 2 * 2 ^ (steps.new - steps.old) }
+    requires ordered { IsOrdered (slot_entries slots.now.entries) order.now next_cookie }
+    ensures within { result ≤ length order.now }
+    ensures place { result ≡ count_until cookie (ordered (slot_entries slots.now.entries) order.now) }
+    ensures entries { drop result (ordered (slot_entries slots.now.entries) order.now) ≡ entries_after cookie (ordered (slot_entries slots.now.entries) order.now) }
+    ensures rises { steps.old ≤ steps.new }
+    ensures cost { 2 ^ (steps.new - steps.old) ≤ 2 * length order.now + 1 }
+    ensures counted { length order.now + 2 ≤ 2 * 2 ^ (steps.new - steps.old) }
 {
     let mut low = 0;
     let mut high = slots.len();
     while low < high {
         let middle = low + (high - low) / 2;
-        if is_at_most(slots, middle, cookie, steps) {
+        if is_at_most(slots, order, middle, cookie, steps) {
             low = middle + 1;
         } else {
             high = middle;

@@ -17,6 +17,7 @@ mod drill;
 mod file;
 mod node;
 mod nodes;
+mod order;
 mod pages;
 mod replies;
 mod rules;

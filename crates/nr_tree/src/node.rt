@@ -110,7 +110,7 @@ impl Node {
         self.metadata.ctime = now;
     }
 
-    /// The entry of a name taken out and one for another node put last, in a directory that is changed now. Takes no memory.
+    /// The entry of a name taken out and one for another node put last, in a directory that is changed now. It cannot fail.
     pub(crate) fn replace_entry(
         &mut self,
         name: Vec<u8>,
@@ -182,12 +182,11 @@ impl Node {
         Ok(())
     }
 
-    /// Cuts a regular file, or adds zeros. After an `Err` the node is as before.
-    pub(crate) fn set_size(&mut self, size: u64, now: Time) -> Result<(), Memory>
+    /// Cuts a regular file, or adds zeros. Takes no memory.
+    pub(crate) fn set_size(&mut self, size: u64, now: Time)
         requires regular { IsTrue (is_regular_node self.old) }
         requires room { size < 2 ^ 62 }
-        ensures ok { OnOk result (self.new ≡ node_with_size now size self.old) }
-        ensures err { OnErr result (self.new ≡ self.old) }
+        ensures { self.new ≡ node_with_size now size self.old }
     {
         match &mut self.content {
             Content::Regular(file) => file.set_len(size),
@@ -195,7 +194,6 @@ impl Node {
         }
         self.metadata.mtime = now;
         self.metadata.ctime = now;
-        Ok(())
     }
 
     /// The number that a directory has under a name.
@@ -222,6 +220,7 @@ impl Node {
     pub(crate) fn place_after<L: Ledger>(&self, cookie: u64, steps: &mut Steps<L>) -> Option<usize>
         ensures directory { is_some result ≡ is_directory_node self.now }
         ensures place { IfSome result (λ place. place ≡ count_until cookie (entries_in self.now)) }
+        ensures rises { steps.old ≤ steps.new }
         ensures cost { 2 ^ (steps.new - steps.old) ≤ 2 * length (entries_in self.now) + 1 }
         ensures counted { length (entries_in self.now) + 2 ≤ 2 * 2 ^ (steps.new - steps.old) }
     {

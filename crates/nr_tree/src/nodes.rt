@@ -159,20 +159,14 @@ pub(crate) fn write_node(
     }
 }
 
-pub(crate) fn size_node(
-    nodes: &mut BTreeMap<u64, Node>,
-    number: u64,
-    size: u64,
-    now: Time,
-) -> Result<(), Memory>
+pub(crate) fn size_node(nodes: &mut BTreeMap<u64, Node>, number: u64, size: u64, now: Time)
     requires regular { IfSome (map.get (nodes_of nodes.old.entries) number) (λ n. IsTrue (is_regular_node n)) }
     requires room { size < 2 ^ 62 }
-    ensures ok { OnOk result (nodes_of nodes.new.entries ≡ nodes_with_change (nodes_of nodes.old.entries) number (node_with_size now size)) }
-    ensures err { OnErr result (nodes_of nodes.new.entries ≡ nodes_of nodes.old.entries) }
+    ensures { nodes_of nodes.new.entries ≡ nodes_with_change (nodes_of nodes.old.entries) number (node_with_size now size) }
 {
     match nodes.get_mut(&number) {
         Some(node) => node.set_size(size, now),
-        None => Ok(()),
+        None => {}
     }
 }
 
@@ -269,7 +263,7 @@ pub(crate) fn rename_to_free(
     Ok(())
 }
 
-/// A new name that another node has: its entry goes, and its link or itself. Takes no memory.
+/// A new name that another node has: its entry goes, and its link or itself. It cannot fail.
 pub(crate) fn rename_over(
     nodes: &mut BTreeMap<u64, Node>,
     step: Renaming,

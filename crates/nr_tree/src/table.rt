@@ -122,14 +122,13 @@ impl NodeTable {
         write_node(&mut self.nodes, number, offset, bytes, now)
     }
 
-    /// Cuts a regular file, or adds zeros. After an `Err` the tree is as before.
-    pub(crate) fn set_size(&mut self, number: u64, size: u64, now: Time) -> Result<(), Memory>
+    /// Cuts a regular file, or adds zeros. Takes no memory.
+    pub(crate) fn set_size(&mut self, number: u64, size: u64, now: Time)
         requires regular { IfSome (map.get self.old.nodes number) (λ n. IsTrue (is_regular_node n)) }
         requires room { size < 2 ^ 62 }
-        ensures ok { OnOk result (self.new ≡ tree_with_size self.old now number size) }
-        ensures err { OnErr result (self.new ≡ self.old) }
+        ensures { self.new ≡ tree_with_size self.old now number size }
     {
-        size_node(&mut self.nodes, number, size, now)
+        size_node(&mut self.nodes, number, size, now);
     }
 
     /// One more entry of a file, and its link. After an `Err` the tree is as before.

@@ -81,6 +81,7 @@ impl Tree {
     ) -> Option<usize>
         ensures directory { is_some result ≡ is_dir_at self.now number }
         ensures place { IfSome result (λ place. place ≡ count_until cookie (entries_at self.now number)) }
+        ensures rises { steps.old ≤ steps.new }
         ensures cost { 2 ^ (steps.new - steps.old) ≤ 2 * length (entries_at self.now number) + 1 }
         ensures counted { length (entries_at self.now number) + 2 ≤ 2 * 2 ^ (steps.new - steps.old) }
     {
@@ -174,14 +175,13 @@ impl Tree {
         self.table.write(number, offset, bytes, now)
     }
 
-    /// Cuts a regular file, or adds zeros (SETATTR, section 3.3.2). After an `Err` the tree is as before.
-    pub fn set_size(&mut self, number: u64, size: u64, now: Time) -> Result<(), Memory>
+    /// Cuts a regular file, or adds zeros (SETATTR, section 3.3.2). Takes no memory.
+    pub fn set_size(&mut self, number: u64, size: u64, now: Time)
         requires regular { is_regular_at self.old number ≡ true }
         requires limit { size ≤ file_size_max }
-        ensures ok { OnOk result (self.new ≡ tree_with_size self.old now number size) }
-        ensures err { OnErr result (self.new ≡ self.old) }
+        ensures tree { self.new ≡ tree_with_size self.old now number size }
     {
-        self.table.set_size(number, size, now)
+        self.table.set_size(number, size, now);
     }
 
     /// Gives a node other attributes, with as many links as before (SETATTR, section 3.3.2). Takes no memory.

@@ -66,10 +66,10 @@ fn write(rt: &impl Abort, tree: &mut Tree)
 }
 
 /// `hello` is cut to three bytes.
-fn cut(rt: &impl Abort, tree: &mut Tree)
+fn cut(tree: &mut Tree)
     requires drill { IsDrill tree.old }
 {
-    tree.set_size(2, 3, NOW).expect(rt, "memory");
+    tree.set_size(2, 3, NOW);
 }
 
 /// The step, and what comes of it: the look-ups of `hello` and `bye`, what stands under 2, and the first entry of the root.
@@ -121,7 +121,7 @@ fn stepped(rt: &impl Abort, alloc: Global, step: u8) -> Tree {
         1 => link(rt, alloc, &mut tree),
         2 => remove(&mut tree),
         3 => write(rt, &mut tree),
-        4 => cut(rt, &mut tree),
+        4 => cut(&mut tree),
         _ => rename_over(rt, alloc, &mut tree),
     }
     tree

@@ -1,0 +1,9 @@
+use Rattle.std.proofs.Common.{ℕ, ◌-◌, length}
+use Rattle.nr_tree.proofs.Blocks.{IsSearched}
+use Rattle.nr_tree.proofs.order.find.Given as goal
+
+abbrev pub invariant-search : goal.invariant-search
+invariant-search l = IsSearched l.blocks l.place l.block l.offset
+
+abbrev pub decreases-search : goal.decreases-search
+decreases-search l = length l.blocks - l.block
