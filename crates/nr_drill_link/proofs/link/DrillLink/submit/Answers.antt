@@ -1,0 +1,20 @@
+use Rattle.std.proofs.Common.{◌≡◌, ◌∙◌, ℕ, [], ◌∷◌, ◌++◌, refl, ap}
+use Rattle.nr_drill.specs.Drill.{after_submit}
+use Rattle.nr_drill_link.proofs.GivenCalls.{submits}
+use Rattle.nr_drill_link.proofs.Standing.{on_ok}
+use Rattle.nr_drill_link.proofs.link.DrillLink.submit.Goals as goal
+
+pub answer-requires : goal.answer-requires
+answer-requires c = c.requires
+
+pub same-self : goal.same-self
+same-self c = refl
+
+pub same-self-in-Err-push_mark : goal.same-self-in-Err-push_mark
+same-self-in-Err-push_mark c = refl
+
+pub returns-in-Ok-push_mark : goal.returns-in-Ok-push_mark
+returns-in-Ok-push_mark c =
+    on_ok c.settle.result _ _
+    (λ settles. submits c.args.self.now c.answer-answer.new.self c.settle.new.self c.args.call c.args.form c.in-Ok.answer c.args.marks.now.items c.push_mark.new.marks.items c.settle.new.marks.items c.in-Ok.ensures c.in-Ok-push_mark.ensures settles)
+    c.settle.ensures
