@@ -1,7 +1,7 @@
 -- A call that is submitted.
-use Rattle.std.specs.Prelude.{◌&&◌, is_none, is_some}
+use Rattle.std.specs.Prelude.{◌&&◌, is_none, is_some, IfOk}
 use Rattle.std.specs.List.{AllByRecursion}
-use Rattle.std.proofs.Common.{◌≡◌, ◌≢◌, ℕ, ◌+◌, ◌≤◌, arith, eqb, Bool, true, false, cond, List, [], ◌∷◌, ◌++◌, length, filter, Option, None, Some, Result, Ok, Err, refl, ap, sym, subst, ◌∙◌, append-nil, length-append}
+use Rattle.std.proofs.Common.{◌≡◌, ◌≢◌, ℕ, ◌+◌, ◌-◌, ◌≤◌, arith, eqb, leb, ltb, suc, Bool, true, false, cond, List, [], ◌∷◌, ◌++◌, length, filter, Option, None, Some, Result, Ok, Err, refl, ap, sym, subst, ◌∙◌, append-nil, length-append}
 use Rattle.nr_link.specs.declared.end.End.{End}
 use Rattle.nr_link.specs.declared.end.End.TheVariants as ends
 use Rattle.nr_wire.specs.declared.hello.Side.TheVariants.{Initiator}
@@ -21,7 +21,8 @@ use Rattle.nr_reduce.specs.EndRules.{EndState, end_state_after}
 use Rattle.nr_reduce.specs.ClientState.{ClientState}
 use Rattle.nr_reduce.specs.Client.{client_rules, client_end}
 use Rattle.nr_reduce.specs.History.{AcceptedCall, bytes_received, is_dropped}
-use Rattle.nr_reduce.specs.Plans.{TooLarge}
+use Rattle.nr_reduce.specs.Limits.{numbers_end}
+use Rattle.nr_reduce.specs.Plans.{TooLarge, regions_needed}
 use Rattle.nr_reduce.specs.Run.{client}
 use Rattle.nr_reduce.specs.SubmitAnswer.{submit_answer, unless_dropped, submit_answer_after}
 use Rattle.nr_reduce.proofs.Standing.{itself}
@@ -102,11 +103,13 @@ last_answer false false true x y z next xid e = absurd (refused_apart z xid e)
 last_answer false false false x y z next xid e = sym (ap accepted_xid e)
 
 next_by_plan : (r : RequesterState) (p : Result Plan TooLarge) (xid : ℕ) → answer_by_plan r p ≡ submissions.Accepted xid → xid ≡ r.next_xid
-next_by_plan r (Err large) xid e = absurd (refused_apart _ xid e)
-next_by_plan r (Ok plan) xid e = last_answer _ _ _ _ _ _ r.next_xid xid e
+next_by_plan r (Err large) xid e = absurd (refused_apart (refusals.TooLarge large.need large.room) xid e)
+next_by_plan r (Ok plan) xid e =
+    last_answer (leb r.grant (length r.outstanding)) (ltb (numbers_end - r.next_xid) 1) (ltb (numbers_end - r.side.memory.next) (regions_needed plan))
+    (refusals.NoCredit (length r.outstanding) r.grant) (refusals.Spent (numbers_end - r.next_xid) 1) (refusals.Spent (numbers_end - r.side.memory.next) (regions_needed plan)) r.next_xid xid e
 
 next_if : (r : RequesterState) (call : Call) (form : Form) (ended : Option End) (xid : ℕ) → answer_if r call form ended ≡ submissions.Accepted xid → (ended ≡ None) × (xid ≡ r.next_xid)
-next_if r call form (Some end) xid e = absurd (refused_apart _ xid e)
+next_if r call form (Some end) xid e = absurd (refused_apart (refusals.Ended end) xid e)
 next_if r call form None xid e = (refl, next_by_plan r (plan_under r call form) xid e)
 
 accepted_next : (r : RequesterState) (call : Call) (form : Form) (xid : ℕ) → answer_of r call form ≡ submissions.Accepted xid → (r.side.ended ≡ None) × (xid ≡ r.next_xid)
@@ -115,16 +118,16 @@ accepted_next r call form xid e = next_if r call form r.side.ended xid e
 
 -- ---- The lines
 
+one_later : (start : ℕ) (answers : List Submission) (answer : Submission) →
+    lines_from (start + 1) answers ++ accepted_line (start + 1 + length answers) answer ≡ lines_from (start + 1) answers ++ accepted_line (start + suc (length answers)) answer
+one_later start answers answer = let same : start + 1 + length answers ≡ start + suc (length answers) = omega arith in ap (λ (n : ℕ). lines_from (start + 1) answers ++ accepted_line n answer) same
+
 lines_more : (start : ℕ) (answers : List Submission) (answer : Submission) → lines_from start (answers ++ answer ∷ []) ≡ lines_from start answers ++ accepted_line (start + length answers) answer
 lines_more start [] answer = append-nil (accepted_line start answer) ∙ (let same : start ≡ start + 0 = omega arith in ap (λ (n : ℕ). accepted_line n answer) same)
-lines_more start (submissions.Accepted xid ∷ answers) answer = ap (λ (rest : List AwaitedLine). record { xid = xid; index = start } ∷ rest) (lines_more (start + 1) answers answer ∙ moved)
-  where
-    moved : lines_from (start + 1) answers ++ accepted_line (start + 1 + length answers) answer ≡ lines_from (start + 1) answers ++ accepted_line (start + (1 + length answers)) answer
-    moved = let same : start + 1 + length answers ≡ start + (1 + length answers) = omega arith in ap (λ (n : ℕ). lines_from (start + 1) answers ++ accepted_line n answer) same
-lines_more start (submissions.Refused why ∷ answers) answer =
-    lines_more (start + 1) answers answer ∙ (let same : start + 1 + length answers ≡ start + (1 + length answers) = omega arith in ap (λ (n : ℕ). lines_from (start + 1) answers ++ accepted_line n answer) same)
-lines_more start (submissions.Dropped ∷ answers) answer =
-    lines_more (start + 1) answers answer ∙ (let same : start + 1 + length answers ≡ start + (1 + length answers) = omega arith in ap (λ (n : ℕ). lines_from (start + 1) answers ++ accepted_line n answer) same)
+lines_more start (submissions.Accepted xid ∷ answers) answer =
+    ap (λ (rest : List AwaitedLine). record { xid = xid; index = start } ∷ rest) (lines_more (start + 1) answers answer ∙ one_later start answers answer)
+lines_more start (submissions.Refused why ∷ answers) answer = lines_more (start + 1) answers answer ∙ one_later start answers answer
+lines_more start (submissions.Dropped ∷ answers) answer = lines_more (start + 1) answers answer ∙ one_later start answers answer
 
 own_answer : (link : ℕ) (run : List Mark) (call : Call) (form : Form) (answer : Submission) → answers_of link (run ++ marks.Submit link call form answer ∷ []) ≡ answers_of link run ++ answer ∷ []
 own_answer link run call form answer =
@@ -245,3 +248,8 @@ submits v v2 v3 call form answer run run2 run3 answers more settles s link d at 
 -- a call and its form, as they were copied
 pub copied : (P : Call → Form → Type 0) (call call2 : Call) (form form2 : Form) → call2 ≡ call → form2 ≡ form → P call2 form2 → P call form
 copied P call call2 form form2 c f h = subst (λ (x : Call). P x form) c (subst (λ (y : Form). P call2 y) f h)
+
+-- what holds of an answer
+pub answered : {T E : Type 0} (r : Result T E) (P Q : T → Type 0) → ((x : T) → P x → Q x) → IfOk r P → IfOk r Q
+answered (Ok x) P Q f h = f x h
+answered (Err e) P Q f h = h

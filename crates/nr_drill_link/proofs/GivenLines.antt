@@ -60,7 +60,7 @@ pub still_open : (r r2 : RequesterState) (lines : List AwaitedLine) → KeepsTic
 still_open r r2 [] k h = tt
 still_open r r2 (line ∷ lines) k h = (ap (λ (o : Option Call). is_some o) (k line.xid) ∙ h.0, (h.1.0, still_open r r2 lines k h.1.1))
 
-open_others : (r r2 : RequesterState) (xid : ℕ) (lines : List AwaitedLine) → ((x : ℕ) → x ≢ xid → open_call x r2 ≡ open_call x r) → AllByRecursion (λ (line : AwaitedLine). line.xid ≢ xid) lines → LinesOpen r lines → LinesOpen r2 lines
+pub open_others : (r r2 : RequesterState) (xid : ℕ) (lines : List AwaitedLine) → ((x : ℕ) → x ≢ xid → open_call x r2 ≡ open_call x r) → AllByRecursion (λ (line : AwaitedLine). line.xid ≢ xid) lines → LinesOpen r lines → LinesOpen r2 lines
 open_others r r2 xid [] k apart h = tt
 open_others r r2 xid (line ∷ lines) k apart h = (ap (λ (o : Option Call). is_some o) (k line.xid apart.0) ∙ h.0, (h.1.0, open_others r r2 xid lines k apart.1 h.1.1))
 

@@ -18,6 +18,7 @@ ghost use Rattle.nr_drill_link.specs.Steps.{Goes, GoesIfNoneDue};
 
 use crate::awaited::AwaitedCall;
 use crate::copying::{copy_call, copy_form};
+use crate::draining::add_mark;
 use crate::link::DrillLink;
 use nr_reduce::{Call, Form, Mark, Refused, Submission};
 use nr_requester::{Buffers, Requester, Ticket};
@@ -46,15 +47,6 @@ fn take_line(awaited: &mut Vec<AwaitedCall>, number: u32) -> Option<Ticket>
     };
     let AwaitedCall { ticket, .. } = awaited.remove(at);
     Some(ticket)
-}
-
-fn push_mark(marks: &mut Vec<Mark>, mark: Mark) -> Result<(), Memory>
-    ensures { OnOk result (marks.new.items ≡ marks.old.items ++ mark ∷ []) }
-{
-    match marks.push(mark) {
-        Ok(()) => Ok(()),
-        Err(_) => Err(Memory),
-    }
 }
 
 /// A refusal as the answer to a call, unless memory ran out.
@@ -213,7 +205,7 @@ impl DrillLink {
             form,
             answer,
         };
-        match push_mark(marks, submitted) {
+        match add_mark(marks, submitted) {
             Ok(()) => self.settle(marks),
             Err(memory) => Err(memory),
         }
@@ -234,7 +226,7 @@ impl DrillLink {
         };
         let xid = ticket.xid();
         self.client.forget(ticket);
-        push_mark(
+        add_mark(
             marks,
             Mark::Forget {
                 link: self.number,
@@ -270,7 +262,7 @@ impl DrillLink {
             xid,
             bytes,
         };
-        match push_mark(marks, revoked) {
+        match add_mark(marks, revoked) {
             Ok(()) => self.settle(marks),
             Err(memory) => Err(memory),
         }

@@ -74,8 +74,8 @@ returns c =
       tickets = (lines_open c.self.inside.client.state c.self.inside.awaited.items c.self.invariant.1.1.1.1);
       taken = c.in-Some.ensures;
     } in
-    on_ok c.push_mark.result _ _
-    (λ more. from_view (λ s link. after_forget s link c.args.number) v c.args.self.now (with_client v c.forget.new.self left) c.args.marks.now.items c.push_mark.new.marks.items c.self.view_is
-    (forgets v c.forget.new.self c.args.number c.in-Some.ticket left c.args.marks.now.items c.push_mark.new.marks.items took c.forget.ensures.state c.forget.ensures.stands
+    on_ok c.add_mark.result _ _
+    (λ more. from_view (λ s link. after_forget s link c.args.number) v c.args.self.now (with_client v c.forget.new.self left) c.args.marks.now.items c.add_mark.new.marks.items c.self.view_is
+    (forgets v c.forget.new.self c.args.number c.in-Some.ticket left c.args.marks.now.items c.add_mark.new.marks.items took c.forget.ensures.state c.forget.ensures.stands
     (more ∙ ap (λ (x : ℕ). c.args.marks.now.items ++ marks.Forget c.self.inside.number x ∷ []) c.xid-xid.ensures)))
-    c.push_mark.ensures
+    c.add_mark.ensures

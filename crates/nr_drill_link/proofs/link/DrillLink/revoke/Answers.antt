@@ -91,8 +91,8 @@ invariant_of-self-in-Err c = (
   ),
 )
 
-pub invariant_of-self-in-Ok-push_mark : goal.invariant_of-self-in-Ok-push_mark
-invariant_of-self-in-Ok-push_mark c = (
+pub invariant_of-self-in-Ok-add_mark : goal.invariant_of-self-in-Ok-add_mark
+invariant_of-self-in-Ok-add_mark c = (
   c.self.invariant.0,
   (
     c.self.invariant.1.0,
@@ -108,8 +108,8 @@ invariant_of-self-in-Ok-push_mark c = (
   ),
 )
 
-pub invariant_of-self-in-Err-push_mark : goal.invariant_of-self-in-Err-push_mark
-invariant_of-self-in-Err-push_mark c = (
+pub invariant_of-self-in-Err-add_mark : goal.invariant_of-self-in-Err-add_mark
+invariant_of-self-in-Err-add_mark c = (
   c.self.invariant.0,
   (
     c.self.invariant.1.0,
@@ -125,8 +125,8 @@ invariant_of-self-in-Err-push_mark c = (
   ),
 )
 
-pub returns-in-Ok-push_mark : goal.returns-in-Ok-push_mark
-returns-in-Ok-push_mark c =
+pub returns-in-Ok-add_mark : goal.returns-in-Ok-add_mark
+returns-in-Ok-add_mark c =
     let v : DrillLinkState = link_view c.self.inside.number c.self.inside.client c.self.inside.server.side c.self.inside.up c.self.inside.down c.self.inside.dropped c.self.inside.lines c.self.inside.awaited.items in
     let left : List AwaitedLine = map line_view c.take_line.new.awaited.items in
     let took : TookOut v c.args.number c.in-Some.ticket left = record {
@@ -137,7 +137,7 @@ returns-in-Ok-push_mark c =
     } in
     on_ok c.settle.result _ _
     (λ settles. for_each (λ s link. after_revoke s link c.args.number) _ _ _ _ (from_view (λ s link. after_revoke s link c.args.number) v c.args.self.now c.settle.new.self c.args.marks.now.items c.settle.new.marks.items c.self.view_is
-    (revokes v c.settle.new.self c.revoke_call.new.client c.args.number c.in-Some.ticket c.in-Ok.bytes left c.args.marks.now.items c.push_mark.new.marks.items c.settle.new.marks.items took
+    (revokes v c.settle.new.self c.revoke_call.new.client c.args.number c.in-Some.ticket c.in-Ok.bytes left c.args.marks.now.items c.add_mark.new.marks.items c.settle.new.marks.items took
     c.in-Ok.ensures.outstanding c.in-Ok.ensures.bytes c.in-Ok.ensures.state c.in-Ok.ensures.stands
-    (c.in-Ok-push_mark.ensures ∙ ap (λ (x : ℕ). c.args.marks.now.items ++ marks.Revoke c.self.inside.number x c.in-Ok.bytes ∷ []) c.xid-xid.ensures) settles)))
+    (c.in-Ok-add_mark.ensures ∙ ap (λ (x : ℕ). c.args.marks.now.items ++ marks.Revoke c.self.inside.number x c.in-Ok.bytes ∷ []) c.xid-xid.ensures) settles)))
     c.settle.ensures

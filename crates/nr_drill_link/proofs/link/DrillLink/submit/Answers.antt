@@ -10,11 +10,11 @@ answer-requires c = c.requires
 pub same-self : goal.same-self
 same-self c = refl
 
-pub same-self-in-Err-push_mark : goal.same-self-in-Err-push_mark
-same-self-in-Err-push_mark c = refl
+pub same-self-in-Err-add_mark : goal.same-self-in-Err-add_mark
+same-self-in-Err-add_mark c = refl
 
-pub returns-in-Ok-push_mark : goal.returns-in-Ok-push_mark
-returns-in-Ok-push_mark c =
+pub returns-in-Ok-add_mark : goal.returns-in-Ok-add_mark
+returns-in-Ok-add_mark c =
     on_ok c.settle.result _ _
-    (λ settles. submits c.args.self.now c.answer-answer.new.self c.settle.new.self c.args.call c.args.form c.in-Ok.answer c.args.marks.now.items c.push_mark.new.marks.items c.settle.new.marks.items c.in-Ok.ensures c.in-Ok-push_mark.ensures settles)
+    (λ settles. submits c.args.self.now c.answer.new.self c.settle.new.self c.args.call c.args.form c.in-Ok.answer c.args.marks.now.items c.add_mark.new.marks.items c.settle.new.marks.items c.in-Ok.ensures c.in-Ok-add_mark.ensures settles)
     c.settle.ensures
