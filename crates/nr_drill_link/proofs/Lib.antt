@@ -22,3 +22,4 @@ pub mod GivenLines
 pub mod GivenUp
 pub mod GivenCalls
 pub mod GivenBuffers
+pub mod NoneDue

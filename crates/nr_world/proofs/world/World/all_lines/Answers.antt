@@ -5,6 +5,9 @@ use Rattle.nr_world.specs.Within.{CanMake}
 use Rattle.nr_world.proofs.LineSteps.{lines_on, lines_end, line_within}
 use Rattle.nr_world.proofs.world.World.all_lines.Goals as goal
 
+pub loop-line-init : goal.loop-line-init
+loop-line-init c = (c.requires, λ tree opening d h none. (d, h, none, λ last made. made))
+
 pub line-requires : goal.line-requires
 line-requires c = subst (λ (e : Line). CanMake e c.loop-line.self) (sym c.line-item.is)
     (line_within c.loop-line.self c.args.lines.now c.loop-line.line-index c.line-item.result c.loop-line-test.true c.loop-line.invariant.0)
