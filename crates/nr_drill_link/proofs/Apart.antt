@@ -1,29 +1,24 @@
 -- Marks of other links leave a link.
 use Rattle.std.specs.Prelude.{◌-◌, ◌&&◌, ◌||◌, if◌then◌else◌}
 use Rattle.std.specs.List.{AllByRecursion, list_any}
-use Rattle.std.proofs.Common.{◌≡◌, ◌≢◌, ℕ, ◌+◌, ◌≤◌, ◌<◌, arith, eqb, Bool, true, false, List, [], ◌∷◌, ◌++◌, length, Option, None, Some, inl, inr, refl, ap, sym, subst, ◌∙◌, append_assoc, append-nil}
+use Rattle.std.proofs.Common.{◌≡◌, ◌≢◌, ℕ, ◌≤◌, arith, eqb, Bool, false, List, [], ◌∷◌, ◌++◌, length, refl, ap, sym, subst, ◌∙◌, append_assoc, append-nil}
 use Rattle.nr_wire.specs.declared.hello.Side.{Side}
 use Rattle.nr_wire.specs.declared.hello.Side.TheVariants.{Initiator, Responder}
-use Rattle.nr_link.specs.declared.end.End.TheVariants as ends
-use Rattle.nr_reduce.specs.declared.mark.LinkParameters.{LinkParameters}
 use Rattle.nr_reduce.specs.declared.mark.Mark.{Mark}
 use Rattle.nr_reduce.specs.declared.mark.Mark.TheVariants as marks
-use Rattle.nr_reduce.specs.declared.call.Submission.{Submission}
 use Rattle.nr_reduce.specs.History.{CompletedCall, fed_at, same_side, is_drop_of, is_dropped}
-use Rattle.nr_requester.specs.RequesterState.{RequesterSide}
 use Rattle.nr_requester.specs.Standing.{RequesterRepresents}
 use Rattle.nr_requester.specs.Laws.{GivesUpNothing}
 use Rattle.nr_requester.proofs.AllMarks.{others_leave_it}
-use Rattle.nr_responder.specs.ResponderState.{ResponderSide, end_of}
 use Rattle.nr_responder.specs.Standing.{RepresentsServer}
 use Rattle.nr_responder.specs.Laws.{IsOfOthers}
-use Rattle.nr_drill.specs.Drill.{Setting, Drill, Pipes, pipes_of, with_mark, answer_at}
+use Rattle.nr_drill.specs.Drill.{Setting, Drill, pipes_of, with_mark, answer_at}
 use Rattle.nr_drill.proofs.Carried.{same_dropped}
 use Rattle.nr_drill.proofs.Followed.{link_of, apart, not_written, no_event, Extends}
 use Rattle.nr_drill_link.specs.DrillLinkState.{DrillLinkState}
 use Rattle.nr_drill_link.specs.LinkStands.{answers_of, awaited_lines, LinkStands}
 use Rattle.nr_drill_link.specs.Steps.{mark_link}
-use Rattle.nr_drill_link.specs.Laws.{IsDoneOn, OtherLinksStand}
+use Rattle.nr_drill_link.specs.Laws.{OtherLinksStand}
 use Rattle.nr_drill_link.proofs.Lines.{answers_same, awaited_same}
 use Rattle.nr_drill_link.proofs.Writes.{server_stays}
 

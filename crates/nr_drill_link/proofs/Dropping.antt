@@ -1,17 +1,14 @@
 -- A link that is dropped, and bytes that are put into its pipes.
 use Rattle.std.specs.Prelude.{◌-◌}
-use Rattle.std.proofs.Common.{◌≡◌, ◌≢◌, ℕ, ◌+◌, ◌≤◌, ◌<◌, arith, Bool, true, false, List, [], ◌∷◌, ◌++◌, length, drop, Option, None, Some, refl, ap, sym, subst, ◌∙◌}
+use Rattle.std.proofs.Common.{◌≡◌, ℕ, ◌+◌, ◌≤◌, arith, Bool, true, false, List, [], ◌∷◌, ◌++◌, length, refl, ap, sym, subst, ◌∙◌}
 use Rattle.std.proofs.lemmas.List.{length-set, drop-append-le}
 use Rattle.nr_outside.specs.Pipe.{PipeState, waiting_bytes}
 use Rattle.nr_wire.specs.declared.hello.Side.{Side}
-use Rattle.nr_wire.specs.declared.hello.Side.TheVariants.{Initiator, Responder}
 use Rattle.nr_reduce.specs.declared.mark.Mark.{Mark}
 use Rattle.nr_reduce.specs.declared.mark.Mark.TheVariants as marks
 use Rattle.nr_reduce.specs.History.{is_dropped}
-use Rattle.nr_requester.specs.RequesterState.{RequesterSide}
 use Rattle.nr_requester.proofs.AllMarks.{others_leave_it}
-use Rattle.nr_responder.specs.ResponderState.{ResponderSide}
-use Rattle.nr_drill.specs.Drill.{Setting, Drill, Pipes, pipes_of, with_pipes, with_mark, appended, empty_pipes, after_drop, after_raw}
+use Rattle.nr_drill.specs.Drill.{Pipes, pipes_of, with_pipes, with_mark, appended, empty_pipes, after_drop, after_raw}
 use Rattle.nr_drill.specs.InBytes.{RepliedInBytes}
 use Rattle.nr_drill.proofs.Carried.{own_pipes, dropped_at_last}
 use Rattle.nr_drill_link.specs.DrillLinkState.{DrillLinkState}

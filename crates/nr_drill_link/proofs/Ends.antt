@@ -1,6 +1,6 @@
 -- Both ends after a drain of nothing: a Wrote of no bytes is no mark.
 use Rattle.std.specs.Prelude.{◌&&◌}
-use Rattle.std.proofs.Common.{◌≡◌, ◌≢◌, ℕ, ◌+◌, ◌≤◌, arith, Bool, true, false, List, [], ◌∷◌, ◌++◌, length, take, drop, Option, None, Some, inl, inr, refl, ap, sym, subst, ◌∙◌, append-nil, add-zero}
+use Rattle.std.proofs.Common.{◌≡◌, ◌≢◌, ℕ, ◌≤◌, Bool, true, List, [], ◌∷◌, ◌++◌, length, take, drop, Option, None, Some, inl, inr, refl, ap, sym, subst, ◌∙◌, add-zero}
 use Rattle.std.proofs.Math.Seq.{drop-nil}
 use Rattle.nr_wire.specs.declared.hello.Side.TheVariants.{Initiator, Responder}
 use Rattle.nr_link.specs.declared.end.End.{End}
@@ -19,18 +19,17 @@ use Rattle.nr_reduce.specs.Client.{client_rules, client_end, client_state_after}
 use Rattle.nr_reduce.specs.ServerState.{ServerState}
 use Rattle.nr_reduce.specs.Server.{server_rules, server_end, server_state_after}
 use Rattle.nr_reduce.specs.KeptClient.{ClientKeeps}
-use Rattle.nr_reduce.specs.Run.{client, server, output_due}
+use Rattle.nr_reduce.specs.Run.{client, server}
 use Rattle.nr_reduce.proofs.Standing.{itself}
 use Rattle.nr_reduce.proofs.Steps.{client_one, server_one}
-use Rattle.nr_requester.specs.RequesterState.{RequesterSide, RequesterState, kept_client, queue_of, input_kept}
+use Rattle.nr_requester.specs.RequesterState.{RequesterSide, kept_client, queue_of}
 use Rattle.nr_requester.specs.AfterCalls.{after_drain}
-use Rattle.nr_requester.specs.Standing.{RequesterRepresents, KeepsClient, AnswersAfter, LinkKeeps}
+use Rattle.nr_requester.specs.Standing.{RequesterRepresents, AnswersAfter, LinkKeeps}
 use Rattle.nr_requester.proofs.Queues.{written_writable}
 use Rattle.nr_responder.specs.ResponderState.{ResponderSide, queue, queued_bytes, may_write, end_of, after_drain as after_server_drain}
 use Rattle.nr_responder.specs.Standing.{RepresentsServer, Stands}
 use Rattle.nr_responder.proofs.Drained.{split_queue}
-use Rattle.nr_drill.proofs.Carried.{same_sent, same_received}
-use Rattle.nr_drill.proofs.Lawful.{own_written}
+use Rattle.nr_drill.proofs.Carried.{same_received}
 
 -- ---- The client
 

@@ -1,9 +1,8 @@
 -- A call that is executed.
-use Rattle.std.specs.Prelude.{is_none, is_some, is_err, IfSome, IfOk, OnOk, MatchOption, Result, Ok, Err}
-use Rattle.std.proofs.Common.{◌≡◌, ◌≢◌, ℕ, ◌+◌, ◌≤◌, arith, zero, suc, Bool, true, false, List, [], ◌∷◌, ◌++◌, length, drop, Option, None, Some, inl, inr, refl, ap, sym, subst, ◌∙◌}
+use Rattle.std.specs.Prelude.{is_some, is_err, IfSome, IfOk, OnOk, MatchOption, Result, Ok, Err}
+use Rattle.std.proofs.Common.{◌≡◌, ◌≢◌, ℕ, ◌≤◌, Bool, true, false, List, [], ◌∷◌, ◌++◌, length, Option, None, Some, inl, refl, ap, sym, subst, ◌∙◌}
 use Rattle.nr_xdr.specs.Item.{IsBytes}
 use Rattle.nr_outside.specs.declared.moment.Moment.{Moment}
-use Rattle.nr_link.specs.declared.end.End.{End}
 use Rattle.nr_link.specs.declared.end.End.TheVariants as ends
 use Rattle.nr_endpoint.specs.FedBytes.{fed_bytes}
 use Rattle.nr_endpoint.specs.LinkState.{LinkSide}
@@ -23,7 +22,6 @@ use Rattle.nr_responder.specs.Standing.{Stands}
 use Rattle.nr_responder.proofs.Answered.{answer_link}
 use Rattle.nr_plain.specs.Setup.{Setup}
 use Rattle.nr_plain.specs.Replies.{plain_reply}
-use Rattle.nr_plain.specs.Added.{entries_of_call}
 use Rattle.nr_plain.specs.Stands.{PlainServerState, RepresentsJournal, ExecutesCall}
 use Rattle.nr_drill.specs.Drill.{Setting, Drill, plain_of, with_mark, now, settled, if_standing, waiting_call, after_answer, after_execution, after_work}
 use Rattle.nr_drill.specs.DrillSetup.{server_of}

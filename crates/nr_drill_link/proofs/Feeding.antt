@@ -1,11 +1,10 @@
 -- Bytes that are fed to an end.
-use Rattle.std.specs.Prelude.{◌-◌, ◌&&◌, if◌then◌else◌}
-use Rattle.std.proofs.Common.{◌≡◌, ◌≢◌, ℕ, ◌+◌, ◌≤◌, ◌<◌, arith, zero, suc, eqb, Bool, true, false, List, [], ◌∷◌, ◌++◌, length, take, drop, Option, None, Some, inl, inr, refl, ap, sym, subst, ◌∙◌, append-nil}
+use Rattle.std.specs.Prelude.{◌&&◌, if◌then◌else◌}
+use Rattle.std.proofs.Common.{◌≡◌, ◌≢◌, ℕ, zero, suc, eqb, Bool, false, List, [], ◌∷◌, ◌++◌, length, take, drop, Some, inl, refl, ap, sym, subst, ◌∙◌}
 use Rattle.std.proofs.lemmas.List.{drop-drop}
 use Rattle.std.proofs.Math.Seq.{drop-nil}
 use Rattle.nr_outside.specs.Pipe.{PipeState, waiting_bytes, next_bytes, after_read}
-use Rattle.nr_wire.specs.declared.hello.Side.TheVariants.{Initiator, Responder}
-use Rattle.nr_link.specs.declared.end.End.{End}
+use Rattle.nr_wire.specs.declared.hello.Side.TheVariants.{Responder}
 use Rattle.nr_link.specs.declared.end.End.TheVariants as ends
 use Rattle.nr_reduce.specs.declared.mark.LinkParameters.{LinkParameters}
 use Rattle.nr_reduce.specs.declared.mark.Mark.{Mark}

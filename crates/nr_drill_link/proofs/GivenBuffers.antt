@@ -1,6 +1,6 @@
 -- The bytes of a call's buffers, and what holds of an Ok.
 use Rattle.std.specs.Prelude.{Result, Ok, Err, IfOk, OnOk}
-use Rattle.std.proofs.Common.{◌≡◌, ℕ, List, [], ◌++◌, refl, ap, sym, ◌∙◌, append_assoc}
+use Rattle.std.proofs.Common.{◌≡◌, ℕ, List, [], ◌++◌, ◌∙◌, append_assoc}
 use Rattle.nr_requester.specs.declared.answer.Buffers.{Buffers}
 use Rattle.nr_requester.specs.Buffers.{buffer_bytes, bytes_of_buffers}
 

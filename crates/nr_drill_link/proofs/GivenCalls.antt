@@ -1,7 +1,7 @@
 -- A call that is submitted.
-use Rattle.std.specs.Prelude.{◌&&◌, is_none, is_some, IfOk}
+use Rattle.std.specs.Prelude.{◌&&◌, is_some, IfOk}
 use Rattle.std.specs.List.{AllByRecursion}
-use Rattle.std.proofs.Common.{◌≡◌, ◌≢◌, ℕ, ◌+◌, ◌-◌, ◌≤◌, arith, eqb, leb, ltb, suc, Bool, true, false, cond, List, [], ◌∷◌, ◌++◌, length, filter, Option, None, Some, Result, Ok, Err, refl, ap, sym, subst, ◌∙◌, append-nil, length-append}
+use Rattle.std.proofs.Common.{◌≡◌, ◌≢◌, ℕ, ◌+◌, ◌-◌, ◌≤◌, arith, leb, ltb, suc, Bool, true, false, cond, List, [], ◌∷◌, ◌++◌, length, filter, Option, None, Some, Result, Ok, Err, refl, ap, sym, subst, ◌∙◌, append-nil, length-append}
 use Rattle.nr_link.specs.declared.end.End.{End}
 use Rattle.nr_link.specs.declared.end.End.TheVariants as ends
 use Rattle.nr_wire.specs.declared.hello.Side.TheVariants.{Initiator}
@@ -15,12 +15,12 @@ use Rattle.nr_reduce.specs.declared.mark.LinkParameters.{LinkParameters}
 use Rattle.nr_reduce.specs.declared.mark.Mark.{Mark}
 use Rattle.nr_reduce.specs.declared.mark.Mark.TheVariants as marks
 use Rattle.nr_reduce.specs.declared.outline.Plan.{Plan}
-use Rattle.nr_reduce.specs.Events.{RunEvent, if_own}
+use Rattle.nr_reduce.specs.Events.{if_own}
 use Rattle.nr_reduce.specs.Events.RunEvent.{CallSubmitted}
 use Rattle.nr_reduce.specs.EndRules.{EndState, end_state_after}
 use Rattle.nr_reduce.specs.ClientState.{ClientState}
 use Rattle.nr_reduce.specs.Client.{client_rules, client_end}
-use Rattle.nr_reduce.specs.History.{AcceptedCall, bytes_received, is_dropped}
+use Rattle.nr_reduce.specs.History.{AcceptedCall, bytes_received}
 use Rattle.nr_reduce.specs.Limits.{numbers_end}
 use Rattle.nr_reduce.specs.Plans.{TooLarge, regions_needed}
 use Rattle.nr_reduce.specs.Run.{client}
@@ -31,11 +31,11 @@ use Rattle.nr_requester.specs.RequesterState.{RequesterSide, RequesterState}
 use Rattle.nr_requester.specs.Answers.{plan_under, answer_by_plan, answer_if, answer_of}
 use Rattle.nr_requester.specs.KeptAnswers.{is_due}
 use Rattle.nr_requester.specs.OpenCalls.{open_call, OpensTicket}
-use Rattle.nr_requester.specs.Standing.{RequesterRepresents, StandsOn}
+use Rattle.nr_requester.specs.Standing.{RequesterRepresents}
 use Rattle.nr_requester.proofs.Accepting.{answers_as_client}
 use Rattle.nr_requester.proofs.AllMarks.{others_leave_it}
 use Rattle.nr_requester.proofs.AnswerSteps.{due_same}
-use Rattle.nr_drill.specs.Drill.{Setting, Drill, with_mark, settled, answer_at, after_submit}
+use Rattle.nr_drill.specs.Drill.{Setting, Drill, with_mark, settled, after_submit}
 use Rattle.nr_drill.specs.InBytes.{RepliedInBytes}
 use Rattle.nr_drill.proofs.Carried.{same_dropped}
 use Rattle.nr_drill_link.specs.DrillLinkState.{AwaitedLine, DrillLinkState}
@@ -43,7 +43,7 @@ use Rattle.nr_drill_link.specs.LinkStands.{answers_of, accepted_line, lines_from
 use Rattle.nr_drill_link.specs.OpenTickets.{LinesOpen, SubmitsLine, AnswersCall}
 use Rattle.nr_drill_link.specs.Steps.{Goes, StandsAt}
 use Rattle.nr_drill_link.proofs.Lines.{filter_as, filter_parts, answers_one}
-use Rattle.nr_drill_link.proofs.Standing.{replied_one, from_view}
+use Rattle.nr_drill_link.proofs.Standing.{replied_one}
 use Rattle.nr_drill_link.proofs.Writes.{server_stays, one_more_mark}
 use Rattle.nr_drill_link.proofs.GivenLines.{open_others}
 

@@ -1,8 +1,8 @@
 -- The lines of the calls that are awaited, and their tickets.
-use Rattle.std.specs.Prelude.{◌-◌, remove, is_some, slice_get}
+use Rattle.std.specs.Prelude.{remove, is_some, slice_get}
 use Rattle.std.specs.List.{AllByRecursion}
-use Rattle.std.proofs.Common.{◌≡◌, ◌≢◌, ℕ, ◌+◌, ◌<◌, ◌≤◌, arith, zero, suc, eqb, Bool, true, false, not, ◌&&◌, ◌||◌, cond, List, [], ◌∷◌, ◌++◌, map, length, take, drop, get_or, filter, Option, None, Some, refl, ap, sym, subst, ◌∙◌}
-use Rattle.std.proofs.lemmas.Bool.{eqb-true, eq-eqb, ne_eqb}
+use Rattle.std.proofs.Common.{◌≡◌, ◌≢◌, ℕ, ◌+◌, ◌<◌, arith, zero, suc, eqb, Bool, true, false, not, ◌&&◌, cond, List, [], ◌∷◌, ◌++◌, map, length, take, drop, get_or, filter, Option, None, Some, refl, ap, sym, subst, ◌∙◌}
+use Rattle.std.proofs.lemmas.Bool.{eq-eqb, ne_eqb}
 use Rattle.std.proofs.lemmas.List.{map-append}
 use Rattle.nr_reduce.specs.declared.call.Call.{Call}
 use Rattle.nr_reduce.specs.declared.call.Submission.{Submission}
@@ -16,7 +16,7 @@ use Rattle.nr_requester.proofs.AnswerSteps.{due_one, all_as, all_filter}
 use Rattle.nr_drill.specs.Drill.{answer_at}
 use Rattle.nr_drill_link.specs.declared.awaited.AwaitedCall.{AwaitedCall}
 use Rattle.nr_drill_link.specs.DrillLinkState.{AwaitedLine}
-use Rattle.nr_drill_link.specs.LinkStands.{answers_of, accepted_line, lines_from, is_awaited, awaited_lines}
+use Rattle.nr_drill_link.specs.LinkStands.{answers_of, lines_from, is_awaited, awaited_lines}
 use Rattle.nr_drill_link.specs.OpenTickets.{LinesOpen, IsTakenOut, TakesLine}
 use Rattle.nr_drill_link.specs.Views.{line_view}
 use Rattle.nr_drill_link.proofs.Lines.{filter_as, filter_parts, answers_same}

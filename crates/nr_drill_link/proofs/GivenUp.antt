@@ -1,9 +1,8 @@
 -- A call that is given up: forgotten, or revoked.
 use Rattle.std.specs.Prelude.{◌-◌, if◌then◌else◌, is_none, is_some, slice_get}
 use Rattle.std.specs.List.{AllByRecursion}
-use Rattle.std.proofs.Common.{◌≡◌, ◌≢◌, ℕ, ◌≤◌, arith, eqb, Bool, true, false, not, ◌&&◌, ◌||◌, List, [], ◌∷◌, ◌++◌, length, Option, None, Some, refl, ap, sym, subst, ◌∙◌}
+use Rattle.std.proofs.Common.{◌≡◌, ◌≢◌, ℕ, eqb, Bool, true, false, not, ◌&&◌, ◌||◌, List, [], ◌∷◌, ◌++◌, length, Option, None, Some, refl, ap, sym, subst, ◌∙◌}
 use Rattle.nr_link.specs.declared.end.End.{End}
-use Rattle.nr_link.specs.declared.end.End.TheVariants as ends
 use Rattle.nr_reduce.specs.declared.call.Call.{Call}
 use Rattle.nr_reduce.specs.declared.call.Submission.{Submission}
 use Rattle.nr_reduce.specs.declared.call.Submission.TheVariants as submissions
@@ -18,7 +17,6 @@ use Rattle.nr_requester.specs.declared.answer.AnsweredCall.{AnsweredCall}
 use Rattle.nr_requester.specs.RequesterState.{RequesterSide, RequesterState, StoredCall}
 use Rattle.nr_requester.specs.AfterCalls.{after_forget as forgotten, after_revoke as revoked}
 use Rattle.nr_requester.specs.Buffers.{bytes_of_buffers}
-use Rattle.nr_requester.specs.KeptAnswers.{is_due}
 use Rattle.nr_requester.specs.Laws.{gives_up}
 use Rattle.nr_requester.specs.OpenCalls.{call_with, open_call, found_call, found_answer, buffers_of, IsOutstanding}
 use Rattle.nr_requester.specs.Standing.{RequesterRepresents, StandsOn}
@@ -28,7 +26,7 @@ use Rattle.nr_drill.specs.Drill.{Setting, Drill, with_mark, settled, answer_at, 
 use Rattle.nr_drill.specs.InBytes.{RepliedInBytes, RepliedMark}
 use Rattle.nr_drill.proofs.Carried.{same_dropped}
 use Rattle.nr_drill_link.specs.DrillLinkState.{AwaitedLine, DrillLinkState}
-use Rattle.nr_drill_link.specs.LinkStands.{answers_of, awaited_lines, is_awaited, LinkStands}
+use Rattle.nr_drill_link.specs.LinkStands.{answers_of, LinkStands}
 use Rattle.nr_drill_link.specs.OpenTickets.{LinesOpen, IsTakenOut, TakesLine}
 use Rattle.nr_drill_link.specs.Steps.{Goes, StandsAt}
 use Rattle.nr_drill_link.proofs.Lines.{answers_same}

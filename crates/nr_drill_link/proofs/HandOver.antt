@@ -1,8 +1,7 @@
 -- Outcomes that are due are handed over.
-use Rattle.std.specs.Prelude.{◌&&◌, ◌||◌, not, slice_get, if◌then◌else◌}
-use Rattle.std.specs.List.{AllByRecursion, filter, find, flat_map, remove}
-use Rattle.std.proofs.Common.{◌≡◌, ◌≢◌, ℕ, ◌+◌, ◌≤◌, ◌<◌, arith, zero, suc, eqb, eqb-true, Bool, true, false, cond, List, [], ◌∷◌, ◌++◌, length, map, take, Option, None, Some, refl, ap, sym, subst, ◌∙◌, append-nil}
-use Rattle.std.proofs.lemmas.Bool.{ne_eqb}
+use Rattle.std.specs.Prelude.{◌&&◌, not, slice_get}
+use Rattle.std.specs.List.{AllByRecursion, filter, find, flat_map}
+use Rattle.std.proofs.Common.{◌≡◌, ℕ, ◌+◌, ◌≤◌, arith, zero, suc, eqb, eqb-true, Bool, true, false, cond, List, [], ◌∷◌, ◌++◌, length, map, Option, None, Some, refl, ap, sym, subst, ◌∙◌, append-nil}
 use Rattle.std.proofs.lemmas.Grind.{flat_map-append}
 use Rattle.std.proofs.lemmas.List.{map-append}
 use Rattle.nr_reduce.specs.declared.call.Call.{Call}
@@ -24,16 +23,14 @@ use Rattle.nr_reduce.proofs.Waiting.{accepted_one}
 use Rattle.nr_requester.specs.declared.answer.AnsweredCall.{AnsweredCall}
 use Rattle.nr_requester.specs.RequesterState.{RequesterState, RequesterSide}
 use Rattle.nr_requester.specs.KeptAnswers.{is_due, completed_of}
-use Rattle.nr_requester.specs.Laws.{gives_up}
 use Rattle.nr_requester.specs.OpenCalls.{found_answer}
 use Rattle.nr_requester.specs.Standing.{RequesterRepresents, AnswersAfter}
 use Rattle.nr_requester.proofs.AnswerSteps.{due_one, done_gives}
 use Rattle.nr_requester.proofs.FirstDue.{first_is_due_first}
-use Rattle.nr_drill.specs.Drill.{Setting, Drill, with_mark, answer_at, after_handing, after_done, after_dones, after_outcomes}
-use Rattle.nr_drill_link.specs.DrillLinkState.{AwaitedLine, DrillLinkState}
-use Rattle.nr_drill_link.specs.LinkStands.{LinkStands, answers_of, lines_from, is_awaited, awaited_lines}
+use Rattle.nr_drill.specs.Drill.{Setting, Drill, answer_at, after_handing, after_done, after_dones, after_outcomes}
+use Rattle.nr_drill_link.specs.DrillLinkState.{AwaitedLine}
+use Rattle.nr_drill_link.specs.LinkStands.{answers_of, lines_from, is_awaited, awaited_lines}
 use Rattle.nr_drill_link.specs.HandsOver.{HaveNoOutcome}
-use Rattle.nr_drill_link.specs.Steps.{Goes, StandsAt}
 use Rattle.nr_drill_link.proofs.Lines.{filter_as, answers_same}
 
 -- ---- The xids of the call lines

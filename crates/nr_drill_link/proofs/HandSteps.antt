@@ -1,7 +1,7 @@
 -- A link hands over the outcomes that are due, one after another.
-use Rattle.std.specs.Prelude.{◌-◌, is_some, not, slice_get}
+use Rattle.std.specs.Prelude.{is_some, not, slice_get}
 use Rattle.std.specs.List.{AllByRecursion, filter, find, remove}
-use Rattle.std.proofs.Common.{◌≡◌, ◌≢◌, ℕ, ◌+◌, ◌≤◌, ◌<◌, arith, zero, suc, eqb, Bool, true, false, cond, List, [], ◌∷◌, ◌++◌, length, map, take, drop, get_or, Option, None, Some, refl, ap, sym, subst, ◌∙◌}
+use Rattle.std.proofs.Common.{◌≡◌, ◌≢◌, ℕ, ◌≤◌, ◌<◌, arith, zero, suc, eqb, Bool, true, false, cond, List, [], ◌∷◌, ◌++◌, length, map, take, drop, get_or, Option, None, Some, refl, ap, sym, subst, ◌∙◌}
 use Rattle.std.proofs.lemmas.Bool.{ne_eqb}
 use Rattle.nr_link.specs.declared.end.End.TheVariants as ends
 use Rattle.nr_reduce.specs.declared.call.Outcome.{Outcome}
@@ -21,7 +21,6 @@ use Rattle.nr_drill.proofs.Carried.{same_dropped}
 use Rattle.nr_drill_link.specs.declared.awaited.AwaitedCall.{AwaitedCall}
 use Rattle.nr_drill_link.specs.DrillLinkState.{AwaitedLine, DrillLinkState}
 use Rattle.nr_drill_link.specs.HandsOver.{TakesOutcome, HaveNoOutcome, HandsAt}
-use Rattle.nr_drill_link.specs.LinkStands.{LinkStands, awaited_lines}
 use Rattle.nr_drill_link.specs.OpenTickets.{AreApart, AreOpen}
 use Rattle.nr_drill_link.specs.Steps.{Goes, StandsAt}
 use Rattle.nr_drill_link.specs.Views.{line_view}

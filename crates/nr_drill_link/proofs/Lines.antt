@@ -1,14 +1,12 @@
 -- The call lines of a client, after one mark more.
-use Rattle.std.specs.List.{flat_map}
-use Rattle.std.proofs.Common.{◌≡◌, ℕ, ◌+◌, arith, Bool, true, false, cond, List, [], ◌∷◌, ◌++◌, length, filter, refl, ap, sym, ◌∙◌, append_assoc, append-nil}
+use Rattle.std.proofs.Common.{◌≡◌, ℕ, Bool, true, false, cond, List, [], ◌∷◌, ◌++◌, filter, refl, ap, ◌∙◌, append-nil}
 use Rattle.nr_reduce.specs.declared.call.Submission.{Submission}
 use Rattle.nr_reduce.specs.declared.mark.Mark.{Mark}
 use Rattle.nr_reduce.proofs.Standing.{one_more}
 use Rattle.nr_requester.specs.Laws.{GivesUpNothing}
 use Rattle.nr_requester.proofs.AnswerSteps.{due_same}
 use Rattle.nr_drill.specs.Drill.{answer_at}
-use Rattle.nr_drill_link.specs.DrillLinkState.{AwaitedLine}
-use Rattle.nr_drill_link.specs.LinkStands.{answers_of, accepted_line, lines_from, is_awaited, awaited_lines}
+use Rattle.nr_drill_link.specs.LinkStands.{answers_of, lines_from, is_awaited, awaited_lines}
 
 pub filter_as : {X : Type 0} (p q : X → Bool) (xs : List X) → ((x : X) → p x ≡ q x) → filter p xs ≡ filter q xs
 filter_as p q [] same = refl

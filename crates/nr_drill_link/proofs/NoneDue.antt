@@ -1,7 +1,7 @@
 -- A call has no outcome that waits if none is due.
 use Rattle.std.specs.Prelude.{is_some}
 use Rattle.std.specs.List.{Contains, find}
-use Rattle.std.proofs.Common.{◌≡◌, ℕ, ◌<◌, arith, eqb, Bool, true, false, List, [], ◌∷◌, length, map, Option, None, Some, refl, ap, sym, subst, ◌∙◌}
+use Rattle.std.proofs.Common.{◌≡◌, ℕ, arith, eqb, Bool, true, false, List, [], ◌∷◌, map, Option, None, refl, ap, sym, ◌∙◌}
 use Rattle.nr_reduce.specs.declared.mark.LinkParameters.{LinkParameters}
 use Rattle.nr_reduce.specs.declared.mark.Mark.{Mark}
 use Rattle.nr_reduce.specs.History.{CompletedCall}
@@ -35,7 +35,7 @@ for_each f before after run run2 goes s link d at none = goes s link d at
 pub never_found : (f : Setting → ℕ → Drill → Drill) (v before after : DrillLinkState) (xid : ℕ) (has : Bool) (run run2 : List Mark) → v ≡ before → has ≡ is_some (found_answer xid v.client.state) → has ≡ true → GoesIfNoneDue f before after run run2
 never_found f v before after xid has run run2 is says e s link d at none =
     absurd (
-      let found : is_some (found_answer xid before.client.state) ≡ true = ap (λ (x : DrillLinkState). is_some (found_answer xid x.client.state)) (sym is) ∙ sym says ∙ e in
-      let not_found : is_some (found_answer xid before.client.state) ≡ false = ap (λ (o : Option AnsweredCall). is_some o) (none_waits (s.opened link) link before.client d.marks xid at.stands.client none) in
-      let wrong : true ≡ false = sym found ∙ not_found in
-      cc)
+    let found : is_some (found_answer xid before.client.state) ≡ true = ap (λ (x : DrillLinkState). is_some (found_answer xid x.client.state)) (sym is) ∙ sym says ∙ e in
+    let not_found : is_some (found_answer xid before.client.state) ≡ false = ap (λ (o : Option AnsweredCall). is_some o) (none_waits (s.opened link) link before.client d.marks xid at.stands.client none) in
+    let wrong : true ≡ false = sym found ∙ not_found in
+    cc)

@@ -1,9 +1,7 @@
 -- Awaited calls, and their lines.
-use Rattle.std.specs.Prelude.{is_some}
 use Rattle.std.specs.List.{AllByRecursion}
-use Rattle.std.proofs.Common.{◌≡◌, ◌≢◌, ℕ, true, List, [], ◌∷◌, map}
+use Rattle.std.proofs.Common.{◌≢◌, ℕ, List, [], ◌∷◌, map}
 use Rattle.nr_requester.specs.RequesterState.{RequesterState}
-use Rattle.nr_requester.specs.OpenCalls.{open_call}
 use Rattle.nr_drill_link.specs.declared.awaited.AwaitedCall.{AwaitedCall}
 use Rattle.nr_drill_link.specs.DrillLinkState.{AwaitedLine}
 use Rattle.nr_drill_link.specs.OpenTickets.{AreOpen, LinesOpen}

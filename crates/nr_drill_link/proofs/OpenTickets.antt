@@ -1,7 +1,7 @@
 -- Tickets that stay open, are added, and are closed.
 use Rattle.std.specs.Prelude.{is_some}
 use Rattle.std.specs.List.{AllByRecursion, remove}
-use Rattle.std.proofs.Common.{◌≡◌, ◌≢◌, ℕ, ◌+◌, ◌≤◌, ◌<◌, arith, zero, suc, Bool, true, false, List, [], ◌∷◌, ◌++◌, length, get_or, Option, None, Some, refl, ap, sym, subst, ◌∙◌}
+use Rattle.std.proofs.Common.{◌≡◌, ◌≢◌, ℕ, ◌<◌, arith, zero, suc, List, [], ◌∷◌, ◌++◌, length, get_or, Option, None, ap, sym, ◌∙◌}
 use Rattle.nr_reduce.specs.declared.call.Call.{Call}
 use Rattle.nr_requester.specs.RequesterState.{RequesterState}
 use Rattle.nr_requester.specs.OpenCalls.{open_call, KeepsTickets, OpensTicket, ClosesTicket}

@@ -1,17 +1,12 @@
 -- A link opens.
-use Rattle.std.specs.Prelude.{◌-◌}
 use Rattle.std.specs.List.{AllByRecursion}
-use Rattle.std.proofs.Common.{◌≡◌, ◌≢◌, ℕ, ◌+◌, ◌≤◌, arith, zero, suc, Bool, true, false, List, [], ◌∷◌, ◌++◌, length, drop, Option, None, Some, inl, inr, refl, ap, sym, subst, ◌∙◌, length-drop}
+use Rattle.std.proofs.Common.{◌≡◌, ◌≢◌, ℕ, ◌+◌, arith, List, [], ◌∷◌, ◌++◌, length, drop, Option, None, Some, refl, ap, sym, subst, ◌∙◌, length-drop}
 use Rattle.nr_link.specs.declared.end.End.{End}
 use Rattle.nr_link.specs.declared.end.End.TheVariants as ends
 use Rattle.nr_reduce.specs.declared.mark.LinkParameters.{LinkParameters}
 use Rattle.nr_reduce.specs.declared.mark.Mark.{Mark}
-use Rattle.nr_requester.specs.RequesterState.{RequesterSide}
-use Rattle.nr_requester.specs.Standing.{RequesterRepresents}
-use Rattle.nr_responder.specs.ResponderState.{ResponderSide, end_of}
-use Rattle.nr_responder.specs.Standing.{Stands}
-use Rattle.nr_drill.specs.Drill.{Setting, Drill, Pipes, pipes_of, empty_pipes, settled, after_up, after_down, after_all_up, after_all_down, after_opening}
-use Rattle.nr_drill.specs.InBytes.{RepliedInBytes}
+use Rattle.nr_responder.specs.ResponderState.{end_of}
+use Rattle.nr_drill.specs.Drill.{Setting, Drill, Pipes, pipes_of, settled, after_up, after_down, after_all_up, after_all_down, after_opening}
 use Rattle.nr_drill.proofs.Followed.{link_of}
 use Rattle.nr_drill_link.specs.DrillLinkState.{DrillLinkState}
 use Rattle.nr_drill_link.specs.LinkStands.{awaited_lines, LinkStands}

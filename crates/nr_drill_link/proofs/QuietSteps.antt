@@ -1,5 +1,5 @@
 -- Steps that execute no call leave the journal and the clock.
-use Rattle.std.proofs.Common.{◌≡◌, ℕ, zero, suc, Bool, true, false, List, [], ◌∷◌, ◌++◌, length, Option, None, Some, refl, ap, sym, ◌∙◌, append-nil}
+use Rattle.std.proofs.Common.{◌≡◌, ℕ, zero, suc, Bool, true, false, List, [], ◌∷◌, ◌++◌, length, Option, None, Some, refl, ap, ◌∙◌, append-nil}
 use Rattle.nr_wire.specs.declared.hello.Side.{Side}
 use Rattle.nr_wire.specs.declared.hello.Side.TheVariants.{Initiator, Responder}
 use Rattle.nr_reduce.specs.declared.call.Call.{Call}
@@ -11,7 +11,7 @@ use Rattle.nr_reduce.specs.History.{CompletedCall}
 use Rattle.nr_reduce.specs.PlainJournal.{entries_added, journal}
 use Rattle.nr_reduce.specs.OutcomesDue.{outcomes_due}
 use Rattle.nr_reduce.proofs.Standing.{one_more}
-use Rattle.nr_drill.specs.Drill.{SerialServer, Setting, Drill, Pipes, plain_of, with_pipes, with_mark, after_output, after_all_output, unwritten, settled, after_feeding, after_feeding_up, after_feeding_down, after_up, after_handing, after_done, after_dones, after_outcomes, after_down, after_submit, open_xid, answer_of_line, after_giving_up, after_forget, after_taking_back, after_revoke, after_drop, after_raw}
+use Rattle.nr_drill.specs.Drill.{SerialServer, Setting, Drill, Pipes, plain_of, with_mark, after_output, after_all_output, unwritten, settled, after_feeding, after_feeding_up, after_feeding_down, after_up, after_handing, after_done, after_dones, after_outcomes, after_down, after_submit, after_giving_up, after_forget, after_taking_back, after_revoke, after_drop, after_raw}
 
 pub record IsQuietStep (server : SerialServer) (old new : Drill) : Type 0 where
   pub journal : journal (plain_of server) new.marks ≡ journal (plain_of server) old.marks

@@ -1,11 +1,9 @@
 -- What is reported of a link.
-use Rattle.std.specs.Prelude.{◌-◌, ◌&&◌, not, is_none, is_some, IfSome, MatchOption}
-use Rattle.std.proofs.Common.{◌≡◌, ◌≢◌, ℕ, ◌+◌, ◌≤◌, ◌<◌, arith, zero, suc, Bool, true, false, List, [], ◌∷◌, ◌++◌, length, drop, Option, None, Some, inl, inr, refl, ap, sym, subst, ◌∙◌, length-drop}
+use Rattle.std.specs.Prelude.{◌&&◌, not, is_none, is_some, IfSome, MatchOption}
+use Rattle.std.proofs.Common.{◌≡◌, ◌≢◌, ℕ, ◌+◌, ◌≤◌, ◌<◌, arith, Bool, true, false, List, [], ◌∷◌, length, drop, Option, None, Some, inl, inr, refl, ap, sym, ◌∙◌, length-drop}
 use Rattle.nr_wire.specs.declared.hello.Side.TheVariants.{Initiator, Responder}
-use Rattle.nr_link.specs.declared.end.End.{End}
 use Rattle.nr_reduce.specs.declared.mark.LinkParameters.{LinkParameters}
 use Rattle.nr_reduce.specs.declared.mark.Mark.{Mark}
-use Rattle.nr_reduce.specs.History.{is_dropped}
 use Rattle.nr_reduce.specs.EndRules.{EndState}
 use Rattle.nr_reduce.specs.ServerState.{ReadyCall, ServerState}
 use Rattle.nr_reduce.specs.Served.{next_call}

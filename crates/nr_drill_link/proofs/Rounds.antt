@@ -1,9 +1,8 @@
 -- All calls that are complete are executed.
 use Rattle.std.specs.Prelude.{is_some}
-use Rattle.std.specs.List.{AllByRecursion, list_any}
-use Rattle.std.proofs.Common.{◌≡◌, ◌≢◌, ℕ, ◌+◌, ◌≤◌, ◌⊎◌, arith, eqb, zero, suc, Bool, true, false, List, [], ◌∷◌, ◌++◌, length, drop, slice_get, Option, None, Some, inl, inr, refl, ap, sym, subst, ◌∙◌}
+use Rattle.std.specs.List.{AllByRecursion}
+use Rattle.std.proofs.Common.{◌≡◌, ℕ, ◌+◌, ◌≤◌, ◌⊎◌, arith, zero, suc, Bool, true, false, List, [], ◌∷◌, ◌++◌, length, drop, slice_get, Option, None, Some, inl, inr, refl, ap, sym, subst, ◌∙◌}
 use Rattle.nr_link.specs.declared.end.End.{End}
-use Rattle.nr_outside.specs.declared.moment.Moment.{Moment}
 use Rattle.nr_reduce.specs.declared.mark.LinkParameters.{LinkParameters}
 use Rattle.nr_reduce.specs.declared.mark.Entry.{Entry}
 use Rattle.nr_reduce.specs.declared.mark.Mark.{Mark}
@@ -18,7 +17,6 @@ use Rattle.nr_reduce.specs.Run.{server}
 use Rattle.nr_reduce.specs.Served.{first_ready, next_call}
 use Rattle.nr_responder.specs.Keeping.{IsReadyOf, IsServer, Keeps, KeepsEnded}
 use Rattle.nr_responder.proofs.Executed.{executed, answered_server, one_out_lem}
-use Rattle.nr_plain.specs.Setup.{Setup}
 use Rattle.nr_plain.specs.Stands.{PlainServerState, RepresentsJournal}
 use Rattle.nr_drill.specs.Drill.{Setting, Drill, plain_of, pipes_of, with_mark, now, settled, if_standing, waiting_call, after_answer, after_execution, after_work, after_calls, after_all_up, after_all_work, after_all_down, after_moves}
 use Rattle.nr_drill.proofs.LessWork.{is_next_lem, same_server, settled_leaves, own}

@@ -80,7 +80,10 @@ impl DrillLink {
         let mut link = DrillLink::fresh(alloc, number, credits)?;
         match link.exchange(marks) {
             Ok(()) => Ok(link),
-            Err(memory) => Err(memory),
+            Err(memory) => {
+                drop(link);
+                Err(memory)
+            }
         }
     }
 

@@ -147,7 +147,7 @@ Stopped OutputFault arguments input input' out out' = Halfway arguments input in
 Stopped (BadScript number) arguments input input' out out' = BadLine number arguments input input' × Silent out out'
 Stopped OverBudget arguments input input' out out' = TooLong arguments input × TookTooMuch input input' × (input'.faults ≡ input.faults) × Silent out out'
 
--- the texts for want of memory, for an input that is too long, and for an invalid line
+-- the texts for memory that ran out, for an input that is too long, and for an invalid line
 abbrev pub memory_text : List ℕ
 memory_text = codes "memory\n"
 
@@ -209,7 +209,7 @@ pub record Ends (arguments : List (List ℕ)) (status : ℕ) (input input' : Inp
   pub done : status ≡ statuses.done → Done arguments input input' out out' × Silent err err'
   -- the arguments are not those of a command, and nothing else happened
   pub arguments_bad : status ≡ statuses.bad_arguments → Stopped BadArguments arguments input input' out out' × Wrote err err' (codes "bad words\n")
-  -- want of memory
+  -- memory ran out
   pub memory : status ≡ statuses.no_memory → Stopped NoMemory arguments input input' out out' × Wrote err err' memory_text
   -- the number of the first invalid line
   pub script : status ≡ statuses.bad_script → (number : ℕ) × Stopped (BadScript number) arguments input input' out out' × Wrote err err' (bad_line_text number)

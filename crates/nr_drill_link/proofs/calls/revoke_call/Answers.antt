@@ -1,8 +1,7 @@
-use Rattle.std.proofs.Common.{◌≡◌, ◌∙◌, ℕ, List, ap, subst}
+use Rattle.std.proofs.Common.{◌∙◌, ap, subst}
 use Rattle.nr_reduce.specs.declared.mark.Mark.TheVariants as marks
 use Rattle.nr_requester.specs.declared.answer.Buffers.{Buffers}
 use Rattle.nr_requester.specs.Buffers.{bytes_of_buffers}
-use Rattle.nr_requester.specs.OpenCalls.{buffers_of}
 use Rattle.nr_requester.specs.Standing.{StandsOn}
 use Rattle.nr_drill_link.proofs.GivenBuffers.{any_ok, if_ok_as}
 use Rattle.nr_drill_link.proofs.GivenUp.{outstanding}

@@ -1,4 +1,4 @@
-use Rattle.std.proofs.Common.{◌≡◌, ◌-◌, ◌∙◌, sym}
+use Rattle.std.proofs.Common.{◌-◌, ◌∙◌, sym}
 use Rattle.nr_drill_link.specs.declared.awaited.AwaitedCall.{AwaitedCall}
 use Rattle.nr_drill_link.proofs.GivenLines.{taken_out, none_taken}
 use Rattle.nr_drill_link.proofs.calls.take_line.Goals as goal

@@ -1,4 +1,4 @@
-use Rattle.std.proofs.Common.{◌≡◌, ◌∙◌, ap}
+use Rattle.std.proofs.Common.{◌∙◌, ap}
 use Rattle.nr_outside.specs.MemSink.{MemSinkState}
 use Rattle.nr_drill_link.proofs.Outputs.{if_ok, server_writes}
 use Rattle.nr_drill_link.proofs.draining.server_output.Goals as goal

@@ -1,4 +1,4 @@
-use Rattle.std.proofs.Common.{◌≡◌, ◌∙◌, ℕ, List, length, arith, refl, sym, ap, subst}
+use Rattle.std.proofs.Common.{◌≡◌, ◌∙◌, length, arith, refl, ap}
 use Rattle.nr_drill_link.specs.DrillLinkState.{DrillLinkState}
 use Rattle.nr_drill_link.proofs.Rounds.{worked_none, worked_more, worked_all}
 use Rattle.nr_drill_link.proofs.link.DrillLink.all_work.Goals as goal

@@ -1,6 +1,5 @@
-use Rattle.std.proofs.Common.{◌≡◌, ◌∙◌, arith, ℕ, ◌+◌, List, map, refl, sym, ap}
-use Rattle.nr_reduce.specs.declared.call.Submission.{Submission}
-use Rattle.nr_drill_link.specs.DrillLinkState.{AwaitedLine, DrillLinkState}
+use Rattle.std.proofs.Common.{arith, map, refl}
+use Rattle.nr_drill_link.specs.DrillLinkState.{DrillLinkState}
 use Rattle.nr_drill_link.specs.Views.{line_view, link_view}
 use Rattle.nr_drill_link.proofs.GivenCalls.{dropped_call, client_call, answered}
 use Rattle.nr_drill_link.proofs.OpenLines.{calls_open, lines_open}

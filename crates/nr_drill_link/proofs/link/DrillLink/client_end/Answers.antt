@@ -1,10 +1,6 @@
 use Rattle.std.proofs.Common.{◌∙◌, ap}
 use Rattle.nr_drill_link.specs.DrillLinkState.{DrillLinkState}
 use Rattle.nr_drill_link.proofs.Reading.{client_end_is}
-use Rattle.nr_drill_link.proofs.Opening.{opens}
-use Rattle.nr_drill_link.proofs.Executions.{works_then}
-use Rattle.nr_drill_link.proofs.Feeding.{up_fed}
-use Rattle.nr_drill_link.proofs.Dropping.{raw_put}
 use Rattle.nr_drill_link.proofs.link.DrillLink.client_end.Goals as goal
 
 pub returns : goal.returns

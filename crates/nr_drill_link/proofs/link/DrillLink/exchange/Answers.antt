@@ -1,6 +1,5 @@
 use Rattle.std.proofs.Common.{refl}
-use Rattle.std.specs.Prelude.{ℕ}
-use Rattle.nr_drill.specs.Drill.{Setting, Drill, settled, after_all_up, after_all_down}
+use Rattle.nr_drill.specs.Drill.{settled, after_all_up, after_all_down}
 use Rattle.nr_drill_link.specs.Steps.{exchanged}
 use Rattle.nr_drill_link.proofs.Standing.{goes_then, on_ok}
 use Rattle.nr_drill_link.proofs.link.DrillLink.exchange.Goals as goal

@@ -1,5 +1,5 @@
 use Rattle.std.specs.Prelude.{is_err}
-use Rattle.std.proofs.Common.{◌≡◌, ◌∙◌, ℕ, ◌≤◌, false, refl, sym, ap, subst}
+use Rattle.std.proofs.Common.{◌≡◌, ◌∙◌, false, refl, sym, ap, subst}
 use Rattle.nr_responder.specs.ResponderState.{ResponderSide, end_of}
 use Rattle.nr_responder.specs.Sound.{IsNext}
 use Rattle.nr_drill_link.specs.DrillLinkState.{DrillLinkState}

@@ -1,12 +1,11 @@
-use Rattle.std.proofs.Common.{◌≡◌, ◌≢◌, ℕ, ◌+◌, ◌≤◌, arith, List, [], length, take, drop, refl, ap, sym, subst, ◌∙◌}
+use Rattle.std.proofs.Common.{◌≡◌, ◌≢◌, ℕ, ◌+◌, ◌≤◌, arith, List, [], length, take, refl, ap, sym, subst, ◌∙◌}
 use Rattle.std.proofs.lemmas.Grind.{common_steps}
-use Rattle.nr_drill.specs.Drill.{Pipes, after_feeding_up}
+use Rattle.nr_drill.specs.Drill.{after_feeding_up}
 use Rattle.nr_drill_link.specs.DrillLinkState.{DrillLinkState}
 use Rattle.nr_drill_link.specs.Views.{link_view}
 use Rattle.nr_drill_link.proofs.Standing.{on_ok, from_view}
 use Rattle.nr_drill_link.proofs.FedEnds.{not_out, is_nothing, is_something, within_more, fits_more}
 use Rattle.nr_drill_link.proofs.Feeding.{waits_after, up_nothing, up_fed, TakesPiece}
-use Rattle.nr_drill_link.proofs.OpenTickets.{kept_open}
 use Rattle.nr_drill_link.proofs.link.DrillLink.feed_up.Goals as goal
 
 pub same-self : goal.same-self

@@ -1,7 +1,6 @@
 use Rattle.std.specs.Prelude.{◌-◌}
-use Rattle.std.proofs.Common.{◌≡◌, ◌∙◌, arith, ℕ, List, [], ◌∷◌, ◌++◌, map, sym, ap}
+use Rattle.std.proofs.Common.{◌∙◌, arith, ℕ, List, [], ◌∷◌, ◌++◌, map, sym, ap}
 use Rattle.nr_reduce.specs.declared.mark.Mark.TheVariants as marks
-use Rattle.nr_requester.specs.RequesterState.{RequesterSide}
 use Rattle.nr_drill_link.specs.DrillLinkState.{AwaitedLine, DrillLinkState}
 use Rattle.nr_drill_link.specs.Views.{line_view, link_view}
 use Rattle.nr_drill.specs.Drill.{after_forget}

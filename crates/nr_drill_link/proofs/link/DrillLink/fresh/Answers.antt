@@ -1,4 +1,4 @@
-use Rattle.std.proofs.Common.{◌≡◌, ◌≤◌, arith}
+use Rattle.std.proofs.Common.{arith}
 use Rattle.nr_drill_link.proofs.Outputs.{fresh_link, none_are_open}
 use Rattle.nr_drill_link.proofs.link.DrillLink.fresh.Goals as goal
 

@@ -1,12 +1,11 @@
 use Rattle.std.specs.Prelude.{◌-◌}
-use Rattle.std.proofs.Common.{◌≡◌, ◌∙◌, arith, ℕ, List, [], ◌∷◌, ◌++◌, map, refl, sym, ap}
+use Rattle.std.proofs.Common.{◌∙◌, arith, ℕ, List, [], ◌∷◌, ◌++◌, map, refl, sym, ap}
 use Rattle.nr_reduce.specs.declared.mark.Mark.TheVariants as marks
-use Rattle.nr_requester.specs.RequesterState.{RequesterSide}
 use Rattle.nr_drill_link.specs.DrillLinkState.{AwaitedLine, DrillLinkState}
 use Rattle.nr_drill_link.specs.Views.{line_view, link_view}
 use Rattle.nr_drill.specs.Drill.{after_revoke}
 use Rattle.nr_drill_link.proofs.GivenLines.{open_ticket, left_open, none_left}
-use Rattle.nr_drill_link.proofs.GivenUp.{revoke_idle, stays, stays_absent, none_if_dropped, none_if_ended, with_client, TookOut, revokes, none_of, some_of}
+use Rattle.nr_drill_link.proofs.GivenUp.{revoke_idle, stays, stays_absent, none_if_dropped, none_if_ended, TookOut, revokes, none_of, some_of}
 use Rattle.nr_drill_link.proofs.NoneDue.{for_each, never_found}
 use Rattle.nr_drill_link.proofs.OpenLines.{calls_open, lines_open}
 use Rattle.nr_drill_link.proofs.Standing.{on_ok, from_view}

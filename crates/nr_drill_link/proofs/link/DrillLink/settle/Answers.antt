@@ -2,11 +2,6 @@ use Rattle.nr_drill_link.proofs.Standing.{goes_then, on_ok}
 use Rattle.nr_drill_link.proofs.Writes.{settled_is}
 use Rattle.nr_wire.specs.declared.hello.Side.TheVariants.{Initiator, Responder}
 use Rattle.nr_drill.specs.Drill.{after_all_output, settled}
-use Rattle.nr_drill_link.proofs.Opening.{opens}
-use Rattle.nr_drill_link.proofs.Executions.{works_then}
-use Rattle.nr_drill_link.proofs.Reading.{still_by_call}
-use Rattle.nr_drill_link.proofs.Feeding.{up_fed}
-use Rattle.nr_drill_link.proofs.Dropping.{raw_put}
 use Rattle.nr_drill_link.proofs.link.DrillLink.settle.Goals as goal
 
 pub returns-in-Ok : goal.returns-in-Ok
