@@ -1,8 +1,8 @@
 -- The cause that is reported for each fault of a command.
 use Rattle.nr_outside.specs.declared.whole.ReadEnd.{ReadEnd}
 use Rattle.nr_outside.specs.declared.whole.ReadEnd.TheVariants as ends
-use Rattle.nr_world.specs.declared.script.ScriptFault.{ScriptFault}
-use Rattle.nr_world.specs.declared.script.ScriptFault.TheVariants as faults
+use Rattle.nr_script.specs.declared.script.ScriptFault.{ScriptFault}
+use Rattle.nr_script.specs.declared.script.ScriptFault.TheVariants as faults
 use Rattle.nr_top.specs.declared.command.Failure.{Failure}
 use Rattle.nr_top.specs.declared.command.Failure.TheVariants as stops
 use Rattle.nr_top.specs.Ends.{Cause}

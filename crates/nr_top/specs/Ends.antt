@@ -1,19 +1,24 @@
 -- How a run of the program ends, and what its status says. Clauses about bytes apply only where the bytes are known;
 -- fault counts are always known.
-use Rattle.std.specs.Prelude.{◌≡◌, ◌≢◌, ℕ, ◌<◌, ◌≤◌, ◌⊎◌, true, false, List, ◌++◌, length, take, codes, Option, Some, IfSome, Ok, Err}
+use Rattle.std.specs.Prelude.{◌≡◌, ◌≢◌, ℕ, ◌<◌, ◌≤◌, ◌⊎◌, List, ◌++◌, length, take, codes, Option, None, Some, IfSome, Ok, Err}
 use Rattle.std.specs.Fmt.{decimal}
 use Rattle.std.specs.Io.KnownBytes.{Appends, Keeps, IsAtEnd}
 use Rattle.nr_outside.specs.Content.{HandsOut}
 use Rattle.nr_outside.specs.Faults.{Rises}
-use Rattle.nr_world.specs.declared.mark.Mark.{Mark}
-use Rattle.nr_world.specs.Constants.{script_max}
-use Rattle.nr_world.specs.Script.{ScriptLines, script_of}
-use Rattle.nr_world.specs.Headline.{IsDrill}
-use Rattle.nr_world.specs.Plain.{drill_server}
-use Rattle.nr_world.specs.Stops.{no_stops}
-use Rattle.nr_world.specs.Shown.{shown}
+use Rattle.nr_reduce.specs.declared.mark.Mark.{Mark}
+use Rattle.nr_tree.specs.Tree.{Tree}
+use Rattle.nr_tree.specs.Drill.{IsDrill}
+use Rattle.nr_script.specs.Limits.{script_max}
+use Rattle.nr_script.specs.Script.{ScriptLines, script_of}
+use Rattle.nr_drill.specs.DrillSetup.{drill_setup, server_of}
+use Rattle.nr_drill.specs.Follows.{setting_of}
+use Rattle.nr_drill.specs.Headline.{IsDrillRun}
+use Rattle.nr_drill.specs.Shown.{shown, summary}
 use Rattle.nr_top.specs.Statuses as statuses
-use Rattle.nr_top.specs.Arguments.{is_drill, due_status}
+use Rattle.nr_script.specs.Generator.{made_script}
+use Rattle.nr_top.specs.declared.words.ScriptSource.{ScriptSource}
+use Rattle.nr_top.specs.declared.words.ScriptSource.TheVariants as sources
+use Rattle.nr_top.specs.Arguments.{source_of, due_status}
 
 -- a source as contracts see it: the bytes left and those handed out, where known, and its fault count
 pub record InputAt : Type 0 where
@@ -65,40 +70,57 @@ pub record CutOff (old new : SinkAt) (text : List ℕ) : Type 0 where
   pub appends : Appends old.taken new.taken (take len text)
   pub rose : Rises old.faults new.faults
 
--- what a drill prints of a run of a script
-abbrev pub printed : ScriptLines → List Mark → List ℕ
-printed script run = shown drill_server no_stops script.clients run
+-- What a drill prints of a run of a script: what is shown of the run; of a script that was made from a seed the line of sums.
+abbrev pub printed : ScriptSource → Tree → ScriptLines → List Mark → List ℕ
+printed sources.Input tree script run = shown (setting_of (server_of (drill_setup tree script.opening)) script.opening) script.opening.clients run
+printed (sources.Seed seed clients calls) tree script run = summary (setting_of (server_of (drill_setup tree script.opening)) script.opening) run
 
--- a script was read and run
-pub record Ran (arguments : List (List ℕ)) (input input' : InputAt) : Type 0 where
-  pub line : is_drill arguments ≡ true
+-- a run of the script over the tree of a drill, which keeps the promise of a drill
+pub record IsRunOf (tree : Tree) (script : ScriptLines) (run : List Mark) : Type 0 where
+  pub first : IsDrill tree
+  pub keeps : IsDrillRun (server_of (drill_setup tree script.opening)) script run
+
+-- the input was read, and it says this script
+pub record ReadsScript (input input' : InputAt) (script : ScriptLines) : Type 0 where
   pub text : List ℕ
-  pub script : ScriptLines
-  pub run : List Mark
   pub whole : Whole input input' text
   pub reads : script_of text ≡ Ok script
-  pub drill : IsDrill script run
+
+-- the script that was run, and what was read for it
+abbrev pub IsGiven : ScriptSource → InputAt → InputAt → ScriptLines → Type 0
+IsGiven sources.Input input input' script = ReadsScript input input' script
+IsGiven (sources.Seed seed clients calls) input input' script = (input' ≡ input) × (script ≡ made_script seed clients calls)
+
+-- a script was read or made, and run
+pub record Ran (arguments : List (List ℕ)) (input input' : InputAt) : Type 0 where
+  pub source : ScriptSource
+  pub line : source_of arguments ≡ Some source
+  pub script : ScriptLines
+  pub tree : Tree
+  pub run : List Mark
+  pub given : IsGiven source input input' script
+  pub drill : IsRunOf tree script run
 
 -- and what is shown of the run was written
 pub record Done (arguments : List (List ℕ)) (input input' : InputAt) (out out' : SinkAt) : Type 0 where
   pub ran : Ran arguments input input'
-  pub prints : Wrote out out' (printed ran.script ran.run)
+  pub prints : Wrote out out' (printed ran.source ran.tree ran.script ran.run)
 
 -- and a proper prefix of that was written
 pub record Halfway (arguments : List (List ℕ)) (input input' : InputAt) (out out' : SinkAt) : Type 0 where
   pub ran : Ran arguments input input'
-  pub cut : CutOff out out' (printed ran.script ran.run)
+  pub cut : CutOff out out' (printed ran.source ran.tree ran.script ran.run)
 
 -- the input is no script: this is the number of its first invalid line
 pub record BadLine (number : ℕ) (arguments : List (List ℕ)) (input input' : InputAt) : Type 0 where
-  pub line : is_drill arguments ≡ true
+  pub line : source_of arguments ≡ Some sources.Input
   pub text : List ℕ
   pub whole : Whole input input' text
   pub bad : script_of text ≡ Err number
 
 -- the input is too long
 pub record TooLong (arguments : List (List ℕ)) (input : InputAt) : Type 0 where
-  pub line : is_drill arguments ≡ true
+  pub line : source_of arguments ≡ Some sources.Input
   pub long : IfSome input.left (λ left. script_max < length left)
 
 -- why a command isn't done: its arguments are not those of a command, memory ran out, the input or the output failed, a
@@ -111,16 +133,21 @@ pub data Cause : Type 0 where
   BadScript : (line : ℕ) → Cause
   OverBudget : Cause
 
+-- what was read if memory ran out: nothing for a script that is made from a seed
+abbrev pub TookFor : ScriptSource → InputAt → InputAt → Type 0
+TookFor sources.Input input input' = Took input input' × (input'.faults ≡ input.faults)
+TookFor (sources.Seed seed clients calls) input input' = input' ≡ input
+
 -- what holds where a command wasn't done, by the cause
 abbrev pub Stopped : Cause → List (List ℕ) → InputAt → InputAt → SinkAt → SinkAt → Type 0
-Stopped BadArguments arguments input input' out out' = (is_drill arguments ≡ false) × (input' ≡ input) × (out' ≡ out)
-Stopped NoMemory arguments input input' out out' = (is_drill arguments ≡ true) × Took input input' × (input'.faults ≡ input.faults) × Silent out out'
-Stopped InputFault arguments input input' out out' = (is_drill arguments ≡ true) × Took input input' × Rises input.faults input'.faults × Silent out out'
+Stopped BadArguments arguments input input' out out' = (source_of arguments ≡ None) × (input' ≡ input) × (out' ≡ out)
+Stopped NoMemory arguments input input' out out' = (source : ScriptSource) × (source_of arguments ≡ Some source) × TookFor source input input' × Silent out out'
+Stopped InputFault arguments input input' out out' = (source_of arguments ≡ Some sources.Input) × Took input input' × Rises input.faults input'.faults × Silent out out'
 Stopped OutputFault arguments input input' out out' = Halfway arguments input input' out out'
 Stopped (BadScript number) arguments input input' out out' = BadLine number arguments input input' × Silent out out'
 Stopped OverBudget arguments input input' out out' = TooLong arguments input × TookTooMuch input input' × (input'.faults ≡ input.faults) × Silent out out'
 
--- the texts for want of memory, for an input that is too long, and for an invalid line
+-- the texts for memory that ran out, for an input that is too long, and for an invalid line
 abbrev pub memory_text : List ℕ
 memory_text = codes "memory\n"
 
@@ -135,12 +162,6 @@ bad_line_text number = codes "bad line " ++ decimal number ++ codes "\n"
 abbrev pub Reported : ℕ → List ℕ → ℕ → SinkAt → SinkAt → Type 0
 Reported due text status err err' = ((status ≡ due) × Wrote err err' text) ⊎ ((status ≡ statuses.fault) × CutOff err err' text)
 
--- the input was read, and it says this script
-pub record ReadsScript (input input' : InputAt) (script : ScriptLines) : Type 0 where
-  pub text : List ℕ
-  pub whole : Whole input input' text
-  pub reads : script_of text ≡ Ok script
-
 -- what is so where the input was read and gave no script
 abbrev pub StoppedReading : Cause → InputAt → InputAt → Type 0
 StoppedReading BadArguments input input' = ⊥
@@ -152,14 +173,19 @@ StoppedReading OverBudget input input' =
     IfSome input.left (λ left. script_max < length left) × TookTooMuch input input' × (input'.faults ≡ input.faults)
 
 -- the text is what is printed of a run of the script that keeps the promise of a drill
-abbrev pub IsPrinted : ScriptLines → List ℕ → Type 0
-IsPrinted script text = (run : List Mark) × IsDrill script run × (text ≡ printed script run)
+abbrev pub IsPrinted : ScriptSource → ScriptLines → List ℕ → Type 0
+IsPrinted source script text = (tree : Tree) × (run : List Mark) × IsRunOf tree script run × (text ≡ printed source tree script run)
 
--- the input says a script, and this is printed of a run of it
-pub record Shown (input input' : InputAt) (text : List ℕ) : Type 0 where
+-- a script was read or made, and this is printed of a run of it
+pub record Shown (source : ScriptSource) (input input' : InputAt) (text : List ℕ) : Type 0 where
   pub script : ScriptLines
-  pub reads : ReadsScript input input' script
-  pub prints : IsPrinted script text
+  pub given : IsGiven source input input' script
+  pub prints : IsPrinted source script text
+
+-- no script was had, or memory ran out when it was run
+abbrev pub StoppedBefore : ScriptSource → Cause → InputAt → InputAt → Type 0
+StoppedBefore sources.Input cause input input' = StoppedReading cause input input'
+StoppedBefore (sources.Seed seed clients calls) cause input input' = (cause ≡ NoMemory) × (input' ≡ input)
 
 -- What is written for a cause. The text with the number of a line needs memory; where there is none, that is written.
 abbrev pub ReportsFailure : Cause → ℕ → SinkAt → SinkAt → Type 0
@@ -183,7 +209,7 @@ pub record Ends (arguments : List (List ℕ)) (status : ℕ) (input input' : Inp
   pub done : status ≡ statuses.done → Done arguments input input' out out' × Silent err err'
   -- the arguments are not those of a command, and nothing else happened
   pub arguments_bad : status ≡ statuses.bad_arguments → Stopped BadArguments arguments input input' out out' × Wrote err err' (codes "bad words\n")
-  -- want of memory
+  -- memory ran out
   pub memory : status ≡ statuses.no_memory → Stopped NoMemory arguments input input' out out' × Wrote err err' memory_text
   -- the number of the first invalid line
   pub script : status ≡ statuses.bad_script → (number : ℕ) × Stopped (BadScript number) arguments input input' out out' × Wrote err err' (bad_line_text number)
@@ -196,4 +222,4 @@ pub record Ends (arguments : List (List ℕ)) (status : ℕ) (input input' : Inp
   -- the status is the one that is due for arguments and input, unless memory ran out or a fault count rose
   pub due : (text : List ℕ) → input.left ≡ Some text → (status ≡ due_status arguments text) ⊎ ((status ≡ statuses.no_memory) ⊎ (status ≡ statuses.fault))
   -- arguments that are not those of a command are reported, whatever the input
-  pub arguments_due : is_drill arguments ≡ false → (status ≡ statuses.bad_arguments) ⊎ (status ≡ statuses.fault)
+  pub arguments_due : source_of arguments ≡ None → (status ≡ statuses.bad_arguments) ⊎ (status ≡ statuses.fault)

@@ -1,15 +1,21 @@
 //! The command: from the arguments to what is printed, and the status.
 
-ghost use Rattle.std.specs.Prelude.{◌≡◌, true, false, map, IfOk, MatchResult};
+ghost use Rattle.std.specs.Prelude.{◌≡◌, ◌<◌, ◌≤◌, true, false, map, IfOk, MatchResult};
 ghost use Rattle.std.specs.String.{string_bytes};
-ghost use Rattle.nr_top.specs.Arguments.{is_drill};
+ghost use Rattle.nr_script.specs.Generator.{made_script};
+ghost use Rattle.nr_script.specs.Limits.{clients_max, calls_max};
+ghost use Rattle.nr_top.specs.declared.words.ScriptSource.TheVariants as sources;
+ghost use Rattle.nr_top.specs.Arguments.{HasRanges};
 ghost use Rattle.nr_top.specs.Causes.{cause_of};
-ghost use Rattle.nr_top.specs.Ends.{Ends, Done, IsPrinted, ReadsScript, Stopped, StoppedReading, Shown, Reported, ReportsFailure, input_at, sink_at};
+ghost use Rattle.nr_top.specs.Ends.{Ends, Done, IsPrinted, ReadsScript, Stopped, StoppedBefore, StoppedReading, Shown, Reported, ReportsFailure, input_at, sink_at};
 ghost use Rattle.nr_top.specs.Ends.Cause.{NoMemory, BadArguments, BadScript};
 
 use crate::status::{BAD_ARGUMENTS, BAD_SCRIPT, DONE, FAULT, NO_MEMORY, OVER_BUDGET};
+use crate::words::{ScriptSource, source_of};
+use nr_drill::{shown, summary};
 use nr_outside::{ReadEnd, Sink, Source, read_whole, write_whole};
-use nr_world::{SCRIPT_MAX, Script, ScriptFault, read_script, run_world, shown};
+use nr_script::{SCRIPT_MAX, Script, ScriptFault, make_script, read_script};
+use nr_world::run_world;
 use nr_xdr::{Memory, Octets};
 use std::alloc::Global;
 
@@ -61,13 +67,6 @@ impl From<Memory> for Failure {
     }
 }
 
-/// Whether the arguments are those of a drill: the name under which the program was started, and `drill`.
-fn is_drill(arguments: &[String]) -> bool
-    ensures { result ≡ is_drill (map string_bytes arguments.now) }
-{
-    arguments.len() == 2 && arguments[1].as_str() == "drill"
-}
-
 /// Reads a script.
 fn read_drill<I: Source>(alloc: Global, input: &mut I) -> Result<Script, Failure>
     ensures { MatchResult result
@@ -81,28 +80,64 @@ fn read_drill<I: Source>(alloc: Global, input: &mut I) -> Result<Script, Failure
     Ok(script)
 }
 
-/// Runs a script, and gives what is printed of that.
-fn printed_drill(alloc: Global, script: &Script) -> Result<Octets, Memory>
-    ensures { IfOk result (λ text. IsPrinted script.now text) }
+/// Runs a script, and gives what is shown of that.
+fn shown_drill(alloc: Global, script: &Script) -> Result<Octets, Memory>
+    ensures { IfOk result (λ text. IsPrinted sources.Input script.now text) }
 {
     let report = run_world(alloc, script)?;
     shown(alloc, &report)
 }
 
-/// Reads a script and runs it, and gives what is printed of that.
-fn shown_drill<I: Source>(alloc: Global, input: &mut I) -> Result<Octets, Failure>
+/// Reads a script and runs it, and gives what is shown of that.
+fn read_and_run<I: Source>(alloc: Global, input: &mut I) -> Result<Octets, Failure>
     ensures { MatchResult result
-        (λ text. Shown (input_at (I.left input.old) (I.given input.old) (I.faults input.old))
+        (λ text. Shown sources.Input (input_at (I.left input.old) (I.given input.old) (I.faults input.old))
         (input_at (I.left input.new) (I.given input.new) (I.faults input.new)) text)
         (λ stop. StoppedReading (cause_of stop) (input_at (I.left input.old) (I.given input.old) (I.faults input.old))
         (input_at (I.left input.new) (I.given input.new) (I.faults input.new))) }
 {
     let script = read_drill(alloc, input)?;
-    let printed = printed_drill(alloc, &script)?;
+    let printed = shown_drill(alloc, &script)?;
     Ok(printed)
 }
 
-/// Reads a script, runs it, and prints what happened.
+/// Makes a script from a seed and runs it, and gives the line of sums.
+fn make_and_run(alloc: Global, seed: u64, clients: u32, calls: u64) -> Result<Octets, Memory>
+    requires { (0 < clients) × (clients ≤ clients_max) × (calls ≤ calls_max) }
+    ensures { IfOk result (λ text. IsPrinted (sources.Seed seed clients calls) (made_script seed clients calls) text) }
+{
+    let script = make_script(alloc, seed, clients, calls)?;
+    let report = run_world(alloc, &script)?;
+    summary(alloc, &report)
+}
+
+/// Has a script and runs it, and gives what is printed of that.
+fn printed_drill<I: Source>(
+    alloc: Global,
+    source: ScriptSource,
+    input: &mut I,
+) -> Result<Octets, Failure>
+    requires { HasRanges source }
+    ensures { MatchResult result
+        (λ text. Shown source (input_at (I.left input.old) (I.given input.old) (I.faults input.old))
+        (input_at (I.left input.new) (I.given input.new) (I.faults input.new)) text)
+        (λ stop. StoppedBefore source (cause_of stop) (input_at (I.left input.old) (I.given input.old) (I.faults input.old))
+        (input_at (I.left input.new) (I.given input.new) (I.faults input.new))) }
+{
+    match source {
+        ScriptSource::Input => read_and_run(alloc, input),
+        ScriptSource::Seed {
+            seed,
+            clients,
+            calls,
+        } => match make_and_run(alloc, seed, clients, calls) {
+            Ok(printed) => Ok(printed),
+            Err(_) => Err(Failure::Memory),
+        },
+    }
+}
+
+/// Reads or makes a script, runs it, and prints what happened.
 fn drill<I: Source, O: Sink>(
     alloc: Global,
     arguments: &[String],
@@ -117,10 +152,10 @@ fn drill<I: Source, O: Sink>(
         (input_at (I.left input.new) (I.given input.new) (I.faults input.new))
         (sink_at (O.taken out.old) (O.faults out.old)) (sink_at (O.taken out.new) (O.faults out.new))) }
 {
-    if !is_drill(arguments) {
+    let Some(source) = source_of(arguments) else {
         return Err(Failure::Arguments);
-    }
-    let printed = shown_drill(alloc, input)?;
+    };
+    let printed = printed_drill(alloc, source, input)?;
     match write_whole(out, printed.as_slice()) {
         Ok(()) => Ok(()),
         Err(_) => Err(Failure::Output),
@@ -176,8 +211,9 @@ pub fn refuse<E: Sink>(err: &mut E, memory: bool) -> u8
 }
 
 /// Runs the command, and gives the status. The arguments are the name under which the program was started, and the
-/// command. Today there is one, `drill`: it reads a script from `input`, runs it, and prints on `out` what happened.
-/// Where the command isn't done, `err` takes the reason.
+/// command with its options. Today there is one command: `drill` reads a script from `input`, runs it, and prints on `out`
+/// what happened; `drill --seed N --clients C --calls K` makes a script from a seed, and prints one line of sums. If the
+/// command isn't done, `err` takes the reason.
 ///
 /// The record `Ends` of the specs says what each status means. 0: the script was run, the run keeps the promise of a
 /// drill, and it was printed. 1: the arguments are not those of a command. 2: memory ran out, and nothing was printed.

@@ -6,5 +6,6 @@
 
 mod command;
 pub mod status;
+mod words;
 
 pub use command::{refuse, run};

@@ -1,5 +1,5 @@
-//! Tests of the drill (`nr_world`) and of the program's top call (`nr_top`): printed lines, logs and statuses whose bytes
-//! were worked out by hand from the RFCs.
+//! Tests of the program's top call (`nr_top`): statuses, and what drills print. The bytes were worked out by hand from the
+//! RFCs, or recorded from an implementation that isn't this one (conformance/scripts.json.gz).
 //!
 //! They stand in a crate of their own, above the crates that they test, since a crate with tests is proved twice.
 #![tactic(auto)]
@@ -7,6 +7,8 @@
 #[cfg(test)]
 mod compare;
 #[cfg(test)]
-mod top;
+mod drills;
 #[cfg(test)]
-mod world;
+mod forms;
+#[cfg(test)]
+mod top;

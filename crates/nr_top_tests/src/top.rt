@@ -38,7 +38,7 @@ type Row = (
     (u8, &'static [u8], &'static [u8]),
 );
 
-static ROWS: [Row; 16] = [
+static ROWS: [Row; 22] = [
     (DRILL, SCRIPT, NONE, (DONE, PRINTED, b"")),
     (
         DRILL,
@@ -63,7 +63,7 @@ static ROWS: [Row; 16] = [
         DRILL,
         b"clients 1 credits 16\ncall 1 auto nfs 0 -\n",
         NONE,
-        (BAD_SCRIPT, b"", b"bad line 3\n"),
+        (DONE, b"1 1 open\njournal 0\n", b""),
     ),
     (
         DRILL,
@@ -119,6 +119,80 @@ static ROWS: [Row; 16] = [
         [&[], &[0], &[]],
         (FAULT, b"", b"output fault\n"),
     ),
+    (
+        &[
+            "nfsrdma",
+            "drill",
+            "--seed",
+            "1",
+            "--clients",
+            "1",
+            "--calls",
+            "1",
+        ],
+        b"",
+        NONE,
+        (DONE, b"calls 1 done 1 refused 0 journal 1 bytes 160\n", b""),
+    ),
+    (
+        &[
+            "nfsrdma",
+            "drill",
+            "--calls",
+            "1",
+            "--seed",
+            "1",
+            "--clients",
+            "1",
+        ],
+        b"",
+        NONE,
+        (DONE, b"calls 1 done 1 refused 0 journal 1 bytes 160\n", b""),
+    ),
+    (
+        &["nfsrdma", "drill", "--seed", "1", "--clients", "1"],
+        b"",
+        NONE,
+        (BAD_ARGUMENTS, b"", b"bad words\n"),
+    ),
+    (
+        &[
+            "nfsrdma",
+            "drill",
+            "--seed",
+            "1",
+            "--clients",
+            "17",
+            "--calls",
+            "1",
+        ],
+        b"",
+        NONE,
+        (BAD_ARGUMENTS, b"", b"bad words\n"),
+    ),
+    (
+        &[
+            "nfsrdma",
+            "drill",
+            "--seed",
+            "1",
+            "--clients",
+            "1",
+            "--calls",
+            "0",
+        ],
+        b"",
+        NONE,
+        (BAD_ARGUMENTS, b"", b"bad words\n"),
+    ),
+    (
+        &[
+            "nfsrdma", "drill", "--seed", "1", "--seed", "1", "--calls", "1",
+        ],
+        b"",
+        NONE,
+        (BAD_ARGUMENTS, b"", b"bad words\n"),
+    ),
     (DRILL, SCRIPT, [&[0], &[], &[0]], (FAULT, b"", b"")),
 ];
 
@@ -160,6 +234,27 @@ fn same_run(
     let status = run(alloc, arguments, &mut input, &mut out, &mut err);
     drop(input);
     same(rt, row, (status, out.bytes(), err.bytes()), want);
+}
+
+/// Runs a script, and compares what is printed.
+pub(crate) fn same_output(
+    rt: &impl Abort,
+    alloc: Global,
+    row: usize,
+    script: &[u8],
+    printed: &[u8],
+) {
+    let arguments = strings(rt, alloc, DRILL);
+    let input = script.to_vec(alloc).expect(rt, "memory");
+    same_run(
+        rt,
+        alloc,
+        row,
+        &arguments,
+        input,
+        NONE,
+        (DONE, printed, b"".as_slice()),
+    );
 }
 
 #[test]
@@ -206,4 +301,55 @@ fn the_longest_input(rt: HostRuntime) {
         let want = (*status, b"".as_slice(), *text);
         long_run(&rt, rt.alloc(), row, *len, want);
     }
+}
+
+const SEED: &[&str] = &[
+    "nfsrdma",
+    "drill",
+    "--seed",
+    "14769",
+    "--clients",
+    "3",
+    "--calls",
+    "100",
+];
+
+/// What a drill of a made script prints.
+fn line_of(rt: &impl Abort, alloc: Global) -> Vec<u8> {
+    let arguments = strings(rt, alloc, SEED);
+    let mut input = source(rt, alloc, Vec::new(alloc), &[]);
+    let mut out = sink(rt, alloc, &[]);
+    let mut err = sink(rt, alloc, &[]);
+    let status = run(alloc, &arguments, &mut input, &mut out, &mut err);
+    drop(input);
+    same(rt, 0, (status, err.bytes()), (DONE, b"".as_slice()));
+    out.bytes().to_vec(alloc).expect(rt, "memory")
+}
+
+/// The number after this word of a line.
+fn number_after(rt: &impl Abort, line: &str, word: &str) -> u64 {
+    let mut is_next = false;
+    for token in line.split_whitespace() {
+        if is_next {
+            return u64::from(token.parse::<u32>().expect(rt, "number"));
+        }
+        is_next = token == word;
+    }
+    panic!(rt; "no {word}")
+}
+
+#[test]
+fn a_made_script(rt: HostRuntime) {
+    let line = line_of(&rt, rt.alloc());
+    let again = line_of(&rt, rt.alloc());
+    same(&rt, 0, again.as_slice(), line.as_slice());
+    let line = str::from_utf8(line.as_slice()).expect(&rt, "text");
+    same(&rt, 1, number_after(&rt, line, "calls"), 100);
+    let refused = number_after(&rt, line, "refused");
+    same(
+        &rt,
+        2,
+        number_after(&rt, line, "done"),
+        100 - refused.min(100),
+    );
 }

@@ -2,7 +2,7 @@ use Rattle.std.proofs.Common.{map}
 use Rattle.std.specs.String.{string_bytes}
 use Rattle.nr_top.specs.Causes.{cause_of}
 use Rattle.nr_top.specs.Ends.{input_at, sink_at}
-use Rattle.nr_top.proofs.Endings.{ends_of}
+use Rattle.nr_top.proofs.Endings.{done_ends, ends_of}
 use Rattle.nr_top.proofs.command.run.Goals as goal
 
 pub returns-in-Err : goal.returns-in-Err
@@ -15,3 +15,13 @@ returns-in-Err g c =
     (sink_at (g.E.Sink.taken c.args.err.now) (g.E.Sink.faults c.args.err.now))
     (sink_at (g.E.Sink.taken c.report_failure.new.err) (g.E.Sink.faults c.report_failure.new.err))
     c.in-Err.ensures c.report_failure.ensures
+
+pub returns-in-Ok : goal.returns-in-Ok
+returns-in-Ok g c =
+    done_ends (map string_bytes c.args.arguments.now)
+    (input_at (g.I.Source.left c.args.input.now) (g.I.Source.given c.args.input.now) (g.I.Source.faults c.args.input.now))
+    (input_at (g.I.Source.left c.drill.new.input) (g.I.Source.given c.drill.new.input) (g.I.Source.faults c.drill.new.input))
+    (sink_at (g.O.Sink.taken c.args.out.now) (g.O.Sink.faults c.args.out.now))
+    (sink_at (g.O.Sink.taken c.drill.new.out) (g.O.Sink.faults c.drill.new.out))
+    (sink_at (g.E.Sink.taken c.args.err.now) (g.E.Sink.faults c.args.err.now))
+    c.in-Ok.ensures

@@ -1,8 +1,5 @@
+use Rattle.nr_top.proofs.Endings.{printed_text}
 use Rattle.nr_top.proofs.command.shown_drill.Goals as goal
 
 pub returns : goal.returns
-returns g c = record {
-  script = c.in_ok-script.script;
-  reads = c.in_ok-script.ensures;
-  prints = c.in_ok-printed.ensures;
-}
+returns c = printed_text c.shown.result c.args.script.now c.in_ok-report.report c.in_ok-report.ensures c.shown.ensures

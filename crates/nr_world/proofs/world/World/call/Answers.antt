@@ -1,10 +1,14 @@
-use Rattle.std.proofs.Common.{sym, subst}
-use Rattle.nr_world.specs.Driver.{State}
-use Rattle.nr_world.specs.Stands.{Called}
-use Rattle.nr_world.proofs.Rounds.{called_by}
+use Rattle.std.specs.Prelude.{◌-◌}
+use Rattle.std.proofs.Common.{◌≡◌, ℕ, ◌<◌, arith, length, ◌∙◌, get_or}
+use Rattle.nr_rpc.specs.declared.cred.Cred.{Cred}
+use Rattle.nr_rpc.specs.declared.cred.Cred.TheVariants as creds
+use Rattle.std.proofs.lemmas.List.{get_or_default}
 use Rattle.nr_world.proofs.world.World.call.Goals as goal
 
 pub returns : goal.returns
 returns c =
-    let old = c.args.self.now in
-    subst (λ (s : State). Called old s) (sym c.in_ok-ask.ensures) (called_by old c.requires.stands c.requires.quiet c.requires.room)
+    let lt : c.args.client - 1 < length c.args.self.now.creds.items = omega (arith, c.requires.0, c.requires.1) in
+    let cred : c.in_ok-cred.cred ≡ get_or c.args.self.now.creds.items (c.args.client - 1) creds.None =
+    c.in_ok-cred.ensures ∙ c.index.ensures ∙ get_or_default c.args.self.now.creds.items (c.args.client - 1) c.index.result.now creds.None lt in
+    let args = c.in-Ok.ensures in
+    cc

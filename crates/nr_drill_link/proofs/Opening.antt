@@ -1,0 +1,78 @@
+-- A link opens.
+use Rattle.std.specs.List.{AllByRecursion}
+use Rattle.std.proofs.Common.{◌≡◌, ◌≢◌, ℕ, ◌+◌, arith, List, [], ◌∷◌, ◌++◌, length, drop, Option, None, Some, refl, ap, sym, subst, ◌∙◌, length-drop}
+use Rattle.nr_link.specs.declared.end.End.{End}
+use Rattle.nr_link.specs.declared.end.End.TheVariants as ends
+use Rattle.nr_reduce.specs.declared.mark.LinkParameters.{LinkParameters}
+use Rattle.nr_reduce.specs.declared.mark.Mark.{Mark}
+use Rattle.nr_responder.specs.ResponderState.{end_of}
+use Rattle.nr_drill.specs.Drill.{Setting, Drill, Pipes, pipes_of, settled, after_up, after_down, after_all_up, after_all_down, after_opening}
+use Rattle.nr_drill.proofs.Followed.{link_of}
+use Rattle.nr_drill_link.specs.DrillLinkState.{DrillLinkState}
+use Rattle.nr_drill_link.specs.LinkStands.{awaited_lines, LinkStands}
+use Rattle.nr_drill_link.specs.Steps.{Goes, StandsAt, Opens, IsBeforeOpening, IsFresh, exchanged, opened_with, mark_link}
+use Rattle.nr_drill_link.proofs.Ends.{represents_of}
+use Rattle.nr_drill_link.proofs.Apart.{all_elsewhere, stands_by, same_link}
+
+none_awaited : (link : ℕ) → [] ≡ awaited_lines link []
+unfolding awaited_lines
+none_awaited link = refl
+
+abbrev no_marks : Drill → Drill
+no_marks d = record d { marks = [] }
+
+none_apart : (link : ℕ) (run : List Mark) → AllByRecursion (λ (mark : Mark). mark_link mark ≢ link) run → AllByRecursion (λ (mark : Mark). link_of mark ≢ link) run
+none_apart link [] h = tt
+none_apart link (mark ∷ run) h = ((λ e. h.0 (sym (same_link mark) ∙ e)), none_apart link run h.1)
+
+not_memory : (o : Option End) → o ≡ None → o ≢ Some ends.Memory
+not_memory o none e = absurd (let no = sym none ∙ e in cc)
+
+pub fresh_stands : (s : Setting) (link credits : ℕ) (d : Drill) (v : DrillLinkState) → IsFresh link credits v → s.opened link ≡ opened_with credits → IsBeforeOpening link d → LinkStands s link d v
+fresh_stands s link credits d v f opened before =
+    let o : LinkParameters = s.opened link in
+    let first : LinkStands s link (no_marks d) v = record {
+      number = f.number;
+      first = before.first;
+      room = before.room;
+      pipes = f.pipes ∙ sym before.pipes;
+      dropped = f.stands;
+      client = f.client o link (ap (λ (p : LinkParameters). p.first_xid) opened) (ap (λ (p : LinkParameters). p.first_stag) opened) (ap (λ (p : LinkParameters). p.wished) opened);
+      server = represents_of o link [] v.server (not_memory (end_of v.server) f.server_live) (f.server o link (ap (λ (p : LinkParameters). p.granted) opened));
+      client_memory = not_memory v.client.state.side.ended f.client_live;
+      server_memory = not_memory (end_of v.server) f.server_live;
+      lines = f.lines;
+      awaited = f.awaited ∙ none_awaited link;
+    } in
+    stands_by s link (record d { marks = [] ++ d.marks }) d v refl refl refl
+    (all_elsewhere s link (no_marks d) v d.marks (none_apart link d.marks before.none) first)
+
+-- ---- All that waits
+
+waiting_len : (log : List ℕ) (place n : ℕ) → place + n ≡ length log → n ≡ length (drop place log)
+waiting_len log place n all = (let e = length-drop place log in omega (arith, all, e))
+
+pub all_up_goes : (v v2 : DrillLinkState) (run run2 : List Mark) (log : List ℕ) (place n : ℕ) → v.pipes.up ≡ drop place log → place + n ≡ length log → Goes (λ s link. after_up s link n) v v2 run run2 → Goes after_all_up v v2 run run2
+all_up_goes v v2 run run2 log place n is all goes s link d at =
+    let count : n ≡ length (pipes_of link d).up = waiting_len log place n all ∙ ap length (sym is) ∙ ap (λ (p : Pipes). length p.up) at.stands.pipes in
+    subst (λ (k : ℕ). StandsAt s link (after_up s link k d) v2 run2) count (goes s link d at)
+
+pub all_down_goes : (v v2 : DrillLinkState) (run run2 : List Mark) (log : List ℕ) (place n : ℕ) → v.pipes.down ≡ drop place log → place + n ≡ length log → Goes (λ s link. after_down s link n) v v2 run run2 → Goes after_all_down v v2 run run2
+all_down_goes v v2 run run2 log place n is all goes s link d at =
+    let count : n ≡ length (pipes_of link d).down = waiting_len log place n all ∙ ap length (sym is) ∙ ap (λ (p : Pipes). length p.down) at.stands.pipes in
+    subst (λ (k : ℕ). StandsAt s link (after_down s link k d) v2 run2) count (goes s link d at)
+
+-- ---- The hellos go to both ends
+
+opening_is : (s : Setting) (link : ℕ) (d : Drill) → after_opening s link d ≡ after_all_down s link (after_all_up s link (settled s link d))
+unfolding after_opening
+opening_is s link d = refl
+
+pub opens : (link credits : ℕ) (v v2 : DrillLinkState) (run run2 : List Mark) → IsFresh link credits v → Goes exchanged v v2 run run2 → Opens link credits v2 run run2
+opens link credits v v2 run run2 f goes s d opened before marks_are replies =
+    let first : StandsAt s link d v run = record {
+      stands = fresh_stands s link credits d v f opened before;
+      marks = marks_are;
+      replies = replies;
+    } in
+    subst (λ (x : Drill). StandsAt s link x v2 run2) (sym (opening_is s link d)) (goes s link d first)

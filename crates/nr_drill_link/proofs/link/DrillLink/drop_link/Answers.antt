@@ -1,0 +1,17 @@
+use Rattle.std.proofs.Common.{ap}
+use Rattle.nr_outside.specs.Pipe.{waiting_bytes}
+use Rattle.nr_drill_link.specs.DrillLinkState.{DrillLinkState}
+use Rattle.nr_drill_link.specs.Views.{link_view}
+use Rattle.nr_drill_link.proofs.Standing.{on_ok}
+use Rattle.nr_drill_link.proofs.Outputs.{drops_to}
+use Rattle.nr_drill_link.proofs.link.DrillLink.drop_link.Goals as goal
+
+pub invariant_of-self : goal.invariant_of-self
+invariant_of-self c = c.self.invariant
+
+pub returns : goal.returns
+returns c =
+    let v : DrillLinkState = link_view c.self.inside.number c.self.inside.client c.self.inside.server.side c.self.inside.up c.self.inside.down c.self.inside.dropped c.self.inside.lines c.self.inside.awaited.items in
+    on_ok c.add_mark.result _ _
+    (λ more. drops_to v c.args.self.now c.new.result c.new-2.result c.args.marks.now.items _ c.self.view_is (ap waiting_bytes c.new.ensures) (ap waiting_bytes c.new-2.ensures) more)
+    c.add_mark.ensures

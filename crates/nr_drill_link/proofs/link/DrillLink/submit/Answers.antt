@@ -1,0 +1,22 @@
+use Rattle.std.proofs.Common.{◌∙◌, [], ◌∷◌, ◌++◌, refl, ap}
+use Rattle.nr_reduce.specs.declared.mark.Mark.TheVariants as marks
+use Rattle.nr_drill_link.specs.DrillLinkState.{DrillLinkState}
+use Rattle.nr_drill_link.proofs.GivenCalls.{submits}
+use Rattle.nr_drill_link.proofs.Standing.{on_ok}
+use Rattle.nr_drill_link.proofs.link.DrillLink.submit.Goals as goal
+
+pub answer-requires : goal.answer-requires
+answer-requires c = c.requires
+
+pub same-self : goal.same-self
+same-self c = refl
+
+pub same-self-in-Err-add_mark : goal.same-self-in-Err-add_mark
+same-self-in-Err-add_mark c = refl
+
+pub returns-in-Ok-add_mark : goal.returns-in-Ok-add_mark
+returns-in-Ok-add_mark c =
+    on_ok c.settle.result _ _
+    (λ settles. submits c.args.self.now c.answer.new.self c.settle.new.self c.args.call c.args.form c.in-Ok.answer c.args.marks.now.items c.add_mark.new.marks.items c.settle.new.marks.items c.in-Ok.ensures
+    (c.in-Ok-add_mark.ensures ∙ ap (λ (v : DrillLinkState). c.args.marks.now.items ++ marks.Submit v.number c.args.call c.args.form c.in-Ok.answer ∷ []) c.self.view_is) settles)
+    c.settle.ensures

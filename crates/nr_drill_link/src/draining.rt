@@ -1,0 +1,82 @@
+//! What an end has to write.
+
+ghost use Rattle.std.specs.Prelude.{◌≡◌, ◌∷◌, ◌++◌, IfOk, OnOk, [], length, take};
+ghost use Rattle.nr_outside.specs.Pipe.{waiting_bytes};
+ghost use Rattle.nr_endpoint.specs.FedBytes.{fed_bytes};
+ghost use Rattle.nr_reduce.specs.declared.mark.Mark.TheVariants as mark_kinds;
+ghost use Rattle.nr_requester.specs.Fed.{fed_bytes as client_fed_bytes};
+ghost use Rattle.nr_requester.specs.OpenCalls.{KeepsTickets};
+ghost use Rattle.nr_drill_link.specs.Steps.{ClientWrites, ServerWrites};
+
+use nr_outside::{MemSink, Pipe, Sink};
+use nr_reduce::Mark;
+use nr_requester::Requester;
+use nr_responder::Responder;
+use nr_wire::Side;
+use nr_xdr::{Memory, Octets};
+use std::alloc::Global;
+
+/// All that a client has to write.
+pub(crate) fn client_output(alloc: Global, client: &mut Requester) -> Result<Octets, Memory>
+    ensures writes { IfOk result (λ bytes. ClientWrites client.old client.new bytes) }
+    ensures fed { client_fed_bytes client.new ≡ client_fed_bytes client.old }
+    ensures tickets { KeepsTickets client.old.state client.new.state }
+{
+    let mut sink = MemSink::new(alloc, Vec::new(alloc));
+    match client.drain_into(&mut sink) {
+        Ok(()) => Octets::from_slice(alloc, sink.bytes()),
+        Err(_) => Err(Memory),
+    }
+}
+
+/// All that a server has to write.
+pub(crate) fn server_output(alloc: Global, server: &mut Responder) -> Result<Octets, Memory>
+    ensures writes { IfOk result (λ bytes. ServerWrites server.old.side server.new.side bytes) }
+    ensures fed { fed_bytes server.new.side.link ≡ fed_bytes server.old.side.link }
+{
+    let mut sink = MemSink::new(alloc, Vec::new(alloc));
+    match server.drain_into(&mut sink) {
+        Ok(()) => Octets::from_slice(alloc, sink.bytes()),
+        Err(_) => Err(Memory),
+    }
+}
+
+/// Puts bytes after those that wait in a pipe.
+pub(crate) fn put(pipe: &mut Pipe, bytes: &[u8]) -> Result<(), Memory>
+    ensures { OnOk result (waiting_bytes pipe.new ≡ waiting_bytes pipe.old ++ bytes.now) }
+{
+    let _waiting = pipe.waiting();
+    match pipe.write(bytes) {
+        Ok(_) => Ok(()),
+        Err(_) => Err(Memory),
+    }
+}
+
+/// Adds a mark to those of the drill.
+pub(crate) fn add_mark(marks: &mut Vec<Mark>, mark: Mark) -> Result<(), Memory>
+    ensures { OnOk result (marks.new.items ≡ marks.old.items ++ mark ∷ []) }
+{
+    match marks.push(mark) {
+        Ok(()) => Ok(()),
+        Err(failed) => {
+            drop(failed);
+            Err(Memory)
+        }
+    }
+}
+
+/// Puts what an end wrote after the bytes that wait in its pipe, and adds the mark of it.
+pub(crate) fn put_output(
+    pipe: &mut Pipe,
+    marks: &mut Vec<Mark>,
+    link: u32,
+    side: Side,
+    bytes: Octets,
+) -> Result<(), Memory>
+    ensures { OnOk result ((waiting_bytes pipe.new ≡ waiting_bytes pipe.old ++ bytes) × (marks.new.items ≡ marks.old.items ++ mark_kinds.Wrote link side bytes ∷ [])) }
+{
+    match put(pipe, bytes.as_slice()) {
+        Ok(()) => add_mark(marks, Mark::Wrote { link, side, bytes }),
+        Err(memory) => Err(memory),
+    }
+}

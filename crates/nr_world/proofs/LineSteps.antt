@@ -1,0 +1,218 @@
+-- What a line makes of a world, and lines one after another.
+use Rattle.std.specs.Prelude.{slice_set, slice_index_or, ◌-◌}
+use Rattle.std.specs.List.{AllByRecursion, list_all}
+use Rattle.std.proofs.Common.{◌≡◌, Bool, false, ℕ, ◌+◌, ◌<◌, ◌≤◌, ◌^◌, arith, zero, suc, List, [], ◌∷◌, length, drop, add-zero, add-one, get_or, refl, sym, ap, subst, ◌∙◌}
+use Rattle.std.proofs.lemmas.List.{length-set}
+use Rattle.std.proofs.Math.Seq.{drop-cons}
+use Rattle.std.proofs.Math.ListN.{drop_of_length-le}
+use Rattle.nr_reduce.specs.declared.mark.Entry.{Entry}
+use Rattle.nr_reduce.specs.History.{is_dropped}
+use Rattle.nr_rpc.specs.Credential.{CanWriteCred}
+use Rattle.nr_rpc.specs.declared.cred.Cred.{Cred}
+use Rattle.nr_rpc.specs.declared.cred.Cred.TheVariants as creds
+use Rattle.nr_tree.specs.Tree.{Tree}
+use Rattle.nr_script.specs.declared.script.Opening.{Opening}
+use Rattle.nr_script.specs.declared.script.Line.{Line}
+use Rattle.nr_script.specs.declared.script.Line.TheVariants as lines
+use Rattle.nr_script.specs.Limits.{number_max}
+use Rattle.nr_script.specs.Script.{seconds_in}
+use Rattle.nr_drill.specs.Drill.{Setting, Drill, cred_of, with_cred, links_of, after_moves, after_round}
+use Rattle.nr_drill.specs.DrillSetup.{drill_setup}
+use Rattle.nr_drill.specs.Follows.{Drains, Makes, MakeAll, is_still}
+use Rattle.nr_drill.proofs.LessPlain.{plain_answers_calls}
+use Rattle.nr_drill.proofs.Followed.{cred_at, with_cred_at}
+use Rattle.nr_drill_link.specs.DrillLinkState.{DrillLinkState}
+use Rattle.nr_drill_link.specs.LinkStands.{LinkStands}
+use Rattle.nr_drill_link.specs.Steps.{ServerStands}
+use Rattle.nr_world.specs.declared.world.World.{World}
+use Rattle.nr_world.specs.Stands.{drill_setting, HasOpened, WorldStands, NoneDueBefore, Steps, StepsIfNoneDue, MakesLine, MakesLines}
+use Rattle.nr_world.specs.Within.{IsClient, IsWithin, AreWithin, CanMake, CanMakeAll}
+use Rattle.nr_world.proofs.Others.{link_stays}
+use Rattle.nr_world.proofs.Progress.{round_more}
+use Rattle.nr_world.proofs.SameServer.{up_leaves, down_leaves, submit_leaves, forget_leaves, revoke_leaves, drop_leaves, raw_leaves, work_clock, moves_clock}
+
+-- ===== what a line needs
+
+-- a client of the script has a link and a credential
+pub record HasClient (w : World) (client : ℕ) : Type 0 where
+  pub link : IsClient (length w.links.items) client
+  pub cred : CanWriteCred (slice_index_or w.creds.items (client - 1) creds.None)
+  pub creds : IsClient (length w.creds.items) client
+
+has_client : (tree : Tree) (opening : Opening) (d : Drill) (w : World) (client : ℕ) → WorldStands tree opening d w → IsClient opening.clients client → HasClient w client
+has_client tree opening d w client h is = record {
+  link = (is.0, omega (arith, h.count, is.1));
+  creds = (is.0, omega (arith, h.creds_count, is.1));
+  cred = cred_at w.creds.items (client - 1) h.creds_fit;
+}
+
+-- the client that a line names
+abbrev pub Names : Line → ℕ → Type 0
+Names (lines.Cred client cred) c = client ≡ c
+Names (lines.Call client form prog vers proc args) c = client ≡ c
+Names (lines.Up client most) c = client ≡ c
+Names (lines.Down client most) c = client ≡ c
+Names (lines.Work client) c = client ≡ c
+Names (lines.Tick more) c = ⊥
+Names (lines.Forget client number) c = client ≡ c
+Names (lines.Revoke client number) c = client ≡ c
+Names (lines.Drop client) c = client ≡ c
+Names (lines.Raw client side bytes) c = client ≡ c
+Names lines.Drain c = ⊥
+
+names_client : (clients seconds client : ℕ) (line : Line) → Names line client → IsWithin clients seconds line → IsClient clients client
+names_client clients seconds client (lines.Cred c cred) e h = subst (IsClient clients) e h.0
+names_client clients seconds client (lines.Call c form prog vers proc args) e h = subst (IsClient clients) e h
+names_client clients seconds client (lines.Up c most) e h = subst (IsClient clients) e h
+names_client clients seconds client (lines.Down c most) e h = subst (IsClient clients) e h
+names_client clients seconds client (lines.Work c) e h = subst (IsClient clients) e h
+names_client clients seconds client (lines.Tick more) e h = absurd e
+names_client clients seconds client (lines.Forget c number) e h = subst (IsClient clients) e h
+names_client clients seconds client (lines.Revoke c number) e h = subst (IsClient clients) e h
+names_client clients seconds client (lines.Drop c) e h = subst (IsClient clients) e h
+names_client clients seconds client (lines.Raw c side bytes) e h = subst (IsClient clients) e h
+names_client clients seconds client lines.Drain e h = absurd e
+
+pub client_of : (w : World) (line is : Line) (client : ℕ) → line ≡ is → Names is client → CanMake line w → HasClient w client
+client_of w line is client e names (tree, opening, d, stands, within) =
+    has_client tree opening d w client stands (names_client opening.clients d.seconds client is names (subst (IsWithin opening.clients d.seconds) e within))
+
+pub clock_of : (w : World) (line : Line) (more : ℕ) → line ≡ lines.Tick more → CanMake line w → w.seconds + more ≤ number_max
+clock_of w line more e (tree, opening, d, stands, within) =
+    let bound : d.seconds + more ≤ number_max = subst (IsWithin opening.clients d.seconds) e within in
+    subst (λ (n : ℕ). n + more ≤ number_max) (sym stands.seconds) bound
+
+-- ===== what a line makes
+
+-- a world with another clock, or with other credentials
+pub record IsAfterLine (w n : World) : Type 0 where
+  pub links : n.links.items ≡ w.links.items
+  pub marks : n.marks.items ≡ w.marks.items
+  pub server : n.server ≡ w.server
+
+others_same : (tree : Tree) (opening : Opening) (seconds : ℕ) (all : List Cred) (d : Drill) (w n : World) → WorldStands tree opening d w → IsAfterLine w n → n.seconds ≡ seconds → n.creds.items ≡ all →
+    length all ≡ opening.clients → AllByRecursion CanWriteCred all → WorldStands tree opening (record { marks = d.marks; pipes = d.pipes; seconds = seconds; creds = all }) n
+others_same tree opening seconds all d w n h a clock creds count fit =
+    let new : Drill = record { marks = d.marks; pipes = d.pipes; seconds = seconds; creds = all } in
+    record {
+      count = ap length a.links ∙ h.count;
+      links = λ link v first last. subst (λ (links : List DrillLinkState). LinkStands (drill_setting tree opening) link new (slice_index_or links (link - 1) v)) (sym a.links)
+          (link_stays (drill_setting tree opening) link d seconds all (slice_index_or w.links.items (link - 1) v) (h.links link v first last));
+      marks = a.marks ∙ h.marks;
+      replies = h.replies;
+      seconds = clock;
+      creds = creds;
+      creds_count = ap length creds ∙ count;
+      creds_fit = subst (AllByRecursion CanWriteCred) (sym creds) fit;
+      server = subst (ServerStands (drill_setup tree opening) new) (sym a.server) h.server;
+    }
+
+pub tick_makes : (more : ℕ) (w n : World) → IsAfterLine w n → n.seconds ≡ w.seconds + more → n.creds.items ≡ w.creds.items → MakesLine (lines.Tick more) w n
+tick_makes more w n a clock creds tree opening d h none = (
+  record d { seconds = d.seconds + more },
+  refl,
+  others_same tree opening (d.seconds + more) d.creds d w n h a (clock ∙ ap (λ (k : ℕ). k + more) h.seconds) (creds ∙ h.creds) (ap length (sym h.creds) ∙ h.creds_count) (subst (AllByRecursion CanWriteCred) h.creds h.creds_fit),
+)
+
+pub cred_makes : (client : ℕ) (cred : Cred) (w n : World) → CanWriteCred cred → IsAfterLine w n → n.seconds ≡ w.seconds → n.creds.items ≡ slice_set w.creds.items (client - 1) cred → MakesLine (lines.Cred client cred) w n
+cred_makes client cred w n fits a clock creds tree opening d h none = (
+  with_cred client cred d,
+  refl,
+  others_same tree opening d.seconds (slice_set d.creds (client - 1) cred) d w n h a (clock ∙ h.seconds) (creds ∙ ap (λ (all : List Cred). slice_set all (client - 1) cred) h.creds)
+      (length-set d.creds (client - 1) cred ∙ ap length (sym h.creds) ∙ h.creds_count)
+      (with_cred_at d.creds (client - 1) cred (subst (AllByRecursion CanWriteCred) h.creds h.creds_fit) fits),
+)
+
+pub cred_fits : (w : World) (client : ℕ) (cred : Cred) → CanMake (lines.Cred client cred) w → CanWriteCred cred
+cred_fits w client cred (tree, opening, d, stands, within) = within.1
+
+-- a step of one link is a line
+pub step_makes : (line : Line) (step : Setting → Drill → Drill) (w n : World) → ((s : Setting) (clients : ℕ) (d : Drill) → Makes s clients line d (step s d)) → Steps step w n → MakesLine line w n
+step_makes line step w n is steps tree opening d h none = (step (drill_setting tree opening) d, is (drill_setting tree opening) opening.clients d, steps tree opening d h)
+
+pub step_makes_if_none_due : (line : Line) (step : Setting → Drill → Drill) (w n : World) → ((s : Setting) (clients : ℕ) (d : Drill) → Makes s clients line d (step s d)) → StepsIfNoneDue step w n → MakesLine line w n
+step_makes_if_none_due line step w n is steps tree opening d h none = (step (drill_setting tree opening) d, is (drill_setting tree opening) opening.clients d, steps tree opening d h none)
+
+pub line_is : (old new : World) (line is : Line) → line ≡ is → MakesLine is old new → MakesLine line old new
+line_is old new line is e h = subst (λ (l : Line). MakesLine l old new) (sym e) h
+
+-- ===== lines, one after another
+
+-- lines that are made so far, and what is left
+abbrev pub LinesSoFar : World → World → List Line → ℕ → Type 0
+LinesSoFar old now all at = CanMakeAll (drop at all) now × ((tree : Tree) (opening : Opening) (d : Drill) → WorldStands tree opening d old → NoneDueBefore (drill_setting tree opening) opening.clients all d →
+    (mid : Drill) × WorldStands tree opening mid now × NoneDueBefore (drill_setting tree opening) opening.clients (drop at all) mid
+    × ((last : Drill) → MakeAll (drill_setting tree opening) opening.clients (drop at all) mid last → MakeAll (drill_setting tree opening) opening.clients all d last))
+
+-- the clock after a line
+round_clock : (s : Setting) (links : List ℕ) (d : Drill) → (after_round s links d).seconds ≡ d.seconds
+round_clock s [] d = refl
+round_clock s (link ∷ links) d = round_clock s links (after_moves s link d) ∙ moves_clock s link d
+
+drain_clock : (s : Setting) (links : List ℕ) (rounds : ℕ) (d new : Drill) → Drains s links rounds d new → new.seconds ≡ d.seconds
+drain_clock s links zero d new h = ap (λ (x : Drill). x.seconds) h.1
+drain_clock s links (suc rounds) d new h = drain_clock s links rounds (after_round s links d) new h.1 ∙ round_clock s links d
+
+line_clock : (s : Setting) (clients : ℕ) (line : Line) (d new : Drill) → Makes s clients line d new → new.seconds ≡ d.seconds + seconds_in line
+line_clock s clients (lines.Cred client cred) d new h = ap (λ (x : Drill). x.seconds) h ∙ sym (add-zero d.seconds)
+line_clock s clients (lines.Call client form prog vers proc args) d new h =
+    ap (λ (x : Drill). x.seconds) h ∙ (submit_leaves s client (record { prog = prog; vers = vers; proc = proc; cred = cred_of client d; args = args }) form d).seconds ∙ sym (add-zero d.seconds)
+line_clock s clients (lines.Up client most) d new h = ap (λ (x : Drill). x.seconds) h ∙ (up_leaves s client most d).seconds ∙ sym (add-zero d.seconds)
+line_clock s clients (lines.Down client most) d new h = ap (λ (x : Drill). x.seconds) h ∙ (down_leaves s client most d).seconds ∙ sym (add-zero d.seconds)
+line_clock s clients (lines.Work client) d new h = ap (λ (x : Drill). x.seconds) h ∙ work_clock s client d ∙ sym (add-zero d.seconds)
+line_clock s clients (lines.Tick more) d new h = ap (λ (x : Drill). x.seconds) h
+line_clock s clients (lines.Forget client number) d new h = ap (λ (x : Drill). x.seconds) h ∙ (forget_leaves s client number d).seconds ∙ sym (add-zero d.seconds)
+line_clock s clients (lines.Revoke client number) d new h = ap (λ (x : Drill). x.seconds) h ∙ (revoke_leaves s client number d).seconds ∙ sym (add-zero d.seconds)
+line_clock s clients (lines.Drop client) d new h = ap (λ (x : Drill). x.seconds) h ∙ (drop_leaves s client d).seconds ∙ sym (add-zero d.seconds)
+line_clock s clients (lines.Raw client side bytes) d new h = ap (λ (x : Drill). x.seconds) h ∙ (raw_leaves s client side bytes (is_dropped client d.marks) d).seconds ∙ sym (add-zero d.seconds)
+line_clock s clients lines.Drain d new h = drain_clock s (links_of clients) h.0 d new h.1 ∙ sym (add-zero d.seconds)
+
+pub lines_on : (old now next : World) (all : List Line) (at : ℕ) (e : Line) → at < length all → LinesSoFar old now all at → MakesLine (get_or all at e) now next → LinesSoFar old next all (at + 1)
+lines_on old now next all at e lt (can, goes) makes = (still can, further)
+  where
+    left : drop at all ≡ get_or all at e ∷ drop (at + 1) all
+    left = rw (add-one) (drop-cons all at e lt)
+
+    still : CanMakeAll (drop at all) now → CanMakeAll (drop (at + 1) all) next
+    still (tree, opening, d, stands, none, within) =
+        let s : Setting = drill_setting tree opening in
+        let none_due : NoneDueBefore s opening.clients (get_or all at e ∷ drop (at + 1) all) d = subst (λ (xs : List Line). NoneDueBefore s opening.clients xs d) left none in
+        let (new, made, there) = makes tree opening d stands none_due.0 in
+        let all_within : AreWithin opening.clients d.seconds (get_or all at e ∷ drop (at + 1) all) = subst (AreWithin opening.clients d.seconds) left within in
+        let clock = line_clock s opening.clients (get_or all at e) d new made in
+        (tree, opening, new, there, none_due.1 new made, subst (λ (n : ℕ). AreWithin opening.clients n (drop (at + 1) all)) (sym clock) all_within.1)
+
+    further : (tree : Tree) (opening : Opening) (d : Drill) → WorldStands tree opening d old → NoneDueBefore (drill_setting tree opening) opening.clients all d →
+        (mid : Drill) × WorldStands tree opening mid next × NoneDueBefore (drill_setting tree opening) opening.clients (drop (at + 1) all) mid
+        × ((last : Drill) → MakeAll (drill_setting tree opening) opening.clients (drop (at + 1) all) mid last → MakeAll (drill_setting tree opening) opening.clients all d last)
+    further tree opening d h none_at_first =
+        let s : Setting = drill_setting tree opening in
+        let (mid, stands, none, rest) = goes tree opening d h none_at_first in
+        let none_due : NoneDueBefore s opening.clients (get_or all at e ∷ drop (at + 1) all) mid = subst (λ (xs : List Line). NoneDueBefore s opening.clients xs mid) left none in
+        let (new, made, there) = makes tree opening mid stands none_due.0 in
+        (new, there, none_due.1 new made, λ last after. rest last (subst (λ (xs : List Line). MakeAll s opening.clients xs mid last) (sym left) (new, made, after)))
+
+pub lines_end : (old now : World) (all : List Line) (at : ℕ) → length all ≤ at → LinesSoFar old now all at → MakesLines all old now
+lines_end old now all at le (can, goes) tree opening d h none_at_first =
+    let (mid, stands, none, rest) = goes tree opening d h none_at_first in
+    (mid, rest mid (subst (λ (xs : List Line). MakeAll (drill_setting tree opening) opening.clients xs mid mid) (sym (drop_of_length-le all le)) refl), stands)
+
+pub line_within : (w : World) (all : List Line) (at : ℕ) (e : Line) → at < length all → CanMakeAll (drop at all) w → CanMake (get_or all at e) w
+line_within w all at e lt (tree, opening, d, stands, none, within) =
+    let left : drop at all ≡ get_or all at e ∷ drop (at + 1) all = rw (add-one) (drop-cons all at e lt) in
+    let all_within : AreWithin opening.clients d.seconds (get_or all at e ∷ drop (at + 1) all) = subst (AreWithin opening.clients d.seconds) left within in
+    (tree, opening, d, stands, all_within.0)
+
+-- ===== drains
+
+-- a round in which something moves makes a mark
+pub more_marks : (w n : World) (still : Bool) → still ≡ false → CanMake lines.Drain w →
+    ((tree : Tree) (opening : Opening) (d : Drill) → WorldStands tree opening d w → still ≡ list_all (is_still (drill_setting tree opening) d) (links_of opening.clients)) →
+    ((tree : Tree) (opening : Opening) (d : Drill) → WorldStands tree opening d w → WorldStands tree opening (after_round (drill_setting tree opening) (links_of opening.clients) d) n) →
+    length w.marks.items < length n.marks.items
+more_marks w n still moves (tree, opening, d, stands, within) are round =
+    let s = drill_setting tree opening in
+    let new = round tree opening d stands in
+    let more : length d.marks < length (after_round s (links_of opening.clients) d).marks =
+    round_more s (plain_answers_calls (drill_setup tree opening) opening) (links_of opening.clients) d (sym (are tree opening d stands) ∙ moves) in
+    omega (arith, more, ap length stands.marks, ap length new.marks)

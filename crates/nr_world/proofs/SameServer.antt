@@ -1,0 +1,162 @@
+-- What a step of one link leaves: the clock, and if it executes no call, the journal.
+use Rattle.std.specs.Prelude.{slice_get}
+use Rattle.std.proofs.Common.{◌≡◌, ℕ, zero, suc, Bool, true, false, List, [], ◌∷◌, ◌++◌, length, take, drop, Option, None, Some, refl, sym, ap, ◌∙◌, append-nil}
+use Rattle.std.proofs.lemmas.Grind.{flat_map-append}
+use Rattle.nr_wire.specs.declared.hello.Side.{Side}
+use Rattle.nr_wire.specs.declared.hello.Side.TheVariants.{Initiator, Responder}
+use Rattle.nr_reduce.specs.declared.call.Call.{Call}
+use Rattle.nr_reduce.specs.declared.call.Form.{Form}
+use Rattle.nr_reduce.specs.declared.mark.Entry.{Entry}
+use Rattle.nr_reduce.specs.declared.mark.Mark.{Mark}
+use Rattle.nr_reduce.specs.declared.mark.Mark.TheVariants as marks
+use Rattle.nr_reduce.specs.PlainJournal.{PlainServer, entries_added, journal}
+use Rattle.nr_reduce.specs.History.{CompletedCall, bytes_sent, is_dropped}
+use Rattle.nr_reduce.specs.ServerState.{ReadyCall}
+use Rattle.nr_reduce.specs.Run.{server, output_due}
+use Rattle.nr_reduce.specs.Asked.{revoked_bytes}
+use Rattle.nr_reduce.specs.SubmitAnswer.{submit_answer_after}
+use Rattle.nr_reduce.specs.OutcomesDue.{outcomes_due}
+use Rattle.nr_drill.specs.Drill.{Setting, Drill, Pipes, plain_of, now, unwritten, after_output, after_all_output, settled, pipes_of, with_mark, with_pipes, empty_pipes, appended, after_submit, after_feeding, after_feeding_up, after_up, after_feeding_down, after_handing, after_done, after_dones, after_outcomes, after_down, waiting_call, after_answer, after_execution, after_work, after_calls, answer_of_line, open_xid, after_giving_up, after_forget, after_taking_back, after_revoke, after_drop, after_raw, after_all_up, after_all_work, after_all_down, after_moves, after_opening, after_openings}
+
+-- ===== the journal
+
+-- the clock stays, and no mark adds an entry
+pub record Leaves (s : Setting) (old new : Drill) : Type 0 where
+  pub seconds : new.seconds ≡ old.seconds
+  pub journal : journal (plain_of s.server) new.marks ≡ journal (plain_of s.server) old.marks
+
+pub journal_mark : (plain : PlainServer) (run : List Mark) (mark : Mark) → entries_added plain mark ≡ [] → journal plain (run ++ mark ∷ []) ≡ journal plain run
+unfolding journal
+journal_mark plain run mark none =
+    flat_map-append (entries_added plain) run (mark ∷ [])
+    ∙ ap (λ (es : List Entry). journal plain run ++ (es ++ [])) none
+    ∙ append-nil (journal plain run)
+
+leaves_all : (s : Setting) (d : Drill) → Leaves s d d
+leaves_all s d = record { seconds = refl; journal = refl }
+
+leaves_both : (s : Setting) (a b c : Drill) → Leaves s a b → Leaves s b c → Leaves s a c
+leaves_both s a b c x y = record { seconds = y.seconds ∙ x.seconds; journal = y.journal ∙ x.journal }
+
+leaves_mark : (s : Setting) (mark : Mark) (d : Drill) → entries_added (plain_of s.server) mark ≡ [] → Leaves s d (with_mark mark d)
+leaves_mark s mark d none = record { seconds = refl; journal = journal_mark (plain_of s.server) d.marks mark none }
+
+leaves_pipes : (s : Setting) (link : ℕ) (pipes : Pipes) (old new : Drill) → Leaves s old new → Leaves s old (with_pipes link pipes new)
+leaves_pipes s link pipes old new x = record { seconds = x.seconds; journal = x.journal }
+
+output_leaves : (s : Setting) (link : ℕ) (side : Side) (bytes : List ℕ) (d : Drill) → Leaves s d (after_output link side bytes d)
+output_leaves s link side [] d = leaves_all s d
+output_leaves s link side (b ∷ bytes) d =
+    leaves_pipes s link (appended side (b ∷ bytes) (pipes_of link d)) d (with_mark (marks.Wrote link side (b ∷ bytes)) d) (leaves_mark s (marks.Wrote link side (b ∷ bytes)) d refl)
+
+settled_leaves : (s : Setting) (link : ℕ) (d : Drill) → Leaves s d (settled s link d)
+unfolding settled
+settled_leaves s link d =
+    let up = unwritten (s.opened link) link Initiator d.marks in
+    let mid = after_all_output s link Initiator d in
+    let down = unwritten (s.opened link) link Responder mid.marks in
+    leaves_both s d mid (after_output link Responder down mid) (output_leaves s link Initiator up d) (output_leaves s link Responder down mid)
+
+mark_leaves : (s : Setting) (link : ℕ) (mark : Mark) (d : Drill) → entries_added (plain_of s.server) mark ≡ [] → Leaves s d (settled s link (with_mark mark d))
+mark_leaves s link mark d none = leaves_both s d (with_mark mark d) (settled s link (with_mark mark d)) (leaves_mark s mark d none) (settled_leaves s link (with_mark mark d))
+
+feeding_leaves : (s : Setting) (link : ℕ) (side : Side) (bytes : List ℕ) (rest : Pipes) (d : Drill) → Leaves s d (after_feeding link side bytes rest d)
+feeding_leaves s link side [] rest d = leaves_all s d
+feeding_leaves s link side (b ∷ bytes) rest d =
+    leaves_pipes s link rest d (with_mark (marks.Fed link side (b ∷ bytes)) d) (leaves_mark s (marks.Fed link side (b ∷ bytes)) d refl)
+
+pub up_leaves : (s : Setting) (link n : ℕ) (d : Drill) → Leaves s d (after_up s link n d)
+unfolding after_up
+up_leaves s link n d =
+    let fed = after_feeding_up link n d in
+    leaves_both s d fed (settled s link fed)
+    (feeding_leaves s link Responder (take n (pipes_of link d).up) (record (pipes_of link d) { up = drop n (pipes_of link d).up }) d) (settled_leaves s link fed)
+
+handing_leaves : (s : Setting) (link : ℕ) (c : Option CompletedCall) (d : Drill) → Leaves s d (after_handing link c d)
+handing_leaves s link None d = leaves_all s d
+handing_leaves s link (Some c) d = leaves_mark s (marks.Done link c.xid c.outcome) d refl
+
+dones_leaves : (s : Setting) (link n : ℕ) (d : Drill) → Leaves s d (after_dones s link n d)
+unfolding after_done
+dones_leaves s link zero d = leaves_all s d
+dones_leaves s link (suc n) d =
+    let next = after_done s link d in
+    leaves_both s d next (after_dones s link n next) (handing_leaves s link (slice_get (outcomes_due (s.opened link) link d.marks) 0) d) (dones_leaves s link n next)
+
+pub down_leaves : (s : Setting) (link n : ℕ) (d : Drill) → Leaves s d (after_down s link n d)
+unfolding after_down after_outcomes
+down_leaves s link n d =
+    let fed = after_feeding_down link n d in
+    let all = after_outcomes s link fed in
+    leaves_both s d all (settled s link all)
+    (leaves_both s d fed all (feeding_leaves s link Initiator (take n (pipes_of link d).down) (record (pipes_of link d) { down = drop n (pipes_of link d).down }) d)
+    (dones_leaves s link (length (outcomes_due (s.opened link) link fed.marks)) fed))
+    (settled_leaves s link all)
+
+pub submit_leaves : (s : Setting) (link : ℕ) (call : Call) (form : Form) (d : Drill) → Leaves s d (after_submit s link call form d)
+unfolding after_submit
+submit_leaves s link call form d = mark_leaves s link (marks.Submit link call form (submit_answer_after (s.opened link) link d.marks call form)) d refl
+
+giving_up_leaves : (s : Setting) (link : ℕ) (xid : Option ℕ) (d : Drill) → Leaves s d (after_giving_up link xid d)
+giving_up_leaves s link None d = leaves_all s d
+giving_up_leaves s link (Some xid) d = leaves_mark s (marks.Forget link xid) d refl
+
+pub forget_leaves : (s : Setting) (link number : ℕ) (d : Drill) → Leaves s d (after_forget s link number d)
+unfolding after_forget
+forget_leaves s link number d = giving_up_leaves s link (open_xid s link d.marks (answer_of_line link number d.marks)) d
+
+taking_back_leaves : (s : Setting) (link : ℕ) (xid : Option ℕ) (d : Drill) → Leaves s d (after_taking_back s link xid d)
+taking_back_leaves s link None d = leaves_all s d
+taking_back_leaves s link (Some xid) d = mark_leaves s link (marks.Revoke link xid (revoked_bytes (s.opened link) link d.marks xid)) d refl
+
+pub revoke_leaves : (s : Setting) (link number : ℕ) (d : Drill) → Leaves s d (after_revoke s link number d)
+unfolding after_revoke
+revoke_leaves s link number d = taking_back_leaves s link (open_xid s link d.marks (answer_of_line link number d.marks)) d
+
+pub drop_leaves : (s : Setting) (link : ℕ) (d : Drill) → Leaves s d (after_drop link d)
+drop_leaves s link d = leaves_pipes s link empty_pipes d (with_mark (marks.Drop link) d) (leaves_mark s (marks.Drop link) d refl)
+
+pub raw_leaves : (s : Setting) (link : ℕ) (side : Side) (bytes : List ℕ) (dropped : Bool) (d : Drill) → Leaves s d (after_raw link side bytes dropped d)
+raw_leaves s link side bytes true d = leaves_all s d
+raw_leaves s link side bytes false d = leaves_pipes s link (appended side bytes (pipes_of link d)) d d (leaves_all s d)
+
+pub opening_leaves : (s : Setting) (link : ℕ) (d : Drill) → Leaves s d (after_opening s link d)
+unfolding after_opening
+opening_leaves s link d =
+    let one = settled s link d in
+    let two = after_all_up s link one in
+    leaves_both s d two (after_all_down s link two)
+    (leaves_both s d one two (settled_leaves s link d) (up_leaves s link (length (pipes_of link one).up) one))
+    (down_leaves s link (length (pipes_of link two).down) two)
+
+pub openings_clock : (s : Setting) (links : List ℕ) (d : Drill) → (after_openings s links d).seconds ≡ d.seconds
+openings_clock s [] d = refl
+openings_clock s (link ∷ links) d = openings_clock s links (after_opening s link d) ∙ (opening_leaves s link d).seconds
+
+-- ===== the clock alone, if calls are executed
+
+answer_clock : (s : Setting) (link : ℕ) (call : ReadyCall) (reply : Option (List ℕ)) (d : Drill) → (after_answer s link call reply d).seconds ≡ d.seconds
+answer_clock s link call None d = refl
+answer_clock s link call (Some reply) d =
+    (settled_leaves s link (with_mark (marks.Execute link call.xid (now d) call.payload (length (journal (plain_of s.server) d.marks)) reply) d)).seconds
+
+execution_clock : (s : Setting) (link : ℕ) (call : Option ReadyCall) (d : Drill) → (after_execution s link call d).seconds ≡ d.seconds
+execution_clock s link None d = refl
+execution_clock s link (Some call) d = answer_clock s link call (s.server.reply_to (journal (plain_of s.server) d.marks) (now d) call.payload) d
+
+pub work_clock : (s : Setting) (link : ℕ) (d : Drill) → (after_work s link d).seconds ≡ d.seconds
+unfolding after_work
+work_clock s link d = execution_clock s link (waiting_call s link d.marks) d
+
+calls_clock : (s : Setting) (link n : ℕ) (d : Drill) → (after_calls s link n d).seconds ≡ d.seconds
+calls_clock s link zero d = refl
+calls_clock s link (suc n) d = calls_clock s link n (after_work s link d) ∙ work_clock s link d
+
+pub moves_clock : (s : Setting) (link : ℕ) (d : Drill) → (after_moves s link d).seconds ≡ d.seconds
+unfolding after_moves after_all_work
+moves_clock s link d =
+    let one = after_all_up s link d in
+    let two = after_all_work s link one in
+    (down_leaves s link (length (pipes_of link two).down) two).seconds
+    ∙ calls_clock s link (length (server (s.opened link) link one.marks).state.ready) one
+    ∙ (up_leaves s link (length (pipes_of link d).up) d).seconds

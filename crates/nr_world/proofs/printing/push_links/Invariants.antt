@@ -1,8 +1,0 @@
-use Rattle.std.proofs.Common.{◌≡◌, ◌++◌, take}
-use Rattle.std.specs.List.{flat_map}
-use Rattle.std.specs.String.{string_bytes}
-use Rattle.nr_world.specs.Shown.{link_text}
-use Rattle.nr_world.proofs.printing.push_links.Given as goal
-
-abbrev pub invariant-loop-link : goal.invariant-loop-link
-invariant-loop-link l = string_bytes l.text ≡ string_bytes l.initial.text ++ flat_map link_text (take l.link-index l.links)

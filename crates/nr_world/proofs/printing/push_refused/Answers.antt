@@ -1,7 +1,0 @@
-use Rattle.nr_world.proofs.printing.push_refused.Goals as goal
-
-pub returns-in-TooLarge : goal.returns-in-TooLarge
-returns-in-TooLarge c = rw c.in-TooLarge.is (rw c.from.ensures at c.push_words.ensures)
-
-pub returns-in-Spent : goal.returns-in-Spent
-returns-in-Spent c = rw c.in-Spent.is c.push_words-in-Spent.ensures
