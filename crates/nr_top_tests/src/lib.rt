@@ -5,10 +5,14 @@
 #![tactic(auto)]
 
 #[cfg(test)]
+mod client_ends;
+#[cfg(test)]
 mod compare;
 #[cfg(test)]
 mod drills;
 #[cfg(test)]
 mod forms;
+#[cfg(test)]
+mod server_ends;
 #[cfg(test)]
 mod top;

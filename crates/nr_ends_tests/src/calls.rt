@@ -1,0 +1,246 @@
+//! Calls of several forms through both ends, in pieces of several lengths, and what goes back of calls that were not answered.
+
+use crate::compare::same;
+use crate::link::TestLink;
+use crate::words::{HELLO, REPLY_FRONT, REPLY_REST, SENT, bytes, call, payload, put, reply};
+use nr_outside::MemSink;
+use nr_reduce::{Form, Lengths, Offer, Outcome};
+use nr_requester::{Done, Requester, Take};
+use nr_responder::Sent;
+use std::alloc::Global;
+use std::process::Abort;
+
+/// How a call is sent.
+#[derive(Clone, Copy)]
+enum Way {
+    Auto,
+    Inline,
+    Chunk,
+    /// With a reply chunk of segments of these lengths.
+    Reply(&'static [u32]),
+}
+
+fn form(rt: &impl Abort, alloc: Global, way: Way) -> Form {
+    match way {
+        Way::Auto => Form::Auto,
+        Way::Inline => Form::Inline,
+        Way::Chunk => Form::Chunk,
+        Way::Reply(lengths) => Form::Given(Offer {
+            read_at: 0,
+            read: None,
+            write: None,
+            reply: Some(Lengths::from_vec(lengths.to_vec(alloc).expect(rt, "memory"))),
+        }),
+    }
+}
+
+/// How a call is sent, its procedure, its arguments, its results, and how the server answers.
+type Row = (Way, u32, &'static [u32], &'static [u32], Sent);
+
+/// The file with handle 2; the results of a READ of 5 bytes, in whose reply the data goes by a write chunk; and results that go by a reply
+/// chunk of 16 segments.
+static ROWS: [Row; 5] = [
+    (Way::Auto, 0, &[], &[], Sent::Inline),
+    (Way::Inline, 1, &[8, 0, 2], &[70], Sent::Inline),
+    (
+        Way::Chunk,
+        6,
+        &[8, 0, 2, 0, 0, 5],
+        &[0, 0, 5, 1, 5, 0x68656c6c, 0x6f000000],
+        Sent::Inline,
+    ),
+    (
+        Way::Reply(&[4, 4, 4, 4, 4, 4, 4, 4, 4, 4, 4, 4, 4, 4, 4, 4]),
+        1,
+        &[8, 0, 2],
+        &[70],
+        Sent::Inline,
+    ),
+    // Results that the reply chunk doesn't hold, and no Send does: ERR_CHUNK.
+    (Way::Reply(&[4]), 1, &[8, 0, 2], &[0; 300], Sent::Chunk),
+];
+
+/// The outcome of a call that was answered.
+fn outcome_of(rt: &impl Abort, take: Take) -> Outcome {
+    match take {
+        Take::Done(Done { outcome, .. }) => outcome,
+        Take::NotYet(_) | Take::Failed { .. } => panic!(rt; "the answer has come"),
+    }
+}
+
+/// One call through both ends, in pieces of this length.
+fn exchange(rt: &impl Abort, alloc: Global, link: &mut TestLink, xid: u32, size: usize, row: Row) {
+    let (way, proc, args, results, sent) = row;
+    let reply = reply(rt, alloc, xid, results);
+    let ticket = link.submit(rt, call(rt, alloc, proc, args), form(rt, alloc, way));
+    same(rt, size, ticket.xid(), xid);
+    same(rt, size, link.has_outcome(&ticket), false);
+    link.up(rt, alloc, size);
+    let (conveyed, answered) = link.answer(rt, alloc, reply.as_slice());
+    same(
+        rt,
+        size,
+        conveyed == payload(rt, alloc, xid, proc, args),
+        true,
+    );
+    same(rt, size, answered, sent);
+    link.down(rt, alloc, size);
+    same(rt, size, link.has_outcome(&ticket), true);
+    match outcome_of(rt, link.take(ticket)) {
+        Outcome::Reply(bytes) => same(rt, size, bytes.as_slice() == reply.as_slice(), true),
+        Outcome::Chunk => same(rt, size, sent, Sent::Chunk),
+        Outcome::Version { .. } => panic!(rt; "row {size}: another version"),
+    }
+}
+
+/// Both ends after their hellos.
+fn greeted(rt: &impl Abort, alloc: Global, credits: u32, size: usize) -> TestLink {
+    let mut link = TestLink::open(rt, alloc, credits);
+    link.up(rt, alloc, size);
+    link.down(rt, alloc, size);
+    link
+}
+
+/// Each row, one call after the other. At the end both ends keep at most 262,144 bytes for each credit and four more.
+fn answered(rt: &impl Abort, alloc: Global, size: usize) {
+    let mut link = greeted(rt, alloc, 16, size);
+    same(rt, size, link.counts(), [0, 1, 0, 0, 0, 4]);
+    for (row, xid) in ROWS.iter().zip(1..) {
+        exchange(rt, alloc, &mut link, xid, size, *row);
+    }
+    same(rt, size, link.counts(), [0, 16, 0, 0, 0, 4]);
+    let [client, server] = link.held();
+    same(rt, size, client.max(server) <= 262144 * 20, true);
+}
+
+#[test]
+fn calls_are_answered(rt: HostRuntime) {
+    for size in [1, 7, 65536] {
+        answered(&rt, rt.alloc(), size);
+    }
+}
+
+/// The bytes of words up to some length.
+fn first_bytes(rt: &impl Abort, alloc: Global, words: &[u32], len: usize) -> Vec<u8> {
+    let mut bytes = bytes(rt, alloc, words);
+    bytes.truncate(len);
+    bytes
+}
+
+/// Of a frame that isn't complete 91 bytes are staged, and of the next one ten.
+fn staged(rt: &impl Abort, alloc: Global) {
+    let mut link = TestLink::open(rt, alloc, 1);
+    let hello = bytes(rt, alloc, &HELLO);
+    same(rt, 0, link.feed_up(rt, hello.as_slice()), Ok(()));
+    let front = first_bytes(rt, alloc, &SENT, 91);
+    same(rt, 1, link.feed_up(rt, front.as_slice()), Ok(()));
+    same(rt, 2, link.counts(), [0, 1, 0, 0, 91, 1]);
+    // The last byte of the first FPDU, and ten bytes of a second one.
+    let more = first_bytes(rt, alloc, &[0x0000_5641, 0x4300_0000, 0], 11);
+    same(rt, 3, link.feed_up(rt, more.as_slice()), Ok(()));
+    same(rt, 4, link.counts(), [0, 1, 1, 1, 10, 82]);
+}
+
+#[test]
+fn bytes_are_staged(rt: HostRuntime) {
+    staged(&rt, rt.alloc());
+}
+
+/// A NULL call is submitted, and its ticket is dropped.
+fn submit_null(rt: &impl Abort, alloc: Global, link: &mut TestLink) {
+    drop(link.submit(rt, call(rt, alloc, 0, &[]), Form::Auto));
+}
+
+/// What a sink did not take is written later.
+fn drained(rt: &impl Abort, alloc: Global) {
+    let mut link = greeted(rt, alloc, 16, 65536);
+    submit_null(rt, alloc, &mut link);
+    let failing = [0].to_vec(alloc).expect(rt, "memory");
+    let mut sink = MemSink::new(alloc, failing);
+    same(rt, 0, link.write_up(&mut sink), false);
+    same(rt, 1, sink.bytes().len(), 0);
+    same(rt, 2, link.write_up(&mut sink), true);
+    same(
+        rt,
+        3,
+        sink.bytes() == bytes(rt, alloc, &SENT).as_slice(),
+        true,
+    );
+}
+
+#[test]
+fn a_drain_goes_on(rt: HostRuntime) {
+    drained(&rt, rt.alloc());
+}
+
+/// The credit word of a reply, and the credits that it grants.
+static GRANTS: [(u32, u32); 4] = [(0, 1), (1, 1), (64, 64), (65, 64)];
+
+/// A NULL call is answered with this credit word.
+fn reply_grants(rt: &impl Abort, alloc: Global, row: usize, word: u32, grant: u32) {
+    let mut link = greeted(rt, alloc, 16, 65536);
+    submit_null(rt, alloc, &mut link);
+    link.up(rt, alloc, 65536);
+    let mut stream = bytes(rt, alloc, &REPLY_FRONT);
+    put(rt, &mut stream, &[word]);
+    put(rt, &mut stream, &REPLY_REST);
+    same(rt, row, link.feed_down(rt, stream.as_slice()), Ok(()));
+    let [outstanding, granted, ..] = link.counts();
+    same(rt, row, (outstanding, granted), (0, grant as usize));
+}
+
+#[test]
+fn credits_are_granted(rt: HostRuntime) {
+    for (row, (word, grant)) in GRANTS.iter().enumerate() {
+        reply_grants(&rt, rt.alloc(), row, *word, *grant);
+    }
+}
+
+/// The procedures of the calls that go back in order, and whether each has a buffer for a write chunk.
+static LEFT: [(u32, bool); 2] = [(1, false), (6, true)];
+
+/// A client end that awaits the answers to two calls.
+fn awaiting(rt: &impl Abort, alloc: Global) -> Requester {
+    let mut link = greeted(rt, alloc, 16, 65536);
+    exchange(rt, alloc, &mut link, 1, 65536, ROWS[0]);
+    drop(link.submit(rt, call(rt, alloc, 1, &[8, 0, 2]), Form::Auto));
+    drop(link.submit(rt, call(rt, alloc, 6, &[8, 0, 2, 0, 0, 5]), Form::Chunk));
+    link.into_client()
+}
+
+/// A client end that is taken apart gives back what was not taken.
+fn gone_back(rt: &impl Abort, alloc: Global) {
+    let mut remains = awaiting(rt, alloc).dismantle();
+    for (row, (proc, writes)) in LEFT.iter().enumerate() {
+        let Some((call, buffers)) = remains.next() else {
+            panic!(rt; "row {row}: a call is missing");
+        };
+        same(rt, row, call.proc, *proc);
+        same(rt, row, buffers.write.is_some(), *writes);
+    }
+    same(rt, 2, remains.next().is_none(), true);
+}
+
+#[test]
+fn calls_go_back(rt: HostRuntime) {
+    gone_back(&rt, rt.alloc());
+}
+
+/// The first xid is the one that was asked for.
+fn first_xid(rt: &impl Abort, alloc: Global) {
+    let mut client = Requester::open_at(alloc, 7, 3, 1).expect(rt, "memory");
+    match client.submit(call(rt, alloc, 0, &[]), Form::Auto) {
+        Ok(ticket) => {
+            same(rt, 0, ticket.xid(), 7);
+            client.forget(ticket);
+        }
+        Err(_) => panic!(rt; "refused"),
+    }
+    same(rt, 1, client.outstanding(), 1);
+    same(rt, 2, client.end(), None);
+}
+
+#[test]
+fn numbers_begin(rt: HostRuntime) {
+    first_xid(&rt, rt.alloc());
+}

@@ -1,0 +1,13 @@
+//! Tests of both ends of a link (`nr_requester`, `nr_responder`), over one another and over bytes from the RFCs.
+//!
+//! They stand in a crate of their own, above the crates that they test, since a crate with tests is proved twice.
+#![tactic(auto)]
+
+#[cfg(test)]
+mod calls;
+#[cfg(test)]
+mod compare;
+#[cfg(test)]
+mod link;
+#[cfg(test)]
+mod words;

@@ -1,0 +1,200 @@
+//! Both ends of a link of a test. Its calls check at run time what the ends ask of their owner, and end the test if it doesn't hold.
+
+ghost use Rattle.std.specs.Prelude.{◌≡◌, ◌≤◌, ◌+◌, ◌^◌, length, true, is_some};
+ghost use Rattle.nr_requester.specs.OpenCalls.{open_call, KeepsTickets, OpensTicket};
+ghost use Rattle.nr_rpc.specs.Credential.{CanWriteCred};
+
+use nr_link::End;
+use nr_outside::MemSink;
+use nr_reduce::{Call, Form};
+use nr_requester::{Requester, Take, Ticket};
+use nr_responder::{Responder, Sent};
+use std::alloc::Global;
+use std::marker::Model;
+use std::process::Abort;
+
+/// More bytes than a test feeds.
+const MANY: usize = 1 << 32;
+
+/// A client end and a server end, and how many bytes each was fed at most.
+#[derive(Drop)]
+pub struct TestLink {
+    client: Requester,
+    server: Responder,
+    fed_up: u64,
+    fed_down: u64,
+}
+
+impl Model for TestLink {
+    ghost use Rattle.std.specs.Prelude.{◌≤◌};
+    ghost use Rattle.std.specs.Coded.{codes};
+    ghost use Rattle.nr_endpoint.specs.Codes.{state_code};
+    ghost use Rattle.nr_endpoint.specs.FedBytes.{fed_bytes};
+    ghost use Rattle.nr_requester.specs.RequesterState.{RequesterSide};
+    ghost use Rattle.nr_requester.specs.Fed.{fed_bytes as client_fed_bytes};
+
+    ghost Value = { RequesterSide };
+
+    ghost coded = { Prim.hlevel (codes, state_code) };
+
+    ghost view = { λ l. l.client };
+
+    ghost invariant = { λ l. (fed_bytes l.server.side.link ≤ l.fed_up) × (client_fed_bytes l.client ≤ l.fed_down) };
+}
+
+/// Ends the test if a call may not be made.
+fn check(rt: &impl Abort, holds: bool)
+    ensures { holds ≡ true }
+{
+    if !holds {
+        panic!(rt; "a call that may not be made");
+    }
+}
+
+/// A number of bytes with those of a piece.
+fn with_piece(rt: &impl Abort, fed: u64, piece: &[u8]) -> u64
+    ensures sum { result ≡ fed + length piece.now }
+    ensures most { result ≤ 2 ^ 61 }
+{
+    check(rt, fed <= MANY as u64);
+    check(rt, piece.len() <= MANY);
+    fed + piece.len() as u64
+}
+
+impl TestLink {
+    /// Two ends with this number of credits. No byte has moved.
+    pub fn open(rt: &impl Abort, alloc: Global, credits: u32) -> TestLink {
+        TestLink {
+            client: Requester::open(alloc, credits).expect(rt, "memory"),
+            server: Responder::open(alloc, credits).expect(rt, "memory"),
+            fed_up: 0,
+            fed_down: 0,
+        }
+    }
+
+    /// Of the client: outstanding calls, credits granted; of the server: unanswered calls, receives in use, staged bytes, bytes wanted.
+    pub fn counts(&self) -> [usize; 6] {
+        [
+            self.client.outstanding(),
+            self.client.grant() as usize,
+            self.server.unanswered(),
+            self.server.in_use(),
+            self.server.staged(),
+            self.server.wants(),
+        ]
+    }
+
+    /// How many bytes both ends keep.
+    pub fn held(&self) -> [u128; 2] {
+        [self.client.held(), self.server.held()]
+    }
+
+    /// Whether the answer to a call has come.
+    pub fn has_outcome(&self, ticket: &Ticket) -> bool {
+        self.client.has_outcome(ticket)
+    }
+
+    /// Feeds the server end a piece.
+    pub fn feed_up(&mut self, rt: &impl Abort, piece: &[u8]) -> Result<(), End>
+        ensures { self.new ≡ self.old }
+    {
+        self.fed_up = with_piece(rt, self.fed_up, piece);
+        self.server.feed(piece)
+    }
+
+    /// Feeds the client end a piece.
+    pub fn feed_down(&mut self, rt: &impl Abort, piece: &[u8]) -> Result<(), End>
+        ensures { KeepsTickets self.old.state self.new.state }
+    {
+        self.fed_down = with_piece(rt, self.fed_down, piece);
+        self.client.feed(piece)
+    }
+
+    /// Hands what the client end has to write to a sink. Whether the sink took all.
+    pub fn write_up(&mut self, sink: &mut MemSink) -> bool
+        ensures { KeepsTickets self.old.state self.new.state }
+    {
+        self.client.drain_into(sink).is_ok()
+    }
+
+    /// Hands what the server end may write to a sink. Whether the sink took all.
+    pub fn write_down(&mut self, sink: &mut MemSink) -> bool
+        ensures { self.new ≡ self.old }
+    {
+        self.server.drain_into(sink).is_ok()
+    }
+
+    /// All that the client end has to write reaches the server end, in pieces of this length.
+    pub fn up(&mut self, rt: &impl Abort, alloc: Global, size: usize)
+        ensures { KeepsTickets self.old.state self.new.state }
+    {
+        let mut sink = MemSink::new(alloc, Vec::new(alloc));
+        check(rt, self.write_up(&mut sink));
+        check(rt, size > 0);
+        let mut rest = sink.bytes();
+        'pieces: for _ in 0..rest.len() {
+            if rest.is_empty() {
+                break;
+            }
+            let (piece, more) = rest.split_at(rest.len().min(size));
+            check(rt, self.feed_up(rt, piece).is_ok());
+            rest = more;
+        }
+    }
+
+    /// All that the server end may write reaches the client end, in pieces of this length.
+    pub fn down(&mut self, rt: &impl Abort, alloc: Global, size: usize)
+        ensures { KeepsTickets self.old.state self.new.state }
+    {
+        let mut sink = MemSink::new(alloc, Vec::new(alloc));
+        check(rt, self.write_down(&mut sink));
+        check(rt, size > 0);
+        let mut rest = sink.bytes();
+        'pieces: for _ in 0..rest.len() {
+            if rest.is_empty() {
+                break;
+            }
+            let (piece, more) = rest.split_at(rest.len().min(size));
+            check(rt, self.feed_down(rt, piece).is_ok());
+            rest = more;
+        }
+    }
+
+    /// Submits a call, which is accepted.
+    pub fn submit(&mut self, rt: &impl Abort, call: Call, form: Form) -> Ticket
+        requires { CanWriteCred call.cred }
+        ensures { OpensTicket result call self.old.state self.new.state }
+    {
+        match self.client.submit(call, form) {
+            Ok(ticket) => ticket,
+            Err(_) => panic!(rt; "the call is refused"),
+        }
+    }
+
+    /// The payload of the next call that is ready, and the answer to it.
+    pub fn answer(&mut self, rt: &impl Abort, alloc: Global, reply: &[u8]) -> (Vec<u8>, Sent)
+        ensures { self.new ≡ self.old }
+    {
+        let Some(call) = self.server.next_ready() else {
+            panic!(rt; "no call is ready");
+        };
+        let payload = Vec::from_slice(alloc, self.server.payload(&call)).expect(rt, "memory");
+        match self.server.answer(call, reply) {
+            Ok(sent) => (payload, sent),
+            Err(_) => panic!(rt; "memory"),
+        }
+    }
+
+    /// Takes the answer to a call.
+    pub fn take(&mut self, ticket: Ticket) -> Take
+        requires { is_some (open_call ticket self.old.state) ≡ true }
+    {
+        self.client.try_take(ticket)
+    }
+
+    /// The client end alone.
+    pub fn into_client(self) -> Requester {
+        let TestLink { client, .. } = self;
+        client
+    }
+}
