@@ -104,11 +104,11 @@ fn greeted(rt: &impl Abort, alloc: Global, credits: u32, size: usize) -> TestLin
 /// Each row, one call after the other. At the end both ends keep at most 262,144 bytes for each credit and four more.
 fn answered(rt: &impl Abort, alloc: Global, size: usize) {
     let mut link = greeted(rt, alloc, 16, size);
-    same(rt, size, link.counts(), [0, 1, 0, 0, 0, 4]);
+    same(rt, size, link.counts(), [0, 1, 0, 0, 0, 2]);
     for (row, xid) in ROWS.iter().zip(1..) {
         exchange(rt, alloc, &mut link, xid, size, *row);
     }
-    same(rt, size, link.counts(), [0, 16, 0, 0, 0, 4]);
+    same(rt, size, link.counts(), [0, 16, 0, 0, 0, 2]);
     let [client, server] = link.held();
     same(rt, size, client.max(server) <= 262144 * 20, true);
 }
