@@ -1,5 +1,7 @@
 //! Calls of several forms through both ends, in pieces of several lengths, and what goes back of calls that were not answered.
 
+ghost use Rattle.nr_requester.specs.OpenCalls.{KeepsTickets};
+
 use crate::compare::same;
 use crate::link::TestLink;
 use crate::words::{HELLO, REPLY_FRONT, REPLY_REST, SENT, bytes, call, payload, put, reply};
@@ -60,37 +62,59 @@ static ROWS: [Row; 5] = [
     (Way::Reply(&[4]), 1, &[8, 0, 2], &[0; 300], Sent::Chunk),
 ];
 
-/// The outcome of a call that was answered.
-fn outcome_of(rt: &impl Abort, take: Take) -> Outcome {
-    match take {
-        Take::Done(Done { outcome, .. }) => outcome,
-        Take::NotYet(_) | Take::Failed { .. } => panic!(rt; "the answer has come"),
+/// Ends the test if a call wasn't answered so.
+fn is_answered(rt: &impl Abort, size: usize, take: Take, reply: &[u8], sent: Sent) {
+    let Take::Done(Done { outcome, .. }) = take else {
+        panic!(rt; "pieces of {size}: no answer");
+    };
+    match outcome {
+        Outcome::Reply(bytes) => same(rt, size, bytes.as_slice() == reply, true),
+        Outcome::Chunk => same(rt, size, sent, Sent::Chunk),
+        Outcome::Version { .. } => panic!(rt; "pieces of {size}: another version"),
     }
+}
+
+/// What the server executes, and how it answers.
+fn served(
+    rt: &impl Abort,
+    alloc: Global,
+    link: &mut TestLink,
+    size: usize,
+    payload: &[u8],
+    answer: (&[u8], Sent),
+)
+    ensures { KeepsTickets link.old.state link.new.state }
+{
+    let (reply, sent) = answer;
+    link.up(rt, alloc, size);
+    let (conveyed, answered) = link.answer(rt, alloc, reply);
+    same(rt, size, conveyed.as_slice() == payload, true);
+    same(rt, size, answered, sent);
+    link.down(rt, alloc, size);
 }
 
 /// One call through both ends, in pieces of this length.
 fn exchange(rt: &impl Abort, alloc: Global, link: &mut TestLink, xid: u32, size: usize, row: Row) {
     let (way, proc, args, results, sent) = row;
     let reply = reply(rt, alloc, xid, results);
+    let payload = payload(rt, alloc, xid, proc, args);
     let ticket = link.submit(rt, call(rt, alloc, proc, args), form(rt, alloc, way));
-    same(rt, size, ticket.xid(), xid);
-    same(rt, size, link.has_outcome(&ticket), false);
-    link.up(rt, alloc, size);
-    let (conveyed, answered) = link.answer(rt, alloc, reply.as_slice());
     same(
         rt,
         size,
-        conveyed == payload(rt, alloc, xid, proc, args),
-        true,
+        (ticket.xid(), link.has_outcome(&ticket)),
+        (xid, false),
     );
-    same(rt, size, answered, sent);
-    link.down(rt, alloc, size);
+    served(
+        rt,
+        alloc,
+        link,
+        size,
+        payload.as_slice(),
+        (reply.as_slice(), sent),
+    );
     same(rt, size, link.has_outcome(&ticket), true);
-    match outcome_of(rt, link.take(ticket)) {
-        Outcome::Reply(bytes) => same(rt, size, bytes.as_slice() == reply.as_slice(), true),
-        Outcome::Chunk => same(rt, size, sent, Sent::Chunk),
-        Outcome::Version { .. } => panic!(rt; "row {size}: another version"),
-    }
+    is_answered(rt, size, link.take(ticket), reply.as_slice(), sent);
 }
 
 /// Both ends after their hellos.
@@ -102,15 +126,19 @@ fn greeted(rt: &impl Abort, alloc: Global, credits: u32, size: usize) -> TestLin
 }
 
 /// Each row, one call after the other. At the end both ends keep at most 262,144 bytes for each credit and four more.
-fn answered(rt: &impl Abort, alloc: Global, size: usize) {
-    let mut link = greeted(rt, alloc, 16, size);
+fn all_rows(rt: &impl Abort, alloc: Global, link: &mut TestLink, size: usize) {
     same(rt, size, link.counts(), [0, 1, 0, 0, 0, 2]);
     for (row, xid) in ROWS.iter().zip(1..) {
-        exchange(rt, alloc, &mut link, xid, size, *row);
+        exchange(rt, alloc, link, xid, size, *row);
     }
     same(rt, size, link.counts(), [0, 16, 0, 0, 0, 2]);
     let [client, server] = link.held();
     same(rt, size, client.max(server) <= 262144 * 20, true);
+}
+
+fn answered(rt: &impl Abort, alloc: Global, size: usize) {
+    let mut link = greeted(rt, alloc, 16, size);
+    all_rows(rt, alloc, &mut link, size);
 }
 
 #[test]
@@ -128,8 +156,7 @@ fn first_bytes(rt: &impl Abort, alloc: Global, words: &[u32], len: usize) -> Vec
 }
 
 /// Of a frame that isn't complete 91 bytes are staged, and of the next one ten.
-fn staged(rt: &impl Abort, alloc: Global) {
-    let mut link = TestLink::open(rt, alloc, 1);
+fn staged(rt: &impl Abort, alloc: Global, link: &mut TestLink) {
     let hello = bytes(rt, alloc, &HELLO);
     same(rt, 0, link.feed_up(rt, hello.as_slice()), Ok(()));
     let front = first_bytes(rt, alloc, &SENT, 91);
@@ -143,7 +170,8 @@ fn staged(rt: &impl Abort, alloc: Global) {
 
 #[test]
 fn bytes_are_staged(rt: HostRuntime) {
-    staged(&rt, rt.alloc());
+    let mut link = TestLink::open(&rt, rt.alloc(), 1);
+    staged(&rt, rt.alloc(), &mut link);
 }
 
 /// A NULL call is submitted, and its ticket is dropped.
@@ -152,9 +180,8 @@ fn submit_null(rt: &impl Abort, alloc: Global, link: &mut TestLink) {
 }
 
 /// What a sink did not take is written later.
-fn drained(rt: &impl Abort, alloc: Global) {
-    let mut link = greeted(rt, alloc, 16, 65536);
-    submit_null(rt, alloc, &mut link);
+fn drained(rt: &impl Abort, alloc: Global, link: &mut TestLink) {
+    submit_null(rt, alloc, link);
     let failing = [0].to_vec(alloc).expect(rt, "memory");
     let mut sink = MemSink::new(alloc, failing);
     same(rt, 0, link.write_up(&mut sink), false);
@@ -170,16 +197,23 @@ fn drained(rt: &impl Abort, alloc: Global) {
 
 #[test]
 fn a_drain_goes_on(rt: HostRuntime) {
-    drained(&rt, rt.alloc());
+    let mut link = greeted(&rt, rt.alloc(), 16, 65536);
+    drained(&rt, rt.alloc(), &mut link);
 }
 
 /// The credit word of a reply, and the credits that it grants.
 static GRANTS: [(u32, u32); 4] = [(0, 1), (1, 1), (64, 64), (65, 64)];
 
 /// A NULL call is answered with this credit word.
-fn reply_grants(rt: &impl Abort, alloc: Global, row: usize, word: u32, grant: u32) {
-    let mut link = greeted(rt, alloc, 16, 65536);
-    submit_null(rt, alloc, &mut link);
+fn reply_grants(
+    rt: &impl Abort,
+    alloc: Global,
+    link: &mut TestLink,
+    row: usize,
+    word: u32,
+    grant: u32,
+) {
+    submit_null(rt, alloc, link);
     link.up(rt, alloc, 65536);
     let mut stream = bytes(rt, alloc, &REPLY_FRONT);
     put(rt, &mut stream, &[word]);
@@ -192,7 +226,8 @@ fn reply_grants(rt: &impl Abort, alloc: Global, row: usize, word: u32, grant: u3
 #[test]
 fn credits_are_granted(rt: HostRuntime) {
     for (row, (word, grant)) in GRANTS.iter().enumerate() {
-        reply_grants(&rt, rt.alloc(), row, *word, *grant);
+        let mut link = greeted(&rt, rt.alloc(), 16, 65536);
+        reply_grants(&rt, rt.alloc(), &mut link, row, *word, *grant);
     }
 }
 
