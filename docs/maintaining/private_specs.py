@@ -46,66 +46,64 @@ def public_text(text: str, types: set[str]) -> str:
 
 
 def imported(text: str, crate: str) -> dict[str, str]:
-    """The names of a crate's definitions that a source file imports, by the words that stand for them there."""
+    """The definitions of a crate that a file imports, as `module.name`, by the words that stand for them there."""
     names = {}
-    for m in re.finditer(rf"Rattle\.{crate}\.specs\.[\w.]+\.\{{([^}}]*)\}}", text):
-        for part in m.group(1).split(","):
+    for m in re.finditer(rf"Rattle\.{crate}\.specs\.([\w.]+)\.\{{([^}}]*)\}}", text):
+        for part in m.group(2).split(","):
             name, _, alias = part.strip().partition(" as ")
-            names[alias or name] = name
+            names[alias or name] = f"{m.group(1)}.{name}"
     return names
+
+
+def meant(text: str, crate: str, module: str, own: set[str], words: set[str]) -> set[str]:
+    """What words of a file stand for: definitions that it imports, or its own."""
+    names = imported(text, crate)
+    return {names.get(word, f"{module}.{word}") for word in words if word in names or word in own}
 
 
 def main() -> None:
     top = Path(sys.argv[1])
     wrong: list[str] = []
     for crate in sorted(p for p in (top / "crates").iterdir() if (p / "specs").is_dir()):
-        files = sorted(f for f in (crate / "specs").rglob("*.antt") if f.name != "Lib.antt")
-        if not files or crate.name.endswith(("tests", "bench")) or crate.name in ("nr_world", "nr_top"):
+        specs = crate / "specs"
+        files = sorted(f for f in specs.rglob("*.antt") if f.name != "Lib.antt")
+        if not files or crate.name.endswith(("tests", "bench")):
             continue
-        declared, bodies = {}, {}
+        declared: dict[Path, set[str]] = {}
+        bodies: dict[str, set[str]] = {}
         for f in files:
-            text = f.read_text()
-            declared[f] = declared_in(text)
-            body = {}
+            text, module = f.read_text(), ".".join(f.relative_to(specs).with_suffix("").parts)
+            own = declared_in(text)
+            declared[f] = {f"{module}.{name}" for name in own}
             for block in re.split(r"\n\n+", text):
-                names = declared_in(block)
-                for n in names:
-                    body.setdefault(n, set()).update(TOKEN.findall(block))
-            bodies[f] = body
-        all_names = set().union(*declared.values())
-        cited = set()
+                words = meant(text, crate.name, module, own, set(TOKEN.findall(block)))
+                for name in declared_in(block):
+                    bodies.setdefault(f"{module}.{name}", set()).update(words)
         sources = [src.read_text() for src in (crate / "src").rglob("*.rt")]
         types = set(re.findall(r"^\s*pub (?:struct|enum) (\w+)", "\n".join(sources), re.M))
+        public: set[str] = set()
         for text in sources:
-            words = set(TOKEN.findall(public_text(text, types)))
-            cited |= {name for word, name in imported(text, crate.name).items() if word in words} & all_names
-        outside = set()
+            public |= meant(text, crate.name, "", set(), set(TOKEN.findall(public_text(text, types))))
         for other in (top / "crates").iterdir():
-            if other == crate or not other.is_dir():
-                continue
             for part in ("src", "specs"):
-                for f in (other / part).rglob("*.*t"):
-                    if f.suffix in (".rt", ".antt"):
-                        for m in re.finditer(rf"Rattle\.{crate.name}\.specs\.([\w.]+)\.\{{([^}}]*)\}}", f.read_text()):
-                            outside |= set(TOKEN.findall(m.group(2)))
-        public = (cited | outside) & all_names
-        while True:
-            more = set()
-            for f in files:
-                for n, used in bodies[f].items():
-                    if n in public:
-                        more |= used & all_names
-            if more <= public:
-                break
-            public |= more
+                if other != crate and (other / part).is_dir():
+                    for f in (other / part).rglob("*.*t"):
+                        if f.suffix in (".rt", ".antt"):
+                            public |= set(imported(f.read_text(), crate.name).values())
+        todo = list(public)
+        while todo:
+            for name in bodies.get(todo.pop(), set()) - public:
+                public.add(name)
+                todo.append(name)
         for f in files:
             if not declared[f]:
                 continue
-            apart = f.parent.name == "private"
-            if apart and declared[f] & public:
-                wrong.append("%s: public code cites %s" % (f.relative_to(top / "crates"), ", ".join(sorted(declared[f] & public))))
-            if not apart and not declared[f] & public:
-                wrong.append("%s: only private code cites it" % f.relative_to(top / "crates"))
+            apart, cited = f.parent.name == "private", declared[f] & public
+            if apart and cited:
+                names = ", ".join(sorted(name.rpartition(".")[2] for name in cited))
+                wrong.append(f"{f.relative_to(top / 'crates')}: public code cites {names}")
+            if not apart and not cited:
+                wrong.append(f"{f.relative_to(top / 'crates')}: only private code cites it")
     print("\n".join(wrong) or "all stand where they belong")
     sys.exit(1 if wrong else 0)
 
