@@ -22,7 +22,7 @@ def seconds(*runs, times=15):
     return best
 
 def each(what, count, step, times=15):
-    """The nanoseconds of one of so many FPDUs, without the same run that feeds nothing."""
+    """The nanoseconds of one of `count` FPDUs, without the same run that feeds nothing."""
     fed, idle = seconds((what, count, step, "fed"), (what, count, step, "idle"), times=times)
     return (fed - idle) / count * 1e9
 

@@ -4,7 +4,7 @@
 #     bench/null_calls.sh [PROGRAM]
 #
 # PROGRAM is the built program, by default the one that `rt run` leaves in crates/nfsrdma. The fastest of three runs counts. The status
-# is 1 where the program fails or a target is missed. This is not part of the gate.
+# is 1 if the program fails or a target is missed. This is not part of the gate.
 set -euo pipefail
 shopt -s inherit_errexit
 export LC_ALL=C

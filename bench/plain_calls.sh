@@ -82,7 +82,7 @@ def spent(lines):
 
 
 def printed_as(status, calls):
-    """Ends the script where one of the last calls was not answered with this status."""
+    """Ends the script if one of the last calls was not answered with this status."""
     with open(room + "/printed") as printed:
         replies = printed.read().splitlines()[-calls - 1 : -1]
     for reply in replies:

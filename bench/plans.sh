@@ -6,7 +6,7 @@ exec python3 - "${1:-crates/plan_bench/out/plan_bench}" <<'END'
 import resource, subprocess, sys, timeit
 
 def seconds(*args, times=15):
-    """The least processor time of a run with these arguments, of so many."""
+    """The least processor time of a run with these arguments, of `times` runs."""
     best = None
     for _ in range(times):
         before = resource.getrusage(resource.RUSAGE_CHILDREN)

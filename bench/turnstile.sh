@@ -1,5 +1,5 @@
 #!/bin/sh
-# Measures the time of a turn: one, two and four threads that add to one counter, behind a turnstile and in the kit's Mutex. Run it by
+# Measures the time of a turn: one, two and four threads that add to one counter, in a turnstile and in the kit's Mutex. Run it by
 # hand at the top of the repository, after `(cd crates/turnstile_bench && rt run)` has built the program; or give the path of the program
 # as $1. The runs take turns. The time is that of the clock, without the same run that adds nothing.
 exec python3 - "${1:-crates/turnstile_bench/out/turnstile_bench}" <<'END'

@@ -25,7 +25,9 @@ HOUSE = (
     (r'\bbehind\b', 'behind: write after'),
     (r'\bwhole\b', 'whole: write complete'),
     (r'\btold\b', 'told: write delivered or reported'),
+    (r'\bwholly\b', 'wholly: write completely'),
     (r'\bso many\b', 'so many: write n or at most n'),
+    (r'\bas it stands\b', 'as it stands: write the same as or equal to'),
     (r'\b[Ww]ants? (?:of )?memory\b', 'want of memory: write out of memory'),
 )
 # words in backticks that are no names of the project: of the kit and of std, and placeholders

@@ -45,7 +45,7 @@ static WRITE_HEAD: [u8; 32] = [
     128, 0,
 ];
 
-/// What is called: a procedure, its arguments, and where its reply has the count of bytes.
+/// What is called: a procedure, its arguments, and the offset of the count of bytes in its reply.
 #[derive(Clone, Copy)]
 struct Work<'a> {
     proc: u32,
@@ -110,7 +110,7 @@ fn confirmed(reply: &[u8], at: usize) -> Option<u64> {
     Some(u64::from(word(reply, at)?))
 }
 
-/// Calls so many times, and gives how many bytes are confirmed.
+/// Calls `rounds` times, and gives how many bytes are confirmed.
 fn call_all(
     alloc: Global,
     link: &mut Link,
@@ -135,7 +135,7 @@ struct Task<'a> {
     data: &'a [u8],
 }
 
-/// Lets the sides greet each other, and writes.
+/// Lets the sides exchange their hellos, and writes.
 fn written(
     alloc: Global,
     link: &mut Link,
@@ -166,7 +166,7 @@ fn reads(
     }
 }
 
-/// Writes, then works so many times, and reads what was written.
+/// Writes, then works the task's rounds, and reads what was written.
 fn worked(
     alloc: Global,
     link: &mut Link,

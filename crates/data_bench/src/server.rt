@@ -29,7 +29,7 @@ const NOW: Moment = Moment {
 /// The most bytes of a pad.
 const PAD_MAX: usize = 3;
 
-/// A buffer in which the bytes of a read chunk were placed where they belong, with room for a stream of this length around them.
+/// A buffer in which the bytes of a read chunk were placed at their offset, with room for a stream of this length around them.
 fn fetched(
     alloc: Global,
     link: &mut Link,

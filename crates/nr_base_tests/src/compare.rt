@@ -85,7 +85,7 @@ fn wanted(
     }
 }
 
-/// Ends the test if what a row's words were written as, once they were read, is not what the row wants.
+/// Ends the test if what a row's words were written as, once they were read, is not what the row says.
 pub fn row_gives(
     rt: &impl Abort,
     alloc: Global,

@@ -42,7 +42,6 @@ pub struct CallReport {
     /// The number of the client, from 1.
     pub client: u32,
     /// The number of the line among the call lines of the client, from 1.
-    /// The number of the line among those of the client, from 1.
     pub number: u32,
     /// What became of the call.
     pub state: CallState,
@@ -100,7 +99,6 @@ pub struct Report {
     /// What happened, mark by mark.
     pub marks: Marks,
     /// What the executed calls of all links added, in order.
-    /// The entries that all Executes added.
     pub journal: Journal,
     /// What became of each call.
     pub calls: CallReports,

@@ -409,7 +409,7 @@ abbrev pub IsFrameReason : Awaited → ℕ → Type 0
 IsFrameReason (HelloFrom side) reason = (REASON_KEY ≤ reason) × (reason ≤ REASON_PRIVATE)
 IsFrameReason Fpdu reason = ((REASON_LENGTH ≤ reason) × (reason ≤ REASON_SHORT)) ⊎ (reason ≡ REASON_LONG)
 
--- how a frame at this offset ends a side, which is never by lack of memory
+-- how a frame at this offset ends a side, which is never that memory ran out
 abbrev pub IsFrameEnd : Awaited → ℕ → End → Type 0
 IsFrameEnd a place (ends.Bad at reason) = (at ≡ place) × IsFrameReason a reason
 IsFrameEnd a place (ends.Denied stag offset why) = a ≡ Fpdu

@@ -330,7 +330,7 @@ impl Endpoint {
         self.link.send_queue.sends_left()
     }
 
-    /// How many Sends haven't wholly left the queue.
+    /// The number of Sends that haven't completely left the queue.
     pub fn sends_waiting(&self) -> usize
         ensures { result ≡ length self.now.link.state.send_queue.send_ends }
     {

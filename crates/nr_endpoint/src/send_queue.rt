@@ -418,7 +418,7 @@ impl SendQueue {
         self.sends_left
     }
 
-    /// How many Sends haven't wholly left.
+    /// The number of Sends that haven't completely left.
     pub fn sends_waiting(&self) -> usize
         ensures { result ≡ length self.now.send_ends }
     {

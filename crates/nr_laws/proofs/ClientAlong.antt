@@ -82,7 +82,7 @@ segment_quiet k f bytes behind stays = by (frame_segment f) refl
         formed (client_readiness k (missing_access (region_grants f.end k.regions) f segment)) last opcode w queue msn offset payload
         (subst (λ (s : Segment). segment_reason (client_readiness k (missing_access (region_grants f.end k.regions) f segment)) s ≡ None) same (client_has_no_fault k f segment behind is stays))))
 
--- ---- A step that accepts no call and hears no hello
+-- ---- A step that accepts no call and receives no hello
 
 record Step (opened : LinkParameters) (place : ℕ) (k after : ClientState) (ended : Option Stop) : Type 0 where
   short : CallsShort opened k.outstanding → CallsShort opened after.outstanding

@@ -126,7 +126,7 @@ unfolding client
 client_regions_are_chunks opened link run r there =
     all_at (IsChunkOfCall opened (events link Initiator run)) there.0 _ r (all_events opened [] (events link Initiator run) tt) there.1 there.2
 
--- ---- Until when they live
+-- ---- Until when they are live
 
 abbrev HasCall : ℕ → List OutstandingCall → Type 0
 HasCall xid [] = ⊥

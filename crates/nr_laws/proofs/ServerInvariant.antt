@@ -142,7 +142,7 @@ server_takes_part opened k s w place f offset payload rest j g head p lt =
       },
     )
 
--- and so does a segment of a Response: it is the one expected, and reaches a region that lives
+-- and so does a segment of a Response: it is the one expected, and reaches a region that is live
 pub server_takes_response : (opened : LinkParameters) (k : ClientState) (s : ServerState) (w : Transit) (place : ℕ) (f : Frame) (last : Bool) (opcode stag to : ℕ) (payload : List ℕ) (rest : List FrameContent) → ServerAgrees opened k s w place
     → w.up ≡ TaggedFrame last opcode stag to payload ∷ rest → Carries s.received.sends s.received.requests f (TaggedFrame last opcode stag to payload) → place < f.end
     → (server_end opened s (FrameReceived f) ≡ refusal_end f (frame_effect s f).refusal) × ((frame_effect s f).refusal ≡ None → ServerAgrees opened k (server_state_after opened s (FrameReceived f)) (moved w (frame_effect s f) rest) f.end)

@@ -69,7 +69,7 @@ CausedCallsComplete = (opened : LinkParameters) (link : ℕ) (run : List Mark) �
     IsQuiescent opened link run → outcomes_due opened link run ≡ [] → (a : AcceptedCall) → IsKept link run a → HasChunkCause opened link run a.xid →
     Contains (completed_calls link run) (record { xid = a.xid; outcome = outcomes.Chunk })
 
--- On a matched link no call completes with another version: both sides speak version 1 (RFC 8166 section 4.2.2).
+-- On a matched link no call completes with another version: both sides use version 1 (RFC 8166 section 4.2.2).
 abbrev pub NoOtherVersion : Type 0
 NoOtherVersion = (opened : LinkParameters) (link : ℕ) (run before : List Mark) (xid low high : ℕ) →
     IsTyped run → MatchedSoFar opened link run → MarkAt run before (marks.Done link xid (outcomes.Version low high)) → ⊥

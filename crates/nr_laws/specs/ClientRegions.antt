@@ -40,7 +40,7 @@ pub record HasOutstandingCall (k : ClientState) (xid : ℕ) : Type 0 where
   pub own : call.xid ≡ xid
   pub kept : call.is_revoked ≡ false
 
--- On every link, whatever the server sends, a region of a client lives only while that is so of its call.
+-- On every link, whatever the server sends, a region of a client is live only while that is so of its call.
 abbrev pub LiveClientRegionsAreOutstanding : Type 0
 LiveClientRegionsAreOutstanding = (opened : LinkParameters) (link : ℕ) (run : List Mark) (earlier later : List RunEvent) (r : Region) → events link Initiator run ≡ earlier ++ later →
     (let k : ClientState = (end_state_after (client_rules opened) (initial_client opened) earlier).state in

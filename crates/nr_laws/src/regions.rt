@@ -7,7 +7,7 @@ ghost use Rattle.nr_laws.specs.Sent.{ClientSendsWhatIsDue, ServerSendsWhatIsDue,
 ghost use Rattle.nr_laws.specs.ServerRegions.{ServerRegionsAreChunks, SendsAddChunks, NothingElseAddsRegions, ClosedRegionsStay, LiveServerRegionsAreRead, ServerRegionsCloseWhenRead};
 
 /// Which regions a side offers, and how long, whatever the peer sends. An accepted call adds a region at its client for each chunk of its plan
-/// (RFC 8166 section 3.4). A region lives only while its call is outstanding and its memory isn't taken back, and is closed by the message of the
+/// (RFC 8166 section 3.4). A region is live only while its call is outstanding and its memory isn't taken back, and is closed by the message of the
 /// call or by a Revoke. A Send that makes a call pending adds a sink at its server for each read chunk with bytes (RFC 8166 section 3.4.5), which
 /// is closed once, when nothing is left to be read for it. Nothing else adds a region.
 pub fn offered_regions()

@@ -12,6 +12,7 @@ use std::alloc::Global;
 /// The arguments of READ (RFC 1813 section 3.3.6).
 #[derive(Drop)]
 pub struct ReadArgs {
+    /// The file that is read.
     pub file: Handle,
     /// In bytes.
     pub offset: u64,
@@ -49,6 +50,7 @@ impl Xdr for ReadArgs {
 /// The arguments of WRITE (RFC 1813 section 3.3.7).
 #[derive(Drop)]
 pub struct WriteArgs {
+    /// The file that is written.
     pub file: Handle,
     /// In bytes.
     pub offset: u64,
@@ -91,6 +93,7 @@ impl Xdr for WriteArgs {
 /// The arguments of COMMIT (RFC 1813 section 3.3.21).
 #[derive(Drop)]
 pub struct CommitArgs {
+    /// The file whose data are committed.
     pub file: Handle,
     /// In bytes.
     pub offset: u64,

@@ -73,6 +73,7 @@ pub struct CreateArgs {
     pub dir: Handle,
     /// `where.name`: the name of the new entry.
     pub name: Name,
+    /// How the file is created, and the attributes that it gets.
     pub how: CreateHow,
 }
 

@@ -37,6 +37,7 @@ impl Xdr for LookupArgs {
 /// The arguments of READLINK (RFC 1813 section 3.3.5).
 #[derive(Drop)]
 pub struct ReadlinkArgs {
+    /// The symbolic link.
     pub symlink: Handle,
 }
 

@@ -12,6 +12,7 @@ use std::alloc::Global;
 /// The arguments of READDIR (RFC 1813 section 3.3.16).
 #[derive(Drop)]
 pub struct ReaddirArgs {
+    /// The directory.
     pub dir: Handle,
     /// The cookie of the last known entry, or 0.
     pub cookie: u64,
@@ -53,6 +54,7 @@ impl Xdr for ReaddirArgs {
 /// The arguments of READDIRPLUS (RFC 1813 section 3.3.17).
 #[derive(Drop)]
 pub struct ReaddirplusArgs {
+    /// The directory.
     pub dir: Handle,
     /// The cookie of the last known entry, or 0.
     pub cookie: u64,

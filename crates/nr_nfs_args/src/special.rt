@@ -177,6 +177,7 @@ pub struct MknodArgs {
     pub dir: Handle,
     /// `where.name`: the name of the new entry.
     pub name: Name,
+    /// The type of the special file, and its attributes.
     pub what: MknodData,
 }
 

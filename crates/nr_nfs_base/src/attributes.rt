@@ -47,7 +47,9 @@ pub struct Attributes {
     pub mode: u32,
     /// The number of hard links.
     pub nlink: u32,
+    /// The user ID of the owner.
     pub uid: u32,
+    /// The group ID of the owner's group.
     pub gid: u32,
     /// In bytes.
     pub size: u64,

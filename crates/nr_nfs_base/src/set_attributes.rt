@@ -103,11 +103,15 @@ impl Xdr for SetTime {
 pub struct SetAttributes {
     /// The permission bits.
     pub mode: Option<u32>,
+    /// The user ID of the owner.
     pub uid: Option<u32>,
+    /// The group ID of the owner's group.
     pub gid: Option<u32>,
     /// In bytes.
     pub size: Option<u64>,
+    /// The time of the last access.
     pub atime: SetTime,
+    /// The time of the last change of the contents.
     pub mtime: SetTime,
 }
 

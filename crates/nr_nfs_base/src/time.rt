@@ -11,6 +11,7 @@ use std::alloc::Global;
 /// A time: seconds and nanoseconds since the start of 1970 (RFC 1813 section 2.5, `nfstime3`).
 #[derive(Clone, Copy)]
 pub struct Time {
+    /// Since the start of 1970.
     pub seconds: u32,
     /// Any number is read and written. A server refuses 10^9 and more.
     pub nanoseconds: u32,

@@ -11,6 +11,7 @@ use std::alloc::Global;
 /// `writeverf3`, `cookieverf3` and `createverf3`). They are kept as a big-endian number.
 #[derive(Clone, Copy)]
 pub struct Verifier {
+    /// The eight bytes as a big-endian number.
     pub number: u64,
 }
 

@@ -15,7 +15,9 @@ use std::alloc::Global;
 pub struct WccAttributes {
     /// In bytes.
     pub size: u64,
+    /// The time of the last change of the contents.
     pub mtime: Time,
+    /// The time of the last change of the attributes.
     pub ctime: Time,
 }
 

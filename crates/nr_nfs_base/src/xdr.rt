@@ -18,7 +18,7 @@ pub trait Xdr: Drop {
     ghost codec: { Codec Self };
 
     /// The value at the reader's offset, and the reader after it. `Bad` at the first item that fails, in bytes from
-    /// where the reader began.
+    /// the reader's first byte.
     fn read_from<'a>(alloc: Global, reader: Reader<'a>) -> Result<(Self, Reader<'a>), ValueFault>
         ensures exact { Answers result (codec.read reader.entry) };
 

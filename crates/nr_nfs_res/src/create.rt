@@ -13,6 +13,7 @@ pub struct CreateOk {
     pub object: Option<Handle>,
     /// The attributes of the object.
     pub attributes: Option<Attributes>,
+    /// The attributes of the directory before and after the call.
     pub dir_wcc: WccData,
 }
 

@@ -12,7 +12,9 @@ use std::alloc::Global;
 /// An entry of a directory (RFC 1813 section 3.3.16, `entry3`).
 #[derive(Drop)]
 pub struct Entry {
+    /// The number of the object.
     pub fileid: u64,
+    /// The name of the entry.
     pub name: Name,
     /// From which a listing goes on after this entry.
     pub cookie: u64,
@@ -44,9 +46,11 @@ impl Xdr for Entry {
 /// A part of a directory: the results of READDIR and READDIRPLUS on success (RFC 1813 sections 3.3.16 and 3.3.17).
 #[derive(Drop)]
 pub struct Listing<E> {
+    /// The attributes of the directory.
     pub dir_attributes: Option<Attributes>,
     /// `cookieverf`: the verifier of the cookies.
     pub verifier: Verifier,
+    /// The entries in order.
     pub entries: LinkedList<E>,
     /// No entry follows these.
     pub eof: bool,
@@ -97,7 +101,9 @@ pub type ReaddirRes = StatusUnion<ReaddirOk, Option<Attributes>>;
 /// An entry of a directory and what it names (RFC 1813 section 3.3.17, `entryplus3`).
 #[derive(Drop)]
 pub struct EntryPlus {
+    /// The number of the object.
     pub fileid: u64,
+    /// The name of the entry.
     pub name: Name,
     /// From which a listing goes on after this entry.
     pub cookie: u64,

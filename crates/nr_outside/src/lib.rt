@@ -1,10 +1,10 @@
-//! Input and output: where bytes come from, and where they go.
+//! Input and output: sources and sinks of bytes.
 //!
 //! Everything that the project reads and writes passes through two traits, [`Source`] and [`Sink`]. Each object counts
 //! its faults. A call answers [`Failed`] only if the count of that object rises, so a layer above can show that a
 //! failure came from outside. A count has risen if it is greater than before, or at its maximum, 2^64 - 1.
 //!
-//! Contracts speak of an object's bytes if the bytes are known to the proof. In memory they are: [`MemSource`] and
+//! Contracts say something of an object's bytes if the bytes are known to the proof. In memory they are: [`MemSource`] and
 //! [`MemSink`] fail at the calls that a list names, and a [`Pipe`] hands out what was written to it and keeps all of it.
 //! [`StdSource`] and [`StdSink`] are adapters over a reader and a writer of std. They count faults; their bytes are
 //! unknown. [`read_whole`] and [`write_whole`] move a complete input or output.

@@ -15,7 +15,7 @@ accepted_size : (xid : ℕ) → length (reply_head (Accepted xid 0 0)) ≡ head_
 unfolding word pad_len
 accepted_size xid = refl
 
--- a new room of that many bytes has room for the whole reply
+-- a new room of that many bytes has room for the complete reply
 pub reply_has_room : (room : Room) (xid : ℕ) (results : List ℕ) → room ≡ record { bytes = []; left = most_reply } → length results ≤ results_max → HasRoom room (reply_encoding (Accepted xid 0 0) results)
 reply_has_room room xid results e le =
     let left : room.left ≡ most_reply = ap (λ (r : Room). r.left) e in

@@ -58,6 +58,7 @@ impl Model for Server {
 /// The reply to a call, also to one that is refused or is no NFS procedure.
 #[derive(Drop)]
 pub struct Reply {
+    /// The RPC reply.
     pub payload: Octets,
     /// How many entries the journal had before the call.
     pub place: u64,

@@ -102,7 +102,7 @@ unfoldable pub answer_message : (xid credit : ℕ) → ChunkLists → Answer →
 answer_message xid credit offer a =
     header_encoding (record { xid = xid; credit = credit; body = answer_body offer a }) ++ (if a.long then [] else a.stream)
 
--- the error messages: chunks that can't be used, and a version that isn't spoken (RFC 8166 section 4.5)
+-- the error messages: chunks that can't be used, and a version that isn't supported (RFC 8166 section 4.5)
 unfoldable pub chunk_error : (xid credit : ℕ) → List ℕ
 chunk_error xid credit = header_encoding (record { xid = xid; credit = credit; body = ErrChunk VERSION })
 

@@ -283,8 +283,8 @@ fn has_placed_length(of: &Of, item: &Item, buffer: &Octets, at: usize, len: usiz
     has_moved_length(of, item, placed)
 }
 
-/// The same as [`rebuild_item_into`], if the bytes of the chunk stand in the room already, `moved` of them from `pos` on: they stay
-/// where they are.
+/// The same as [`rebuild_item_into`], if the bytes of the chunk stand in the room already, `moved` of them from `pos` on: they are
+/// not moved.
 #[tactic(auto, unfolding(crate::specs::Cuts::rebuilt_of))]
 pub fn rebuild_in_place(
     room: &mut Octets,

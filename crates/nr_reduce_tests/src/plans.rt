@@ -374,7 +374,7 @@ fn seen(plan: &Result<Plan, PayloadFault>) -> Want<'_> {
     }
 }
 
-/// Ends the test if what is planned is not what the row wants.
+/// Ends the test if what is planned is not what the row says.
 fn row_plans(rt: &impl Abort, alloc: Global, number: usize, row: &Row) {
     let Row(payload, way, up, down, want) = row;
     let got = planned(rt, alloc, *payload, *way, [*up, *down]);

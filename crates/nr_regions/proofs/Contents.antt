@@ -198,7 +198,7 @@ allowed_iff grants access end own = (
   λ e. allowed_by grants access end (find (applies access.stag end) grants) refl e,
 )
 
--- ---- A dead STag
+-- ---- An STag that is no longer live
 
 none_placed : (m : RegisteredMemory) (s : TaggedSegment) → held_region m s.stag ≡ None → held_region (after_event m (Arrive s)) s.stag ≡ None
 unfolding after_event denial live_region
@@ -220,7 +220,7 @@ dead_by m stag (Arrive s) lt none =
       | inr ne ↦ arrive_other m s stag ne ∙ none
     ]
 
--- an STag that was given and is dead stays dead
+-- an STag that was given and is not live never is again
 pub stays_dead : (events : List MemoryEvent) (m : RegisteredMemory) (stag : ℕ) → stag < m.next → held_region m stag ≡ None → held_region (after_events m events) stag ≡ None
 stays_dead [] m stag lt none = none
 stays_dead (event ∷ events) m stag lt none =

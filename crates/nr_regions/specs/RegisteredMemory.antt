@@ -149,7 +149,7 @@ abbrev pub buffer_around : Option Outside → List ℕ → List ℕ
 buffer_around None bytes = bytes
 buffer_around (Some outside) bytes = outside.front ++ (bytes ++ outside.rest)
 
--- the bytes outside a registration's region, where it is held
+-- the bytes outside a registration's region, if it is held
 abbrev pub outside_at : RegionTable → ℕ → Option Outside
 outside_at t stag = get t.outside stag
 

@@ -9,7 +9,7 @@
 //! which registrations it leaves held ([`held_until_release`]). That a region is live, so that the peer reaches it, is a
 //! separate fact. If memory runs out, nothing changes; [`Regions`] says how several buffers are registered, all or none.
 //!
-//! The laws speak of a list of grants and of the segments of a stream. An access is allowed if a grant covers it
+//! The laws are about a list of grants and of the segments of a stream. An access is allowed if a grant covers it
 //! ([`allowed_accesses`]). A region that stays open holds what was registered with each allowed payload over it, the later
 //! over the earlier ones ([`contents_while_open`]). A buffer that is released at the end of its grant holds just that for
 //! the complete stream, with what came before the registration and what comes after the release ([`contents_at_release`]).

@@ -58,7 +58,7 @@ abbrev pub IsAwaited : Awaited → ℕ → Type 0
 IsAwaited (HelloFrom side) place = (side ≡ Responder) × (place ≡ 0)
 IsAwaited Fpdu place = 0 < place
 
--- where a frame that doesn't end the side leaves its place
+-- the place of a side after a frame that doesn't end it
 next_awaited : (opened : LinkParameters) (r : RequesterState) (k : ClientState) (count : ℕ) (a : Awaited) (frame : List ℕ) → Kept opened r k count → IsAwaited a r.side.place → count < r.side.place + length frame →
     FrameTaken opened r k (next_frame r.side frame) (after_frame r a frame)
 next_awaited opened r k count (HelloFrom side) frame keeps is lt =
@@ -93,7 +93,7 @@ ended_taken opened r k end count place a frames rest keeps count2 le =
 
 -- ---- A live one
 
--- the first frame ends behind what was received, or else the rest does
+-- the first frame ends after what was received, or else the rest does
 abbrev pub IsBeyond : ℕ → ℕ → List (List ℕ) → List ℕ → Type 0
 IsBeyond count place [] rest = count ≤ place + length rest
 IsBeyond count place (frame ∷ frames) rest = count < place + length frame

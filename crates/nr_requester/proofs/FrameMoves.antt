@@ -42,7 +42,7 @@ use Rattle.nr_requester.specs.AfterCalls.{stags_for}
 use Rattle.nr_requester.specs.AfterPiece.{without_call, answer_to, call_of, judged}
 use Rattle.nr_requester.proofs.KeptCalls.{stags_alike}
 
--- A requester that hasn't ended keeps this client, after so many bytes were received.
+-- A requester that hasn't ended keeps this client, after `count` bytes were received.
 pub record Kept (opened : LinkParameters) (r : RequesterState) (k : ClientState) (count : ℕ) : Type 0 where
   pub client : ClientKeeps opened (kept_client r) (live k) count
   pub side : LinkKeeps opened r.side k

@@ -34,7 +34,7 @@ pub record StoredCall : Type 0 where
 abbrev pub awaited_call : StoredCall → Option Call
 awaited_call c = if c.is_forgotten then None else c.call
 
--- The side of the link, without the input that isn't a complete frame; how many Sends have wholly left, until the side has ended; the
+-- The side of the link, without the input that isn't a complete frame; how many Sends have left completely, until the side has ended; the
 -- credits that it wishes for; its first xid and the one that it gives next; the credits that are granted; the outstanding calls, in the
 -- order of their Submits; the calls whose outcome came and wasn't handed over, in the order in which they were answered.
 pub record RequesterState : Type 0 where
@@ -55,7 +55,7 @@ RequesterSide = Feeding RequesterState
 abbrev pub queue_of : RequesterState → List ℕ
 queue_of r = writable r.side.has_hello r.side.send_queue
 
--- A call as a client keeps it. Xids and the Sends of calls both go by the order of Submits, so a Send has left if so many have.
+-- A call as a client keeps it. Xids and the Sends of calls both go by the order of Submits, so a Send has left if `sent` counts it.
 abbrev pub kept_call : (first sent : ℕ) → StoredCall → KeptCall
 kept_call first sent c = record { xid = c.xid; is_sent = nat_lt (c.xid - first) sent; call = c.call; offered = c.offered; stags = stags_of c.claims }
 

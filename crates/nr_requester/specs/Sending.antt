@@ -40,7 +40,7 @@ pub record IsPlan (p : Plan) : Type 0 where
   pub form : Form
   pub is : plan_of payload form send_max send_max ≡ Ok p
 
--- numbers and a credit are left for a call with so many regions
+-- numbers and a credit are left for a call with `needed` regions
 pub record HasNumbers (r : RequesterState) (needed : ℕ) : Type 0 where
   pub xid : r.next_xid < 2 ^ 32
   pub stags : r.side.memory.next + needed ≤ 2 ^ 32

@@ -27,7 +27,7 @@ pub record HasEnds (written hello : ℕ) (all queued : List ℕ) : Type 0 where
   pub ends : queued ≡ ends_left (written + hello) all
   pub count : length queued ≡ ends_waiting written all
 
--- where the Sends of a client end in its output: those of the calls that wait for the server's hello come first after what is due
+-- the offsets at which the Sends of a client end in its output: those of the calls that wait for the server's hello come first after what is due
 abbrev pub sends_ends : Bool → LinkParameters → ClientState → List ℕ
 sends_ends true opened k = k.send_ends
 sends_ends false opened k = call_ends opened k.due 1 k.outstanding

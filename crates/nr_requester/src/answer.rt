@@ -9,17 +9,24 @@ use nr_xdr::Octets;
 /// had one with a segment.
 #[derive(Drop)]
 pub struct Buffers {
+    /// That of the read chunk.
     pub read: Option<Octets>,
+    /// That of the write chunk.
     pub write: Option<Octets>,
+    /// That of the reply chunk.
     pub reply: Option<Octets>,
 }
 
 /// A call whose outcome came and wasn't handed over yet: the call, the buffers of its regions, and what it was answered by.
 #[derive(Drop)]
 pub struct AnsweredCall {
+    /// The xid under which it was accepted.
     pub xid: u32,
+    /// The call.
     pub call: Call,
+    /// The buffers of its regions.
     pub buffers: Buffers,
+    /// What it was answered by.
     pub outcome: Outcome,
 }
 

@@ -32,7 +32,7 @@ fn reason_of(fault: &HeaderFault) -> u32
     }
 }
 
-/// Whether the Send of a call has left, if so many have.
+/// Whether the Send of a call has left, if `sent` Sends have.
 fn is_sent(xid: u32, first_xid: u32, sent: u64) -> bool
     ensures { result ≡ nat_lt (xid - first_xid) sent }
 {

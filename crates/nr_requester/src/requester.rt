@@ -33,7 +33,7 @@ use std::marker::Model;
 pub struct Requester {
     pub(crate) alloc: Global,
     pub(crate) endpoint: Endpoint,
-    // How many Sends had wholly left when the link ended, or have by now.
+    // The number of Sends that had completely left when the link ended, or have by now.
     pub(crate) sent: u64,
     pub(crate) wished: u32,
     pub(crate) first_xid: u32,
@@ -189,7 +189,7 @@ impl Requester {
     }
 }
 
-/// How many Sends have wholly left, or had when the link ended.
+/// The number of Sends that have completely left, or had when the link ended.
 fn sent_by_now(endpoint: &Endpoint, sent: u64) -> u64
     ensures { result ≡ sent_unless (has_ended endpoint.now.link.state) sent endpoint.now.link.state.send_queue.sends_left }
 {

@@ -25,6 +25,7 @@ pub enum CallHead {
 /// What a call of RPC version 2 asks for, without its credential. `args_at` is as in [`CallHead`].
 #[derive(Clone, Copy, Debug, PartialEq, Eq)]
 pub struct CallTarget {
+    /// The transaction ID.
     pub xid: u32,
     /// The program number.
     pub prog: u32,

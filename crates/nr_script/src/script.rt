@@ -14,13 +14,10 @@ use std::marker::Model;
 #[derive(Clone, Copy)]
 pub struct Opening {
     /// How many clients there are: 1 to 16.
-    /// The number of clients.
     pub clients: u32,
     /// The credits with which both ends of each link are opened (RFC 8166 section 3.3): 1 to 64.
-    /// The credits with which both ends of each link are opened.
     pub credits: u32,
     /// How many bytes the journal may cost: at most 2^63 - 1.
-    /// The limit of the journal's cost in bytes.
     pub capacity: u64,
 }
 

@@ -28,8 +28,11 @@ pub enum Side {
 /// byte unchanged, `private` the private data for the layer above, at most 512 bytes.
 #[derive(Clone, Copy)]
 pub struct Hello<'a> {
+    /// The side that sends it.
     pub side: Side,
+    /// The byte of flags, unchanged.
     pub flags: u8,
+    /// The private data, at most 512 bytes.
     pub private: &'a [u8],
 }
 

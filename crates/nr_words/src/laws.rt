@@ -3,7 +3,8 @@
 ghost use Rattle.std.specs.Prelude.{codes};
 ghost use Rattle.nr_words.specs.Reads.{Asks, LinesArePossible};
 
-/// The command of a line has positionals that are not empty and do not begin with `-`, and numbers in their ranges.
+/// The command of a line has positionals that are not empty and do not begin with `-`, and clients and calls in their ranges.
+/// Its other numbers have the ranges of their types.
 pub fn lines_are_possible()
     ensures { LinesArePossible }
 {}

@@ -1,4 +1,4 @@
--- The bytes of a writer, and the room behind them.
+-- The bytes of a writer, and the room after them.
 use Rattle.std.specs.Prelude.{◌≡◌, ℕ, ◌+◌, ◌≤◌, List, ◌++◌, length, refl}
 use Rattle.std.specs.Coded.{Coded, code_by, coded×, coded_ℕ, coded_list}
 

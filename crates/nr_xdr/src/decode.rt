@@ -10,9 +10,10 @@ use crate::fault::ItemFault;
 use crate::reader::Reader;
 use crate::words::first_word;
 
-/// The offset of the first item that fails, in bytes from where the reader began.
+/// The offset of the first item that fails, in bytes from the reader's first byte.
 #[derive(Clone, Copy)]
 pub struct DecodeError {
+    /// That offset.
     pub at: usize,
 }
 

@@ -40,7 +40,7 @@ impl<'a> Reader<'a> {
         }
     }
 
-    /// A reader at the first of these bytes, where as many bytes as `place` says were taken before.
+    /// A reader at the first of these bytes, at offset `place`: that many bytes were taken before.
     pub fn at_place(place: usize, bytes: &'a [u8]) -> Reader<'a>
         requires { place + length bytes.now < 2 ^ 64 }
         ensures { result ≡ record { place = place; rest = bytes.now } }

@@ -11,7 +11,7 @@ use crate::words::pad_len;
 use std::alloc::Global;
 use std::marker::Model;
 
-/// Appends items, each by its one encoding, as `Writer` does. Contracts see the bytes so far, and the room behind them: how
+/// Appends items, each by its one encoding, as `Writer` does. Contracts see the bytes so far, and the room after them: how
 /// many more can be written without memory. A call whose item has room can't fail. A call that answers an `Err` leaves
 /// bytes and room as they were.
 #[derive(Drop)]
