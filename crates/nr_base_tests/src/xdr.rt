@@ -135,7 +135,7 @@ fn faults_at_the_end(rt: HostRuntime) {
 }
 
 /// The octets `hello`, with other bytes from the second on, and one more.
-fn hippos(rt: &impl Abort, alloc: Global) -> Octets {
+fn six_bytes(rt: &impl Abort, alloc: Global) -> Octets {
     let mut octets = Octets::from_slice(alloc, b"hello").expect(rt, "memory");
     octets.overwrite(1, b"ipp");
     same(rt, 0, octets.as_slice(), b"hippo".as_slice());
@@ -145,9 +145,9 @@ fn hippos(rt: &impl Abort, alloc: Global) -> Octets {
 
 #[test]
 fn octets(rt: HostRuntime) {
-    let octets = hippos(&rt, rt.alloc());
+    let octets = six_bytes(&rt, rt.alloc());
     same(&rt, 1, (octets.len(), octets.is_empty()), (6, false));
     let octets = Octets::from_vec(octets.into_vec());
-    same(&rt, 2, octets.as_slice(), b"hippos".as_slice());
+    same(&rt, 2, octets.as_slice(), b"six_bytes".as_slice());
     same(&rt, 3, Octets::new(rt.alloc()).is_empty(), true);
 }

@@ -30,7 +30,7 @@ use Rattle.std.proofs.lemmas.List.FromFn.{length-map-range_with_len}
 use Rattle.nr_drill.specs.Follows.{setting_of}
 use Rattle.nr_drill.specs.Headline.{IsDrillRun, log_of}
 use Rattle.nr_drill.proofs.Numbering.{drill_numbered}
-use Rattle.nr_drill.specs.LinkEnds.{AreEnds, TellsRuns, ends_of}
+use Rattle.nr_drill.specs.LinkEnds.{AreEnds, ReportsRuns, ends_of}
 use Rattle.nr_drill.specs.Reports.{at_last, becomes, call_reports, done_state, is_gone, last_place, link_report, link_reports, lost_if, place_shown, reports_after, reports_from, reports_with}
 use Rattle.nr_drill.specs.private.Drafts.{AddsToLog, AreCalls, AreNumbered, IsDraft, adding, at_last_by, gone_by, link_reports_from}
 
@@ -186,7 +186,7 @@ module _ (s : Setting) (run : List Mark) where
 -- ===== the report of a drill's run
 
 pub report_tells : (run : List Mark) (ends : List LinkEnds) (report : Report) → report.marks ≡ run → (AreNumbered (length ends) run → AreCalls run ends report.calls report.journal)
-    → report.links ≡ link_reports_from 1 ends → report.logs ≡ map (log_of run) (links_of (length ends)) → TellsRuns run ends report
+    → report.links ≡ link_reports_from 1 ends → report.logs ≡ map (log_of run) (links_of (length ends)) → ReportsRuns run ends report
 report_tells run ends report marks_are calls links logs server script is drill adds are =
     let s : Setting = setting_of server script.opening in
     let clients : ℕ = script.opening.clients in
@@ -204,7 +204,7 @@ report_tells run ends report marks_are calls links logs server script is drill a
 
 pub parts_tell : (run marks : List Mark) (ends : List LinkEnds) (report : Report) (calls : List CallReport) (entries : List Entry) (links : List LinkReport) (logs : List LinkLog) → run ≡ marks → report.marks ≡ marks
     → report.calls ≡ calls → report.journal ≡ entries → report.links ≡ links → report.logs ≡ logs → (AreNumbered (length ends) run → AreCalls run ends calls entries)
-    → links ≡ link_reports_from 1 ends → logs ≡ map (log_of run) (links_of (length ends)) → TellsRuns marks ends report
+    → links ≡ link_reports_from 1 ends → logs ≡ map (log_of run) (links_of (length ends)) → ReportsRuns marks ends report
 parts_tell run marks ends report calls entries links logs same marks_are c j l g calls_are links_are logs_are =
     report_tells marks ends report marks_are all (l ∙ links_are) (g ∙ logs_are ∙ ap (λ (r : List Mark). map (log_of r) (links_of (length ends))) same)
   where

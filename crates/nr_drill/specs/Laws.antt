@@ -28,9 +28,9 @@ abbrev pub PlainServersAnswer : Type 0
 PlainServersAnswer = (tree : Tree) (opening : Opening) → AnswersCalls (setting_of (server_of (drill_setup tree opening)) opening)
 
 -- what is printed of a run, and its sums, by its report
-pub record TellsRun (server : SerialServer) (script : ScriptLines) (report : Report) : Type 0 where
+pub record ReportsRun (server : SerialServer) (script : ScriptLines) (report : Report) : Type 0 where
   pub text : text_of report.calls report.links (length report.journal) ≡ shown (setting_of server script.opening) script.opening.clients report.marks
   pub sums : sums_of report.calls (length report.journal) ≡ summary (setting_of server script.opening) report.marks
 
 abbrev pub ReportsTellRuns : Type 0
-ReportsTellRuns = (server : SerialServer) (script : ScriptLines) (report : Report) → Reports server script report → TellsRun server script report
+ReportsTellRuns = (server : SerialServer) (script : ScriptLines) (report : Report) → Reports server script report → ReportsRun server script report

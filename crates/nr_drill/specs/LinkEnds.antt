@@ -25,6 +25,6 @@ AreEnds s clients run ends = ends ≡ map (ends_of s run) (links_of clients)
 
 -- Whatever the script, and whatever the server replies: if it adds to the journal what a plain server adds, and if the marks are the run of
 -- a drill whose links came to these ends, then the report is that of the run.
-abbrev pub TellsRuns : List Mark → List LinkEnds → Report → Type 0
-TellsRuns run ends report = (server : SerialServer) (script : ScriptLines) → IsScript script → IsDrillRun server script run → server.adds ≡ entries_of_call →
+abbrev pub ReportsRuns : List Mark → List LinkEnds → Report → Type 0
+ReportsRuns run ends report = (server : SerialServer) (script : ScriptLines) → IsScript script → IsDrillRun server script run → server.adds ≡ entries_of_call →
     AreEnds (setting_of server script.opening) script.opening.clients run ends → Reports server script report

@@ -4,7 +4,7 @@ ghost use Rattle.std.specs.Prelude.{◌≡◌, ℕ, ◌+◌, ◌-◌, ◌≤◌,
 ghost use Rattle.nr_script.specs.Limits.{clients_max};
 ghost use Rattle.nr_drill.specs.Drill.{links_of};
 ghost use Rattle.nr_drill.specs.Headline.{log_of};
-ghost use Rattle.nr_drill.specs.LinkEnds.{TellsRuns};
+ghost use Rattle.nr_drill.specs.LinkEnds.{ReportsRuns};
 ghost use Rattle.nr_drill.specs.Reports.{side_report};
 ghost use Rattle.nr_drill.specs.private.Drafts.{AddsToLog, AreCalls, AreNumbered, at_last_by, gone_by, is_open, link_report_by, link_reports_from};
 
@@ -218,7 +218,7 @@ pub fn report_of(alloc: Global, marks: Marks, ends: &[LinkEnds]) -> Result<Repor
     requires { length ends.now ≤ clients_max }
     ensures marks { IfOk result (λ report. report.marks ≡ marks) }
     // Of the run of a drill whose links came to that it says what its marks say.
-    ensures reports { IfOk result (λ report. TellsRuns marks ends.now report) }
+    ensures reports { IfOk result (λ report. ReportsRuns marks ends.now report) }
 {
     match report_parts(alloc, marks.as_slice(), ends) {
         Ok(

@@ -18,7 +18,7 @@ use Rattle.nr_regions.specs.Access.{Grant, TaggedSegment, access_of_tagged, cont
 use Rattle.nr_regions.specs.Events.{MemoryEvent, after_arrival, after_event, after_events, tagged_segments, IsRegisteredAt, IsReleasedAt}
 use Rattle.nr_regions.specs.Events.MemoryEvent.{Register as RegisterRegion, Release as ReleaseRegion, Arrive}
 use Rattle.nr_regions.proofs.Holding.{live_held, release_here}
-use Rattle.nr_regions.proofs.Contents.{contents_are, stays_dead}
+use Rattle.nr_regions.proofs.Contents.{contents_are, stays_closed}
 use Rattle.nr_regions.proofs.Streams.{contents_of_stream}
 use Rattle.nr_link.specs.declared.end.End.{End}
 use Rattle.nr_link.specs.Frames.{Frame}
@@ -28,7 +28,7 @@ use Rattle.nr_endpoint.specs.Judging.{segment_end, next_frame, with_frame, with_
 use Rattle.nr_endpoint.specs.SegmentEnds.{denied_if, tagged_end}
 use Rattle.nr_endpoint.specs.Calls.{Call, after_call, after_calls}
 use Rattle.nr_endpoint.specs.Calls.Call.{Feed, FeedOne, NextEvent, Post, Stop, OutOfMemory, Send, WriteRemote, ReadRemote, Drain, Register, Release}
-use Rattle.nr_endpoint.specs.Laws.{segment_arrivals, fpdu_arrivals, frame_arrivals, arrivals, frames_made_whole, call_events, memory_events, NoneIsDenied, MemoryFollowsEvents, PlacesAreAllowed, OpenRegionHolds, ReleasedBufferHolds, ReleasedStaysDead}
+use Rattle.nr_endpoint.specs.Laws.{segment_arrivals, fpdu_arrivals, frame_arrivals, arrivals, frames_made_whole, call_events, memory_events, NoneIsDenied, MemoryFollowsEvents, PlacesAreAllowed, OpenRegionHolds, ReleasedBufferHolds, ReleasedStaysClosed}
 use Rattle.nr_endpoint.proofs.Alive.{alive_tagged}
 
 -- the memory after some events, none of which it denies
@@ -243,10 +243,10 @@ released_next : (m : RegisteredMemory) (stag : ℕ) → (after_release m stag).n
 unfolding after_release
 released_next m stag = refl
 
-pub released_stays_dead : ReleasedStaysDead
+pub released_stays_dead : ReleasedStaysClosed
 released_stays_dead link stag calls given =
     let m : RegisteredMemory = after_release link.state.memory stag in
     let events : List MemoryEvent = memory_events (after_call link (Release stag)) calls in
     ap (λ (k : RegisteredMemory). live_region k stag) (memory_follows_events (after_call link (Release stag)) calls ∙ ap (λ (k : RegisteredMemory). after_events k events) (released_memory link stag))
     ∙ live_held (after_events m events) stag
-    ∙ stays_dead events m stag (subst (λ (n : ℕ). stag < n) (sym (released_next link.state.memory stag)) given) (release_here link.state.memory stag)
+    ∙ stays_closed events m stag (subst (λ (n : ℕ). stag < n) (sym (released_next link.state.memory stag)) given) (release_here link.state.memory stag)

@@ -338,8 +338,8 @@ ReleasedBufferHolds = (grants : List Grant) (link : LinkSide) (from until : ℕ)
     ≡ contents grants stag buf (tagged_segments (memory_events link (before ++ Register buf right ∷ (between ++ Release stag ∷ after))))
 
 -- Once it is released no call gives its STag a region again.
-abbrev pub ReleasedStaysDead : Type 0
-ReleasedStaysDead = (link : LinkSide) (stag : ℕ) (calls : List Call) → stag < link.state.memory.next →
+abbrev pub ReleasedStaysClosed : Type 0
+ReleasedStaysClosed = (link : LinkSide) (stag : ℕ) (calls : List Call) → stag < link.state.memory.next →
     live_region (after_calls (after_call link (Release stag)) calls).state.memory stag ≡ None
 
 -- ---- A registration, until its release

@@ -52,10 +52,10 @@ TakesAll_split old new (x ∷ xs) ys t =
 bytes_behind : (front rest : List ℕ) → IsBytes (front ++ rest) → IsBytes rest
 bytes_behind front rest h i = rw (get_or-append-add front rest i 0) at (h (length front + i))
 
-pub IsBytes_behind : (old new : Cursor) (items : List Item) → IsBytes old.rest → TakesAll old new items → IsBytes new.rest
-IsBytes_behind old new [] h t = subst (λ (c : Cursor). IsBytes c.rest) t h
-IsBytes_behind old new (x ∷ xs) h t =
-    IsBytes_behind t.0 new xs (bytes_behind (t.1).bytes (t.0).rest (subst (λ (b : List ℕ). IsBytes b) (t.1).rest h)) t.2
+pub IsBytes_after : (old new : Cursor) (items : List Item) → IsBytes old.rest → TakesAll old new items → IsBytes new.rest
+IsBytes_after old new [] h t = subst (λ (c : Cursor). IsBytes c.rest) t h
+IsBytes_after old new (x ∷ xs) h t =
+    IsBytes_after t.0 new xs (bytes_behind (t.1).bytes (t.0).rest (subst (λ (b : List ℕ). IsBytes b) (t.1).rest h)) t.2
 
 -- ---- Single items
 
@@ -104,7 +104,7 @@ pub ◌⊠◌ : {A B : Type 0} {a : Codec A} {b : Codec B} → Lawful a → Lawf
       let x = bind_ok (a.read old) (λ x. b.read x.1 >>= λ y. Ok ((x.0, y.0), y.1)) (v, new) e in
       let y = bind_ok (b.read (x.0).1) (λ y. Ok (((x.0).0, y.0), y.1)) (v, new) x.2 in
       let p = la.read_is_encoded old (x.0).0 (x.0).1 fits x.1 in
-      let q = lb.read_is_encoded (x.0).1 (y.0).0 (y.0).1 (IsBytes_behind old (x.0).1 (a.items (x.0).0) fits p.1) y.1 in
+      let q = lb.read_is_encoded (x.0).1 (y.0).0 (y.0).1 (IsBytes_after old (x.0).1 (a.items (x.0).0) fits p.1) y.1 in
       let both = TakesAll_append old (x.0).1 (y.0).1 (a.items (x.0).0) (b.items (y.0).0) p.1 q.1 in
       subst (λ (z : (A × B) × Cursor). (a ⊗ b).fits z.0 × TakesAll old z.1 ((a ⊗ b).items z.0))
       (ok_is {A = (A × B) × Cursor} (((x.0).0, (y.0).0), (y.0).1) (v, new) y.2) ((p.0, q.0), both);
@@ -161,7 +161,7 @@ discriminated_union_lawful {T} {A} tag arms lt la = record {
   read_is_encoded = λ old v new fits e.
       let t = bind_ok (tag.read old) (λ t. arms.read t.0 t.1) (v, new) e in
       let p = lt.read_is_encoded old (t.0).0 (t.0).1 fits t.1 in
-      let q = la.read_is_encoded (t.0).0 (t.0).1 v new (IsBytes_behind old (t.0).1 (tag.items (t.0).0) fits p.1) t.2 in
+      let q = la.read_is_encoded (t.0).0 (t.0).1 v new (IsBytes_after old (t.0).1 (tag.items (t.0).0) fits p.1) t.2 in
       let both = TakesAll_append old (t.0).1 new (tag.items (t.0).0) (arms.items v) p.1 (q.1).1 in
       subst (λ (k : T). (tag.fits k × arms.fits v) × TakesAll old new (tag.items k ++ arms.items v)) (sym q.0) ((p.0, (q.1).0), both);
   encoded_is_read = λ old v new fits t.
@@ -227,7 +227,7 @@ linked_list_step {A} c l n old new None after vs fits p e more =
 linked_list_step {A} c l n old new (Some v) after vs fits p e more =
     let b = with_first_ok v (linked_list_read c n after) vs new e in
     let read : linked_list_read c n after ≡ Ok ((b.0).0, new) = b.1 ∙ ap (λ (d : Cursor). Ok ((b.0).0, d)) b.3 in
-    let q = more (b.0).0 (IsBytes_behind old after ((optional c).items (Some v)) fits p.1) read in
+    let q = more (b.0).0 (IsBytes_after old after ((optional c).items (Some v)) fits p.1) read in
     subst (λ (ws : List A). Chains c old ws new) b.2 ((p.0, q.0), TakesAll_append old after new ((optional c).items (Some v)) (linked_list_items c (b.0).0) p.1 q.1)
 
 linked_list_takes : {A : Type 0} (c : Codec A) (l : Lawful (optional c)) (n : ℕ) (old new : Cursor) (vs : List A) → IsBytes old.rest → linked_list_read c n old ≡ Ok (vs, new) → Chains c old vs new
@@ -269,7 +269,7 @@ values_read_takes {A} c l (suc n) old new vs fits e =
     let p = l.read_is_encoded old (x.0).0 (x.0).1 fits x.1 in
     let b = with_first_ok (x.0).0 (values_read c n (x.0).1) vs new x.2 in
     let read : values_read c n (x.0).1 ≡ Ok ((b.0).0, new) = b.1 ∙ ap (λ (d : Cursor). Ok ((b.0).0, d)) b.3 in
-    let q = values_read_takes c l n (x.0).1 new (b.0).0 (IsBytes_behind old (x.0).1 (c.items (x.0).0) fits p.1) read in
+    let q = values_read_takes c l n (x.0).1 new (b.0).0 (IsBytes_after old (x.0).1 (c.items (x.0).0) fits p.1) read in
     let both = TakesAll_append old (x.0).1 new (c.items (x.0).0) (flat_map c.items (b.0).0) p.1 (q.0).1 in
     subst (λ (ws : List A). Lists c old ws new × (length ws ≡ suc n)) b.2 (((p.0, (q.0).0), rw flat_map-cons both), ap suc q.1)
 
@@ -287,7 +287,7 @@ array_lawful {A} c l = record {
   read_is_encoded = λ old vs new fits e.
       let n = bind_ok (word.read old) (λ n. values_read c n.0 n.1) (vs, new) e in
       let p = word_lawful.read_is_encoded old (n.0).0 (n.0).1 fits n.1 in
-      let q = values_read_takes c l (n.0).0 (n.0).1 new vs (IsBytes_behind old (n.0).1 (word.items (n.0).0) fits p.1) n.2 in
+      let q = values_read_takes c l (n.0).0 (n.0).1 new vs (IsBytes_after old (n.0).1 (word.items (n.0).0) fits p.1) n.2 in
       let count = subst (λ (k : ℕ). word.fits k × TakesAll old (n.0).1 (word.items k)) (sym q.1) p in
       ((count.0, (q.0).0), TakesAll_append old (n.0).1 new (word.items (length vs)) (flat_map c.items vs) count.1 (q.0).1);
   encoded_is_read = λ old vs new fits t.

@@ -46,7 +46,7 @@ use Rattle.nr_plain.proofs.ReplyHeads.{either, same_answer}
 use Rattle.nr_plain.proofs.ReplyLimits.{results_size, numbered}
 use Rattle.nr_plain.proofs.ResultLimits.{wcc_part, make_fits}
 use Rattle.nr_plain.proofs.Serving.{mount_none}
-use Rattle.nr_plain.specs.ReplySizes.{results_max, most_reply}
+use Rattle.nr_plain.specs.ReplySizes.{results_max, reply_max}
 use Rattle.nr_reduce.specs.Limits.{send_max}
 
 -- ===== offers
@@ -82,7 +82,7 @@ inline_held offer down p le none =
     ap (λ (b : Bool). cond b (Some (record { long = false; stream = p.stream; moved = p.moved })) (cond (fits_reply offer.reply (length p.stream)) (Some (record { long = true; stream = p.stream; moved = p.moved })) None)) (le-leb (answer_size offer.write + length p.stream) down le) in
     absurd cc
 
-short_held : (offer : ChunkLists) (down prog vers proc : ℕ) (reply : List ℕ) → ListsWithin offer → send_max ≤ down → length reply ≤ most_reply → Plain proc → answer_for offer down prog vers proc reply ≢ None
+short_held : (offer : ChunkLists) (down prog vers proc : ℕ) (reply : List ℕ) → ListsWithin offer → send_max ≤ down → length reply ≤ reply_max → Plain proc → answer_for offer down prog vers proc reply ≢ None
 unfolding answer_for
 short_held offer down prog vers proc reply within room le plain =
     subst (λ (o : Option Parts). answer_with offer down o ≢ None) (sym (whole_stream prog vers proc offer.write reply plain))
@@ -92,7 +92,7 @@ short_held offer down prog vers proc reply within room le plain =
 
 -- an answer that adds an entry is short, and to another procedure than READ and READLINK
 abbrev IsChange : ℕ → Answer → Type 0
-IsChange proc a = a.entries ≢ [] → (length a.reply ≤ most_reply) × Plain proc
+IsChange proc a = a.entries ≢ [] → (length a.reply ≤ reply_max) × Plain proc
 
 none_added : (proc : ℕ) (a : Answer) → a.entries ≡ [] → IsChange proc a
 none_added proc a none some = absurd (some none)
@@ -159,12 +159,12 @@ module _ (s : Parameters) (st : State) (xid : ℕ) (e : Entry) where
 
 -- the reply is short, and every offer holds it
 abbrev IsHeld : List ℕ → Result CallHead ℕ → Answer → Type 0
-IsHeld payload r a = a.entries ≢ [] → (length a.reply ≤ most_reply) × ((offer : ChunkLists) (down : ℕ) → ListsWithin offer → send_max ≤ down → answer_of_target offer down a.reply (target_of r) ≢ None)
+IsHeld payload r a = a.entries ≢ [] → (length a.reply ≤ reply_max) × ((offer : ChunkLists) (down : ℕ) → ListsWithin offer → send_max ≤ down → answer_of_target offer down a.reply (target_of r) ≢ None)
 
 answer_held : (s : Parameters) (st : State) (m : Moment) (payload : List ℕ) (head : CallHead) → IsHeld payload (Ok head) (answer_to s st m payload head)
 answer_held s st m payload (calls.Version2 xid prog vers proc cred args_at) some =
     let e : Entry = record { moment = m; cred = cred; proc = proc; args = drop args_at payload } in
-    let h : (length (answer_to s st m payload (calls.Version2 xid prog vers proc cred args_at)).reply ≤ most_reply) × Plain proc = cred_change s st xid e cred (program_call s st xid prog vers e) (program_change s st xid e prog vers) some in
+    let h : (length (answer_to s st m payload (calls.Version2 xid prog vers proc cred args_at)).reply ≤ reply_max) × Plain proc = cred_change s st xid e cred (program_call s st xid prog vers e) (program_change s st xid e prog vers) some in
     (h.0, λ offer down within room. short_held offer down prog vers proc (answer_to s st m payload (calls.Version2 xid prog vers proc cred args_at)).reply within room h.0 h.1)
 answer_held s st m payload (calls.Other xid rpcvers) some = absurd (some refl)
 
@@ -172,7 +172,7 @@ held : (s : Parameters) (st : State) (m : Moment) (payload : List ℕ) (a : Answ
 held s st m payload a (Ok head) found = subst (IsHeld payload (Ok head)) (same_answer (answer_to s st m payload head) a found) (answer_held s st m payload head)
 held s st m payload a (Err at) found = absurd cc
 
-pub changes_short : (s : Parameters) (st : State) (m : Moment) (payload : List ℕ) (a : Answer) → plain_answer s st m payload ≡ Some a → a.entries ≢ [] → length a.reply ≤ most_reply
+pub changes_short : (s : Parameters) (st : State) (m : Moment) (payload : List ℕ) (a : Answer) → plain_answer s st m payload ≡ Some a → a.entries ≢ [] → length a.reply ≤ reply_max
 changes_short s st m payload a e some = (held s st m payload a (call_of payload) e some).0
 
 pub changes_held : (s : Parameters) (st : State) (m : Moment) (payload : List ℕ) (a : Answer) (offer : ChunkLists) (down : ℕ) → plain_answer s st m payload ≡ Some a → a.entries ≢ [] → ListsWithin offer → send_max ≤ down

@@ -14,7 +14,7 @@ use Rattle.nr_nfs_args.specs.Readdir.{readdir_args_codec, readdir_args_lawful, r
 use Rattle.nr_nfs_args.specs.declared.bytes.ReadArgs.{ReadArgs}
 use Rattle.nr_nfs_args.specs.declared.readdir.ReaddirArgs.{ReaddirArgs}
 use Rattle.nr_nfs_args.specs.declared.readdir.ReaddirplusArgs.{ReaddirplusArgs}
-use Rattle.nr_reduce.specs.Largest.{count_of, count_behind, read_count, readdir_count, readdirplus_count}
+use Rattle.nr_reduce.specs.Largest.{count_of, count_after, read_count, readdir_count, readdirplus_count}
 
 -- what is read of all the bytes is read of them at any offset
 read_there : {A : Type 0} (c : Codec A) → Lawful c → (place : ℕ) (bytes : List ℕ) (v : A) → IsBytes bytes → read_all c bytes ≡ Ok v
@@ -25,7 +25,7 @@ read_there c lawful place bytes v fits e =
     (each_takes (c.items v) bytes [] (standing place bytes) reads.1 (sym (append-nil bytes)))
 
 -- the number after a front
-number_there : {A : Type 0} (front : Codec A) (at : Cursor) (x : (A × ℕ) × Cursor) → (front ⊗ word).read at ≡ Ok x → count_behind front at ≡ Some x.0.1
+number_there : {A : Type 0} (front : Codec A) (at : Cursor) (x : (A × ℕ) × Cursor) → (front ⊗ word).read at ≡ Ok x → count_after front at ≡ Some x.0.1
 unfolding word
 number_there {A} front at x e =
     let f = bind_ok (front.read at) (λ (y : A × Cursor). or_place (unsigned_at y.1) >>= λ n. Ok ((y.0, n.0), n.1)) x e in
@@ -35,7 +35,7 @@ number_there {A} front at x e =
 
 -- of what is made of a front and a number
 count_there : {A B : Type 0} (make : A × ℕ → B) (front : Codec A) (count : B → ℕ) → ((x : A × ℕ) → count (make x) ≡ x.1) → (at : Cursor) (v : B) (after : Cursor)
-    → ◌>>=◌ {A = (A × ℕ) × Cursor} {B = B × Cursor} ((front ⊗ word).read at) (λ x. Ok (make x.0, x.1)) ≡ Ok (v, after) → count_behind front at ≡ Some (count v)
+    → ◌>>=◌ {A = (A × ℕ) × Cursor} {B = B × Cursor} ((front ⊗ word).read at) (λ x. Ok (make x.0, x.1)) ≡ Ok (v, after) → count_after front at ≡ Some (count v)
 count_there {A} {B} make front count counts at v after e =
     let x = bind_ok ((front ⊗ word).read at) (λ (y : (A × ℕ) × Cursor). Ok (make y.0, y.1)) (v, after) e in
     let made : B × Cursor = (make x.0.0, x.0.1) in

@@ -9,16 +9,16 @@ use Rattle.nr_rpc.specs.Reply.{reply_head, reply_encoding}
 use Rattle.nr_rpc.specs.declared.head.ReplyHead.{ReplyHead}
 use Rattle.nr_rpc.specs.declared.head.ReplyHead.TheVariants.{Accepted}
 use Rattle.nr_plain.specs.Replies.{results_reply}
-use Rattle.nr_plain.specs.ReplySizes.{head_size, results_max, most_reply}
+use Rattle.nr_plain.specs.ReplySizes.{head_size, results_max, reply_max}
 
 accepted_size : (xid : ℕ) → length (reply_head (Accepted xid 0 0)) ≡ head_size
 unfolding word pad_len
 accepted_size xid = refl
 
 -- a new room of that many bytes has room for the complete reply
-pub reply_has_room : (room : Room) (xid : ℕ) (results : List ℕ) → room ≡ record { bytes = []; left = most_reply } → length results ≤ results_max → HasRoom room (reply_encoding (Accepted xid 0 0) results)
+pub reply_has_room : (room : Room) (xid : ℕ) (results : List ℕ) → room ≡ record { bytes = []; left = reply_max } → length results ≤ results_max → HasRoom room (reply_encoding (Accepted xid 0 0) results)
 reply_has_room room xid results e le =
-    let left : room.left ≡ most_reply = ap (λ (r : Room). r.left) e in
+    let left : room.left ≡ reply_max = ap (λ (r : Room). r.left) e in
     omega (arith, length-append (reply_head (Accepted xid 0 0)) results, accepted_size xid, left, le)
 
 module _ {R : Type 0} (codec : Codec R) (results : R) (xid : ℕ) (head : ReplyHead) (is_head : head ≡ Accepted xid 0 0) (old : Room) where

@@ -17,7 +17,7 @@ use Rattle.nr_reduce.specs.Server.{answer_of_target}
 use Rattle.nr_tree.specs.Sane.{IsSane}
 use Rattle.nr_plain.specs.Setup.{Parameters, Setup, State}
 use Rattle.nr_plain.specs.Replies.{Answer, plain_answer, plain_reply}
-use Rattle.nr_plain.specs.ReplySizes.{most_reply}
+use Rattle.nr_plain.specs.ReplySizes.{reply_max}
 use Rattle.nr_plain.specs.Added.{entries_of_call}
 
 -- A reply begins with a reply head, whose xid is that of its call.
@@ -40,10 +40,10 @@ abbrev pub RepliesAreWithinTheirLimit : Type 0
 RepliesAreWithinTheirLimit = (s : Setup) (J : List Entry) (place : ℕ) (m : Moment) (payload reply : List ℕ) → IsSane s.tree → IsBytes payload →
     plain_reply s J place m payload ≡ Some reply → length reply ≤ largest_reply payload
 
--- The reply of a call that adds an entry to the journal has at most most_reply bytes.
+-- The reply of a call that adds an entry to the journal has at most reply_max bytes.
 abbrev pub ChangesAreShort : Type 0
 ChangesAreShort = (s : Parameters) (st : State) (m : Moment) (payload : List ℕ) (a : Answer) → plain_answer s st m payload ≡ Some a →
-    a.entries ≢ [] → length a.reply ≤ most_reply
+    a.entries ≢ [] → length a.reply ≤ reply_max
 
 -- So every offer within the limits of a header holds it, if a Send back may have send_max bytes or more.
 abbrev pub ChangesFitEveryOffer : Type 0

@@ -17,8 +17,8 @@ abbrev pub results_max : ℕ
 results_max = 280
 
 -- the maximum length of a reply with such results, in bytes
-abbrev pub most_reply : ℕ
-most_reply = head_size + results_max
+abbrev pub reply_max : ℕ
+reply_max = head_size + results_max
 
 -- the maximum length of a handle in bytes (RFC 1813 section 2.4, NFS3_FHSIZE)
 abbrev pub longest_handle : ℕ

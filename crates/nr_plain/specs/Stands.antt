@@ -56,11 +56,11 @@ abbrev pub state_kept : PlainServerState → State
 state_kept kept = record { tree = kept.tree; cost = kept.cost }
 
 -- what is kept after some more entries
-abbrev pub kept_with_state : PlainServerState → ℕ → State → PlainServerState
-kept_with_state kept more st = record { tree = st.tree; count = kept.count + more; cost = st.cost; parameters = kept.parameters }
+abbrev pub server_with_state : PlainServerState → ℕ → State → PlainServerState
+server_with_state kept more st = record { tree = st.tree; count = kept.count + more; cost = st.cost; parameters = kept.parameters }
 
 abbrev pub state_after_answer : PlainServerState → List Entry → PlainServerState
-state_after_answer kept es = kept_with_state kept (length es) (state_after kept.parameters (state_kept kept) es)
+state_after_answer kept es = server_with_state kept (length es) (state_after kept.parameters (state_kept kept) es)
 
 abbrev pub parameters_code : Coded Parameters
 parameters_code =

@@ -6,7 +6,7 @@ ghost use Rattle.nr_rpc.specs.Constants.{PROG_MISMATCH};
 ghost use Rattle.nr_rpc.specs.Reply.{reply_head, reply_encoding, CanWriteReply};
 ghost use Rattle.nr_plain.specs.Code.{reply_with};
 ghost use Rattle.nr_plain.specs.Replies.{accepted as head_of_accepted, SUCCESS as success, GARBAGE_ARGS as garbage_args, refusal, results_reply};
-ghost use Rattle.nr_plain.specs.ReplySizes.{most_reply};
+ghost use Rattle.nr_plain.specs.ReplySizes.{reply_max};
 
 use nr_nfs_base::{ValueFault, Xdr};
 use nr_rpc::{ReplyHead, write_reply, write_reply_head};
@@ -38,7 +38,7 @@ const RESULTS_MAX: usize = 280;
 
 /// Room for any reply with the results of a procedure that changes files.
 pub(crate) fn room_of_reply(alloc: Global) -> Result<RoomWriter, Memory>
-    ensures { IfOk result (λ room. room ≡ record { bytes = []; left = most_reply }) }
+    ensures { IfOk result (λ room. room ≡ record { bytes = []; left = reply_max }) }
 {
     RoomWriter::with_room(alloc, HEAD_SIZE + RESULTS_MAX)
 }

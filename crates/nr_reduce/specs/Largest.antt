@@ -36,18 +36,18 @@ abbrev pub count_of : Result (ℕ × Cursor) ℕ → Option ℕ
 count_of (Ok n) = Some n.0
 count_of (Err at) = None
 
-abbrev pub count_behind : {A : Type 0} → Codec A → Cursor → Option ℕ
-count_behind front c = count_of (front.read c >>= λ x. number_at x.1)
+abbrev pub count_after : {A : Type 0} → Codec A → Cursor → Option ℕ
+count_after front c = count_of (front.read c >>= λ x. number_at x.1)
 
 -- the count of bytes that a READ, a READDIR or a READDIRPLUS asks for, if its arguments can be read up to there
 unfoldable pub read_count : Cursor → Option ℕ
-read_count c = count_behind read_args_front c
+read_count c = count_after read_args_front c
 
 unfoldable pub readdir_count : Cursor → Option ℕ
-readdir_count c = count_behind readdir_args_front c
+readdir_count c = count_after readdir_args_front c
 
 unfoldable pub readdirplus_count : Cursor → Option ℕ
-readdirplus_count c = count_behind readdirplus_args_front c
+readdirplus_count c = count_after readdirplus_args_front c
 
 -- any other call's reply
 abbrev pub reply_limit_min : ℕ

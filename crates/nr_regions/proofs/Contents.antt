@@ -221,7 +221,7 @@ dead_by m stag (Arrive s) lt none =
     ]
 
 -- an STag that was given and is not live never is again
-pub stays_dead : (events : List MemoryEvent) (m : RegisteredMemory) (stag : ℕ) → stag < m.next → held_region m stag ≡ None → held_region (after_events m events) stag ≡ None
-stays_dead [] m stag lt none = none
-stays_dead (event ∷ events) m stag lt none =
-    stays_dead events (after_event m event) stag (omega (arith, next_after_event m event)) (dead_by m stag event lt none)
+pub stays_closed : (events : List MemoryEvent) (m : RegisteredMemory) (stag : ℕ) → stag < m.next → held_region m stag ≡ None → held_region (after_events m events) stag ≡ None
+stays_closed [] m stag lt none = none
+stays_closed (event ∷ events) m stag lt none =
+    stays_closed events (after_event m event) stag (omega (arith, next_after_event m event)) (dead_by m stag event lt none)

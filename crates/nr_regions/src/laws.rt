@@ -16,7 +16,7 @@ pub fn held_until_release()
     // From its release on the STag is invalid.
     ensures dead { (m : RegisteredMemory) (stag : ℕ) → live_region (after_release m stag) stag ≡ None }
     // An STag that was given and is invalid stays invalid.
-    ensures stays_dead { (m : RegisteredMemory) (stag : ℕ) (events : List MemoryEvent) → stag < m.next → live_region m stag ≡ None →
+    ensures stays_closed { (m : RegisteredMemory) (stag : ℕ) (events : List MemoryEvent) → stag < m.next → live_region m stag ≡ None →
         live_region (after_events m events) stag ≡ None }
     ensures rises { (m : RegisteredMemory) (events : List MemoryEvent) → m.next ≤ (after_events m events).next }
 {}

@@ -6,7 +6,7 @@ use Rattle.nr_xdr.specs.Item.{Item, IsBytes}
 use Rattle.nr_xdr.specs.Item.Item.{Unsigned}
 use Rattle.nr_xdr.specs.Items.{encodings, TakesAll}
 use Rattle.nr_xdr.specs.Reading.{Cursor, Takes}
-use Rattle.nr_xdr.proofs.Chains.{standing, each_takes, each_between, encodings_read, IsBytes_behind, IsBytes_opaque}
+use Rattle.nr_xdr.proofs.Chains.{standing, each_takes, each_between, encodings_read, IsBytes_after, IsBytes_opaque}
 use Rattle.nr_rpc.specs.Constants.{AUTH_BODY_MAX, RPC_VERSION, CALL}
 use Rattle.nr_rpc.specs.declared.fault.HeadFault.{HeadFault}
 use Rattle.nr_rpc.specs.declared.cred.Cred.{Cred}
@@ -160,13 +160,13 @@ call_begins bytes head fits e =
 -- bytes of a credential are bytes
 auth_bytes : (xid prog vers proc : ℕ) (auth verifier : Auth) (c after : Cursor) → IsBytes c.rest → TakesAll c after (version2_items xid prog vers proc auth verifier) → IsBytes auth.body
 auth_bytes xid prog vers proc auth verifier c after fits (a, ta, (b, tb, (d, td, (f, tf, (g, tg, (h, th, (i, ti, (j, tj, others)))))))) =
-    let fa = IsBytes_behind c a _ ta fits in
-    let fb = IsBytes_behind a b _ tb fa in
-    let fd = IsBytes_behind b d _ td fb in
-    let ff = IsBytes_behind d f _ tf fd in
-    let fg = IsBytes_behind f g _ tg ff in
-    let fh = IsBytes_behind g h _ th fg in
-    let fi = IsBytes_behind h i _ ti fh in
+    let fa = IsBytes_after c a _ ta fits in
+    let fb = IsBytes_after a b _ tb fa in
+    let fd = IsBytes_after b d _ td fb in
+    let ff = IsBytes_after d f _ tf fd in
+    let fg = IsBytes_after f g _ tg ff in
+    let fh = IsBytes_after g h _ th fg in
+    let fi = IsBytes_after h i _ ti fh in
     IsBytes_opaque i j auth.body tj fi
 
 -- one reading gives one head, and one rest

@@ -13,10 +13,10 @@ use Rattle.nr_drill.specs.declared.report.Report.{Report}
 use Rattle.nr_drill.specs.Drill.{Setting, Drill, links_of}
 use Rattle.nr_drill.specs.DrillSetup.{drill_setup, server_of}
 use Rattle.nr_drill.specs.Headline.{IsDrillRun, Reports}
-use Rattle.nr_drill.specs.LinkEnds.{ends_of, TellsRuns}
+use Rattle.nr_drill.specs.LinkEnds.{ends_of, ReportsRuns}
 use Rattle.nr_world.specs.declared.world.World.{World}
 use Rattle.nr_world.specs.Stands.{drill_setting, WorldStands}
-use Rattle.nr_world.specs.Results.{AreEndsOf, TellsWorld}
+use Rattle.nr_world.specs.Results.{AreEndsOf, ReportsWorld}
 use Rattle.nr_world.proofs.Rounds.{links_from, no_links}
 
 abbrev pub ends_from : Option End → Option End → Bool → LinkEnds
@@ -52,7 +52,7 @@ ends_all w ends at le so_far tree opening d h =
     let none : map f (range_with_len (at + 1) (opening.clients - at)) ≡ [] = ap (λ (links : List ℕ). map f links) (no_links opening.clients at (omega (arith, le, h.count))) in
     sym (append-nil ends) ∙ sym (ap (λ (xs : List LinkEnds). ends ++ xs) none) ∙ so_far tree opening d h
 
-pub tells_world : (w : World) (run : List Mark) (ends : List LinkEnds) (report : Report) → run ≡ w.marks.items → AreEndsOf w ends → TellsRuns run ends report → TellsWorld w report
+pub tells_world : (w : World) (run : List Mark) (ends : List LinkEnds) (report : Report) → run ≡ w.marks.items → AreEndsOf w ends → ReportsRuns run ends report → ReportsWorld w report
 tells_world w run ends report same are tells tree script d h is drill =
     let s = server_of (drill_setup tree script.opening) in
     let run_is : run ≡ d.marks = same ∙ h.marks in

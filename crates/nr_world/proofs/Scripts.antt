@@ -18,7 +18,7 @@ use Rattle.nr_drill.proofs.Handed.{handed_after}
 use Rattle.nr_drill.proofs.Headed.{drill_is_run}
 use Rattle.nr_world.specs.declared.world.World.{World}
 use Rattle.nr_world.specs.Opened.{IsOpen}
-use Rattle.nr_world.specs.Results.{TellsWorld}
+use Rattle.nr_world.specs.Results.{ReportsWorld}
 use Rattle.nr_world.specs.Stands.{drill_setting, WorldStands, NoneDueBefore, MakesLines}
 use Rattle.nr_world.specs.Within.{IsClient, IsWithin, AreWithin, CanMakeAll}
 use Rattle.nr_world.proofs.SameServer.{openings_clock}
@@ -88,7 +88,7 @@ lines_fit script w is (tree, sane, stands) = (
   subst (λ (n : ℕ). AreWithin script.opening.clients n script.lines) (none_before ∙ sym (opened_clock tree script.opening)) (all_within script.opening [] script.lines is.follow_on is.creds),
 )
 
-pub runs_script : (script : ScriptLines) (w n : World) (report : Report) → IsScript script → IsOpen script.opening w → MakesLines script.lines w n → TellsWorld n report → GivesReport script report
+pub runs_script : (script : ScriptLines) (w n : World) (report : Report) → IsScript script → IsOpen script.opening w → MakesLines script.lines w n → ReportsWorld n report → GivesReport script report
 runs_script script w n report is (tree, sane, stands) makes told =
     let server = server_of (drill_setup tree script.opening) in
     let (last, made, there) = makes tree script.opening (opened_drill server script.opening) stands (none_due tree script is) in
@@ -109,6 +109,6 @@ lines_fit_as script opening all w o e is h = subst (λ (lines : List Line). CanM
 pub few_links_as : (script : ScriptLines) (opening : Opening) (all : List Line) (w n : World) → opening ≡ script.opening → all ≡ script.lines → IsScript script → IsOpen opening w → MakesLines all w n → length n.links.items ≤ clients_max
 few_links_as script opening all w n o e is h makes = few_links script w n is (subst (λ (x : Opening). IsOpen x w) o h) (subst (λ (lines : List Line). MakesLines lines w n) e makes)
 
-pub runs_script_as : (script : ScriptLines) (opening : Opening) (all : List Line) (w n : World) (report : Report) → opening ≡ script.opening → all ≡ script.lines → IsScript script → IsOpen opening w → MakesLines all w n → TellsWorld n report → GivesReport script report
+pub runs_script_as : (script : ScriptLines) (opening : Opening) (all : List Line) (w n : World) (report : Report) → opening ≡ script.opening → all ≡ script.lines → IsScript script → IsOpen opening w → MakesLines all w n → ReportsWorld n report → GivesReport script report
 runs_script_as script opening all w n report o e is h makes told =
     runs_script script w n report is (subst (λ (x : Opening). IsOpen x w) o h) (subst (λ (lines : List Line). MakesLines lines w n) e makes) told

@@ -17,6 +17,6 @@ abbrev pub AreEndsOf : World → List LinkEnds → Type 0
 AreEndsOf w ends = (tree : Tree) (opening : Opening) (d : Drill) → WorldStands tree opening d w → AreEnds (drill_setting tree opening) opening.clients d.marks ends
 
 -- If a drill that the world stands for has the run of a script's drill, the report is that of the run.
-abbrev pub TellsWorld : World → Report → Type 0
-TellsWorld w report = (tree : Tree) (script : ScriptLines) (d : Drill) → WorldStands tree script.opening d w → IsScript script → IsDrillRun (server_of (drill_setup tree script.opening)) script d.marks →
+abbrev pub ReportsWorld : World → Report → Type 0
+ReportsWorld w report = (tree : Tree) (script : ScriptLines) (d : Drill) → WorldStands tree script.opening d w → IsScript script → IsDrillRun (server_of (drill_setup tree script.opening)) script d.marks →
     Reports (server_of (drill_setup tree script.opening)) script report

@@ -3,7 +3,7 @@
 ghost use Rattle.std.specs.Prelude.{◌≡◌, ◌≤◌, ◌+◌, [], IfOk, OnOk, length};
 ghost use Rattle.nr_script.specs.Limits.{clients_max};
 ghost use Rattle.nr_drill.specs.DrillSetup.{GivesReport};
-ghost use Rattle.nr_world.specs.Results.{AreEndsOf, TellsWorld};
+ghost use Rattle.nr_world.specs.Results.{AreEndsOf, ReportsWorld};
 
 use crate::world::World;
 use nr_drill::{LinkEnds, Report, report_of};
@@ -33,7 +33,7 @@ impl World {
     /// The report of the drill.
     fn report(self, alloc: Global) -> Result<Report, Memory>
         requires { length self.links.items ≤ clients_max }
-        ensures { IfOk result (TellsWorld self) }
+        ensures { IfOk result (ReportsWorld self) }
     {
         let mut ends = Vec::new(alloc);
         match self.push_ends(&mut ends) {

@@ -71,8 +71,8 @@ IsBytes_left x y fits i =
     ]
 
 -- what is left after an item are bytes
-pub IsBytes_behind : (old new : Cursor) (item : Item) → Takes old new item → IsBytes old.rest → IsBytes new.rest
-IsBytes_behind old new item taken fits = IsBytes_right taken.bytes new.rest (subst IsBytes taken.rest fits)
+pub IsBytes_after : (old new : Cursor) (item : Item) → Takes old new item → IsBytes old.rest → IsBytes new.rest
+IsBytes_after old new item taken fits = IsBytes_right taken.bytes new.rest (subst IsBytes taken.rest fits)
 
 -- the data of an item are bytes
 pub IsBytes_opaque : (old new : Cursor) (bytes : List ℕ) → Takes old new (Opaque bytes) → IsBytes old.rest → IsBytes bytes

@@ -6,7 +6,7 @@ use Rattle.nr_xdr.specs.Item.Item.{Unsigned, Hyper, Boolean, Opaque}
 use Rattle.nr_xdr.specs.Reading.{Cursor, Takes, unsigned_at, hyper_at, boolean_at, opaque_at}
 use Rattle.nr_xdr.specs.Sequencing.{◌>>=◌, or_place, number_at}
 use Rattle.nr_xdr.proofs.Items.{unsigned_takes, unsigned_again, hyper_takes, hyper_again, boolean_takes, boolean_again, opaque_takes, opaque_again}
-use Rattle.nr_xdr.proofs.Chains.{IsBytes_behind}
+use Rattle.nr_xdr.proofs.Chains.{IsBytes_after}
 
 -- the value of a step that did not fail
 pub bind_ok : {A B : Type 0} (r : Result A ℕ) (f : A → Result B ℕ) (y : B) → (r >>= f) ≡ Ok y → (x : A) × (r ≡ Ok x) × (f x ≡ Ok y)
@@ -34,7 +34,7 @@ pub number_step : {B : Type 0} (c : Cursor) (f : ℕ × Cursor → Result B ℕ)
 number_step c f y fits e =
     let a = bind_ok (number_at c) f y e in
     let taken = unsigned_takes c a.0.0 a.0.1 fits (or_place_ok (unsigned_at c) a.0 a.1) in
-    (a.0, taken, IsBytes_behind c a.0.1 (Unsigned a.0.0) taken fits, a.2)
+    (a.0, taken, IsBytes_after c a.0.1 (Unsigned a.0.0) taken fits, a.2)
 
 pub number_again : (c : Cursor) (n : ℕ) (after : Cursor) → Takes c after (Unsigned n) → number_at c ≡ Ok (n, after)
 number_again c n after taken = ap or_place (unsigned_again c n after taken)
@@ -44,7 +44,7 @@ pub hyper_step : {B : Type 0} (c : Cursor) (f : ℕ × Cursor → Result B ℕ) 
 hyper_step c f y fits e =
     let a = bind_ok (or_place (hyper_at c)) f y e in
     let taken = hyper_takes c a.0.0 a.0.1 fits (or_place_ok (hyper_at c) a.0 a.1) in
-    (a.0, taken, IsBytes_behind c a.0.1 (Hyper a.0.0) taken fits, a.2)
+    (a.0, taken, IsBytes_after c a.0.1 (Hyper a.0.0) taken fits, a.2)
 
 pub hyper_placed : (c : Cursor) (n : ℕ) (after : Cursor) → Takes c after (Hyper n) → or_place (hyper_at c) ≡ Ok (n, after)
 hyper_placed c n after taken = ap or_place (hyper_again c n after taken)
@@ -54,7 +54,7 @@ pub boolean_step : {B : Type 0} (c : Cursor) (f : Bool × Cursor → Result B �
 boolean_step c f y fits e =
     let a = bind_ok (or_place (boolean_at c)) f y e in
     let taken = boolean_takes c a.0.0 a.0.1 fits (or_place_ok (boolean_at c) a.0 a.1) in
-    (a.0, taken, IsBytes_behind c a.0.1 (Boolean a.0.0) taken fits, a.2)
+    (a.0, taken, IsBytes_after c a.0.1 (Boolean a.0.0) taken fits, a.2)
 
 pub boolean_placed : (c : Cursor) (b : Bool) (after : Cursor) → Takes c after (Boolean b) → or_place (boolean_at c) ≡ Ok (b, after)
 boolean_placed c b after taken = ap or_place (boolean_again c b after taken)
@@ -64,7 +64,7 @@ pub opaque_step : {B : Type 0} (max : ℕ) (c : Cursor) (f : List ℕ × Cursor 
 opaque_step max c f y fits e =
     let a = bind_ok (or_place (opaque_at max c)) f y e in
     let taken = opaque_takes c max a.0.0 a.0.1 fits (or_place_ok (opaque_at max c) a.0 a.1) in
-    (a.0, taken.0, taken.1, IsBytes_behind c a.0.1 (Opaque a.0.0) taken.0 fits, a.2)
+    (a.0, taken.0, taken.1, IsBytes_after c a.0.1 (Opaque a.0.0) taken.0 fits, a.2)
 
 pub opaque_placed : (max : ℕ) (c : Cursor) (bytes : List ℕ) (after : Cursor) → length bytes ≤ max → Takes c after (Opaque bytes) → or_place (opaque_at max c) ≡ Ok (bytes, after)
 opaque_placed max c bytes after le taken = ap or_place (opaque_again c max bytes after le taken)
