@@ -174,7 +174,7 @@ fn partial_segments(rt: HostRuntime) {
     judged_alone();
     one_segment();
     one_split();
-    fpdu_max();
+    longest_fpdu();
     however_cut::<u64>();
     for (row, (bytes, _)) in SEGMENTS.iter().enumerate() {
         same(

@@ -303,7 +303,7 @@ fn longest(rt: &impl Abort, alloc: Global, side: Side, piece: usize) {
 }
 
 #[test]
-fn fpdu_max(rt: HostRuntime) {
+fn longest_fpdu(rt: HostRuntime) {
     longest(&rt, rt.alloc(), Side::Responder, 65544);
     longest(&rt, rt.alloc(), Side::Initiator, 40000);
 }

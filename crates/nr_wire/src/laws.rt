@@ -66,7 +66,7 @@ pub fn however_cut<S>()
 {}
 
 /// The longest FPDU is that of the longest ULPDU, and has 65544 bytes.
-pub fn fpdu_max()
+pub fn longest_fpdu()
     ensures longest { FPDU_MAX ≡ fpdu_size ULPDU_MAX }
     ensures bytes { FPDU_MAX ≡ 65544 }
     ensures definition { LONGEST ≡ FPDU_MAX }

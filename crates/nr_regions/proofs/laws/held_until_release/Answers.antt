@@ -14,8 +14,8 @@ returns-clause-lasts c = held_after_event
 pub returns-clause-dead : goal.returns-clause-dead
 returns-clause-dead c = λ m stag. live_held (after_release m stag) stag ∙ release_here m stag
 
-pub returns-clause-stays_dead : goal.returns-clause-stays_dead
-returns-clause-stays_dead c = λ m stag events lt none. live_held (after_events m events) stag ∙ stays_closed events m stag lt (sym (live_held m stag) ∙ none)
+pub returns-clause-stays_closed : goal.returns-clause-stays_closed
+returns-clause-stays_closed c = λ m stag events lt none. live_held (after_events m events) stag ∙ stays_closed events m stag lt (sym (live_held m stag) ∙ none)
 
 pub returns-clause-rises : goal.returns-clause-rises
 returns-clause-rises c = λ m events. next_after_events events m
