@@ -1,5 +1,6 @@
 pub mod Passed
 pub mod CanRename
+pub mod Removed
 pub mod CanMake
 pub mod CanCreate
 pub mod NamesAfter

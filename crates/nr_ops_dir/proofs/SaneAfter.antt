@@ -33,7 +33,8 @@ use Rattle.nr_ops_dir.specs.Renaming.{is_same_node, rename_rules, tree_with_move
 use Rattle.nr_ops_dir.proofs.Passed.{can_add_link}
 use Rattle.nr_ops_dir.proofs.CanCreate.{can_make_file, can_set_size}
 use Rattle.nr_ops_dir.proofs.CanMake.{can_make_directory, can_make_link, can_make_special}
-use Rattle.nr_ops_dir.proofs.CanRename.{no_entries, can_rename}
+use Rattle.nr_ops_dir.proofs.CanRename.{can_rename}
+use Rattle.nr_ops_dir.proofs.Removed.{IsBare, bare_file, bare_directory}
 
 -- ===== CREATE
 
@@ -81,10 +82,6 @@ mknod_sane t c space now args sane =
 
 -- ===== REMOVE and RMDIR
 
--- the node that a name leads to is no directory with entries
-abbrev IsBare : Tree → ℕ → Type 0
-IsBare t n = is_dir_at t n ≡ true → entries_at t n ≡ []
-
 name_by : (t : Tree) (now : Time) (h name : List ℕ) (o : Option ℕ) → number_of_entry t (number_of_handle h) name ≡ o → IsSane t → ((n : ℕ) → o ≡ Some n → IsBare t n)
     → IsSane (option_map_or (λ n. tree_without_entry t now (number_of_handle h) name n) o t)
 name_by t now h name None found sane bare = sane
@@ -95,19 +92,11 @@ name_gone t now h name sane bare = name_by t now h name (number_of_entry t (numb
 
 pub remove_sane : (t : Tree) (c : Caller) (space : Space) (now : Time) (args : RemoveArgs) → IsSane t → IsSane (remove_tree t c space now args)
 remove_sane t c space now args sane =
-    sane_after t (tree_without_name t now args.dir args.name) (first (remove_rules t c space args)) sane
-    (λ none. name_gone t now args.dir args.name sane (λ n found dir. (
-    let all : AllClear (remove_rules t c space args) = all_clear (remove_rules t c space args) none in
-    let of : AllClear (remove_of t space n) = on_some (number_of_entry t (number_of_handle args.dir) args.name) n (remove_of t space) found all.1.1.1 in
-    absurd (both_ways (is_dir_at t n) (clear (is_dir_at t n) Isdir of.0) dir))))
+    sane_after t (tree_without_name t now args.dir args.name) (first (remove_rules t c space args)) sane (λ none. name_gone t now args.dir args.name sane (λ n found. bare_file t c space args n none found))
 
 pub rmdir_sane : (t : Tree) (c : Caller) (space : Space) (now : Time) (args : RmdirArgs) → IsSane t → IsSane (rmdir_tree t c space now args)
 rmdir_sane t c space now args sane =
-    sane_after t (tree_without_name t now args.dir args.name) (first (rmdir_rules t c space args)) sane
-    (λ none. name_gone t now args.dir args.name sane (λ n found dir. (
-    let all : AllClear (rmdir_rules t c space args) = all_clear (rmdir_rules t c space args) none in
-    let of : AllClear (rmdir_of t space n) = on_some (number_of_entry t (number_of_handle args.dir) args.name) n (rmdir_of t space) found all.1.1.1.1 in
-    no_entries (entries_at t n) (clear (has_entries t n) Notempty of.1.0))))
+    sane_after t (tree_without_name t now args.dir args.name) (first (rmdir_rules t c space args)) sane (λ none. name_gone t now args.dir args.name sane (λ n found. bare_directory t c space args n none found))
 
 -- ===== RENAME
 

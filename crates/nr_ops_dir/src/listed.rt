@@ -13,41 +13,47 @@ use nr_tree::{Slot, Tree};
 use nr_xdr::Memory;
 use std::alloc::Global;
 
-fn entry(alloc: Global, name: &[u8], slot: Slot) -> Result<Entry, Memory>
-    requires { length name.now < 2 ^ 32 }
-    ensures { IfOk result (λ e. e ≡ listed (record { cookie = slot.cookie; name = name.now; number = slot.number })) }
-{
-    Ok(Entry {
-        fileid: slot.number,
-        name: Name::from_slice(alloc, name)?,
-        cookie: slot.cookie,
-    })
+/// What a listing says of an entry of a directory.
+pub(crate) trait Listed: Drop + Sized {
+    ghost use Rattle.std.specs.Prelude.{◌≡◌, ◌<◌, ◌^◌, length, IfOk};
+    ghost use Rattle.nr_tree.specs.Tree.{Tree};
+    ghost use Rattle.nr_tree.specs.Entries.{Entry};
+
+    /// What it says, over a tree.
+    ghost said: { Tree → Entry → Self };
+
+    /// What it says of the entry of this name.
+    fn of(alloc: Global, tree: &Tree, name: &[u8], slot: Slot) -> Result<Self, Memory>
+        requires { length name.now < 2 ^ 32 }
+        ensures { IfOk result (λ e. e ≡ said tree.now (record { cookie = slot.cookie; name = name.now; number = slot.number })) };
 }
 
-fn push_names(alloc: Global, range: &Range, entries: &mut Vec<Entry>) -> Result<(), Memory>
-    requires none { entries.old.items ≡ [] }
-    requires rises { range.now.start ≤ range.now.end }
-    requires bounded { range.now.end ≤ length range.now.dir.now.list }
-    requires names { NamesAreValid range.now.dir.now.list }
-    ensures { OnOk result (entries.new.items ≡ map listed (take (range.now.end - range.now.start) (drop range.now.start range.now.dir.now.list))) }
-{
-    for place in range.start..range.end {
-        let (name, slot) = range.dir.entry_at(place);
-        entries.push(entry(alloc, name, slot)?)?;
+impl Listed for Entry {
+    ghost said = { λ t. listed };
+
+    fn of(alloc: Global, _tree: &Tree, name: &[u8], slot: Slot) -> Result<Entry, Memory> {
+        Ok(Entry {
+            fileid: slot.number,
+            name: Name::from_slice(alloc, name)?,
+            cookie: slot.cookie,
+        })
     }
-    Ok(())
 }
 
-/// The entries of READDIR.
-pub(crate) fn list_names(alloc: Global, range: &Range) -> Result<Vec<Entry>, Memory>
-    requires rises { range.now.start ≤ range.now.end }
-    requires bounded { range.now.end ≤ length range.now.dir.now.list }
-    requires names { NamesAreValid range.now.dir.now.list }
-    ensures { IfOk result (λ v. v.items ≡ map listed (take (range.now.end - range.now.start) (drop range.now.start range.now.dir.now.list))) }
-{
-    let mut entries = Vec::new(alloc);
-    push_names(alloc, range, &mut entries)?;
-    Ok(entries)
+impl Listed for EntryPlus {
+    ghost said = { listed_plus };
+
+    fn of(alloc: Global, tree: &Tree, name: &[u8], slot: Slot) -> Result<EntryPlus, Memory> {
+        let name = Name::from_slice(alloc, name)?;
+        let (attributes, handle) = listed_node(alloc, tree, slot.number)?;
+        Ok(EntryPlus {
+            fileid: slot.number,
+            name,
+            cookie: slot.cookie,
+            attributes,
+            handle,
+        })
+    }
 }
 
 /// What a listing says of the node under a number, if it is live: its attributes and its handle.
@@ -67,52 +73,33 @@ fn listed_node(
     }
 }
 
-fn entry_plus(alloc: Global, tree: &Tree, name: &[u8], slot: Slot) -> Result<EntryPlus, Memory>
-    requires { length name.now < 2 ^ 32 }
-    ensures { IfOk result (λ e. e ≡ listed_plus tree.now (record { cookie = slot.cookie; name = name.now; number = slot.number })) }
-{
-    let name = Name::from_slice(alloc, name)?;
-    let (attributes, handle) = listed_node(alloc, tree, slot.number)?;
-    Ok(EntryPlus {
-        fileid: slot.number,
-        name,
-        cookie: slot.cookie,
-        attributes,
-        handle,
-    })
-}
-
-fn push_nodes(
+fn push_entries<E: Listed>(
     alloc: Global,
     tree: &Tree,
     range: &Range,
-    entries: &mut Vec<EntryPlus>,
+    entries: &mut Vec<E>,
 ) -> Result<(), Memory>
     requires none { entries.old.items ≡ [] }
     requires rises { range.now.start ≤ range.now.end }
     requires bounded { range.now.end ≤ length range.now.dir.now.list }
     requires names { NamesAreValid range.now.dir.now.list }
-    ensures { OnOk result (entries.new.items ≡ map (listed_plus tree.now) (take (range.now.end - range.now.start) (drop range.now.start range.now.dir.now.list))) }
+    ensures { OnOk result (entries.new.items ≡ map (E.said tree.now) (take (range.now.end - range.now.start) (drop range.now.start range.now.dir.now.list))) }
 {
     for place in range.start..range.end {
         let (name, slot) = range.dir.entry_at(place);
-        entries.push(entry_plus(alloc, tree, name, slot)?)?;
+        entries.push(E::of(alloc, tree, name, slot)?)?;
     }
     Ok(())
 }
 
-/// The entries of READDIRPLUS.
-pub(crate) fn list_nodes(
-    alloc: Global,
-    tree: &Tree,
-    range: &Range,
-) -> Result<Vec<EntryPlus>, Memory>
+/// The entries of a listing.
+pub(crate) fn list<E: Listed>(alloc: Global, tree: &Tree, range: &Range) -> Result<Vec<E>, Memory>
     requires rises { range.now.start ≤ range.now.end }
     requires bounded { range.now.end ≤ length range.now.dir.now.list }
     requires names { NamesAreValid range.now.dir.now.list }
-    ensures { IfOk result (λ v. v.items ≡ map (listed_plus tree.now) (take (range.now.end - range.now.start) (drop range.now.start range.now.dir.now.list))) }
+    ensures { IfOk result (λ v. v.items ≡ map (E.said tree.now) (take (range.now.end - range.now.start) (drop range.now.start range.now.dir.now.list))) }
 {
     let mut entries = Vec::new(alloc);
-    push_nodes(alloc, tree, range, &mut entries)?;
+    push_entries(alloc, tree, range, &mut entries)?;
     Ok(entries)
 }

@@ -6,7 +6,7 @@ ghost use Rattle.nr_tree.specs.Entries.{NamesAreValid};
 ghost use Rattle.nr_ops_dir.specs.Readdir.{readdir_rules, readdir_taken, readdir_left, readdir_reply, readdirplus_rules, readdirplus_taken, readdirplus_left, readdirplus_reply};
 ghost use Rattle.nr_ops_dir.specs.private.Sizes.{IsRange};
 
-use crate::listed::{list_names, list_nodes};
+use crate::listed::list;
 use crate::listings::{Detail, Range, directory_to_list, limits_of, range_within};
 use nr_nfs_args::{ReaddirArgs, ReaddirplusArgs};
 use nr_nfs_base::{Caller, LinkedList, Status, StatusUnion, Verifier};
@@ -37,7 +37,7 @@ pub fn readdir(
         }
         Ok(range) => {
             let eof = range.is_last();
-            let entries = list_names(alloc, &range)?;
+            let entries = list(alloc, tree, &range)?;
             Ok(StatusUnion::Done(ReaddirOk {
                 dir_attributes,
                 verifier: COOKIE_VERIFIER,
@@ -89,7 +89,7 @@ pub fn readdirplus(
         }
         Ok(range) => {
             let eof = range.is_last();
-            let entries = list_nodes(alloc, tree, &range)?;
+            let entries = list(alloc, tree, &range)?;
             Ok(StatusUnion::Done(ReaddirplusOk {
                 dir_attributes,
                 verifier: COOKIE_VERIFIER,

@@ -1,25 +1,41 @@
 //! REMOVE and RMDIR.
 
-ghost use Rattle.std.specs.Prelude.{◌≡◌, None, Some, MatchResult};
-ghost use Rattle.nr_nfs_base.specs.declared.status_union.StatusUnion.TheVariants.{Done, Failed};
-ghost use Rattle.nr_tree.specs.Rules.{first, answer, number_of_handle, IsWithinCapacity};
+ghost use Rattle.std.specs.Prelude.{◌≡◌, None, Some, IfOk, MatchResult};
+ghost use Rattle.nr_tree.specs.Steps.{CanRemoveEntry};
+ghost use Rattle.nr_tree.specs.Rules.{first, number_of_handle, IsWithinCapacity};
 ghost use Rattle.nr_ops_dir.specs.Entries.{number_of_entry as number_under};
+ghost use Rattle.nr_ops_dir.specs.private.Removed.{tree_after_removal, results_of_removal};
 ghost use Rattle.nr_ops_dir.specs.Removal.{remove_rules, remove_tree, remove_reply, rmdir_rules, rmdir_of, rmdir_tree, rmdir_reply};
 
 use crate::entries::{check_entry, has_entries, is_dir_at, number_of_entry};
 use crate::names::is_dot;
 use nr_nfs_args::{RemoveArgs, RmdirArgs};
-use nr_nfs_base::{Caller, Status, StatusUnion, Time};
+use nr_nfs_base::{Caller, Status, StatusUnion, Time, WccData};
 use nr_nfs_res::{RemoveRes, RmdirRes};
 use nr_tree::{Space, Tree, check_space, is_dot_name, wcc_attributes_at, wcc_data};
 
-/// The results of a call: those of a refusal, or of success.
-fn reply<T>(refusal: Option<Status>, part: T) -> StatusUnion<T, T>
-    ensures { result ≡ answer refusal (λ s. Failed s part) (Done part) }
+/// Takes an entry out if it was found, and gives the results of the call. Takes no memory.
+fn remove_found(
+    tree: &mut Tree,
+    now: Time,
+    dir: &[u8],
+    name: &[u8],
+    found: Result<(u64, u64), Status>,
+) -> StatusUnion<WccData, WccData>
+    requires { IfOk found (λ n. CanRemoveEntry tree.old n.0 name.now n.1) }
+    ensures tree { tree.new ≡ tree_after_removal tree.old now name.now found }
+    ensures result { result ≡ results_of_removal tree.old (tree_after_removal tree.old now name.now found) dir.now found }
 {
-    match refusal {
-        Some(status) => StatusUnion::Failed { status, part },
-        None => StatusUnion::Done(part),
+    let before = wcc_attributes_at(tree, dir);
+    match found {
+        Ok((directory, number)) => {
+            tree.remove_entry(directory, name, number, now);
+            StatusUnion::Done(wcc_data(before, tree, dir))
+        }
+        Err(status) => StatusUnion::Failed {
+            status,
+            part: wcc_data(before, tree, dir),
+        },
     }
 }
 
@@ -53,27 +69,6 @@ fn entry_to_remove(
     Ok((directory, number))
 }
 
-/// Takes the entry out, or gives the first refusal.
-fn remove_file(
-    tree: &mut Tree,
-    now: Time,
-    caller: &Caller,
-    space: &Space,
-    args: &RemoveArgs,
-) -> Option<Status>
-    requires space { IsWithinCapacity space.now }
-    ensures result { result ≡ first (remove_rules tree.old caller.now space.now args.now) }
-    ensures tree { tree.new ≡ remove_tree tree.old caller.now space.now now args.now }
-{
-    match entry_to_remove(tree, caller, space, args) {
-        Ok((directory, number)) => {
-            tree.remove_entry(directory, args.name.as_slice(), number, now);
-            None
-        }
-        Err(status) => Some(status),
-    }
-}
-
 /// Takes the entry of a file, or of another node that is no directory, out of a directory (RFC 1813 section 3.3.12).
 pub fn remove(
     tree: &mut Tree,
@@ -86,10 +81,8 @@ pub fn remove(
     ensures result { result ≡ remove_reply tree.old caller.now space.now now args.now }
     ensures tree { tree.new ≡ remove_tree tree.old caller.now space.now now args.now }
 {
-    let handle = args.dir.as_slice();
-    let before = wcc_attributes_at(tree, handle);
-    let refusal = remove_file(tree, now, caller, space, args);
-    reply(refusal, wcc_data(before, tree, handle))
+    let found = entry_to_remove(tree, caller, space, args);
+    remove_found(tree, now, args.dir.as_slice(), args.name.as_slice(), found)
 }
 
 /// Whether RMDIR may take out a directory, or the refusal.
@@ -137,27 +130,6 @@ fn directory_to_remove(
     Ok((directory, number))
 }
 
-/// Takes the entry out, or gives the first refusal.
-fn remove_directory(
-    tree: &mut Tree,
-    now: Time,
-    caller: &Caller,
-    space: &Space,
-    args: &RmdirArgs,
-) -> Option<Status>
-    requires space { IsWithinCapacity space.now }
-    ensures result { result ≡ first (rmdir_rules tree.old caller.now space.now args.now) }
-    ensures tree { tree.new ≡ rmdir_tree tree.old caller.now space.now now args.now }
-{
-    match directory_to_remove(tree, caller, space, args) {
-        Ok((directory, number)) => {
-            tree.remove_entry(directory, args.name.as_slice(), number, now);
-            None
-        }
-        Err(status) => Some(status),
-    }
-}
-
 /// Takes the entry of an empty directory out of a directory (RFC 1813 section 3.3.13).
 pub fn rmdir(
     tree: &mut Tree,
@@ -170,8 +142,6 @@ pub fn rmdir(
     ensures result { result ≡ rmdir_reply tree.old caller.now space.now now args.now }
     ensures tree { tree.new ≡ rmdir_tree tree.old caller.now space.now now args.now }
 {
-    let handle = args.dir.as_slice();
-    let before = wcc_attributes_at(tree, handle);
-    let refusal = remove_directory(tree, now, caller, space, args);
-    reply(refusal, wcc_data(before, tree, handle))
+    let found = directory_to_remove(tree, caller, space, args);
+    remove_found(tree, now, args.dir.as_slice(), args.name.as_slice(), found)
 }

@@ -1,12 +1,12 @@
 -- Slots, an order of their indexes, and the entries that they make up.
-use Rattle.std.proofs.Common.{◌≡◌, ℕ, zero, suc, ◌+◌, ◌-◌, ◌<◌, ◌≤◌, Bool, true, false, cond, leb, List, [], ◌∷◌, ◌++◌, length, take, drop, get_or, set, remove, map, Option, None, Some, refl, ap, sym, ◌∙◌, subst, arith, length-append, inl, inr, ◌⊎◌}
+use Rattle.std.proofs.Common.{◌≡◌, ℕ, zero, suc, ◌+◌, ◌-◌, ◌<◌, ◌≤◌, Bool, true, false, cond, List, [], ◌∷◌, ◌++◌, length, get_or, set, remove, None, Some, refl, ap, sym, ◌∙◌, subst, arith, length-append, inl, inr, ◌⊎◌}
 use Rattle.std.proofs.Math.ListN.{get_or-append}
 use Rattle.std.proofs.Math.Seq.{get_or-append_seam}
 use Rattle.std.proofs.lemmas.Bool.{cases_eq, cases_lt, le-ltb}
 use Rattle.std.proofs.lemmas.List.{ext_get_or, get_or-map, get_or-set_same, get_or-set_other, get_or-take, length-map, length-set, length-take-le, map-append}
 use Rattle.std.proofs.lemmas.List.Edits.{length-remove, get_or-remove_below, get_or-remove_above}
-use Rattle.std.proofs.lemmas.Option.{slice_get-get_or, get_or_from_slice_get, slice_get_read}
-use Rattle.std.specs.Prelude.{slice_get, slice_index, slice_index_or}
+use Rattle.std.proofs.lemmas.Option.{slice_get-get_or, get_or_from_slice_get}
+use Rattle.std.specs.Prelude.{slice_get, slice_index}
 use Rattle.std.specs.List.{swap_remove}
 use Rattle.std.specs.Option.{option_map}
 use Rattle.indexmap.proofs.SetLemmas.{map-remove}

@@ -7,7 +7,7 @@ use crate::order::Order;
 use crate::steps::Steps;
 use indexmap::IndexMap;
 use nr_xdr::Memory;
-use std::alloc::{AllocError, Global};
+use std::alloc::Global;
 use std::marker::{Brand, Model};
 use std::sync::ledger::{Blank, Ledger};
 

@@ -1,4 +1,4 @@
-use Rattle.std.proofs.Common.{◌≡◌, ◌++◌, ◌∷◌, [], ℕ, remove, sym, ap, ◌∙◌}
+use Rattle.std.proofs.Common.{◌≡◌, ◌++◌, ◌∷◌, [], remove, sym, ◌∙◌}
 use Rattle.nr_tree.specs.Slots.{slot_entries}
 use Rattle.nr_tree.proofs.Ordered.{one_place}
 use Rattle.nr_tree.proofs.directory.move_last.Goals as goal

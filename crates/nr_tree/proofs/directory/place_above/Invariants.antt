@@ -1,4 +1,4 @@
-use Rattle.std.proofs.Common.{◌≡◌, ◌+◌, ◌-◌, ◌*◌, ◌^◌, ◌≤◌, [], length, take, drop}
+use Rattle.std.proofs.Common.{◌≡◌, ◌-◌, ◌≤◌, [], length, take, drop}
 use Rattle.nr_tree.specs.Slots.{slot_entries, ordered}
 use Rattle.nr_tree.specs.Listing.{entries_after}
 use Rattle.nr_tree.proofs.ListingLemmas.{IsHalved}

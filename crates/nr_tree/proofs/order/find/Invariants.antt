@@ -1,4 +1,4 @@
-use Rattle.std.proofs.Common.{ℕ, ◌-◌, length}
+use Rattle.std.proofs.Common.{◌-◌, length}
 use Rattle.nr_tree.proofs.Blocks.{IsSearched}
 use Rattle.nr_tree.proofs.order.find.Given as goal
 

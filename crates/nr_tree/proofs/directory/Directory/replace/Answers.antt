@@ -1,4 +1,4 @@
-use Rattle.std.proofs.Common.{◌≡◌, ◌<◌, ◌+◌, ◌++◌, ◌∷◌, [], ℕ, List, true, None, Some, length, get_or, remove, set, refl, subst, sym, ap, ◌∙◌, true≢false}
+use Rattle.std.proofs.Common.{◌≡◌, ◌<◌, ◌+◌, ◌++◌, ◌∷◌, [], ℕ, List, None, Some, length, get_or, remove, refl, subst, sym, ap, ◌∙◌, true≢false}
 use Rattle.std.specs.Prelude.{slice_index, is_some}
 use Rattle.nr_tree.specs.Entries.{Entry, Entries, entry_of_name, entries_with, entries_without}
 use Rattle.nr_tree.specs.Slots.{slot_entries, ordered, no_entry, IsOrdered}

@@ -1,4 +1,4 @@
-use Rattle.std.proofs.Common.{◌≡◌, ℕ, ◌-◌, ◌≤◌, length, remove}
+use Rattle.std.proofs.Common.{◌≡◌, ◌-◌, ◌≤◌, length, remove}
 use Rattle.nr_tree.proofs.order.Order.move_down.Given as goal
 
 abbrev pub invariant-moving : goal.invariant-moving

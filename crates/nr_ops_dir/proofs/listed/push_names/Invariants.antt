@@ -1,7 +1,0 @@
-use Rattle.std.proofs.Common.{◌≡◌, ◌-◌, take, drop}
-use Rattle.std.specs.Prelude.{map}
-use Rattle.nr_ops_dir.specs.Readdir.{listed}
-use Rattle.nr_ops_dir.proofs.listed.push_names.Given as goal
-
-abbrev pub invariant-loop-place : goal.invariant-loop-place
-invariant-loop-place l = l.entries.items ≡ map listed (take (l.place - l.range.start) (drop l.range.start l.range.dir.now.list))
