@@ -1,0 +1,4 @@
+pub mod Configs
+pub mod Journals
+pub mod Readings
+pub mod Servers

@@ -1,0 +1,16 @@
+use Rattle.std.proofs.Common.{[], subst, sym, ◌∙◌}
+use Rattle.nr_plain.specs.Setup.{Setup}
+use Rattle.nr_plain.specs.Stands.{RepresentsJournal}
+use Rattle.nr_serve.proofs.serving.open_server.Goals as goal
+
+pub returns : goal.returns
+returns g c =
+    let number = c.from_be_bytes.ensures in
+    let export = c.in-Ok.ensures ∙ c.as_bytes.ensures.value in
+    let tree = c.in-Ok-root_only.ensures.ok in
+    record {
+      moment = c.now-moment.result;
+      gave = c.now-moment.ensures.gave;
+      stands = subst (λ (s : Setup). RepresentsJournal s [] c.open.result)
+          (λ i. record { tree = tree i; parameters = record { capacity = c.args.config.now.capacity; verifier = record { number = number i }; export = export i } }) c.open.ensures;
+    }

@@ -1,0 +1,4 @@
+pub mod Streams
+pub mod Serving
+pub mod Statuses
+pub mod Stops

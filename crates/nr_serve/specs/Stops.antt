@@ -1,0 +1,122 @@
+-- Why a server wasn't opened, or stopped early, and what was done until then.
+use Rattle.std.specs.Prelude.{◌≡◌, ℕ, ◌<◌, ◌≤◌, ◌⊎◌, List, length, Option, IfSome, None, Some}
+use Rattle.nr_outside.specs.Faults.{Rises}
+use Rattle.nr_outside.specs.declared.moment.Moment.{Moment}
+use Rattle.nr_reduce.specs.declared.mark.Entry.{Entry}
+use Rattle.nr_words.specs.declared.settings.Settings.{Settings}
+use Rattle.nr_words.specs.Lines.{Text}
+use Rattle.nr_words.specs.Settings.{config_of}
+use Rattle.nr_words.specs.Limits.{capacity_max, connections_max, credits_max}
+use Rattle.nr_words.specs.declared.settings.ConfigFault.{ConfigFault}
+use Rattle.nr_words.specs.declared.settings.ConfigFault.TheVariants as faults
+use Rattle.nr_outside.specs.declared.whole.ReadEnd.{ReadEnd}
+use Rattle.nr_outside.specs.declared.whole.ReadEnd.TheVariants as ends
+use Rattle.nr_links.specs.Asked.{Asks}
+use Rattle.nr_plain.specs.Stands.{PlainServerState}
+use Rattle.nr_host.specs.Serving.{ServesAll, between}
+use Rattle.nr_host.specs.declared.serving.ServeFault.{ServeFault}
+use Rattle.nr_host.specs.declared.serving.ServeFault.TheVariants as serve_faults
+use Rattle.nr_host.specs.declared.conn_end.ConnEnd.{ConnEnd}
+use Rattle.nr_serve.specs.Streams.{InputAt, OutputAt, ReadsAll, Reads, Writes, WritesSome, config_max}
+use Rattle.nr_serve.specs.Serving.{AcceptorAt, Serves, ServesConnections, served_text}
+use Rattle.nr_serve.specs.declared.stop.ServeStop.{ServeStop}
+use Rattle.nr_serve.specs.declared.stop.ServeStop.TheVariants as stops
+
+-- the input has this configuration
+pub record ReadsConfig (input input' : InputAt) (settings : Settings Text) : Type 0 where
+  pub text : List ℕ
+  pub whole : ReadsAll input input' text
+  pub reads : config_of text ≡ Some settings
+
+-- no configuration was read
+abbrev pub StoppedReading : ServeStop → InputAt → InputAt → Type 0
+StoppedReading stops.Memory input input' = (bytes : List ℕ) × (Reads input input' bytes × (input'.faults ≡ input.faults))
+StoppedReading stops.Input input input' = (bytes : List ℕ) × (Reads input input' bytes × ((length bytes ≤ config_max) × Rises input.faults input'.faults))
+StoppedReading stops.Budget input input' =
+    IfSome input.left (λ left. config_max < length left) × ((bytes : List ℕ) × (Reads input input' bytes × ((config_max < length bytes) × (input'.faults ≡ input.faults))))
+StoppedReading stops.Configuration input input' = (text : List ℕ) × (ReadsAll input input' text × (config_of text ≡ None))
+StoppedReading stops.Link input input' = ⊥
+StoppedReading stops.Output input input' = ⊥
+
+-- fewer links were served than the configuration asks for, or it did not listen
+abbrev pub ServesFewer : Settings Text → AcceptorAt → AcceptorAt → Option (List Moment) → Option (List Moment) → Type 0
+ServesFewer settings before after gave gave' =
+    ((after.asked ≡ before.asked) × ((after.ended ≡ before.ended) × (after.lost ≡ before.lost)))
+    ⊎ ((ends : List ConnEnd) × ((length ends < settings.connections) × ((journal : List Entry) × Serves settings before after gave gave' ends journal)))
+
+-- memory ran out, or the acceptor's count rose
+abbrev pub IsServeFault : ServeStop → (before after : ℕ) → Type 0
+IsServeFault stops.Memory before after = after ≡ before
+IsServeFault stops.Link before after = Rises before after
+IsServeFault _ before after = ⊥
+
+-- not all links were served
+abbrev pub StoppedServing : ServeStop → Settings Text → AcceptorAt → AcceptorAt → Option (List Moment) → Option (List Moment) → Type 0
+StoppedServing stop settings before after gave gave' = ServesFewer settings before after gave gave' × IsServeFault stop before.faults after.faults
+
+-- what it printed was not complete
+abbrev pub StoppedPrinting : ServeStop → OutputAt → OutputAt → List ℕ → Type 0
+StoppedPrinting stops.Memory out out' text = out' ≡ out
+StoppedPrinting stops.Output out out' text = WritesSome out out' text
+StoppedPrinting _ out out' text = ⊥
+
+-- all connections that the configuration asks for were served, and that was printed
+pub record ServesAndPrints (settings : Settings Text) (out out' : OutputAt) (before after : AcceptorAt) (gave gave' : Option (List Moment)) : Type 0 where
+  pub serves : ServesConnections settings before after gave gave'
+  pub prints : Writes out out' (served_text settings.connections (length serves.journal))
+
+-- It stopped while it served, or when it printed.
+pub data StopsServing (stop : ServeStop) (settings : Settings Text) (out out' : OutputAt) (before after : AcceptorAt) (gave gave' : Option (List Moment)) : Type 0 where
+  AtServing : StoppedServing stop settings before after gave gave' → out' ≡ out → StopsServing stop settings out out' before after gave gave'
+  AtPrinting : (serves : ServesConnections settings before after gave gave') → StoppedPrinting stop out out' (served_text settings.connections (length serves.journal)) →
+      StopsServing stop settings out out' before after gave gave'
+
+-- the configuration was read, its connections were served, and that was printed
+pub record Done (input input' : InputAt) (out out' : OutputAt) (before after : AcceptorAt) (gave gave' : Option (List Moment)) : Type 0 where
+  pub settings : Settings Text
+  pub reads : ReadsConfig input input' settings
+  pub served : ServesAndPrints settings out out' before after gave gave'
+
+-- It stopped while it read the configuration, or after that.
+pub data Stopped (stop : ServeStop) (input input' : InputAt) (out out' : OutputAt) (before after : AcceptorAt) (gave gave' : Option (List Moment)) : Type 0 where
+  AtReading : StoppedReading stop input input' → out' ≡ out → after ≡ before → gave' ≡ gave → Stopped stop input input' out out' before after gave gave'
+  AfterReading : (settings : Settings Text) → ReadsConfig input input' settings → StopsServing stop settings out out' before after gave gave' → Stopped stop input input' out out' before after gave gave'
+
+-- ===== for the code
+
+abbrev pub stop_of_read : ReadEnd → ServeStop
+stop_of_read ends.Failed = stops.Input
+stop_of_read ends.TooLong = stops.Budget
+stop_of_read ends.Memory = stops.Memory
+
+abbrev pub stop_of_config : ConfigFault → ServeStop
+stop_of_config faults.Bad = stops.Configuration
+stop_of_config faults.Memory = stops.Memory
+
+abbrev pub stop_of_serve : ServeFault → ServeStop
+stop_of_serve serve_faults.AcceptFault = stops.Link
+stop_of_serve serve_faults.Memory = stops.Memory
+
+-- links were served over this server, at the address and with the credits of the configuration
+pub record ServesLinks (settings : Settings Text) (before after : AcceptorAt) (gave gave' : Option (List Moment)) (kept kept' : PlainServerState) (ends : List ConnEnd) : Type 0 where
+  pub listens : Asks before.asked after.asked settings.listen
+  pub serves : ServesAll settings.credits (between before.ended before.lost gave kept) ends (between after.ended after.lost gave' kept')
+
+-- all of them
+pub record ServesLinksOf (settings : Settings Text) (before after : AcceptorAt) (gave gave' : Option (List Moment)) (kept kept' : PlainServerState) : Type 0 where
+  pub ends : List ConnEnd
+  pub all : length ends ≡ settings.connections
+  pub serves : ServesLinks settings before after gave gave' kept kept' ends
+  pub unfailing : after.faults ≡ before.faults
+
+abbrev pub LinksStopped : ServeStop → Settings Text → (before after : AcceptorAt) → (gave gave' : Option (List Moment)) → (kept kept' : PlainServerState) → Type 0
+LinksStopped stop settings before after gave gave' kept kept' =
+    (((after.asked ≡ before.asked) × ((after.ended ≡ before.ended) × (after.lost ≡ before.lost)))
+    ⊎ ((ends : List ConnEnd) × ((length ends < settings.connections) × ServesLinks settings before after gave gave' kept kept' ends)))
+    × IsServeFault stop before.faults after.faults
+
+-- the ranges of a configuration
+pub record InRanges (settings : Settings Text) : Type 0 where
+  pub credits : settings.credits ≤ credits_max
+  pub capacity : settings.capacity ≤ capacity_max
+  pub connections : settings.connections ≤ connections_max
