@@ -1,11 +1,10 @@
 -- What a line makes of a world, and lines one after another.
 use Rattle.std.specs.Prelude.{slice_set, slice_index_or, ◌-◌}
 use Rattle.std.specs.List.{AllByRecursion, list_all}
-use Rattle.std.proofs.Common.{◌≡◌, Bool, false, ℕ, ◌+◌, ◌<◌, ◌≤◌, ◌^◌, arith, zero, suc, List, [], ◌∷◌, length, drop, add-zero, add-one, get_or, refl, sym, ap, subst, ◌∙◌}
+use Rattle.std.proofs.Common.{◌≡◌, Bool, false, ℕ, ◌+◌, ◌<◌, ◌≤◌, arith, zero, suc, List, [], ◌∷◌, length, drop, add-zero, add-one, get_or, refl, sym, ap, subst, ◌∙◌}
 use Rattle.std.proofs.lemmas.List.{length-set}
 use Rattle.std.proofs.Math.Seq.{drop-cons}
 use Rattle.std.proofs.Math.ListN.{drop_of_length-le}
-use Rattle.nr_reduce.specs.declared.mark.Entry.{Entry}
 use Rattle.nr_reduce.specs.History.{is_dropped}
 use Rattle.nr_rpc.specs.Credential.{CanWriteCred}
 use Rattle.nr_rpc.specs.declared.cred.Cred.{Cred}
@@ -25,7 +24,7 @@ use Rattle.nr_drill_link.specs.DrillLinkState.{DrillLinkState}
 use Rattle.nr_drill_link.specs.LinkStands.{LinkStands}
 use Rattle.nr_drill_link.specs.Steps.{ServerStands}
 use Rattle.nr_world.specs.declared.world.World.{World}
-use Rattle.nr_world.specs.Stands.{drill_setting, HasOpened, WorldStands, NoneDueBefore, Steps, StepsIfNoneDue, MakesLine, MakesLines}
+use Rattle.nr_world.specs.Stands.{drill_setting, WorldStands, NoneDueBefore, Steps, StepsIfNoneDue, MakesLine, MakesLines}
 use Rattle.nr_world.specs.Within.{IsClient, IsWithin, AreWithin, CanMake, CanMakeAll}
 use Rattle.nr_world.proofs.Others.{link_stays}
 use Rattle.nr_world.proofs.Progress.{round_more}

@@ -1,7 +1,7 @@
 -- Links open one after another.
 use Rattle.std.specs.Prelude.{slice_index_or, ◌-◌, replicate}
 use Rattle.std.specs.List.{AllByRecursion, range_with_len}
-use Rattle.std.proofs.Common.{◌≡◌, ◌≢◌, ℕ, zero, suc, ◌+◌, ◌<◌, ◌≤◌, arith, Bool, true, false, eqb, eqb-true, List, [], ◌∷◌, ◌++◌, length, get_or, refl, sym, ap, subst, ◌∙◌, length-append, append-nil, add-one}
+use Rattle.std.proofs.Common.{◌≡◌, ◌≢◌, ℕ, zero, suc, ◌+◌, ◌<◌, ◌≤◌, arith, Bool, true, false, eqb, eqb-true, List, [], ◌∷◌, ◌++◌, length, get_or, refl, sym, ap, subst, ◌∙◌, length-append, add-one}
 use Rattle.std.proofs.lemmas.Bool.{eq-eqb}
 use Rattle.std.proofs.lemmas.List.{get_or_append_left, get_or-replicate}
 use Rattle.std.proofs.Math.Seq.{get_or-append_seam}
@@ -16,14 +16,14 @@ use Rattle.nr_tree.specs.Steps.{IsBelow}
 use Rattle.nr_tree.specs.Tree.{Tree}
 use Rattle.nr_plain.specs.Stands.{PlainServerState, RepresentsJournal}
 use Rattle.nr_script.specs.declared.script.Opening.{Opening}
-use Rattle.nr_drill.specs.Drill.{Setting, Drill, Pipes, plain_of, pipes_of, empty_pipes, start, links_of, after_opening, after_openings}
+use Rattle.nr_drill.specs.Drill.{Setting, Drill, plain_of, empty_pipes, start, links_of, after_opening, after_openings}
 use Rattle.nr_drill.specs.DrillSetup.{drill_setup, server_of}
-use Rattle.nr_drill.specs.Follows.{parameters_of, opened_drill}
+use Rattle.nr_drill.specs.Follows.{opened_drill}
 use Rattle.nr_drill.specs.InBytes.{RepliedInBytes}
 use Rattle.nr_drill.proofs.Followed.{Extends, link_of, opening_adds}
 use Rattle.nr_drill_link.specs.DrillLinkState.{DrillLinkState}
 use Rattle.nr_drill_link.specs.LinkStands.{LinkStands}
-use Rattle.nr_drill_link.specs.Steps.{StandsAt, ServerStands, IsBeforeOpening, Opens, mark_link}
+use Rattle.nr_drill_link.specs.Steps.{ServerStands, IsBeforeOpening, Opens, mark_link}
 use Rattle.nr_world.specs.declared.world.World.{World}
 use Rattle.nr_world.specs.Stands.{drill_setting, HasOpened, WorldStands}
 use Rattle.nr_world.specs.Opened.{OpensAll}

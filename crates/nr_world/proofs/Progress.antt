@@ -1,7 +1,7 @@
 -- A round in which something moves makes a mark.
 use Rattle.std.specs.Prelude.{◌&&◌, is_none, slice_get}
 use Rattle.std.specs.List.{list_all}
-use Rattle.std.proofs.Common.{◌≡◌, ◌≢◌, ℕ, zero, suc, ◌+◌, ◌<◌, ◌⊎◌, inl, inr, arith, Bool, true, false, List, [], ◌∷◌, ◌++◌, length, take, drop, Option, None, Some, refl, sym, ap, subst, ◌∙◌, length-append}
+use Rattle.std.proofs.Common.{◌≡◌, ◌≢◌, ℕ, zero, suc, ◌<◌, ◌⊎◌, inl, inr, arith, Bool, true, false, List, [], ◌∷◌, length, take, drop, Option, None, Some, refl, sym, ap, subst, ◌∙◌, length-append}
 use Rattle.std.proofs.lemmas.List.{take_all}
 use Rattle.std.proofs.lemmas.Option.{slice_get_within}
 use Rattle.nr_link.specs.declared.end.End.{End}
@@ -10,10 +10,10 @@ use Rattle.nr_wire.specs.declared.hello.Side.TheVariants.{Initiator, Responder}
 use Rattle.nr_reduce.specs.declared.mark.Mark.{Mark}
 use Rattle.nr_reduce.specs.declared.mark.Mark.TheVariants as marks
 use Rattle.nr_reduce.specs.PlainJournal.{journal}
-use Rattle.nr_reduce.specs.History.{CompletedCall, bytes_sent, is_dropped}
+use Rattle.nr_reduce.specs.History.{CompletedCall, is_dropped}
 use Rattle.nr_reduce.specs.ServerState.{ReadyCall}
 use Rattle.nr_reduce.specs.Served.{next_call, first_ready}
-use Rattle.nr_reduce.specs.Run.{server, output_due}
+use Rattle.nr_reduce.specs.Run.{server}
 use Rattle.nr_reduce.specs.OutcomesDue.{outcomes_due}
 use Rattle.nr_drill.specs.Drill.{Setting, Drill, Pipes, plain_of, now, unwritten, after_output, after_all_output, settled, pipes_of, with_mark, after_feeding, after_feeding_up, after_up, after_feeding_down, after_handing, after_done, after_dones, after_outcomes, after_down, if_standing, waiting_call, after_answer, after_execution, after_work, after_calls, after_all_up, after_all_work, after_all_down, after_moves, after_round}
 use Rattle.nr_drill.specs.Follows.{is_empty, is_still}

@@ -1,18 +1,16 @@
 -- What the links of a world came to.
-use Rattle.std.specs.Prelude.{slice_index_or, ◌-◌}
+use Rattle.std.specs.Prelude.{◌-◌}
 use Rattle.std.specs.List.{range_with_len}
-use Rattle.std.proofs.Common.{◌≡◌, Bool, ℕ, zero, suc, ◌+◌, ◌<◌, ◌≤◌, arith, List, [], ◌∷◌, ◌++◌, length, map, Option, refl, sym, ap, subst, ◌∙◌, append-nil, append_assoc}
+use Rattle.std.proofs.Common.{◌≡◌, Bool, ℕ, ◌+◌, ◌<◌, ◌≤◌, arith, List, [], ◌∷◌, ◌++◌, length, map, Option, refl, sym, ap, subst, ◌∙◌, append-nil, append_assoc}
 use Rattle.nr_link.specs.declared.end.End.{End}
-use Rattle.nr_wire.specs.declared.hello.Side.TheVariants.{Initiator, Responder}
 use Rattle.nr_reduce.specs.declared.mark.Mark.{Mark}
 use Rattle.nr_tree.specs.Tree.{Tree}
 use Rattle.nr_script.specs.declared.script.Opening.{Opening}
-use Rattle.nr_script.specs.Script.{ScriptLines, IsScript}
 use Rattle.nr_drill.specs.declared.report.LinkEnds.{LinkEnds}
 use Rattle.nr_drill.specs.declared.report.Report.{Report}
-use Rattle.nr_drill.specs.Drill.{Setting, Drill, links_of}
+use Rattle.nr_drill.specs.Drill.{Drill, links_of}
 use Rattle.nr_drill.specs.DrillSetup.{drill_setup, server_of}
-use Rattle.nr_drill.specs.Headline.{IsDrillRun, Reports}
+use Rattle.nr_drill.specs.Headline.{IsDrillRun}
 use Rattle.nr_drill.specs.LinkEnds.{ends_of, ReportsRuns}
 use Rattle.nr_world.specs.declared.world.World.{World}
 use Rattle.nr_world.specs.Stands.{drill_setting, WorldStands}

@@ -1,7 +1,7 @@
 -- Rounds, link by link.
 use Rattle.std.specs.Prelude.{◌&&◌, ◌-◌}
 use Rattle.std.specs.List.{list_all, range_with_len}
-use Rattle.std.proofs.Common.{◌≡◌, ℕ, suc, ◌+◌, ◌<◌, ◌≤◌, arith, Bool, true, List, [], ◌∷◌, sym, ap}
+use Rattle.std.proofs.Common.{◌≡◌, ℕ, suc, ◌+◌, ◌<◌, ◌≤◌, arith, true, List, [], ◌∷◌, sym, ap}
 use Rattle.nr_drill.specs.Drill.{Setting, Drill, after_moves, after_round, after_opening, after_openings}
 use Rattle.nr_drill.specs.Follows.{is_still}
 

@@ -1,6 +1,6 @@
 -- What a step of one link leaves: the clock, and if it executes no call, the journal.
 use Rattle.std.specs.Prelude.{slice_get}
-use Rattle.std.proofs.Common.{◌≡◌, ℕ, zero, suc, Bool, true, false, List, [], ◌∷◌, ◌++◌, length, take, drop, Option, None, Some, refl, sym, ap, ◌∙◌, append-nil}
+use Rattle.std.proofs.Common.{◌≡◌, ℕ, zero, suc, Bool, true, false, List, [], ◌∷◌, ◌++◌, length, take, drop, Option, None, Some, refl, ap, ◌∙◌, append-nil}
 use Rattle.std.proofs.lemmas.Grind.{flat_map-append}
 use Rattle.nr_wire.specs.declared.hello.Side.{Side}
 use Rattle.nr_wire.specs.declared.hello.Side.TheVariants.{Initiator, Responder}
@@ -10,9 +10,9 @@ use Rattle.nr_reduce.specs.declared.mark.Entry.{Entry}
 use Rattle.nr_reduce.specs.declared.mark.Mark.{Mark}
 use Rattle.nr_reduce.specs.declared.mark.Mark.TheVariants as marks
 use Rattle.nr_reduce.specs.PlainJournal.{PlainServer, entries_added, journal}
-use Rattle.nr_reduce.specs.History.{CompletedCall, bytes_sent, is_dropped}
+use Rattle.nr_reduce.specs.History.{CompletedCall}
 use Rattle.nr_reduce.specs.ServerState.{ReadyCall}
-use Rattle.nr_reduce.specs.Run.{server, output_due}
+use Rattle.nr_reduce.specs.Run.{server}
 use Rattle.nr_reduce.specs.Asked.{revoked_bytes}
 use Rattle.nr_reduce.specs.SubmitAnswer.{submit_answer_after}
 use Rattle.nr_reduce.specs.OutcomesDue.{outcomes_due}

@@ -1,7 +1,6 @@
 -- The lines of a script are within the limits of its world, and its run is that of a drill.
-use Rattle.std.specs.Prelude.{◌&&◌, nat_le}
 use Rattle.std.specs.List.{AllByRecursion}
-use Rattle.std.proofs.Common.{◌≡◌, ℕ, ◌+◌, ◌≤◌, arith, Bool, true, leb, leb-true, List, [], ◌∷◌, ◌++◌, length, refl, sym, ap, subst, ◌∙◌, add-zero, append_assoc}
+use Rattle.std.proofs.Common.{◌≡◌, ℕ, ◌+◌, ◌≤◌, arith, true, leb, leb-true, List, [], ◌∷◌, ◌++◌, length, refl, sym, ap, subst, ◌∙◌, append_assoc}
 use Rattle.std.proofs.lemmas.List.Sums.{sum_by-append}
 use Rattle.nr_tree.specs.Tree.{Tree}
 use Rattle.nr_script.specs.declared.script.Opening.{Opening}
@@ -19,7 +18,7 @@ use Rattle.nr_drill.proofs.Headed.{drill_is_run}
 use Rattle.nr_world.specs.declared.world.World.{World}
 use Rattle.nr_world.specs.Opened.{IsOpen}
 use Rattle.nr_world.specs.Results.{ReportsWorld}
-use Rattle.nr_world.specs.Stands.{drill_setting, WorldStands, NoneDueBefore, MakesLines}
+use Rattle.nr_world.specs.Stands.{drill_setting, NoneDueBefore, MakesLines}
 use Rattle.nr_world.specs.Within.{IsClient, IsWithin, AreWithin, CanMakeAll}
 use Rattle.nr_world.proofs.SameServer.{openings_clock}
 

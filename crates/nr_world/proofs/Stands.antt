@@ -7,7 +7,6 @@ use Rattle.std.proofs.lemmas.Bool.{eq-eqb}
 use Rattle.nr_reduce.specs.declared.call.Call.{Call}
 use Rattle.nr_reduce.specs.declared.call.Form.{Form}
 use Rattle.nr_reduce.specs.declared.mark.Entry.{Entry}
-use Rattle.nr_reduce.specs.declared.mark.Mark.{Mark}
 use Rattle.nr_reduce.specs.PlainJournal.{journal}
 use Rattle.nr_rpc.specs.Credential.{CanWriteCred}
 use Rattle.nr_rpc.specs.declared.cred.Cred.{Cred}
@@ -15,8 +14,8 @@ use Rattle.nr_rpc.specs.declared.cred.Cred.TheVariants as creds
 use Rattle.nr_tree.specs.Tree.{Tree}
 use Rattle.nr_plain.specs.Stands.{PlainServerState, RepresentsJournal}
 use Rattle.nr_script.specs.declared.script.Opening.{Opening}
-use Rattle.nr_drill.specs.Drill.{Setting, Drill, plain_of, after_submit}
-use Rattle.nr_drill.specs.DrillSetup.{drill_setup, server_of}
+use Rattle.nr_drill.specs.Drill.{Setting, Drill, after_submit}
+use Rattle.nr_drill.specs.DrillSetup.{drill_setup}
 use Rattle.nr_drill.specs.Follows.{parameters_of}
 use Rattle.nr_drill.specs.InBytes.{RepliedInBytes}
 use Rattle.nr_drill.proofs.Followed.{Extends}
@@ -24,7 +23,7 @@ use Rattle.nr_drill_link.specs.DrillLinkState.{DrillLinkState}
 use Rattle.nr_drill_link.specs.LinkStands.{LinkStands}
 use Rattle.nr_drill_link.specs.Steps.{StandsAt, Goes, GoesIfNoneDue, Works, ServerStands}
 use Rattle.nr_world.specs.declared.world.World.{World}
-use Rattle.nr_world.specs.Stands.{drill_setting, HasOpened, WorldStands, NoneDue, Steps, StepsIfNoneDue}
+use Rattle.nr_world.specs.Stands.{drill_setting, HasOpened, WorldStands, Steps, StepsIfNoneDue}
 use Rattle.nr_world.specs.Within.{IsClient}
 use Rattle.nr_world.proofs.SameServer.{Leaves}
 use Rattle.nr_world.proofs.Others.{others_stand}

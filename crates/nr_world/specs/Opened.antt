@@ -1,5 +1,5 @@
 -- The world of a drill, as its links open.
-use Rattle.std.specs.Prelude.{◌≡◌, ℕ, [], replicate}
+use Rattle.std.specs.Prelude.{[]}
 use Rattle.nr_tree.specs.Tree.{Tree}
 use Rattle.nr_tree.specs.Drill.{IsDrill}
 use Rattle.nr_tree.specs.Sane.{IsSane}

@@ -1,5 +1,5 @@
 -- What a world reports.
-use Rattle.std.specs.Prelude.{◌≡◌, List}
+use Rattle.std.specs.Prelude.{List}
 use Rattle.nr_tree.specs.Tree.{Tree}
 use Rattle.nr_script.specs.declared.script.Opening.{Opening}
 use Rattle.nr_script.specs.Script.{ScriptLines, IsScript}

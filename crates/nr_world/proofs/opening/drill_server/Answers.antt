@@ -1,4 +1,4 @@
-use Rattle.std.proofs.Common.{◌≤◌, ℕ, ◌^◌, List, [], arith, subst}
+use Rattle.std.proofs.Common.{ℕ, ◌^◌, List, [], arith, subst}
 use Rattle.nr_plain.specs.Stands.{RepresentsJournal}
 use Rattle.nr_world.proofs.OpenLinks.{below_more}
 use Rattle.nr_world.proofs.opening.drill_server.Goals as goal

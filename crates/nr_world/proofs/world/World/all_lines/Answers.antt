@@ -1,4 +1,4 @@
-use Rattle.std.proofs.Common.{◌≤◌, arith, length, sym, subst}
+use Rattle.std.proofs.Common.{arith, sym, subst}
 use Rattle.nr_script.specs.declared.script.Line.{Line}
 use Rattle.nr_world.specs.Stands.{MakesLine}
 use Rattle.nr_world.specs.Within.{CanMake}

@@ -1,6 +1,5 @@
 use Rattle.std.specs.Prelude.{◌-◌}
-use Rattle.std.proofs.Common.{◌≡◌, ℕ, ◌<◌, arith, length, ◌∙◌, get_or}
-use Rattle.nr_rpc.specs.declared.cred.Cred.{Cred}
+use Rattle.std.proofs.Common.{◌≡◌, ◌<◌, arith, length, ◌∙◌, get_or}
 use Rattle.nr_rpc.specs.declared.cred.Cred.TheVariants as creds
 use Rattle.std.proofs.lemmas.List.{get_or_default}
 use Rattle.nr_world.proofs.world.World.call.Goals as goal

@@ -1,5 +1,5 @@
 use Rattle.std.specs.Prelude.{◌-◌, slice_set}
-use Rattle.std.proofs.Common.{rules, ◌≡◌, ℕ, ◌<◌, arith, length, refl, ap}
+use Rattle.std.proofs.Common.{rules, ◌<◌, arith, length, refl, ap}
 use Rattle.nr_rpc.specs.declared.cred.Cred.{Cred}
 use Rattle.nr_script.specs.declared.script.Line.TheVariants as lines
 use Rattle.nr_world.proofs.LineSteps.{client_of, cred_makes, cred_fits}

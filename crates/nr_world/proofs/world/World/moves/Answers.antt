@@ -1,5 +1,5 @@
-use Rattle.std.proofs.Common.{ℕ, refl}
-use Rattle.nr_drill.specs.Drill.{Setting, Drill, after_moves}
+use Rattle.std.proofs.Common.{refl}
+use Rattle.nr_drill.specs.Drill.{after_moves}
 use Rattle.nr_drill.proofs.Followed.{moves_adds}
 use Rattle.nr_world.proofs.SameServer.{moves_clock}
 use Rattle.nr_world.proofs.Stands.{on_ok, world_works}

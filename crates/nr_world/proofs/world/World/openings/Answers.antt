@@ -1,4 +1,4 @@
-use Rattle.std.proofs.Common.{◌≡◌, ℕ, arith, refl}
+use Rattle.std.proofs.Common.{arith, refl}
 use Rattle.nr_world.proofs.OpenLinks.{openings_begin, openings_on, openings_all}
 use Rattle.nr_world.proofs.world.World.openings.Goals as goal
 

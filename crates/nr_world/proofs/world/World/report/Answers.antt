@@ -1,5 +1,4 @@
-use Rattle.std.proofs.Common.{◌≡◌, ◌≤◌, List, length, arith, ap, sym, subst, ◌∙◌}
-use Rattle.nr_drill.specs.declared.report.LinkEnds.{LinkEnds}
+use Rattle.std.proofs.Common.{◌≡◌, length, arith, ap, sym, subst, ◌∙◌}
 use Rattle.nr_world.specs.Results.{AreEndsOf}
 use Rattle.nr_world.proofs.Reporting.{tells_world}
 use Rattle.nr_world.proofs.Stands.{if_ok}

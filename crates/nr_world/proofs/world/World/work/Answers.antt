@@ -1,5 +1,5 @@
-use Rattle.std.proofs.Common.{ℕ, refl}
-use Rattle.nr_drill.specs.Drill.{Setting, Drill, after_work}
+use Rattle.std.proofs.Common.{refl}
+use Rattle.nr_drill.specs.Drill.{after_work}
 use Rattle.nr_drill.proofs.Followed.{work_adds}
 use Rattle.nr_world.proofs.SameServer.{work_clock}
 use Rattle.nr_world.proofs.Stands.{on_ok, world_works}
