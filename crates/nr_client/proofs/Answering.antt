@@ -21,7 +21,7 @@ use Rattle.nr_client.specs.declared.call_end.CallEnd.{CallEnd}
 use Rattle.nr_client.specs.declared.call_end.CallEnd.TheVariants as calls
 use Rattle.nr_client.specs.Ending.{LinkCause}
 use Rattle.nr_client.specs.Calls.{Answers, Completes, Forgets, GivesUp, HandsOver, IsSent}
-use Rattle.nr_client.specs.Steps.{GoesOn, GoesTo, IsLeft, IsLive, IsOut}
+use Rattle.nr_client.specs.Steps.{GoesOn, GoesTo, IsLeft, IsLive}
 use Rattle.nr_client.specs.Transfers.{LinkBytes}
 use Rattle.nr_client.proofs.Moves.{moves_both}
 use Rattle.nr_client.proofs.Turns.{ends_there}
@@ -73,10 +73,10 @@ pub gives_up : (call : Call) (xid : ℕ) (end : CallEnd) (b c d : LinkBytes) (h 
     → Forgets xid end c d j k → GivesUp b d h k call end
 gives_up call xid end b c d h i j k writable goes sent forgotten =
     inr (λ opened link run fine live.
-        (let (waits, (moves, on)) = goes opened link run fine live in
-        let sent_on = submitted call xid i j opened link (run ++ waits) sent writable fine on in
-        let (moved, ahead, (moves_more, left)) = forgotten opened link ((run ++ waits) ++ marks.Submit link call forms.Auto (submissions.Accepted xid) ∷ []) fine sent_on in
-        record { waits = waits; xid = xid; moved = moved; ahead = ahead; bytes = moves_both link b c d ahead waits moved moves moves_more; left = left }))
+    (let (waits, (moves, on)) = goes opened link run fine live in
+    let sent_on = submitted call xid i j opened link (run ++ waits) sent writable fine on in
+    let (moved, ahead, (moves_more, left)) = forgotten opened link ((run ++ waits) ++ marks.Submit link call forms.Auto (submissions.Accepted xid) ∷ []) fine sent_on in
+    record { waits = waits; xid = xid; moved = moved; ahead = ahead; bytes = moves_both link b c d ahead waits moved moves moves_more; left = left }))
 
 -- it was not submitted
 pub refused : (call : Call) (end : CallEnd) (b c : LinkBytes) (h i j : RequesterSide) → j ≡ i → GoesOn b c h i → GivesUp b c h j call end
@@ -89,8 +89,8 @@ not_sent call end b c h i goes = inl goes
 pub lacks_answer : (xid : ℕ) (r : RequesterState) → is_some (found_answer xid r) ≡ true → found_answer xid r ≡ None → ⊥
 lacks_answer xid r there none = true_false (sym there ∙ ap is_some none)
   where
-  true_false : true ≡ false → ⊥
-  true_false e = absurd cc
+    true_false : true ≡ false → ⊥
+    true_false e = absurd cc
 
 -- a call that is forgotten leaves the cause of its end
 pub still_caused : (xid : ℕ) (end : CallEnd) (left : Option (List ℕ)) (read : ℕ) (h i : RequesterSide) → i ≡ after_forget h xid → LinkCause end left read h → LinkCause end left read i

@@ -1,21 +1,19 @@
 -- One step of a call after another.
-use Rattle.std.proofs.Common.{◌≡◌, ℕ, ◌+◌, List, [], ◌∷◌, ◌++◌, length, take, drop, Option, Some, inl, inr, arith, refl, sym, ap, subst, ◌∙◌, append_assoc, append-nil, take-append-drop}
+use Rattle.std.proofs.Common.{◌≡◌, ℕ, ◌+◌, List, [], ◌∷◌, ◌++◌, length, take, drop, Option, inl, inr, refl, sym, ap, subst, ◌∙◌, append_assoc, append-nil, take-append-drop}
 use Rattle.nr_link.specs.declared.end.End.TheVariants as ends
 use Rattle.nr_wire.specs.declared.hello.Side.TheVariants.{Initiator}
 use Rattle.std.specs.Io.KnownBytes.{Appends}
 use Rattle.nr_outside.specs.Content.{HandsOut}
-use Rattle.nr_reduce.specs.declared.mark.LinkParameters.{LinkParameters}
 use Rattle.nr_reduce.specs.declared.mark.Mark.{Mark}
 use Rattle.nr_reduce.specs.declared.mark.Mark.TheVariants as marks
-use Rattle.nr_reduce.specs.Opening.{IsOpened}
 use Rattle.nr_requester.specs.RequesterState.{RequesterSide, queue_of}
 use Rattle.nr_requester.specs.Standing.{StandsOn}
 use Rattle.nr_requester.proofs.OwnLaw.{drain_keeps_law, drain_keeps_grant, piece_keeps_law}
 use Rattle.nr_client.specs.declared.call_end.CallEnd.{CallEnd}
 use Rattle.nr_client.specs.declared.call_end.CallEnd.TheVariants as calls
 use Rattle.nr_client.specs.Ending.{SinkCountAt, SourceCountAt}
-use Rattle.nr_client.specs.Steps.{FeedsOut, GoesOn, GoesTo, IsLeft, IsLive, IsOut, Reads, ReadsTo, Writes}
-use Rattle.nr_client.specs.Transfers.{LinkBytes, Moves, link_bytes}
+use Rattle.nr_client.specs.Steps.{FeedsOut, GoesOn, GoesTo, IsLeft, IsLive, Reads, ReadsTo, Writes}
+use Rattle.nr_client.specs.Transfers.{LinkBytes, link_bytes}
 use Rattle.nr_client.proofs.Moves.{moves_both, moves_fed, moves_none, moves_wrote, stays}
 
 -- nothing happens

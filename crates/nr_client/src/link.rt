@@ -19,7 +19,7 @@ use std::alloc::Global;
 use std::marker::Model;
 
 /// The client end of a link with its source and its sink. Contracts see these, and the number of bytes read.
-pub struct Caller<I, O> {
+pub struct Link<I, O> {
     requester: Requester,
     source: I,
     sink: O,
@@ -28,14 +28,14 @@ pub struct Caller<I, O> {
     buf: Vec<u8>,
 }
 
-impl<I, O> Model for Caller<I, O> {
-    ghost use Rattle.nr_client.specs.CallerState.{CallerState};
+impl<I, O> Model for Link<I, O> {
+    ghost use Rattle.nr_client.specs.LinkParts.{LinkParts};
     ghost use Rattle.nr_client.specs.Steps.{Fits};
     ghost use Rattle.std.specs.Prelude.{length};
     ghost use Rattle.std.specs.Coded.{codes};
     ghost use Rattle.nr_endpoint.specs.Codes.{state_code};
 
-    ghost Value = { CallerState I O };
+    ghost Value = { LinkParts I O };
 
     ghost coded = { Prim.hlevel (codes, state_code) };
 
@@ -44,14 +44,9 @@ impl<I, O> Model for Caller<I, O> {
     ghost invariant = { λ c. Fits c.requester c.read (length c.buf.items) };
 }
 
-impl<I: Source, O: Sink> Caller<I, O> {
+impl<I: Source, O: Sink> Link<I, O> {
     /// The client end of a new link. It wishes for this many credits. After out of memory the source and the sink come back.
-    pub fn open(
-        alloc: Global,
-        source: I,
-        sink: O,
-        credits: u32,
-    ) -> Result<Caller<I, O>, (I, O)>
+    pub fn open(alloc: Global, source: I, sink: O, credits: u32) -> Result<Link<I, O>, (I, O)>
         ensures state { IfOk result (λ c. c ≡ record { requester = opened_as 1 1 credits; source = source; sink = sink; read = 0 }) }
         ensures stands { IfOk result (λ c. (opened : LinkParameters) (link : ℕ) → opened.first_xid ≡ 1 → opened.first_stag ≡ 1 → opened.wished ≡ credits → RequesterRepresents opened link c.requester []) }
         ensures returned { IfErr result (λ link. (link.0 ≡ source) × (link.1 ≡ sink)) }
@@ -63,7 +58,7 @@ impl<I: Source, O: Sink> Caller<I, O> {
             drop(buf);
             return Err((source, sink));
         };
-        Ok(Caller {
+        Ok(Link {
             requester,
             source,
             sink,
@@ -98,7 +93,7 @@ impl<I: Source, O: Sink> Caller<I, O> {
     pub fn into_link(self) -> (I, O)
         ensures { (result.0 ≡ self.source) × (result.1 ≡ self.sink) }
     {
-        let Caller {
+        let Link {
             requester,
             source,
             sink,

@@ -1,4 +1,4 @@
-use Rattle.std.proofs.Common.{is_some, ap, refl, sym, subst, ◌∙◌}
+use Rattle.std.proofs.Common.{is_some, ap, sym, ◌∙◌}
 use Rattle.nr_client.specs.Transfers.{link_bytes}
 use Rattle.nr_client.proofs.Answering.{answers, gives_up, not_sent, refused, same_call}
 use Rattle.nr_client.proofs.Refusals.{link_cause}

@@ -22,7 +22,7 @@ returns-in-Err-clause-sink_count g c =
     same_sink c.in-Err.end (g.O.Sink.faults c.args.sink.now) (g.O.Sink.faults c.loop-requester.sink) (g.O.Sink.faults c.transfer.new.sink) sinks c.in-Err.ensures.sink_count
 
 pub loop-requester-smaller : goal.loop-requester-smaller
-loop-requester-smaller g c = 
+loop-requester-smaller g c =
     let (fits, tickets, sources, sinks, goes) = c.loop-requester.invariant in
     let more = c.in-Ok.ensures.more in
     let within = c.in-Ok.ensures.fits.within in

@@ -1,4 +1,4 @@
-use Rattle.std.proofs.Common.{sym, ◌∙◌}
+use Rattle.std.proofs.Common.{sym}
 use Rattle.nr_client.proofs.Turns.{writes}
 use Rattle.nr_client.proofs.transfer.write_due.Goals as goal
 
