@@ -1,0 +1,108 @@
+-- A call from its Submit to its answer or its end.
+use Rattle.std.proofs.Common.{◌≡◌, ℕ, true, false, is_some, List, [], ◌∷◌, ◌++◌, Option, Some, None, inl, inr, ap, subst, sym, ◌∙◌}
+use Rattle.std.proofs.lemmas.Option.{same_Some}
+use Rattle.nr_requester.specs.AfterCalls.{after_forget}
+use Rattle.nr_rpc.specs.Credential.{CanWriteCred}
+use Rattle.nr_reduce.specs.declared.call.Call.{Call}
+use Rattle.nr_reduce.specs.declared.call.Outcome.{Outcome}
+use Rattle.nr_reduce.specs.declared.call.Form.TheVariants as forms
+use Rattle.nr_reduce.specs.declared.call.Submission.TheVariants as submissions
+use Rattle.nr_reduce.specs.declared.mark.LinkParameters.{LinkParameters}
+use Rattle.nr_reduce.specs.declared.mark.Mark.{Mark}
+use Rattle.nr_reduce.specs.declared.mark.Mark.TheVariants as marks
+use Rattle.nr_reduce.specs.Opening.{IsOpened}
+use Rattle.nr_requester.specs.declared.answer.AnsweredCall.{AnsweredCall}
+use Rattle.nr_requester.specs.RequesterState.{RequesterSide, RequesterState}
+use Rattle.nr_requester.specs.OpenCalls.{found_answer, open_call}
+use Rattle.nr_requester.specs.Standing.{StandsOn, StaysOut}
+use Rattle.nr_requester.proofs.OwnLaw.{submit_keeps_law}
+use Rattle.nr_requester.proofs.OpenTickets.{done_keeps_law, forget_keeps_law, forget_out_keeps_law}
+use Rattle.nr_client.specs.declared.call_end.CallEnd.{CallEnd}
+use Rattle.nr_client.specs.declared.call_end.CallEnd.TheVariants as calls
+use Rattle.nr_client.specs.Ending.{LinkCause}
+use Rattle.nr_client.specs.Calls.{Answers, Completes, Forgets, GivesUp, HandsOver, IsSent}
+use Rattle.nr_client.specs.Steps.{GoesOn, GoesTo, IsLeft, IsLive}
+use Rattle.nr_client.specs.Transfers.{LinkBytes}
+use Rattle.nr_client.proofs.Moves.{moves_both}
+use Rattle.nr_client.proofs.Turns.{ends_there}
+
+-- it was submitted
+submitted : (call : Call) (xid : ℕ) (h i : RequesterSide) (opened : LinkParameters) (link : ℕ) (run : List Mark) → IsSent xid call h i → CanWriteCred call.cred → IsOpened opened
+    → IsLive opened link h run → IsLive opened link i (run ++ marks.Submit link call forms.Auto (submissions.Accepted xid) ∷ [])
+submitted call xid h i opened link run sent writable fine live =
+    let kept = submit_keeps_law opened link h run call forms.Auto xid live.stands sent.0 fine writable live.asked live.granted in
+    record { stands = sent.1 opened link run live.stands; asked = kept.0; granted = kept.1 }
+
+-- its answer is taken
+pub hands_over : (xid : ℕ) (h i : RequesterSide) (a : AnsweredCall) → found_answer xid h.state ≡ Some a → StandsOn h (λ link. marks.Done link xid a.outcome) i → HandsOver xid a.outcome h i
+hands_over xid h i a found on opened link run live =
+    let kept = done_keeps_law opened link h run xid a live.stands found live.asked live.granted in
+    record { stands = on opened link run live.stands; asked = kept.0; granted = kept.1 }
+
+pub completes : (xid : ℕ) (outcome : Outcome) (b c : LinkBytes) (h i j : RequesterSide) → GoesOn b c h i → HandsOver xid outcome i j → Completes xid outcome b c h j
+completes xid outcome b c h i j goes over opened link run fine live =
+    let (moved, (moves, on)) = goes opened link run fine live in
+    (moved, (moves, over opened link (run ++ moved) on))
+
+-- it is forgotten
+forgotten_at : (xid : ℕ) (end : CallEnd) (h i : RequesterSide) (opened : LinkParameters) (link : ℕ) (ahead : List ℕ) (run : List Mark) → StandsOn h (λ link. marks.Forget link xid) i
+    → StaysOut h (λ link. marks.Forget link xid) i → is_some (open_call xid h.state) ≡ true → IsLeft end opened link h ahead run → IsLeft end opened link i ahead (run ++ marks.Forget link xid ∷ [])
+forgotten_at xid end h i opened link ahead run on out is_open (inl (live, none)) =
+    let kept = forget_keeps_law opened link h run xid live.stands is_open live.asked live.granted in
+    inl (record { stands = on opened link run live.stands; asked = kept.0; granted = kept.1 }, none)
+forgotten_at xid end h i opened link ahead run on out is_open (inr (is, stopped)) =
+    let kept = forget_out_keeps_law opened link h stopped.stopped run xid stopped.stands is_open stopped.asked stopped.granted in
+    inr (is, record { stopped = stopped.stopped; stands = out opened link stopped.stopped run stopped.stands; asked = kept.0; granted = kept.1 })
+
+pub forgets : (xid : ℕ) (end : CallEnd) (b c : LinkBytes) (h i j : RequesterSide) → GoesTo end b c h i → StandsOn i (λ link. marks.Forget link xid) j
+    → StaysOut i (λ link. marks.Forget link xid) j → is_some (open_call xid i.state) ≡ true → Forgets xid end b c h j
+forgets xid end b c h i j goes on out is_open opened link run fine live =
+    let (moved, ahead, (moves, left)) = goes opened link run fine live in
+    (moved, ahead, (moves, forgotten_at xid end i j opened link ahead (run ++ moved) on out is_open left))
+
+-- all of a call
+pub answers : (call : Call) (xid : ℕ) (outcome : Outcome) (b c d : LinkBytes) (h i j k : RequesterSide) → CanWriteCred call.cred → GoesOn b c h i → IsSent xid call i j
+    → Completes xid outcome c d j k → Answers b d h k call outcome
+answers call xid outcome b c d h i j k writable goes sent completed opened link run fine live =
+    let (waits, (moves, on)) = goes opened link run fine live in
+    let sent_on = submitted call xid i j opened link (run ++ waits) sent writable fine on in
+    let (moved, (moves_more, done)) = completed opened link ((run ++ waits) ++ marks.Submit link call forms.Auto (submissions.Accepted xid) ∷ []) fine sent_on in
+    record { waits = waits; xid = xid; moved = moved; bytes = moves_both link b c d [] waits moved moves moves_more; live = done }
+
+pub gives_up : (call : Call) (xid : ℕ) (end : CallEnd) (b c d : LinkBytes) (h i j k : RequesterSide) → CanWriteCred call.cred → GoesOn b c h i → IsSent xid call i j
+    → Forgets xid end c d j k → GivesUp b d h k call end
+gives_up call xid end b c d h i j k writable goes sent forgotten =
+    inr (λ opened link run fine live.
+    (let (waits, (moves, on)) = goes opened link run fine live in
+    let sent_on = submitted call xid i j opened link (run ++ waits) sent writable fine on in
+    let (moved, ahead, (moves_more, left)) = forgotten opened link ((run ++ waits) ++ marks.Submit link call forms.Auto (submissions.Accepted xid) ∷ []) fine sent_on in
+    record { waits = waits; xid = xid; moved = moved; ahead = ahead; bytes = moves_both link b c d ahead waits moved moves moves_more; left = left }))
+
+-- it was not submitted
+pub refused : (call : Call) (end : CallEnd) (b c : LinkBytes) (h i j : RequesterSide) → j ≡ i → GoesOn b c h i → GivesUp b c h j call end
+refused call end b c h i j same goes = inl (ends_there end b c h j (subst (GoesOn b c h) (sym same) goes))
+
+pub not_sent : (call : Call) (end : CallEnd) (b c : LinkBytes) (h i : RequesterSide) → GoesTo end b c h i → GivesUp b c h i call end
+not_sent call end b c h i goes = inl goes
+
+-- it has an answer, so it doesn't lack one
+pub lacks_answer : (xid : ℕ) (r : RequesterState) → is_some (found_answer xid r) ≡ true → found_answer xid r ≡ None → ⊥
+lacks_answer xid r there none = true_false (sym there ∙ ap is_some none)
+  where
+    true_false : true ≡ false → ⊥
+    true_false e = absurd cc
+
+-- a call that is forgotten leaves the cause of its end
+pub still_caused : (xid : ℕ) (end : CallEnd) (left : Option (List ℕ)) (read : ℕ) (h i : RequesterSide) → i ≡ after_forget h xid → LinkCause end left read h → LinkCause end left read i
+unfolding after_forget
+still_caused xid (calls.Ended end) left read h i is cause = ap (λ (x : RequesterSide). x.state.side.ended) is ∙ cause
+still_caused xid calls.LinkRead left read h i is cause = tt
+still_caused xid calls.LinkWrite left read h i is cause = tt
+still_caused xid calls.Closed left read h i is cause = cause
+still_caused xid (calls.Spent left_over need) left read h i is cause = absurd cause
+still_caused xid (calls.TooLarge need room) left read h i is cause = absurd cause
+still_caused xid (calls.Budget count) left read h i is cause = cause
+still_caused xid calls.Memory left read h i is cause = absurd cause
+
+pub same_call : {a b : Call} → Some a ≡ Some b → a ≡ b
+same_call {a = a} {b = b} same = same_Some a b same

@@ -1,0 +1,5 @@
+pub mod Answering
+pub mod Moves
+pub mod Outcomes
+pub mod Refusals
+pub mod Turns

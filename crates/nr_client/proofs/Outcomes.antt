@@ -1,0 +1,63 @@
+-- A request, by how its call ended.
+use Rattle.std.proofs.Common.{◌≡◌, ℕ, ◌≤◌, List, length, Result, Ok, Err, IfErr, inl, inr, arith, refl, ap, subst}
+use Rattle.std.proofs.lemmas.List.{length-append}
+use Rattle.nr_rpc.specs.Reply.{BeginsReply}
+use Rattle.nr_rpc.specs.declared.head.ReplyHead.{ReplyHead}
+use Rattle.nr_rpc.specs.declared.head.ReplyHead.TheVariants as heads
+use Rattle.nr_reduce.specs.declared.call.Call.{Call}
+use Rattle.nr_reduce.specs.declared.call.Outcome.{Outcome}
+use Rattle.nr_requester.specs.RequesterState.{RequesterSide}
+use Rattle.nr_client.specs.declared.client_end.ClientEnd.{ClientEnd}
+use Rattle.nr_client.specs.declared.client_end.ClientEnd.TheVariants as client
+use Rattle.nr_client.specs.declared.call_end.CallEnd.{CallEnd}
+use Rattle.nr_client.specs.Calls.{Answers, GivesUp}
+use Rattle.nr_client.specs.Ending.{IsCause}
+use Rattle.nr_client.specs.Requests.{Asks, SinkFaults, SourceFaults}
+use Rattle.nr_client.specs.Results.{Gives, NotLink}
+use Rattle.nr_client.specs.Transfers.{LinkBytes}
+
+pub asks_answered : {A : Type 0} (reads : Outcome → Result A ClientEnd) (call asked : Call) (outcome : Outcome) (b c : LinkBytes) (h i : RequesterSide) (result : Result A ClientEnd)
+    → call ≡ asked → Answers b c h i call outcome → Gives result (reads outcome) → Asks reads asked b c h i result
+asks_answered reads call asked outcome b c h i result same answers gives =
+    inl (outcome, (subst (λ (a : Call). Answers b c h i a outcome) same answers, gives))
+
+pub asks_given_up : {A : Type 0} (reads : Outcome → Result A ClientEnd) (call asked : Call) (end : CallEnd) (b c : LinkBytes) (h i : RequesterSide)
+    → call ≡ asked → GivesUp b c h i call end → IsCause end c.left c.read i call → Asks {A = A} reads asked b c h i (Err (client.Link end))
+asks_given_up reads call asked end b c h i same given_up cause =
+    inr (inl (end, (refl, (subst (λ (a : Call). GivesUp b c h i a end) same given_up, subst (λ (a : Call). IsCause end c.left c.read i a) same cause))))
+
+pub asks_out : {A : Type 0} (reads : Outcome → Result A ClientEnd) (asked : Call) (b : LinkBytes) (h : RequesterSide) → Asks {A = A} reads asked b b h h (Err client.Memory)
+asks_out reads asked b h = inr (inr (refl, (refl, refl)))
+
+-- results begin within the reply
+pub begins_within : (head : ReplyHead) (xid stat at : ℕ) (bytes : List ℕ) → head ≡ heads.Accepted xid stat at → BeginsReply head bytes → at ≤ length bytes
+begins_within head xid stat at bytes same begins =
+    let (front, behind, reads, is) = subst (λ (h : ReplyHead). BeginsReply h bytes) same begins in
+    let all = ap length is in
+    let len = reads.accepted.1 in
+    omega (arith, len, all, length-append front behind)
+
+-- a reply was read, so no fault count rose
+pub no_source_fault : {A : Type 0} (result : Result A ClientEnd) (before after : ℕ) → IfErr result NotLink → after ≡ before → SourceFaults result before after
+no_source_fault (Ok value) before after link same = same
+no_source_fault (Err client.DialFault) before after link same = same
+no_source_fault (Err (client.Link end)) before after link same = absurd link
+no_source_fault (Err (client.Rpc kind code)) before after link same = same
+no_source_fault (Err (client.Mount status)) before after link same = same
+no_source_fault (Err (client.Nfs status)) before after link same = same
+no_source_fault (Err client.Chunk) before after link same = same
+no_source_fault (Err (client.Version low high)) before after link same = same
+no_source_fault (Err (client.BadReply at reason)) before after link same = same
+no_source_fault (Err client.Memory) before after link same = same
+
+pub no_sink_fault : {A : Type 0} (result : Result A ClientEnd) (before after : ℕ) → IfErr result NotLink → after ≡ before → SinkFaults result before after
+no_sink_fault (Ok value) before after link same = same
+no_sink_fault (Err client.DialFault) before after link same = same
+no_sink_fault (Err (client.Link end)) before after link same = absurd link
+no_sink_fault (Err (client.Rpc kind code)) before after link same = same
+no_sink_fault (Err (client.Mount status)) before after link same = same
+no_sink_fault (Err (client.Nfs status)) before after link same = same
+no_sink_fault (Err client.Chunk) before after link same = same
+no_sink_fault (Err (client.Version low high)) before after link same = same
+no_sink_fault (Err (client.BadReply at reason)) before after link same = same
+no_sink_fault (Err client.Memory) before after link same = same

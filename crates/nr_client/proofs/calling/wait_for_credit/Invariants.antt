@@ -1,0 +1,16 @@
+use Rattle.std.proofs.Common.{◌≡◌, ◌-◌, length}
+use Rattle.nr_client.specs.Ending.{read_max}
+use Rattle.nr_client.specs.Steps.{Fits, GoesOn}
+use Rattle.nr_client.specs.Transfers.{link_bytes}
+use Rattle.nr_client.proofs.calling.wait_for_credit.Given as goal
+
+abbrev pub invariant-loop-requester : goal.invariant-loop-requester
+invariant-loop-requester g l =
+    Fits l.requester l.read (length l.buf)
+    × (g.I.Source.faults l.source ≡ g.I.Source.faults l.initial.source)
+    × (g.O.Sink.faults l.sink ≡ g.O.Sink.faults l.initial.sink)
+    × GoesOn (link_bytes (g.I.Source.left l.initial.source) (g.I.Source.given l.initial.source) (g.O.Sink.taken l.initial.sink) l.initial.read)
+    (link_bytes (g.I.Source.left l.source) (g.I.Source.given l.source) (g.O.Sink.taken l.sink) l.read) l.initial.requester l.requester
+
+abbrev pub decreases-loop-requester : goal.decreases-loop-requester
+decreases-loop-requester g l = read_max - l.read

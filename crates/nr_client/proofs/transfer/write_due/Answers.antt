@@ -1,0 +1,21 @@
+use Rattle.std.proofs.Common.{sym}
+use Rattle.nr_client.proofs.Turns.{writes}
+use Rattle.nr_client.proofs.transfer.write_due.Goals as goal
+
+pub returns-in-Err-clause-writes : goal.returns-in-Err-clause-writes
+returns-in-Err-clause-writes g c =
+    let (n, within, takes, is, on, out, all) = c.in-Err.ensures.taken in
+    writes (g.O.Sink.taken c.args.sink.now) (g.O.Sink.taken c.drain_into.new.sink) c.args.requester.now c.drain_into.new.self n takes on
+
+pub returns-in-None-clause-writes : goal.returns-in-None-clause-writes
+returns-in-None-clause-writes g c =
+    let (n, within, takes, is, on, out, all) = c.in-Ok.ensures.taken in
+    writes (g.O.Sink.taken c.args.sink.now) (g.O.Sink.taken c.drain_into.new.sink) c.args.requester.now c.drain_into.new.self n takes on
+
+pub returns-in-Some-clause-writes : goal.returns-in-Some-clause-writes
+returns-in-Some-clause-writes g c =
+    let (n, within, takes, is, on, out, all) = c.in-Ok.ensures.taken in
+    writes (g.O.Sink.taken c.args.sink.now) (g.O.Sink.taken c.drain_into.new.sink) c.args.requester.now c.drain_into.new.self n takes on
+
+pub returns-in-Some-clause-cause : goal.returns-in-Some-clause-cause
+returns-in-Some-clause-cause g c left read = sym c.in-Some.ensures

@@ -1,0 +1,72 @@
+-- What a call over a link makes of the marks that its requester stands for.
+use Rattle.std.specs.Prelude.{◌≡◌, ℕ, ◌⊎◌, List, [], ◌∷◌, ◌++◌}
+use Rattle.nr_reduce.specs.declared.call.Call.{Call}
+use Rattle.nr_reduce.specs.declared.call.Outcome.{Outcome}
+use Rattle.nr_reduce.specs.declared.call.Form.TheVariants as forms
+use Rattle.nr_reduce.specs.declared.call.Submission.TheVariants as submissions
+use Rattle.nr_reduce.specs.declared.mark.LinkParameters.{LinkParameters}
+use Rattle.nr_reduce.specs.declared.mark.Mark.{Mark}
+use Rattle.nr_reduce.specs.declared.mark.Mark.TheVariants as marks
+use Rattle.nr_reduce.specs.Opening.{IsOpened}
+use Rattle.nr_requester.specs.RequesterState.{RequesterSide}
+use Rattle.nr_requester.specs.Answers.{answer_of}
+use Rattle.nr_requester.specs.Standing.{StandsOn}
+use Rattle.nr_client.specs.Steps.{GoesTo, IsLeft, IsLive}
+use Rattle.nr_client.specs.Transfers.{LinkBytes, Moves}
+use Rattle.nr_client.specs.declared.call_end.CallEnd.{CallEnd}
+
+-- the marks up to a Submit, after bytes moved while the call waited for a credit
+abbrev pub run_to_submit : List Mark → ℕ → Call → ℕ → (waits : List Mark) → List Mark
+run_to_submit run link call xid waits = (run ++ waits) ++ marks.Submit link call forms.Auto (submissions.Accepted xid) ∷ []
+
+-- all marks of a call: bytes moved while it waited for a credit; it was submitted; bytes moved; and the last mark
+abbrev pub run_of_call : List Mark → ℕ → Call → ℕ → (waits moved : List Mark) → Mark → List Mark
+run_of_call run link call xid waits moved last = (run_to_submit run link call xid waits ++ moved) ++ last ∷ []
+
+-- The call was submitted and answered with this outcome.
+pub record IsAnswered (opened : LinkParameters) (link : ℕ) (run : List Mark) (b b' : LinkBytes) (h' : RequesterSide) (call : Call) (outcome : Outcome) : Type 0 where
+  pub waits : List Mark
+  pub xid : ℕ
+  pub moved : List Mark
+  pub bytes : Moves link b b' [] (waits ++ moved)
+  pub live : IsLive opened link h' (run_of_call run link call xid waits moved (marks.Done link xid outcome))
+
+-- The call was submitted, and forgotten at this end.
+pub record IsForgotten (opened : LinkParameters) (link : ℕ) (run : List Mark) (b b' : LinkBytes) (h' : RequesterSide) (call : Call) (end : CallEnd) : Type 0 where
+  pub waits : List Mark
+  pub xid : ℕ
+  pub moved : List Mark
+  pub ahead : List ℕ
+  pub bytes : Moves link b b' ahead (waits ++ moved)
+  pub left : IsLeft end opened link h' ahead (run_of_call run link call xid waits moved (marks.Forget link xid))
+
+abbrev pub Answers : (b b' : LinkBytes) (h h' : RequesterSide) → Call → Outcome → Type 0
+Answers b b' h h' call outcome = (opened : LinkParameters) (link : ℕ) (run : List Mark) → IsOpened opened → IsLive opened link h run → IsAnswered opened link run b b' h' call outcome
+
+-- It has no answer: it was not submitted, or it was forgotten.
+abbrev pub GivesUp : (b b' : LinkBytes) (h h' : RequesterSide) → Call → CallEnd → Type 0
+GivesUp b b' h h' call end =
+    GoesTo end b b' h h' ⊎ ((opened : LinkParameters) (link : ℕ) (run : List Mark) → IsOpened opened → IsLive opened link h run → IsForgotten opened link run b b' h' call end)
+
+-- ---- Its steps
+
+-- it was accepted under this xid
+abbrev pub IsSent : ℕ → Call → (h h' : RequesterSide) → Type 0
+IsSent xid call h h' =
+    (answer_of h.state call forms.Auto ≡ submissions.Accepted xid) × StandsOn h (λ link. marks.Submit link call forms.Auto (submissions.Accepted xid)) h'
+
+-- its outcome is handed over
+abbrev pub HandsOver : ℕ → Outcome → (h h' : RequesterSide) → Type 0
+HandsOver xid outcome h h' =
+    (opened : LinkParameters) (link : ℕ) (run : List Mark) → IsLive opened link h run → IsLive opened link h' (run ++ marks.Done link xid outcome ∷ [])
+
+-- bytes moved, and then its outcome was handed over, or it was forgotten
+abbrev pub Completes : ℕ → Outcome → (b b' : LinkBytes) (h h' : RequesterSide) → Type 0
+Completes xid outcome b b' h h' =
+    (opened : LinkParameters) (link : ℕ) (run : List Mark) → IsOpened opened → IsLive opened link h run →
+    (moved : List Mark) × (Moves link b b' [] moved × IsLive opened link h' ((run ++ moved) ++ marks.Done link xid outcome ∷ []))
+
+abbrev pub Forgets : ℕ → CallEnd → (b b' : LinkBytes) (h h' : RequesterSide) → Type 0
+Forgets xid end b b' h h' =
+    (opened : LinkParameters) (link : ℕ) (run : List Mark) → IsOpened opened → IsLive opened link h run →
+    (moved : List Mark) × (ahead : List ℕ) × (Moves link b b' ahead moved × IsLeft end opened link h' ahead ((run ++ moved) ++ marks.Forget link xid ∷ []))

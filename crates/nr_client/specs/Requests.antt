@@ -1,0 +1,78 @@
+-- The calls of a session, and their results.
+use Rattle.std.specs.Prelude.{◌≡◌, ℕ, ◌⊎◌, List, [], ◌∷◌, Result, Ok, Err}
+use Rattle.nr_rpc.specs.declared.cred.Cred.TheVariants as creds
+use Rattle.nr_xdr.specs.Items.{encodings}
+use Rattle.nr_nfs_args.specs.Attributes.{getattr_args_codec}
+use Rattle.nr_nfs_args.specs.Mount.{mnt_args_codec}
+use Rattle.nr_nfs_base.specs.Attributes.{attributes_codec}
+use Rattle.nr_nfs_base.specs.Codec.{void}
+use Rattle.nr_nfs_base.specs.MountStatus.{mount_status_number, mount_statuses}
+use Rattle.nr_nfs_base.specs.Status.{status_number, statuses}
+use Rattle.nr_nfs_base.specs.StatusUnion.{status_union_codec}
+use Rattle.nr_nfs_base.specs.Procedures.{mount_procedure_number, mount_program, mount_version, nfs_procedure_number, nfs_program, nfs_version}
+use Rattle.nr_nfs_base.specs.declared.attributes.Attributes.{Attributes}
+use Rattle.nr_nfs_base.specs.declared.procedure.MountProcedure.TheVariants as mount
+use Rattle.nr_nfs_base.specs.declared.procedure.NfsProcedure.TheVariants as nfs
+use Rattle.nr_nfs_res.specs.Mount.{mount_ok_codec}
+use Rattle.nr_nfs_res.specs.declared.mount.MountOk.{MountOk}
+use Rattle.nr_outside.specs.Faults.{Rises}
+use Rattle.nr_reduce.specs.declared.call.Call.{Call}
+use Rattle.nr_reduce.specs.declared.call.Outcome.{Outcome}
+use Rattle.nr_requester.specs.RequesterState.{RequesterSide}
+use Rattle.nr_client.specs.declared.client_end.ClientEnd.{ClientEnd}
+use Rattle.nr_client.specs.declared.client_end.ClientEnd.TheVariants as client
+use Rattle.nr_client.specs.declared.call_end.CallEnd.{CallEnd}
+use Rattle.nr_client.specs.Calls.{Answers, GivesUp}
+use Rattle.nr_client.specs.Ending.{IsCause, SinkCountAt, SourceCountAt}
+use Rattle.nr_client.specs.Results.{Gives, mount_done, nfs_done, result_of_outcome}
+use Rattle.nr_client.specs.Transfers.{LinkBytes}
+
+-- the credential of each call (RFC 5531 appendix A): stamp 0, machine "nfsrdma", and no further groups
+abbrev pub machine : List ℕ
+machine = 110 ∷ 102 ∷ 115 ∷ 114 ∷ 100 ∷ 109 ∷ 97 ∷ []
+
+abbrev pub client_call : (prog vers proc uid gid : ℕ) → List ℕ → Call
+client_call prog vers proc uid gid args = record { prog = prog; vers = vers; proc = proc; cred = creds.Sys 0 machine uid gid []; args = args }
+
+-- GETATTR of a file (RFC 1813 section 3.3.1), and MNT of an export (RFC 1813 section 5.2.1)
+abbrev pub getattr_call : (uid gid : ℕ) → List ℕ → Call
+getattr_call uid gid file =
+    client_call nfs_program nfs_version (nfs_procedure_number nfs.Getattr) uid gid (encodings (getattr_args_codec.items (record { object = file })))
+
+abbrev pub mnt_call : (uid gid : ℕ) → List ℕ → Call
+mnt_call uid gid export =
+    client_call mount_program mount_version (mount_procedure_number mount.Mnt) uid gid (encodings (mnt_args_codec.items (record { dirpath = export })))
+
+-- their results, by the outcome of the call
+abbrev pub getattr_result : Outcome → Result Attributes ClientEnd
+getattr_result outcome = nfs_done (result_of_outcome (status_union_codec status_number statuses attributes_codec void) outcome)
+
+abbrev pub handle_of : Result MountOk ClientEnd → Result (List ℕ) ClientEnd
+handle_of (Ok results) = Ok results.handle
+handle_of (Err end) = Err end
+
+abbrev pub mnt_result : Outcome → Result (List ℕ) ClientEnd
+mnt_result outcome = handle_of (mount_done (result_of_outcome (status_union_codec mount_status_number mount_statuses mount_ok_codec void) outcome))
+
+-- A request was made: its call was answered, and its result is what the outcome is read as; or the call has no answer; or memory ran out before
+-- it was made, and nothing changed.
+abbrev pub Asks : {A : Type 0} → (Outcome → Result A ClientEnd) → Call → (b b' : LinkBytes) (h h' : RequesterSide) → Result A ClientEnd → Type 0
+Asks reads call b b' h h' result =
+    ((outcome : Outcome) × (Answers b b' h h' call outcome × Gives result (reads outcome)))
+    ⊎ (((end : CallEnd) × ((result ≡ Err (client.Link end)) × (GivesUp b b' h h' call end × IsCause end b'.left b'.read h' call)))
+    ⊎ ((result ≡ Err client.Memory) × ((b' ≡ b) × (h' ≡ h))))
+
+-- the fault counts of the source and of the sink rise only if a call has no answer for that
+abbrev pub SourceFaults : {A : Type 0} → Result A ClientEnd → ℕ → ℕ → Type 0
+SourceFaults (Err (client.Link end)) before after = SourceCountAt end before after
+SourceFaults result before after = after ≡ before
+
+abbrev pub SinkFaults : {A : Type 0} → Result A ClientEnd → ℕ → ℕ → Type 0
+SinkFaults (Err (client.Link end)) before after = SinkCountAt end before after
+SinkFaults result before after = after ≡ before
+
+-- A session was not opened: the dialer's fault count rose if and only if it failed.
+abbrev pub OpenFails : ClientEnd → ℕ → ℕ → Type 0
+OpenFails client.DialFault before after = Rises before after
+OpenFails client.Memory before after = after ≡ before
+OpenFails end before after = ⊥

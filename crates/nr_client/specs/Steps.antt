@@ -1,0 +1,69 @@
+-- What a step of a call makes of the marks that a requester stands for.
+use Rattle.std.specs.Prelude.{◌≡◌, ℕ, ◌≤◌, ◌⊎◌, List, [], ◌∷◌, ◌++◌, take, Option}
+use Rattle.nr_link.specs.declared.end.End.TheVariants as ends
+use Rattle.nr_wire.specs.declared.hello.Side.TheVariants.{Initiator}
+use Rattle.nr_reduce.specs.declared.mark.LinkParameters.{LinkParameters}
+use Rattle.nr_reduce.specs.declared.mark.Mark.{Mark}
+use Rattle.nr_reduce.specs.declared.mark.Mark.TheVariants as marks
+use Rattle.nr_reduce.specs.Asked.{AskedSoFar}
+use Rattle.nr_reduce.specs.Credits.{KeepsGrant}
+use Rattle.nr_reduce.specs.Opening.{IsOpened}
+use Rattle.nr_requester.specs.RequesterState.{RequesterSide}
+use Rattle.nr_requester.specs.Standing.{RequesterRepresents, RequesterRunsOut}
+use Rattle.nr_requester.specs.Fed.{fed_bytes}
+use Rattle.nr_client.specs.Ending.{piece_max, read_max}
+use Rattle.nr_client.specs.Transfers.{LinkBytes, Moves, link_bytes}
+use Rattle.nr_client.specs.declared.call_end.CallEnd.{CallEnd}
+use Rattle.nr_client.specs.declared.call_end.CallEnd.TheVariants as calls
+
+-- A requester stands for these marks, which keep the law of its side and the last grant.
+pub record IsLive (opened : LinkParameters) (link : ℕ) (h : RequesterSide) (run : List Mark) : Type 0 where
+  pub stands : RequesterRepresents opened link h run
+  pub asked : AskedSoFar opened link run
+  pub granted : KeepsGrant opened link run
+
+-- The same of one that ran out of memory.
+pub record IsOut (opened : LinkParameters) (link : ℕ) (h : RequesterSide) (run : List Mark) : Type 0 where
+  pub stopped : List Mark
+  pub stands : RequesterRunsOut opened link h stopped run
+  pub asked : AskedSoFar opened link run
+  pub granted : KeepsGrant opened link run
+
+-- Bytes are left over, read and fed in no mark, only if memory ran out for a frame.
+abbrev pub IsLeft : CallEnd → LinkParameters → ℕ → RequesterSide → List ℕ → List Mark → Type 0
+IsLeft end opened link h ahead run = (IsLive opened link h run × (ahead ≡ [])) ⊎ ((end ≡ calls.Ended ends.Memory) × IsOut opened link h run)
+
+-- For all marks that the requester stood for, bytes moved and it stands for the marks of that too.
+abbrev pub GoesOn : (b b' : LinkBytes) (h h' : RequesterSide) → Type 0
+GoesOn b b' h h' =
+    (opened : LinkParameters) (link : ℕ) (run : List Mark) → IsOpened opened → IsLive opened link h run →
+    (moved : List Mark) × (Moves link b b' [] moved × IsLive opened link h' (run ++ moved))
+
+-- The same, up to an end.
+abbrev pub GoesTo : CallEnd → (b b' : LinkBytes) (h h' : RequesterSide) → Type 0
+GoesTo end b b' h h' =
+    (opened : LinkParameters) (link : ℕ) (run : List Mark) → IsOpened opened → IsLive opened link h run →
+    (moved : List Mark) × (ahead : List ℕ) × (Moves link b b' ahead moved × IsLeft end opened link h' ahead (run ++ moved))
+
+-- bytes are written, and none read
+abbrev pub Writes : (taken taken' : Option (List ℕ)) (h h' : RequesterSide) → Type 0
+Writes taken taken' h h' = (left given : Option (List ℕ)) (read : ℕ) → GoesOn (link_bytes left given taken read) (link_bytes left given taken' read) h h'
+
+-- bytes are read and fed, and none written; the same, up to an end
+abbrev pub Reads : (left given left' given' : Option (List ℕ)) (read read' : ℕ) (h h' : RequesterSide) → Type 0
+Reads left given left' given' read read' h h' = (taken : Option (List ℕ)) → GoesOn (link_bytes left given taken read) (link_bytes left' given' taken read') h h'
+
+abbrev pub ReadsTo : CallEnd → (left given left' given' : Option (List ℕ)) (read read' : ℕ) (h h' : RequesterSide) → Type 0
+ReadsTo end left given left' given' read read' h h' = (taken : Option (List ℕ)) → GoesTo end (link_bytes left given taken read) (link_bytes left' given' taken read') h h'
+
+-- memory ran out for a frame of a piece
+abbrev pub FeedsOut : List ℕ → (h h' : RequesterSide) → Type 0
+FeedsOut piece h h' =
+    (n : ℕ) × ((opened : LinkParameters) (link : ℕ) (run : List Mark) → RequesterRepresents opened link h run →
+    RequesterRunsOut opened link h' (run ++ marks.Fed link Initiator (take n piece) ∷ []) (run ++ marks.Fed link Initiator (take n piece) ∷ []))
+
+-- what a caller keeps between two steps: its bytes within the maximum, and its buffer
+pub record Fits (h : RequesterSide) (read room : ℕ) : Type 0 where
+  pub within : read ≤ read_max
+  pub fed : fed_bytes h ≤ read
+  pub room_is : room ≡ piece_max

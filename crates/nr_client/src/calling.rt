@@ -1,0 +1,192 @@
+//! A call over a link.
+
+ghost use Rattle.std.specs.Prelude.{◌≡◌, ◌<◌, true, is_some, Some, length, Option, List, ℕ, IfOk, IfErr, OnOk, OnErr};
+ghost use Rattle.nr_rpc.specs.Credential.{CanWriteCred};
+ghost use Rattle.nr_requester.specs.Fed.{fed_bytes};
+ghost use Rattle.nr_requester.specs.OpenCalls.{KeepsTickets, found_answer, open_call};
+ghost use Rattle.nr_client.specs.Calls.{Answers, Completes, Forgets, GivesUp, HandsOver, IsSent};
+ghost use Rattle.nr_client.specs.Ending.{HasCredit, IsCause, IsEndOf, LinkCause, SinkCount, SourceCount};
+ghost use Rattle.nr_client.specs.Steps.{Fits, GoesOn, GoesTo};
+ghost use Rattle.nr_client.specs.Transfers.{link_bytes};
+
+use crate::call_end::CallEnd;
+use crate::transfer::transfer;
+use nr_outside::{Sink, Source};
+use nr_reduce::{Call, Form, Refused};
+use nr_requester::{Done, Requester, Take, Ticket};
+
+/// Writes and reads until a credit is left.
+fn wait_for_credit<I: Source, O: Sink>(
+    requester: &mut Requester,
+    source: &mut I,
+    sink: &mut O,
+    read: &mut u64,
+    buf: &mut [u8],
+) -> Result<(), CallEnd>
+    requires fits { Fits requester.old read.old (length buf.old) }
+    ensures fits { Fits requester.new read.new (length buf.new) }
+    ensures credit { OnOk result (length requester.new.state.outstanding < requester.new.state.grant) }
+    ensures ok { OnOk result (GoesOn (link_bytes (I.left source.old) (I.given source.old) (O.taken sink.old) read.old)
+        (link_bytes (I.left source.new) (I.given source.new) (O.taken sink.new) read.new) requester.old requester.new) }
+    ensures err { IfErr result (λ end. GoesTo end (link_bytes (I.left source.old) (I.given source.old) (O.taken sink.old) read.old)
+        (link_bytes (I.left source.new) (I.given source.new) (O.taken sink.new) read.new) requester.old requester.new) }
+    ensures cause { IfErr result (λ end. LinkCause end (I.left source.new) read.new requester.new) }
+    ensures source_count { SourceCount result (I.faults source.old) (I.faults source.new) }
+    ensures sink_count { SinkCount result (O.faults sink.old) (O.faults sink.new) }
+{
+    while requester.outstanding() >= requester.grant() as usize {
+        match transfer(requester, source, sink, read, buf) {
+            Ok(()) => {}
+            Err(end) => return Err(end),
+        }
+    }
+    Ok(())
+}
+
+/// Writes and reads until the answer to a call has come.
+fn wait_for_answer<I: Source, O: Sink>(
+    requester: &mut Requester,
+    source: &mut I,
+    sink: &mut O,
+    read: &mut u64,
+    buf: &mut [u8],
+    ticket: &Ticket,
+) -> Result<(), CallEnd>
+    requires fits { Fits requester.old read.old (length buf.old) }
+    ensures fits { Fits requester.new read.new (length buf.new) }
+    ensures there { OnOk result (is_some (found_answer ticket.now requester.new.state) ≡ true) }
+    ensures ok { OnOk result (GoesOn (link_bytes (I.left source.old) (I.given source.old) (O.taken sink.old) read.old)
+        (link_bytes (I.left source.new) (I.given source.new) (O.taken sink.new) read.new) requester.old requester.new) }
+    ensures err { IfErr result (λ end. GoesTo end (link_bytes (I.left source.old) (I.given source.old) (O.taken sink.old) read.old)
+        (link_bytes (I.left source.new) (I.given source.new) (O.taken sink.new) read.new) requester.old requester.new) }
+    ensures cause { IfErr result (λ end. LinkCause end (I.left source.new) read.new requester.new) }
+    ensures tickets { KeepsTickets requester.old.state requester.new.state }
+    ensures source_count { SourceCount result (I.faults source.old) (I.faults source.new) }
+    ensures sink_count { SinkCount result (O.faults sink.old) (O.faults sink.new) }
+{
+    while !requester.has_outcome(ticket) {
+        match transfer(requester, source, sink, read, buf) {
+            Ok(()) => {}
+            Err(end) => return Err(end),
+        }
+    }
+    Ok(())
+}
+
+/// The end of a call that was refused so, while a credit is left.
+fn end_of_refused(refused: Refused) -> CallEnd
+    requires { HasCredit refused }
+    ensures { IsEndOf refused result }
+{
+    match refused {
+        Refused::Ended(end) => CallEnd::Ended(end),
+        Refused::TooLarge { need, room } => CallEnd::TooLarge { need, room },
+        Refused::NoCredit { .. } => unreachable!(),
+        Refused::Spent { left, need } => CallEnd::Spent { left, need },
+        Refused::Memory => CallEnd::Memory,
+    }
+}
+
+/// Submits a call while a credit is left.
+fn submit(requester: &mut Requester, call: Call) -> Result<Ticket, CallEnd>
+    requires writable { CanWriteCred call.cred }
+    requires credit { length requester.old.state.outstanding < requester.old.state.grant }
+    ensures sent { IfOk result (λ xid. IsSent xid call requester.old requester.new) }
+    ensures open { IfOk result (λ xid. open_call xid requester.new.state ≡ Some call) }
+    ensures err { OnErr result (requester.new ≡ requester.old) }
+    ensures fed { fed_bytes requester.new ≡ fed_bytes requester.old }
+    ensures cause { IfErr result (λ end. (left : Option (List ℕ)) (read : ℕ) → IsCause end left read requester.new call) }
+    ensures source_count { (count : ℕ) → SourceCount result count count }
+    ensures sink_count { (count : ℕ) → SinkCount result count count }
+{
+    match requester.submit(call, Form::Auto) {
+        Ok(ticket) => Ok(ticket),
+        Err((call, refused)) => {
+            drop(call);
+            Err(end_of_refused(refused))
+        }
+    }
+}
+
+/// Takes the answer to a call, which has come.
+fn take_answer(requester: &mut Requester, ticket: Ticket) -> Done
+    requires there { is_some (found_answer ticket requester.old.state) ≡ true }
+    requires open { is_some (open_call ticket requester.old.state) ≡ true }
+    ensures completes { HandsOver ticket result.outcome requester.old requester.new }
+    ensures call { open_call ticket requester.old.state ≡ Some result.call }
+    ensures fed { fed_bytes requester.new ≡ fed_bytes requester.old }
+{
+    match requester.try_take(ticket) {
+        Take::Done(done) => done,
+        Take::NotYet(_) => unreachable!(),
+        Take::Failed { .. } => unreachable!(),
+    }
+}
+
+/// Waits for the answer to a call that was submitted. If there is none, the call is forgotten.
+fn complete<I: Source, O: Sink>(
+    requester: &mut Requester,
+    source: &mut I,
+    sink: &mut O,
+    read: &mut u64,
+    buf: &mut [u8],
+    ticket: Ticket,
+) -> Result<Done, CallEnd>
+    requires fits { Fits requester.old read.old (length buf.old) }
+    requires open { is_some (open_call ticket requester.old.state) ≡ true }
+    ensures fits { Fits requester.new read.new (length buf.new) }
+    ensures ok { IfOk result (λ done. Completes ticket done.outcome (link_bytes (I.left source.old) (I.given source.old) (O.taken sink.old) read.old)
+        (link_bytes (I.left source.new) (I.given source.new) (O.taken sink.new) read.new) requester.old requester.new) }
+    ensures call { IfOk result (λ done. open_call ticket requester.old.state ≡ Some done.call) }
+    ensures err { IfErr result (λ end. Forgets ticket end (link_bytes (I.left source.old) (I.given source.old) (O.taken sink.old) read.old)
+        (link_bytes (I.left source.new) (I.given source.new) (O.taken sink.new) read.new) requester.old requester.new) }
+    ensures cause { IfErr result (λ end. LinkCause end (I.left source.new) read.new requester.new) }
+    ensures source_count { SourceCount result (I.faults source.old) (I.faults source.new) }
+    ensures sink_count { SinkCount result (O.faults sink.old) (O.faults sink.new) }
+{
+    match wait_for_answer(requester, source, sink, read, buf, &ticket) {
+        Ok(()) => Ok(take_answer(requester, ticket)),
+        Err(end) => {
+            requester.forget(ticket);
+            Err(end)
+        }
+    }
+}
+
+/// Makes a call: submits it once a credit is left, and writes and reads until its answer has come.
+pub(crate) fn call_over<I: Source, O: Sink>(
+    requester: &mut Requester,
+    source: &mut I,
+    sink: &mut O,
+    read: &mut u64,
+    buf: &mut [u8],
+    call: Call,
+) -> Result<Done, CallEnd>
+    requires writable { CanWriteCred call.cred }
+    requires fits { Fits requester.old read.old (length buf.old) }
+    ensures fits { Fits requester.new read.new (length buf.new) }
+    ensures ok { IfOk result (λ done. Answers (link_bytes (I.left source.old) (I.given source.old) (O.taken sink.old) read.old)
+        (link_bytes (I.left source.new) (I.given source.new) (O.taken sink.new) read.new) requester.old requester.new call done.outcome) }
+    ensures call { IfOk result (λ done. done.call ≡ call) }
+    ensures err { IfErr result (λ end. GivesUp (link_bytes (I.left source.old) (I.given source.old) (O.taken sink.old) read.old)
+        (link_bytes (I.left source.new) (I.given source.new) (O.taken sink.new) read.new) requester.old requester.new call end) }
+    ensures cause { IfErr result (λ end. IsCause end (I.left source.new) read.new requester.new call) }
+    ensures source_count { SourceCount result (I.faults source.old) (I.faults source.new) }
+    ensures sink_count { SinkCount result (O.faults sink.old) (O.faults sink.new) }
+{
+    match wait_for_credit(requester, source, sink, read, buf) {
+        Ok(()) => {}
+        Err(end) => {
+            drop(call);
+            return Err(end);
+        }
+    }
+    let ticket = match submit(requester, call) {
+        Ok(ticket) => ticket,
+        Err(end) => return Err(end),
+    };
+    match complete(requester, source, sink, read, buf, ticket) {
+        Ok(done) => Ok(done),
+        Err(end) => Err(end),
+    }
+}

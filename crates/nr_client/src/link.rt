@@ -1,0 +1,107 @@
+//! A link over which calls are made, one after another.
+
+ghost use Rattle.std.specs.Prelude.{◌≡◌, ℕ, [], IfOk, IfErr};
+ghost use Rattle.nr_rpc.specs.Credential.{CanWriteCred};
+ghost use Rattle.nr_reduce.specs.declared.mark.LinkParameters.{LinkParameters};
+ghost use Rattle.nr_requester.specs.Standing.{RequesterRepresents};
+ghost use Rattle.nr_requester.specs.AfterCalls.{opened_as};
+ghost use Rattle.nr_client.specs.Calls.{Answers, GivesUp};
+ghost use Rattle.nr_client.specs.Ending.{IsCause, SinkCount, SourceCount};
+ghost use Rattle.nr_client.specs.Transfers.{link_bytes};
+
+use crate::call_end::CallEnd;
+use crate::calling::call_over;
+use crate::limits::PIECE_MAX;
+use nr_outside::{Sink, Source};
+use nr_reduce::Call;
+use nr_requester::{Done, Requester};
+use std::alloc::Global;
+use std::marker::Model;
+
+/// The client end of a link with its source and its sink. Contracts see these, and the number of bytes read.
+pub struct Link<I, O> {
+    requester: Requester,
+    source: I,
+    sink: O,
+    read: u64,
+    // What is read is put into it.
+    buf: Vec<u8>,
+}
+
+impl<I, O> Model for Link<I, O> {
+    ghost use Rattle.nr_client.specs.LinkParts.{LinkParts};
+    ghost use Rattle.nr_client.specs.Steps.{Fits};
+    ghost use Rattle.std.specs.Prelude.{length};
+    ghost use Rattle.std.specs.Coded.{codes};
+    ghost use Rattle.nr_endpoint.specs.Codes.{state_code};
+
+    ghost Value = { LinkParts I O };
+
+    ghost coded = { Prim.hlevel (codes, state_code) };
+
+    ghost view = { λ c. record { requester = c.requester; source = c.source; sink = c.sink; read = c.read } };
+
+    ghost invariant = { λ c. Fits c.requester c.read (length c.buf.items) };
+}
+
+impl<I: Source, O: Sink> Link<I, O> {
+    /// The client end of a new link. It wishes for this many credits. After out of memory the source and the sink come back.
+    pub fn open(alloc: Global, source: I, sink: O, credits: u32) -> Result<Link<I, O>, (I, O)>
+        ensures state { IfOk result (λ c. c ≡ record { requester = opened_as 1 1 credits; source = source; sink = sink; read = 0 }) }
+        ensures stands { IfOk result (λ c. (opened : LinkParameters) (link : ℕ) → opened.first_xid ≡ 1 → opened.first_stag ≡ 1 → opened.wished ≡ credits → RequesterRepresents opened link c.requester []) }
+        ensures returned { IfErr result (λ link. (link.0 ≡ source) × (link.1 ≡ sink)) }
+    {
+        let Ok(buf) = vec![in alloc; 0u8; PIECE_MAX] else {
+            return Err((source, sink));
+        };
+        let Ok(requester) = Requester::open(alloc, credits) else {
+            drop(buf);
+            return Err((source, sink));
+        };
+        Ok(Link {
+            requester,
+            source,
+            sink,
+            read: 0,
+            buf,
+        })
+    }
+
+    /// Makes a call in the form that fits it best, and waits for its answer. It is submitted once a credit is left.
+    pub fn call(&mut self, call: Call) -> Result<Done, CallEnd>
+        requires { CanWriteCred call.cred }
+        ensures ok { IfOk result (λ done. Answers (link_bytes (I.left self.old.source) (I.given self.old.source) (O.taken self.old.sink) self.old.read)
+            (link_bytes (I.left self.new.source) (I.given self.new.source) (O.taken self.new.sink) self.new.read) self.old.requester self.new.requester call done.outcome) }
+        ensures call { IfOk result (λ done. done.call ≡ call) }
+        ensures err { IfErr result (λ end. GivesUp (link_bytes (I.left self.old.source) (I.given self.old.source) (O.taken self.old.sink) self.old.read)
+            (link_bytes (I.left self.new.source) (I.given self.new.source) (O.taken self.new.sink) self.new.read) self.old.requester self.new.requester call end) }
+        ensures cause { IfErr result (λ end. IsCause end (I.left self.new.source) self.new.read self.new.requester call) }
+        ensures source_count { SourceCount result (I.faults self.old.source) (I.faults self.new.source) }
+        ensures sink_count { SinkCount result (O.faults self.old.sink) (O.faults self.new.sink) }
+    {
+        call_over(
+            &mut self.requester,
+            &mut self.source,
+            &mut self.sink,
+            &mut self.read,
+            self.buf.as_mut_slice(),
+            call,
+        )
+    }
+
+    /// The source and the sink. The requester is dropped.
+    pub fn into_link(self) -> (I, O)
+        ensures { (result.0 ≡ self.source) × (result.1 ≡ self.sink) }
+    {
+        let Link {
+            requester,
+            source,
+            sink,
+            read: _read,
+            buf,
+        } = self;
+        drop(requester);
+        drop(buf);
+        (source, sink)
+    }
+}

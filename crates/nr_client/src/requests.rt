@@ -1,0 +1,72 @@
+//! The calls of a session.
+
+ghost use Rattle.std.specs.Prelude.{◌≡◌, IfOk};
+ghost use Rattle.nr_client.specs.Requests.{client_call, getattr_call, mnt_call};
+
+use nr_nfs_args::{GetattrArgs, MntArgs};
+use nr_nfs_base::{Handle, MOUNT_PROGRAM, MOUNT_VERSION, MountPath, NFS_PROGRAM, NFS_VERSION, Xdr};
+use nr_reduce::Call;
+use nr_rpc::{Cred, Gids};
+use nr_xdr::{Memory, Octets};
+use std::alloc::Global;
+
+/// The number of GETATTR.
+const GETATTR: u32 = 1;
+
+/// The number of MNT.
+const MNT: u32 = 1;
+
+/// The name of the machine in each credential.
+const MACHINE: [u8; 7] = [110, 102, 115, 114, 100, 109, 97];
+
+/// A call of a user with these encoded arguments.
+fn client_call(
+    alloc: Global,
+    target: (u32, u32, u32),
+    uid: u32,
+    gid: u32,
+    args: Octets,
+) -> Result<Call, Memory>
+    ensures { IfOk result (λ call. call ≡ client_call target.0 target.1 target.2 uid gid args) }
+{
+    let Ok(machine) = Octets::from_slice(alloc, &MACHINE) else {
+        return Err(Memory);
+    };
+    let (prog, vers, proc) = target;
+    Ok(Call {
+        prog,
+        vers,
+        proc,
+        cred: Cred::Sys {
+            stamp: 0,
+            machine,
+            uid,
+            gid,
+            gids: Gids::new(),
+        },
+        args,
+    })
+}
+
+/// GETATTR of a file.
+pub(crate) fn getattr_call(alloc: Global, uid: u32, gid: u32, file: &Handle) -> Result<Call, Memory>
+    ensures { IfOk result (λ call. call ≡ getattr_call uid gid file.now) }
+{
+    let object = Handle::from_slice(alloc, file.as_slice())?;
+    let args = GetattrArgs { object }.write(alloc)?;
+    client_call(alloc, (NFS_PROGRAM, NFS_VERSION, GETATTR), uid, gid, args)
+}
+
+/// MNT of an export.
+pub(crate) fn mnt_call(
+    alloc: Global,
+    uid: u32,
+    gid: u32,
+    export: &MountPath,
+) -> Result<Call, Memory>
+    ensures { IfOk result (λ call. call ≡ mnt_call uid gid export.now) }
+{
+    let dirpath = MountPath::from_slice(alloc, export.as_slice())?;
+    let args = MntArgs { dirpath }.write(alloc)?;
+    client_call(alloc, (MOUNT_PROGRAM, MOUNT_VERSION, MNT), uid, gid, args)
+}

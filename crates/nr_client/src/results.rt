@@ -1,0 +1,139 @@
+//! The results in the reply to a call.
+
+ghost use Rattle.std.specs.Prelude.{◌≤◌, length, IfErr};
+ghost use Rattle.nr_client.specs.Requests.{mnt_result};
+ghost use Rattle.nr_client.specs.Results.{Gives, NotLink, mount_done, nfs_done, result_of_outcome, result_of_reply, results_in, results_or};
+
+use crate::client_end::{ClientEnd, RpcKind};
+use nr_nfs_base::{Handle, MountStatus, StatusUnion, ValueFault, Xdr};
+use nr_nfs_res::MountOk;
+use nr_reduce::Outcome;
+use nr_rpc::{HeadFault, ReplyHead, read_reply};
+use nr_xdr::Reader;
+use std::alloc::Global;
+
+/// The reason of a reply that can't be read.
+const NOT_READ: u32 = 24;
+
+/// Reads the results that begin at this offset of a reply.
+fn read_results<T: Xdr>(alloc: Global, payload: &[u8], at: usize) -> Result<T, ClientEnd>
+    requires { at ≤ length payload.now }
+    ensures gives { Gives result (results_or (results_in T.codec payload.now at)) }
+    ensures no_link { IfErr result NotLink }
+{
+    let _len = payload.len();
+    let (_, rest) = payload.split_at(at);
+    match T::read_from(alloc, Reader::at_place(at, rest)) {
+        Ok((value, reader)) => {
+            if reader.rest().is_empty() {
+                return Ok(value);
+            }
+            Err(ClientEnd::BadReply {
+                at: reader.at(),
+                reason: NOT_READ,
+            })
+        }
+        Err(ValueFault::Bad { at }) => Err(ClientEnd::BadReply {
+            at,
+            reason: NOT_READ,
+        }),
+        Err(ValueFault::Memory) => Err(ClientEnd::Memory),
+    }
+}
+
+/// Reads the results in a reply.
+fn results_of_reply<T: Xdr>(alloc: Global, payload: &[u8]) -> Result<T, ClientEnd>
+    ensures gives { Gives result (result_of_reply T.codec payload.now) }
+    ensures no_link { IfErr result NotLink }
+{
+    match read_reply(payload) {
+        Ok(
+            ReplyHead::Accepted {
+                stat,
+                results_at,
+                ..
+            },
+        ) => {
+            if stat != 0 {
+                return Err(ClientEnd::Rpc {
+                    kind: RpcKind::Accept,
+                    code: stat,
+                });
+            }
+            read_results(alloc, payload, results_at)
+        }
+        Ok(ReplyHead::ProgMismatch { .. }) => Err(ClientEnd::Rpc {
+            kind: RpcKind::Accept,
+            code: 2,
+        }),
+        Ok(ReplyHead::RpcMismatch { .. }) => Err(ClientEnd::Rpc {
+            kind: RpcKind::Reject,
+            code: 0,
+        }),
+        Ok(ReplyHead::AuthError { .. }) => Err(ClientEnd::Rpc {
+            kind: RpcKind::Reject,
+            code: 1,
+        }),
+        Err(HeadFault::NotReply { at }) => Err(ClientEnd::BadReply {
+            at,
+            reason: NOT_READ,
+        }),
+        Err(_) => unreachable!(),
+    }
+}
+
+/// Reads the results that an outcome has.
+pub(crate) fn results<T: Xdr>(alloc: Global, outcome: &Outcome) -> Result<T, ClientEnd>
+    ensures gives { Gives result (result_of_outcome T.codec outcome.now) }
+    ensures no_link { IfErr result NotLink }
+{
+    match outcome {
+        Outcome::Reply(payload) => results_of_reply(alloc, payload.as_slice()),
+        Outcome::Chunk => Err(ClientEnd::Chunk),
+        Outcome::Version { low, high } => Err(ClientEnd::Version {
+            low: *low,
+            high: *high,
+        }),
+    }
+}
+
+/// Reads the results of an NFS procedure that an outcome has, if it succeeded.
+pub(crate) fn nfs_results<D: Xdr, F: Xdr>(alloc: Global, outcome: &Outcome) -> Result<D, ClientEnd>
+    ensures gives { Gives result (nfs_done (result_of_outcome ⟦<StatusUnion<D, F> as Xdr>⟧.codec outcome.now)) }
+    ensures no_link { IfErr result NotLink }
+{
+    match results::<StatusUnion<D, F>>(alloc, outcome) {
+        Ok(StatusUnion::Done(results)) => Ok(results),
+        Ok(StatusUnion::Failed { status, .. }) => Err(ClientEnd::Nfs { status }),
+        Err(end) => Err(end),
+    }
+}
+
+/// Reads the results of a MOUNT procedure that an outcome has, if it succeeded.
+pub(crate) fn mount_results<D: Xdr, F: Xdr>(
+    alloc: Global,
+    outcome: &Outcome,
+) -> Result<D, ClientEnd>
+    ensures gives { Gives result (mount_done (result_of_outcome ⟦<StatusUnion<D, F, MountStatus> as Xdr>⟧.codec outcome.now)) }
+    ensures no_link { IfErr result NotLink }
+{
+    match results::<StatusUnion<D, F, MountStatus>>(alloc, outcome) {
+        Ok(StatusUnion::Done(results)) => Ok(results),
+        Ok(StatusUnion::Failed { status, .. }) => Err(ClientEnd::Mount { status }),
+        Err(end) => Err(end),
+    }
+}
+
+/// Reads the handle that the outcome of MNT has.
+pub(crate) fn handle_in(alloc: Global, outcome: &Outcome) -> Result<Handle, ClientEnd>
+    ensures gives { Gives result (mnt_result outcome.now) }
+    ensures no_link { IfErr result NotLink }
+{
+    match mount_results::<MountOk, ()>(alloc, outcome) {
+        Ok(MountOk { handle, flavors }) => {
+            drop(flavors);
+            Ok(handle)
+        }
+        Err(end) => Err(end),
+    }
+}

@@ -1,0 +1,125 @@
+//! A session of a client: requests of a user over one link.
+
+ghost use Rattle.std.specs.Prelude.{◌≡◌, ℕ, [], OnOk, IfOk, IfErr};
+ghost use Rattle.nr_nfs_base.specs.declared.attributes.Attributes.{Attributes};
+ghost use Rattle.nr_links.specs.Asked.{Asks as AsksFor};
+ghost use Rattle.nr_links.specs.Links.{CountsLost, EndsLink, HasOpenLink, IsNewLink, MakesLink, ended_link};
+ghost use Rattle.nr_reduce.specs.declared.mark.LinkParameters.{LinkParameters};
+ghost use Rattle.nr_requester.specs.AfterCalls.{opened_as};
+ghost use Rattle.nr_requester.specs.Standing.{RequesterRepresents};
+ghost use Rattle.nr_client.specs.Requests.{Asks, OpenFails, SinkFaults, SourceFaults, getattr_call, getattr_result, mnt_call, mnt_result};
+ghost use Rattle.nr_client.specs.Transfers.{link_bytes};
+
+use crate::asking::{mount_over, stat_over};
+use crate::client_end::ClientEnd;
+use crate::link::Link;
+use nr_links::Dialer;
+use nr_nfs_base::{Attributes, Handle, MountPath};
+use nr_outside::{Sink, Source};
+use std::alloc::Global;
+use std::marker::Model;
+
+/// How many credits a session wishes for.
+const CREDITS: u32 = 16;
+
+/// Requests of a user over one link. Each call has an AUTH_SYS credential with the user and the group, the machine `nfsrdma` and no
+/// further groups.
+pub struct Session<I, O> {
+    alloc: Global,
+    link: Link<I, O>,
+    uid: u32,
+    gid: u32,
+}
+
+impl<I, O> Model for Session<I, O> {
+    ghost use Rattle.nr_client.specs.SessionState.{SessionState};
+    ghost use Rattle.std.specs.Coded.{codes};
+    ghost use Rattle.nr_endpoint.specs.Codes.{state_code};
+
+    ghost Value = { SessionState I O };
+
+    ghost coded = { Prim.hlevel (codes, state_code) };
+
+    ghost view = { λ s. record { link = s.link; uid = s.uid; gid = s.gid } };
+}
+
+impl<I: Source, O: Sink> Session<I, O> {
+    /// A session of a user over a link to this address. `DialFault` if the dialer failed. If memory runs out, the link is hung up.
+    pub fn open<D: Dialer<Source = I, Sink = O>>(
+        alloc: Global,
+        dialer: &mut D,
+        addr: &str,
+        uid: u32,
+        gid: u32,
+    ) -> Result<Session<I, O>, ClientEnd>
+        ensures asked { OnOk result (AsksFor (D.asked dialer.old) (D.asked dialer.new) addr.now) }
+        ensures made { OnOk result (MakesLink (D.ended dialer.old) (D.ended dialer.new)) }
+        ensures fresh { IfOk result (λ s. IsNewLink (I.given s.link.source) (O.taken s.link.sink) (I.faults s.link.source) (O.faults s.link.sink)) }
+        ensures state { IfOk result (λ s. (s.link.requester ≡ opened_as 1 1 16) × ((s.link.read ≡ 0) × ((s.uid ≡ uid) × (s.gid ≡ gid)))) }
+        ensures stands { IfOk result (λ s. (opened : LinkParameters) (link : ℕ) → opened.first_xid ≡ 1 → opened.first_stag ≡ 1 → opened.wished ≡ 16 → RequesterRepresents opened link s.link.requester []) }
+        ensures err { IfErr result (λ end. OpenFails end (D.faults dialer.old) (D.faults dialer.new)) }
+        ensures counted { OnOk result (D.faults dialer.new ≡ D.faults dialer.old) }
+    {
+        let (source, sink) = match dialer.dial(addr) {
+            Ok(link) => link,
+            Err(_) => return Err(ClientEnd::DialFault),
+        };
+        match Link::open(alloc, source, sink, CREDITS) {
+            Ok(link) => Ok(Session {
+                alloc,
+                link,
+                uid,
+                gid,
+            }),
+            Err((source, sink)) => {
+                dialer.hang_up(source, sink);
+                Err(ClientEnd::Memory)
+            }
+        }
+    }
+
+    /// Ends the session: its link, which this dialer made, is hung up. It can't fail, and takes no memory.
+    pub fn close<D: Dialer<Source = I, Sink = O>>(self, dialer: &mut D)
+        requires { HasOpenLink (D.ended dialer.old) }
+        ensures ended { EndsLink (D.ended dialer.old) (D.ended dialer.new)
+            (ended_link (I.given self.link.source) (I.left self.link.source) (O.taken self.link.sink)) }
+        ensures lost { CountsLost (I.faults self.link.source) (O.faults self.link.sink) (D.lost dialer.old) (D.lost dialer.new) }
+        ensures asked { D.asked dialer.new ≡ D.asked dialer.old }
+        ensures faults { D.faults dialer.new ≡ D.faults dialer.old }
+    {
+        let Session {
+            alloc: _alloc,
+            link,
+            uid: _uid,
+            gid: _gid,
+        } = self;
+        let (source, sink) = link.into_link();
+        dialer.hang_up(source, sink);
+    }
+
+    /// The file handle of the root of an export (MNT, RFC 1813 section 5.2.1).
+    pub fn mount(&mut self, export: &MountPath) -> Result<Handle, ClientEnd>
+        ensures asks { Asks mnt_result (mnt_call self.old.uid self.old.gid export.now)
+            (link_bytes (I.left self.old.link.source) (I.given self.old.link.source) (O.taken self.old.link.sink) self.old.link.read)
+            (link_bytes (I.left self.new.link.source) (I.given self.new.link.source) (O.taken self.new.link.sink) self.new.link.read)
+            self.old.link.requester self.new.link.requester result }
+        ensures user { (self.new.uid ≡ self.old.uid) × (self.new.gid ≡ self.old.gid) }
+        ensures source_faults { SourceFaults result (I.faults self.old.link.source) (I.faults self.new.link.source) }
+        ensures sink_faults { SinkFaults result (O.faults self.old.link.sink) (O.faults self.new.link.sink) }
+    {
+        mount_over(self.alloc, &mut self.link, self.uid, self.gid, export)
+    }
+
+    /// The attributes of a file (GETATTR, RFC 1813 section 3.3.1).
+    pub fn stat(&mut self, file: &Handle) -> Result<Attributes, ClientEnd>
+        ensures asks { Asks getattr_result (getattr_call self.old.uid self.old.gid file.now)
+            (link_bytes (I.left self.old.link.source) (I.given self.old.link.source) (O.taken self.old.link.sink) self.old.link.read)
+            (link_bytes (I.left self.new.link.source) (I.given self.new.link.source) (O.taken self.new.link.sink) self.new.link.read)
+            self.old.link.requester self.new.link.requester result }
+        ensures user { (self.new.uid ≡ self.old.uid) × (self.new.gid ≡ self.old.gid) }
+        ensures source_faults { SourceFaults result (I.faults self.old.link.source) (I.faults self.new.link.source) }
+        ensures sink_faults { SinkFaults result (O.faults self.old.link.sink) (O.faults self.new.link.sink) }
+    {
+        stat_over(self.alloc, &mut self.link, self.uid, self.gid, file)
+    }
+}
