@@ -25,7 +25,7 @@ use Rattle.nr_responder.specs.Handling.{Handled, IsServerOf, MessageTakes, Begin
 use Rattle.nr_responder.specs.Handling.Handled.{Stopped, Refused, Ready, Fetched, Completed}
 use Rattle.nr_responder.specs.Handling.MessageTakes.{EndsFor, ErrorFor}
 use Rattle.nr_responder.specs.Handling.Begins.{NoCall, OtherXid, IsReady}
-use Rattle.nr_responder.specs.Handling.Makes.{Ends, RefusesVersion, RefusesChunks, Calls, Fetches, Completes, EndsAtOnce, LeavesReads}
+use Rattle.nr_responder.specs.Handling.Makes.{Ends, RefusesVersion, RefusesChunks, Calls, Fetches, Completes, EndsAtOnce, LeavesReads, NoServer}
 use Rattle.nr_responder.specs.Views.{IsCall}
 use Rattle.nr_responder.specs.Sound.{SameInput}
 use Rattle.nr_responder.proofs.CallsAtOnce.{complete_refused}
@@ -118,6 +118,7 @@ makes_handled v after number message (EndsAtOnce xid lists inline reason other j
     let c : PendingCall = record { number = number; xid = xid; lists = lists; inline = inline } in
     complete_refused k server.place place reason message c server.is_server count (at_number k message xid number lists inline count (judged k (told_server_of k v server))) none refuses) is
 makes_handled v after number message (LeavesReads takes is) = inr (record { is_out = is; takes = λ k server count. takes k (told_server_of k v server) })
+makes_handled v after number message (NoServer no_server) = inl (λ k server count. absurd (no_server k (told_server_of k v server) count))
 
 -- ---- What is left of the link
 

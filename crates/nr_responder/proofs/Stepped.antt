@@ -33,6 +33,7 @@ use Rattle.nr_responder.proofs.Fed.StepOf.{Part, WholeFrame}
 use Rattle.nr_endpoint.specs.FedBytes.{fed_bytes}
 use Rattle.nr_endpoint.proofs.FedBytes.{fed_one_within}
 use Rattle.nr_responder.specs.declared.call.Pending.{Pending}
+use Rattle.nr_responder.specs.declared.call.Ready.{Ready}
 use Rattle.nr_responder.specs.Sound.{AreSound}
 use Rattle.nr_responder.proofs.Handled.{Goes, RanOutOf, makes_handled, step_counts, same_fed}
 use Rattle.nr_responder.proofs.Posted.{memory_as}
@@ -58,7 +59,7 @@ step_failed v piece m ends.Memory live p fed out ended =
     out_by_link v (on_link v m) piece live p (ap (λ (l : LinkSide). on_link v l) o.0) o.1.0 o.1.1
 
 -- what a side keeps of its own then
-pub failed_sound : (l m : LinkSide) (piece : List ℕ) (end : End) (calls : List Pending) (ready : List ℕ) (used : List (List ℕ)) (a b c : ℕ) → l.state.ended ≡ None → IsPartial l.awaited l.rest → (end ≢ ends.Memory → m ≡ after_call l (FeedOne piece)) →
+pub failed_sound : (l m : LinkSide) (piece : List ℕ) (end : End) (calls : List Pending) (ready : List Ready) (used : List (List ℕ)) (a b c : ℕ) → l.state.ended ≡ None → IsPartial l.awaited l.rest → (end ≢ ends.Memory → m ≡ after_call l (FeedOne piece)) →
     (end ≡ ends.Memory → m ≡ after_call l OutOfMemory) → AreSound 0 l.state calls ready used a b c → AreSound 0 m.state calls ready used a b c
 failed_sound l m piece end calls ready used a b c live p fed out h = by end fed out
   where

@@ -1,7 +1,6 @@
 //! How many calls and receives a responder has, and how many bytes it keeps.
 
 ghost use Rattle.std.specs.Prelude.{◌≡◌, ◌≢◌, ℕ, ◌+◌, List, length, None, Some};
-ghost use Rattle.std.specs.FinMap.{empty};
 ghost use Rattle.nr_link.specs.declared.end.End.TheVariants as ends;
 ghost use Rattle.nr_link.specs.SegmentFaults.{is_begun};
 ghost use Rattle.nr_reduce.specs.declared.mark.LinkParameters.{LinkParameters};
@@ -54,7 +53,6 @@ impl ServerEnd {
     /// How many bytes all byte buffers have that are kept.
     pub fn held(&self) -> u128
         requires sound { IsSound self.now }
-        requires outside { self.now.endpoint.outside ≡ empty }
         ensures is { result ≡ bytes_held_by (with_staging self.now) }
     {
         self.endpoint.facts();

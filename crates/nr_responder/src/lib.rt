@@ -18,8 +18,10 @@
 mod answering;
 mod call;
 mod counting;
+mod fetching;
 mod judging;
 mod laws;
+mod payloads;
 mod responder;
 mod server_end;
 

@@ -49,11 +49,11 @@ impl Model for Responder {
 
     ghost coded = { responder_code };
 
-    ghost use Rattle.nr_responder.specs.Sound.{state_of, IsOwn};
+    ghost use Rattle.nr_responder.specs.Sound.{state_of, IsSound};
 
     ghost view = { λ r. record { side = state_of r.end; staging = r.end.endpoint.staging } };
 
-    ghost invariant = { λ r. IsOwn r.end };
+    ghost invariant = { λ r. IsSound r.end };
 }
 
 impl Responder {

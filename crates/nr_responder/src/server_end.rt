@@ -1,8 +1,7 @@
 //! What a responder keeps: its endpoint, the calls that it has not answered, and the receives of answers that haven't left.
 
-ghost use Rattle.std.specs.Prelude.{◌≡◌, ◌≢◌, ℕ, ◌+◌, ◌-◌, ◌<◌, ◌≤◌, ◌^◌, List, [], ◌∷◌, ◌++◌, length, take, drop, get_or, None, Some, IfOk, OnOk, OnErr, IfSome, IsOk, is_some, All, MatchOption, MatchResult, true, false, if◌then◌else◌, ◌⊎◌, vec_len, vec_capacity};
+ghost use Rattle.std.specs.Prelude.{◌≡◌, ◌≢◌, ℕ, ◌+◌, ◌-◌, ◌<◌, ◌≤◌, ◌^◌, List, [], ◌∷◌, ◌++◌, length, take, drop, get_or, slice_get, map, option_map, Option, None, Some, IfOk, OnOk, OnErr, IfSome, IsOk, is_some, All, MatchOption, MatchResult, true, false, if◌then◌else◌, ◌⊎◌, vec_len, vec_capacity};
 ghost use Rattle.std.specs.VecDeque.{deque_capacity};
-ghost use Rattle.std.specs.FinMap.{empty};
 ghost use Rattle.nr_outside.specs.Faults.{Rises};
 ghost use Rattle.nr_endpoint.specs.declared.fault.DrainFault.TheVariants as drains;
 ghost use Rattle.nr_wire.specs.Constants.{FPDU_MAX};
@@ -22,16 +21,18 @@ ghost use Rattle.nr_reduce.specs.declared.mark.Mark.{Mark};
 ghost use Rattle.nr_reduce.specs.declared.mark.Mark.TheVariants as marks;
 ghost use Rattle.nr_outside.specs.declared.moment.Moment.{Moment};
 ghost use Rattle.nr_reduce.specs.Served.{next_call, IsExecuted};
-ghost use Rattle.nr_responder.specs.Answering.{Answers};
+ghost use Rattle.nr_responder.specs.Answering.{Answers, IsPayload};
 ghost use Rattle.nr_responder.specs.Draining.{Drains};
-ghost use Rattle.nr_responder.specs.Handling.{Begins, IsTaken, Makes, ReadsXid};
+ghost use Rattle.nr_responder.specs.Handling.{out, Begins, IsTaken, Makes, OrOut, ReadsXid};
 ghost use Rattle.nr_responder.specs.ResponderState.{end_of, opened_side, posted_times, may_write, KeepsStaging};
-ghost use Rattle.nr_responder.specs.Sound.{state_of, with_staging, AreSound, InBuffer, IsNext, IsSound, IsSoundWith, SameInput};
+ghost use Rattle.nr_reduce.specs.ServerReads.{is_read};
+ghost use Rattle.nr_responder.specs.Sound.{state_of, with_staging, payloads_of, AreSound, HasRoom, InBuffer, IsNext, IsSound, IsSoundWith, SameInput};
+ghost use Rattle.nr_responder.specs.Views.{call_view, read_view};
 ghost use Rattle.nr_responder.specs.Standing.{Stands};
 ghost use Rattle.nr_responder.specs.Steps.{Fed, taken_of};
 
 use crate::answering::{SENDABLE, chunk_error, queue_answer, version_error};
-use crate::call::{Pending, Sent, place_of, stream_of};
+use crate::call::{OpenSink, Pending, ReadEntry, Ready, Sent, is_read, place_of, stream_of};
 use crate::judging::{Judged, judge};
 use nr_endpoint::{DrainFault, Endpoint, Event};
 use nr_header::ChunkLists;
@@ -45,12 +46,15 @@ use std::alloc::Global;
 use std::collections::VecDeque;
 
 /// The server end of a link. A pending call keeps the receive buffer of its message; `used` has those of messages that were answered or
-/// refused, whose answer hasn't left the queue.
+/// refused, whose answer hasn't left the queue. `reads` are the Read Requests that are open and those that wait, the oldest first, and `sinks` the
+/// regions into which calls are read.
 #[derive(Drop)]
 pub struct ServerEnd {
     pub(crate) endpoint: Endpoint,
     pub(crate) calls: Vec<Pending>,
-    pub(crate) ready: VecDeque<u32>,
+    pub(crate) ready: VecDeque<Ready>,
+    pub(crate) reads: Vec<ReadEntry>,
+    pub(crate) sinks: Vec<OpenSink>,
     pub(crate) used: VecDeque<Octets>,
     pub(crate) credits: u32,
     pub(crate) alloc: Global,
@@ -127,6 +131,32 @@ fn post_until(endpoint: &mut Endpoint, used: &mut VecDeque<Octets>, left: usize)
     }
 }
 
+/// The payload of the first call that is ready, if it was read with its chunks.
+fn first_payload(ready: &VecDeque<Ready>) -> Option<&Octets>
+    requires { 0 < length ready.now.items }
+    ensures { slice_get (payloads_of ready.now.items) 0 ≡ Some (option_map (λ p. p.now) result) }
+{
+    match ready.front() {
+        Some(first) => first.payload.as_ref(),
+        None => None,
+    }
+}
+
+/// The payload of this call, which is the first that is ready. `Err` if it is neither in its message nor read: no call is so.
+fn payload_of<'a>(ready: &'a VecDeque<Ready>, call: &'a Pending) -> Result<&'a [u8], Memory>
+    requires ready { 0 < length ready.now.items }
+    requires call { InBuffer call.now }
+    ensures { IfOk result (λ s. (p : Option (List ℕ)) × ((slice_get (payloads_of ready.now.items) 0 ≡ Some p) × IsPayload (call_view call.now) p s.now)) }
+{
+    if let Some(payload) = first_payload(ready) {
+        return Ok(payload.as_slice());
+    }
+    if !call.inline {
+        return Err(Memory);
+    }
+    Ok(stream_of(&call.buf, call.len, call.stream_at))
+}
+
 /// How many bytes of a piece are taken: all of them if the side has ended.
 fn taken_at(end: Option<End>, all: usize, part: usize) -> usize
     ensures { result ≡ (if is_some end then all else part) }
@@ -145,7 +175,6 @@ impl ServerEnd {
         ensures live { IfOk result (λ r. end_of (state_of r) ≡ None) }
         ensures fed { IfOk result (λ r. fed_bytes r.endpoint.link ≡ 0) }
         ensures staging { IfOk result (λ r. length r.endpoint.staging ≡ FPDU_MAX) }
-        ensures outside { IfOk result (λ r. r.endpoint.outside ≡ empty) }
         ensures stands { IfOk result (λ r. (opened : LinkParameters) (link : ℕ) → opened.granted ≡ credits → Stands opened link [] (state_of r)) }
     {
         let ready = VecDeque::with_capacity(alloc, credits as usize)?;
@@ -156,6 +185,8 @@ impl ServerEnd {
             endpoint,
             calls,
             ready,
+            reads: Vec::new(alloc),
+            sinks: Vec::new(alloc),
             used,
             credits,
             alloc,
@@ -173,7 +204,6 @@ impl ServerEnd {
         ensures kept { is_some (end_of (state_of self.old)) ≡ true → (state_of self.new ≡ state_of self.old) × (self.new.endpoint.staging ≡ self.old.endpoint.staging) }
         ensures within { fed_bytes self.new.endpoint.link ≤ fed_bytes self.old.endpoint.link + length piece.now }
         ensures staging { (opened : LinkParameters) (link : ℕ) (run : List Mark) → Stands opened link run (state_of self.old) → KeepsStaging (with_staging self.old) (with_staging self.new) piece.now }
-        ensures outside { self.new.endpoint.outside ≡ self.old.endpoint.outside }
         ensures sound { IsSound self.new }
     {
         if let Some(end) = self.endpoint.end() {
@@ -204,7 +234,6 @@ impl ServerEnd {
         ensures kept { is_some (end_of (state_of self.old)) ≡ true → (state_of self.new ≡ state_of self.old) × (self.new.endpoint.staging ≡ self.old.endpoint.staging) }
         ensures within { fed_bytes self.new.endpoint.link ≤ fed_bytes self.old.endpoint.link + length piece.now }
         ensures staging { (opened : LinkParameters) (link : ℕ) (run : List Mark) → Stands opened link run (state_of self.old) → KeepsStaging (with_staging self.old) (with_staging self.new) piece.now }
-        ensures outside { self.new.endpoint.outside ≡ self.old.endpoint.outside }
         ensures sound { IsSound self.new }
     {
         if let Some(end) = self.endpoint.end() {
@@ -221,7 +250,7 @@ impl ServerEnd {
     pub fn next_ready(&self) -> Option<u32>
         ensures next { IfSome result (IsNext (state_of self.now)) }
         ensures live { is_some result ≡ true → end_of (state_of self.now) ≡ None }
-        ensures none { result ≡ None → (is_some (end_of (state_of self.now)) ≡ true) ⊎ (self.now.ready.items ≡ []) }
+        ensures none { result ≡ None → (is_some (end_of (state_of self.now)) ≡ true) ⊎ ((state_of self.now).ready ≡ []) }
         ensures exact { end_of (state_of self.now) ≢ Some ends.Memory → (opened : LinkParameters) (link : ℕ) (run : List Mark) → Stands opened link run (state_of self.now) →
             MatchOption result (next_call opened link run ≡ None) (λ xid. IfSome (next_call opened link run) (λ r. xid ≡ r.xid) × (is_some (next_call opened link run) ≡ true)) }
     {
@@ -229,7 +258,7 @@ impl ServerEnd {
             return None;
         }
         match self.ready.front() {
-            Some(xid) => Some(*xid),
+            Some(first) => Some(first.xid),
             None => None,
         }
     }
@@ -239,6 +268,20 @@ impl ServerEnd {
         requires sound { IsSound self.now }
         requires live { end_of (state_of self.now) ≡ None }
         requires next { IsNext (state_of self.now) xid }
+        ensures exact { (opened : LinkParameters) (link : ℕ) (run : List Mark) → Stands opened link run (state_of self.now) → IsExecuted opened link run xid result.now }
+    {
+        match first_payload(&self.ready) {
+            Some(payload) => payload.as_slice(),
+            None => self.inline_payload(xid),
+        }
+    }
+
+    /// The payload of the next call, if that is the stream of its Send.
+    fn inline_payload(&self, xid: u32) -> &[u8]
+        requires sound { IsSound self.now }
+        requires live { end_of (state_of self.now) ≡ None }
+        requires next { IsNext (state_of self.now) xid }
+        requires inline { slice_get (payloads_of self.now.ready.items) 0 ≡ Some None }
         ensures exact { (opened : LinkParameters) (link : ℕ) (run : List Mark) → Stands opened link run (state_of self.now) → IsExecuted opened link run xid result.now }
     {
         match place_of(self.calls.as_slice(), xid) {
@@ -261,7 +304,6 @@ impl ServerEnd {
         ensures goes { Fed (state_of self.old) (take result piece.now) (state_of self.new) }
         ensures first { Fed (state_of self.old) (take (bytes_taken self.old.endpoint.link.awaited self.old.endpoint.link.rest piece.now) piece.now) (state_of self.new) }
         ensures staging { self.old.endpoint.link.state.receive_queue.deliveries ≡ [] → KeepsStaging (with_staging self.old) (with_staging self.new) piece.now }
-        ensures outside { self.new.endpoint.outside ≡ self.old.endpoint.outside }
         ensures rest { (self.new.endpoint.link.rest ≡ []) ⊎ (result ≡ length piece.now) }
         ensures sound { IsSound self.new }
         ensures within { fed_bytes self.new.endpoint.link ≤ fed_bytes self.old.endpoint.link + result }
@@ -289,7 +331,6 @@ impl ServerEnd {
         ensures fed { fed_bytes self.new.endpoint.link ≤ fed_bytes self.old.endpoint.link }
         ensures rest { (self.new.endpoint.link.rest ≡ self.old.endpoint.link.rest) ⊎ (self.new.endpoint.link.rest ≡ []) }
         ensures staging { self.new.endpoint.staging ≡ self.old.endpoint.staging }
-        ensures outside { self.new.endpoint.outside ≡ self.old.endpoint.outside }
     {
         match self.endpoint.next_event() {
             None => (),
@@ -305,6 +346,31 @@ impl ServerEnd {
         }
     }
 
+    /// Ends the side because memory ran out.
+    pub(crate) fn run_out(&mut self)
+        requires sound { IsSoundWith 1 self.old }
+        ensures out { state_of self.new ≡ out (state_of self.old) }
+        ensures sound { IsSound self.new }
+        ensures input { SameInput self.old.endpoint.link self.new.endpoint.link }
+        ensures staging { self.new.endpoint.staging ≡ self.old.endpoint.staging }
+    {
+        let _ = self.endpoint.run_out();
+    }
+
+    /// Ends the side for a reason that a call gives, or because memory ran out for its Terminate.
+    pub(crate) fn end_for(&mut self, reason: u32)
+        requires sound { IsSoundWith 1 self.old }
+        requires live { self.old.endpoint.link.state.ended ≡ None }
+        requires frame { 0 < self.old.endpoint.link.state.place }
+        requires reason { IsStopReason reason }
+        ensures ended { OrOut (state_of self.old) (after_call self.old.endpoint.link (Stop reason)) (state_of self.new) }
+        ensures sound { IsSound self.new }
+        ensures input { SameInput self.old.endpoint.link self.new.endpoint.link }
+        ensures staging { self.new.endpoint.staging ≡ self.old.endpoint.staging }
+    {
+        stop(&mut self.endpoint, reason);
+    }
+
     /// A message, which may make a call.
     fn message(&mut self, number: u64, buf: Octets, len: usize)
         requires sound { IsSoundWith 1 self.old }
@@ -316,15 +382,19 @@ impl ServerEnd {
         ensures sound { IsSound self.new }
         ensures input { SameInput self.old.endpoint.link self.new.endpoint.link }
         ensures staging { self.new.endpoint.staging ≡ self.old.endpoint.staging }
-        ensures outside { self.new.endpoint.outside ≡ self.old.endpoint.outside }
     {
         self.endpoint.facts();
+        if !is_read(self.reads.as_slice(), number) {
+            // No read is left from before a call's Send.
+            self.run_out();
+            return;
+        }
         let message = stream_of(&buf, len, 0);
         let xid = word_at(message, 0);
         let version = word_at(message, 4);
         match judge(message, self.calls.as_slice()) {
-            Judged::Kind => stop(&mut self.endpoint, REASON_KIND),
-            Judged::Open => stop(&mut self.endpoint, REASON_CALL),
+            Judged::Kind => self.end_for(REASON_KIND),
+            Judged::Open => self.end_for(REASON_CALL),
             Judged::OtherVersion => {
                 let made = version_error(self.alloc, xid, version, self.credits);
                 self.refuse(buf, made);
@@ -334,9 +404,20 @@ impl ServerEnd {
                 self.refuse(buf, made);
             }
             Judged::Call { lists, stream_at } => self.begin(number, buf, len, lists, stream_at),
-            Judged::Reads => {
-                let _ = self.endpoint.run_out();
-            }
+            Judged::Reads {
+                lists,
+                stream_at,
+                inline,
+            } => self.fetch(Pending {
+                number,
+                xid,
+                lists,
+                buf,
+                len,
+                stream_at,
+                inline,
+                room: None,
+            }),
         }
     }
 
@@ -347,8 +428,8 @@ impl ServerEnd {
         requires buf { IsReceive send_max buf }
         ensures link { (IfOk made (λ m. self.new.endpoint.link ≡ after_call self.old.endpoint.link (Send m)) × IsOk made) ⊎ (self.new.endpoint.link ≡ after_call self.old.endpoint.link OutOfMemory) }
         ensures same { (self.new.calls ≡ self.old.calls) × (self.new.ready ≡ self.old.ready) × (self.new.credits ≡ self.old.credits) }
+        ensures reads { (self.new.reads.items ≡ self.old.reads.items) × (self.new.sinks.items ≡ self.old.sinks.items) }
         ensures staging { self.new.endpoint.staging ≡ self.old.endpoint.staging }
-        ensures outside { self.new.endpoint.outside ≡ self.old.endpoint.outside }
         ensures sound { IsSound self.new }
     {
         self.endpoint.facts();
@@ -365,37 +446,44 @@ impl ServerEnd {
         requires buf { IsReceive send_max buf }
         requires len { (FIXED_LEN ≤ len) × (len ≤ send_max) }
         requires lists { (stream_at ≤ len) × ListsWithin lists }
+        requires fresh { is_read (map read_view self.old.reads.items) number ≡ true }
         ensures begun { Begins (state_of self.old) (state_of self.new) number (take len buf) lists stream_at }
         ensures sound { IsSound self.new }
         ensures input { SameInput self.old.endpoint.link self.new.endpoint.link }
         ensures staging { self.new.endpoint.staging ≡ self.old.endpoint.staging }
-        ensures outside { self.new.endpoint.outside ≡ self.old.endpoint.outside }
     {
         match own_xid(&buf, len, stream_at) {
-            Err(reason) => stop(&mut self.endpoint, reason),
-            Ok(xid) => self.push(Pending {
-                number,
-                xid,
-                lists,
-                buf,
-                len,
-                stream_at,
-            }),
+            Err(reason) => self.end_for(reason),
+            Ok(xid) => {
+                let call = Pending {
+                    number,
+                    xid,
+                    lists,
+                    buf,
+                    len,
+                    stream_at,
+                    inline: true,
+                    room: None,
+                };
+                self.push(call, None);
+            }
         }
     }
 
-    /// A call that is ready. There is room for it.
-    fn push(&mut self, call: Pending)
+    /// A call that is ready, with its payload if that was read. There is room for it.
+    pub(crate) fn push(&mut self, call: Pending, payload: Option<Octets>)
         requires sound { IsSoundWith 1 self.old }
         requires call { InBuffer call }
-        ensures pushed { (self.new.calls.items ≡ self.old.calls.items ++ call ∷ []) × (self.new.ready.items ≡ self.old.ready.items ++ call.xid ∷ []) }
+        requires room { HasRoom self.old.reads.items call }
+        ensures pushed { (self.new.calls.items ≡ self.old.calls.items ++ call ∷ []) × (self.new.ready.items ≡ self.old.ready.items ++ record { xid = call.xid; payload = payload } ∷ []) }
         ensures same { (self.new.endpoint ≡ self.old.endpoint) × (self.new.credits ≡ self.old.credits) }
+        ensures reads { (self.new.reads.items ≡ self.old.reads.items) × (self.new.sinks.items ≡ self.old.sinks.items) }
         ensures sound { IsSound self.new }
     {
         self.endpoint.facts();
         let xid = call.xid;
         self.calls.push_reserved(call);
-        self.ready.push_back_reserved(xid);
+        self.ready.push_back_reserved(Ready { xid, payload });
     }
 
     /// Queues the answer to the call at this place, which has this xid and is the first that is ready. An `Err` changes nothing.
@@ -409,14 +497,15 @@ impl ServerEnd {
         ensures err { OnErr result (state_of self.new ≡ state_of self.old) }
         ensures fed { fed_bytes self.new.endpoint.link ≡ fed_bytes self.old.endpoint.link }
         ensures staging { self.new.endpoint.staging ≡ self.old.endpoint.staging }
-        ensures outside { self.new.endpoint.outside ≡ self.old.endpoint.outside }
         ensures sound { IsSound self.new }
     {
         self.endpoint.facts();
+        let stream = payload_of(&self.ready, &self.calls[at])?;
         let sent = queue_answer(
             &mut self.endpoint,
             self.alloc,
             &self.calls[at],
+            stream,
             self.credits,
             reply,
         )?;
@@ -437,7 +526,6 @@ impl ServerEnd {
         ensures err { OnErr result (state_of self.new ≡ state_of self.old) }
         ensures fed { fed_bytes self.new.endpoint.link ≡ fed_bytes self.old.endpoint.link }
         ensures staging { self.new.endpoint.staging ≡ self.old.endpoint.staging }
-        ensures outside { self.new.endpoint.outside ≡ self.old.endpoint.outside }
         ensures sound { IsSound self.new }
     {
         match place_of(self.calls.as_slice(), xid) {
@@ -457,7 +545,6 @@ impl ServerEnd {
         ensures fed { fed_bytes self.new.endpoint.link ≡ fed_bytes self.old.endpoint.link }
         ensures sound { IsSound self.new }
         ensures staging { self.new.endpoint.staging ≡ self.old.endpoint.staging }
-        ensures outside { self.new.endpoint.outside ≡ self.old.endpoint.outside }
     {
         let result = self.endpoint.drain_into(sink);
         let left = self.endpoint.sends_waiting();

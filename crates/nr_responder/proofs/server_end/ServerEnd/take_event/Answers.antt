@@ -8,6 +8,7 @@ use Rattle.nr_responder.specs.ResponderState.{ResponderSide}
 use Rattle.nr_responder.specs.Sound.{state_of}
 use Rattle.nr_responder.specs.Handling.{Makes, on_link}
 use Rattle.nr_responder.proofs.Handled.{same_fed}
+use Rattle.nr_responder.proofs.HeldSinks.{fetched_as}
 use Rattle.nr_responder.proofs.Posted.{told_link_lem}
 use Rattle.nr_responder.proofs.Sounds.{sound_told, sound_read}
 use Rattle.nr_responder.proofs.Staging.{rest_or_none}
@@ -17,7 +18,7 @@ use Rattle.nr_responder.proofs.server_end.ServerEnd.take_event.Goals as goal
 pub message-requires-clause-sound : goal.message-requires-clause-sound
 message-requires-clause-sound c =
     let one = c.in-Some-Message.ensures.event ∙ ap (λ (e : Event). delivery e ∷ c.next_event.new.self.link.state.receive_queue.deliveries) c.in-Some-Message.field-0-is in
-    sound_told c.args.self.now.endpoint.link c.next_event.new.self.link _ _ _ c.next_event.new.self.link.state.receive_queue.deliveries c.args.self.now.calls.items c.args.self.now.ready.items c.args.self.now.used.items _ _ _ c.in-Some-Message.ensures.state one c.requires.sound
+    (sound_told c.args.self.now.endpoint.link c.next_event.new.self.link _ _ _ c.next_event.new.self.link.state.receive_queue.deliveries c.args.self.now.calls.items c.args.self.now.ready.items c.args.self.now.used.items _ _ _ c.in-Some-Message.ensures.state one c.requires.sound.0, fetched_as c.args.self.now.endpoint c.next_event.new.self c.args.self.now.calls.items c.args.self.now.reads.items c.args.self.now.sinks.items (told_link_lem c.args.self.now.endpoint.link c.next_event.new.self.link c.in-Some-Message.ensures.state).memory c.next_event.ensures.outside c.requires.sound.1)
 
 pub message-requires-clause-live : goal.message-requires-clause-live
 message-requires-clause-live c = (told_link_lem c.args.self.now.endpoint.link c.next_event.new.self.link c.in-Some-Message.ensures.state).live ∙ c.requires.live
@@ -45,7 +46,7 @@ returns-in-Some-Message-clause-fed c =
     omega (arith, same, t.place, ap (λ (xs : List ℕ). length xs) t.rest)
 
 pub returns-in-Some-ReadDone-clause-sound : goal.returns-in-Some-ReadDone-clause-sound
-returns-in-Some-ReadDone-clause-sound c = sound_read c.args.self.now.endpoint.link c.next_event.new.self.link c.args.self.now.calls.items c.args.self.now.ready.items c.args.self.now.used.items _ _ _ c.in-Some-ReadDone.ensures.state c.requires.sound
+returns-in-Some-ReadDone-clause-sound c = (sound_read c.args.self.now.endpoint.link c.next_event.new.self.link c.args.self.now.calls.items c.args.self.now.ready.items c.args.self.now.used.items _ _ _ c.in-Some-ReadDone.ensures.state c.requires.sound.0, fetched_as c.args.self.now.endpoint c.next_event.new.self c.args.self.now.calls.items c.args.self.now.reads.items c.args.self.now.sinks.items (told_link_lem c.args.self.now.endpoint.link c.next_event.new.self.link c.in-Some-ReadDone.ensures.state).memory c.next_event.ensures.outside c.requires.sound.1)
 
 pub returns-in-Some-ReadDone-clause-fed : goal.returns-in-Some-ReadDone-clause-fed
 returns-in-Some-ReadDone-clause-fed c =
