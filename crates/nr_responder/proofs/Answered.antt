@@ -317,10 +317,10 @@ none_any x (c ∷ calls) none =
     ap (λ (b : Bool). b || list_any (has x) (map call_view calls)) (ne_eqb c.xid x (none zero c (omega arith))) ∙ none_any x calls (λ k d lt. none (suc k) d (omega (arith, lt)))
 
 -- the item at a place, whatever is there if none is
-pub same_call : (calls : List Pending) (at : ℕ) (d e : Pending) → at < length calls → get_or calls at e ≡ get_or calls at d
-same_call [] at d e lt = absurd (omega (arith, lt))
-same_call (c ∷ calls) zero d e lt = refl
-same_call (c ∷ calls) (suc at) d e lt = same_call calls at d e (omega (arith, lt))
+pub same_item : {X : Type 0} (xs : List X) (at : ℕ) (d e : X) → at < length xs → get_or xs at e ≡ get_or xs at d
+same_item [] at d e lt = absurd (omega (arith, lt))
+same_item (x ∷ xs) zero d e lt = refl
+same_item (x ∷ xs) (suc at) d e lt = same_item xs at d e (omega (arith, lt))
 
 pub get_view : (calls : List Pending) (at : ℕ) (c : Pending) → at < length calls → c ≡ get_or calls at c → slice_get (map call_view calls) at ≡ Some (call_view c)
 get_view [] at c lt is = absurd (omega (arith, lt))

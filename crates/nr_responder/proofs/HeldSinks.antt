@@ -2,12 +2,18 @@
 use Rattle.std.proofs.Common.{◌≡◌, ◌≢◌, ℕ, zero, suc, ◌+◌, ◌<◌, ◌≤◌, Bool, true, false, not, ◌||◌, eqb, List, [], ◌∷◌, ◌++◌, length, get_or, map, Option, Some, None, All, refl, sym, ap, subst, ◌∙◌, arith, inl, inr}
 use Rattle.std.specs.Prelude.{◌⊎◌}
 use Rattle.std.specs.List.{remove}
-use Rattle.std.specs.FinMap.{FinMap, empty, get}
+use Rattle.std.specs.FinMap.{FinMap, empty, get, same_map, nat_cmp-IsAntisymmetric}
+use Rattle.std.specs.FinMap.{remove as remove_key}
+use Rattle.std.specs.Cmp.{nat_cmp_total}
+use Rattle.std.proofs.lemmas.Bool.{cases_eq}
+use Rattle.nr_regions.proofs.Holding.{get_remove_here, get_remove_other, release_other}
+use Rattle.nr_responder.specs.Fetching.{SinkRegion}
+use Rattle.nr_responder.specs.private.Reading.{with_released}
 use Rattle.std.specs.Ordering.{nat_cmp}
 use Rattle.std.proofs.lemmas.List.Elements.{All-nil}
-use Rattle.nr_regions.specs.RegisteredMemory.{RegisteredMemory, Outside, Claim, Region, IsHeld, outside_len, outside_held, initial_memory}
+use Rattle.nr_regions.specs.RegisteredMemory.{RegisteredMemory, Outside, Claim, Region, IsHeld, after_release, outside_len, outside_held, initial_memory}
 use Rattle.nr_regions.specs.Table.{IsSound as IsTotal}
-use Rattle.nr_regions.proofs.Totals.{sound_initial}
+use Rattle.nr_regions.proofs.Totals.{sound_initial, sound_release}
 use Rattle.nr_wire.specs.declared.hello.Side.TheVariants.{Responder}
 use Rattle.nr_link.specs.declared.end.End.{End}
 use Rattle.nr_link.specs.declared.end.End.TheVariants as ends
@@ -135,3 +141,64 @@ read_has_room reads c read = λ left. absurd (let two : true ≡ false = sym rea
 pub no_outside : (e : EndpointState) → NothingOutside e → outside_held e.outside ≡ 0
 unfolding outside_held
 no_outside e s = sym s.bytes_are
+
+-- ---- A sink is released
+
+release_next : (m : RegisteredMemory) (s : ℕ) → (after_release m s).next ≡ m.next
+unfolding after_release
+release_next m s = refl
+
+still_held : (m : RegisteredMemory) (s : ℕ) (c : Claim) → c.stag ≢ s → IsHeld m c → IsHeld (after_release m s) c
+still_held m s c ne h = record { region = h.region; there = release_other m s c.stag ne ∙ h.there; len = h.len; given = (let g = h.given in let n = release_next m s in omega (arith, g, n)) }
+
+from_lower : (m : RegisteredMemory) (low lower : ℕ) (cs : List Claim) → lower ≤ low → AreHeldFrom m low cs → AreHeldFrom m lower cs
+from_lower m low lower [] le h = omega (arith, le, h)
+from_lower m low lower (c ∷ cs) le h = ((let at = h.0 in omega (arith, le, at)), h.1)
+
+-- the region under an STag below these is released
+held_above : (m : RegisteredMemory) (low s : ℕ) (cs : List Claim) → s < low → AreHeldFrom m low cs → AreHeldFrom (after_release m s) low cs
+held_above m low s [] lt h = (let n = release_next m s in omega (arith, n, h))
+held_above m low s (c ∷ cs) lt h = (h.0, (still_held m s c (λ e. (let at = h.0 in omega (arith, lt, at, e))) h.1.0, held_above m (c.stag + 1) s cs (let at = h.0 in omega (arith, lt, at)) h.1.1))
+
+held_at_least : (m : RegisteredMemory) (low : ℕ) (sinks : List OpenSink) (at : ℕ) (d : OpenSink) → at < length sinks → AreHeldFrom m low (claims_of sinks) → low ≤ (get_or sinks at d).registration.stag
+held_at_least m low [] at d lt h = absurd (omega (arith, lt))
+held_at_least m low (s ∷ sinks) zero d lt h = h.0
+held_at_least m low (s ∷ sinks) (suc at) d lt h = (let more = held_at_least m (s.registration.stag + 1) sinks at d (omega (arith, lt)) h.1.1 in let first = h.0 in omega (arith, more, first))
+
+pub held_at : (m : RegisteredMemory) (low : ℕ) (sinks : List OpenSink) (at : ℕ) (d : OpenSink) → at < length sinks → AreHeldFrom m low (claims_of sinks) → IsHeld m (get_or sinks at d).registration
+held_at m low [] at d lt h = absurd (omega (arith, lt))
+held_at m low (s ∷ sinks) zero d lt h = h.1.0
+held_at m low (s ∷ sinks) (suc at) d lt h = held_at m (s.registration.stag + 1) sinks at d (omega (arith, lt)) h.1.1
+
+pub released_held : (m : RegisteredMemory) (low : ℕ) (sinks : List OpenSink) (at : ℕ) (d : OpenSink) → at < length sinks → AreHeldFrom m low (claims_of sinks) → AreHeldFrom (after_release m (get_or sinks at d).registration.stag) low (claims_of (remove sinks at))
+released_held m low [] at d lt h = absurd (omega (arith, lt))
+released_held m low (s ∷ sinks) zero d lt h =
+    from_lower (after_release m s.registration.stag) (s.registration.stag + 1) low (claims_of sinks) (let at = h.0 in omega (arith, at)) (held_above m (s.registration.stag + 1) s.registration.stag (claims_of sinks) (omega arith) h.1.1)
+released_held m low (s ∷ sinks) (suc at) d lt h =
+    (h.0, (still_held m (get_or sinks at d).registration.stag s.registration (λ e. (let more = held_at_least m (s.registration.stag + 1) sinks at d (omega (arith, lt)) h.1.1 in omega (arith, more, e))) h.1.0, released_held m (s.registration.stag + 1) sinks at d (omega (arith, lt)) h.1.1))
+
+not_there : (stag : ℕ) (outside : FinMap nat_cmp Outside) → get outside stag ≡ None → remove_key outside stag ≡ outside
+not_there stag outside none =
+    same_map nat_cmp_total nat_cmp-IsAntisymmetric (remove_key outside stag) outside (λ q. elim (cases_eq q stag) [
+      | inl e ↦ ap (λ (k : ℕ). get (remove_key outside stag) k) e ∙ get_remove_here outside stag ∙ sym none ∙ ap (λ (k : ℕ). get outside k) (sym e)
+      | inr ne ↦ get_remove_other outside stag q ne
+    ])
+
+released_by : (next stag : ℕ) (outside : FinMap nat_cmp Outside) (o : Option Outside) → get outside stag ≡ o → IsTotal outside_len next 0 outside → IsTotal outside_len next 0 (remove_key outside stag)
+released_by next stag outside None there s = subst (λ (m : FinMap nat_cmp Outside). IsTotal outside_len next 0 m) (sym (not_there stag outside there)) s
+released_by next stag outside (Some x) there s = subst (λ (n : ℕ). IsTotal outside_len next n (remove_key outside stag)) (omega arith) (sound_release outside_len next 0 outside stag x s there)
+
+pub released_link : (l m : LinkSide) (s : SinkRegion) (stag : ℕ) → m ≡ after_call l (Release stag) → stag ≡ s.stag → m ≡ with_released (s ∷ []) l
+unfolding after_call
+released_link l m s stag is same = is ∙ ap (λ (n : ℕ). with_memory_of (after_release l.state.memory n) l) same
+  where
+    with_memory_of : RegisteredMemory → LinkSide → LinkSide
+    with_memory_of m l = record { awaited = l.awaited; rest = l.rest; state = record l.state { memory = m } }
+
+pub released_outside : (e f : EndpointState) (stag : ℕ) → f.link.state.memory.next ≡ e.link.state.memory.next → f.outside ≡ remove_key e.outside stag → NothingOutside e → NothingOutside f
+released_outside e f stag next is s =
+    subst (λ (n : ℕ). IsTotal outside_len n 0 f.outside) (sym next)
+    (subst (λ (m : FinMap nat_cmp Outside). IsTotal outside_len e.link.state.memory.next 0 m) (sym is) (released_by e.link.state.memory.next stag e.outside (get e.outside stag) refl s))
+
+pub released_memory : (l m : LinkSide) (s : SinkRegion) → m ≡ with_released (s ∷ []) l → (m.state.memory ≡ after_release l.state.memory s.stag) × (m.state.memory.next ≡ l.state.memory.next)
+released_memory l m s is = (ap (λ (x : LinkSide). x.state.memory) is, ap (λ (x : LinkSide). x.state.memory.next) is ∙ release_next l.state.memory s.stag)

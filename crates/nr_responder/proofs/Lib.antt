@@ -3,8 +3,10 @@ pub mod Begun
 pub mod CallsAtOnce
 pub mod CallsRead
 pub mod Chunks
+pub mod ClosedSinks
 pub mod Counts
 pub mod Drained
+pub mod DroppedReads
 pub mod Ends
 pub mod Executed
 pub mod Fed
@@ -21,6 +23,7 @@ pub mod LastResponses
 pub mod Marks
 pub mod NextCalls
 pub mod Opened
+pub mod OpenedReads
 pub mod Out
 pub mod OwnLaw
 pub mod JoinedPayloads
@@ -32,6 +35,7 @@ pub mod ReadCases
 pub mod ReadEffects
 pub mod ReadEntries
 pub mod ReadPayloads
+pub mod ReadsGoOn
 pub mod ReadsHandled
 pub mod ReadsRefused
 pub mod ReadsTaken

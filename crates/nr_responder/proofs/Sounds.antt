@@ -1,5 +1,5 @@
 -- What a responder keeps of its own, call by call.
-use Rattle.std.proofs.Common.{◌≡◌, ℕ, true, false, ◌+◌, ◌<◌, ◌≤◌, List, [], ◌∷◌, ◌++◌, length, drop, Option, None, All, sym, ap, subst, ◌∙◌, arith, length-append}
+use Rattle.std.proofs.Common.{◌≡◌, ℕ, true, false, ◌+◌, ◌<◌, ◌≤◌, List, [], ◌∷◌, ◌++◌, length, drop, Option, None, All, refl, sym, ap, subst, ◌∙◌, arith, length-append}
 use Rattle.std.specs.Prelude.{◌⊎◌, Result, Ok, Err, IfOk, IsOk}
 use Rattle.std.specs.List.{remove}
 use Rattle.nr_link.specs.Limits.{send_max}
@@ -13,7 +13,8 @@ use Rattle.nr_endpoint.specs.Calls.Call.{NextEvent, Stop, Send, OutOfMemory}
 use Rattle.nr_responder.specs.declared.call.Pending.{Pending}
 use Rattle.nr_responder.specs.declared.call.Ready.{Ready}
 use Rattle.nr_responder.specs.ResponderState.{unsent, drained_posted, left_by}
-use Rattle.nr_responder.specs.Sound.{InBuffer, AreSound}
+use Rattle.nr_responder.specs.Sound.{InBuffer, AreSound, IsSound, IsSoundWith}
+use Rattle.nr_responder.specs.declared.server_end.ServerEnd.{ServerEnd}
 use Rattle.nr_responder.proofs.Executed.{with_answer, fewer_wait}
 use Rattle.nr_responder.proofs.FrameCounts.{SameCounts}
 use Rattle.nr_responder.proofs.Posted.{ended_as, sent_link, told_link_lem}
@@ -173,3 +174,6 @@ sound_drained s t n calls ready used after a b c later is count bufs room h =
       ready_fit = omega (arith, h.ready_fit, ap (λ (x : LinkState). x.receive_queue.receives) is);
       used_fit = omega (arith, h.used_fit, room, ap (λ (x : LinkState). x.receive_queue.receives) is);
     }
+
+pub sound_less : (r : ServerEnd) → IsSoundWith 1 r → IsSound r
+sound_less r h = (sound_as 1 0 r.endpoint.link.state r.endpoint.link.state r.calls.items r.ready.items r.used.items _ _ _ (omega arith) refl refl refl h.0, h.1)

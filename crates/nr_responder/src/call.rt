@@ -104,6 +104,13 @@ pub(crate) fn has_xid(calls: &[Pending], xid: u32) -> bool
     calls.iter().any(|c| c.xid == xid)
 }
 
+/// Whether the Send of one of the calls has this number.
+pub(crate) fn has_number(calls: &[Pending], number: u64) -> bool
+    ensures { result ≡ list_any (λ c. c.number == number) calls.now }
+{
+    calls.iter().any(|c| c.number == number)
+}
+
 fn has_read(reads: &[ReadEntry], number: u64) -> bool
     ensures { result ≡ list_any (λ r. r.number == number) reads.now }
 {

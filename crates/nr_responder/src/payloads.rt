@@ -30,7 +30,7 @@ pub(crate) fn take_room(alloc: Global) -> Result<Octets, Memory>
 }
 
 /// A payload that is a stream alone.
-fn stream_alone(room: Octets, stream: &[u8]) -> Octets
+pub(crate) fn stream_alone(room: Octets, stream: &[u8]) -> Octets
     requires { length stream.now ≤ length room }
     ensures { result ≡ stream.now }
 {
@@ -40,7 +40,7 @@ fn stream_alone(room: Octets, stream: &[u8]) -> Octets
 }
 
 /// The payload of a stream and of the content of its item; `None` if it has no item of that length.
-fn with_item(room: Octets, stream: &[u8], moved: &[u8]) -> Option<Octets>
+pub(crate) fn with_item(room: Octets, stream: &[u8], moved: &[u8]) -> Option<Octets>
     requires room { length stream.now + length moved.now + 3 ≤ length room }
     requires small { length stream.now < 2 ^ 32 }
     ensures { result ≡ whole of.Call stream.now (Some moved.now) }

@@ -342,13 +342,13 @@ impl ServerEnd {
                     ..
                 },
             ) => self.message(number, buf, len),
-            Some(Event::ReadDone) => (),
+            Some(Event::ReadDone) => self.read_done(),
         }
     }
 
     /// Ends the side because memory ran out.
     pub(crate) fn run_out(&mut self)
-        requires sound { IsSoundWith 1 self.old }
+        requires sound { IsSound self.old }
         ensures out { state_of self.new ≡ out (state_of self.old) }
         ensures sound { IsSound self.new }
         ensures input { SameInput self.old.endpoint.link self.new.endpoint.link }
@@ -359,7 +359,7 @@ impl ServerEnd {
 
     /// Ends the side for a reason that a call gives, or because memory ran out for its Terminate.
     pub(crate) fn end_for(&mut self, reason: u32)
-        requires sound { IsSoundWith 1 self.old }
+        requires sound { IsSound self.old }
         requires live { self.old.endpoint.link.state.ended ≡ None }
         requires frame { 0 < self.old.endpoint.link.state.place }
         requires reason { IsStopReason reason }

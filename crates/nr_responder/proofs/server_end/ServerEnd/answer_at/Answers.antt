@@ -7,7 +7,7 @@ use Rattle.nr_responder.specs.declared.call.Pending.{Pending}
 use Rattle.nr_responder.specs.Answering.{IsPayload, answer_to, message_for}
 use Rattle.nr_responder.specs.Views.{call_view, read_view, sink_view}
 use Rattle.nr_responder.specs.Sound.{InBuffer, payloads_of, xids_of}
-use Rattle.nr_responder.proofs.Answered.{answer_link, answered_fed, get_view, same_call, payloads_dropped, xids_dropped}
+use Rattle.nr_responder.proofs.Answered.{answer_link, answered_fed, get_view, same_item, payloads_dropped, xids_dropped}
 use Rattle.nr_responder.proofs.Removed.{map_removed}
 use Rattle.nr_responder.proofs.HeldSinks.{fetched_removed}
 use Rattle.nr_responder.proofs.Sounds.{sound_answered, sound_room_as}
@@ -31,7 +31,7 @@ returns-clause-answers c =
       stream = stream;
       payload = paid.0;
       first = paid.1.0;
-      conveyed = subst (λ (x : Pending). IsPayload (call_view x) paid.0 stream) (c.index.ensures ∙ sym (same_call c.args.self.now.calls.items c.args.at c.index.result.now p c.requires.at) ∙ sym c.index-2.ensures) paid.1.1;
+      conveyed = subst (λ (x : Pending). IsPayload (call_view x) paid.0 stream) (c.index.ensures ∙ sym (same_item c.args.self.now.calls.items c.args.at c.index.result.now p c.requires.at) ∙ sym c.index-2.ensures) paid.1.1;
       writes = q.writes;
       written = q.written;
       state = λ i. record { link = link i; calls = calls i; ready = (ap xids_of ready ∙ xids_dropped c.args.self.now.ready.items) i; credits = c.args.self.now.credits; fetching = record { reads = map read_view c.args.self.now.reads.items; sinks = map sink_view c.args.self.now.sinks.items; payloads = (ap payloads_of ready ∙ payloads_dropped c.args.self.now.ready.items) i } };

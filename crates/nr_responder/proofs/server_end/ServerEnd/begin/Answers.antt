@@ -1,9 +1,8 @@
 use Rattle.std.proofs.Common.{take, true, None}
 use Rattle.nr_responder.specs.Sound.{state_of}
+use Rattle.nr_responder.proofs.Sounds.{sound_less}
 use Rattle.nr_responder.proofs.Begun.{stops_as, ends_as, begins_as, pushed_view}
-use Rattle.nr_responder.proofs.HeldSinks.{fetched_as, read_has_room}
-use Rattle.nr_responder.proofs.Posted.{ended_as}
-use Rattle.nr_responder.proofs.Sounds.{sound_ended}
+use Rattle.nr_responder.proofs.HeldSinks.{read_has_room}
 use Rattle.nr_responder.proofs.server_end.ServerEnd.begin.Goals as goal
 
 pub end_for-requires-clause-reason : goal.end_for-requires-clause-reason
@@ -20,3 +19,6 @@ returns-in-Ok-clause-begun c =
 
 pub push-requires-clause-room : goal.push-requires-clause-room
 push-requires-clause-room c = read_has_room c.args.self.now.reads.items (record { number = c.args.number; xid = c.in-Ok.xid; lists = c.args.lists; buf = c.args.buf; len = c.args.len; stream_at = c.args.stream_at; inline = true; room = None }) c.requires.fresh
+
+pub end_for-requires-clause-sound : goal.end_for-requires-clause-sound
+end_for-requires-clause-sound c = sound_less c.args.self.now c.requires.sound

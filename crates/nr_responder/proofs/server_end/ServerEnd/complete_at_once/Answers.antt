@@ -4,6 +4,7 @@ use Rattle.nr_responder.specs.private.CallsRead.{verdict_of}
 use Rattle.nr_responder.specs.Handling.FetchesCall.{EndsFor, IsComplete}
 use Rattle.nr_responder.specs.Sound.{state_of}
 use Rattle.nr_responder.specs.Views.{call_view}
+use Rattle.nr_responder.proofs.Sounds.{sound_less}
 use Rattle.nr_responder.proofs.Begun.{pushed_with}
 use Rattle.nr_responder.proofs.HeldSinks.{read_has_room}
 use Rattle.nr_responder.proofs.server_end.ServerEnd.complete_at_once.Goals as goal
@@ -22,3 +23,9 @@ returns-in-Err-clause-fetched c =
     EndsFor c.in-Err.reason c.in-Err.ensures.reason.1 c.requires.none
     (ap (by_payload (call_view c.args.call)) (sym c.in-Ok.ensures) ∙ c.judge_payload.ensures.verdict (call_view c.args.call) refl ∙ ap (verdict_of (call_view c.args.call)) c.in-Err.is)
     c.end_for.ensures.ended
+
+pub run_out-requires : goal.run_out-requires
+run_out-requires c = sound_less c.args.self.now c.requires.sound
+
+pub end_for-requires-clause-sound : goal.end_for-requires-clause-sound
+end_for-requires-clause-sound c = sound_less c.args.self.now c.requires.sound

@@ -10,11 +10,10 @@ use Rattle.nr_responder.specs.Handling.{FetchesCall}
 use Rattle.nr_responder.specs.Handling.Makes.{Ends, Calls, NoServer}
 use Rattle.nr_endpoint.specs.LinkState.{LinkSide}
 use Rattle.nr_responder.specs.Sound.{state_of}
+use Rattle.nr_responder.proofs.Sounds.{sound_less}
 use Rattle.nr_responder.proofs.Begun.{few_stags, fresh_number, not_fresh, or_out}
 use Rattle.nr_responder.proofs.Fetches.{fetched_makes}
-use Rattle.nr_responder.proofs.HeldSinks.{fetched_as}
-use Rattle.nr_responder.proofs.Posted.{ended_as, memory_as, refused_input}
-use Rattle.nr_responder.proofs.Sounds.{sound_ended}
+use Rattle.nr_responder.proofs.Posted.{refused_input}
 use Rattle.nr_responder.proofs.server_end.ServerEnd.message.Goals as goal
 
 pub returns-in-Kind-clause-made : goal.returns-in-Kind-clause-made
@@ -58,3 +57,12 @@ begin-requires-clause-fresh c = fresh_number c.args.number c.args.self.now.reads
 
 pub fetch-requires-clause-fresh : goal.fetch-requires-clause-fresh
 fetch-requires-clause-fresh c = fresh_number c.args.number c.args.self.now.reads.items c.as_slice.result.now c.is_read.result c.as_slice.ensures.value c.is_read.ensures c.if-not-is_read.false
+
+pub run_out-requires : goal.run_out-requires
+run_out-requires c = sound_less c.args.self.now c.requires.sound
+
+pub end_for-requires-clause-sound : goal.end_for-requires-clause-sound
+end_for-requires-clause-sound c = sound_less c.args.self.now c.requires.sound
+
+pub end_for-in-Open-requires-clause-sound : goal.end_for-in-Open-requires-clause-sound
+end_for-in-Open-requires-clause-sound c = sound_less c.args.self.now c.requires.sound
