@@ -62,8 +62,8 @@ told_next : (l : LinkSide) → l.state.memory.next ≡ (after_call l NextEvent).
 unfolding after_call
 told_next l = refl
 
-told_server_of : (k : ServerState) (v : ResponderSide) → IsServerOf k v → IsServerOf k (told_of v)
-told_server_of k v server = record { calls = server.calls; credits = server.credits; reads = server.reads; new_read = server.new_read; next = server.next ∙ told_next v.link; place = server.place; is_server = server.is_server }
+pub told_server_of : (k : ServerState) (v : ResponderSide) → IsServerOf k v → IsServerOf k (told_of v)
+told_server_of k v server = record { calls = server.calls; credits = server.credits; reads = server.reads; ready = server.ready; new_read = server.new_read; next = server.next ∙ told_next v.link; place = server.place; is_server = server.is_server }
 
 judged_call : (k : ServerState) (message : List ℕ) (lists : ChunkLists) (stream_at : ℕ) → IsCall k message lists stream_at →
     verdict k message ≡ MakesPending (inline_call k (word_at 0 message) lists.write lists.reply (drop stream_at message))

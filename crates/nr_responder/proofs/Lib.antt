@@ -5,6 +5,7 @@ pub mod CallsRead
 pub mod Chunks
 pub mod ClosedSinks
 pub mod Counts
+pub mod DoneReads
 pub mod Drained
 pub mod DroppedReads
 pub mod Ends

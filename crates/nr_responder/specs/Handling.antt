@@ -1,5 +1,5 @@
 -- What a responder makes of a message that its side of the link delivered.
-use Rattle.std.specs.Prelude.{◌≡◌, ◌≢◌, ℕ, ◌+◌, ◌<◌, ◌≤◌, length, List, [], ◌∷◌, ◌++◌, drop, Option, None, Some, Result, Ok, Err, ◌⊎◌, true, false}
+use Rattle.std.specs.Prelude.{◌≡◌, ◌≢◌, ℕ, ◌+◌, ◌<◌, ◌≤◌, length, map, List, [], ◌∷◌, ◌++◌, drop, Option, None, Some, Result, Ok, Err, ◌⊎◌, true, false}
 use Rattle.nr_header.specs.declared.header.RdmaSegment.{RdmaSegment}
 use Rattle.nr_header.specs.declared.header.ChunkLists.{ChunkLists}
 use Rattle.nr_xdr.specs.Fields.{word_at}
@@ -22,7 +22,7 @@ use Rattle.nr_responder.specs.Fetching.{payload_added}
 use Rattle.nr_responder.specs.ResponderState.{ResponderSide}
 use Rattle.nr_responder.specs.Keeping.{IsServer}
 use Rattle.nr_responder.specs.private.CallsRead.{HasNoBytes, complete_call, payload_at_once, reading_call}
-use Rattle.nr_responder.specs.private.ReadsDone.{ReadHandled, ReadRanOut}
+use Rattle.nr_responder.specs.private.ReadsDone.{HandlesRead, ReadHandled}
 use Rattle.nr_responder.specs.Views.{IsCall}
 
 -- a pending call without a read chunk
@@ -52,6 +52,7 @@ pub record IsServerOf (k : ServerState) (v : ResponderSide) : Type 0 where
   pub credits : k.credit ≡ v.credits
   pub reads : k.reads ≡ v.fetching.reads
   pub new_read : is_read k.reads (k.received.sends + 1) ≡ true
+  pub ready : v.ready ≡ map (λ r. r.xid) k.ready
   pub next : next_stag k ≡ v.link.state.memory.next
   pub place : ℕ
   pub is_server : IsServer k place
@@ -150,4 +151,4 @@ pub record IsTaken (before after : ResponderSide) : Type 0 where
   pub some : (number : ℕ) (invalidated : Option ℕ) (m : List ℕ) → before.link.state.receive_queue.deliveries ≡ MessageReceived number invalidated m ∷ [] →
       Makes (on_link before (after_call before.link NextEvent)) number m after
   pub read : before.link.state.receive_queue.deliveries ≡ ReadDone ∷ [] → (r : PendingRead) (rest : List PendingRead) → before.fetching.reads ≡ r ∷ rest →
-      ReadHandled (on_link before (after_call before.link NextEvent)) r rest after ⊎ ReadRanOut (on_link before (after_call before.link NextEvent)) r rest after
+      HandlesRead (on_link before (after_call before.link NextEvent)) r rest after

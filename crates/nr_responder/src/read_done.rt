@@ -167,8 +167,9 @@ impl ServerEnd {
         ensures staging { self.new.endpoint.staging ≡ self.old.endpoint.staging }
     {
         let _done = done;
-        if self.read_on(kept).is_err() {
-            self.run_out();
+        match self.read_on(kept) {
+            Ok(()) => (),
+            Err(_) => self.run_out(),
         }
     }
 
@@ -183,14 +184,13 @@ impl ServerEnd {
         ensures staging { self.new.endpoint.staging ≡ self.old.endpoint.staging }
     {
         self.endpoint.facts();
-        if self.read_on(kept).is_err() {
-            self.run_out();
-            return;
+        match self.read_on(kept) {
+            Ok(()) => self.ready.push_back_reserved(Ready {
+                xid,
+                payload: Some(payload),
+            }),
+            Err(_) => self.run_out(),
         }
-        self.ready.push_back_reserved(Ready {
-            xid,
-            payload: Some(payload),
-        });
     }
 
     /// The room of the payload of the call at this place, which is read.
@@ -221,6 +221,7 @@ impl ServerEnd {
         requires frame { 0 < self.old.endpoint.link.state.place }
         requires at { at < length self.old.calls.items }
         requires call { (d : Pending) → IsOfCall (state_of self.old) (read_view done) kept at (call_view (get_or self.old.calls.items at d)) }
+        requires few { length self.old.ready.items < length self.old.calls.items }
         requires fine { (d : Pending) → has_bad_chunk (state_of self.old) (call_view (get_or self.old.calls.items at d)) (read_view done) (map read_view self.old.reads.items) ≡ false }
         requires read { (d : Pending) → is_read (map read_view self.old.reads.items) (get_or self.old.calls.items at d).number ≡ true }
         requires room { (d : Pending) → IsRoom (get_or self.old.calls.items at d).room }
@@ -230,11 +231,6 @@ impl ServerEnd {
         ensures staging { self.new.endpoint.staging ≡ self.old.endpoint.staging }
     {
         let _done = done;
-        if self.calls.len() <= self.ready.len() {
-            // Each call that is ready is pending, and this one isn't ready.
-            self.run_out();
-            return;
-        }
         let room = self.take_room_at(at);
         let call = &self.calls[at];
         let payload = payload_read(room, call, &self.endpoint, self.sinks.as_slice());
@@ -265,6 +261,7 @@ impl ServerEnd {
         requires live { self.old.endpoint.link.state.ended ≡ None }
         requires at { at < length self.old.calls.items }
         requires call { (d : Pending) → IsOfCall (state_of self.old) (read_view done) kept at (call_view (get_or self.old.calls.items at d)) }
+        requires few { length self.old.ready.items < length self.old.calls.items }
         requires bad { (d : Pending) → has_bad_chunk (state_of self.old) (call_view (get_or self.old.calls.items at d)) (read_view done) (map read_view self.old.reads.items) ≡ true }
         ensures handled { HandlesRead (state_of self.old) (read_view done) (map read_view self.old.reads.items) (state_of self.new) }
         ensures sound { IsSound self.new }
@@ -274,26 +271,26 @@ impl ServerEnd {
         self.endpoint.facts();
         let xid = self.calls[at].xid;
         drop_waiting(&mut self.reads, done.number, kept);
-        let queued = queue_refusal(
+        match queue_refusal(
             &mut self.endpoint,
             self.alloc,
             xid,
             self.credits,
             self.reads.as_slice(),
             kept,
-        );
-        if queued.is_err() {
-            self.run_out();
-            return;
+        ) {
+            Err(_) => self.run_out(),
+            Ok(()) => {
+                let call = self.calls.remove(at);
+                self.used.push_back_reserved(call.buf);
+                close_over(
+                    &mut self.endpoint,
+                    &mut self.sinks,
+                    self.calls.as_slice(),
+                    self.reads.as_slice(),
+                );
+            }
         }
-        let call = self.calls.remove(at);
-        self.used.push_back_reserved(call.buf);
-        close_over(
-            &mut self.endpoint,
-            &mut self.sinks,
-            self.calls.as_slice(),
-            self.reads.as_slice(),
-        );
     }
 
     /// The read that is done is of the call at this place.
@@ -309,6 +306,11 @@ impl ServerEnd {
         ensures input { SameInput self.old.endpoint.link self.new.endpoint.link }
         ensures staging { self.new.endpoint.staging ≡ self.old.endpoint.staging }
     {
+        if self.calls.len() <= self.ready.len() {
+            // Each call that is ready is pending, and this one isn't ready.
+            self.run_out();
+            return;
+        }
         if self.has_bad_chunk(at, done) {
             self.refuse_read(at, done, kept);
         } else if is_read(self.reads.as_slice(), done.number) {

@@ -25,7 +25,7 @@ returns-in-Err-clause-fetched c =
     c.end_for.ensures.ended
 
 pub run_out-requires : goal.run_out-requires
-run_out-requires c = sound_less c.args.self.now c.requires.sound
+run_out-requires c = record { sound = sound_less c.args.self.now c.requires.sound }
 
 pub end_for-requires-clause-sound : goal.end_for-requires-clause-sound
 end_for-requires-clause-sound c = sound_less c.args.self.now c.requires.sound

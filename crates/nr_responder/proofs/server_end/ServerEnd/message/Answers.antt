@@ -59,10 +59,10 @@ pub fetch-requires-clause-fresh : goal.fetch-requires-clause-fresh
 fetch-requires-clause-fresh c = fresh_number c.args.number c.args.self.now.reads.items c.as_slice.result.now c.is_read.result c.as_slice.ensures.value c.is_read.ensures c.if-not-is_read.false
 
 pub run_out-requires : goal.run_out-requires
-run_out-requires c = sound_less c.args.self.now c.requires.sound
+run_out-requires c = record { sound = sound_less c.args.self.now c.requires.sound }
 
 pub end_for-requires-clause-sound : goal.end_for-requires-clause-sound
 end_for-requires-clause-sound c = sound_less c.args.self.now c.requires.sound
 
-pub end_for-in-Open-requires-clause-sound : goal.end_for-in-Open-requires-clause-sound
-end_for-in-Open-requires-clause-sound c = sound_less c.args.self.now c.requires.sound
+pub end_for-requires-in-Open-clause-sound : goal.end_for-requires-in-Open-clause-sound
+end_for-requires-in-Open-clause-sound c = sound_less c.args.self.now c.requires.sound
