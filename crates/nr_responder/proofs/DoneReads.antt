@@ -22,7 +22,7 @@ use Rattle.nr_responder.specs.Fetching.{Fetching}
 use Rattle.nr_responder.specs.ResponderState.{ResponderSide, unsent}
 use Rattle.nr_responder.specs.Handling.{IsServerOf, OrOut, on_link, out}
 use Rattle.nr_responder.specs.Keeping.{IsReadyOf, OwnNumbers, OwnReady, OwnXids}
-use Rattle.nr_responder.specs.Sound.{AreFetched, AreSound, HasRoom, InBuffer, IsSound, payloads_of, state_of, xids_of}
+use Rattle.nr_responder.specs.Sound.{AreFetched, AreHeldFrom, AreSound, NothingOutside, claims_of, HasRoom, InBuffer, IsSound, payloads_of, state_of, xids_of}
 use Rattle.nr_responder.specs.Views.{call_view, read_view, sink_view}
 use Rattle.nr_responder.specs.private.Reading.{opening}
 use Rattle.nr_responder.specs.private.DoneReads.{IsOfCall, ReadsOn, ReadyMade}
@@ -38,13 +38,14 @@ use Rattle.std.proofs.lemmas.List.Elements.{All-set}
 use Rattle.nr_endpoint.specs.EndpointState.{EndpointState}
 use Rattle.nr_endpoint.specs.ReceiveQueue.{ReceiveQueue}
 use Rattle.nr_endpoint.specs.SendQueue.{send_output}
+use Rattle.nr_header.specs.Constants.{PAYLOAD_MAX}
 use Rattle.nr_reduce.specs.Holds.{chunk_error}
 use Rattle.nr_responder.specs.Fetching.{SinkRegion}
 use Rattle.nr_responder.specs.declared.call.OpenSink.{OpenSink}
 use Rattle.nr_responder.specs.private.Reading.{with_opened_after, with_released}
 use Rattle.nr_responder.specs.private.ReadsDone.{reads_without, side_after_done, with_sent}
 use Rattle.nr_responder.proofs.Answered.{get_view, same_item}
-use Rattle.nr_responder.proofs.HeldSinks.{fetched_as}
+use Rattle.nr_responder.proofs.HeldSinks.{fetched_as, same_outside}
 use Rattle.nr_responder.proofs.ReadsGoOn.{requests_ends}
 use Rattle.nr_responder.proofs.Executed.{one_out_lem, without_call}
 use Rattle.nr_responder.proofs.Removed.{all_pushed_lem, all_removed, length_removed}
@@ -451,3 +452,27 @@ emptied_sound r at c calls is whole room h =
       },
       record { held = h.1.held; short = h.1.short; rooms = subst (λ (xs : List Pending). All (HasRoom r.reads.items) xs) (sym is) (All-set (HasRoom r.reads.items) r.calls.items at c room h.1.rooms); outside = h.1.outside },
     )
+
+-- ---- The first read
+
+pub split_first : (reads later : List ReadEntry) (first : ReadEntry) → 0 < length reads → first ≡ get_or reads 0 first → later ≡ remove reads 0 → map read_view reads ≡ read_view first ∷ map read_view later
+split_first [] later first some is left = absurd (omega (arith, some))
+split_first (x ∷ reads) later first some is left = λ i. read_view (sym is i) ∷ map read_view (sym left i)
+
+pub first_read : (v after : ResponderSide) (reads later : List ReadEntry) (first : ReadEntry) (r : PendingRead) (rest : List PendingRead) → 0 < length reads → first ≡ get_or reads 0 first → later ≡ remove reads 0 → map read_view reads ≡ r ∷ rest →
+    HandlesRead (without v (map read_view later)) (read_view first) (map read_view later) after → HandlesRead (without v (map read_view reads)) r rest after
+first_read v after reads later first r rest some is left reads_are h =
+    let both : read_view first ∷ map read_view later ≡ r ∷ rest = sym (split_first reads later first some is left) ∙ reads_are in
+    let one : read_view first ≡ r = cc in
+    let others : map read_view later ≡ rest = cc in
+    with_read v r rest (map read_view reads) after (subst (λ (rs : List PendingRead). HandlesRead (without v rs) r rs after) others (subst (λ (q : PendingRead). HandlesRead (without v (map read_view later)) q (map read_view later) after) one h))
+
+pub refused_fetched : (e f g : EndpointState) (m kept at : ℕ) (message : List ℕ) (opened : List PendingRead) (calls left : List Pending) (reads later : List ReadEntry) (sinks left_open : List OpenSink) → map read_view later ≡ reads_without m kept (map read_view reads) → left ≡ remove calls at →
+    f.link ≡ with_opened_after message opened e.link → f.outside ≡ e.outside → AreHeldFrom g.link.state.memory 0 (claims_of left_open) → All (λ s. s.registration.len ≤ PAYLOAD_MAX) left_open → (NothingOutside f → NothingOutside g) →
+    AreFetched e calls reads sinks → AreFetched g left later left_open
+refused_fetched e f g m kept at message opened calls left reads later sinks left_open is left_is sent outside held short keeps h = record {
+  held = held;
+  short = short;
+  rooms = subst (λ (cs : List Pending). All (HasRoom later) cs) (sym left_is) (all_removed (HasRoom later) calls at (λ k d lt. dropped_rooms m kept reads later (get_or calls k d) is (h.rooms k d lt)));
+  outside = keeps (same_outside e f (ap (λ (l : LinkSide). l.state.memory.next) sent) outside h.outside);
+}

@@ -1,5 +1,5 @@
 -- What a responder keeps of its own, whatever the marks.
-use Rattle.std.specs.Prelude.{◌≡◌, ◌⊎◌, ℕ, ◌+◌, ◌*◌, ◌≤◌, false, List, [], ◌∷◌, length, map, Option, None, Some, All, slice_get, vec_capacity}
+use Rattle.std.specs.Prelude.{◌≡◌, ◌⊎◌, ℕ, ◌+◌, ◌*◌, ◌≤◌, false, List, [], ◌∷◌, length, map, sum_by, Option, None, Some, All, slice_get, vec_capacity}
 use Rattle.std.specs.VecDeque.{deque_capacity}
 use Rattle.nr_regions.specs.RegisteredMemory.{Claim, RegisteredMemory, IsHeld, outside_len}
 use Rattle.nr_regions.specs.Table.{IsSound as IsTotal}
@@ -38,8 +38,16 @@ state_of r = record {
   fetching = fetching_of r.reads.items r.sinks.items r.ready.items;
 }
 
+-- the bytes of the buffers of payloads: of calls that are read, and of those that are ready
+abbrev pub room_len : Option (List ℕ) → ℕ
+room_len None = 0
+room_len (Some room) = length room
+
+abbrev pub rooms_of : List Pending → List Ready → ℕ
+rooms_of calls ready = sum_by (λ c. room_len c.room) calls + sum_by (λ q. room_len q.payload) ready
+
 abbrev pub with_staging : ServerEnd → ResponderState
-with_staging r = record { side = state_of r; staging = r.endpoint.staging }
+with_staging r = record { side = state_of r; staging = r.endpoint.staging; rooms = rooms_of r.calls.items r.ready.items }
 
 -- A pending call's message lies in its receive buffer, and its lists are within the limits.
 pub record InBuffer (c : Pending) : Type 0 where

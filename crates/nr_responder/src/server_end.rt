@@ -201,7 +201,7 @@ impl ServerEnd {
         ensures goes { Fed (state_of self.old) piece.now (state_of self.new) }
         ensures stands { (opened : LinkParameters) (link : ℕ) (run : List Mark) → Stands opened link run (state_of self.old) →
             Stands opened link (run ++ marks.Fed link ResponderSide piece.now ∷ []) (state_of self.new) }
-        ensures kept { is_some (end_of (state_of self.old)) ≡ true → (state_of self.new ≡ state_of self.old) × (self.new.endpoint.staging ≡ self.old.endpoint.staging) }
+        ensures kept { is_some (end_of (state_of self.old)) ≡ true → with_staging self.new ≡ with_staging self.old }
         ensures within { fed_bytes self.new.endpoint.link ≤ fed_bytes self.old.endpoint.link + length piece.now }
         ensures staging { (opened : LinkParameters) (link : ℕ) (run : List Mark) → Stands opened link run (state_of self.old) → KeepsStaging (with_staging self.old) (with_staging self.new) piece.now }
         ensures sound { IsSound self.new }
@@ -231,7 +231,7 @@ impl ServerEnd {
         ensures first { Fed (state_of self.old) (take (bytes_taken self.old.endpoint.link.awaited self.old.endpoint.link.rest piece.now) piece.now) (state_of self.new) }
         ensures stands { (opened : LinkParameters) (link : ℕ) (run : List Mark) → Stands opened link run (state_of self.old) →
             Stands opened link (run ++ marks.Fed link ResponderSide (taken_of result piece.now) ∷ []) (state_of self.new) }
-        ensures kept { is_some (end_of (state_of self.old)) ≡ true → (state_of self.new ≡ state_of self.old) × (self.new.endpoint.staging ≡ self.old.endpoint.staging) }
+        ensures kept { is_some (end_of (state_of self.old)) ≡ true → with_staging self.new ≡ with_staging self.old }
         ensures within { fed_bytes self.new.endpoint.link ≤ fed_bytes self.old.endpoint.link + length piece.now }
         ensures staging { (opened : LinkParameters) (link : ℕ) (run : List Mark) → Stands opened link run (state_of self.old) → KeepsStaging (with_staging self.old) (with_staging self.new) piece.now }
         ensures sound { IsSound self.new }
@@ -494,7 +494,7 @@ impl ServerEnd {
         requires own { (d : Pending) → (get_or self.old.calls.items at d).xid ≡ xid }
         requires next { 0 < length self.old.ready.items }
         ensures answers { IfOk result (λ sent. Answers (state_of self.old) (state_of self.new) xid reply.now sent) }
-        ensures err { OnErr result (state_of self.new ≡ state_of self.old) }
+        ensures err { OnErr result (with_staging self.new ≡ with_staging self.old) }
         ensures fed { fed_bytes self.new.endpoint.link ≡ fed_bytes self.old.endpoint.link }
         ensures staging { self.new.endpoint.staging ≡ self.old.endpoint.staging }
         ensures sound { IsSound self.new }
@@ -523,7 +523,7 @@ impl ServerEnd {
         ensures answers { IfOk result (λ sent. Answers (state_of self.old) (state_of self.new) xid reply.now sent) }
         ensures stands { OnOk result ((opened : LinkParameters) (link : ℕ) (run : List Mark) (moment : Moment) (payload : List ℕ) (place : ℕ) → Stands opened link run (state_of self.old) →
             IsExecuted opened link run xid payload → Stands opened link (run ++ marks.Execute link xid moment payload place reply.now ∷ []) (state_of self.new)) }
-        ensures err { OnErr result (state_of self.new ≡ state_of self.old) }
+        ensures err { OnErr result (with_staging self.new ≡ with_staging self.old) }
         ensures fed { fed_bytes self.new.endpoint.link ≡ fed_bytes self.old.endpoint.link }
         ensures staging { self.new.endpoint.staging ≡ self.old.endpoint.staging }
         ensures sound { IsSound self.new }

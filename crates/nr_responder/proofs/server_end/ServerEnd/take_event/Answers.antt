@@ -57,7 +57,7 @@ read_done-requires-clause-live c = (told_link_lem c.args.self.now.endpoint.link 
 
 pub returns-in-Some-ReadDone-clause-taken : goal.returns-in-Some-ReadDone-clause-taken
 returns-in-Some-ReadDone-clause-taken c =
-    let one = c.in-Some-ReadDone.ensures.event in
+    let one = c.in-Some-ReadDone.ensures.event ∙ ap (λ (e : Event). delivery e ∷ c.next_event.new.self.link.state.receive_queue.deliveries) c.in-Some-ReadDone.field-0-is in
     let v : ResponderSide = state_of c.args.self.now in
     let after : ResponderSide = state_of c.read_done.new.self in
     record {
