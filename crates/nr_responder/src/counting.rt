@@ -29,6 +29,15 @@ fn room_len(room: &Option<Octets>) -> u64
     }
 }
 
+/// One room more, after `count` rooms.
+fn add_room(total: u128, room: u64, count: usize) -> u128
+    requires { total ≤ 2 ^ 64 * count }
+    ensures sum { result ≡ total + room }
+    ensures most { result ≤ 2 ^ 64 * (count + 1) }
+{
+    total + u128::from(room)
+}
+
 /// The bytes of the rooms of calls that are read.
 fn rooms_len(calls: &[Pending]) -> u128
     ensures sum { result ≡ sum_by (λ c. room_len c.room) calls.now }
@@ -36,7 +45,8 @@ fn rooms_len(calls: &[Pending]) -> u128
 {
     let mut total: u128 = 0;
     'calls: for i in 0..calls.len() {
-        total += u128::from(room_len(&calls[i].room));
+        let room = room_len(&calls[i].room);
+        total = add_room(total, room, i);
     }
     total
 }
@@ -49,7 +59,10 @@ fn payloads_len(ready: &VecDeque<Ready>) -> u128
     let mut total: u128 = 0;
     'ready: for i in 0..ready.len() {
         match ready.get(i) {
-            Some(first) => total += u128::from(room_len(&first.payload)),
+            Some(first) => {
+                let room = room_len(&first.payload);
+                total = add_room(total, room, i);
+            }
             None => unreachable!(),
         }
     }

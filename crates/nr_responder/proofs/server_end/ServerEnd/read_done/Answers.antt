@@ -17,7 +17,8 @@ read_of_call-requires-clause-call c = λ d.
     let some : 0 < length c.args.self.now.reads.items = search rules in
     let first = subst (λ (xs : List Pending). (c.in-Some.at < length xs) × ((e : Pending) → (get_or xs c.in-Some.at e).number ≡ c.remove-done.result.number)) c.as_slice.ensures.value c.in-Some.ensures.some in
     let before = subst (λ (xs : List Pending). (k : ℕ) (e : Pending) → k < c.in-Some.at → (get_or xs k e).number ≢ c.remove-done.result.number) c.as_slice.ensures.value c.in-Some.ensures.first in
-    let count : c.open_count-kept.result ≡ min (length c.args.self.now.reads.items) open_reads_max = c.open_count-kept.ensures ∙ ap (λ (n : ℕ). min n open_reads_max) c.len.ensures in
+    let len : c.len.result ≡ length c.args.self.now.reads.items = search rules in
+    let count : c.open_count-kept.result ≡ min (length c.args.self.now.reads.items) open_reads_max = c.open_count-kept.ensures ∙ ap (λ (n : ℕ). min n open_reads_max) len in
     call_is _ (read_view c.remove-done.result) c.args.self.now.calls.items c.in-Some.at _ d refl first.0 (first.1 d) before
     (kept_open _ (read_view c.remove-done.result) (map read_view c.remove-done.new.self.items) c.args.self.now.reads.items (split_first c.args.self.now.reads.items c.remove-done.new.self.items c.remove-done.result some c.remove-done.ensures.value c.remove-done.ensures.items) (omega (arith, count)))
 
