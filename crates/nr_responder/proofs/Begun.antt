@@ -1,34 +1,31 @@
 -- A message with a call whose stream stands in it: what the code did is what is said of it.
-use Rattle.std.proofs.Common.{◌≡◌, ◌≢◌, ℕ, ◌+◌, Bool, true, false, sym, List, [], ◌∷◌, ◌++◌, map, drop, Option, Some, None, Result, Ok, Err, refl, ap, subst, ◌∙◌, ◌≤◌, arith, inl, inr}
+use Rattle.std.proofs.Common.{◌≡◌, ℕ, ◌+◌, Bool, true, false, sym, List, [], ◌∷◌, ◌++◌, map, drop, Option, Some, None, Result, Ok, Err, refl, ap, subst, ◌∙◌, ◌≤◌, arith, inl, inr}
 use Rattle.std.specs.Prelude.{◌⊎◌}
 use Rattle.nr_xdr.specs.Fields.{word_at}
 use Rattle.nr_rpc.specs.declared.head.CallHead.{CallHead}
 use Rattle.nr_rpc.specs.declared.head.CallHead.TheVariants as calls
 use Rattle.nr_rpc.specs.Reading.{call_of, xid_of_call, head_xid}
 use Rattle.nr_header.specs.declared.header.ChunkLists.{ChunkLists}
-use Rattle.nr_link.specs.Reasons.{REASON_HEAD, REASON_STAGS, REASON_XID}
+use Rattle.nr_link.specs.Reasons.{REASON_HEAD, REASON_XID}
 use Rattle.std.proofs.lemmas.List.{map-append}
 use Rattle.nr_endpoint.specs.EndpointState.{EndpointState}
 use Rattle.nr_endpoint.specs.LinkState.{LinkSide}
 use Rattle.nr_endpoint.specs.Calls.{after_call, IsStopReason}
 use Rattle.nr_endpoint.specs.Calls.Call.{OutOfMemory, Stop}
-use Rattle.nr_reduce.specs.Holds.{chunk_error}
 use Rattle.nr_reduce.specs.ServerState.{PendingCall, PendingRead, ServerState, next_stag}
 use Rattle.nr_responder.specs.Fetching.{payload_added}
 use Rattle.nr_reduce.specs.ServerReads.{is_read}
 use Rattle.nr_reduce.specs.ServerMessages.{call_xid}
 use Rattle.nr_responder.specs.ResponderState.{ResponderSide}
-use Rattle.nr_responder.specs.Handling.{on_link, with_ready, OrOut, IsServerOf, MessageTakes, Begins, ReadsXid}
+use Rattle.nr_responder.specs.Handling.{on_link, with_ready, OrOut, IsServerOf, Begins, ReadsXid}
 use Rattle.nr_responder.specs.Handling.Begins.{NoCall, OtherXid, IsReady}
 use Rattle.nr_responder.specs.Handling.ReadsXid.{ReadsNoCall, ReadsOther, ReadsOwn}
-use Rattle.nr_responder.specs.Handling.MessageTakes.{EndsFor, ErrorFor, ReadsFor}
 use Rattle.nr_responder.specs.declared.call.Pending.{Pending}
 use Rattle.nr_responder.specs.declared.call.Ready.{Ready}
 use Rattle.nr_responder.specs.declared.call.ReadEntry.{ReadEntry}
 use Rattle.nr_responder.specs.declared.server_end.ServerEnd.{ServerEnd}
 use Rattle.nr_responder.specs.Sound.{payloads_of, state_of, xids_of}
 use Rattle.nr_responder.specs.Views.{call_view, read_view, sink_view}
-use Rattle.nr_responder.proofs.Judged.{ends_refusal, chunks_refused}
 
 same_xid : (head : CallHead) → call_xid head ≡ head_xid head
 same_xid (calls.Version2 xid prog vers proc cred args_at) = refl

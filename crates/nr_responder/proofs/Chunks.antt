@@ -1,5 +1,5 @@
 -- The chunks of a read list that have bytes.
-use Rattle.std.proofs.Common.{◌≡◌, ℕ, Bool, true, false, not, ◌||◌, eqb, List, [], ◌∷◌, refl}
+use Rattle.std.proofs.Common.{◌≡◌, Bool, true, false, not, ◌||◌, eqb, List, [], ◌∷◌, refl}
 use Rattle.std.proofs.lemmas.Bool.{eqb-true}
 use Rattle.nr_header.specs.declared.header.ReadSegment.{ReadSegment}
 use Rattle.nr_responder.specs.private.CallsRead.{HasNoBytes, has_bytes}

@@ -1,5 +1,5 @@
 -- The sinks that are over are released, and the others stay.
-use Rattle.std.proofs.Common.{◌≡◌, ℕ, zero, suc, ◌+◌, ◌<◌, ◌≤◌, Bool, true, false, not, cond, List, [], ◌∷◌, ◌++◌, length, take, drop, get_or, map, refl, sym, ap, subst, ◌∙◌, arith, append-nil}
+use Rattle.std.proofs.Common.{◌≡◌, ℕ, zero, suc, ◌+◌, ◌<◌, ◌≤◌, Bool, true, false, not, cond, List, [], ◌∷◌, ◌++◌, length, take, drop, get_or, map, sym, ap, ◌∙◌, arith, append-nil}
 use Rattle.std.proofs.lemmas.List.{length-map, take_all, drop_all}
 use Rattle.std.specs.List.{remove}
 use Rattle.nr_endpoint.specs.LinkState.{LinkSide}
@@ -15,9 +15,9 @@ pub over_left : (calls : List PendingCall) (reads : List PendingRead) (sinks : L
     × (over_sinks calls reads (drop at (map sink_view sinks)) ≡ sink_view (get_or sinks at d) ∷ over_sinks calls reads (drop at (map sink_view (remove sinks at))))
 over_left calls reads [] at d lt over = absurd (omega (arith, lt))
 over_left calls reads (s ∷ sinks) zero d lt over = (
-      sym (ap (λ (b : Bool). cond (not b) (sink_view s ∷ left_sinks calls reads (map sink_view sinks)) (left_sinks calls reads (map sink_view sinks))) over),
-      ap (λ (b : Bool). cond b (sink_view s ∷ over_sinks calls reads (map sink_view sinks)) (over_sinks calls reads (map sink_view sinks))) over,
-    )
+  sym (ap (λ (b : Bool). cond (not b) (sink_view s ∷ left_sinks calls reads (map sink_view sinks)) (left_sinks calls reads (map sink_view sinks))) over),
+  ap (λ (b : Bool). cond b (sink_view s ∷ over_sinks calls reads (map sink_view sinks)) (over_sinks calls reads (map sink_view sinks))) over,
+)
 over_left calls reads (s ∷ sinks) (suc at) d lt over =
     let more = over_left calls reads sinks at d (omega (arith, lt)) over in
     (ap (λ (ss : List SinkRegion). sink_view s ∷ ss) more.0, more.1)
@@ -28,9 +28,9 @@ pub kept_left : (calls : List PendingCall) (reads : List PendingRead) (sinks : L
     × (over_sinks calls reads (drop at (map sink_view sinks)) ≡ over_sinks calls reads (drop (suc at) (map sink_view sinks)))
 kept_left calls reads [] at d lt over = absurd (omega (arith, lt))
 kept_left calls reads (s ∷ sinks) zero d lt over = (
-      sym (ap (λ (b : Bool). cond (not b) (sink_view s ∷ left_sinks calls reads (map sink_view sinks)) (left_sinks calls reads (map sink_view sinks))) over),
-      ap (λ (b : Bool). cond b (sink_view s ∷ over_sinks calls reads (map sink_view sinks)) (over_sinks calls reads (map sink_view sinks))) over,
-    )
+  sym (ap (λ (b : Bool). cond (not b) (sink_view s ∷ left_sinks calls reads (map sink_view sinks)) (left_sinks calls reads (map sink_view sinks))) over),
+  ap (λ (b : Bool). cond b (sink_view s ∷ over_sinks calls reads (map sink_view sinks)) (over_sinks calls reads (map sink_view sinks))) over,
+)
 kept_left calls reads (s ∷ sinks) (suc at) d lt over =
     let more = kept_left calls reads sinks at d (omega (arith, lt)) over in
     (ap (λ (ss : List SinkRegion). sink_view s ∷ ss) more.0, more.1)

@@ -1,5 +1,5 @@
 -- What the code made of the call of a read that is done is what is said of it.
-use Rattle.std.proofs.Common.{◌≡◌, ◌≢◌, ℕ, zero, suc, ◌+◌, ◌-◌, ◌<◌, ◌≤◌, Bool, true, false, not, cond, eqb, ◌||◌, List, [], ◌∷◌, ◌++◌, length, take, drop, get_or, map, Option, Some, None, refl, sym, ap, subst, ◌∙◌, arith, append-nil, inl, inr, length-append, All}
+use Rattle.std.proofs.Common.{◌≡◌, ◌≢◌, ℕ, zero, suc, ◌+◌, ◌-◌, ◌<◌, ◌≤◌, Bool, true, false, not, cond, eqb, ◌||◌, List, [], ◌∷◌, ◌++◌, length, take, drop, get_or, map, Some, None, refl, sym, ap, subst, ◌∙◌, arith, append-nil, inl, inr, length-append, All}
 use Rattle.std.specs.Prelude.{◌⊎◌, slice_get, find, min}
 use Rattle.std.specs.List.{AllByRecursion, filter, list_any, remove}
 use Rattle.std.proofs.lemmas.Bool.{eqb-true, eq-eqb, ne_eqb}
@@ -7,7 +7,7 @@ use Rattle.std.proofs.lemmas.List.{length-map, length-take, map-append}
 use Rattle.nr_link.specs.Limits.{open_reads_max, send_max}
 use Rattle.nr_endpoint.specs.Receives.{IsReceive}
 use Rattle.nr_endpoint.specs.LinkState.{LinkState, LinkSide}
-use Rattle.nr_endpoint.specs.SendQueue.{SendQueue, with_send}
+use Rattle.nr_endpoint.specs.SendQueue.{with_send}
 use Rattle.nr_endpoint.specs.Calls.{after_call}
 use Rattle.nr_endpoint.specs.Calls.Call.{OutOfMemory, Stop}
 use Rattle.nr_reduce.specs.ServerState.{PendingCall, PendingRead, ReadyCall, ServerState}
@@ -20,13 +20,13 @@ use Rattle.nr_responder.specs.declared.call.ReadEntry.{ReadEntry}
 use Rattle.nr_responder.specs.declared.server_end.ServerEnd.{ServerEnd}
 use Rattle.nr_responder.specs.Fetching.{Fetching}
 use Rattle.nr_responder.specs.ResponderState.{ResponderSide, unsent}
-use Rattle.nr_responder.specs.Handling.{IsServerOf, OrOut, on_link, out}
+use Rattle.nr_responder.specs.Handling.{IsServerOf, OrOut, out}
 use Rattle.nr_responder.specs.Keeping.{IsReadyOf, OwnNumbers, OwnReady, OwnXids}
 use Rattle.nr_responder.specs.Sound.{AreFetched, AreHeldFrom, AreSound, NothingOutside, claims_of, HasRoom, InBuffer, IsSound, payloads_of, state_of, xids_of}
 use Rattle.nr_responder.specs.Views.{call_view, read_view, sink_view}
 use Rattle.nr_responder.specs.private.Reading.{opening}
 use Rattle.nr_responder.specs.private.DoneReads.{IsOfCall, ReadsOn, ReadyMade}
-use Rattle.nr_responder.specs.private.ReadsDone.{EndsLink, HandlesRead, Impossible, IsComplete, IsFine, MakesReady, NothingReady, ReadHandled, ReadRanOut, ReadTakes, RefusesCall, call_of_read, calls_without, ended_as, has_bad_chunk, read_payload, reading_on, still_open}
+use Rattle.nr_responder.specs.private.ReadsDone.{EndsLink, HandlesRead, Impossible, IsComplete, IsFine, MakesReady, NothingReady, ReadHandled, ReadTakes, RefusesCall, calls_without, ended_as, has_bad_chunk, read_payload, reading_on, still_open}
 use Rattle.nr_responder.specs.private.ReadsDone.Impossible.{Crowded, Shared}
 use Rattle.nr_responder.specs.private.ReadsDone.NothingReady.{Gone, Waits}
 use Rattle.nr_responder.specs.private.ReadsDone.ReadHandled.{GoesOn, Readies, Stops, Refused}
@@ -239,12 +239,14 @@ xid_of n (c ∷ calls) is = by (xid_of n calls) (eqb c.number n) refl is
 not_ready : (k : ServerState) (c : PendingCall) (ready : List ReadyCall) → is_read k.reads c.number ≡ false → ((x m : ℕ) → AllByRecursion (λ d. d.xid ≡ x → d.number ≡ m) k.calls → c.xid ≡ x → c.number ≡ m) → AllByRecursion (IsReadyOf k.calls k.reads) ready →
     AllByRecursion (λ q. (list_any (λ d. eqb d.xid q.xid) k.calls ≡ true) × (q.xid ≢ c.xid)) ready
 not_ready k c [] left all h = tt
-not_ready k c (q ∷ ready) left all h =
-    (
-      (h.0.pending, λ same. (let number : c.number ≡ q.number = all q.xid q.number h.0.own (sym same) in
-      absurd (let two : true ≡ false = sym h.0.read ∙ ap (is_read k.reads) (sym number) ∙ left in cc))),
-      not_ready k c ready left all h.1,
-    )
+not_ready k c (q ∷ ready) left all h = (
+  (
+    h.0.pending,
+    λ same. (let number : c.number ≡ q.number = all q.xid q.number h.0.own (sym same) in
+        absurd (let two : true ≡ false = sym h.0.read ∙ ap (is_read k.reads) (sym number) ∙ left in cc)),
+  ),
+  not_ready k c ready left all h.1,
+)
 
 call_there : (n at : ℕ) (calls : List PendingCall) (c : PendingCall) → slice_get calls at ≡ Some c → c.number ≡ n → list_any (λ e. eqb e.number n) calls ≡ true
 call_there n zero [] c is same = absurd cc

@@ -1,5 +1,5 @@
 -- A message with a read list, by what the code made of its call.
-use Rattle.std.proofs.Common.{◌≡◌, ◌≢◌, ℕ, ◌+◌, ◌<◌, ◌≤◌, Bool, true, false, cond, ltb, List, [], length, drop, Option, refl, sym, ap, subst, ◌∙◌, arith, inl, inr}
+use Rattle.std.proofs.Common.{◌≡◌, ℕ, ◌+◌, ◌<◌, ◌≤◌, Bool, true, false, cond, ltb, List, length, drop, Option, refl, ap, ◌∙◌, arith}
 use Rattle.std.specs.Prelude.{nat_lt}
 use Rattle.std.proofs.lemmas.Bool.{le-ltb, ltb-false}
 use Rattle.nr_xdr.specs.Fields.{word_at}
@@ -9,7 +9,7 @@ use Rattle.nr_reduce.specs.Limits.{numbers_end}
 use Rattle.nr_reduce.specs.ServerState.{PendingCall, ServerState, next_stag}
 use Rattle.nr_reduce.specs.Chunks.{positions}
 use Rattle.nr_reduce.specs.ServerReads.{chunks_of}
-use Rattle.nr_reduce.specs.ServerMessages.{by_need, verdict}
+use Rattle.nr_reduce.specs.ServerMessages.{by_need}
 use Rattle.nr_reduce.specs.ServerMessages.Verdict.{EndsLink, MakesPending}
 use Rattle.nr_responder.specs.ResponderState.{ResponderSide}
 use Rattle.nr_responder.specs.private.CallsRead.{HasNoBytes}

@@ -1,6 +1,5 @@
 -- The sinks that are open stay held, and each call that is read keeps the room of its payload.
-use Rattle.std.proofs.Common.{◌≡◌, ◌≢◌, ℕ, zero, suc, ◌+◌, ◌<◌, ◌≤◌, Bool, true, false, not, ◌||◌, eqb, List, [], ◌∷◌, ◌++◌, length, get_or, map, Option, Some, None, All, refl, sym, ap, subst, ◌∙◌, arith, inl, inr}
-use Rattle.std.specs.Prelude.{◌⊎◌}
+use Rattle.std.proofs.Common.{◌≡◌, ◌≢◌, ℕ, zero, suc, ◌+◌, ◌<◌, ◌≤◌, true, false, List, [], ◌∷◌, ◌++◌, length, get_or, map, Option, Some, None, All, refl, sym, ap, subst, ◌∙◌, arith, inl, inr}
 use Rattle.std.specs.List.{remove}
 use Rattle.std.specs.FinMap.{FinMap, empty, get, same_map, nat_cmp-IsAntisymmetric}
 use Rattle.std.specs.FinMap.{remove as remove_key}
@@ -11,14 +10,14 @@ use Rattle.nr_responder.specs.Fetching.{SinkRegion}
 use Rattle.nr_responder.specs.private.Reading.{with_released}
 use Rattle.std.specs.Ordering.{nat_cmp}
 use Rattle.std.proofs.lemmas.List.Elements.{All-nil}
-use Rattle.nr_regions.specs.RegisteredMemory.{RegisteredMemory, Outside, Claim, Region, IsHeld, after_release, outside_len, outside_held, initial_memory}
+use Rattle.nr_regions.specs.RegisteredMemory.{RegisteredMemory, Outside, Claim, IsHeld, after_release, outside_len, outside_held, initial_memory}
 use Rattle.nr_regions.specs.Table.{IsSound as IsTotal}
 use Rattle.nr_regions.proofs.Totals.{sound_initial, sound_release}
 use Rattle.nr_wire.specs.declared.hello.Side.TheVariants.{Responder}
 use Rattle.nr_link.specs.declared.end.End.{End}
 use Rattle.nr_link.specs.declared.end.End.TheVariants as ends
 use Rattle.nr_endpoint.specs.EndpointState.{EndpointState}
-use Rattle.nr_endpoint.specs.LinkState.{LinkState, LinkSide, initial_link}
+use Rattle.nr_endpoint.specs.LinkState.{LinkSide, initial_link}
 use Rattle.nr_endpoint.specs.Calls.{Call, after_call, after_calls}
 use Rattle.nr_endpoint.specs.Calls.Call.{FeedOne, OutOfMemory, Release}
 use Rattle.nr_endpoint.proofs.ClaimLaws.{claims_stay_lem}
@@ -30,7 +29,6 @@ use Rattle.nr_responder.specs.declared.call.OpenSink.{OpenSink}
 use Rattle.nr_responder.specs.Sound.{AreFetched, AreHeldFrom, HasRoom, NothingOutside, claims_of}
 use Rattle.nr_responder.specs.Views.{read_view}
 use Rattle.nr_responder.proofs.Fed.{step_of}
-use Rattle.nr_responder.proofs.FrameCounts.{SameCounts}
 use Rattle.nr_responder.proofs.Handled.{step_counts}
 use Rattle.nr_responder.proofs.Posted.{memory_as}
 use Rattle.nr_responder.proofs.Removed.{all_removed, all_pushed_lem}

@@ -1,17 +1,14 @@
 -- The payload of a call, put together of its stream and of what was read.
-use Rattle.std.proofs.Common.{◌≡◌, ℕ, Bool, true, false, not, cond, eqb, List, [], Option, Some, None, Result, Ok, Err, refl, sym, ap, ◌∙◌}
+use Rattle.std.proofs.Common.{◌≡◌, ℕ, Bool, true, false, not, cond, eqb, List, Option, Some, None, Ok, Err, refl, sym, ap, ◌∙◌}
 use Rattle.std.proofs.lemmas.Bool.{eq-eqb}
 use Rattle.nr_header.specs.declared.header.ReadSegment.{ReadSegment}
 use Rattle.nr_reduce.specs.declared.item.Item.{Item}
-use Rattle.nr_reduce.specs.declared.item.Of.{Of}
 use Rattle.nr_reduce.specs.declared.item.Of.TheVariants as of
 use Rattle.nr_reduce.specs.declared.fault.Mismatch.{Mismatch}
 use Rattle.nr_reduce.specs.declared.fault.Mismatch.TheVariants as mismatches
 use Rattle.nr_reduce.specs.Items.{item_of, restored_payload}
 use Rattle.nr_reduce.specs.Chunks.{call_conveyed, call_moved, call_stream, has_moved_length, item_position, whole, whole_by}
 use Rattle.nr_reduce.specs.Cuts.{joined_by, rebuilt_of}
-use Rattle.nr_reduce.specs.ServerState.{PendingCall}
-use Rattle.nr_responder.specs.private.CallsRead.{payload_at_once}
 
 -- a stream and a chunk that don't belong together
 pub no_payload : (stream moved : List ℕ) (i : Item) (why : Mismatch) → item_of of.Call stream ≡ Some i → rebuilt_of of.Call stream i.pos moved ≡ Err why → None ≡ whole of.Call stream (Some moved)

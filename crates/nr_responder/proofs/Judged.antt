@@ -1,6 +1,6 @@
 -- The verdict on a message, one question after the other.
 use Rattle.std.proofs.Common.{◌&&◌, ◌≡◌, ◌≢◌, ℕ, ◌+◌, ◌≤◌, Bool, true, false, not, ◌||◌, eqb, cond, List, [], ◌∷◌, length, drop, map, Option, Some, None, Result, Ok, Err, refl, sym, ap, subst, ◌∙◌, arith, inl, inr}
-use Rattle.std.specs.Prelude.{nat_lt, ◌⊎◌}
+use Rattle.std.specs.Prelude.{◌⊎◌}
 use Rattle.std.specs.List.{list_any, filter}
 use Rattle.std.proofs.lemmas.Bool.{ne_eqb, eq-eqb, le-ltb}
 use Rattle.nr_header.specs.Constants.{FIXED_LEN}
@@ -18,7 +18,6 @@ use Rattle.std.proofs.lemmas.List.{drop_all}
 use Rattle.nr_header.specs.Reading.{header_of, header_by, body_by, error_by}
 use Rattle.nr_xdr.specs.Fields.{word_at}
 use Rattle.nr_reduce.specs.Chunks.{is_read_chunk_of_item, item_position, total_at, positions}
-use Rattle.nr_reduce.specs.Limits.{numbers_end}
 use Rattle.nr_reduce.specs.ServerState.{PendingCall, ServerState, is_pending, next_stag}
 use Rattle.nr_reduce.specs.ServerReads.{chunks_of, is_read}
 use Rattle.nr_reduce.specs.ServerMessages.{Verdict, verdict, by_header, by_body, by_stream, by_need, has_position, no_stream}
@@ -34,7 +33,7 @@ use Rattle.nr_responder.proofs.ServerSteps.{inline_message_lem, pending_effect}
 use Rattle.nr_responder.specs.declared.call.Pending.{Pending}
 use Rattle.nr_responder.specs.declared.judging.Judged.{Judged}
 use Rattle.nr_responder.specs.declared.judging.Judged.TheVariants as judged
-use Rattle.nr_responder.specs.Views.{call_view, call_with, inline_of, IsOfReads, HasStream, Judges, JudgesBody, brings_stream, fits_stream, reads_if}
+use Rattle.nr_responder.specs.Views.{call_view, call_with, inline_of, HasStream, Judges, JudgesBody, brings_stream, fits_stream, reads_if}
 
 pub verdict_version : (k : ServerState) (m : List ℕ) → word_at 4 m ≢ 1 → verdict k m ≡ OtherVersion
 unfolding verdict

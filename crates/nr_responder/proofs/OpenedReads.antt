@@ -1,13 +1,12 @@
 -- The reads that open, from the list of all and to the side of the link.
-use Rattle.std.proofs.Common.{◌≡◌, ◌≢◌, ℕ, zero, suc, ◌+◌, ◌<◌, ◌≤◌, Bool, true, false, cond, List, [], ◌∷◌, ◌++◌, length, take, drop, get_or, map, Option, None, Some, Result, Ok, Err, refl, sym, ap, subst, ◌∙◌, arith, append_assoc, append-nil, is_some}
+use Rattle.std.proofs.Common.{◌≡◌, ◌≢◌, ℕ, zero, suc, ◌+◌, ◌<◌, ◌≤◌, cond, List, [], ◌∷◌, ◌++◌, length, take, drop, get_or, map, Option, None, Result, Ok, Err, refl, sym, ap, ◌∙◌, arith, append_assoc, append-nil, is_some}
 use Rattle.std.specs.Prelude.{min, OnErr, OnOk}
-use Rattle.std.proofs.lemmas.List.{length-drop, length-map, length-take, drop_more, map-append}
+use Rattle.std.proofs.lemmas.List.{length-drop, length-map, length-take, drop_more}
 use Rattle.nr_link.specs.declared.end.End.{End}
 use Rattle.nr_link.specs.Limits.{open_reads_max}
-use Rattle.nr_link.specs.SegmentFaults.{ExpectedResponse}
 use Rattle.nr_endpoint.specs.declared.requests.RemoteRead.{RemoteRead}
-use Rattle.nr_endpoint.specs.LinkState.{LinkState, LinkSide}
-use Rattle.nr_endpoint.specs.SendQueue.{SendQueue, with_send}
+use Rattle.nr_endpoint.specs.LinkState.{LinkSide}
+use Rattle.nr_endpoint.specs.SendQueue.{with_send}
 use Rattle.nr_endpoint.specs.Calls.{Call, after_call, after_calls}
 use Rattle.nr_endpoint.specs.Calls.Call.{Send}
 use Rattle.nr_endpoint.specs.Requesting.{read_call, read_calls, send_read_calls}

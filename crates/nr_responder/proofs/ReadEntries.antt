@@ -1,5 +1,5 @@
 -- Entries of reads, calls and sinks as the definitions of a run see them.
-use Rattle.std.proofs.Common.{◌≡◌, ℕ, Bool, not, ◌||◌, ◌&&◌, eqb, List, [], ◌∷◌, map, refl, ap}
+use Rattle.std.proofs.Common.{◌≡◌, ℕ, Bool, ◌||◌, ◌&&◌, eqb, List, [], ◌∷◌, map, refl, ap}
 use Rattle.std.specs.List.{list_any}
 use Rattle.nr_responder.specs.declared.call.Pending.{Pending}
 use Rattle.nr_responder.specs.declared.call.ReadEntry.{ReadEntry}

@@ -1,10 +1,8 @@
 -- What holds of a responder once reads opened and sinks closed.
 use Rattle.std.proofs.Common.{◌≡◌, ℕ, ◌≤◌, List, [], ◌∷◌, refl, ap, ◌∙◌, arith, All}
-use Rattle.nr_regions.specs.RegisteredMemory.{RegisteredMemory}
 use Rattle.nr_header.specs.Constants.{PAYLOAD_MAX}
 use Rattle.nr_endpoint.specs.EndpointState.{EndpointState}
-use Rattle.nr_endpoint.specs.LinkState.{LinkState, LinkSide}
-use Rattle.nr_endpoint.specs.ReceiveQueue.{ReceiveQueue}
+use Rattle.nr_endpoint.specs.LinkState.{LinkSide}
 use Rattle.nr_endpoint.specs.SendQueue.{SendQueue, with_request}
 use Rattle.nr_reduce.specs.ServerState.{PendingRead}
 use Rattle.nr_responder.specs.Fetching.{SinkRegion}
@@ -25,9 +23,9 @@ pub opened_closed_sound : (e f g : EndpointState) (opened : List PendingRead) (o
     g.link ≡ with_released over f.link → AreHeldFrom g.link.state.memory 0 (claims_of left) → All (λ s. s.registration.len ≤ PAYLOAD_MAX) left → (NothingOutside f → NothingOutside g) →
     AreSound 0 e.link.state calls ready used a b c × AreFetched e calls reads sinks → AreSound 0 g.link.state calls ready used a b c × AreFetched g calls reads left
 opened_closed_sound e f g opened over calls ready used reads sinks left a b c link outside closed held short keeps h = (
-      sound_as 0 0 e.link.state g.link.state calls ready used a b c (omega arith)
+  sound_as 0 0 e.link.state g.link.state calls ready used a b c (omega arith)
       (ap (λ (l : LinkSide). l.state.receive_queue.lent) closed ∙ ap (λ (l : LinkSide). l.state.receive_queue.lent) link)
       (ap (λ (l : LinkSide). l.state.receive_queue.receives) closed ∙ ap (λ (l : LinkSide). l.state.receive_queue.receives) link)
       (ap (λ (l : LinkSide). l.state.send_queue.send_ends) closed ∙ ap (λ (l : LinkSide). l.state.send_queue.send_ends) link ∙ requests_ends opened e.link.state.send_queue) h.0,
-      record { held = held; short = short; rooms = h.1.rooms; outside = keeps (same_outside e f (ap (λ (l : LinkSide). l.state.memory.next) link) outside h.1.outside) },
-    )
+  record { held = held; short = short; rooms = h.1.rooms; outside = keeps (same_outside e f (ap (λ (l : LinkSide). l.state.memory.next) link) outside h.1.outside) },
+)

@@ -5,7 +5,7 @@ use Rattle.nr_header.specs.declared.header.Body.{Body}
 use Rattle.nr_header.specs.declared.header.Body.TheVariants.{Msg, Nomsg}
 use Rattle.nr_header.specs.Constants.{PAYLOAD_MAX}
 use Rattle.nr_header.specs.WithinLimits.{ListsWithin, read_total}
-use Rattle.nr_link.specs.Reasons.{REASON_KIND, REASON_CALL, REASON_STAGS}
+use Rattle.nr_link.specs.Reasons.{REASON_KIND, REASON_CALL}
 use Rattle.nr_xdr.specs.Fields.{word_at}
 use Rattle.nr_reduce.specs.ServerState.{PendingCall, ServerState, is_pending}
 use Rattle.nr_header.specs.declared.header.ReadSegment.{ReadSegment}

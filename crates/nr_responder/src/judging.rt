@@ -20,7 +20,10 @@ pub enum Judged {
     Open,
     OtherVersion,
     BadChunks,
-    Call { lists: ChunkLists, stream_at: usize },
+    Call {
+        lists: ChunkLists,
+        stream_at: usize,
+    },
     Reads {
         lists: ChunkLists,
         stream_at: usize,

@@ -28,7 +28,6 @@ mod responder;
 mod server_end;
 mod sink_regions;
 
-
 pub use call::{CallId, Sent};
 pub use laws::{responders_keep_it_in_full, responders_keep_their_law};
 pub use responder::Responder;

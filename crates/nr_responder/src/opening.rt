@@ -39,11 +39,7 @@ fn remote_read(sink: u32, at: u32, len: u32, stag: u32, to: u64) -> RemoteRead
 }
 
 /// The Read Requests of the reads that open if `kept` are open. `Err`: some open, and memory ran out.
-fn opening_reads(
-    alloc: Global,
-    reads: &[ReadEntry],
-    kept: usize,
-) -> Result<Vec<RemoteRead>, Memory>
+fn opening_reads(alloc: Global, reads: &[ReadEntry], kept: usize) -> Result<Vec<RemoteRead>, Memory>
     ensures reads { IfOk result (λ r. r.items ≡ map remote_of (opening kept (map read_view reads.now))) }
     ensures fits { IfOk result (λ r. All FitsSink r.items) }
     ensures err { OnErr result (opening kept (map read_view reads.now) ≢ []) }

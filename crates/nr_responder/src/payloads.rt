@@ -47,7 +47,14 @@ pub(crate) fn with_item(room: Octets, stream: &[u8], moved: &[u8]) -> Option<Oct
 {
     let item = call_item(stream)?;
     let mut room = room;
-    match rebuild_item_into(&mut room, &Of::Call, Some(item), stream, item.pos as u32, moved) {
+    match rebuild_item_into(
+        &mut room,
+        &Of::Call,
+        Some(item),
+        stream,
+        item.pos as u32,
+        moved,
+    ) {
         Ok(len) => Some(first_bytes(room, len)),
         Err(_) => None,
     }

@@ -20,10 +20,10 @@ use crate::opening::{open_count, open_reads, send_and_open};
 use crate::payloads::{inline_stream, judge_payload, stream_alone, with_item};
 use crate::server_end::ServerEnd;
 use crate::sink_regions::{close_over, is_read_at, sink_bytes};
-use std::alloc::Global;
 use nr_endpoint::Endpoint;
 use nr_reduce::{is_read_chunk_of_item, item_position};
 use nr_xdr::{Memory, Octets};
+use std::alloc::Global;
 
 /// The place of the call whose Send has this number.
 fn number_place(calls: &[Pending], number: u64) -> Option<usize>
@@ -40,11 +40,7 @@ fn number_place(calls: &[Pending], number: u64) -> Option<usize>
 }
 
 /// The stream of a call, in its message or in the sink at position 0.
-fn stream_read<'a>(
-    call: &'a Pending,
-    endpoint: &'a Endpoint,
-    sinks: &'a [OpenSink],
-) -> &'a [u8]
+fn stream_read<'a>(call: &'a Pending, endpoint: &'a Endpoint, sinks: &'a [OpenSink]) -> &'a [u8]
     requires call { InBuffer call.now }
     requires held { AreHeldFrom endpoint.now.link.state.memory 0 (claims_of sinks.now) }
     requires short { All (λ s. s.registration.len ≤ PAYLOAD_MAX) sinks.now }

@@ -1,6 +1,4 @@
-use Rattle.std.proofs.Common.{sym, ap, ◌∙◌, arith, ℕ}
-use Rattle.nr_endpoint.specs.LinkState.{LinkSide}
-use Rattle.nr_endpoint.specs.declared.requests.RemoteRead.{RemoteRead}
+use Rattle.std.proofs.Common.{ap, ◌∙◌}
 use Rattle.nr_endpoint.specs.Calls.{after_calls}
 use Rattle.nr_endpoint.specs.Requesting.{read_calls}
 use Rattle.nr_responder.proofs.OpenedReads.{opened_calls}

@@ -1,4 +1,4 @@
-use Rattle.std.proofs.Common.{rules, sym, ap, ◌++◌, [], ◌∷◌, ◌∙◌, arith}
+use Rattle.std.proofs.Common.{ap, ◌++◌, [], ◌∷◌, ◌∙◌, arith}
 use Rattle.nr_endpoint.specs.Requesting.{FitsSink}
 use Rattle.nr_endpoint.specs.declared.requests.RemoteRead.{RemoteRead}
 use Rattle.nr_responder.proofs.OpenedReads.{on_err_any, opening_step, some_open}

@@ -1,4 +1,4 @@
-use Rattle.std.proofs.Common.{sym, ap, ◌∙◌, arith, Ok, Err, Result}
+use Rattle.std.proofs.Common.{◌∙◌}
 use Rattle.nr_endpoint.specs.Calls.{after_calls}
 use Rattle.nr_endpoint.specs.Requesting.{send_read_calls}
 use Rattle.nr_responder.proofs.OpenedReads.{on_ok_by, sent_opened_calls}

@@ -1,5 +1,5 @@
-use Rattle.std.proofs.Common.{Option, ℕ, List, [], Some, None, sym, ap, ◌∙◌}
-use Rattle.nr_reduce.specs.Chunks.{call_moved, call_stream, item_position, whole}
+use Rattle.std.proofs.Common.{ℕ, List, [], Some, None, sym, ap, ◌∙◌}
+use Rattle.nr_reduce.specs.Chunks.{item_position, whole}
 use Rattle.nr_reduce.specs.declared.item.Of.TheVariants as of
 use Rattle.nr_responder.specs.Views.{call_view}
 use Rattle.nr_responder.proofs.JoinedPayloads.{conveyed_is}

@@ -1,4 +1,4 @@
-use Rattle.std.proofs.Common.{sym, ◌∙◌}
+use Rattle.std.proofs.Common.{sym}
 use Rattle.nr_responder.proofs.JoinedPayloads.{no_payload}
 use Rattle.nr_responder.proofs.payloads.with_item.Goals as goal
 

@@ -1,6 +1,6 @@
-use Rattle.std.proofs.Common.{Option, ℕ, List, [], Some, None, sym, ap, ◌∙◌}
+use Rattle.std.proofs.Common.{ℕ, List, Some, None, sym, ap, ◌∙◌}
 use Rattle.std.specs.Prelude.{map}
-use Rattle.nr_reduce.specs.Chunks.{call_moved, call_stream, item_position, whole}
+use Rattle.nr_reduce.specs.Chunks.{item_position, whole}
 use Rattle.nr_reduce.specs.declared.item.Of.TheVariants as of
 use Rattle.nr_responder.specs.private.Reading.{sink_bytes}
 use Rattle.nr_responder.specs.Views.{call_view, sink_view}

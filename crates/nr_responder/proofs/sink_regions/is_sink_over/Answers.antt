@@ -1,4 +1,4 @@
-use Rattle.std.proofs.Common.{◌≡◌, Bool, true, false, cond, sym, ap, ◌∙◌}
+use Rattle.std.proofs.Common.{Bool, cond, sym, ap, ◌∙◌}
 use Rattle.std.specs.Prelude.{map}
 use Rattle.nr_reduce.specs.ServerReads.{is_read, is_read_at}
 use Rattle.nr_responder.specs.Views.{read_view}

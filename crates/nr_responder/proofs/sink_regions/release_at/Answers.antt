@@ -1,10 +1,9 @@
-use Rattle.std.proofs.Common.{◌≡◌, ◌∙◌, List, [], ◌∷◌, get_or, sym, ap, subst}
+use Rattle.std.proofs.Common.{◌∙◌, List, get_or, sym, ap, subst}
 use Rattle.std.specs.List.{remove}
-use Rattle.nr_regions.specs.RegisteredMemory.{Claim, IsHeld, RegisteredMemory, after_release}
+use Rattle.nr_regions.specs.RegisteredMemory.{IsHeld, RegisteredMemory, after_release}
 use Rattle.nr_responder.specs.declared.call.OpenSink.{OpenSink}
 use Rattle.nr_responder.specs.Sound.{AreHeldFrom, claims_of}
 use Rattle.nr_responder.specs.Views.{sink_view}
-use Rattle.nr_responder.specs.private.Reading.{with_released}
 use Rattle.nr_responder.proofs.Answered.{same_item}
 use Rattle.nr_responder.proofs.HeldSinks.{held_at, released_held, released_link, released_memory, released_outside}
 use Rattle.nr_responder.proofs.sink_regions.release_at.Goals as goal

@@ -58,9 +58,11 @@ returns-clause-sound g c =
     let posts : length c.args.self.now.used.items - c.sends_waiting-left.result ≡ left_by c.args.self.now.endpoint.link.state t.0 =
     omega (arith, c.sends_waiting-left.ensures, ap (λ (x : SendQueue). length x.send_ends) q.1, c.requires.sound.0.unsent_is) in
     let link = c.post_until.ensures.posted ∙ drained_link c.args.self.now.endpoint.link m t.0 (length c.args.self.now.used.items - c.sends_waiting-left.result) t.3
-    ∙ ap (λ (k : ℕ). record { awaited = c.args.self.now.endpoint.link.awaited; rest = c.args.self.now.endpoint.link.rest; state = drained_posted c.args.self.now.endpoint.link.state t.0 k }) posts in
-    (sound_drained c.args.self.now.endpoint.link.state c.post_until.new.endpoint.link.state t.0 c.args.self.now.calls.items c.args.self.now.ready.items c.args.self.now.used.items _ _ _ _ _ (ap (λ (x : LinkSide). x.state) link)
-    (c.post_until.ensures.left ∙ c.sends_waiting-left.ensures ∙ ap (λ (x : SendQueue). length x.send_ends) q.1) c.post_until.ensures.bufs c.post_until.ensures.room c.requires.sound.0, fetched_as c.args.self.now.endpoint c.post_until.new.endpoint c.args.self.now.calls.items c.args.self.now.reads.items c.args.self.now.sinks.items (ap (λ (x : LinkSide). x.state.memory) link) (c.post_until.ensures.outside ∙ c.drain_into-result.ensures.outside) c.requires.sound.1)
+    ∙ ap (λ (k : ℕ). record { awaited = c.args.self.now.endpoint.link.awaited; rest = c.args.self.now.endpoint.link.rest; state = drained_posted c.args.self.now.endpoint.link.state t.0 k }) posts in (
+      sound_drained c.args.self.now.endpoint.link.state c.post_until.new.endpoint.link.state t.0 c.args.self.now.calls.items c.args.self.now.ready.items c.args.self.now.used.items _ _ _ _ _ (ap (λ (x : LinkSide). x.state) link)
+          (c.post_until.ensures.left ∙ c.sends_waiting-left.ensures ∙ ap (λ (x : SendQueue). length x.send_ends) q.1) c.post_until.ensures.bufs c.post_until.ensures.room c.requires.sound.0,
+      fetched_as c.args.self.now.endpoint c.post_until.new.endpoint c.args.self.now.calls.items c.args.self.now.reads.items c.args.self.now.sinks.items (ap (λ (x : LinkSide). x.state.memory) link) (c.post_until.ensures.outside ∙ c.drain_into-result.ensures.outside) c.requires.sound.1,
+    )
 
 pub returns-clause-fed : goal.returns-clause-fed
 returns-clause-fed g c =

@@ -1,4 +1,4 @@
-use Rattle.std.proofs.Common.{ap, refl}
+use Rattle.std.proofs.Common.{ap}
 use Rattle.nr_responder.specs.Sound.{state_of}
 use Rattle.nr_responder.specs.Views.{read_view}
 use Rattle.nr_responder.proofs.DoneReads.{goes_on, on_state, stops_on}

@@ -1,4 +1,4 @@
-use Rattle.std.proofs.Common.{◌≡◌, ℕ, List, drop, map, take, sym, ap, subst, ◌∙◌, arith, inr}
+use Rattle.std.proofs.Common.{◌≡◌, ℕ, List, drop, map, take, sym, ap, subst, ◌∙◌, arith}
 use Rattle.nr_reduce.specs.ServerMessages.{verdict}
 use Rattle.nr_reduce.specs.ServerMessages.Verdict.{EndsLink}
 use Rattle.nr_reduce.specs.ServerReads.{is_read}
@@ -8,10 +8,9 @@ use Rattle.nr_responder.specs.Views.{call_view, read_view, call_with, inline_of,
 use Rattle.nr_xdr.specs.Fields.{word_at}
 use Rattle.nr_responder.specs.Handling.{FetchesCall}
 use Rattle.nr_responder.specs.Handling.Makes.{Ends, Calls, NoServer}
-use Rattle.nr_endpoint.specs.LinkState.{LinkSide}
 use Rattle.nr_responder.specs.Sound.{state_of}
 use Rattle.nr_responder.proofs.Sounds.{sound_less}
-use Rattle.nr_responder.proofs.Begun.{few_stags, fresh_number, not_fresh, or_out}
+use Rattle.nr_responder.proofs.Begun.{few_stags, fresh_number, not_fresh}
 use Rattle.nr_responder.proofs.Fetches.{fetched_makes}
 use Rattle.nr_responder.proofs.Posted.{refused_input}
 use Rattle.nr_responder.proofs.server_end.ServerEnd.message.Goals as goal

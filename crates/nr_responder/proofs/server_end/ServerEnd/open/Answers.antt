@@ -17,17 +17,19 @@ returns-clause-sound c =
     let l = opened_queues c.in_ok-endpoint.endpoint.link c.args.credits c.in_ok-endpoint.ensures.state in
     let used = ap (λ (xs : List (List ℕ)). length xs) c.in_ok-used.ensures.items in
     let calls = ap (λ (xs : List Pending). length xs) c.in_ok-calls.ensures.items in
-    let ready = ap (λ (xs : List Ready). length xs) c.in_ok-ready.ensures.items in
-    (record {
-      unsent_is = used ∙ sym (ap (λ (xs : List ℕ). length xs) l.1.1);
-      lent = omega (arith, l.0, used, calls);
-      few = omega (arith, ready);
-      bufs = rw c.in_ok-calls.ensures.items (All-nil _);
-      used_bufs = rw c.in_ok-used.ensures.items (All-nil _);
-      calls_fit = omega (arith, l.1.0, c.in_ok-calls.ensures.capacity);
-      ready_fit = omega (arith, l.1.0, c.in_ok-ready.ensures.capacity);
-      used_fit = omega (arith, l.1.0, c.in_ok-used.ensures.capacity);
-    }, empty_fetched c.in_ok-endpoint.endpoint c.in_ok-calls.calls.items c.new.result.items c.new-2.result.items c.new.ensures.items c.new-2.ensures.items (fetched_first c.in_ok-endpoint.endpoint c.args.credits c.in_ok-calls.calls.items c.in_ok-endpoint.ensures.state c.in_ok-endpoint.ensures.outside c.in_ok-calls.ensures.items))
+    let ready = ap (λ (xs : List Ready). length xs) c.in_ok-ready.ensures.items in (
+      record {
+        unsent_is = used ∙ sym (ap (λ (xs : List ℕ). length xs) l.1.1);
+        lent = omega (arith, l.0, used, calls);
+        few = omega (arith, ready);
+        bufs = rw c.in_ok-calls.ensures.items (All-nil _);
+        used_bufs = rw c.in_ok-used.ensures.items (All-nil _);
+        calls_fit = omega (arith, l.1.0, c.in_ok-calls.ensures.capacity);
+        ready_fit = omega (arith, l.1.0, c.in_ok-ready.ensures.capacity);
+        used_fit = omega (arith, l.1.0, c.in_ok-used.ensures.capacity);
+      },
+      empty_fetched c.in_ok-endpoint.endpoint c.in_ok-calls.calls.items c.new.result.items c.new-2.result.items c.new.ensures.items c.new-2.ensures.items (fetched_first c.in_ok-endpoint.endpoint c.args.credits c.in_ok-calls.calls.items c.in_ok-endpoint.ensures.state c.in_ok-endpoint.ensures.outside c.in_ok-calls.ensures.items),
+    )
 
 pub returns-clause-stands : goal.returns-clause-stands
 returns-clause-stands c = λ opened link same.

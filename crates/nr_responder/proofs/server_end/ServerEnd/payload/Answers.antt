@@ -1,4 +1,4 @@
-use Rattle.std.proofs.Common.{◌≡◌, ℕ, Option, List, Some, ap, ◌∙◌, sym, subst}
+use Rattle.std.proofs.Common.{ℕ, Option, List, Some, ap, ◌∙◌, sym, subst}
 use Rattle.std.specs.Prelude.{option_map}
 use Rattle.nr_reduce.specs.Served.{IsExecuted}
 use Rattle.nr_responder.specs.Sound.{state_of}

@@ -1,4 +1,4 @@
-use Rattle.std.proofs.Common.{rules, ◌≡◌, ◌≢◌, ℕ, ◌<◌, List, ◌∷◌, length, map, get_or, ap, sym, subst, ◌∙◌, refl, arith}
+use Rattle.std.proofs.Common.{rules, ◌≡◌, ◌≢◌, ℕ, ◌<◌, List, length, map, get_or, ap, subst, ◌∙◌, refl, arith}
 use Rattle.std.specs.Prelude.{min}
 use Rattle.nr_link.specs.Limits.{open_reads_max}
 use Rattle.nr_responder.specs.declared.call.Pending.{Pending}

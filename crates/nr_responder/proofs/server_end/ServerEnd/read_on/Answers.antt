@@ -1,8 +1,7 @@
-use Rattle.std.proofs.Common.{List, map, refl, ap, ◌∙◌}
+use Rattle.std.proofs.Common.{List, map, ap, ◌∙◌}
 use Rattle.nr_responder.specs.declared.call.ReadEntry.{ReadEntry}
 use Rattle.nr_responder.specs.private.Reading.{opening, over_sinks, with_opened}
 use Rattle.nr_responder.specs.Views.{call_view, read_view, sink_view}
-use Rattle.nr_endpoint.specs.LinkState.{LinkSide}
 use Rattle.nr_responder.proofs.ReadsGoOn.{opened_closed_sound}
 use Rattle.nr_responder.proofs.server_end.ServerEnd.read_on.Goals as goal
 

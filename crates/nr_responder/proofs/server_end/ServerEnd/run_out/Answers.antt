@@ -12,9 +12,9 @@ returns-clause-out c = ap (λ (l : LinkSide). on_link (state_of c.args.self.now)
 
 pub returns-clause-sound : goal.returns-clause-sound
 returns-clause-sound c = (
-      sound_ended 0 17 c.args.self.now.endpoint.link c.run_out.new.self.link c.args.self.now.calls.items c.args.self.now.ready.items c.args.self.now.used.items _ _ _ (inr c.run_out.ensures.state) c.requires.sound.0,
-      fetched_as c.args.self.now.endpoint c.run_out.new.self c.args.self.now.calls.items c.args.self.now.reads.items c.args.self.now.sinks.items (memory_as c.args.self.now.endpoint.link c.run_out.new.self.link c.run_out.ensures.state).memory c.run_out.ensures.outside c.requires.sound.1,
-    )
+  sound_ended 0 17 c.args.self.now.endpoint.link c.run_out.new.self.link c.args.self.now.calls.items c.args.self.now.ready.items c.args.self.now.used.items _ _ _ (inr c.run_out.ensures.state) c.requires.sound.0,
+  fetched_as c.args.self.now.endpoint c.run_out.new.self c.args.self.now.calls.items c.args.self.now.reads.items c.args.self.now.sinks.items (memory_as c.args.self.now.endpoint.link c.run_out.new.self.link c.run_out.ensures.state).memory c.run_out.ensures.outside c.requires.sound.1,
+)
 
 pub returns-clause-input : goal.returns-clause-input
 returns-clause-input c = (memory_as c.args.self.now.endpoint.link c.run_out.new.self.link c.run_out.ensures.state).input

@@ -59,10 +59,12 @@ returns-in-Err-clause-goes c =
     (λ is. (c.in-Err.ensures.memory (ap (λ (e : End). Err e) is), c.in-Err.ensures.frame (ap (λ (e : End). Err e) is) (ap (λ (o : Option End). is_some o) c.requires.live))) (sym c.in-Err.ensures.ended))
 
 pub returns-in-Err-clause-sound : goal.returns-in-Err-clause-sound
-returns-in-Err-clause-sound c =
-    (failed_sound c.args.self.now.endpoint.link c.feed_one.new.self.link c.args.piece.now c.in-Err.end c.args.self.now.calls.items c.args.self.now.ready.items c.args.self.now.used.items _ _ _ c.requires.live c.facts.ensures.partial (λ other. c.in-Err.ensures.state (λ e. other (let h : c.in-Err.end ≡ ends.Memory = cc in h)))
-    (λ is. c.in-Err.ensures.memory (ap (λ (e : End). Err e) is)) c.requires.sound.0, fetched_failed c.args.self.now.endpoint c.feed_one.new.self c.args.piece.now c.in-Err.end c.args.self.now.calls.items c.args.self.now.reads.items c.args.self.now.sinks.items c.requires.live c.facts.ensures.partial (λ other. c.in-Err.ensures.state (λ e. other (let h : c.in-Err.end ≡ ends.Memory = cc in h)))
-    (λ is. c.in-Err.ensures.memory (ap (λ (e : End). Err e) is)) c.feed_one.ensures.outside c.requires.sound.1)
+returns-in-Err-clause-sound c = (
+  failed_sound c.args.self.now.endpoint.link c.feed_one.new.self.link c.args.piece.now c.in-Err.end c.args.self.now.calls.items c.args.self.now.ready.items c.args.self.now.used.items _ _ _ c.requires.live c.facts.ensures.partial (λ other. c.in-Err.ensures.state (λ e. other (let h : c.in-Err.end ≡ ends.Memory = cc in h)))
+      (λ is. c.in-Err.ensures.memory (ap (λ (e : End). Err e) is)) c.requires.sound.0,
+  fetched_failed c.args.self.now.endpoint c.feed_one.new.self c.args.piece.now c.in-Err.end c.args.self.now.calls.items c.args.self.now.reads.items c.args.self.now.sinks.items c.requires.live c.facts.ensures.partial (λ other. c.in-Err.ensures.state (λ e. other (let h : c.in-Err.end ≡ ends.Memory = cc in h)))
+      (λ is. c.in-Err.ensures.memory (ap (λ (e : End). Err e) is)) c.feed_one.ensures.outside c.requires.sound.1,
+)
 
 pub returns-in-Err-clause-within : goal.returns-in-Err-clause-within
 returns-in-Err-clause-within c =

@@ -1,4 +1,4 @@
-use Rattle.std.proofs.Common.{◌≡◌, ℕ, List, [], ◌∷◌, length, take, sym, ap, subst, ◌∙◌, arith, inl}
+use Rattle.std.proofs.Common.{ℕ, List, [], ◌∷◌, length, take, sym, ap, subst, ◌∙◌, arith}
 use Rattle.nr_endpoint.specs.declared.event.Event.{Event}
 use Rattle.nr_endpoint.specs.LinkState.{LinkSide}
 use Rattle.nr_endpoint.specs.Calls.{after_call}
@@ -48,9 +48,9 @@ returns-in-Some-Message-clause-fed c =
 
 pub read_done-requires-clause-sound : goal.read_done-requires-clause-sound
 read_done-requires-clause-sound c = (
-      sound_read c.args.self.now.endpoint.link c.next_event.new.self.link c.args.self.now.calls.items c.args.self.now.ready.items c.args.self.now.used.items _ _ _ c.in-Some-ReadDone.ensures.state c.requires.sound.0,
-      fetched_as c.args.self.now.endpoint c.next_event.new.self c.args.self.now.calls.items c.args.self.now.reads.items c.args.self.now.sinks.items (told_link_lem c.args.self.now.endpoint.link c.next_event.new.self.link c.in-Some-ReadDone.ensures.state).memory c.next_event.ensures.outside c.requires.sound.1,
-    )
+  sound_read c.args.self.now.endpoint.link c.next_event.new.self.link c.args.self.now.calls.items c.args.self.now.ready.items c.args.self.now.used.items _ _ _ c.in-Some-ReadDone.ensures.state c.requires.sound.0,
+  fetched_as c.args.self.now.endpoint c.next_event.new.self c.args.self.now.calls.items c.args.self.now.reads.items c.args.self.now.sinks.items (told_link_lem c.args.self.now.endpoint.link c.next_event.new.self.link c.in-Some-ReadDone.ensures.state).memory c.next_event.ensures.outside c.requires.sound.1,
+)
 
 pub read_done-requires-clause-live : goal.read_done-requires-clause-live
 read_done-requires-clause-live c = (told_link_lem c.args.self.now.endpoint.link c.next_event.new.self.link c.in-Some-ReadDone.ensures.state).live ∙ c.requires.live

@@ -1,10 +1,9 @@
-use Rattle.std.proofs.Common.{◌≡◌, ap, sym, subst, refl, ◌∙◌, set, get_or, List, map, inl}
+use Rattle.std.proofs.Common.{◌≡◌, ap, sym, subst, refl, ◌∙◌, set, get_or, List, map}
 use Rattle.std.proofs.Math.Seq.{map-set_same}
 use Rattle.nr_reduce.specs.ServerReads.{is_read}
 use Rattle.nr_reduce.specs.ServerState.{PendingCall}
-use Rattle.nr_responder.specs.ResponderState.{ResponderSide}
 use Rattle.nr_responder.specs.declared.call.Pending.{Pending}
-use Rattle.nr_responder.specs.Sound.{InBuffer, HasRoom, fetching_of, xids_of}
+use Rattle.nr_responder.specs.Sound.{InBuffer, fetching_of, xids_of}
 use Rattle.nr_responder.specs.Views.{call_view, read_view}
 use Rattle.nr_responder.proofs.DoneReads.{emptied_sound}
 use Rattle.nr_responder.proofs.HeldSinks.{read_has_room}
