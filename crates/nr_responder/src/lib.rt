@@ -21,6 +21,7 @@ mod counting;
 mod fetching;
 mod judging;
 mod laws;
+mod messages;
 mod opening;
 mod payloads;
 mod read_done;

@@ -1,6 +1,6 @@
 //! The payload of a call whose chunks are read (RFC 8166 section 3.4.5).
 
-ghost use Rattle.std.specs.Prelude.{◌≡◌, ℕ, ◌+◌, ◌*◌, ◌^◌, ◌<◌, ◌≤◌, length, drop, take, Some, None, IfErr, IfOk, List, []};
+ghost use Rattle.std.specs.Prelude.{◌≡◌, ℕ, ◌+◌, ◌*◌, ◌^◌, ◌<◌, ◌≤◌, length, drop, take, Some, None, IfErr, IfOk, List, [], Option, option_map, slice_get};
 ghost use Rattle.nr_link.specs.Limits.{send_max};
 ghost use Rattle.nr_endpoint.specs.Calls.{IsStopReason};
 ghost use Rattle.nr_reduce.specs.Chunks.{call_stream, whole};
@@ -8,16 +8,18 @@ ghost use Rattle.nr_reduce.specs.declared.item.Of.TheVariants as of;
 ghost use Rattle.nr_reduce.specs.ServerState.{PendingCall};
 ghost use Rattle.nr_reduce.specs.ServerMessages.{by_payload};
 ghost use Rattle.nr_responder.specs.private.CallsRead.{payload_at_once, verdict_of};
-ghost use Rattle.nr_responder.specs.Sound.{payload_room, InBuffer};
+ghost use Rattle.nr_responder.specs.Sound.{payload_room, payloads_of, InBuffer};
+ghost use Rattle.nr_responder.specs.Answering.{IsPayload};
 ghost use Rattle.nr_responder.specs.Views.{call_view};
 
-use crate::call::{Pending, stream_of};
+use crate::call::{Pending, Ready, stream_of};
 use nr_header::PAYLOAD_MAX;
 use nr_link::constants::{REASON_HEAD, REASON_XID, SEND_MAX};
 use nr_reduce::{Of, call_item, first_bytes, item_position, rebuild_item_into};
 use nr_rpc::call_xid;
 use nr_xdr::{Memory, Octets};
 use std::alloc::Global;
+use std::collections::VecDeque;
 
 /// The room of a payload: for a stream and a chunk, and for a pad.
 const PAYLOAD_ROOM: usize = SEND_MAX as usize + 2 * PAYLOAD_MAX + 3;
@@ -102,4 +104,33 @@ pub(crate) fn payload_at_once(alloc: Global, call: &Pending) -> Result<Option<Oc
         Some(_) => Ok(with_item(room, stream, &[])),
         None => Ok(Some(stream_alone(room, stream))),
     }
+}
+
+/// The payload of the first call that is ready, if it was read with its chunks.
+pub(crate) fn first_payload(ready: &VecDeque<Ready>) -> Option<&Octets>
+    requires { 0 < length ready.now.items }
+    ensures { slice_get (payloads_of ready.now.items) 0 ≡ Some (option_map (λ p. p.now) result) }
+{
+    match ready.front() {
+        Some(first) => first.payload.as_ref(),
+        None => None,
+    }
+}
+
+/// The payload of this call, which is the first that is ready. `Err` if it is neither in its message nor read: no call is so.
+pub(crate) fn payload_of<'a>(
+    ready: &'a VecDeque<Ready>,
+    call: &'a Pending,
+) -> Result<&'a [u8], Memory>
+    requires ready { 0 < length ready.now.items }
+    requires call { InBuffer call.now }
+    ensures { IfOk result (λ s. (p : Option (List ℕ)) × ((slice_get (payloads_of ready.now.items) 0 ≡ Some p) × IsPayload (call_view call.now) p s.now)) }
+{
+    if let Some(payload) = first_payload(ready) {
+        return Ok(payload.as_slice());
+    }
+    if !call.inline {
+        return Err(Memory);
+    }
+    Ok(stream_of(&call.buf, call.len, call.stream_at))
 }

@@ -34,6 +34,7 @@ ghost use Rattle.nr_responder.specs.Steps.{Fed, taken_of};
 use crate::answering::{SENDABLE, chunk_error, queue_answer, version_error};
 use crate::call::{OpenSink, Pending, ReadEntry, Ready, Sent, is_read, place_of, stream_of};
 use crate::judging::{Judged, judge};
+use crate::payloads::{first_payload, payload_of};
 use nr_endpoint::{DrainFault, Endpoint, Event};
 use nr_header::ChunkLists;
 use nr_link::End;
@@ -61,7 +62,7 @@ pub struct ServerEnd {
 }
 
 /// The xid of a call whose stream stands in its message, or the reason for which the link ends.
-fn own_xid(buf: &Octets, len: usize, stream_at: usize) -> Result<u32, u32>
+pub(crate) fn own_xid(buf: &Octets, len: usize, stream_at: usize) -> Result<u32, u32>
     requires len { (FIXED_LEN ≤ len) × (len ≤ length buf.now) }
     requires stream { stream_at ≤ len }
     ensures xid { ReadsXid (take len buf.now) stream_at result }
@@ -79,7 +80,7 @@ fn own_xid(buf: &Octets, len: usize, stream_at: usize) -> Result<u32, u32>
 }
 
 /// Ends a side for a reason that a message gives, or because memory ran out for its Terminate.
-fn stop(endpoint: &mut Endpoint, reason: u32)
+pub(crate) fn stop(endpoint: &mut Endpoint, reason: u32)
     requires live { endpoint.old.link.state.ended ≡ None }
     requires frame { 0 < endpoint.old.link.state.place }
     requires reason { IsStopReason reason }
@@ -94,7 +95,7 @@ fn stop(endpoint: &mut Endpoint, reason: u32)
 }
 
 /// Queues an error message, and answers whether memory sufficed. If it didn't, the side ends.
-fn send_error(endpoint: &mut Endpoint, made: Result<Octets, Memory>) -> bool
+pub(crate) fn send_error(endpoint: &mut Endpoint, made: Result<Octets, Memory>) -> bool
     requires live { endpoint.old.link.state.ended ≡ None }
     ensures sent { result ≡ true → IfOk made (λ m. endpoint.new.link ≡ after_call endpoint.old.link (Send m)) × IsOk made }
     ensures out { result ≡ false → endpoint.new.link ≡ after_call endpoint.old.link OutOfMemory }
@@ -129,32 +130,6 @@ fn post_until(endpoint: &mut Endpoint, used: &mut VecDeque<Octets>, left: usize)
             None => unreachable!(),
         }
     }
-}
-
-/// The payload of the first call that is ready, if it was read with its chunks.
-fn first_payload(ready: &VecDeque<Ready>) -> Option<&Octets>
-    requires { 0 < length ready.now.items }
-    ensures { slice_get (payloads_of ready.now.items) 0 ≡ Some (option_map (λ p. p.now) result) }
-{
-    match ready.front() {
-        Some(first) => first.payload.as_ref(),
-        None => None,
-    }
-}
-
-/// The payload of this call, which is the first that is ready. `Err` if it is neither in its message nor read: no call is so.
-fn payload_of<'a>(ready: &'a VecDeque<Ready>, call: &'a Pending) -> Result<&'a [u8], Memory>
-    requires ready { 0 < length ready.now.items }
-    requires call { InBuffer call.now }
-    ensures { IfOk result (λ s. (p : Option (List ℕ)) × ((slice_get (payloads_of ready.now.items) 0 ≡ Some p) × IsPayload (call_view call.now) p s.now)) }
-{
-    if let Some(payload) = first_payload(ready) {
-        return Ok(payload.as_slice());
-    }
-    if !call.inline {
-        return Err(Memory);
-    }
-    Ok(stream_of(&call.buf, call.len, call.stream_at))
 }
 
 /// How many bytes of a piece are taken: all of them if the side has ended.
@@ -344,146 +319,6 @@ impl ServerEnd {
             ) => self.message(number, buf, len),
             Some(Event::ReadDone) => self.read_done(),
         }
-    }
-
-    /// Ends the side because memory ran out.
-    pub(crate) fn run_out(&mut self)
-        requires sound { IsSound self.old }
-        ensures out { state_of self.new ≡ out (state_of self.old) }
-        ensures sound { IsSound self.new }
-        ensures input { SameInput self.old.endpoint.link self.new.endpoint.link }
-        ensures staging { self.new.endpoint.staging ≡ self.old.endpoint.staging }
-    {
-        let _ = self.endpoint.run_out();
-    }
-
-    /// Ends the side for a reason that a call gives, or because memory ran out for its Terminate.
-    pub(crate) fn end_for(&mut self, reason: u32)
-        requires sound { IsSound self.old }
-        requires live { self.old.endpoint.link.state.ended ≡ None }
-        requires frame { 0 < self.old.endpoint.link.state.place }
-        requires reason { IsStopReason reason }
-        ensures ended { OrOut (state_of self.old) (after_call self.old.endpoint.link (Stop reason)) (state_of self.new) }
-        ensures sound { IsSound self.new }
-        ensures input { SameInput self.old.endpoint.link self.new.endpoint.link }
-        ensures staging { self.new.endpoint.staging ≡ self.old.endpoint.staging }
-    {
-        stop(&mut self.endpoint, reason);
-    }
-
-    /// A message, which may make a call.
-    fn message(&mut self, number: u64, buf: Octets, len: usize)
-        requires sound { IsSoundWith 1 self.old }
-        requires live { self.old.endpoint.link.state.ended ≡ None }
-        requires frame { 0 < self.old.endpoint.link.state.place }
-        requires buf { IsReceive send_max buf }
-        requires len { (FIXED_LEN ≤ len) × (len ≤ send_max) }
-        ensures made { Makes (state_of self.old) number (take len buf) (state_of self.new) }
-        ensures sound { IsSound self.new }
-        ensures input { SameInput self.old.endpoint.link self.new.endpoint.link }
-        ensures staging { self.new.endpoint.staging ≡ self.old.endpoint.staging }
-    {
-        self.endpoint.facts();
-        if !is_read(self.reads.as_slice(), number) {
-            // No read is left from before a call's Send.
-            self.run_out();
-            return;
-        }
-        let message = stream_of(&buf, len, 0);
-        let xid = word_at(message, 0);
-        let version = word_at(message, 4);
-        match judge(message, self.calls.as_slice()) {
-            Judged::Kind => self.end_for(REASON_KIND),
-            Judged::Open => self.end_for(REASON_CALL),
-            Judged::OtherVersion => {
-                let made = version_error(self.alloc, xid, version, self.credits);
-                self.refuse(buf, made);
-            }
-            Judged::BadChunks => {
-                let made = chunk_error(self.alloc, xid, self.credits);
-                self.refuse(buf, made);
-            }
-            Judged::Call { lists, stream_at } => self.begin(number, buf, len, lists, stream_at),
-            Judged::Reads {
-                lists,
-                stream_at,
-                inline,
-            } => self.fetch(Pending {
-                number,
-                xid,
-                lists,
-                buf,
-                len,
-                stream_at,
-                inline,
-                room: None,
-            }),
-        }
-    }
-
-    /// Queues an error message for the message in this receive.
-    fn refuse(&mut self, buf: Octets, made: Result<Octets, Memory>)
-        requires sound { IsSoundWith 1 self.old }
-        requires live { self.old.endpoint.link.state.ended ≡ None }
-        requires buf { IsReceive send_max buf }
-        ensures link { (IfOk made (λ m. self.new.endpoint.link ≡ after_call self.old.endpoint.link (Send m)) × IsOk made) ⊎ (self.new.endpoint.link ≡ after_call self.old.endpoint.link OutOfMemory) }
-        ensures same { (self.new.calls ≡ self.old.calls) × (self.new.ready ≡ self.old.ready) × (self.new.credits ≡ self.old.credits) }
-        ensures reads { (self.new.reads.items ≡ self.old.reads.items) × (self.new.sinks.items ≡ self.old.sinks.items) }
-        ensures staging { self.new.endpoint.staging ≡ self.old.endpoint.staging }
-        ensures sound { IsSound self.new }
-    {
-        self.endpoint.facts();
-        if send_error(&mut self.endpoint, made) {
-            self.used.push_back_reserved(buf);
-        }
-    }
-
-    /// A call whose stream stands in its message: it is ready if that is an RPC call of its xid, else it ends the link.
-    fn begin(&mut self, number: u64, buf: Octets, len: usize, lists: ChunkLists, stream_at: usize)
-        requires sound { IsSoundWith 1 self.old }
-        requires live { self.old.endpoint.link.state.ended ≡ None }
-        requires frame { 0 < self.old.endpoint.link.state.place }
-        requires buf { IsReceive send_max buf }
-        requires len { (FIXED_LEN ≤ len) × (len ≤ send_max) }
-        requires lists { (stream_at ≤ len) × ListsWithin lists }
-        requires fresh { is_read (map read_view self.old.reads.items) number ≡ true }
-        ensures begun { Begins (state_of self.old) (state_of self.new) number (take len buf) lists stream_at }
-        ensures sound { IsSound self.new }
-        ensures input { SameInput self.old.endpoint.link self.new.endpoint.link }
-        ensures staging { self.new.endpoint.staging ≡ self.old.endpoint.staging }
-    {
-        match own_xid(&buf, len, stream_at) {
-            Err(reason) => self.end_for(reason),
-            Ok(xid) => {
-                let call = Pending {
-                    number,
-                    xid,
-                    lists,
-                    buf,
-                    len,
-                    stream_at,
-                    inline: true,
-                    room: None,
-                };
-                self.push(call, None);
-            }
-        }
-    }
-
-    /// A call that is ready, with its payload if that was read. There is room for it.
-    pub(crate) fn push(&mut self, call: Pending, payload: Option<Octets>)
-        requires sound { IsSoundWith 1 self.old }
-        requires call { InBuffer call }
-        requires room { HasRoom self.old.reads.items call }
-        ensures pushed { (self.new.calls.items ≡ self.old.calls.items ++ call ∷ []) × (self.new.ready.items ≡ self.old.ready.items ++ record { xid = call.xid; payload = payload } ∷ []) }
-        ensures same { (self.new.endpoint ≡ self.old.endpoint) × (self.new.credits ≡ self.old.credits) }
-        ensures reads { (self.new.reads.items ≡ self.old.reads.items) × (self.new.sinks.items ≡ self.old.sinks.items) }
-        ensures sound { IsSound self.new }
-    {
-        self.endpoint.facts();
-        let xid = call.xid;
-        self.calls.push_reserved(call);
-        self.ready.push_back_reserved(Ready { xid, payload });
     }
 
     /// Queues the answer to the call at this place, which has this xid and is the first that is ready. An `Err` changes nothing.
