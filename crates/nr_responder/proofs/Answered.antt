@@ -27,7 +27,8 @@ use Rattle.nr_reduce.specs.EndRules.{EndState, live, next_end_state_in, output_f
 use Rattle.nr_reduce.specs.Holds.{Answer}
 use Rattle.nr_reduce.specs.Server.{server_rules, server_end, server_output, server_state_after, execution_output, offer_by, offer_of, answer_of_target, answer_output}
 use Rattle.nr_reduce.specs.Served.{first_ready, next_call, IsExecuted}
-use Rattle.nr_responder.specs.Sound.{plain_payloads}
+use Rattle.nr_responder.specs.Sound.{payloads_of, xids_of}
+use Rattle.nr_responder.specs.declared.call.Ready.{Ready}
 use Rattle.nr_responder.specs.Fetching.{payload_taken}
 use Rattle.nr_responder.specs.Keeping.{IsReadyOf, HasPayload, ArePayloads, Begins, Keeps, KeepsEnd}
 use Rattle.nr_responder.specs.Keeping.Begins.{BeforeHello, AfterHello}
@@ -288,25 +289,52 @@ payload_there_lem opened link run v xid h live_now first =
     let n : NextKept opened link run v xid = next_kept opened link run v xid h live_now first in
     ap (λ (cs : List PendingCall). list_any (has xid) cs) n.calls ∙ ap (λ (x : ℕ). list_any (has x) n.server.calls) n.own ∙ n.ready.pending
 
--- the payload of the first that is ready, if nothing is read
-pub plain_first : (ready : List ℕ) → 0 < length ready → slice_get (plain_payloads ready) 0 ≡ Some None
-plain_first [] some = absurd (omega (arith, some))
-plain_first (x ∷ ready) some = refl
+-- the xids and the payloads of calls that are ready, without the first
+pub xids_dropped : (ready : List Ready) → xids_of (drop 1 ready) ≡ drop 1 (xids_of ready)
+xids_dropped [] = refl
+xids_dropped (q ∷ ready) = refl
 
-pub plain_next : (ready : List ℕ) (xid : ℕ) → slice_get ready 0 ≡ Some xid → slice_get (plain_payloads ready) 0 ≡ Some None
-plain_next [] xid is = absurd cc
-plain_next (x ∷ ready) xid is = refl
+pub payloads_dropped : (ready : List Ready) → payloads_of (drop 1 ready) ≡ drop 1 (payloads_of ready)
+payloads_dropped [] = refl
+payloads_dropped (q ∷ ready) = refl
 
-pub plain_drop : (ready : List ℕ) → plain_payloads (drop 1 ready) ≡ drop 1 (plain_payloads ready)
-plain_drop [] = refl
-plain_drop (x ∷ ready) = refl
+-- a call whose payload isn't read has its stream in its message
+pub inline_is_lem : (opened : LinkParameters) (link : ℕ) (run : List Mark) (v : ResponderSide) (xid : ℕ) → Stands opened link run v → end_of v ≡ None → slice_get v.ready 0 ≡ Some xid →
+    (at : ℕ) (call : PendingCall) → slice_get v.calls at ≡ Some call → call.xid ≡ xid → slice_get v.fetching.payloads 0 ≡ Some None → is_some call.inline ≡ true
+inline_is_lem opened link run v xid h live_now first at call place own first_is =
+    let n : NextKept opened link run v xid = next_kept opened link run v xid h live_now first in
+    let p : Option (List ℕ) = n.payload.first in
+    let f : Found n.call.xid (HasStream n.call p) n.server.calls at call = found n.call.xid (HasStream n.call p) n.server.calls at call n.xids (each_has n.call p n.server.calls n.payload.has) (ap (λ (cs : List PendingCall). slice_get cs at) (sym n.calls) ∙ place) (own ∙ n.own) in
+    let none : p ≡ None = (let two : Some p ≡ Some None = sym n.payload.is_first ∙ first_is in cc) in
+    by n.call call (subst (HasStream n.call p) f.same f.holds) none
+  where
+    by : (r : ReadyCall) (c : PendingCall) {p : Option (List ℕ)} → HasStream r p c → p ≡ None → is_some c.inline ≡ true
+    by r c {p} holds none = ap (λ (o : Option (List ℕ)). is_some o) (subst (λ (q : Option (List ℕ)). HasStream r q c) none holds)
 
 pub none_any : (x : ℕ) (calls : List Pending) → ((k : ℕ) (d : Pending) → k < length calls → (get_or calls k d).xid ≢ x) → list_any (has x) (map call_view calls) ≡ false
 none_any x [] none = refl
 none_any x (c ∷ calls) none =
     ap (λ (b : Bool). b || list_any (has x) (map call_view calls)) (ne_eqb c.xid x (none zero c (omega arith))) ∙ none_any x calls (λ k d lt. none (suc k) d (omega (arith, lt)))
 
+-- the item at a place, whatever is there if none is
+pub same_item : {X : Type 0} (xs : List X) (at : ℕ) (d e : X) → at < length xs → get_or xs at e ≡ get_or xs at d
+same_item [] at d e lt = absurd (omega (arith, lt))
+same_item (x ∷ xs) zero d e lt = refl
+same_item (x ∷ xs) (suc at) d e lt = same_item xs at d e (omega (arith, lt))
+
 pub get_view : (calls : List Pending) (at : ℕ) (c : Pending) → at < length calls → c ≡ get_or calls at c → slice_get (map call_view calls) at ≡ Some (call_view c)
 get_view [] at c lt is = absurd (omega (arith, lt))
 get_view (d ∷ calls) zero c lt is = ap (λ (x : Pending). Some (call_view x)) (sym is)
 get_view (d ∷ calls) (suc at) c lt is = get_view calls at c (omega (arith, lt)) is
+
+-- the payload that was read with the chunks of the call that is next
+pub payload_read_lem : (opened : LinkParameters) (link : ℕ) (run : List Mark) (v : ResponderSide) (xid : ℕ) (payload : List ℕ) → Stands opened link run v → end_of v ≡ None → slice_get v.ready 0 ≡ Some xid → slice_get v.fetching.payloads 0 ≡ Some (Some payload) →
+    IsExecuted opened link run xid payload
+payload_read_lem opened link run v xid payload h live_now first first_is =
+    let n : NextKept opened link run v xid = next_kept opened link run v xid h live_now first in
+    let p : Option (List ℕ) = n.payload.first in
+    let same : p ≡ Some payload = (let two : Some p ≡ Some (Some payload) = sym n.payload.is_first ∙ first_is in cc) in
+    record { call = n.call; is_next = n.is_next; own = n.own; conveyed = by n.server.calls n.call (subst (λ (q : Option (List ℕ)). HasPayload n.server.calls n.call q) same n.payload.has) }
+  where
+    by : (calls : List PendingCall) (r : ReadyCall) → HasPayload calls r (Some payload) → payload ≡ r.payload
+    by calls r has = has

@@ -1,31 +1,31 @@
 -- A message with a call whose stream stands in it: what the code did is what is said of it.
-use Rattle.std.proofs.Common.{◌≡◌, ℕ, List, [], ◌∷◌, ◌++◌, map, drop, Option, Some, None, Result, Ok, Err, refl, ap, subst, ◌∙◌, ◌≤◌, arith, inl, inr}
+use Rattle.std.proofs.Common.{◌≡◌, ℕ, ◌+◌, Bool, true, false, sym, List, [], ◌∷◌, ◌++◌, map, drop, Option, Some, None, Result, Ok, Err, refl, ap, subst, ◌∙◌, ◌≤◌, arith, inl, inr}
 use Rattle.std.specs.Prelude.{◌⊎◌}
 use Rattle.nr_xdr.specs.Fields.{word_at}
 use Rattle.nr_rpc.specs.declared.head.CallHead.{CallHead}
 use Rattle.nr_rpc.specs.declared.head.CallHead.TheVariants as calls
 use Rattle.nr_rpc.specs.Reading.{call_of, xid_of_call, head_xid}
 use Rattle.nr_header.specs.declared.header.ChunkLists.{ChunkLists}
-use Rattle.nr_link.specs.Reasons.{REASON_HEAD, REASON_STAGS, REASON_XID}
+use Rattle.nr_link.specs.Reasons.{REASON_HEAD, REASON_XID}
 use Rattle.std.proofs.lemmas.List.{map-append}
 use Rattle.nr_endpoint.specs.EndpointState.{EndpointState}
 use Rattle.nr_endpoint.specs.LinkState.{LinkSide}
 use Rattle.nr_endpoint.specs.Calls.{after_call, IsStopReason}
 use Rattle.nr_endpoint.specs.Calls.Call.{OutOfMemory, Stop}
-use Rattle.nr_reduce.specs.Holds.{chunk_error}
-use Rattle.nr_reduce.specs.ServerState.{ServerState, next_stag}
+use Rattle.nr_reduce.specs.ServerState.{PendingCall, PendingRead, ServerState, next_stag}
+use Rattle.nr_responder.specs.Fetching.{payload_added}
+use Rattle.nr_reduce.specs.ServerReads.{is_read}
 use Rattle.nr_reduce.specs.ServerMessages.{call_xid}
 use Rattle.nr_responder.specs.ResponderState.{ResponderSide}
-use Rattle.nr_responder.specs.Handling.{on_link, with_ready, OrOut, IsServerOf, MessageTakes, Begins, ReadsXid}
+use Rattle.nr_responder.specs.Handling.{on_link, with_ready, OrOut, IsServerOf, Begins, ReadsXid}
 use Rattle.nr_responder.specs.Handling.Begins.{NoCall, OtherXid, IsReady}
 use Rattle.nr_responder.specs.Handling.ReadsXid.{ReadsNoCall, ReadsOther, ReadsOwn}
-use Rattle.nr_responder.specs.Handling.MessageTakes.{EndsFor, ErrorFor, ReadsFor}
 use Rattle.nr_responder.specs.declared.call.Pending.{Pending}
+use Rattle.nr_responder.specs.declared.call.Ready.{Ready}
+use Rattle.nr_responder.specs.declared.call.ReadEntry.{ReadEntry}
 use Rattle.nr_responder.specs.declared.server_end.ServerEnd.{ServerEnd}
-use Rattle.nr_responder.specs.Sound.{plain_payloads, state_of}
-use Rattle.nr_responder.specs.Views.{call_view, IsOfReads}
-use Rattle.nr_responder.specs.Views.IsOfReads.{Refused, Spent, Reads}
-use Rattle.nr_responder.proofs.Judged.{ends_refusal, chunks_refused}
+use Rattle.nr_responder.specs.Sound.{payloads_of, state_of, xids_of}
+use Rattle.nr_responder.specs.Views.{call_view, read_view, sink_view}
 
 same_xid : (head : CallHead) → call_xid head ≡ head_xid head
 same_xid (calls.Version2 xid prog vers proc cred args_at) = refl
@@ -58,25 +58,34 @@ pub or_out : (v : ResponderSide) (l m : LinkSide) → (m ≡ l) ⊎ (m ≡ after
 or_out v l m (inl is) = inl (ap (λ (x : LinkSide). on_link v x) is)
 or_out v l m (inr is) = inr (ap (λ (x : LinkSide). on_link v x) is)
 
--- a message with a read list takes memory, whatever the server makes of it
-pub reads_take : (k : ServerState) (m : List ℕ) → IsOfReads k m → MessageTakes k m
-reads_take k m (Refused is) = ErrorFor (chunk_error (word_at 0 m) k.credit) (λ place. chunks_refused k m k.credit place is refl)
-reads_take k m (Spent is) = EndsFor REASON_STAGS (λ place. ends_refusal k m REASON_STAGS place is) (omega arith)
-reads_take k m (Reads call is chunk) = ReadsFor (record { call = call; judged = is; chunk = chunk })
+pub fresh_number : (number : ℕ) (reads now : List ReadEntry) (b : Bool) → now ≡ reads → b ≡ is_read (map read_view now) number → b ≡ true → is_read (map read_view reads) number ≡ true
+fresh_number number reads now b same is read = sym (ap (λ (rs : List ReadEntry). is_read (map read_view rs) number) same) ∙ sym is ∙ read
 
--- with a call more, which is ready
-abbrev nothing : Option (List ℕ)
-nothing = None
+-- a Send that comes now has a number of which no read is left
+pub not_fresh : (k : ServerState) (v : ResponderSide) (number : ℕ) → IsServerOf k v → number ≡ k.received.sends + 1 → (b : Bool) → b ≡ is_read v.fetching.reads number → b ≡ false → ⊥
+not_fresh k v number server count b is left = absurd (let two : false ≡ true = sym left ∙ (is ∙ ap (λ (n : ℕ). is_read v.fetching.reads n) count ∙ ap (λ (rs : List PendingRead). is_read rs (k.received.sends + 1)) (sym server.reads) ∙ server.new_read) in cc)
 
-pub pushed_view : (r s : ServerEnd) (call : Pending) → s.endpoint ≡ r.endpoint → s.credits ≡ r.credits → s.calls.items ≡ r.calls.items ++ call ∷ [] → s.ready.items ≡ r.ready.items ++ call.xid ∷ [] →
-    state_of s ≡ with_ready (state_of r) r.endpoint.link (call_view call)
-pushed_view r s call endpoint credits calls ready = λ i. record {
+-- with a call more, which is ready with this payload, or with its stream
+abbrev pub ready_with : ResponderSide → LinkSide → PendingCall → Option (List ℕ) → ResponderSide
+ready_with v l c payload = record { link = l; calls = v.calls ++ c ∷ []; ready = v.ready ++ c.xid ∷ []; credits = v.credits; fetching = payload_added payload v.fetching }
+
+pub pushed_with : (r s : ServerEnd) (call : Pending) (payload : Option (List ℕ)) → s.endpoint ≡ r.endpoint → s.credits ≡ r.credits → s.reads.items ≡ r.reads.items → s.sinks.items ≡ r.sinks.items → s.calls.items ≡ r.calls.items ++ call ∷ [] →
+    s.ready.items ≡ r.ready.items ++ record { xid = call.xid; payload = payload } ∷ [] → state_of s ≡ ready_with (state_of r) r.endpoint.link (call_view call) payload
+pushed_with r s call payload endpoint credits reads sinks calls ready = λ i. record {
   link = ap (λ (e : EndpointState). e.link) endpoint i;
   calls = (ap (λ (cs : List Pending). map call_view cs) calls ∙ map-append call_view r.calls.items (call ∷ [])) i;
-  ready = ready i;
+  ready = (ap xids_of ready ∙ map-append (λ (q : Ready). q.xid) r.ready.items (record { xid = call.xid; payload = payload } ∷ [])) i;
   credits = credits i;
-  fetching = record { reads = []; sinks = []; payloads = (ap plain_payloads ready ∙ map-append (λ (x : ℕ). nothing) r.ready.items (call.xid ∷ [])) i };
+  fetching = record {
+    reads = map read_view (reads i);
+    sinks = map sink_view (sinks i);
+    payloads = (ap payloads_of ready ∙ map-append (λ (q : Ready). q.payload) r.ready.items (record { xid = call.xid; payload = payload } ∷ [])) i;
+  };
 }
+
+pub pushed_view : (r s : ServerEnd) (call : Pending) → s.endpoint ≡ r.endpoint → s.credits ≡ r.credits → s.reads.items ≡ r.reads.items → s.sinks.items ≡ r.sinks.items → s.calls.items ≡ r.calls.items ++ call ∷ [] →
+    s.ready.items ≡ r.ready.items ++ record { xid = call.xid; payload = None } ∷ [] → state_of s ≡ with_ready (state_of r) r.endpoint.link (call_view call)
+pushed_view r s call endpoint credits reads sinks calls ready = pushed_with r s call None endpoint credits reads sinks calls ready
 
 -- ---- The xid of a call, or why the link ends
 
@@ -85,15 +94,15 @@ stops_as message stream_at reason (ReadsNoCall at e is) = inr (inl (let same : r
 stops_as message stream_at reason (ReadsOther head e other is) = inr (inr (inl (let same : reason ≡ REASON_XID = cc in same)))
 stops_as message stream_at reason (ReadsOwn head e own is) = absurd cc
 
-pub ends_as : (v : ResponderSide) (number reason : ℕ) (message : List ℕ) (lists : ChunkLists) (stream_at : ℕ) (m : LinkSide) → ReadsXid message stream_at (Err reason) →
-    (m ≡ after_call v.link (Stop reason)) ⊎ (m ≡ after_call v.link OutOfMemory) → Begins v (on_link v m) number message lists stream_at
-ends_as v number reason message lists stream_at m (ReadsNoCall at e is) link =
+pub ends_as : (v : ResponderSide) (number reason : ℕ) (message : List ℕ) (lists : ChunkLists) (stream_at : ℕ) (w : ResponderSide) → ReadsXid message stream_at (Err reason) →
+    OrOut v (after_call v.link (Stop reason)) w → Begins v w number message lists stream_at
+ends_as v number reason message lists stream_at w (ReadsNoCall at e is) ended =
     let same : reason ≡ REASON_HEAD = cc in
-    NoCall at e (or_out v _ m (subst (λ (x : ℕ). (m ≡ after_call v.link (Stop x)) ⊎ (m ≡ after_call v.link OutOfMemory)) same link))
-ends_as v number reason message lists stream_at m (ReadsOther head e other is) link =
+    NoCall at e (subst (λ (x : ℕ). OrOut v (after_call v.link (Stop x)) w) same ended)
+ends_as v number reason message lists stream_at w (ReadsOther head e other is) ended =
     let same : reason ≡ REASON_XID = cc in
-    OtherXid head e other (or_out v _ m (subst (λ (x : ℕ). (m ≡ after_call v.link (Stop x)) ⊎ (m ≡ after_call v.link OutOfMemory)) same link))
-ends_as v number reason message lists stream_at m (ReadsOwn head e own is) link = absurd cc
+    OtherXid head e other (subst (λ (x : ℕ). OrOut v (after_call v.link (Stop x)) w) same ended)
+ends_as v number reason message lists stream_at w (ReadsOwn head e own is) ended = absurd cc
 
 pub begins_as : (v w : ResponderSide) (number xid : ℕ) (message : List ℕ) (lists : ChunkLists) (stream_at : ℕ) → ReadsXid message stream_at (Ok xid) →
     w ≡ with_ready v v.link (record { number = number; xid = xid; lists = lists; inline = Some (drop stream_at message) }) → Begins v w number message lists stream_at

@@ -49,7 +49,7 @@ unfolding total_at
 zero_total p [] h = refl
 zero_total p (r ∷ read) h = total_more r read p h.0 (zero_total p read h.1)
 
-filter_none : (read : List ReadSegment) (ps : List ℕ) → HasNoBytes read → filter (λ p. not (eqb (total_at p read) 0)) ps ≡ []
+pub filter_none : (read : List ReadSegment) (ps : List ℕ) → HasNoBytes read → filter (λ p. not (eqb (total_at p read) 0)) ps ≡ []
 filter_none read [] h = refl
 filter_none read (p ∷ ps) h =
     ap (λ (b : Bool). cond (not b) (p ∷ filter (λ p. not (eqb (total_at p read) 0)) ps) (filter (λ p. not (eqb (total_at p read) 0)) ps)) (eq-eqb (total_at p read) 0 (zero_total p read h))

@@ -25,7 +25,7 @@ use Rattle.nr_responder.specs.Handling.{Handled, IsServerOf, MessageTakes, Begin
 use Rattle.nr_responder.specs.Handling.Handled.{Stopped, Refused, Ready, Fetched, Completed}
 use Rattle.nr_responder.specs.Handling.MessageTakes.{EndsFor, ErrorFor}
 use Rattle.nr_responder.specs.Handling.Begins.{NoCall, OtherXid, IsReady}
-use Rattle.nr_responder.specs.Handling.Makes.{Ends, RefusesVersion, RefusesChunks, Calls, Fetches, Completes, EndsAtOnce, LeavesReads}
+use Rattle.nr_responder.specs.Handling.Makes.{Ends, RefusesVersion, RefusesChunks, Calls, Fetches, Completes, EndsAtOnce, LeavesReads, NoServer}
 use Rattle.nr_responder.specs.Views.{IsCall}
 use Rattle.nr_responder.specs.Sound.{SameInput}
 use Rattle.nr_responder.proofs.CallsAtOnce.{complete_refused}
@@ -62,8 +62,8 @@ told_next : (l : LinkSide) → l.state.memory.next ≡ (after_call l NextEvent).
 unfolding after_call
 told_next l = refl
 
-told_server_of : (k : ServerState) (v : ResponderSide) → IsServerOf k v → IsServerOf k (told_of v)
-told_server_of k v server = record { calls = server.calls; credits = server.credits; reads = server.reads; new_read = server.new_read; next = server.next ∙ told_next v.link; place = server.place; is_server = server.is_server }
+pub told_server_of : (k : ServerState) (v : ResponderSide) → IsServerOf k v → IsServerOf k (told_of v)
+told_server_of k v server = record { calls = server.calls; credits = server.credits; reads = server.reads; ready = server.ready; new_read = server.new_read; next = server.next ∙ told_next v.link; place = server.place; is_server = server.is_server }
 
 judged_call : (k : ServerState) (message : List ℕ) (lists : ChunkLists) (stream_at : ℕ) → IsCall k message lists stream_at →
     verdict k message ≡ MakesPending (inline_call k (word_at 0 message) lists.write lists.reply (drop stream_at message))
@@ -118,6 +118,7 @@ makes_handled v after number message (EndsAtOnce xid lists inline reason other j
     let c : PendingCall = record { number = number; xid = xid; lists = lists; inline = inline } in
     complete_refused k server.place place reason message c server.is_server count (at_number k message xid number lists inline count (judged k (told_server_of k v server))) none refuses) is
 makes_handled v after number message (LeavesReads takes is) = inr (record { is_out = is; takes = λ k server count. takes k (told_server_of k v server) })
+makes_handled v after number message (NoServer no_server) = inl (λ k server count. absurd (no_server k (told_server_of k v server) count))
 
 -- ---- What is left of the link
 

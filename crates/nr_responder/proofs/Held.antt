@@ -1,19 +1,20 @@
 -- How many bytes a responder keeps.
-use Rattle.std.proofs.Common.{◌≡◌, ℕ, ◌+◌, ◌*◌, List, [], ◌∷◌, length, map, refl, sym, ◌∙◌, arith}
+use Rattle.std.proofs.Common.{◌≡◌, ℕ, ◌+◌, ◌*◌, ◌<◌, ◌≤◌, List, ◌∷◌, length, drop, get_or, ap, ◌∙◌, arith}
 use Rattle.std.specs.Prelude.{sum_by}
-use Rattle.std.specs.Ordering.{nat_cmp}
-use Rattle.std.specs.FinMap.{empty, entries, len-empty, len-entries}
-use Rattle.nr_regions.specs.RegisteredMemory.{Outside, outside_len, outside_held}
+use Rattle.std.proofs.lemmas.List.{drop_all, drop_more}
+use Rattle.std.proofs.lemmas.List.Sums.{sum_by-cons}
 use Rattle.nr_link.specs.Limits.{send_max}
 
-no_entries : (es : List (ℕ × Outside)) → length es ≡ 0 → sum_by outside_len (map (λ e. e.1) es) ≡ 0
-no_entries [] none = refl
-no_entries (e ∷ es) none = absurd (omega (arith, none))
-
-pub outside_none : outside_held empty ≡ 0
-unfolding outside_held
-outside_none = no_entries (entries empty) (sym (len-entries empty) ∙ len-empty nat_cmp Outside)
-
 -- the receives that are lent are counted beside what the side of the link keeps
-pub held_sum : (result kept staging inside outside lent calls : ℕ) → result ≡ kept + send_max * lent → kept ≡ staging + (inside + outside) → outside ≡ 0 → lent ≡ calls → result ≡ staging + inside + send_max * calls
-held_sum result kept staging inside outside lent calls is all none same = omega (arith, is, all, none, same)
+pub held_sum : (result kept staging inside outside lent calls rooms : ℕ) → result ≡ kept + send_max * lent + rooms → kept ≡ staging + (inside + outside) → outside ≡ 0 → lent ≡ calls → result ≡ staging + inside + send_max * calls + rooms
+held_sum result kept staging inside outside lent calls rooms is all none same = omega (arith, is, all, none, same)
+
+-- one item more of a sum
+pub sum_step : {X : Type 0} (f : X → ℕ) (xs : List X) (i total all : ℕ) (d : X) → i < length xs → total + sum_by f (drop i xs) ≡ all → total + f (get_or xs i d) + sum_by f (drop (i + 1) xs) ≡ all
+sum_step f xs i total all d lt so_far =
+    let left : drop i xs ≡ get_or xs i d ∷ drop (i + 1) xs = drop_more xs i d lt in
+    let sum : sum_by f (drop i xs) ≡ f (get_or xs i d) + sum_by f (drop (i + 1) xs) = ap (λ ys. sum_by f ys) left ∙ sum_by-cons f (get_or xs i d) (drop (i + 1) xs) in
+    omega (arith, so_far, sum)
+
+pub sum_over : {X : Type 0} (f : X → ℕ) (xs : List X) (i total all : ℕ) → length xs ≤ i → total + sum_by f (drop i xs) ≡ all → total ≡ all
+sum_over f xs i total all le so_far = (let none : sum_by f (drop i xs) ≡ 0 = ap (λ ys. sum_by f ys) (drop_all i xs le) in omega (arith, so_far, none))

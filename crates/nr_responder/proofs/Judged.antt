@@ -1,6 +1,6 @@
 -- The verdict on a message, one question after the other.
 use Rattle.std.proofs.Common.{◌&&◌, ◌≡◌, ◌≢◌, ℕ, ◌+◌, ◌≤◌, Bool, true, false, not, ◌||◌, eqb, cond, List, [], ◌∷◌, length, drop, map, Option, Some, None, Result, Ok, Err, refl, sym, ap, subst, ◌∙◌, arith, inl, inr}
-use Rattle.std.specs.Prelude.{nat_lt, ◌⊎◌}
+use Rattle.std.specs.Prelude.{◌⊎◌}
 use Rattle.std.specs.List.{list_any, filter}
 use Rattle.std.proofs.lemmas.Bool.{ne_eqb, eq-eqb, le-ltb}
 use Rattle.nr_header.specs.Constants.{FIXED_LEN}
@@ -12,11 +12,12 @@ use Rattle.nr_header.specs.declared.header.ChunkLists.{ChunkLists}
 use Rattle.nr_header.specs.declared.header.Body.{Body}
 use Rattle.nr_header.specs.declared.header.Body.TheVariants.{Msg, Nomsg}
 use Rattle.nr_header.specs.declared.header.Header.{Header}
-use Rattle.nr_header.specs.WithinLimits.{CanRead, StreamWithin, stream_after}
+use Rattle.nr_header.specs.WithinLimits.{CanRead, ListsWithin, StreamWithin, read_total, stream_after}
+use Rattle.nr_header.specs.Constants.{PAYLOAD_MAX}
+use Rattle.std.proofs.lemmas.List.{drop_all}
 use Rattle.nr_header.specs.Reading.{header_of, header_by, body_by, error_by}
 use Rattle.nr_xdr.specs.Fields.{word_at}
 use Rattle.nr_reduce.specs.Chunks.{is_read_chunk_of_item, item_position, total_at, positions}
-use Rattle.nr_reduce.specs.Limits.{numbers_end}
 use Rattle.nr_reduce.specs.ServerState.{PendingCall, ServerState, is_pending, next_stag}
 use Rattle.nr_reduce.specs.ServerReads.{chunks_of, is_read}
 use Rattle.nr_reduce.specs.ServerMessages.{Verdict, verdict, by_header, by_body, by_stream, by_need, has_position, no_stream}
@@ -32,8 +33,7 @@ use Rattle.nr_responder.proofs.ServerSteps.{inline_message_lem, pending_effect}
 use Rattle.nr_responder.specs.declared.call.Pending.{Pending}
 use Rattle.nr_responder.specs.declared.judging.Judged.{Judged}
 use Rattle.nr_responder.specs.declared.judging.Judged.TheVariants as judged
-use Rattle.nr_responder.specs.Views.{call_view, IsOfReads, HasStream, Judges, JudgesBody, brings_stream, fits_stream, reads_if}
-use Rattle.nr_responder.specs.Views.IsOfReads.{Refused, Spent, Reads}
+use Rattle.nr_responder.specs.Views.{call_view, call_with, inline_of, HasStream, Judges, JudgesBody, brings_stream, fits_stream, reads_if}
 
 pub verdict_version : (k : ServerState) (m : List ℕ) → word_at 4 m ≢ 1 → verdict k m ≡ OtherVersion
 unfolding verdict
@@ -94,39 +94,6 @@ call_stream_lem k lists xid stream none few =
 pub header_verdict : (k : ServerState) (m : List ℕ) → word_at 4 m ≡ 1 → word_at 12 m ≢ 3 → word_at 12 m ≢ 4 → is_pending k (word_at 0 m) ≡ false → verdict k m ≡ by_header k m (header_of m)
 header_verdict k m is done error new = verdict_kinds k m is done error ∙ ap (λ (b : Bool). cond b (EndsLink 20) (by_header k m (header_of m))) new
 
--- a message with a read list is refused, or makes a call with a read chunk pending
-need_of_reads : (k : ServerState) (m : List ℕ) (c : PendingCall) → c.lists.read ≢ [] → verdict k m ≡ by_need k c → IsOfReads k m
-need_of_reads k m c chunk is = by (nat_lt numbers_end (next_stag k + length (chunks_of c.lists))) refl
-  where
-    by : (b : Bool) → nat_lt numbers_end (next_stag k + length (chunks_of c.lists)) ≡ b → IsOfReads k m
-    by true e = Spent (is ∙ ap (λ (b : Bool). cond b (EndsLink 30) (MakesPending c)) e)
-    by false e = Reads c (is ∙ ap (λ (b : Bool). cond b (EndsLink 30) (MakesPending c)) e) chunk
-
-stream_of_reads : (k : ServerState) (m : List ℕ) (lists : ChunkLists) (xid : ℕ) (o : Option (List ℕ)) → lists.read ≢ [] → verdict k m ≡ by_stream k lists xid o → IsOfReads k m
-stream_of_reads k m lists xid None chunk is = need_of_reads k m (record { number = k.received.sends + 1; xid = xid; lists = lists; inline = None }) chunk is
-stream_of_reads k m lists xid (Some stream) chunk is = by (is_read_chunk_of_item stream lists.read) refl
-  where
-    c : PendingCall
-    c = record { number = k.received.sends + 1; xid = xid; lists = lists; inline = Some stream }
-
-    by : (b : Bool) → is_read_chunk_of_item stream lists.read ≡ b → IsOfReads k m
-    by true e = need_of_reads k m c chunk (is ∙ ap (λ (b : Bool). cond b (by_need k c) BadChunks) e)
-    by false e = Refused (is ∙ ap (λ (b : Bool). cond b (by_need k c) BadChunks) e)
-
-reads_judged : (k : ServerState) (m : List ℕ) (h : Header) → word_at 4 m ≡ 1 → word_at 12 m ≢ 3 → word_at 12 m ≢ 4 → is_pending k (word_at 0 m) ≡ false → next_stag k ≤ 4294967296 → header_of m ≡ Ok h → JudgesBody m h.body judged.Reads → IsOfReads k m
-reads_judged k m h is done error new few read b = by b.1.1
-  where
-    verdict_is : verdict k m ≡ by_body k h.xid m h.body
-    verdict_is = header_verdict k m is done error new ∙ ap (by_header k m) read
-
-    nomsg : (has : Bool) → verdict k m ≡ cond has (by_stream k b.0 h.xid (no_stream b.0.read)) BadChunks → IsOfReads k m
-    nomsg true e = stream_of_reads k m b.0 h.xid (no_stream b.0.read) b.1.0 e
-    nomsg false e = Refused e
-
-    by : ((stream_at : ℕ) × (h.body ≡ Msg b.0 stream_at)) ⊎ (h.body ≡ Nomsg b.0) → IsOfReads k m
-    by (inl msg) = stream_of_reads k m b.0 h.xid (Some (drop msg.0 m)) b.1.0 (verdict_is ∙ ap (by_body k h.xid m) msg.1)
-    by (inr is) = nomsg (has_position b.0.read) (verdict_is ∙ ap (by_body k h.xid m) is)
-
 -- what is judged of a body is judged of its message
 pub body_judged : (k : ServerState) (m : List ℕ) (h : Header) (j : Judged) → FIXED_LEN ≤ length m → word_at 4 m ≡ 1 → word_at 12 m ≢ 3 → word_at 12 m ≢ 4 → is_pending k (word_at 0 m) ≡ false →
     next_stag k ≤ 4294967296 → header_of m ≡ Ok h → JudgesBody m h.body j → Judges k m j
@@ -147,7 +114,11 @@ body_judged k m h j long is done error new few read judges = by j judges
           verdict_is ∙ ap (by_body k h.xid m) b.0 ∙ call_stream_lem k lists h.xid (drop stream_at m) b.1 few
           ∙ ap (λ (x : ℕ). MakesPending (record { number = k.received.sends + 1; xid = x; lists = lists; inline = Some (drop stream_at m) })) (header_xid m h long read);
     }
-    by judged.Reads b = reads_judged k m h is done error new few read b
+    by (judged.Reads lists stream_at inline) b = record {
+      some = b.0;
+      own = new;
+      needs = verdict_is ∙ b.1.0 k h.xid ∙ ap (λ (x : ℕ). by_need k (call_with (k.received.sends + 1) x lists (inline_of inline (drop stream_at m)))) (header_xid m h long read);
+    }
 
 pub verdict_open : (k : ServerState) (m : List ℕ) → word_at 4 m ≡ 1 → word_at 12 m ≢ 3 → word_at 12 m ≢ 4 → is_pending k (word_at 0 m) ≡ true → verdict k m ≡ EndsLink 20
 verdict_open k m is done error new = verdict_kinds k m is done error ∙ ap (λ (b : Bool). cond b (EndsLink 20) (by_header k m (header_of m))) new
@@ -201,7 +172,17 @@ has_stream m body judged.OtherVersion b within can = tt
 has_stream m body judged.BadChunks b within can = tt
 has_stream m body (judged.Call lists stream_at) b within can =
     (subst (λ (x : Body). StreamWithin x (length m)) b.0 within, (subst (λ (x : Body). CanRead x (stream_after x m)) b.0 can).0)
-has_stream m body judged.Reads b within can = tt
+has_stream m body (judged.Reads lists stream_at inline) b within can = by b.1.1
+  where
+    by : (body ≡ Msg lists stream_at) ⊎ ((body ≡ Nomsg lists) × (stream_at ≡ length m)) → (stream_at ≤ length m) × (ListsWithin lists × (read_total lists.read ≤ PAYLOAD_MAX))
+    by (inl msg) =
+        let c : CanRead (Msg lists stream_at) (stream_after (Msg lists stream_at) m) = subst (λ (x : Body). CanRead x (stream_after x m)) msg can in
+        let all = c.2 in
+        (subst (λ (x : Body). StreamWithin x (length m)) msg within, (c.0, omega (arith, all)))
+    by (inr nomsg) =
+        let c : CanRead (Nomsg lists) (stream_after (Nomsg lists) m) = subst (λ (x : Body). CanRead x (stream_after x m)) nomsg.0 can in
+        let at = nomsg.1 in
+        (omega (arith, at), (c.1, c.2))
 
 -- ---- A read list that is refused
 
@@ -217,14 +198,30 @@ refused_nomsg k lists xid is = by (has_position lists.read) is
     by false e = refl
 
 -- a body by RDMA_MSG with a read list
-pub msg_judged : (message : List ℕ) (lists : ChunkLists) (stream_at : ℕ) (b : Bool) → lists.read ≢ [] → b ≡ is_read_chunk_of_item (drop stream_at message) lists.read → JudgesBody message (Msg lists stream_at) (reads_if b)
-msg_judged message lists stream_at true some is = (lists, (some, inl (stream_at, refl)))
+pub msg_judged : (message : List ℕ) (lists : ChunkLists) (stream_at : ℕ) (b : Bool) → lists.read ≢ [] → b ≡ is_read_chunk_of_item (drop stream_at message) lists.read → JudgesBody message (Msg lists stream_at) (reads_if b lists stream_at true)
+msg_judged message lists stream_at true some is =
+    (some, (λ k xid. ap (λ (b : Bool). cond b (by_need k (call_with (k.received.sends + 1) xid lists (Some (drop stream_at message)))) BadChunks) (sym is), inl refl))
 msg_judged message lists stream_at false some is = λ k xid. refused_stream k lists xid (Some (drop stream_at message)) (sym is)
 
 no_position : (read : List ReadSegment) → brings_stream read ≡ true → read ≢ []
 no_position read is none = (let two : false ≡ true = ap brings_stream (sym none) ∙ is in absurd cc)
 
--- and by RDMA_NOMSG
-pub nomsg_judged : (message : List ℕ) (lists : ChunkLists) (b : Bool) → b ≡ brings_stream lists.read → JudgesBody message (Nomsg lists) (reads_if b)
-nomsg_judged message lists true is = (lists, (no_position lists.read (sym is), inr refl))
-nomsg_judged message lists false is = λ k xid. refused_nomsg k lists xid (sym is)
+-- and by RDMA_NOMSG: a stream without bytes isn't read
+nothing_after : (message : List ℕ) (b : Bool) → inline_of b (drop (length message) message) ≡ cond b (Some []) None
+nothing_after message true = ap (λ (xs : List ℕ). Some xs) (drop_all (length message) message (omega arith))
+nothing_after message false = refl
+
+brought : (k : ServerState) (lists : ChunkLists) (xid : ℕ) (o : Option (List ℕ)) → fits_stream o lists.read ≡ true → by_stream k lists xid o ≡ by_need k (call_with (k.received.sends + 1) xid lists o)
+brought k lists xid None is = refl
+brought k lists xid (Some stream) is = ap (λ (b : Bool). cond b (by_need k (call_with (k.received.sends + 1) xid lists (Some stream))) BadChunks) is
+
+brings : (k : ServerState) (lists : ChunkLists) (xid : ℕ) → brings_stream lists.read ≡ true → cond (has_position lists.read) (by_stream k lists xid (no_stream lists.read)) BadChunks ≡ by_need k (call_with (k.received.sends + 1) xid lists (no_stream lists.read))
+brings k lists xid is = by (has_position lists.read) is
+  where
+    by : (b : Bool) → (b && fits_stream (no_stream lists.read) lists.read) ≡ true → cond b (by_stream k lists xid (no_stream lists.read)) BadChunks ≡ by_need k (call_with (k.received.sends + 1) xid lists (no_stream lists.read))
+    by true e = brought k lists xid (no_stream lists.read) e
+    by false e = absurd cc
+
+pub nomsg_judged : (message : List ℕ) (lists : ChunkLists) (b : Bool) (total : ℕ) → b ≡ brings_stream lists.read → total ≡ total_at 0 lists.read → JudgesBody message (Nomsg lists) (reads_if b lists (length message) (eqb total 0))
+nomsg_judged message lists true total is empty = (no_position lists.read (sym is), (λ k xid. brings k lists xid (sym is) ∙ ap (λ (o : Option (List ℕ)). by_need k (call_with (k.received.sends + 1) xid lists o)) (sym (nothing_after message (eqb total 0) ∙ ap (λ (n : ℕ). cond (eqb n 0) (Some []) None) empty)), inr (refl, refl)))
+nomsg_judged message lists false total is empty = λ k xid. refused_nomsg k lists xid (sym is)

@@ -8,6 +8,8 @@ use Rattle.nr_reduce.specs.declared.mark.LinkParameters.{LinkParameters}
 use Rattle.nr_reduce.specs.EndRules.{EndState}
 use Rattle.nr_reduce.specs.ServerState.{ReadyCall, ServerState}
 use Rattle.nr_reduce.specs.Served.{first_ready, next_call}
+use Rattle.nr_responder.specs.declared.call.Ready.{Ready}
+use Rattle.nr_responder.specs.Sound.{xids_of}
 use Rattle.nr_responder.specs.ResponderState.{ResponderSide, end_of}
 use Rattle.nr_responder.specs.Keeping.{KeepsEnd}
 use Rattle.nr_responder.specs.Standing.{RepresentsServer, Stands}
@@ -81,10 +83,10 @@ first_xid_lem opened link run v x h live first =
 pub first_none_lem : (opened : LinkParameters) (link : ℕ) (run : List Mark) (v : ResponderSide) → Stands opened link run v → end_of v ≡ None → slice_get v.ready 0 ≡ None → next_call opened link run ≡ None
 first_none_lem opened link run v h live none = (next_live opened link run v (represents opened link run v live h) live).none none
 
-pub first_get : (xs : List ℕ) (x : ℕ) → 0 < length xs → x ≡ get_or xs 0 x → slice_get xs 0 ≡ Some x
-first_get [] x some is = absurd (omega (arith, some))
-first_get (y ∷ xs) x some is = ap (λ (z : ℕ). Some z) (sym is)
+pub first_get : (xs : List Ready) (q : Ready) → 0 < length xs → q ≡ get_or xs 0 q → slice_get (xids_of xs) 0 ≡ Some q.xid
+first_get [] q some is = absurd (omega (arith, some))
+first_get (r ∷ xs) q some is = ap (λ (z : Ready). Some z.xid) (sym is)
 
-pub none_get : (xs : List ℕ) → length xs ≤ 0 → slice_get xs 0 ≡ None
+pub none_get : (xs : List Ready) → length xs ≤ 0 → slice_get (xids_of xs) 0 ≡ None
 none_get [] few = refl
-none_get (y ∷ xs) few = absurd (omega (arith, few))
+none_get (q ∷ xs) few = absurd (omega (arith, few))

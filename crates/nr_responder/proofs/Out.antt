@@ -191,7 +191,7 @@ out_by_message v after piece m number invalidated message rest live_now p step l
     needs opened end so_far keeps same (WholeFrame frame w frame_is long link) =
         let both = not_ended_lem opened end so_far v live_now keeps in
         let h : Keeps opened end.state so_far v = both.1 in
-        let server : IsServerOf end.state (on_link v m) = record { calls = sym h.calls; credits = sym h.credits; reads = sym h.reads; new_read = new_is_read end.state h.server.reads_before; next = sym h.link.next ∙ sym (step_next v.link m piece (WholeFrame frame w frame_is long link)); place = v.link.state.place; is_server = h.server } in
+        let server : IsServerOf end.state (on_link v m) = record { calls = sym h.calls; credits = sym h.credits; reads = sym h.reads; ready = h.ready; new_read = new_is_read end.state h.server.reads_before; next = sym h.link.next ∙ sym (step_next v.link m piece (WholeFrame frame w frame_is long link)); place = v.link.state.place; is_server = h.server } in
         let lives_on : (with_frame v.link.state v.link.awaited frame).ended ≡ None = sym (ap (λ (l : LinkSide). l.state.ended) link) ∙ lives in
         let told_on : (with_frame v.link.state v.link.awaited frame).receive_queue.deliveries ≡ MessageReceived number invalidated message ∷ rest = sym (ap (λ (l : LinkSide). l.state.receive_queue.deliveries) link) ∙ one in
         let found = frame_message opened end.state so_far v frame number invalidated message rest h long lives_on told_on (ran.takes end.state server) in (

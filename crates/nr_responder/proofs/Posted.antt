@@ -25,31 +25,34 @@ lent_left l m n is = ap (λ (x : LinkSide). x.state.receive_queue.lent) is
 
 -- ---- The input stays, or is dropped
 
-if_input : (b : Bool) (s t : LinkState) → t.receive_queue ≡ s.receive_queue → t.place ≡ s.place → t.send_queue.send_ends ≡ s.send_queue.send_ends → ((cond b s t).receive_queue ≡ s.receive_queue) × (((cond b s t).place ≡ s.place) × ((cond b s t).send_queue.send_ends ≡ s.send_queue.send_ends))
-if_input true s t queue place ends = (refl, (refl, refl))
-if_input false s t queue place ends = (queue, (place, ends))
+if_input : (b : Bool) (s t : LinkState) → t.receive_queue ≡ s.receive_queue → t.place ≡ s.place → t.send_queue.send_ends ≡ s.send_queue.send_ends → t.memory ≡ s.memory → ((cond b s t).receive_queue ≡ s.receive_queue) × (((cond b s t).place ≡ s.place) × (((cond b s t).send_queue.send_ends ≡ s.send_queue.send_ends) × ((cond b s t).memory ≡ s.memory)))
+if_input true s t queue place ends memory = (refl, (refl, (refl, refl)))
+if_input false s t queue place ends memory = (queue, (place, (ends, memory)))
 
 -- the side stops, or runs out of memory
 pub record StaysAs (l m : LinkSide) : Type 0 where
   pub input : SameInput l m
   pub ends_are : m.state.send_queue.send_ends ≡ l.state.send_queue.send_ends
+  pub memory : m.state.memory ≡ l.state.memory
 
 pub stopped_as : (l m : LinkSide) (reason : ℕ) → m ≡ after_call l (Stop reason) → StaysAs l m
 unfolding after_call with_end
 stopped_as l m reason is =
-    let both = if_input (has_ended l.state) l.state (with_end_of (ends.Bad l.state.last reason) l.state) refl refl refl in
+    let both = if_input (has_ended l.state) l.state (with_end_of (ends.Bad l.state.last reason) l.state) refl refl refl refl in
     record {
       input = record { queue = ap (λ (x : LinkSide). x.state.receive_queue) is ∙ both.0; place = ap (λ (x : LinkSide). x.state.place) is ∙ both.1.0; awaited = ap (λ (x : LinkSide). x.awaited) is; rest = inr (ap (λ (x : LinkSide). x.rest) is) };
-      ends_are = ap (λ (x : LinkSide). x.state.send_queue.send_ends) is ∙ both.1.1;
+      ends_are = ap (λ (x : LinkSide). x.state.send_queue.send_ends) is ∙ both.1.1.0;
+      memory = ap (λ (x : LinkSide). x.state.memory) is ∙ both.1.1.1;
     }
 
 pub memory_as : (l m : LinkSide) → m ≡ after_call l OutOfMemory → StaysAs l m
 unfolding after_call
 memory_as l m is =
-    let both = if_input (has_ended l.state) l.state (record l.state { ended = Some ends.Memory }) refl refl refl in
+    let both = if_input (has_ended l.state) l.state (record l.state { ended = Some ends.Memory }) refl refl refl refl in
     record {
       input = record { queue = ap (λ (x : LinkSide). x.state.receive_queue) is ∙ both.0; place = ap (λ (x : LinkSide). x.state.place) is ∙ both.1.0; awaited = ap (λ (x : LinkSide). x.awaited) is; rest = inr (ap (λ (x : LinkSide). x.rest) is) };
-      ends_are = ap (λ (x : LinkSide). x.state.send_queue.send_ends) is ∙ both.1.1;
+      ends_are = ap (λ (x : LinkSide). x.state.send_queue.send_ends) is ∙ both.1.1.0;
+      memory = ap (λ (x : LinkSide). x.state.memory) is ∙ both.1.1.1;
     }
 
 pub ended_as : (l m : LinkSide) (reason : ℕ) → (m ≡ after_call l (Stop reason)) ⊎ (m ≡ after_call l OutOfMemory) → StaysAs l m
@@ -76,6 +79,10 @@ sent_input l m message live is =
     let now = sent_link l m message live is in
     record { queue = ap (λ (x : LinkSide). x.state.receive_queue) now; place = ap (λ (x : LinkSide). x.state.place) now; awaited = ap (λ (x : LinkSide). x.awaited) now; rest = inl (ap (λ (x : LinkSide). x.rest) now) }
 
+pub sent_memory : {E : Type 0} (made : Result (List ℕ) E) (l m : LinkSide) → l.state.ended ≡ None → IfOk made (λ x. m ≡ after_call l (Send x)) × IsOk made → m.state.memory ≡ l.state.memory
+sent_memory (Ok x) l m live sent = ap (λ (y : LinkSide). y.state.memory) (sent_link l m x live sent.0)
+sent_memory (Err e) l m live sent = absurd (let wrong : false ≡ true = sent.1 in cc)
+
 -- ---- An event is delivered
 
 pub record ToldLink (l m : LinkSide) : Type 0 where
@@ -83,6 +90,7 @@ pub record ToldLink (l m : LinkSide) : Type 0 where
   pub place : m.state.place ≡ l.state.place
   pub queue : m.state.receive_queue ≡ delivered l.state.receive_queue
   pub ends_are : m.state.send_queue.send_ends ≡ l.state.send_queue.send_ends
+  pub memory : m.state.memory ≡ l.state.memory
   pub awaited : m.awaited ≡ l.awaited
   pub rest : m.rest ≡ l.rest
 
@@ -93,6 +101,7 @@ told_link_lem l m is = record {
   place = ap (λ (x : LinkSide). x.state.place) is;
   queue = ap (λ (x : LinkSide). x.state.receive_queue) is;
   ends_are = ap (λ (x : LinkSide). x.state.send_queue.send_ends) is;
+  memory = ap (λ (x : LinkSide). x.state.memory) is;
   awaited = ap (λ (x : LinkSide). x.awaited) is;
   rest = ap (λ (x : LinkSide). x.rest) is;
 }

@@ -1,5 +1,5 @@
 -- A list without the item at a place.
-use Rattle.std.proofs.Common.{◌≡◌, ℕ, zero, suc, ◌+◌, ◌<◌, List, [], ◌∷◌, ◌++◌, length, get_or, All, refl, ap, arith}
+use Rattle.std.proofs.Common.{◌≡◌, ℕ, zero, suc, ◌+◌, ◌<◌, List, [], ◌∷◌, ◌++◌, length, get_or, All, refl, sym, subst, ap, arith}
 use Rattle.std.specs.Prelude.{map}
 use Rattle.std.specs.List.{remove}
 
@@ -35,3 +35,6 @@ all_pushed_lem P (y ∷ xs) x all is = by (all_pushed_lem P xs x (λ k d lt. all
     by : All P (xs ++ x ∷ []) → (k : ℕ) (d : _) → k < length (y ∷ (xs ++ x ∷ [])) → P (get_or (y ∷ (xs ++ x ∷ [])) k d)
     by rest zero d lt = all zero d (omega arith)
     by rest (suc k) d lt = rest k d (omega (arith, lt))
+
+pub all_pushed_as : {X : Type 0} (P : X → Type 0) (xs ys : List X) (x : X) → All P xs → P x → ys ≡ xs ++ x ∷ [] → All P ys
+all_pushed_as P xs ys x all is same = subst (λ zs. All P zs) (sym same) (all_pushed_lem P xs x all is)

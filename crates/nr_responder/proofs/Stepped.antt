@@ -33,11 +33,13 @@ use Rattle.nr_responder.proofs.Fed.StepOf.{Part, WholeFrame}
 use Rattle.nr_endpoint.specs.FedBytes.{fed_bytes}
 use Rattle.nr_endpoint.proofs.FedBytes.{fed_one_within}
 use Rattle.nr_responder.specs.declared.call.Pending.{Pending}
+use Rattle.nr_responder.specs.declared.call.Ready.{Ready}
 use Rattle.nr_responder.specs.Sound.{AreSound}
-use Rattle.nr_responder.proofs.Handled.{Goes, RanOutOf, makes_handled, step_counts, same_fed}
+use Rattle.nr_responder.proofs.Handled.{Goes, RanOutOf, makes_handled, step_counts, same_fed, told_server_of}
 use Rattle.nr_responder.proofs.Posted.{memory_as}
 use Rattle.nr_responder.proofs.Sounds.{sound_step, sound_ended}
-use Rattle.nr_responder.specs.private.ReadsDone.{ReadHandled, ReadRanOut}
+use Rattle.nr_responder.specs.private.ReadsDone.{HandlesRead, ReadHandled, ReadRanOut}
+use Rattle.nr_responder.proofs.DoneReads.{impossible_none}
 use Rattle.nr_responder.proofs.Responses.{IsSend, IsResponse, Lives, frame_is, none_expected}
 use Rattle.nr_responder.proofs.ReadsTaken.{response_deliveries}
 use Rattle.nr_responder.proofs.Out.{out_by_link, out_by_message, out_by_read}
@@ -58,7 +60,7 @@ step_failed v piece m ends.Memory live p fed out ended =
     out_by_link v (on_link v m) piece live p (ap (λ (l : LinkSide). on_link v l) o.0) o.1.0 o.1.1
 
 -- what a side keeps of its own then
-pub failed_sound : (l m : LinkSide) (piece : List ℕ) (end : End) (calls : List Pending) (ready : List ℕ) (used : List (List ℕ)) (a b c : ℕ) → l.state.ended ≡ None → IsPartial l.awaited l.rest → (end ≢ ends.Memory → m ≡ after_call l (FeedOne piece)) →
+pub failed_sound : (l m : LinkSide) (piece : List ℕ) (end : End) (calls : List Pending) (ready : List Ready) (used : List (List ℕ)) (a b c : ℕ) → l.state.ended ≡ None → IsPartial l.awaited l.rest → (end ≢ ends.Memory → m ≡ after_call l (FeedOne piece)) →
     (end ≡ ends.Memory → m ≡ after_call l OutOfMemory) → AreSound 0 l.state calls ready used a b c → AreSound 0 m.state calls ready used a b c
 failed_sound l m piece end calls ready used a b c live p fed out h = by end fed out
   where
@@ -221,9 +223,15 @@ step_done_by v after piece m live p step lives taken = by m.state.receive_queue.
         let out = out_by_read v after piece m x rest live p step lives one reads ran in
         subst (λ (o : Option End). Fed v (take (taken_at o (length piece) n) piece) after) (sym out.ended) (subst (λ (bytes : List ℕ). Fed v bytes after) (sym (take_all (length piece) piece (omega arith))) (RanOut 0 out))
 
+    which : (x : PendingRead) (rest : List PendingRead) → m.state.receive_queue.deliveries ≡ ReadDone ∷ [] → v.fetching.reads ≡ x ∷ rest → HandlesRead (on_link v (after_call m NextEvent)) x rest after →
+        Fed v (take (taken_at (end_of after) (length piece) n) piece) after
+    which x rest one reads (inl impossible) =
+        went_on v after piece n (end_of after) refl (goes (λ k server. absurd (impossible_none k (on_link v (after_call m NextEvent)) x rest (told_server_of k (on_link v m) server) reads impossible)))
+    which x rest one reads (inr handled) = done x rest one reads handled
+
     read : m.state.receive_queue.deliveries ≡ ReadDone ∷ [] → (reads : List PendingRead) → v.fetching.reads ≡ reads → Fed v (take (taken_at (end_of after) (length piece) n) piece) after
     read one [] none = went_on v after piece n (end_of after) refl (never (ReadDone ∷ []) one (not_read v.fetching.reads none))
-    read one (x ∷ rest) is = done x rest one is (taken.read one x rest is)
+    read one (x ∷ rest) is = which x rest one is (taken.read one x rest is)
 
     by : (deliveries : List DeliveredEvent) → m.state.receive_queue.deliveries ≡ deliveries → Fed v (take (taken_at (end_of after) (length piece) n) piece) after
     by [] none =

@@ -53,4 +53,6 @@ side_code =
     (λ v. (v.link, (v.calls, (v.ready, (v.credits, v.fetching))))) (λ p. record { link = p.0; calls = p.1.0; ready = p.1.1.0; credits = p.1.1.1.0; fetching = p.1.1.1.1 }) (λ _. refl)
 
 abbrev pub responder_code : Coded ResponderState
-responder_code = code_by (ResponderSide × List ℕ) (coded× side_code (coded_list coded_ℕ)) (λ v. (v.side, v.staging)) (λ p. record { side = p.0; staging = p.1 }) (λ _. refl)
+responder_code =
+    code_by (ResponderSide × (List ℕ × ℕ)) (coded× side_code (coded× (coded_list coded_ℕ) coded_ℕ)) (λ v. (v.side, (v.staging, v.rooms)))
+    (λ p. record { side = p.0; staging = p.1.0; rooms = p.1.1 }) (λ _. refl)

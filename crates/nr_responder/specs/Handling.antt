@@ -1,11 +1,12 @@
 -- What a responder makes of a message that its side of the link delivered.
-use Rattle.std.specs.Prelude.{◌≡◌, ◌≢◌, ℕ, ◌+◌, ◌≤◌, List, [], ◌∷◌, ◌++◌, drop, Option, None, Some, Result, Ok, Err, ◌⊎◌, true, false}
+use Rattle.std.specs.Prelude.{◌≡◌, ◌≢◌, ℕ, ◌+◌, ◌<◌, ◌≤◌, length, map, List, [], ◌∷◌, ◌++◌, drop, Option, None, Some, Result, Ok, Err, ◌⊎◌, true, false}
 use Rattle.nr_header.specs.declared.header.RdmaSegment.{RdmaSegment}
 use Rattle.nr_header.specs.declared.header.ChunkLists.{ChunkLists}
 use Rattle.nr_xdr.specs.Fields.{word_at}
 use Rattle.nr_rpc.specs.declared.head.CallHead.{CallHead}
 use Rattle.nr_rpc.specs.Reading.{call_of}
-use Rattle.nr_link.specs.Reasons.{REASON_HEAD, REASON_XID}
+use Rattle.nr_link.specs.Reasons.{REASON_HEAD, REASON_STAGS, REASON_XID}
+use Rattle.nr_reduce.specs.Limits.{numbers_end}
 use Rattle.nr_endpoint.specs.ReceiveQueue.DeliveredEvent.{MessageReceived, ReadDone}
 use Rattle.nr_endpoint.specs.LinkState.{LinkSide}
 use Rattle.nr_endpoint.specs.Calls.{after_call}
@@ -21,7 +22,7 @@ use Rattle.nr_responder.specs.Fetching.{payload_added}
 use Rattle.nr_responder.specs.ResponderState.{ResponderSide}
 use Rattle.nr_responder.specs.Keeping.{IsServer}
 use Rattle.nr_responder.specs.private.CallsRead.{HasNoBytes, complete_call, payload_at_once, reading_call}
-use Rattle.nr_responder.specs.private.ReadsDone.{ReadHandled, ReadRanOut}
+use Rattle.nr_responder.specs.private.ReadsDone.{HandlesRead, ReadHandled}
 use Rattle.nr_responder.specs.Views.{IsCall}
 
 -- a pending call without a read chunk
@@ -51,6 +52,7 @@ pub record IsServerOf (k : ServerState) (v : ResponderSide) : Type 0 where
   pub credits : k.credit ≡ v.credits
   pub reads : k.reads ≡ v.fetching.reads
   pub new_read : is_read k.reads (k.received.sends + 1) ≡ true
+  pub ready : v.ready ≡ map (λ r. r.xid) k.ready
   pub next : next_stag k ≡ v.link.state.memory.next
   pub place : ℕ
   pub is_server : IsServer k place
@@ -73,6 +75,15 @@ pub data Begins (before after : ResponderSide) (number : ℕ) (message : List �
       Begins before after number message lists stream_at
   IsReady : (head : CallHead) → call_of (drop stream_at message) ≡ Ok head → call_xid head ≡ word_at 0 message → after ≡ with_ready before before.link (begun_call number message lists stream_at) →
       Begins before after number message lists stream_at
+
+-- of one with a call with a read list: its sinks need more STags than are left; its reads begin; it has no bytes to be read, and is ready
+-- or ends the link; or memory ran out
+pub data FetchesCall (before after : ResponderSide) (c : PendingCall) : Type 0 where
+  Spends : numbers_end < before.link.state.memory.next + length (chunks_of c.lists) → OrOut before (after_call before.link (Stop REASON_STAGS)) after → FetchesCall before after c
+  ReadsChunks : before.link.state.memory.next + length (chunks_of c.lists) ≤ numbers_end → chunks_of c.lists ≢ [] → after ≡ reading_call before c → FetchesCall before after c
+  IsComplete : (payload : List ℕ) → HasNoBytes c.lists.read → by_payload c (payload_at_once c) ≡ BecomesReady (record { number = c.number; xid = c.xid; payload = payload }) → after ≡ complete_call before c payload → FetchesCall before after c
+  EndsFor : (reason : ℕ) → 5 ≤ reason → HasNoBytes c.lists.read → by_payload c (payload_at_once c) ≡ RefusedFor reason → OrOut before (after_call before.link (Stop reason)) after → FetchesCall before after c
+  RunsOut : after ≡ out before → FetchesCall before after c
 
 -- by what holds of each server whose calls are kept
 abbrev pub OfServers : (ServerState → Type 0) → ResponderSide → Type 0
@@ -111,6 +122,8 @@ pub data Makes (before : ResponderSide) (number : ℕ) (message : List ℕ) (aft
       by_payload (record { number = number; xid = xid; lists = lists; inline = inline }) (payload_at_once (record { number = number; xid = xid; lists = lists; inline = inline })) ≡ RefusedFor reason →
       OrOut before (after_call before.link (Stop reason)) after → Makes before number message after
   LeavesReads : OfServers (λ k. MessageTakes k message) before → after ≡ out before → Makes before number message after
+  -- no server of a run is so
+  NoServer : OfServers (λ k. number ≢ k.received.sends + 1) before → Makes before number message after
 
 -- ---- What it is for a server
 
@@ -138,4 +151,4 @@ pub record IsTaken (before after : ResponderSide) : Type 0 where
   pub some : (number : ℕ) (invalidated : Option ℕ) (m : List ℕ) → before.link.state.receive_queue.deliveries ≡ MessageReceived number invalidated m ∷ [] →
       Makes (on_link before (after_call before.link NextEvent)) number m after
   pub read : before.link.state.receive_queue.deliveries ≡ ReadDone ∷ [] → (r : PendingRead) (rest : List PendingRead) → before.fetching.reads ≡ r ∷ rest →
-      ReadHandled (on_link before (after_call before.link NextEvent)) r rest after ⊎ ReadRanOut (on_link before (after_call before.link NextEvent)) r rest after
+      HandlesRead (on_link before (after_call before.link NextEvent)) r rest after

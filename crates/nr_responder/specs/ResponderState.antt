@@ -1,6 +1,6 @@
 -- What contracts see of a responder: its side of the link; the calls that it has not answered, in the order of their Sends; the xids of
--- those that wait to be executed, in the order in which they became ready; its credits; what it fetches; and the whole staging buffer, which
--- begins with the bytes of the frame that isn't complete.
+-- those that wait to be executed, in the order in which they became ready; its credits; what it fetches; the whole staging buffer, which
+-- begins with the bytes of the frame that isn't complete; and how many bytes the buffers have that it keeps for payloads of calls that are read.
 use Rattle.std.specs.Prelude.{◌≡◌, ℕ, ◌+◌, ◌-◌, ◌*◌, max, List, [], ◌++◌, length, drop, Option}
 use Rattle.nr_wire.specs.declared.hello.Side.TheVariants.{Responder}
 use Rattle.nr_link.specs.declared.end.End.{End}
@@ -21,6 +21,7 @@ pub record ResponderSide : Type 0 where
 pub record ResponderState : Type 0 where
   pub side : ResponderSide
   pub staging : List ℕ
+  pub rooms : ℕ
 
 -- the side as it is opened with so many credits: its first region gets the STag 1
 abbrev pub opened_side : ℕ → ResponderSide
@@ -53,9 +54,9 @@ abbrev pub unsent : LinkState → ℕ
 unsent s = length s.send_queue.send_ends
 
 -- How many bytes all byte buffers have that are kept: the staging buffer, the receives, of which one is lent for each call that isn't answered
--- and for each Send that hasn't left, the regions, and the output.
+-- and for each Send that hasn't left, the regions, the output, and the buffers for payloads of calls that are read.
 abbrev pub bytes_held_by : ResponderState → ℕ
-bytes_held_by v = length v.staging + bytes_of v.side.link.state + send_max * (length v.side.calls + unsent v.side.link.state)
+bytes_held_by v = length v.staging + bytes_of v.side.link.state + send_max * (length v.side.calls + unsent v.side.link.state) + v.rooms
 
 -- so many receives are posted again
 abbrev pub posted_times : ℕ → LinkSide → LinkSide

@@ -1,8 +1,15 @@
 -- What a responder keeps of its own, whatever the marks.
-use Rattle.std.specs.Prelude.{◌≡◌, ◌⊎◌, ℕ, ◌+◌, ◌≤◌, List, [], length, map, Option, None, Some, All, slice_get, vec_capacity}
+use Rattle.std.specs.Prelude.{◌≡◌, ◌⊎◌, ℕ, ◌+◌, ◌*◌, ◌≤◌, false, List, [], ◌∷◌, length, map, sum_by, Option, None, Some, All, slice_get, vec_capacity}
 use Rattle.std.specs.VecDeque.{deque_capacity}
-use Rattle.std.specs.FinMap.{empty}
+use Rattle.nr_regions.specs.RegisteredMemory.{Claim, RegisteredMemory, IsHeld, outside_len}
+use Rattle.nr_regions.specs.Table.{IsSound as IsTotal}
 use Rattle.nr_header.specs.WithinLimits.{ListsWithin}
+use Rattle.nr_header.specs.Constants.{PAYLOAD_MAX}
+use Rattle.nr_reduce.specs.ServerReads.{is_read}
+use Rattle.nr_endpoint.specs.EndpointState.{EndpointState}
+use Rattle.nr_responder.specs.declared.call.Ready.{Ready}
+use Rattle.nr_responder.specs.declared.call.ReadEntry.{ReadEntry}
+use Rattle.nr_responder.specs.declared.call.OpenSink.{OpenSink}
 use Rattle.nr_endpoint.specs.Receives.{IsReceive}
 use Rattle.nr_endpoint.specs.LinkState.{LinkState, LinkSide}
 use Rattle.nr_link.specs.Limits.{send_max}
@@ -10,20 +17,37 @@ use Rattle.nr_responder.specs.declared.call.Pending.{Pending}
 use Rattle.nr_responder.specs.declared.server_end.ServerEnd.{ServerEnd}
 use Rattle.nr_responder.specs.Fetching.{Fetching}
 use Rattle.nr_responder.specs.ResponderState.{ResponderSide, ResponderState, unsent}
-use Rattle.nr_responder.specs.Views.{call_view}
+use Rattle.nr_responder.specs.Views.{call_view, read_view, sink_view}
 
--- nothing is read: the payload of each call is the stream of its Send
-abbrev pub plain_payloads : List ℕ → List (Option (List ℕ))
-plain_payloads ready = map (λ _. None) ready
+-- the xids of calls that are ready, and the payloads that were read
+abbrev pub xids_of : List Ready → List ℕ
+xids_of ready = map (λ q. q.xid) ready
 
-abbrev pub plain_fetching : List ℕ → Fetching
-plain_fetching ready = record { reads = []; sinks = []; payloads = plain_payloads ready }
+abbrev pub payloads_of : List Ready → List (Option (List ℕ))
+payloads_of ready = map (λ q. q.payload) ready
+
+abbrev pub fetching_of : List ReadEntry → List OpenSink → List Ready → Fetching
+fetching_of reads sinks ready = record { reads = map read_view reads; sinks = map sink_view sinks; payloads = payloads_of ready }
 
 abbrev pub state_of : ServerEnd → ResponderSide
-state_of r = record { link = r.endpoint.link; calls = map call_view r.calls.items; ready = r.ready.items; credits = r.credits; fetching = plain_fetching r.ready.items }
+state_of r = record {
+  link = r.endpoint.link;
+  calls = map call_view r.calls.items;
+  ready = xids_of r.ready.items;
+  credits = r.credits;
+  fetching = fetching_of r.reads.items r.sinks.items r.ready.items;
+}
+
+-- the bytes of the buffers of payloads: of calls that are read, and of those that are ready
+abbrev pub room_len : Option (List ℕ) → ℕ
+room_len None = 0
+room_len (Some room) = length room
+
+abbrev pub rooms_of : List Pending → List Ready → ℕ
+rooms_of calls ready = sum_by (λ c. room_len c.room) calls + sum_by (λ q. room_len q.payload) ready
 
 abbrev pub with_staging : ServerEnd → ResponderState
-with_staging r = record { side = state_of r; staging = r.endpoint.staging }
+with_staging r = record { side = state_of r; staging = r.endpoint.staging; rooms = rooms_of r.calls.items r.ready.items }
 
 -- A pending call's message lies in its receive buffer, and its lists are within the limits.
 pub record InBuffer (c : Pending) : Type 0 where
@@ -41,7 +65,7 @@ pub record SameInput (l m : LinkSide) : Type 0 where
 
 -- A receive is lent for each call that is pending, for each Send that hasn't left, and for n more; and there is room for a call and for
 -- a buffer of each receive.
-pub record AreSound (n : ℕ) (s : LinkState) (calls : List Pending) (ready : List ℕ) (used : List (List ℕ)) (calls_room ready_room used_room : ℕ) : Type 0 where
+pub record AreSound (n : ℕ) (s : LinkState) (calls : List Pending) (ready : List Ready) (used : List (List ℕ)) (calls_room ready_room used_room : ℕ) : Type 0 where
   pub unsent_is : length used ≡ unsent s
   pub lent : length used + length calls + n ≤ s.receive_queue.lent
   pub few : length ready ≤ length calls
@@ -51,15 +75,44 @@ pub record AreSound (n : ℕ) (s : LinkState) (calls : List Pending) (ready : Li
   pub ready_fit : s.receive_queue.receives ≤ ready_room
   pub used_fit : s.receive_queue.receives ≤ used_room
 
+-- The room of a payload: for a stream and for a chunk, of which each may be a chunk of the maximum length, and for a pad.
+abbrev pub payload_room : ℕ
+payload_room = send_max + 2 * PAYLOAD_MAX + 3
+
+abbrev pub IsRoom : Option (List ℕ) → Type 0
+IsRoom None = ⊥
+IsRoom (Some room) = payload_room ≤ length room
+
+-- a call of which something is left to be read has the room of its payload
+abbrev pub HasRoom : List ReadEntry → Pending → Type 0
+HasRoom reads c = is_read (map read_view reads) c.number ≡ false → IsRoom c.room
+
+abbrev pub claims_of : List OpenSink → List Claim
+claims_of sinks = map (λ s. s.registration) sinks
+
+-- held, under rising STags that are at least `low`
+abbrev pub AreHeldFrom : RegisteredMemory → ℕ → List Claim → Type 0
+AreHeldFrom m low [] = low ≤ m.next
+AreHeldFrom m low (c ∷ claims) = (low ≤ c.stag) × (IsHeld m c × AreHeldFrom m (c.stag + 1) claims)
+
+-- no buffer has bytes outside its region
+abbrev pub NothingOutside : EndpointState → Type 0
+NothingOutside e = IsTotal outside_len e.link.state.memory.next 0 e.outside
+
+-- The sinks that are open are held, and none is longer than a payload; and each call that is read has the room of its payload.
+pub record AreFetched (e : EndpointState) (calls : List Pending) (reads : List ReadEntry) (sinks : List OpenSink) : Type 0 where
+  pub held : AreHeldFrom e.link.state.memory 0 (claims_of sinks)
+  pub short : All (λ s. s.registration.len ≤ PAYLOAD_MAX) sinks
+  pub rooms : All (HasRoom reads) calls
+  pub outside : NothingOutside e
+
 abbrev pub IsSoundWith : ℕ → ServerEnd → Type 0
-IsSoundWith n r = AreSound n r.endpoint.link.state r.calls.items r.ready.items r.used.items (vec_capacity r.calls) (deque_capacity r.ready) (deque_capacity r.used)
+IsSoundWith n r =
+    AreSound n r.endpoint.link.state r.calls.items r.ready.items r.used.items (vec_capacity r.calls) (deque_capacity r.ready) (deque_capacity r.used)
+    × AreFetched r.endpoint r.calls.items r.reads.items r.sinks.items
 
 abbrev pub IsSound : ServerEnd → Type 0
 IsSound r = IsSoundWith 0 r
-
--- No region is a part of its buffer.
-abbrev pub IsOwn : ServerEnd → Type 0
-IsOwn r = IsSound r × (r.endpoint.outside ≡ empty)
 
 -- the call is the first that waits to be executed
 abbrev pub IsNext : ResponderSide → ℕ → Type 0

@@ -1,4 +1,5 @@
 -- Definitions that only private code cites.
 pub mod CallsRead
+pub mod DoneReads
 pub mod Reading
 pub mod ReadsDone

@@ -10,7 +10,7 @@ ghost use Rattle.nr_responder.specs.Answering.{answer_to, message_for, writes_fo
 ghost use Rattle.nr_responder.specs.Views.{call_view};
 ghost use Rattle.nr_responder.specs.Sound.{InBuffer};
 
-use crate::call::{Pending, Sent, stream_of};
+use crate::call::{Pending, Sent};
 use nr_endpoint::{Endpoint, RemoteWrite};
 use nr_header::{Chunk, ChunkLists, RdmaSegment, TransportError, VERSION, write_error};
 use nr_link::constants::SEND_MAX;
@@ -47,12 +47,11 @@ pub(crate) fn version_error(
     write_error(alloc, xid, version, credits, error)
 }
 
-/// How the reply to a call is sent back, by what it offered; `None` if the offer doesn't hold it.
-fn answer_to<'a>(call: &Pending, reply: &'a [u8]) -> Option<Answer<'a>>
-    requires { InBuffer call.now }
-    ensures { option_map answer_view result ≡ answer_to (call_view call.now) (drop call.now.stream_at (take call.now.len call.now.buf)) reply.now }
+/// How the reply to a call with this payload is sent back, by what it offered; `None` if the offer doesn't hold it.
+fn answer_to<'a>(call: &Pending, stream: &[u8], reply: &'a [u8]) -> Option<Answer<'a>>
+    ensures { option_map answer_view result ≡ answer_to (call_view call.now) stream.now reply.now }
 {
-    match call_target(stream_of(&call.buf, call.len, call.stream_at)) {
+    match call_target(stream) {
         Some(target) => answer_for(
             &call.lists,
             target.prog,
@@ -207,21 +206,22 @@ fn push_answer<'a>(
     Ok(())
 }
 
-/// Queues the answer to a call: its RDMA Writes and its message. An `Err` changes nothing.
+/// Queues the answer to a call with this payload: its RDMA Writes and its message. An `Err` changes nothing.
 pub(crate) fn queue_answer(
     endpoint: &mut Endpoint,
     alloc: Global,
     call: &Pending,
+    stream: &[u8],
     credits: u32,
     reply: &[u8],
 ) -> Result<Sent, Memory>
     requires call { InBuffer call.now }
-    ensures queued { IfOk result (Queues (call_view call.now) (drop call.now.stream_at (take call.now.len call.now.buf)) reply.now credits endpoint.old.link endpoint.new.link) }
+    ensures queued { IfOk result (Queues (call_view call.now) stream.now reply.now credits endpoint.old.link endpoint.new.link) }
     ensures err { OnErr result (endpoint.new.link ≡ endpoint.old.link) }
     ensures staging { endpoint.new.staging ≡ endpoint.old.staging }
     ensures outside { endpoint.new.outside ≡ endpoint.old.outside }
 {
-    let answer = answer_to(call, reply);
+    let answer = answer_to(call, stream, reply);
     let sent = sent_as(&answer);
     let message = message_for(alloc, call.xid, credits, &call.lists, answer)?;
     if message.len() > SENDABLE {

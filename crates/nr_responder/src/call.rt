@@ -1,14 +1,18 @@
 //! The calls that a responder has not answered.
 
-ghost use Rattle.std.specs.Prelude.{◌≡◌, ◌≢◌, ℕ, ◌==◌, ◌<◌, ◌≤◌, length, drop, take, get_or, None, IfSome};
+ghost use Rattle.std.specs.Prelude.{◌≡◌, ◌≢◌, ℕ, ◌==◌, ◌<◌, ◌≤◌, length, drop, take, get_or, map, None, IfSome};
 ghost use Rattle.std.specs.List.{list_any};
+ghost use Rattle.nr_reduce.specs.ServerReads.{is_read};
+ghost use Rattle.nr_responder.specs.Views.{read_view};
 
 use nr_header::ChunkLists;
+use nr_regions::Registration;
 use nr_xdr::Octets;
 use std::marker::Model;
 
 /// A call whose Send is complete, and which isn't answered. Its Send has this number, from 1 on. Its message is the first `len` bytes of
-/// its receive buffer, and its stream stands from `stream_at` on.
+/// its receive buffer. If its stream is `inline`, it stands in the message from `stream_at` on. `room` is the room of its payload, while its
+/// chunks are read.
 #[derive(Drop)]
 pub struct Pending {
     pub number: u64,
@@ -17,6 +21,36 @@ pub struct Pending {
     pub buf: Octets,
     pub len: usize,
     pub stream_at: usize,
+    pub inline: bool,
+    pub room: Option<Octets>,
+}
+
+/// A call that waits to be executed, with its payload if that was read with its chunks; else it is the stream of its Send.
+#[derive(Drop)]
+pub struct Ready {
+    pub xid: u32,
+    pub payload: Option<Octets>,
+}
+
+/// A Read Request that is open, or waits until fewer are: `size` bytes of the client's region `stag`, from offset `to` on, into the region
+/// `sink`, from offset `at` on; for the call whose Send has this number, at a position of its read list.
+#[derive(Clone, Copy)]
+pub struct ReadEntry {
+    pub number: u64,
+    pub position: u32,
+    pub sink: u32,
+    pub at: u32,
+    pub size: u32,
+    pub stag: u32,
+    pub to: u64,
+}
+
+/// The region into which the entries of a read list at a position are read, for the call whose Send has this number.
+#[derive(Drop)]
+pub struct OpenSink {
+    pub number: u64,
+    pub position: u32,
+    pub registration: Registration,
 }
 
 /// A call that waits to be executed. It goes back to the responder that delivered it, and can't be copied. Contracts see it as its
@@ -68,6 +102,26 @@ pub(crate) fn has_xid(calls: &[Pending], xid: u32) -> bool
     ensures { result ≡ list_any (λ c. c.xid == xid) calls.now }
 {
     calls.iter().any(|c| c.xid == xid)
+}
+
+/// Whether the Send of one of the calls has this number.
+pub(crate) fn has_number(calls: &[Pending], number: u64) -> bool
+    ensures { result ≡ list_any (λ c. c.number == number) calls.now }
+{
+    calls.iter().any(|c| c.number == number)
+}
+
+fn has_read(reads: &[ReadEntry], number: u64) -> bool
+    ensures { result ≡ list_any (λ r. r.number == number) reads.now }
+{
+    reads.iter().any(|r| r.number == number)
+}
+
+/// Whether nothing is left to be read for the call whose Send has this number.
+pub(crate) fn is_read(reads: &[ReadEntry], number: u64) -> bool
+    ensures { result ≡ is_read (map read_view reads.now) number }
+{
+    !has_read(reads, number)
 }
 
 /// The place of the first call with this xid.

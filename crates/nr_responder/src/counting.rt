@@ -1,7 +1,6 @@
 //! How many calls and receives a responder has, and how many bytes it keeps.
 
-ghost use Rattle.std.specs.Prelude.{◌≡◌, ◌≢◌, ℕ, ◌+◌, List, length, None, Some};
-ghost use Rattle.std.specs.FinMap.{empty};
+ghost use Rattle.std.specs.Prelude.{◌≡◌, ◌≢◌, ℕ, ◌+◌, ◌*◌, ◌^◌, ◌≤◌, List, length, sum_by, None, Some};
 ghost use Rattle.nr_link.specs.declared.end.End.TheVariants as ends;
 ghost use Rattle.nr_link.specs.SegmentFaults.{is_begun};
 ghost use Rattle.nr_reduce.specs.declared.mark.LinkParameters.{LinkParameters};
@@ -10,13 +9,65 @@ ghost use Rattle.nr_reduce.specs.Plans.{one_if};
 ghost use Rattle.nr_reduce.specs.Run.{server};
 ghost use Rattle.nr_reduce.specs.ServerState.{receives_in_use};
 ghost use Rattle.nr_responder.specs.ResponderState.{bytes_held_by, end_of, unsent};
-ghost use Rattle.nr_responder.specs.Sound.{state_of, with_staging, IsSound};
+ghost use Rattle.nr_responder.specs.Sound.{room_len, state_of, with_staging, IsSound};
 ghost use Rattle.nr_responder.specs.Standing.{Stands};
 
+use crate::call::{Pending, Ready};
 use crate::server_end::ServerEnd;
+use nr_xdr::Octets;
+use std::collections::VecDeque;
 
 /// The length of a receive in bytes.
 const SEND_LEN: u128 = nr_link::constants::SEND_MAX as u128;
+
+fn room_len(room: &Option<Octets>) -> u64
+    ensures { result ≡ room_len room.now }
+{
+    match room {
+        Some(room) => room.len() as u64,
+        None => 0,
+    }
+}
+
+/// One room more, after `count` rooms.
+fn add_room(total: u128, room: u64, count: usize) -> u128
+    requires { total ≤ 2 ^ 64 * count }
+    ensures sum { result ≡ total + room }
+    ensures most { result ≤ 2 ^ 64 * (count + 1) }
+{
+    total + u128::from(room)
+}
+
+/// The bytes of the rooms of calls that are read.
+fn rooms_len(calls: &[Pending]) -> u128
+    ensures sum { result ≡ sum_by (λ c. room_len c.room) calls.now }
+    ensures most { result ≤ 2 ^ 64 * length calls.now }
+{
+    let mut total: u128 = 0;
+    'calls: for i in 0..calls.len() {
+        let room = room_len(&calls[i].room);
+        total = add_room(total, room, i);
+    }
+    total
+}
+
+/// The bytes of the payloads of calls that are ready, if they were read.
+fn payloads_len(ready: &VecDeque<Ready>) -> u128
+    ensures sum { result ≡ sum_by (λ q. room_len q.payload) ready.now.items }
+    ensures most { result ≤ 2 ^ 64 * length ready.now.items }
+{
+    let mut total: u128 = 0;
+    'ready: for i in 0..ready.len() {
+        match ready.get(i) {
+            Some(first) => {
+                let room = room_len(&first.payload);
+                total = add_room(total, room, i);
+            }
+            None => unreachable!(),
+        }
+    }
+    total
+}
 
 fn one_if(condition: bool) -> usize
     ensures { result ≡ one_if condition }
@@ -54,11 +105,11 @@ impl ServerEnd {
     /// How many bytes all byte buffers have that are kept.
     pub fn held(&self) -> u128
         requires sound { IsSound self.now }
-        requires outside { self.now.endpoint.outside ≡ empty }
         ensures is { result ≡ bytes_held_by (with_staging self.now) }
     {
         self.endpoint.facts();
         let lent = self.calls.len() + self.used.len();
-        self.endpoint.held() + SEND_LEN * lent as u128
+        let rooms = rooms_len(self.calls.as_slice()) + payloads_len(&self.ready);
+        self.endpoint.held() + SEND_LEN * lent as u128 + rooms
     }
 }

@@ -13,15 +13,22 @@ use nr_reduce::{is_read_chunk_of_item, total_at};
 use nr_xdr::word_at;
 
 /// What a responder makes of a message: it ends the link, by its kind or by its xid; ERR_VERS; ERR_CHUNK; a call without a read list,
-/// with its lists and the place of its stream; or a call with a read list.
+/// with its lists and the place of its stream; or a call with a read list, whose stream is `inline` from a place of its message on, or read.
 #[derive(Drop)]
 pub enum Judged {
     Kind,
     Open,
     OtherVersion,
     BadChunks,
-    Call { lists: ChunkLists, stream_at: usize },
-    Reads,
+    Call {
+        lists: ChunkLists,
+        stream_at: usize,
+    },
+    Reads {
+        lists: ChunkLists,
+        stream_at: usize,
+        inline: bool,
+    },
 }
 
 /// Whether some entry of a read list has position 0.
@@ -46,12 +53,17 @@ fn brings_stream(read: &[ReadSegment]) -> bool
 }
 
 /// A call with a read list, or ERR_CHUNK.
-fn reads_if(fits: bool) -> Judged
-    ensures { result ≡ reads_if fits }
+fn reads_if(fits: bool, lists: ChunkLists, stream_at: usize, inline: bool) -> Judged
+    ensures { result ≡ reads_if fits lists stream_at inline }
 {
     if fits {
-        return Judged::Reads;
+        return Judged::Reads {
+            lists,
+            stream_at,
+            inline,
+        };
     }
+    drop(lists);
     Judged::BadChunks
 }
 
@@ -67,13 +79,13 @@ fn judge_body(message: &[u8], body: Body) -> Judged
             }
             let (_, stream) = message.split_at(stream_at);
             let fits = is_read_chunk_of_item(stream, lists.read.as_slice());
-            drop(lists);
-            reads_if(fits)
+            reads_if(fits, lists, stream_at, true)
         }
         Body::Nomsg { lists } => {
             let fits = brings_stream(lists.read.as_slice());
-            drop(lists);
-            reads_if(fits)
+            // A stream without bytes isn't read.
+            let inline = total_at(0, lists.read.as_slice()) == 0;
+            reads_if(fits, lists, message.len(), inline)
         }
         Body::ErrVers { .. } => Judged::BadChunks,
         Body::ErrChunk { .. } => Judged::BadChunks,

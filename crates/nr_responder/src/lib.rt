@@ -18,10 +18,16 @@
 mod answering;
 mod call;
 mod counting;
+mod fetching;
 mod judging;
 mod laws;
+mod messages;
+mod opening;
+mod payloads;
+mod read_done;
 mod responder;
 mod server_end;
+mod sink_regions;
 
 pub use call::{CallId, Sent};
 pub use laws::{responders_keep_it_in_full, responders_keep_their_law};

@@ -49,11 +49,11 @@ impl Model for Responder {
 
     ghost coded = { responder_code };
 
-    ghost use Rattle.nr_responder.specs.Sound.{state_of, IsOwn};
+    ghost use Rattle.nr_responder.specs.Sound.{rooms_of, state_of, IsSound};
 
-    ghost view = { λ r. record { side = state_of r.end; staging = r.end.endpoint.staging } };
+    ghost view = { λ r. record { side = state_of r.end; staging = r.end.endpoint.staging; rooms = rooms_of r.end.calls.items r.end.ready.items } };
 
-    ghost invariant = { λ r. IsOwn r.end };
+    ghost invariant = { λ r. IsSound r.end };
 }
 
 impl Responder {
@@ -168,7 +168,7 @@ impl Responder {
         self.end.drain_into(sink)
     }
 
-    /// How many bytes all byte buffers have that are kept: the staging buffer, the receives, the regions and the output. Lists of calls and
+    /// How many bytes all byte buffers have that are kept: the staging buffer, the receives, the regions, the output and the buffers of payloads that were or are read. Lists of calls and
     /// their segments aren't counted. Takes no memory.
     pub fn held(&self) -> u128
         ensures is { result ≡ bytes_held_by self.now }

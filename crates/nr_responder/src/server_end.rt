@@ -1,8 +1,7 @@
 //! What a responder keeps: its endpoint, the calls that it has not answered, and the receives of answers that haven't left.
 
-ghost use Rattle.std.specs.Prelude.{◌≡◌, ◌≢◌, ℕ, ◌+◌, ◌-◌, ◌<◌, ◌≤◌, ◌^◌, List, [], ◌∷◌, ◌++◌, length, take, drop, get_or, None, Some, IfOk, OnOk, OnErr, IfSome, IsOk, is_some, All, MatchOption, MatchResult, true, false, if◌then◌else◌, ◌⊎◌, vec_len, vec_capacity};
+ghost use Rattle.std.specs.Prelude.{◌≡◌, ◌≢◌, ℕ, ◌+◌, ◌-◌, ◌<◌, ◌≤◌, ◌^◌, List, [], ◌∷◌, ◌++◌, length, take, drop, get_or, slice_get, map, option_map, Option, None, Some, IfOk, OnOk, OnErr, IfSome, IsOk, is_some, All, MatchOption, MatchResult, true, false, if◌then◌else◌, ◌⊎◌, vec_len, vec_capacity};
 ghost use Rattle.std.specs.VecDeque.{deque_capacity};
-ghost use Rattle.std.specs.FinMap.{empty};
 ghost use Rattle.nr_outside.specs.Faults.{Rises};
 ghost use Rattle.nr_endpoint.specs.declared.fault.DrainFault.TheVariants as drains;
 ghost use Rattle.nr_wire.specs.Constants.{FPDU_MAX};
@@ -22,17 +21,20 @@ ghost use Rattle.nr_reduce.specs.declared.mark.Mark.{Mark};
 ghost use Rattle.nr_reduce.specs.declared.mark.Mark.TheVariants as marks;
 ghost use Rattle.nr_outside.specs.declared.moment.Moment.{Moment};
 ghost use Rattle.nr_reduce.specs.Served.{next_call, IsExecuted};
-ghost use Rattle.nr_responder.specs.Answering.{Answers};
+ghost use Rattle.nr_responder.specs.Answering.{Answers, IsPayload};
 ghost use Rattle.nr_responder.specs.Draining.{Drains};
-ghost use Rattle.nr_responder.specs.Handling.{Begins, IsTaken, Makes, ReadsXid};
+ghost use Rattle.nr_responder.specs.Handling.{out, Begins, IsTaken, Makes, OrOut, ReadsXid};
 ghost use Rattle.nr_responder.specs.ResponderState.{end_of, opened_side, posted_times, may_write, KeepsStaging};
-ghost use Rattle.nr_responder.specs.Sound.{state_of, with_staging, AreSound, InBuffer, IsNext, IsSound, IsSoundWith, SameInput};
+ghost use Rattle.nr_reduce.specs.ServerReads.{is_read};
+ghost use Rattle.nr_responder.specs.Sound.{state_of, with_staging, payloads_of, AreSound, HasRoom, InBuffer, IsNext, IsSound, IsSoundWith, SameInput};
+ghost use Rattle.nr_responder.specs.Views.{call_view, read_view};
 ghost use Rattle.nr_responder.specs.Standing.{Stands};
 ghost use Rattle.nr_responder.specs.Steps.{Fed, taken_of};
 
 use crate::answering::{SENDABLE, chunk_error, queue_answer, version_error};
-use crate::call::{Pending, Sent, place_of, stream_of};
+use crate::call::{OpenSink, Pending, ReadEntry, Ready, Sent, is_read, place_of, stream_of};
 use crate::judging::{Judged, judge};
+use crate::payloads::{first_payload, payload_of};
 use nr_endpoint::{DrainFault, Endpoint, Event};
 use nr_header::ChunkLists;
 use nr_link::End;
@@ -45,19 +47,22 @@ use std::alloc::Global;
 use std::collections::VecDeque;
 
 /// The server end of a link. A pending call keeps the receive buffer of its message; `used` has those of messages that were answered or
-/// refused, whose answer hasn't left the queue.
+/// refused, whose answer hasn't left the queue. `reads` are the Read Requests that are open and those that wait, the oldest first, and `sinks` the
+/// regions into which calls are read.
 #[derive(Drop)]
 pub struct ServerEnd {
     pub(crate) endpoint: Endpoint,
     pub(crate) calls: Vec<Pending>,
-    pub(crate) ready: VecDeque<u32>,
+    pub(crate) ready: VecDeque<Ready>,
+    pub(crate) reads: Vec<ReadEntry>,
+    pub(crate) sinks: Vec<OpenSink>,
     pub(crate) used: VecDeque<Octets>,
     pub(crate) credits: u32,
     pub(crate) alloc: Global,
 }
 
 /// The xid of a call whose stream stands in its message, or the reason for which the link ends.
-fn own_xid(buf: &Octets, len: usize, stream_at: usize) -> Result<u32, u32>
+pub(crate) fn own_xid(buf: &Octets, len: usize, stream_at: usize) -> Result<u32, u32>
     requires len { (FIXED_LEN ≤ len) × (len ≤ length buf.now) }
     requires stream { stream_at ≤ len }
     ensures xid { ReadsXid (take len buf.now) stream_at result }
@@ -75,7 +80,7 @@ fn own_xid(buf: &Octets, len: usize, stream_at: usize) -> Result<u32, u32>
 }
 
 /// Ends a side for a reason that a message gives, or because memory ran out for its Terminate.
-fn stop(endpoint: &mut Endpoint, reason: u32)
+pub(crate) fn stop(endpoint: &mut Endpoint, reason: u32)
     requires live { endpoint.old.link.state.ended ≡ None }
     requires frame { 0 < endpoint.old.link.state.place }
     requires reason { IsStopReason reason }
@@ -90,7 +95,7 @@ fn stop(endpoint: &mut Endpoint, reason: u32)
 }
 
 /// Queues an error message, and answers whether memory sufficed. If it didn't, the side ends.
-fn send_error(endpoint: &mut Endpoint, made: Result<Octets, Memory>) -> bool
+pub(crate) fn send_error(endpoint: &mut Endpoint, made: Result<Octets, Memory>) -> bool
     requires live { endpoint.old.link.state.ended ≡ None }
     ensures sent { result ≡ true → IfOk made (λ m. endpoint.new.link ≡ after_call endpoint.old.link (Send m)) × IsOk made }
     ensures out { result ≡ false → endpoint.new.link ≡ after_call endpoint.old.link OutOfMemory }
@@ -145,7 +150,6 @@ impl ServerEnd {
         ensures live { IfOk result (λ r. end_of (state_of r) ≡ None) }
         ensures fed { IfOk result (λ r. fed_bytes r.endpoint.link ≡ 0) }
         ensures staging { IfOk result (λ r. length r.endpoint.staging ≡ FPDU_MAX) }
-        ensures outside { IfOk result (λ r. r.endpoint.outside ≡ empty) }
         ensures stands { IfOk result (λ r. (opened : LinkParameters) (link : ℕ) → opened.granted ≡ credits → Stands opened link [] (state_of r)) }
     {
         let ready = VecDeque::with_capacity(alloc, credits as usize)?;
@@ -156,6 +160,8 @@ impl ServerEnd {
             endpoint,
             calls,
             ready,
+            reads: Vec::new(alloc),
+            sinks: Vec::new(alloc),
             used,
             credits,
             alloc,
@@ -170,10 +176,9 @@ impl ServerEnd {
         ensures goes { Fed (state_of self.old) piece.now (state_of self.new) }
         ensures stands { (opened : LinkParameters) (link : ℕ) (run : List Mark) → Stands opened link run (state_of self.old) →
             Stands opened link (run ++ marks.Fed link ResponderSide piece.now ∷ []) (state_of self.new) }
-        ensures kept { is_some (end_of (state_of self.old)) ≡ true → (state_of self.new ≡ state_of self.old) × (self.new.endpoint.staging ≡ self.old.endpoint.staging) }
+        ensures kept { is_some (end_of (state_of self.old)) ≡ true → with_staging self.new ≡ with_staging self.old }
         ensures within { fed_bytes self.new.endpoint.link ≤ fed_bytes self.old.endpoint.link + length piece.now }
         ensures staging { (opened : LinkParameters) (link : ℕ) (run : List Mark) → Stands opened link run (state_of self.old) → KeepsStaging (with_staging self.old) (with_staging self.new) piece.now }
-        ensures outside { self.new.endpoint.outside ≡ self.old.endpoint.outside }
         ensures sound { IsSound self.new }
     {
         if let Some(end) = self.endpoint.end() {
@@ -201,10 +206,9 @@ impl ServerEnd {
         ensures first { Fed (state_of self.old) (take (bytes_taken self.old.endpoint.link.awaited self.old.endpoint.link.rest piece.now) piece.now) (state_of self.new) }
         ensures stands { (opened : LinkParameters) (link : ℕ) (run : List Mark) → Stands opened link run (state_of self.old) →
             Stands opened link (run ++ marks.Fed link ResponderSide (taken_of result piece.now) ∷ []) (state_of self.new) }
-        ensures kept { is_some (end_of (state_of self.old)) ≡ true → (state_of self.new ≡ state_of self.old) × (self.new.endpoint.staging ≡ self.old.endpoint.staging) }
+        ensures kept { is_some (end_of (state_of self.old)) ≡ true → with_staging self.new ≡ with_staging self.old }
         ensures within { fed_bytes self.new.endpoint.link ≤ fed_bytes self.old.endpoint.link + length piece.now }
         ensures staging { (opened : LinkParameters) (link : ℕ) (run : List Mark) → Stands opened link run (state_of self.old) → KeepsStaging (with_staging self.old) (with_staging self.new) piece.now }
-        ensures outside { self.new.endpoint.outside ≡ self.old.endpoint.outside }
         ensures sound { IsSound self.new }
     {
         if let Some(end) = self.endpoint.end() {
@@ -221,7 +225,7 @@ impl ServerEnd {
     pub fn next_ready(&self) -> Option<u32>
         ensures next { IfSome result (IsNext (state_of self.now)) }
         ensures live { is_some result ≡ true → end_of (state_of self.now) ≡ None }
-        ensures none { result ≡ None → (is_some (end_of (state_of self.now)) ≡ true) ⊎ (self.now.ready.items ≡ []) }
+        ensures none { result ≡ None → (is_some (end_of (state_of self.now)) ≡ true) ⊎ ((state_of self.now).ready ≡ []) }
         ensures exact { end_of (state_of self.now) ≢ Some ends.Memory → (opened : LinkParameters) (link : ℕ) (run : List Mark) → Stands opened link run (state_of self.now) →
             MatchOption result (next_call opened link run ≡ None) (λ xid. IfSome (next_call opened link run) (λ r. xid ≡ r.xid) × (is_some (next_call opened link run) ≡ true)) }
     {
@@ -229,7 +233,7 @@ impl ServerEnd {
             return None;
         }
         match self.ready.front() {
-            Some(xid) => Some(*xid),
+            Some(first) => Some(first.xid),
             None => None,
         }
     }
@@ -239,6 +243,20 @@ impl ServerEnd {
         requires sound { IsSound self.now }
         requires live { end_of (state_of self.now) ≡ None }
         requires next { IsNext (state_of self.now) xid }
+        ensures exact { (opened : LinkParameters) (link : ℕ) (run : List Mark) → Stands opened link run (state_of self.now) → IsExecuted opened link run xid result.now }
+    {
+        match first_payload(&self.ready) {
+            Some(payload) => payload.as_slice(),
+            None => self.inline_payload(xid),
+        }
+    }
+
+    /// The payload of the next call, if that is the stream of its Send.
+    fn inline_payload(&self, xid: u32) -> &[u8]
+        requires sound { IsSound self.now }
+        requires live { end_of (state_of self.now) ≡ None }
+        requires next { IsNext (state_of self.now) xid }
+        requires inline { slice_get (payloads_of self.now.ready.items) 0 ≡ Some None }
         ensures exact { (opened : LinkParameters) (link : ℕ) (run : List Mark) → Stands opened link run (state_of self.now) → IsExecuted opened link run xid result.now }
     {
         match place_of(self.calls.as_slice(), xid) {
@@ -261,7 +279,6 @@ impl ServerEnd {
         ensures goes { Fed (state_of self.old) (take result piece.now) (state_of self.new) }
         ensures first { Fed (state_of self.old) (take (bytes_taken self.old.endpoint.link.awaited self.old.endpoint.link.rest piece.now) piece.now) (state_of self.new) }
         ensures staging { self.old.endpoint.link.state.receive_queue.deliveries ≡ [] → KeepsStaging (with_staging self.old) (with_staging self.new) piece.now }
-        ensures outside { self.new.endpoint.outside ≡ self.old.endpoint.outside }
         ensures rest { (self.new.endpoint.link.rest ≡ []) ⊎ (result ≡ length piece.now) }
         ensures sound { IsSound self.new }
         ensures within { fed_bytes self.new.endpoint.link ≤ fed_bytes self.old.endpoint.link + result }
@@ -289,7 +306,6 @@ impl ServerEnd {
         ensures fed { fed_bytes self.new.endpoint.link ≤ fed_bytes self.old.endpoint.link }
         ensures rest { (self.new.endpoint.link.rest ≡ self.old.endpoint.link.rest) ⊎ (self.new.endpoint.link.rest ≡ []) }
         ensures staging { self.new.endpoint.staging ≡ self.old.endpoint.staging }
-        ensures outside { self.new.endpoint.outside ≡ self.old.endpoint.outside }
     {
         match self.endpoint.next_event() {
             None => (),
@@ -301,101 +317,8 @@ impl ServerEnd {
                     ..
                 },
             ) => self.message(number, buf, len),
-            Some(Event::ReadDone) => (),
+            Some(Event::ReadDone) => self.read_done(),
         }
-    }
-
-    /// A message, which may make a call.
-    fn message(&mut self, number: u64, buf: Octets, len: usize)
-        requires sound { IsSoundWith 1 self.old }
-        requires live { self.old.endpoint.link.state.ended ≡ None }
-        requires frame { 0 < self.old.endpoint.link.state.place }
-        requires buf { IsReceive send_max buf }
-        requires len { (FIXED_LEN ≤ len) × (len ≤ send_max) }
-        ensures made { Makes (state_of self.old) number (take len buf) (state_of self.new) }
-        ensures sound { IsSound self.new }
-        ensures input { SameInput self.old.endpoint.link self.new.endpoint.link }
-        ensures staging { self.new.endpoint.staging ≡ self.old.endpoint.staging }
-        ensures outside { self.new.endpoint.outside ≡ self.old.endpoint.outside }
-    {
-        self.endpoint.facts();
-        let message = stream_of(&buf, len, 0);
-        let xid = word_at(message, 0);
-        let version = word_at(message, 4);
-        match judge(message, self.calls.as_slice()) {
-            Judged::Kind => stop(&mut self.endpoint, REASON_KIND),
-            Judged::Open => stop(&mut self.endpoint, REASON_CALL),
-            Judged::OtherVersion => {
-                let made = version_error(self.alloc, xid, version, self.credits);
-                self.refuse(buf, made);
-            }
-            Judged::BadChunks => {
-                let made = chunk_error(self.alloc, xid, self.credits);
-                self.refuse(buf, made);
-            }
-            Judged::Call { lists, stream_at } => self.begin(number, buf, len, lists, stream_at),
-            Judged::Reads => {
-                let _ = self.endpoint.run_out();
-            }
-        }
-    }
-
-    /// Queues an error message for the message in this receive.
-    fn refuse(&mut self, buf: Octets, made: Result<Octets, Memory>)
-        requires sound { IsSoundWith 1 self.old }
-        requires live { self.old.endpoint.link.state.ended ≡ None }
-        requires buf { IsReceive send_max buf }
-        ensures link { (IfOk made (λ m. self.new.endpoint.link ≡ after_call self.old.endpoint.link (Send m)) × IsOk made) ⊎ (self.new.endpoint.link ≡ after_call self.old.endpoint.link OutOfMemory) }
-        ensures same { (self.new.calls ≡ self.old.calls) × (self.new.ready ≡ self.old.ready) × (self.new.credits ≡ self.old.credits) }
-        ensures staging { self.new.endpoint.staging ≡ self.old.endpoint.staging }
-        ensures outside { self.new.endpoint.outside ≡ self.old.endpoint.outside }
-        ensures sound { IsSound self.new }
-    {
-        self.endpoint.facts();
-        if send_error(&mut self.endpoint, made) {
-            self.used.push_back_reserved(buf);
-        }
-    }
-
-    /// A call whose stream stands in its message: it is ready if that is an RPC call of its xid, else it ends the link.
-    fn begin(&mut self, number: u64, buf: Octets, len: usize, lists: ChunkLists, stream_at: usize)
-        requires sound { IsSoundWith 1 self.old }
-        requires live { self.old.endpoint.link.state.ended ≡ None }
-        requires frame { 0 < self.old.endpoint.link.state.place }
-        requires buf { IsReceive send_max buf }
-        requires len { (FIXED_LEN ≤ len) × (len ≤ send_max) }
-        requires lists { (stream_at ≤ len) × ListsWithin lists }
-        ensures begun { Begins (state_of self.old) (state_of self.new) number (take len buf) lists stream_at }
-        ensures sound { IsSound self.new }
-        ensures input { SameInput self.old.endpoint.link self.new.endpoint.link }
-        ensures staging { self.new.endpoint.staging ≡ self.old.endpoint.staging }
-        ensures outside { self.new.endpoint.outside ≡ self.old.endpoint.outside }
-    {
-        match own_xid(&buf, len, stream_at) {
-            Err(reason) => stop(&mut self.endpoint, reason),
-            Ok(xid) => self.push(Pending {
-                number,
-                xid,
-                lists,
-                buf,
-                len,
-                stream_at,
-            }),
-        }
-    }
-
-    /// A call that is ready. There is room for it.
-    fn push(&mut self, call: Pending)
-        requires sound { IsSoundWith 1 self.old }
-        requires call { InBuffer call }
-        ensures pushed { (self.new.calls.items ≡ self.old.calls.items ++ call ∷ []) × (self.new.ready.items ≡ self.old.ready.items ++ call.xid ∷ []) }
-        ensures same { (self.new.endpoint ≡ self.old.endpoint) × (self.new.credits ≡ self.old.credits) }
-        ensures sound { IsSound self.new }
-    {
-        self.endpoint.facts();
-        let xid = call.xid;
-        self.calls.push_reserved(call);
-        self.ready.push_back_reserved(xid);
     }
 
     /// Queues the answer to the call at this place, which has this xid and is the first that is ready. An `Err` changes nothing.
@@ -406,17 +329,18 @@ impl ServerEnd {
         requires own { (d : Pending) → (get_or self.old.calls.items at d).xid ≡ xid }
         requires next { 0 < length self.old.ready.items }
         ensures answers { IfOk result (λ sent. Answers (state_of self.old) (state_of self.new) xid reply.now sent) }
-        ensures err { OnErr result (state_of self.new ≡ state_of self.old) }
+        ensures err { OnErr result (with_staging self.new ≡ with_staging self.old) }
         ensures fed { fed_bytes self.new.endpoint.link ≡ fed_bytes self.old.endpoint.link }
         ensures staging { self.new.endpoint.staging ≡ self.old.endpoint.staging }
-        ensures outside { self.new.endpoint.outside ≡ self.old.endpoint.outside }
         ensures sound { IsSound self.new }
     {
         self.endpoint.facts();
+        let stream = payload_of(&self.ready, &self.calls[at])?;
         let sent = queue_answer(
             &mut self.endpoint,
             self.alloc,
             &self.calls[at],
+            stream,
             self.credits,
             reply,
         )?;
@@ -434,10 +358,9 @@ impl ServerEnd {
         ensures answers { IfOk result (λ sent. Answers (state_of self.old) (state_of self.new) xid reply.now sent) }
         ensures stands { OnOk result ((opened : LinkParameters) (link : ℕ) (run : List Mark) (moment : Moment) (payload : List ℕ) (place : ℕ) → Stands opened link run (state_of self.old) →
             IsExecuted opened link run xid payload → Stands opened link (run ++ marks.Execute link xid moment payload place reply.now ∷ []) (state_of self.new)) }
-        ensures err { OnErr result (state_of self.new ≡ state_of self.old) }
+        ensures err { OnErr result (with_staging self.new ≡ with_staging self.old) }
         ensures fed { fed_bytes self.new.endpoint.link ≡ fed_bytes self.old.endpoint.link }
         ensures staging { self.new.endpoint.staging ≡ self.old.endpoint.staging }
-        ensures outside { self.new.endpoint.outside ≡ self.old.endpoint.outside }
         ensures sound { IsSound self.new }
     {
         match place_of(self.calls.as_slice(), xid) {
@@ -457,7 +380,6 @@ impl ServerEnd {
         ensures fed { fed_bytes self.new.endpoint.link ≡ fed_bytes self.old.endpoint.link }
         ensures sound { IsSound self.new }
         ensures staging { self.new.endpoint.staging ≡ self.old.endpoint.staging }
-        ensures outside { self.new.endpoint.outside ≡ self.old.endpoint.outside }
     {
         let result = self.endpoint.drain_into(sink);
         let left = self.endpoint.sends_waiting();

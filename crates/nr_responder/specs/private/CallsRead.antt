@@ -1,7 +1,9 @@
 -- What a Send with a read list makes of a responder: the sinks of its call are registered, and its reads open or wait (RFC 8166 section
 -- 3.4.5).
-use Rattle.std.specs.Prelude.{◌≡◌, ℕ, List, [], ◌∷◌, ◌++◌, length, take, Option, Some}
-use Rattle.std.specs.List.{AllByRecursion}
+use Rattle.std.specs.Prelude.{◌≡◌, ℕ, List, [], ◌∷◌, ◌++◌, length, take, Option, Some, Result, Ok, Err, Bool, true, not, ◌==◌}
+use Rattle.nr_reduce.specs.ServerMessages.{CallVerdict}
+use Rattle.nr_reduce.specs.ServerMessages.CallVerdict.{Refuses, IsReady}
+use Rattle.std.specs.List.{AllByRecursion, list_any}
 use Rattle.nr_header.specs.declared.header.ReadSegment.{ReadSegment}
 use Rattle.nr_regions.specs.RegisteredMemory.{RegisteredMemory, after_register}
 use Rattle.nr_link.specs.Limits.{open_reads_max}
@@ -57,6 +59,12 @@ reading_call v c = record {
 abbrev pub HasNoBytes : List ReadSegment → Type 0
 HasNoBytes read = AllByRecursion (λ r. r.length ≡ 0) read
 
+abbrev pub has_bytes : List ReadSegment → Bool
+has_bytes read = list_any (λ r. not (r.length == 0)) read
+
+abbrev pub HasBytes : List ReadSegment → Type 0
+HasBytes read = has_bytes read ≡ true
+
 -- its payload: each of its chunks is empty
 abbrev pub payload_at_once : PendingCall → Option (List ℕ)
 payload_at_once c = call_conveyed c.inline c.lists.read (λ position. [])
@@ -69,3 +77,8 @@ complete_call v c payload = record {
   credits = v.credits;
   fetching = payload_added (Some payload) v.fetching;
 }
+
+-- the verdict on a call whose payload was judged so
+abbrev pub verdict_of : PendingCall → Result (List ℕ) ℕ → CallVerdict
+verdict_of c (Ok payload) = IsReady (record { number = c.number; xid = c.xid; payload = payload })
+verdict_of c (Err reason) = Refuses reason

@@ -1,9 +1,12 @@
 -- Reads of a responder and the sink regions that they fill (RFC 8166 section 3.4.5).
-use Rattle.std.specs.Prelude.{ℕ, ◌==◌, ◌&&◌, Bool, not, if◌then◌else◌, List, [], ◌∷◌, take, drop, find, Option, None, Some}
+use Rattle.std.specs.Prelude.{ℕ, ◌==◌, ◌&&◌, Bool, not, if◌then◌else◌, List, [], ◌∷◌, ◌++◌, take, drop, find, Option, None, Some}
 use Rattle.std.specs.List.{filter, list_any}
 use Rattle.nr_regions.specs.RegisteredMemory.{RegisteredMemory, bytes_in, held_region, after_release}
 use Rattle.nr_link.specs.Limits.{open_reads_max}
-use Rattle.nr_endpoint.specs.SendQueue.{SendQueue, with_request}
+use Rattle.nr_endpoint.specs.SendQueue.{SendQueue, with_request, with_send}
+use Rattle.nr_endpoint.specs.declared.requests.RemoteRead.{RemoteRead}
+use Rattle.nr_endpoint.specs.LinkState.{LinkSide}
+use Rattle.nr_responder.specs.Keeping.{later_responses}
 use Rattle.nr_reduce.specs.ServerState.{PendingCall, PendingRead}
 use Rattle.nr_responder.specs.Fetching.{SinkRegion}
 use Rattle.nr_reduce.specs.ServerReads.{is_read, is_read_at}
@@ -40,3 +43,24 @@ opening kept reads = drop kept (take open_reads_max reads)
 abbrev pub with_requests : List PendingRead → SendQueue → SendQueue
 with_requests [] q = q
 with_requests (r ∷ reads) q = with_requests reads (with_request r.sink r.at r.size r.stag r.to q)
+
+abbrev pub remote_of : PendingRead → RemoteRead
+remote_of r = record { sink = r.sink; at = r.at; len = r.size; stag = r.stag; to = r.to }
+
+-- with reads opened, and with sinks released
+abbrev pub with_opened : List PendingRead → LinkSide → LinkSide
+with_opened reads l = record {
+  awaited = l.awaited;
+  rest = l.rest;
+  state = record l.state { send_queue = with_requests reads l.state.send_queue; reads = l.state.reads ++ later_responses reads };
+}
+
+abbrev pub with_opened_after : (message : List ℕ) → List PendingRead → LinkSide → LinkSide
+with_opened_after message reads l = record {
+  awaited = l.awaited;
+  rest = l.rest;
+  state = record l.state { send_queue = with_requests reads (with_send message l.state.send_queue); reads = l.state.reads ++ later_responses reads };
+}
+
+abbrev pub with_released : List SinkRegion → LinkSide → LinkSide
+with_released sinks l = record { awaited = l.awaited; rest = l.rest; state = record l.state { memory = released sinks l.state.memory } }

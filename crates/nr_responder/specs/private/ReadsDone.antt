@@ -1,6 +1,6 @@
 -- What a read that is done makes of a responder (RFC 8166 section 3.4.5): its call waits for more, is ready, is refused, or ends the link.
-use Rattle.std.specs.Prelude.{◌≡◌, ◌≢◌, ℕ, ◌-◌, ◌==◌, ◌≤◌, ◌&&◌, Bool, not, true, false, List, [], ◌∷◌, ◌++◌, length, take, drop, find, Option, None, Some, ◌⊎◌}
-use Rattle.std.specs.List.{filter}
+use Rattle.std.specs.Prelude.{◌≡◌, ◌≢◌, ℕ, ◌-◌, ◌==◌, ◌≤◌, ◌&&◌, Bool, not, true, false, List, [], ◌∷◌, ◌++◌, length, take, drop, find, Option, None, Some, slice_get, ◌⊎◌}
+use Rattle.std.specs.List.{filter, list_any, remove}
 use Rattle.nr_link.specs.Limits.{open_reads_max}
 use Rattle.nr_endpoint.specs.SendQueue.{with_send}
 use Rattle.nr_endpoint.specs.LinkState.{LinkState, LinkSide}
@@ -119,3 +119,11 @@ pub record ReadRanOut (v : ResponderSide) (r : PendingRead) (rest : List Pending
   pub takes : ReadTakes v r rest
   pub fetching : Fetching
   pub is_out : after ≡ ended_as v (after_call v.link OutOfMemory) fetching
+
+-- no server of a run has these calls: each call that is ready is pending, and no other call has its number
+pub data Impossible (v : ResponderSide) (r : PendingRead) : Type 0 where
+  Crowded : list_any (λ c. c.number == r.number) v.calls ≡ true → length v.calls ≤ length v.ready → Impossible v r
+  Shared : (at : ℕ) (c : PendingCall) → slice_get v.calls at ≡ Some c → c.number ≡ r.number → list_any (λ c. c.number == r.number) (remove v.calls at) ≡ true → Impossible v r
+
+abbrev pub HandlesRead : ResponderSide → PendingRead → List PendingRead → ResponderSide → Type 0
+HandlesRead v r rest after = Impossible v r ⊎ (ReadHandled v r rest after ⊎ ReadRanOut v r rest after)

@@ -1,47 +1,51 @@
-use Rattle.std.proofs.Common.{rules, ◌≡◌, ℕ, None, [], List, drop, take, refl, sym, ap, subst, ◌∙◌}
+use Rattle.std.proofs.Common.{rules, ◌≡◌, ℕ, List, drop, sym, ap, subst, ◌∙◌}
 use Rattle.std.specs.Prelude.{map}
 use Rattle.nr_endpoint.specs.LinkState.{LinkSide}
 use Rattle.nr_endpoint.specs.Calls.{after_calls}
 use Rattle.nr_endpoint.specs.Offering.{answer_calls, writes_output}
 use Rattle.nr_responder.specs.declared.call.Pending.{Pending}
-use Rattle.nr_responder.specs.Answering.{answer_to, message_for}
-use Rattle.nr_responder.specs.Views.{call_view}
-use Rattle.nr_responder.specs.Sound.{InBuffer, plain_payloads}
-use Rattle.nr_responder.proofs.Answered.{answer_link, answered_fed, get_view, plain_drop, plain_first}
+use Rattle.nr_responder.specs.Answering.{IsPayload, answer_to, message_for}
+use Rattle.nr_responder.specs.Views.{call_view, read_view, sink_view}
+use Rattle.nr_responder.specs.Sound.{InBuffer, payloads_of, xids_of}
+use Rattle.nr_responder.proofs.Answered.{answer_link, answered_fed, get_view, same_item, payloads_dropped, xids_dropped}
 use Rattle.nr_responder.proofs.Removed.{map_removed}
-use Rattle.nr_responder.proofs.Sounds.{sound_answered}
+use Rattle.nr_responder.proofs.HeldSinks.{fetched_removed}
+use Rattle.nr_responder.proofs.Sounds.{sound_answered, sound_room_as}
 use Rattle.nr_responder.proofs.server_end.ServerEnd.answer_at.Goals as goal
 
 pub returns-clause-answers : goal.returns-clause-answers
 returns-clause-answers c =
     let q = c.in_ok-sent.ensures.queued in
-    let p : Pending = c.index.result.now in
-    let stream : List ℕ = drop p.stream_at (take p.len p.buf) in
-    let own : p.xid ≡ c.args.xid = ap (λ (x : Pending). x.xid) c.index.ensures ∙ c.requires.own p in
+    let p : Pending = c.index-2.result.now in
+    let stream : List ℕ = c.in_ok-stream.stream.now in
+    let paid = c.in_ok-stream.ensures in
+    let own : p.xid ≡ c.args.xid = ap (λ (x : Pending). x.xid) c.index-2.ensures ∙ c.requires.own p in
     let link = q.link ∙ ap (λ (x : ℕ). after_calls c.args.self.now.endpoint.link (answer_calls q.writes (message_for x c.args.self.now.credits p.lists (answer_to (call_view p) stream c.args.reply.now)))) own in
     let calls = ap (map call_view) c.remove-call.ensures.items ∙ map_removed call_view c.args.self.now.calls.items c.args.at in
     let ready : c.pop_front.new.self.items ≡ drop 1 c.args.self.now.ready.items = search rules in
     record {
       at = c.args.at;
       call = call_view p;
-      place = get_view c.args.self.now.calls.items c.args.at p c.requires.at c.index.ensures;
+      place = get_view c.args.self.now.calls.items c.args.at p c.requires.at c.index-2.ensures;
       own = own;
       stream = stream;
-      payload = None;
-      first = plain_first c.args.self.now.ready.items c.requires.next;
-      conveyed = refl;
+      payload = paid.0;
+      first = paid.1.0;
+      conveyed = subst (λ (x : Pending). IsPayload (call_view x) paid.0 stream) (c.index.ensures ∙ sym (same_item c.args.self.now.calls.items c.args.at c.index.result.now p c.requires.at) ∙ sym c.index-2.ensures) paid.1.1;
       writes = q.writes;
       written = q.written;
-      state = λ i. record { link = link i; calls = calls i; ready = ready i; credits = c.args.self.now.credits; fetching = record { reads = []; sinks = []; payloads = (ap plain_payloads ready ∙ plain_drop c.args.self.now.ready.items) i } };
+      state = λ i. record { link = link i; calls = calls i; ready = (ap xids_of ready ∙ xids_dropped c.args.self.now.ready.items) i; credits = c.args.self.now.credits; fetching = record { reads = map read_view c.args.self.now.reads.items; sinks = map sink_view c.args.self.now.sinks.items; payloads = (ap payloads_of ready ∙ payloads_dropped c.args.self.now.ready.items) i } };
       sent_is = q.sent_is;
     }
 
 pub returns-clause-sound : goal.returns-clause-sound
 returns-clause-sound c =
     let q = c.in_ok-sent.ensures.queued in
-    let one : InBuffer c.remove-call.result = subst InBuffer (sym c.remove-call.ensures.value) (c.requires.sound.bufs c.args.at c.remove-call.result c.requires.at) in
-    sound_answered c.args.self.now.endpoint.link.state c.queue_answer.new.endpoint.link.state (writes_output q.writes) _ c.args.at c.remove-call.result c.args.self.now.calls.items c.remove-call.new.self.items c.args.self.now.ready.items c.pop_front.new.self.items
-    c.args.self.now.used.items c.push_back_reserved.new.self.items _ _ _ (ap (λ (l : LinkSide). l.state) (q.link ∙ answer_link c.args.self.now.endpoint.link q.writes _ c.requires.live)) c.requires.at one c.remove-call.ensures.items (search rules) c.requires.next (search rules) (search rules)
+    let one : InBuffer c.remove-call.result = subst InBuffer (sym c.remove-call.ensures.value) (c.requires.sound.0.bufs c.args.at c.remove-call.result c.requires.at) in (
+      sound_room_as 0 c.queue_answer.new.endpoint.link.state c.remove-call.new.self.items c.pop_front.new.self.items c.push_back_reserved.new.self.items _ _ _ _ _ _ (search rules) (search rules) (search rules) (sound_answered c.args.self.now.endpoint.link.state c.queue_answer.new.endpoint.link.state (writes_output q.writes) _ c.args.at c.remove-call.result c.args.self.now.calls.items c.remove-call.new.self.items c.args.self.now.ready.items c.pop_front.new.self.items
+          c.args.self.now.used.items c.push_back_reserved.new.self.items _ _ _ (ap (λ (l : LinkSide). l.state) (q.link ∙ answer_link c.args.self.now.endpoint.link q.writes _ c.requires.live)) c.requires.at one c.remove-call.ensures.items (search rules) c.requires.next (search rules) c.requires.sound.0),
+      fetched_removed c.args.self.now.endpoint c.queue_answer.new.endpoint c.args.at c.args.self.now.calls.items c.remove-call.new.self.items c.args.self.now.reads.items c.args.self.now.sinks.items (ap (λ (l : LinkSide). l.state.memory) (q.link ∙ answer_link c.args.self.now.endpoint.link q.writes _ c.requires.live)) c.queue_answer.ensures.outside c.remove-call.ensures.items c.requires.sound.1,
+    )
 
 pub returns-clause-fed : goal.returns-clause-fed
 returns-clause-fed c =

@@ -16,7 +16,6 @@ invariant-pieces l = record {
   over : is_some l.self.endpoint.link.state.ended ≡ true → l.at ≡ length l.fn.piece;
   goes : Fed (state_of l.fn.self) (take l.at l.fn.piece) (state_of l.self);
   sound : IsSound l.self;
-  outside : l.self.endpoint.outside ≡ l.fn.self.endpoint.outside;
   within : fed_bytes l.self.endpoint.link ≤ fed_bytes l.fn.self.endpoint.link + l.at;
   staging : (opened : LinkParameters) (link : ℕ) (run : List Mark) → Stands opened link run (state_of l.fn.self) → KeepsStaging (with_staging l.fn.self) (with_staging l.self) l.fn.piece;
   first : IsFirst (with_staging l.fn.self) (with_staging l.self) l.at l.fn.piece;

@@ -1,40 +1,31 @@
-use Rattle.std.proofs.Common.{◌≡◌, ℕ, List, map, sym, ap, subst, ◌∙◌, arith, inr}
+use Rattle.std.proofs.Common.{◌≡◌, ℕ, List, drop, map, take, sym, ap, subst, ◌∙◌, arith}
 use Rattle.nr_reduce.specs.ServerMessages.{verdict}
 use Rattle.nr_reduce.specs.ServerMessages.Verdict.{EndsLink}
+use Rattle.nr_reduce.specs.ServerReads.{is_read}
 use Rattle.nr_responder.specs.declared.call.Pending.{Pending}
-use Rattle.nr_responder.specs.Views.{call_view, IsCall, IsOfReads}
-use Rattle.nr_responder.specs.Handling.{on_link}
-use Rattle.nr_responder.specs.Handling.Makes.{Ends, Calls, LeavesReads}
-use Rattle.nr_endpoint.specs.LinkState.{LinkSide}
+use Rattle.nr_responder.specs.declared.call.ReadEntry.{ReadEntry}
+use Rattle.nr_responder.specs.Views.{call_view, read_view, call_with, inline_of, IsCall, IsOfReads}
+use Rattle.nr_xdr.specs.Fields.{word_at}
+use Rattle.nr_responder.specs.Handling.{FetchesCall}
+use Rattle.nr_responder.specs.Handling.Makes.{Ends, Calls, NoServer}
 use Rattle.nr_responder.specs.Sound.{state_of}
-use Rattle.nr_responder.proofs.Begun.{few_stags, or_out, reads_take}
-use Rattle.nr_responder.proofs.Posted.{ended_as, memory_as, refused_input}
-use Rattle.nr_responder.proofs.Sounds.{sound_ended}
+use Rattle.nr_responder.proofs.Sounds.{sound_less}
+use Rattle.nr_responder.proofs.Begun.{few_stags, fresh_number, not_fresh}
+use Rattle.nr_responder.proofs.Fetches.{fetched_makes}
+use Rattle.nr_responder.proofs.Posted.{refused_input}
 use Rattle.nr_responder.proofs.server_end.ServerEnd.message.Goals as goal
 
 pub returns-in-Kind-clause-made : goal.returns-in-Kind-clause-made
 returns-in-Kind-clause-made c =
     Ends 17 (omega arith)
-    (λ k server. subst (λ (m : List ℕ). verdict k m ≡ EndsLink 17) c.stream_of-message.ensures (c.in-Kind.ensures.judged k (server.calls ∙ ap (λ (cs : List Pending). map call_view cs) (sym c.as_slice.ensures.value)) (few_stags k (state_of c.args.self.now) server c.facts.ensures.stags)))
-    (or_out (state_of c.args.self.now) _ c.stop.new.endpoint.link c.stop.ensures.link)
-
-pub returns-in-Kind-clause-sound : goal.returns-in-Kind-clause-sound
-returns-in-Kind-clause-sound c = sound_ended 1 17 c.args.self.now.endpoint.link c.stop.new.endpoint.link c.args.self.now.calls.items c.args.self.now.ready.items c.args.self.now.used.items _ _ _ c.stop.ensures.link c.requires.sound
-
-pub returns-in-Kind-clause-input : goal.returns-in-Kind-clause-input
-returns-in-Kind-clause-input c = (ended_as c.args.self.now.endpoint.link c.stop.new.endpoint.link 17 c.stop.ensures.link).input
+    (λ k server. subst (λ (m : List ℕ). verdict k m ≡ EndsLink 17) c.stream_of-message.ensures (c.in-Kind.ensures.judged k (server.calls ∙ ap (λ (cs : List Pending). map call_view cs) (sym c.as_slice-2.ensures.value)) (few_stags k (state_of c.args.self.now) server c.facts.ensures.stags)))
+    c.end_for.ensures.ended
 
 pub returns-in-Open-clause-made : goal.returns-in-Open-clause-made
 returns-in-Open-clause-made c =
     Ends 20 (omega arith)
-    (λ k server. subst (λ (m : List ℕ). verdict k m ≡ EndsLink 20) c.stream_of-message.ensures (c.in-Open.ensures.judged k (server.calls ∙ ap (λ (cs : List Pending). map call_view cs) (sym c.as_slice.ensures.value)) (few_stags k (state_of c.args.self.now) server c.facts.ensures.stags)))
-    (or_out (state_of c.args.self.now) _ c.stop-in-Open.new.endpoint.link c.stop-in-Open.ensures.link)
-
-pub returns-in-Open-clause-sound : goal.returns-in-Open-clause-sound
-returns-in-Open-clause-sound c = sound_ended 1 20 c.args.self.now.endpoint.link c.stop-in-Open.new.endpoint.link c.args.self.now.calls.items c.args.self.now.ready.items c.args.self.now.used.items _ _ _ c.stop-in-Open.ensures.link c.requires.sound
-
-pub returns-in-Open-clause-input : goal.returns-in-Open-clause-input
-returns-in-Open-clause-input c = (ended_as c.args.self.now.endpoint.link c.stop-in-Open.new.endpoint.link 20 c.stop-in-Open.ensures.link).input
+    (λ k server. subst (λ (m : List ℕ). verdict k m ≡ EndsLink 20) c.stream_of-message.ensures (c.in-Open.ensures.judged k (server.calls ∙ ap (λ (cs : List Pending). map call_view cs) (sym c.as_slice-2.ensures.value)) (few_stags k (state_of c.args.self.now) server c.facts.ensures.stags)))
+    c.end_for-in-Open.ensures.ended
 
 pub returns-in-OtherVersion-clause-input : goal.returns-in-OtherVersion-clause-input
 returns-in-OtherVersion-clause-input c = refused_input _ c.args.self.now.endpoint.link c.refuse.new.self.endpoint.link c.requires.live c.refuse.ensures.link
@@ -45,17 +36,32 @@ returns-in-BadChunks-clause-input c = refused_input _ c.args.self.now.endpoint.l
 pub returns-in-Call-clause-made : goal.returns-in-Call-clause-made
 returns-in-Call-clause-made c =
     Calls c.in-Call.lists c.in-Call.stream_at
-    (λ k server. subst (λ (m : List ℕ). IsCall k m c.in-Call.lists c.in-Call.stream_at) c.stream_of-message.ensures (c.in-Call.ensures.judged k (server.calls ∙ ap (λ (cs : List Pending). map call_view cs) (sym c.as_slice.ensures.value)) (few_stags k (state_of c.args.self.now) server c.facts.ensures.stags)))
+    (λ k server. subst (λ (m : List ℕ). IsCall k m c.in-Call.lists c.in-Call.stream_at) c.stream_of-message.ensures (c.in-Call.ensures.judged k (server.calls ∙ ap (λ (cs : List Pending). map call_view cs) (sym c.as_slice-2.ensures.value)) (few_stags k (state_of c.args.self.now) server c.facts.ensures.stags)))
     c.begin.ensures.begun
 
 pub returns-in-Reads-clause-made : goal.returns-in-Reads-clause-made
 returns-in-Reads-clause-made c =
-    LeavesReads
-    (λ k server. reads_take k _ (subst (λ (m : List ℕ). IsOfReads k m) c.stream_of-message.ensures (c.in-Reads.ensures.judged k (server.calls ∙ ap (λ (cs : List Pending). map call_view cs) (sym c.as_slice.ensures.value)) (few_stags k (state_of c.args.self.now) server c.facts.ensures.stags))))
-    (ap (λ (l : LinkSide). on_link (state_of c.args.self.now) l) c.run_out.ensures.state)
+    fetched_makes (state_of c.args.self.now) (state_of c.fetch.new.self) c.args.number (take c.args.len c.args.buf) c.in-Reads.lists c.in-Reads.stream_at c.in-Reads.inline
+    (λ k server. subst (λ (m : List ℕ). IsOfReads k m c.in-Reads.lists c.in-Reads.stream_at c.in-Reads.inline) c.stream_of-message.ensures
+    (c.in-Reads.ensures.judged k (server.calls ∙ ap (λ (cs : List Pending). map call_view cs) (sym c.as_slice-2.ensures.value)) (few_stags k (state_of c.args.self.now) server c.facts.ensures.stags)))
+    c.facts.ensures.stags
+    (subst (λ (x : ℕ). FetchesCall (state_of c.args.self.now) (state_of c.fetch.new.self) (call_with c.args.number x c.in-Reads.lists (inline_of c.in-Reads.inline (drop c.in-Reads.stream_at (take c.args.len c.args.buf)))))
+    (c.word_at-xid.ensures ∙ ap (word_at 0) c.stream_of-message.ensures) c.fetch.ensures.fetched)
 
-pub returns-in-Reads-clause-sound : goal.returns-in-Reads-clause-sound
-returns-in-Reads-clause-sound c = sound_ended 1 17 c.args.self.now.endpoint.link c.run_out.new.self.link c.args.self.now.calls.items c.args.self.now.ready.items c.args.self.now.used.items _ _ _ (inr c.run_out.ensures.state) c.requires.sound
+pub returns-then-not-is_read-clause-made : goal.returns-then-not-is_read-clause-made
+returns-then-not-is_read-clause-made c = NoServer (λ k server count. not_fresh k (state_of c.args.self.now) c.args.number server count c.is_read.result (c.is_read.ensures ∙ ap (λ (rs : List ReadEntry). is_read (map read_view rs) c.args.number) c.as_slice.ensures.value) c.if-not-is_read.true)
 
-pub returns-in-Reads-clause-input : goal.returns-in-Reads-clause-input
-returns-in-Reads-clause-input c = (memory_as c.args.self.now.endpoint.link c.run_out.new.self.link c.run_out.ensures.state).input
+pub begin-requires-clause-fresh : goal.begin-requires-clause-fresh
+begin-requires-clause-fresh c = fresh_number c.args.number c.args.self.now.reads.items c.as_slice.result.now c.is_read.result c.as_slice.ensures.value c.is_read.ensures c.if-not-is_read.false
+
+pub fetch-requires-clause-fresh : goal.fetch-requires-clause-fresh
+fetch-requires-clause-fresh c = fresh_number c.args.number c.args.self.now.reads.items c.as_slice.result.now c.is_read.result c.as_slice.ensures.value c.is_read.ensures c.if-not-is_read.false
+
+pub run_out-requires : goal.run_out-requires
+run_out-requires c = record { sound = sound_less c.args.self.now c.requires.sound }
+
+pub end_for-requires-clause-sound : goal.end_for-requires-clause-sound
+end_for-requires-clause-sound c = sound_less c.args.self.now c.requires.sound
+
+pub end_for-requires-in-Open-clause-sound : goal.end_for-requires-in-Open-clause-sound
+end_for-requires-in-Open-clause-sound c = sound_less c.args.self.now c.requires.sound

@@ -10,8 +10,8 @@ returns-then-is_some-clause-exact c = λ other opened link run h.
 
 pub returns-in-Some-clause-exact : goal.returns-in-Some-clause-exact
 returns-in-Some-clause-exact c = λ other opened link run h.
-    first_xid_lem opened link run (state_of c.args.self.now) c.in-Some.xid.now h (sym c.end.ensures ∙ not_over c.end.result (sym c.is_some.ensures ∙ c.if-is_some.false))
-    (first_get c.args.self.now.ready.items c.in-Some.xid.now c.in-Some.ensures.item.3.0 c.in-Some.ensures.lookup)
+    first_xid_lem opened link run (state_of c.args.self.now) c.in-Some.first.now.xid h (sym c.end.ensures ∙ not_over c.end.result (sym c.is_some.ensures ∙ c.if-is_some.false))
+    (first_get c.args.self.now.ready.items c.in-Some.first.now c.in-Some.ensures.item.3.0 c.in-Some.ensures.lookup)
 
 pub returns-in-None-clause-exact : goal.returns-in-None-clause-exact
 returns-in-None-clause-exact c = λ other opened link run h.

@@ -3,10 +3,12 @@ use Rattle.std.proofs.lemmas.List.Elements.{All-nil}
 use Rattle.nr_responder.specs.ResponderState.{ResponderSide}
 use Rattle.nr_responder.specs.Standing.{Stands}
 use Rattle.nr_responder.specs.declared.call.Pending.{Pending}
+use Rattle.nr_responder.specs.declared.call.Ready.{Ready}
 use Rattle.nr_responder.specs.Views.{call_view}
-use Rattle.nr_responder.specs.Sound.{plain_fetching}
+use Rattle.nr_responder.specs.Sound.{fetching_of, xids_of}
 use Rattle.nr_endpoint.proofs.FedBytes.{open_fed}
 use Rattle.nr_wire.specs.declared.hello.Side.TheVariants.{Responder}
+use Rattle.nr_responder.proofs.HeldSinks.{empty_fetched, fetched_first}
 use Rattle.nr_responder.proofs.Opened.{opened_stands_lem, opened_lives, opened_queues}
 use Rattle.nr_responder.proofs.server_end.ServerEnd.open.Goals as goal
 
@@ -15,17 +17,19 @@ returns-clause-sound c =
     let l = opened_queues c.in_ok-endpoint.endpoint.link c.args.credits c.in_ok-endpoint.ensures.state in
     let used = ap (λ (xs : List (List ℕ)). length xs) c.in_ok-used.ensures.items in
     let calls = ap (λ (xs : List Pending). length xs) c.in_ok-calls.ensures.items in
-    let ready = ap (λ (xs : List ℕ). length xs) c.in_ok-ready.ensures.items in
-    record {
-      unsent_is = used ∙ sym (ap (λ (xs : List ℕ). length xs) l.1.1);
-      lent = omega (arith, l.0, used, calls);
-      few = omega (arith, ready);
-      bufs = rw c.in_ok-calls.ensures.items (All-nil _);
-      used_bufs = rw c.in_ok-used.ensures.items (All-nil _);
-      calls_fit = omega (arith, l.1.0, c.in_ok-calls.ensures.capacity);
-      ready_fit = omega (arith, l.1.0, c.in_ok-ready.ensures.capacity);
-      used_fit = omega (arith, l.1.0, c.in_ok-used.ensures.capacity);
-    }
+    let ready = ap (λ (xs : List Ready). length xs) c.in_ok-ready.ensures.items in (
+      record {
+        unsent_is = used ∙ sym (ap (λ (xs : List ℕ). length xs) l.1.1);
+        lent = omega (arith, l.0, used, calls);
+        few = omega (arith, ready);
+        bufs = rw c.in_ok-calls.ensures.items (All-nil _);
+        used_bufs = rw c.in_ok-used.ensures.items (All-nil _);
+        calls_fit = omega (arith, l.1.0, c.in_ok-calls.ensures.capacity);
+        ready_fit = omega (arith, l.1.0, c.in_ok-ready.ensures.capacity);
+        used_fit = omega (arith, l.1.0, c.in_ok-used.ensures.capacity);
+      },
+      empty_fetched c.in_ok-endpoint.endpoint c.in_ok-calls.calls.items c.new.result.items c.new-2.result.items c.new.ensures.items c.new-2.ensures.items (fetched_first c.in_ok-endpoint.endpoint c.args.credits c.in_ok-calls.calls.items c.in_ok-endpoint.ensures.state c.in_ok-endpoint.ensures.outside c.in_ok-calls.ensures.items),
+    )
 
 pub returns-clause-stands : goal.returns-clause-stands
 returns-clause-stands c = λ opened link same.
@@ -33,9 +37,9 @@ returns-clause-stands c = λ opened link same.
     (λ i. record {
       link = c.in_ok-endpoint.endpoint.link;
       calls = map call_view (sym c.in_ok-calls.ensures.items i);
-      ready = sym c.in_ok-ready.ensures.items i;
+      ready = xids_of (sym c.in_ok-ready.ensures.items i);
       credits = c.args.credits;
-      fetching = plain_fetching (sym c.in_ok-ready.ensures.items i);
+      fetching = fetching_of (sym c.new.ensures.items i) (sym c.new-2.ensures.items i) (sym c.in_ok-ready.ensures.items i);
     })
     (opened_stands_lem opened link c.args.credits c.in_ok-endpoint.endpoint.link same c.in_ok-endpoint.ensures.state)
 
@@ -43,9 +47,9 @@ pub returns-clause-state : goal.returns-clause-state
 returns-clause-state c = λ i. record {
   link = c.in_ok-endpoint.ensures.state i;
   calls = map call_view (c.in_ok-calls.ensures.items i);
-  ready = c.in_ok-ready.ensures.items i;
+  ready = xids_of (c.in_ok-ready.ensures.items i);
   credits = c.args.credits;
-  fetching = plain_fetching (c.in_ok-ready.ensures.items i);
+  fetching = fetching_of (c.new.ensures.items i) (c.new-2.ensures.items i) (c.in_ok-ready.ensures.items i);
 }
 
 pub returns-clause-live : goal.returns-clause-live

@@ -12,6 +12,7 @@ use Rattle.nr_responder.specs.Handling.{on_link}
 use Rattle.nr_responder.proofs.FirstFrames.{first_done, first_failed}
 use Rattle.nr_responder.proofs.Fed.{step_of}
 use Rattle.nr_responder.proofs.Handled.{step_counts, step_within}
+use Rattle.nr_responder.proofs.HeldSinks.{fetched_failed, fetched_step}
 use Rattle.nr_responder.proofs.Sounds.{sound_step}
 use Rattle.nr_responder.proofs.Staging.{staging_step, step_rest}
 use Rattle.nr_responder.proofs.Stepped.{taken_at, at_most, at_least, step_done, step_failed, failed_sound, failed_within}
@@ -20,7 +21,7 @@ use Rattle.nr_responder.proofs.server_end.ServerEnd.step.Goals as goal
 pub take_event-requires-clause-sound : goal.take_event-requires-clause-sound
 take_event-requires-clause-sound c =
     let step = step_of c.args.self.now.endpoint.link c.feed_one.new.self.link c.args.piece.now c.facts.ensures.partial c.requires.live (c.in-Ok.ensures.state (λ e. absurd cc)) in
-    sound_step c.args.self.now.endpoint.link.state c.feed_one.new.self.link.state c.args.self.now.calls.items c.args.self.now.ready.items c.args.self.now.used.items _ _ _ (step_counts c.args.self.now.endpoint.link c.feed_one.new.self.link c.args.piece.now step) c.requires.sound
+    (sound_step c.args.self.now.endpoint.link.state c.feed_one.new.self.link.state c.args.self.now.calls.items c.args.self.now.ready.items c.args.self.now.used.items _ _ _ (step_counts c.args.self.now.endpoint.link c.feed_one.new.self.link c.args.piece.now step) c.requires.sound.0, fetched_step c.args.self.now.endpoint c.feed_one.new.self c.args.piece.now c.args.self.now.calls.items c.args.self.now.reads.items c.args.self.now.sinks.items (step_counts c.args.self.now.endpoint.link c.feed_one.new.self.link c.args.piece.now step).next (c.in-Ok.ensures.state (λ e. absurd cc)) c.feed_one.ensures.outside c.requires.sound.1)
 
 pub returns-in-Ok-clause-taken : goal.returns-in-Ok-clause-taken
 returns-in-Ok-clause-taken c = c.taken_at.ensures ∙ (λ i. taken_at (c.end.ensures i) (length c.args.piece.now) (c.in-Ok.ensures.taken i))
@@ -58,9 +59,12 @@ returns-in-Err-clause-goes c =
     (λ is. (c.in-Err.ensures.memory (ap (λ (e : End). Err e) is), c.in-Err.ensures.frame (ap (λ (e : End). Err e) is) (ap (λ (o : Option End). is_some o) c.requires.live))) (sym c.in-Err.ensures.ended))
 
 pub returns-in-Err-clause-sound : goal.returns-in-Err-clause-sound
-returns-in-Err-clause-sound c =
-    failed_sound c.args.self.now.endpoint.link c.feed_one.new.self.link c.args.piece.now c.in-Err.end c.args.self.now.calls.items c.args.self.now.ready.items c.args.self.now.used.items _ _ _ c.requires.live c.facts.ensures.partial (λ other. c.in-Err.ensures.state (λ e. other (let h : c.in-Err.end ≡ ends.Memory = cc in h)))
-    (λ is. c.in-Err.ensures.memory (ap (λ (e : End). Err e) is)) c.requires.sound
+returns-in-Err-clause-sound c = (
+  failed_sound c.args.self.now.endpoint.link c.feed_one.new.self.link c.args.piece.now c.in-Err.end c.args.self.now.calls.items c.args.self.now.ready.items c.args.self.now.used.items _ _ _ c.requires.live c.facts.ensures.partial (λ other. c.in-Err.ensures.state (λ e. other (let h : c.in-Err.end ≡ ends.Memory = cc in h)))
+      (λ is. c.in-Err.ensures.memory (ap (λ (e : End). Err e) is)) c.requires.sound.0,
+  fetched_failed c.args.self.now.endpoint c.feed_one.new.self c.args.piece.now c.in-Err.end c.args.self.now.calls.items c.args.self.now.reads.items c.args.self.now.sinks.items c.requires.live c.facts.ensures.partial (λ other. c.in-Err.ensures.state (λ e. other (let h : c.in-Err.end ≡ ends.Memory = cc in h)))
+      (λ is. c.in-Err.ensures.memory (ap (λ (e : End). Err e) is)) c.feed_one.ensures.outside c.requires.sound.1,
+)
 
 pub returns-in-Err-clause-within : goal.returns-in-Err-clause-within
 returns-in-Err-clause-within c =

@@ -1,4 +1,4 @@
-use Rattle.std.proofs.Common.{◌≡◌, ℕ, List, [], ◌∷◌, length, take, sym, ap, subst, ◌∙◌, arith, inl}
+use Rattle.std.proofs.Common.{ℕ, List, [], ◌∷◌, length, take, sym, ap, subst, ◌∙◌, arith}
 use Rattle.nr_endpoint.specs.declared.event.Event.{Event}
 use Rattle.nr_endpoint.specs.LinkState.{LinkSide}
 use Rattle.nr_endpoint.specs.Calls.{after_call}
@@ -7,7 +7,9 @@ use Rattle.nr_endpoint.specs.Views.{delivery}
 use Rattle.nr_responder.specs.ResponderState.{ResponderSide}
 use Rattle.nr_responder.specs.Sound.{state_of}
 use Rattle.nr_responder.specs.Handling.{Makes, on_link}
+use Rattle.nr_responder.specs.private.ReadsDone.{HandlesRead}
 use Rattle.nr_responder.proofs.Handled.{same_fed}
+use Rattle.nr_responder.proofs.HeldSinks.{fetched_as}
 use Rattle.nr_responder.proofs.Posted.{told_link_lem}
 use Rattle.nr_responder.proofs.Sounds.{sound_told, sound_read}
 use Rattle.nr_responder.proofs.Staging.{rest_or_none}
@@ -17,7 +19,7 @@ use Rattle.nr_responder.proofs.server_end.ServerEnd.take_event.Goals as goal
 pub message-requires-clause-sound : goal.message-requires-clause-sound
 message-requires-clause-sound c =
     let one = c.in-Some-Message.ensures.event ∙ ap (λ (e : Event). delivery e ∷ c.next_event.new.self.link.state.receive_queue.deliveries) c.in-Some-Message.field-0-is in
-    sound_told c.args.self.now.endpoint.link c.next_event.new.self.link _ _ _ c.next_event.new.self.link.state.receive_queue.deliveries c.args.self.now.calls.items c.args.self.now.ready.items c.args.self.now.used.items _ _ _ c.in-Some-Message.ensures.state one c.requires.sound
+    (sound_told c.args.self.now.endpoint.link c.next_event.new.self.link _ _ _ c.next_event.new.self.link.state.receive_queue.deliveries c.args.self.now.calls.items c.args.self.now.ready.items c.args.self.now.used.items _ _ _ c.in-Some-Message.ensures.state one c.requires.sound.0, fetched_as c.args.self.now.endpoint c.next_event.new.self c.args.self.now.calls.items c.args.self.now.reads.items c.args.self.now.sinks.items (told_link_lem c.args.self.now.endpoint.link c.next_event.new.self.link c.in-Some-Message.ensures.state).memory c.next_event.ensures.outside c.requires.sound.1)
 
 pub message-requires-clause-live : goal.message-requires-clause-live
 message-requires-clause-live c = (told_link_lem c.args.self.now.endpoint.link c.next_event.new.self.link c.in-Some-Message.ensures.state).live ∙ c.requires.live
@@ -35,7 +37,7 @@ returns-in-Some-Message-clause-taken c =
           let same = same_message c.in-Some-Message.number number _ invalidated bytes m c.next_event.new.self.link.state.receive_queue.deliveries [] (sym one ∙ only) in
           subst (λ (n : ℕ). Makes (on_link v (after_call v.link NextEvent)) n m after) same.0 (subst (λ (x : List ℕ). Makes (on_link v (after_call v.link NextEvent)) c.in-Some-Message.number x after) same.1
           (subst (λ (l : LinkSide). Makes (on_link v l) c.in-Some-Message.number bytes after) c.in-Some-Message.ensures.state made));
-      read = λ done r rest reads. absurd (let two : [] ≡ r ∷ rest = reads in cc);
+      read = λ done r rest reads. absurd (let two = sym one ∙ done in cc);
     }
 
 pub returns-in-Some-Message-clause-fed : goal.returns-in-Some-Message-clause-fed
@@ -44,13 +46,31 @@ returns-in-Some-Message-clause-fed c =
     let same = same_fed c.next_event.new.self.link c.message.new.self.endpoint.link c.message.ensures.input in
     omega (arith, same, t.place, ap (λ (xs : List ℕ). length xs) t.rest)
 
-pub returns-in-Some-ReadDone-clause-sound : goal.returns-in-Some-ReadDone-clause-sound
-returns-in-Some-ReadDone-clause-sound c = sound_read c.args.self.now.endpoint.link c.next_event.new.self.link c.args.self.now.calls.items c.args.self.now.ready.items c.args.self.now.used.items _ _ _ c.in-Some-ReadDone.ensures.state c.requires.sound
+pub read_done-requires-clause-sound : goal.read_done-requires-clause-sound
+read_done-requires-clause-sound c = (
+  sound_read c.args.self.now.endpoint.link c.next_event.new.self.link c.args.self.now.calls.items c.args.self.now.ready.items c.args.self.now.used.items _ _ _ c.in-Some-ReadDone.ensures.state c.requires.sound.0,
+  fetched_as c.args.self.now.endpoint c.next_event.new.self c.args.self.now.calls.items c.args.self.now.reads.items c.args.self.now.sinks.items (told_link_lem c.args.self.now.endpoint.link c.next_event.new.self.link c.in-Some-ReadDone.ensures.state).memory c.next_event.ensures.outside c.requires.sound.1,
+)
+
+pub read_done-requires-clause-live : goal.read_done-requires-clause-live
+read_done-requires-clause-live c = (told_link_lem c.args.self.now.endpoint.link c.next_event.new.self.link c.in-Some-ReadDone.ensures.state).live ∙ c.requires.live
+
+pub returns-in-Some-ReadDone-clause-taken : goal.returns-in-Some-ReadDone-clause-taken
+returns-in-Some-ReadDone-clause-taken c =
+    let one = c.in-Some-ReadDone.ensures.event ∙ ap (λ (e : Event). delivery e ∷ c.next_event.new.self.link.state.receive_queue.deliveries) c.in-Some-ReadDone.field-0-is in
+    let v : ResponderSide = state_of c.args.self.now in
+    let after : ResponderSide = state_of c.read_done.new.self in
+    record {
+      none = λ none. absurd (let two = sym one ∙ none in cc);
+      some = λ number invalidated m only. absurd (let two = sym one ∙ only in cc);
+      read = λ done r rest reads. subst (λ (l : LinkSide). HandlesRead (on_link v l) r rest after) c.in-Some-ReadDone.ensures.state (c.read_done.ensures.handled r rest reads);
+    }
 
 pub returns-in-Some-ReadDone-clause-fed : goal.returns-in-Some-ReadDone-clause-fed
 returns-in-Some-ReadDone-clause-fed c =
     let t = told_link_lem c.args.self.now.endpoint.link c.next_event.new.self.link c.in-Some-ReadDone.ensures.state in
-    omega (arith, t.place, ap (λ (xs : List ℕ). length xs) t.rest)
+    let same = same_fed c.next_event.new.self.link c.read_done.new.self.endpoint.link c.read_done.ensures.input in
+    omega (arith, same, t.place, ap (λ (xs : List ℕ). length xs) t.rest)
 
 pub returns-in-Some-Message-clause-rest : goal.returns-in-Some-Message-clause-rest
 returns-in-Some-Message-clause-rest c =
@@ -60,4 +80,4 @@ returns-in-Some-Message-clause-rest c =
 pub returns-in-Some-ReadDone-clause-rest : goal.returns-in-Some-ReadDone-clause-rest
 returns-in-Some-ReadDone-clause-rest c =
     let t = told_link_lem c.args.self.now.endpoint.link c.next_event.new.self.link c.in-Some-ReadDone.ensures.state in
-    inl t.rest
+    rest_or_none c.args.self.now.endpoint.link.rest c.next_event.new.self.link.rest c.read_done.new.self.endpoint.link.rest t.rest c.read_done.ensures.input.rest

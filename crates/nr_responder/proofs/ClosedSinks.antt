@@ -1,0 +1,75 @@
+-- The sinks that are over are released, and the others stay.
+use Rattle.std.proofs.Common.{◌≡◌, ℕ, zero, suc, ◌+◌, ◌<◌, ◌≤◌, Bool, true, false, not, cond, List, [], ◌∷◌, ◌++◌, length, take, drop, get_or, map, sym, ap, ◌∙◌, arith, append-nil}
+use Rattle.std.proofs.lemmas.List.{length-map, take_all, drop_all}
+use Rattle.std.specs.List.{remove}
+use Rattle.nr_endpoint.specs.LinkState.{LinkSide}
+use Rattle.nr_reduce.specs.ServerState.{PendingCall, PendingRead}
+use Rattle.nr_responder.specs.Fetching.{SinkRegion}
+use Rattle.nr_responder.specs.declared.call.OpenSink.{OpenSink}
+use Rattle.nr_responder.specs.Views.{sink_view}
+use Rattle.nr_responder.specs.private.Reading.{is_sink_over, left_sinks, over_sinks, with_released}
+
+-- the sink at a place is over
+pub over_left : (calls : List PendingCall) (reads : List PendingRead) (sinks : List OpenSink) (at : ℕ) (d : OpenSink) → at < length sinks → is_sink_over calls reads (sink_view (get_or sinks at d)) ≡ true →
+    (take at (map sink_view (remove sinks at)) ++ left_sinks calls reads (drop at (map sink_view (remove sinks at))) ≡ take at (map sink_view sinks) ++ left_sinks calls reads (drop at (map sink_view sinks)))
+    × (over_sinks calls reads (drop at (map sink_view sinks)) ≡ sink_view (get_or sinks at d) ∷ over_sinks calls reads (drop at (map sink_view (remove sinks at))))
+over_left calls reads [] at d lt over = absurd (omega (arith, lt))
+over_left calls reads (s ∷ sinks) zero d lt over = (
+  sym (ap (λ (b : Bool). cond (not b) (sink_view s ∷ left_sinks calls reads (map sink_view sinks)) (left_sinks calls reads (map sink_view sinks))) over),
+  ap (λ (b : Bool). cond b (sink_view s ∷ over_sinks calls reads (map sink_view sinks)) (over_sinks calls reads (map sink_view sinks))) over,
+)
+over_left calls reads (s ∷ sinks) (suc at) d lt over =
+    let more = over_left calls reads sinks at d (omega (arith, lt)) over in
+    (ap (λ (ss : List SinkRegion). sink_view s ∷ ss) more.0, more.1)
+
+-- or it stays
+pub kept_left : (calls : List PendingCall) (reads : List PendingRead) (sinks : List OpenSink) (at : ℕ) (d : OpenSink) → at < length sinks → is_sink_over calls reads (sink_view (get_or sinks at d)) ≡ false →
+    (take (suc at) (map sink_view sinks) ++ left_sinks calls reads (drop (suc at) (map sink_view sinks)) ≡ take at (map sink_view sinks) ++ left_sinks calls reads (drop at (map sink_view sinks)))
+    × (over_sinks calls reads (drop at (map sink_view sinks)) ≡ over_sinks calls reads (drop (suc at) (map sink_view sinks)))
+kept_left calls reads [] at d lt over = absurd (omega (arith, lt))
+kept_left calls reads (s ∷ sinks) zero d lt over = (
+  sym (ap (λ (b : Bool). cond (not b) (sink_view s ∷ left_sinks calls reads (map sink_view sinks)) (left_sinks calls reads (map sink_view sinks))) over),
+  ap (λ (b : Bool). cond b (sink_view s ∷ over_sinks calls reads (map sink_view sinks)) (over_sinks calls reads (map sink_view sinks))) over,
+)
+kept_left calls reads (s ∷ sinks) (suc at) d lt over =
+    let more = kept_left calls reads sinks at d (omega (arith, lt)) over in
+    (ap (λ (ss : List SinkRegion). sink_view s ∷ ss) more.0, more.1)
+
+-- ---- Once each was looked at
+
+pub all_left : (calls : List PendingCall) (reads : List PendingRead) (sinks : List OpenSink) (at : ℕ) (all : List SinkRegion) → length sinks ≤ at → take at (map sink_view sinks) ++ left_sinks calls reads (drop at (map sink_view sinks)) ≡ all → map sink_view sinks ≡ all
+all_left calls reads sinks at all le is =
+    let len : length (map sink_view sinks) ≡ length sinks = length-map sinks sink_view in
+    sym (append-nil (map sink_view sinks))
+    ∙ sym ((λ i. take_all at (map sink_view sinks) (omega (arith, le, len)) i ++ left_sinks calls reads (drop_all at (map sink_view sinks) (omega (arith, le, len)) i)))
+    ∙ is
+
+pub all_released : (calls : List PendingCall) (reads : List PendingRead) (sinks : List OpenSink) (at : ℕ) (l m : LinkSide) → length sinks ≤ at → with_released (over_sinks calls reads (drop at (map sink_view sinks))) l ≡ m → l ≡ m
+all_released calls reads sinks at l m le is =
+    let len : length (map sink_view sinks) ≡ length sinks = length-map sinks sink_view in
+    sym (ap (λ (ss : List SinkRegion). with_released (over_sinks calls reads ss) l) (drop_all at (map sink_view sinks) (omega (arith, le, len)))) ∙ is
+
+-- ---- The sink at one place
+
+abbrev left_at : List PendingCall → List PendingRead → ℕ → List SinkRegion → List SinkRegion
+left_at calls reads at sinks = take at sinks ++ left_sinks calls reads (drop at sinks)
+
+abbrev over_at : List PendingCall → List PendingRead → ℕ → List SinkRegion → LinkSide → LinkSide
+over_at calls reads at sinks l = with_released (over_sinks calls reads (drop at sinks)) l
+
+pub next_left : (calls : List PendingCall) (reads : List PendingRead) (sinks : List OpenSink) (at : ℕ) (d : OpenSink) (l : LinkSide) → at < length sinks → is_sink_over calls reads (sink_view (get_or sinks at d)) ≡ false →
+    (left_at calls reads (at + 1) (map sink_view sinks) ≡ left_at calls reads at (map sink_view sinks)) × (over_at calls reads (at + 1) (map sink_view sinks) l ≡ over_at calls reads at (map sink_view sinks) l)
+next_left calls reads sinks at d l lt over =
+    let one : at + 1 ≡ suc at = omega arith in
+    let k = kept_left calls reads sinks at d lt over in (
+      ap (λ (n : ℕ). left_at calls reads n (map sink_view sinks)) one ∙ k.0,
+      ap (λ (n : ℕ). over_at calls reads n (map sink_view sinks) l) one ∙ ap (λ (ss : List SinkRegion). with_released ss l) (sym k.1),
+    )
+
+pub same_left : (calls : List PendingCall) (reads : List PendingRead) (sinks later : List OpenSink) (at : ℕ) (d : OpenSink) (l m : LinkSide) → at < length sinks → is_sink_over calls reads (sink_view (get_or sinks at d)) ≡ true → later ≡ remove sinks at →
+    m ≡ with_released (sink_view (get_or sinks at d) ∷ []) l → (left_at calls reads at (map sink_view later) ≡ left_at calls reads at (map sink_view sinks)) × (over_at calls reads at (map sink_view later) m ≡ over_at calls reads at (map sink_view sinks) l)
+same_left calls reads sinks later at d l m lt over is link =
+    let k = over_left calls reads sinks at d lt over in (
+      ap (λ (ss : List OpenSink). left_at calls reads at (map sink_view ss)) is ∙ k.0,
+      (λ i. over_at calls reads at (map sink_view (is i)) (link i)) ∙ ap (λ (ss : List SinkRegion). with_released ss l) (sym k.1),
+    )

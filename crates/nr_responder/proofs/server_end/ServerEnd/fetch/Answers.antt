@@ -1,0 +1,7 @@
+use Rattle.std.proofs.Common.{ap, sym, ◌∙◌}
+use Rattle.nr_responder.specs.private.CallsRead.{has_bytes}
+use Rattle.nr_responder.proofs.Chunks.{none_has_bytes}
+use Rattle.nr_responder.proofs.server_end.ServerEnd.fetch.Goals as goal
+
+pub complete_at_once-requires-clause-none : goal.complete_at_once-requires-clause-none
+complete_at_once-requires-clause-none c = none_has_bytes c.args.call.lists.read (ap has_bytes (sym c.as_slice.ensures) ∙ sym c.has_bytes.ensures ∙ c.if-has_bytes.false)

@@ -1,0 +1,26 @@
+use Rattle.std.proofs.Common.{◌≡◌, ap, sym, subst, refl, ◌∙◌, set, get_or, List, map}
+use Rattle.std.proofs.Math.Seq.{map-set_same}
+use Rattle.nr_reduce.specs.ServerReads.{is_read}
+use Rattle.nr_reduce.specs.ServerState.{PendingCall}
+use Rattle.nr_responder.specs.declared.call.Pending.{Pending}
+use Rattle.nr_responder.specs.Sound.{InBuffer, fetching_of, xids_of}
+use Rattle.nr_responder.specs.Views.{call_view, read_view}
+use Rattle.nr_responder.proofs.DoneReads.{emptied_sound}
+use Rattle.nr_responder.proofs.HeldSinks.{read_has_room}
+use Rattle.nr_responder.proofs.server_end.ServerEnd.take_room_at.Goals as goal
+
+pub returns-clause-same : goal.returns-clause-same
+returns-clause-same c =
+    let one : call_view c.take_out_room.new.call ≡ call_view (get_or c.args.self.now.calls.items c.args.at c.index_mut.result.now) = ap (λ (x : Pending). call_view x) c.take_out_room.ensures.call ∙ ap (λ (x : Pending). call_view x) c.index_mut.ensures.value in
+    ap (λ (cs : List PendingCall). record { link = c.args.self.now.endpoint.link; calls = cs; ready = xids_of c.args.self.now.ready.items; credits = c.args.self.now.credits; fetching = fetching_of c.args.self.now.reads.items c.args.self.now.sinks.items c.args.self.now.ready.items })
+    (map-set_same call_view c.args.self.now.calls.items c.args.at c.take_out_room.new.call c.index_mut.result.now one)
+
+pub returns-clause-sound : goal.returns-clause-sound
+returns-clause-sound c =
+    let d : Pending = c.index_mut.result.now in
+    let whole : InBuffer d = subst InBuffer (sym c.index_mut.ensures.value) (c.requires.sound.0.bufs c.args.at d c.requires.at) in
+    emptied_sound c.args.self.now c.args.at c.take_out_room.new.call (set c.args.self.now.calls.items c.args.at c.take_out_room.new.call) refl
+    (subst InBuffer (sym c.take_out_room.ensures.call) (record { buf = whole.buf; len = whole.len; at = whole.at; lists = whole.lists }))
+    (read_has_room c.args.self.now.reads.items c.take_out_room.new.call
+    (ap (λ (x : Pending). is_read (map read_view c.args.self.now.reads.items) x.number) c.take_out_room.ensures.call ∙ ap (λ (x : Pending). is_read (map read_view c.args.self.now.reads.items) x.number) c.index_mut.ensures.value ∙ c.requires.read d))
+    c.requires.sound

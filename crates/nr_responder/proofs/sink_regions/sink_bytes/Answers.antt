@@ -1,0 +1,11 @@
+use Rattle.std.proofs.Common.{sym, subst}
+use Rattle.nr_regions.specs.RegisteredMemory.{IsHeld, RegisteredMemory}
+use Rattle.nr_responder.specs.declared.call.OpenSink.{OpenSink}
+use Rattle.nr_responder.proofs.HeldSinks.{held_at}
+use Rattle.nr_responder.proofs.sink_regions.sink_bytes.Goals as goal
+
+pub bytes-requires : goal.bytes-requires
+bytes-requires c =
+    subst (λ (m : RegisteredMemory). IsHeld m c.index-sinks-i.result.registration) (sym c.regions.ensures)
+    (subst (λ (s : OpenSink). IsHeld c.args.endpoint.now.link.state.memory s.registration) (sym c.index-sinks-i.is)
+    (held_at c.args.endpoint.now.link.state.memory 0 c.args.sinks.now c.sinks.i c.index-sinks-i.result c.sinks-test.true c.requires.held))

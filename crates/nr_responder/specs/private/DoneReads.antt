@@ -1,0 +1,35 @@
+-- What the code makes of a responder as a read is done.
+use Rattle.std.specs.Prelude.{◌≡◌, ◌≢◌, ◌⊎◌, ℕ, List, [], ◌∷◌, map, Some, slice_get}
+use Rattle.nr_endpoint.specs.Calls.{after_call}
+use Rattle.nr_endpoint.specs.Calls.Call.{OutOfMemory}
+use Rattle.nr_reduce.specs.ServerState.{PendingCall, PendingRead}
+use Rattle.nr_responder.specs.ResponderState.{ResponderSide}
+use Rattle.nr_endpoint.specs.LinkState.{LinkState}
+use Rattle.nr_responder.specs.declared.server_end.ServerEnd.{ServerEnd}
+use Rattle.nr_responder.specs.private.Reading.{opening, over_sinks, left_sinks}
+use Rattle.nr_responder.specs.private.ReadsDone.{call_of_read, ended_as, reading_on, side_after_done, still_open}
+use Rattle.nr_responder.specs.Views.{call_view, read_view, sink_view}
+
+-- with the reads opened that may open, and the sinks closed that are over; `state` is the side of the link before
+pub record ReadsOn (state : LinkState) (kept : ℕ) (before after : ServerEnd) : Type 0 where
+  pub link : after.endpoint.link ≡ record {
+    awaited = before.endpoint.link.awaited;
+    rest = before.endpoint.link.rest;
+    state = side_after_done state (opening kept (map read_view before.reads.items)) (over_sinks (map call_view before.calls.items) (map read_view before.reads.items) (map sink_view before.sinks.items));
+  }
+  pub calls : after.calls.items ≡ before.calls.items
+  pub reads : after.reads.items ≡ before.reads.items
+  pub sinks : map sink_view after.sinks.items ≡ left_sinks (map call_view before.calls.items) (map read_view before.reads.items) (map sink_view before.sinks.items)
+  pub credits : after.credits ≡ before.credits
+
+-- a call more is ready, or some reads would open and memory ran out
+abbrev pub ReadyMade : ResponderSide → (kept xid : ℕ) → List ℕ → ResponderSide → Type 0
+ReadyMade v kept xid payload after =
+    (after ≡ reading_on v v.link.state v.calls v.fetching.reads kept (xid ∷ []) (Some payload ∷ [])) ⊎ ((opening kept v.fetching.reads ≢ []) × (after ≡ ended_as v (after_call v.link OutOfMemory) v.fetching))
+
+-- a read that is done is of this call, and the others are those of the responder
+pub record IsOfCall (v : ResponderSide) (r : PendingRead) (kept at : ℕ) (c : PendingCall) : Type 0 where
+  pub place : slice_get v.calls at ≡ Some c
+  pub found : call_of_read v r ≡ Some c
+  pub own : c.number ≡ r.number
+  pub open_reads : kept ≡ still_open r v.fetching.reads

@@ -1,0 +1,85 @@
+//! Calls with a read list: their chunks are read before they are ready (RFC 8166 section 3.4.5).
+
+ghost use Rattle.std.specs.Prelude.{◌≡◌, ℕ, ◌<◌, ◌≤◌, None, map, true};
+ghost use Rattle.nr_header.specs.Constants.{FIXED_LEN, PAYLOAD_MAX};
+ghost use Rattle.nr_header.specs.WithinLimits.{read_total};
+ghost use Rattle.nr_responder.specs.Handling.{FetchesCall};
+ghost use Rattle.nr_responder.specs.Sound.{state_of, InBuffer, IsSound, IsSoundWith, SameInput};
+ghost use Rattle.nr_reduce.specs.ServerReads.{is_read};
+ghost use Rattle.nr_responder.specs.private.CallsRead.{has_bytes, HasBytes, HasNoBytes};
+ghost use Rattle.nr_responder.specs.Views.{call_view, read_view};
+
+use crate::call::Pending;
+use crate::payloads::{judge_payload, payload_at_once};
+use crate::server_end::ServerEnd;
+use nr_header::ReadSegment;
+
+/// Whether some entry of a read list has bytes.
+fn has_bytes(read: &[ReadSegment]) -> bool
+    ensures { result ≡ has_bytes read.now }
+{
+    read.iter().any(|r| r.length != 0)
+}
+
+impl ServerEnd {
+    /// A call with a read list.
+    pub(crate) fn fetch(&mut self, call: Pending)
+        requires sound { IsSoundWith 1 self.old }
+        requires live { self.old.endpoint.link.state.ended ≡ None }
+        requires frame { 0 < self.old.endpoint.link.state.place }
+        requires call { InBuffer call }
+        requires reads { read_total call.lists.read ≤ PAYLOAD_MAX }
+        requires fresh { is_read (map read_view self.old.reads.items) call.number ≡ true }
+        ensures fetched { FetchesCall (state_of self.old) (state_of self.new) (call_view call) }
+        ensures sound { IsSound self.new }
+        ensures input { SameInput self.old.endpoint.link self.new.endpoint.link }
+        ensures staging { self.new.endpoint.staging ≡ self.old.endpoint.staging }
+    {
+        if has_bytes(call.lists.read.as_slice()) {
+            self.fetch_chunks(call);
+        } else {
+            self.complete_at_once(call);
+        }
+    }
+
+    /// A call whose read list has bytes.
+    fn fetch_chunks(&mut self, call: Pending)
+        requires sound { IsSoundWith 1 self.old }
+        requires live { self.old.endpoint.link.state.ended ≡ None }
+        requires frame { 0 < self.old.endpoint.link.state.place }
+        requires call { InBuffer call }
+        requires reads { read_total call.lists.read ≤ PAYLOAD_MAX }
+        requires bytes { HasBytes call.lists.read }
+        requires fresh { is_read (map read_view self.old.reads.items) call.number ≡ true }
+        ensures fetched { FetchesCall (state_of self.old) (state_of self.new) (call_view call) }
+        ensures sound { IsSound self.new }
+        ensures input { SameInput self.old.endpoint.link self.new.endpoint.link }
+        ensures staging { self.new.endpoint.staging ≡ self.old.endpoint.staging }
+    {
+        drop(call);
+        self.run_out();
+    }
+
+    /// A call whose read list has no bytes: it is ready, or ends the link.
+    fn complete_at_once(&mut self, call: Pending)
+        requires sound { IsSoundWith 1 self.old }
+        requires live { self.old.endpoint.link.state.ended ≡ None }
+        requires frame { 0 < self.old.endpoint.link.state.place }
+        requires call { InBuffer call }
+        requires none { HasNoBytes call.lists.read }
+        requires fresh { is_read (map read_view self.old.reads.items) call.number ≡ true }
+        ensures fetched { FetchesCall (state_of self.old) (state_of self.new) (call_view call) }
+        ensures sound { IsSound self.new }
+        ensures input { SameInput self.old.endpoint.link self.new.endpoint.link }
+        ensures staging { self.new.endpoint.staging ≡ self.old.endpoint.staging }
+    {
+        let Ok(payload) = payload_at_once(self.alloc, &call) else {
+            self.run_out();
+            return;
+        };
+        match judge_payload(payload, call.xid) {
+            Ok(payload) => self.push(call, Some(payload)),
+            Err(reason) => self.end_for(reason),
+        }
+    }
+}

@@ -1,0 +1,189 @@
+//! What a message makes of a responder (RFC 8166 sections 4.2 to 4.5).
+
+ghost use Rattle.std.specs.Prelude.{◌≡◌, ◌≢◌, ℕ, ◌+◌, ◌-◌, ◌<◌, ◌≤◌, ◌^◌, List, [], ◌∷◌, ◌++◌, length, take, drop, get_or, slice_get, map, option_map, Option, None, Some, IfOk, OnOk, OnErr, IfSome, IsOk, is_some, All, MatchOption, MatchResult, true, false, if◌then◌else◌, ◌⊎◌, vec_len, vec_capacity};
+ghost use Rattle.std.specs.VecDeque.{deque_capacity};
+ghost use Rattle.nr_outside.specs.Faults.{Rises};
+ghost use Rattle.nr_endpoint.specs.declared.fault.DrainFault.TheVariants as drains;
+ghost use Rattle.nr_wire.specs.Constants.{FPDU_MAX};
+ghost use Rattle.nr_wire.specs.Feeding.{bytes_taken};
+ghost use Rattle.nr_link.specs.Limits.{send_max};
+ghost use Rattle.nr_header.specs.Constants.{FIXED_LEN};
+ghost use Rattle.nr_header.specs.WithinLimits.{ListsWithin};
+ghost use Rattle.nr_endpoint.specs.FedBytes.{fed_bytes};
+ghost use Rattle.nr_endpoint.specs.Receives.{IsReceive};
+ghost use Rattle.nr_endpoint.specs.Calls.{after_call, IsStopReason};
+ghost use Rattle.nr_endpoint.specs.Calls.Call.{Stop, Send, OutOfMemory};
+ghost use Rattle.std.specs.Result.{result_err};
+ghost use Rattle.nr_wire.specs.declared.hello.Side.TheVariants.{Responder as ResponderSide};
+ghost use Rattle.nr_link.specs.declared.end.End.TheVariants as ends;
+ghost use Rattle.nr_reduce.specs.declared.mark.LinkParameters.{LinkParameters};
+ghost use Rattle.nr_reduce.specs.declared.mark.Mark.{Mark};
+ghost use Rattle.nr_reduce.specs.declared.mark.Mark.TheVariants as marks;
+ghost use Rattle.nr_outside.specs.declared.moment.Moment.{Moment};
+ghost use Rattle.nr_reduce.specs.Served.{next_call, IsExecuted};
+ghost use Rattle.nr_responder.specs.Answering.{Answers, IsPayload};
+ghost use Rattle.nr_responder.specs.Draining.{Drains};
+ghost use Rattle.nr_responder.specs.Handling.{out, Begins, IsTaken, Makes, OrOut, ReadsXid};
+ghost use Rattle.nr_responder.specs.ResponderState.{end_of, opened_side, posted_times, may_write, KeepsStaging};
+ghost use Rattle.nr_reduce.specs.ServerReads.{is_read};
+ghost use Rattle.nr_responder.specs.Sound.{state_of, with_staging, payloads_of, AreSound, HasRoom, InBuffer, IsNext, IsSound, IsSoundWith, SameInput};
+ghost use Rattle.nr_responder.specs.Views.{call_view, read_view};
+ghost use Rattle.nr_responder.specs.Standing.{Stands};
+ghost use Rattle.nr_responder.specs.Steps.{Fed, taken_of};
+
+use crate::answering::{SENDABLE, chunk_error, queue_answer, version_error};
+use crate::call::{OpenSink, Pending, ReadEntry, Ready, Sent, is_read, place_of, stream_of};
+use crate::judging::{Judged, judge};
+use crate::server_end::{ServerEnd, own_xid, send_error, stop};
+use nr_endpoint::{DrainFault, Endpoint, Event};
+use nr_header::ChunkLists;
+use nr_link::End;
+use nr_link::constants::{REASON_CALL, REASON_HEAD, REASON_KIND, REASON_XID};
+use nr_outside::Sink;
+use nr_rpc::call_xid;
+use nr_wire::Side;
+use nr_xdr::{Memory, Octets, word_at};
+use std::alloc::Global;
+use std::collections::VecDeque;
+
+impl ServerEnd {
+    /// Ends the side because memory ran out.
+    pub(crate) fn run_out(&mut self)
+        requires sound { IsSound self.old }
+        ensures out { state_of self.new ≡ out (state_of self.old) }
+        ensures sound { IsSound self.new }
+        ensures input { SameInput self.old.endpoint.link self.new.endpoint.link }
+        ensures staging { self.new.endpoint.staging ≡ self.old.endpoint.staging }
+    {
+        let _ = self.endpoint.run_out();
+    }
+
+    /// Ends the side for a reason that a call gives, or because memory ran out for its Terminate.
+    pub(crate) fn end_for(&mut self, reason: u32)
+        requires sound { IsSound self.old }
+        requires live { self.old.endpoint.link.state.ended ≡ None }
+        requires frame { 0 < self.old.endpoint.link.state.place }
+        requires reason { IsStopReason reason }
+        ensures ended { OrOut (state_of self.old) (after_call self.old.endpoint.link (Stop reason)) (state_of self.new) }
+        ensures sound { IsSound self.new }
+        ensures input { SameInput self.old.endpoint.link self.new.endpoint.link }
+        ensures staging { self.new.endpoint.staging ≡ self.old.endpoint.staging }
+    {
+        stop(&mut self.endpoint, reason);
+    }
+
+    /// A message, which may make a call.
+    pub(crate) fn message(&mut self, number: u64, buf: Octets, len: usize)
+        requires sound { IsSoundWith 1 self.old }
+        requires live { self.old.endpoint.link.state.ended ≡ None }
+        requires frame { 0 < self.old.endpoint.link.state.place }
+        requires buf { IsReceive send_max buf }
+        requires len { (FIXED_LEN ≤ len) × (len ≤ send_max) }
+        ensures made { Makes (state_of self.old) number (take len buf) (state_of self.new) }
+        ensures sound { IsSound self.new }
+        ensures input { SameInput self.old.endpoint.link self.new.endpoint.link }
+        ensures staging { self.new.endpoint.staging ≡ self.old.endpoint.staging }
+    {
+        self.endpoint.facts();
+        if !is_read(self.reads.as_slice(), number) {
+            // No read is left from before a call's Send.
+            self.run_out();
+            return;
+        }
+        let message = stream_of(&buf, len, 0);
+        let xid = word_at(message, 0);
+        let version = word_at(message, 4);
+        match judge(message, self.calls.as_slice()) {
+            Judged::Kind => self.end_for(REASON_KIND),
+            Judged::Open => self.end_for(REASON_CALL),
+            Judged::OtherVersion => {
+                let made = version_error(self.alloc, xid, version, self.credits);
+                self.refuse(buf, made);
+            }
+            Judged::BadChunks => {
+                let made = chunk_error(self.alloc, xid, self.credits);
+                self.refuse(buf, made);
+            }
+            Judged::Call { lists, stream_at } => self.begin(number, buf, len, lists, stream_at),
+            Judged::Reads {
+                lists,
+                stream_at,
+                inline,
+            } => self.fetch(Pending {
+                number,
+                xid,
+                lists,
+                buf,
+                len,
+                stream_at,
+                inline,
+                room: None,
+            }),
+        }
+    }
+
+    /// Queues an error message for the message in this receive.
+    fn refuse(&mut self, buf: Octets, made: Result<Octets, Memory>)
+        requires sound { IsSoundWith 1 self.old }
+        requires live { self.old.endpoint.link.state.ended ≡ None }
+        requires buf { IsReceive send_max buf }
+        ensures link { (IfOk made (λ m. self.new.endpoint.link ≡ after_call self.old.endpoint.link (Send m)) × IsOk made) ⊎ (self.new.endpoint.link ≡ after_call self.old.endpoint.link OutOfMemory) }
+        ensures same { (self.new.calls ≡ self.old.calls) × (self.new.ready ≡ self.old.ready) × (self.new.credits ≡ self.old.credits) }
+        ensures reads { (self.new.reads.items ≡ self.old.reads.items) × (self.new.sinks.items ≡ self.old.sinks.items) }
+        ensures staging { self.new.endpoint.staging ≡ self.old.endpoint.staging }
+        ensures sound { IsSound self.new }
+    {
+        self.endpoint.facts();
+        if send_error(&mut self.endpoint, made) {
+            self.used.push_back_reserved(buf);
+        }
+    }
+
+    /// A call whose stream stands in its message: it is ready if that is an RPC call of its xid, else it ends the link.
+    fn begin(&mut self, number: u64, buf: Octets, len: usize, lists: ChunkLists, stream_at: usize)
+        requires sound { IsSoundWith 1 self.old }
+        requires live { self.old.endpoint.link.state.ended ≡ None }
+        requires frame { 0 < self.old.endpoint.link.state.place }
+        requires buf { IsReceive send_max buf }
+        requires len { (FIXED_LEN ≤ len) × (len ≤ send_max) }
+        requires lists { (stream_at ≤ len) × ListsWithin lists }
+        requires fresh { is_read (map read_view self.old.reads.items) number ≡ true }
+        ensures begun { Begins (state_of self.old) (state_of self.new) number (take len buf) lists stream_at }
+        ensures sound { IsSound self.new }
+        ensures input { SameInput self.old.endpoint.link self.new.endpoint.link }
+        ensures staging { self.new.endpoint.staging ≡ self.old.endpoint.staging }
+    {
+        match own_xid(&buf, len, stream_at) {
+            Err(reason) => self.end_for(reason),
+            Ok(xid) => {
+                let call = Pending {
+                    number,
+                    xid,
+                    lists,
+                    buf,
+                    len,
+                    stream_at,
+                    inline: true,
+                    room: None,
+                };
+                self.push(call, None);
+            }
+        }
+    }
+
+    /// A call that is ready, with its payload if that was read. There is room for it.
+    pub(crate) fn push(&mut self, call: Pending, payload: Option<Octets>)
+        requires sound { IsSoundWith 1 self.old }
+        requires call { InBuffer call }
+        requires room { HasRoom self.old.reads.items call }
+        ensures pushed { (self.new.calls.items ≡ self.old.calls.items ++ call ∷ []) × (self.new.ready.items ≡ self.old.ready.items ++ record { xid = call.xid; payload = payload } ∷ []) }
+        ensures same { (self.new.endpoint ≡ self.old.endpoint) × (self.new.credits ≡ self.old.credits) }
+        ensures reads { (self.new.reads.items ≡ self.old.reads.items) × (self.new.sinks.items ≡ self.old.sinks.items) }
+        ensures sound { IsSound self.new }
+    {
+        self.endpoint.facts();
+        let xid = call.xid;
+        self.calls.push_reserved(call);
+        self.ready.push_back_reserved(Ready { xid, payload });
+    }
+}

@@ -1,0 +1,136 @@
+//! The payload of a call whose chunks are read (RFC 8166 section 3.4.5).
+
+ghost use Rattle.std.specs.Prelude.{◌≡◌, ℕ, ◌+◌, ◌*◌, ◌^◌, ◌<◌, ◌≤◌, length, drop, take, Some, None, IfErr, IfOk, List, [], Option, option_map, slice_get};
+ghost use Rattle.nr_link.specs.Limits.{send_max};
+ghost use Rattle.nr_endpoint.specs.Calls.{IsStopReason};
+ghost use Rattle.nr_reduce.specs.Chunks.{call_stream, whole};
+ghost use Rattle.nr_reduce.specs.declared.item.Of.TheVariants as of;
+ghost use Rattle.nr_reduce.specs.ServerState.{PendingCall};
+ghost use Rattle.nr_reduce.specs.ServerMessages.{by_payload};
+ghost use Rattle.nr_responder.specs.private.CallsRead.{payload_at_once, verdict_of};
+ghost use Rattle.nr_responder.specs.Sound.{payload_room, payloads_of, InBuffer};
+ghost use Rattle.nr_responder.specs.Answering.{IsPayload};
+ghost use Rattle.nr_responder.specs.Views.{call_view};
+
+use crate::call::{Pending, Ready, stream_of};
+use nr_header::PAYLOAD_MAX;
+use nr_link::constants::{REASON_HEAD, REASON_XID, SEND_MAX};
+use nr_reduce::{Of, call_item, first_bytes, item_position, rebuild_item_into};
+use nr_rpc::call_xid;
+use nr_xdr::{Memory, Octets};
+use std::alloc::Global;
+use std::collections::VecDeque;
+
+/// The room of a payload: for a stream and a chunk, and for a pad.
+const PAYLOAD_ROOM: usize = SEND_MAX as usize + 2 * PAYLOAD_MAX + 3;
+
+/// Takes the room of a payload.
+pub(crate) fn take_room(alloc: Global) -> Result<Octets, Memory>
+    ensures { IfOk result (λ room. payload_room ≤ length room) }
+{
+    Ok(Octets::from_vec(vec![in alloc; 0u8; PAYLOAD_ROOM]?))
+}
+
+/// A payload that is a stream alone.
+pub(crate) fn stream_alone(room: Octets, stream: &[u8]) -> Octets
+    requires { length stream.now ≤ length room }
+    ensures { result ≡ stream.now }
+{
+    let mut room = room;
+    room.overwrite(0, stream);
+    first_bytes(room, stream.len())
+}
+
+/// The payload of a stream and of the content of its item; `None` if it has no item of that length.
+pub(crate) fn with_item(room: Octets, stream: &[u8], moved: &[u8]) -> Option<Octets>
+    requires room { length stream.now + length moved.now + 3 ≤ length room }
+    requires small { length stream.now < 2 ^ 32 }
+    ensures { result ≡ whole of.Call stream.now (Some moved.now) }
+{
+    let item = call_item(stream)?;
+    let mut room = room;
+    match rebuild_item_into(
+        &mut room,
+        &Of::Call,
+        Some(item),
+        stream,
+        item.pos as u32,
+        moved,
+    ) {
+        Ok(len) => Some(first_bytes(room, len)),
+        Err(_) => None,
+    }
+}
+
+/// The payload of a call, or why the link ends: it is no RPC call with this xid.
+pub(crate) fn judge_payload(payload: Option<Octets>, xid: u32) -> Result<Octets, u32>
+    ensures verdict { (c : PendingCall) → c.xid ≡ xid → by_payload c payload ≡ verdict_of c result }
+    ensures reason { IfErr result (λ reason. IsStopReason reason × (5 ≤ reason)) }
+{
+    let Some(payload) = payload else {
+        return Err(REASON_HEAD);
+    };
+    match call_xid(payload.as_slice()) {
+        None => Err(REASON_HEAD),
+        Some(found) => {
+            if found != xid {
+                return Err(REASON_XID);
+            }
+            Ok(payload)
+        }
+    }
+}
+
+/// The stream of a call, if it is in its message; else none.
+pub(crate) fn inline_stream(call: &Pending) -> &[u8]
+    requires { InBuffer call.now }
+    ensures stream { result.now ≡ call_stream (call_view call.now).inline (λ position. []) }
+    ensures small { length result.now ≤ send_max }
+{
+    if call.inline {
+        return stream_of(&call.buf, call.len, call.stream_at);
+    }
+    &[]
+}
+
+/// The payload of a call of which nothing is read: each of its chunks is empty.
+pub(crate) fn payload_at_once(alloc: Global, call: &Pending) -> Result<Option<Octets>, Memory>
+    requires { InBuffer call.now }
+    ensures { IfOk result (λ payload. payload ≡ payload_at_once (call_view call.now)) }
+{
+    let room = take_room(alloc)?;
+    let stream = inline_stream(call);
+    match item_position(call.lists.read.as_slice()) {
+        Some(_) => Ok(with_item(room, stream, &[])),
+        None => Ok(Some(stream_alone(room, stream))),
+    }
+}
+
+/// The payload of the first call that is ready, if it was read with its chunks.
+pub(crate) fn first_payload(ready: &VecDeque<Ready>) -> Option<&Octets>
+    requires { 0 < length ready.now.items }
+    ensures { slice_get (payloads_of ready.now.items) 0 ≡ Some (option_map (λ p. p.now) result) }
+{
+    match ready.front() {
+        Some(first) => first.payload.as_ref(),
+        None => None,
+    }
+}
+
+/// The payload of this call, which is the first that is ready. `Err` if it is neither in its message nor read: no call is so.
+pub(crate) fn payload_of<'a>(
+    ready: &'a VecDeque<Ready>,
+    call: &'a Pending,
+) -> Result<&'a [u8], Memory>
+    requires ready { 0 < length ready.now.items }
+    requires call { InBuffer call.now }
+    ensures { IfOk result (λ s. (p : Option (List ℕ)) × ((slice_get (payloads_of ready.now.items) 0 ≡ Some p) × IsPayload (call_view call.now) p s.now)) }
+{
+    if let Some(payload) = first_payload(ready) {
+        return Ok(payload.as_slice());
+    }
+    if !call.inline {
+        return Err(Memory);
+    }
+    Ok(stream_of(&call.buf, call.len, call.stream_at))
+}
